@@ -1,0 +1,127 @@
+-- Which block gives: the oracle, the surpluses, and the next move. Assumes nothing.
+use mathlib.Core.Bool.{Bool, true, false, cond, not, _&&_, _||_}
+use mathlib.Core.List.{List, [], _∷_, map}
+use mathlib.Core.Option.{Option, none, some}
+use Prim.Native.Nat.{ℕ, zero, suc, _+_, _/_}
+use lib.Dec.{leb, eqb}
+use lib.ListN.{length, getD}
+use lib.IntN.{ℤ, pos, negsuc, subℕ}
+use lib.Signed.{ltZ}
+use lib.Ieee.{binary64, ofBits, lt, le}
+use Rattle.model.specs.Lists.{any, keep, sum, tab, concat-map, first-no}
+use Rattle.model.specs.Values.{Point, Dart, Block, Limits, finite-bits, finite}
+use Rattle.model.specs.Cells.{dart-at, volume-in, volume-starts}
+use Rattle.model.specs.Sound.{block-at, volume-limit}
+use Rattle.model.specs.Departure.{departure-checks}
+
+-- "The oracle picks volumes: every volume, a box of two points, or a plane given by an axis and a value"
+pub data Oracle : Type 0 where
+  every : Oracle
+  box : Point → Point → Oracle
+  plane : ℕ → ℕ → Oracle
+
+-- floats are compared as numbers: −0 equals 0
+unfoldable pub lt-bits : ℕ → ℕ → Bool
+lt-bits a b = lt (ofBits binary64 a) (ofBits binary64 b)
+
+unfoldable pub le-bits : ℕ → ℕ → Bool
+le-bits a b = le (ofBits binary64 a) (ofBits binary64 b)
+
+unfoldable pub le-point : Point → Point → Bool
+le-point p q = le-bits (p .x) (q .x) && le-bits (p .y) (q .y) && le-bits (p .z) (q .z)
+
+abbrev pub coordinate-of : ℕ → Point → ℕ
+coordinate-of zero p = p .x
+coordinate-of (suc zero) p = p .y
+coordinate-of (suc (suc a)) p = p .z
+
+-- 28: "Oracle floats finite, box low not above high, axis 0 to 2"
+unfoldable pub oracle-right : Oracle → Bool
+oracle-right every = true
+oracle-right (box low high) = finite low && finite high && le-point low high
+oracle-right (plane axis value) = finite-bits value && leb axis 2
+
+-- by the points of a volume's vertices. "Box: some vertex within, edges included. Plane: one vertex strictly below and one strictly
+-- above"
+unfoldable pub picks : Oracle → List Point → Bool
+picks every ps = true
+picks (box low high) ps = any (λ p. le-point low p && le-point p high) ps
+picks (plane axis value) ps = any (λ p. lt-bits (coordinate-of axis p) value) ps && any (λ p. lt-bits value (coordinate-of axis p)) ps
+
+-- the picked volumes of a block, by least serial
+unfoldable pub picked : Oracle → List Dart → List ℕ
+picked o ds = keep (λ s. picks o (map (λ x. dart-at ds x .point) (volume-in ds s))) (volume-starts ds)
+
+-- SURPLUSES
+unfoldable pub counts : Oracle → List Block → List ℕ
+counts o m = map (λ b. length (picked o (b .darts))) m
+
+-- "The mean is the picked total over k, rounded down"
+unfoldable pub mean : List ℕ → ℕ
+mean cs = sum cs / length cs
+
+-- "A block's surplus is its count less the mean, below zero for a block in deficit"
+unfoldable pub surpluses : List ℕ → List ℤ
+surpluses cs = map (λ c. subℕ c (mean cs)) cs
+
+abbrev pub is-above : ℤ → Bool
+is-above s = ltZ (pos 0) s
+
+abbrev pub is-below : ℤ → Bool
+is-below s = ltZ s (pos 0)
+
+abbrev pub positive-part : ℤ → ℕ
+positive-part (pos n) = n
+positive-part (negsuc n) = 0
+
+-- "the sum of positive surpluses"
+unfoldable pub positive-surplus : Oracle → List Block → ℕ
+positive-surplus o m = sum (map positive-part (surpluses (counts o m)))
+
+-- THE NEXT MOVE
+pub record Move : Type 0 where
+  pub donor : ℕ
+  pub recipient : ℕ
+  pub serial : ℕ
+
+-- the answer
+pub data NextMove : Type 0 where
+  level : NextMove
+  blocked : NextMove
+  move : Move → NextMove
+
+-- the blocks whose surplus passes, ascending
+abbrev pub blocks-with : (ℤ → Bool) → List ℤ → List ℕ
+blocks-with p ss = keep (λ b. p (getD ss b (pos 0))) (tab (λ b. b) (length ss))
+
+-- "donor above zero, recipient below, volume picked", in ascending order of (donor, recipient, least serial)
+unfoldable pub candidates : Oracle → List Block → List ℤ → List Move
+candidates o m ss = concat-map (λ d. concat-map (λ r. map (λ s. record { donor = d; recipient = r; serial = s }) (picked o (block-at m d .darts)))
+    (blocks-with is-below ss)) (blocks-with is-above ss)
+
+-- "questions 9 to 14 and 21 answered yes"
+unfoldable pub can-move : (ℕ → Limits) → List Block → Move → Bool
+can-move lims m t =
+    let d = t .donor in
+    let r = t .recipient in
+    let leaving = block-at m d in
+    eqb (first-no (departure-checks (volume-limit lims d r) leaving r (t .serial))) 0
+    && leb (length (block-at m r .darts) + length (volume-in (leaving .darts) (t .serial))) (lims r .block-darts)
+
+abbrev pub first-or : NextMove → List Move → NextMove
+first-or other [] = other
+first-or other (t ∷ ts) = move t
+
+-- "the least"; "Otherwise the answer is 'level' if nobody is above or nobody below, else 'blocked'"
+unfoldable pub next-of : (ℕ → Limits) → Oracle → List Block → NextMove
+next-of lims o m =
+    let ss = surpluses (counts o m) in
+    let is-level = not (any is-above ss) || not (any is-below ss) in
+    first-or (cond is-level level blocked) (keep (can-move lims m) (candidates o m ss))
+
+-- THE ORACLE BY NUMBERS, as C gives it: 0 every volume, 1 the box from low to high, 2 the plane on an axis at low's x; there is no other
+unfoldable pub numbered-oracle : ℕ → ℕ → Point → Point → Option Oracle
+numbered-oracle zero axis low high = some every
+numbered-oracle (suc zero) axis low high = some (box low high)
+numbered-oracle (suc (suc zero)) axis low high = some (plane axis (low .x))
+numbered-oracle (suc (suc (suc n))) axis low high = none

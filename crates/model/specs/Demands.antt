@@ -1,0 +1,112 @@
+-- START HERE: what is claimed. The three demands, and what the paper says beside them, about the definitions of the calls (Calls) and
+-- of the two runs (Runs). Their proofs are in the crate theory. Assumes nothing.
+use mathlib.Core.Path.{_≡_}
+use mathlib.Core.Logic.{_≢_}
+use mathlib.Core.Bool.{Bool, true, _&&_}
+use mathlib.Core.List.{List, [], _∷_, _++_, map, List·Permᴰ}
+use Prim.Native.Nat.{ℕ, suc, _<_, _≤_}
+use lib.Dec.{ltb}
+use lib.ListN.{length, take, drop}
+use Rattle.model.specs.Lists.{all, mem, concat, first-no}
+use Rattle.model.specs.Values.{Block, Limits, Point}
+use Rattle.model.specs.Sound.{sound-block, Sound, Fit, block-at}
+use Rattle.model.specs.Image.{words, image}
+use Rattle.model.specs.Departure.{departure-checks, messages}
+use Rattle.model.specs.Balance.{Oracle, Move, move, positive-surplus}
+use Rattle.model.specs.Calls.{Answer, served, refused, number-of, Result, empty, read-file, save-file, send, receive, release, redirect, check-mesh, next-move, next-move-by-number}
+use Rattle.model.specs.Runs.{Request, memory-at, is-refused, finished, unfinished, Step, last-steps, sent-messages, Round, round, State, start, whole-map, holder, Undivided, undivided}
+
+-- DEMAND 1: "A refused call returns that number only and changes no byte that was lent to it"
+pub record Unchanged {A : Type 0} (lent : List ℕ) (r : Result A) : Type 0 where
+  pub kept : (n : ℕ) → r .answer ≡ refused n → r .lent ≡ lent
+  pub numbered : (n : ℕ) → r .answer ≡ refused n → n ≢ 0
+
+pub record Demand1 (lim : Limits) (lims : ℕ → Limits) : Type 0 where
+  pub empty-keeps : (n : ℕ) (m : List ℕ) → Unchanged m (empty n m)
+  pub read-file-keeps : (file m : List ℕ) → Unchanged m (read-file lim file m)
+  pub save-file-keeps : (m out : List ℕ) → Unchanged out (save-file lim m out)
+  pub send-keeps : (m : List ℕ) (j s : ℕ) (outbox : List ℕ) → Unchanged outbox (send lim m j s outbox)
+  pub receive-keeps : (m message : List ℕ) → Unchanged m (receive lim m message)
+  pub release-keeps : (m : List ℕ) (j s : ℕ) → Unchanged m (release lim m j s)
+  pub redirect-keeps : (m message : List ℕ) → Unchanged m (redirect lim m message)
+  pub check-mesh-keeps : (m scratch : List ℕ) → Unchanged scratch (check-mesh lims m scratch)
+  pub next-move-keeps : (m : List ℕ) (o : Oracle) (scratch : List ℕ) → Unchanged scratch (next-move lims m o scratch)
+  pub numbered-keeps : (m : List ℕ) (n axis : ℕ) (low high : Point) (scratch : List ℕ) → Unchanged scratch (next-move-by-number lims m n axis low high scratch)
+
+-- DEMAND 2
+abbrev pub Bytes : List ℕ → Type 0
+Bytes bs = all (λ b. ltb b 256) bs ≡ true
+
+pub record Demand2 (lim : Limits) : Type 0 where
+  -- "what is written reads back to the same block"
+  pub reads-back : (m out into : List ℕ) (n : ℕ) → length into ≡ words → save-file lim m out .answer ≡ served n
+      → read-file lim (take n (save-file lim m out .lent)) into ≡ record { answer = served tt; lent = m }
+  -- "every file that is read is written back byte for byte"
+  pub writes-back : (file into out : List ℕ) → Bytes file → length file ≤ length out → read-file lim file into .answer ≡ served tt
+      → save-file lim (read-file lim file into .lent) out ≡ record { answer = served (length file); lent = file ++ drop (length file) out }
+
+-- DEMAND 3
+-- What holds between the memories of the divided run and the state of the undivided run: the memories are the images of a sound mesh, whose
+-- "whole map and the undivided run's have the same darts, each with the same next, opposite and third link and the same point bit for
+-- bit"; "each block has the same cells". Labels of a sound mesh lie below counters that equal the counts, and new ones start there: so
+-- no number is used again.
+pub record Matches (lims : ℕ → Limits) (ms : List (List ℕ)) (u : State) : Type 0 where
+  pub mesh : List Block
+  pub images : ms ≡ map image mesh
+  pub sound : Sound lims mesh
+  pub same-map : (x : ℕ) → whole-map mesh x ≡ u .links x
+  pub same-cells : (x : ℕ) → mem x (u .darts) ≡ true → holder mesh x ≡ u .number x
+  pub same-counts : (b : ℕ) → b < length mesh → block-at mesh b .counter ≡ u .count b
+
+-- what is claimed of a round and an undivided request
+abbrev pub Claim : Type 1
+Claim = Round → Undivided → Type 0
+
+-- "exactly the same requests were refused. The mesh is sound after every request, and every round whose cell was taken finishes"
+pub record Agree (lims : ℕ → Limits) (d : Round) (w : Undivided) : Type 0 where
+  pub refused-alike : is-refused (d .outcome) ≡ is-refused (w .outcome)
+  pub finishes : d .outcome ≢ unfinished
+  pub matches : Matches lims (d .memories) (w .state)
+
+-- "the outbox is long enough"
+abbrev pub Enough : (ℕ → Limits) → List (List ℕ) → Request → List ℕ → Type 0
+Enough lims ms r outbox = number-of (send (lims (r .from)) (memory-at ms (r .from)) (r .to) (r .serial) outbox .answer) ≢ 15
+
+-- "After every request, whatever order let go and the tells ran in": `order` is any order of the round's last steps
+abbrev pub After-every : Claim → (ℕ → Limits) → List (List ℕ) → State → List Request → Type 0
+After-every claim lims ms u [] = Unit {0}
+After-every claim lims ms u (r ∷ rs) = (outbox : List ℕ) (order : List Step) → Enough lims ms r outbox
+    → List·Permᴰ order (last-steps r (sent-messages lims ms r outbox))
+    → claim (round lims ms r outbox order) (undivided lims u r)
+    × After-every claim lims (round lims ms r outbox order .memories) (undivided lims u r .state) rs
+
+-- "every block named is in the mesh"
+abbrev pub Named : ℕ → List Request → Type 0
+Named k rs = all (λ r. ltb (r .from) k && ltb (r .to) k) rs ≡ true
+
+-- "Two runs agree on every list of requests to move a cell, refused ones included, started from any sound mesh"
+abbrev pub Demand3 : (ℕ → Limits) → Type 0
+Demand3 lims = (m : List Block) (rs : List Request) → Sound lims m → Named (length m) rs
+    → Matches lims (map image m) (start m) × After-every (Agree lims) lims (map image m) (start m) rs
+
+-- and by the same number; with limits that differ a number may differ too, so this stands apart
+abbrev pub SameNumbers : (ℕ → Limits) → Type 0
+SameNumbers lims = (m : List Block) (rs : List Request) → Sound lims m → Named (length m) rs
+    → After-every (λ d w. d .outcome ≡ w .outcome) lims (map image m) (start m) rs
+
+-- THE NEXT MOVE: "Each move carried out lowers the sum of positive surpluses by one"
+abbrev pub MoveLowers : (ℕ → Limits) → Type 0
+MoveLowers lims = (m : List Block) (o : Oracle) (scratch outbox : List ℕ) (t : Move) (order : List Step) → Sound lims m
+    → next-move lims (concat (map image m)) o scratch .answer ≡ served (move t)
+    → let r : Request = record { from = t .donor; to = t .recipient; serial = t .serial } in
+    Enough lims (map image m) r outbox → List·Permᴰ order (last-steps r (sent-messages lims (map image m) r outbox))
+    → (round lims (map image m) r outbox order .outcome ≡ finished)
+    × ((after : List Block) → round lims (map image m) r outbox order .memories ≡ map image after → suc (positive-surplus o after) ≡ positive-surplus o m)
+
+-- THE OUTBOX: so many bytes are always enough
+abbrev pub outbox-bytes : ℕ
+outbox-bytes = 32768
+
+abbrev pub OutboxSuffices : Limits → Type 0
+OutboxSuffices lim = (b : Block) (j s : ℕ) → sound-block lim b ≡ true → first-no (departure-checks (lim .volume-darts) b j s) ≡ 0
+    → length (concat (messages b j s)) ≤ outbox-bytes

@@ -1,0 +1,15 @@
+pub mod Lists
+pub mod Values
+pub mod Cells
+pub mod Sound
+pub mod Image
+pub mod Layouts
+pub mod Messages
+pub mod Departure
+pub mod Arrival
+pub mod Balance
+pub mod Calls
+pub mod Runs
+pub mod Listing
+pub mod Demands
+pub mod Everything
