@@ -1,0 +1,4 @@
+pub mod Tests
+pub mod Orbits
+pub mod Volumes
+pub mod Places

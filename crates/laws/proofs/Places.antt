@@ -1,0 +1,112 @@
+-- A list by places as a table by serials: lookup by the serial at a place gives the dart at that place.
+-- Assumes nothing.
+use Prim.Native.Nat.{ℕ, zero, suc, _+_, _≤_, _<_}
+use mathlib.Core.Path.{_≡_, refl, sym, ap, _∙_}
+use mathlib.Core.Bool.{Bool, true, false, cond, _&&_, _||_, true≢false}
+use mathlib.Core.List.{List, [], _∷_, map}
+use mathlib.Core.Logic.{_⊎_, inl, inr, ⊎-elim, _↔_}
+use mathlib.Core.Option.{Option, some, none}
+use native.Mathlib.Omega.{arith}
+use lib.Dec.{eqb, ltb}
+use lib.ListN.{length, getD}
+use borrow.Author.Tests.{eq-eqb, ne-eqb, eqb-true, eqb-false, lt-ltb, ltb-true, ltb-false}
+use Rattle.model.specs.Lists.{all, any, mem, find, tab, ascending, index-of}
+use Rattle.model.specs.Values.{Dart}
+use Rattle.model.specs.Cells.{dart-at, held, serials}
+use Rattle.laws.proofs.Tests.{by-cases, and-intro, and-left, and-right, or-cases}
+
+-- s ascends strictly below n
+abbrev pub Ascending : ℕ → (ℕ → ℕ) → Type 0
+Ascending n s = (i j : ℕ) → i < j → j < n → s i < s j
+
+-- ---- lists by places
+
+module _ {A : Type 0} where
+  pub length-tab : (f : ℕ → A) (n : ℕ) → length (tab f n) ≡ n
+  length-tab f zero = refl
+  length-tab f (suc n) = ap suc (length-tab (λ k. f (suc k)) n)
+
+  pub getD-tab : (f : ℕ → A) (n p : ℕ) (d : A) → p < n → getD (tab f n) p d ≡ f p
+  getD-tab f zero p d h = absurd (omega arith)
+  getD-tab f (suc n) zero d h = refl
+  getD-tab f (suc n) (suc p) d h = getD-tab (λ k. f (suc k)) n p d (omega arith)
+
+  pub all-tab : (q : A → Bool) (f : ℕ → A) (n : ℕ) → all q (tab f n) ≡ true → (p : ℕ) → p < n → q (f p) ≡ true
+  all-tab q f zero e p h = absurd (omega arith)
+  all-tab q f (suc n) e zero h = and-left _ _ e
+  all-tab q f (suc n) e (suc p) h = all-tab q (λ k. f (suc k)) n (and-right (q (f 0)) _ e) p (omega arith)
+
+  pub tab-all : (q : A → Bool) (f : ℕ → A) (n : ℕ) → ((p : ℕ) → p < n → q (f p) ≡ true) → all q (tab f n) ≡ true
+  tab-all q f zero h = refl
+  tab-all q f (suc n) h = and-intro (h 0 (omega arith)) (tab-all q (λ k. f (suc k)) n (λ p l. h (suc p) (omega arith)))
+
+  pub tab-any : (q : A → Bool) (f : ℕ → A) (n p : ℕ) → p < n → q (f p) ≡ true → any q (tab f n) ≡ true
+  tab-any q f zero p h e = absurd (omega arith)
+  tab-any q f (suc n) zero h e = rw e
+  tab-any q f (suc n) (suc p) h e = by-cases (q (f 0)) (λ t. rw t) (λ t. rw t (tab-any q (λ k. f (suc k)) n p (omega arith) e))
+
+  pub any-tab : (q : A → Bool) (f : ℕ → A) (n : ℕ) → any q (tab f n) ≡ true → (p : ℕ) × (p < n) × (q (f p) ≡ true)
+  any-tab q f zero e = absurd (true≢false (sym e))
+  any-tab q f (suc n) e = go (or-cases (q (f 0)) _ e) (any-tab q (λ k. f (suc k)) n)
+    where
+      go : (q (f 0) ≡ true) ⊎ (any q (tab (λ k. f (suc k)) n) ≡ true)
+        → (any q (tab (λ k. f (suc k)) n) ≡ true → (p : ℕ) × (p < n) × (q (f (suc p)) ≡ true))
+        → (p : ℕ) × (p < suc n) × (q (f p) ≡ true)
+      go (inl t) r = (0, omega arith, t)
+      go (inr t) r = let w = r t in (suc (w .0), omega (arith, w .1), w .2)
+
+pub map-tab : {A B : Type 0} (g : A → B) (f : ℕ → A) (n : ℕ) → map g (tab f n) ≡ tab (λ k. g (f k)) n
+map-tab g f zero = refl
+map-tab g f (suc n) = ap (λ (l : List _). g (f 0) ∷ l) (map-tab g (λ k. f (suc k)) n)
+
+-- ---- serials that ascend
+
+pub tail-ascends : {n : ℕ} {s : ℕ → ℕ} → Ascending (suc n) s → Ascending n (λ k. s (suc k))
+tail-ascends a i j l h = a (suc i) (suc j) (omega arith) (omega arith)
+
+-- ascending serials are one at one place only
+pub one-place : {n : ℕ} {s : ℕ → ℕ} → Ascending n s → {p q : ℕ} → p < n → q < n → s p ≡ s q → p ≡ q
+one-place {n} {s} a {p} {q} hp hq e = by-cases (ltb p q)
+    (λ t. absurd (omega (arith, a p q (ltb-true p q t) hq)))
+    (λ t. by-cases (ltb q p) (λ u. absurd (omega (arith, a q p (ltb-true q p u) hp))) (λ u. omega (arith, ltb-false p q t, ltb-false q p u)))
+
+-- the test of the model, on places
+pub tab-ascending : (s : ℕ → ℕ) (n : ℕ) → Ascending n s → ascending (tab s n) ≡ true
+unfolding ascending
+tab-ascending s zero a = refl
+tab-ascending s (suc n) a = and-intro (tab-all (ltb (s 0)) (λ k. s (suc k)) n (λ p l. lt-ltb _ _ (a 0 (suc p) (omega arith) (omega arith)))) (tab-ascending (λ k. s (suc k)) n (tail-ascends a))
+
+pub ascending-tab : (s : ℕ → ℕ) (n : ℕ) → ascending (tab s n) ≡ true → Ascending n s
+unfolding ascending
+ascending-tab s zero e i j l h = absurd (omega arith)
+ascending-tab s (suc n) e zero zero l h = absurd (omega arith)
+ascending-tab s (suc n) e zero (suc j) l h = ltb-true _ _ (all-tab (ltb (s 0)) (λ k. s (suc k)) n (and-left _ _ e) j (omega arith))
+ascending-tab s (suc n) e (suc i) zero l h = absurd (omega arith)
+ascending-tab s (suc n) e (suc i) (suc j) l h = ascending-tab (λ k. s (suc k)) n (and-right (all (ltb (s 0)) (tab (λ k. s (suc k)) n)) _ e) i j (omega arith) (omega arith)
+
+-- ---- THE BRIDGE: the dart at a place is the dart of its serial
+
+pub find-place : (f : ℕ → Dart) (n p : ℕ) → Ascending n (λ k. f k .serial) → p < n → find (λ d. d .serial) (f p .serial) (tab f n) ≡ some (f p)
+find-place f zero p a h = absurd (omega arith)
+find-place f (suc n) zero a h = rw (eq-eqb (f 0 .serial) (f 0 .serial) refl)
+find-place f (suc n) (suc p) a h =
+    rw (ne-eqb (f (suc p) .serial) (f 0 .serial) (λ e. omega (arith, a 0 (suc p) (omega arith) h))) (find-place (λ k. f (suc k)) n p (tail-ascends a) (omega arith))
+
+pub dart-place : (f : ℕ → Dart) (n p : ℕ) → Ascending n (λ k. f k .serial) → p < n → dart-at (tab f n) (f p .serial) ≡ f p
+unfolding dart-at
+dart-place f n p a h = rw (find-place f n p a h) refl
+
+pub held-place : (f : ℕ → Dart) (n p x : ℕ) → p < n → x ≡ f p .serial → held (tab f n) x ≡ true
+held-place f n p x h e = rw (map-tab (λ d. d .serial) f n) (tab-any (eqb x) (λ k. f k .serial) n p h (eq-eqb _ _ e))
+
+pub place-held : (f : ℕ → Dart) (n x : ℕ) → held (tab f n) x ≡ true → (p : ℕ) × (p < n) × (x ≡ f p .serial)
+place-held f n x e =
+    let w = any-tab (eqb x) (λ k. f k .serial) n (rw (map-tab (λ d. d .serial) f n) at e) in
+    (w .0, w .1, eqb-true _ _ (w .2))
+
+-- a place is the index of its serial, and the index of a serial that is held is a place
+pub index-place : (s : ℕ → ℕ) (n p : ℕ) → Ascending n s → p < n → index-of (s p) (tab s n) ≡ p
+unfolding index-of
+index-place s zero p a h = absurd (omega arith)
+index-place s (suc n) zero a h = rw (eq-eqb (s 0) (s 0) refl)
+index-place s (suc n) (suc p) a h = rw (ne-eqb (s (suc p)) (s 0) (λ e. omega (arith, a 0 (suc p) (omega arith) h))) (ap suc (index-place (λ k. s (suc k)) n p (tail-ascends a) (omega arith)))

@@ -1,0 +1,1 @@
+// Laws of lists, tables and orbits stand in proofs/; this crate has no code.

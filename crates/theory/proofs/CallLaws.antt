@@ -1,0 +1,107 @@
+-- A refused call changes nothing (demand 1), and what each call does on the memory of a sound block. Assumes nothing.
+use mathlib.Core.Path.{_≡_, refl, sym, _∙_}
+use mathlib.Core.Logic.{_≢_}
+use mathlib.Core.Bool.{Bool, true, false, cond, _&&_}
+use mathlib.Core.List.{List, [], _∷_, _++_, append-assoc}
+use mathlib.Core.Option.{Option, none, some}
+use Prim.Native.Nat.{ℕ, _+_, _≤_}
+use native.Mathlib.Omega.{arith}
+use lib.Dec.{leb, eqb}
+use lib.ListN.{length, drop}
+use borrow.Author.Tests.{eqb-true, eqb-false, eq-eqb, ne-eqb}
+use Rattle.model.specs.Lists.{concat, Check, first-no}
+use Rattle.model.specs.Values.{Point, Block, Limits}
+use Rattle.model.specs.Sound.{sound-block}
+use Rattle.model.specs.Image.{room, words, image, block-in, is-image, memory-checks}
+use Rattle.model.specs.Messages.{file, message-in}
+use Rattle.model.specs.Departure.{departure-checks, messages, released}
+use Rattle.model.specs.Arrival.{receive-checks, received-from, redirect-checks, redirected-from}
+use Rattle.model.specs.Balance.{Oracle, numbered-oracle}
+use Rattle.model.specs.Calls.{Answer, served, refused, number-of, Result, asked, storing, writing, empty, read-file, save-file, send, receive, release, redirect, check-mesh, next-move, next-move-of, next-move-by-number}
+use Rattle.model.specs.Demands.{Unchanged, Demand1}
+use Rattle.laws.proofs.Tests.{by-cases, yes-then}
+use Rattle.theory.proofs.ImageLaws.{parts-of, ranges-of, block-back, is-image-of, image-length}
+
+-- ANSWERS
+module _ {A : Type 0} (qs : List Check) (before : List ℕ) (value : A) (after : List ℕ) where
+  pub served-gives : first-no qs ≡ 0 → asked qs before value after ≡ record { answer = served value; lent = after }
+  unfolding asked
+  served-gives n = rw (eq-eqb (first-no qs) 0 n)
+
+  pub refused-gives : first-no qs ≢ 0 → asked qs before value after ≡ record { answer = refused (first-no qs); lent = before }
+  unfolding asked
+  refused-gives n = rw (ne-eqb (first-no qs) 0 n)
+
+  pub asked-number : number-of (asked qs before value after .answer) ≡ first-no qs
+  unfolding asked
+  asked-number = by-cases (eqb (first-no qs) 0) (λ e. rw e (sym (eqb-true (first-no qs) 0 e))) (λ e. rw e)
+
+  pub asked-unchanged : Unchanged before (asked qs before value after)
+  unfolding asked
+  asked-unchanged = by-cases (eqb (first-no qs) 0)
+      (λ e. rw e (record { kept = λ n h. absurd (not-refused value n h); numbered = λ n h. absurd (not-refused value n h) }))
+      (λ e. rw e (record { kept = λ n h. refl; numbered = λ n h z. eqb-false (first-no qs) 0 e (same-number (first-no qs) n h ∙ z) }))
+    where
+      not-refused : (v : A) (n : ℕ) → _≡_ {A = Answer A} (served v) (refused n) → ⊥
+      not-refused v n h = let z : _≡_ {A = ℕ} 0 1 = cc in omega arith
+
+      same-number : (m n : ℕ) → _≡_ {A = Answer A} (refused m) (refused n) → m ≡ n
+      same-number m n h = cc
+
+-- DEMAND 1
+numbered-unchanged : (lims : ℕ → Limits) (m : List ℕ) (o : Option Oracle) (scratch : List ℕ) → Unchanged scratch (next-move-of lims m o scratch)
+unfolding next-move
+numbered-unchanged lims m none scratch = asked-unchanged _ scratch _ scratch
+numbered-unchanged lims m (some o) scratch = asked-unchanged _ scratch _ scratch
+
+pub demand1 : (lim : Limits) (lims : ℕ → Limits) → Demand1 lim lims
+unfolding empty read-file save-file send receive release redirect check-mesh next-move next-move-by-number storing writing
+demand1 lim lims = record {
+  empty-keeps = λ n m. asked-unchanged _ m tt _;
+  read-file-keeps = λ file m. asked-unchanged _ m tt _;
+  save-file-keeps = λ m out. asked-unchanged _ out _ _;
+  send-keeps = λ m j s outbox. asked-unchanged _ outbox _ _;
+  receive-keeps = λ m message. asked-unchanged _ m tt _;
+  release-keeps = λ m j s. asked-unchanged _ m tt _;
+  redirect-keeps = λ m message. asked-unchanged _ m tt _;
+  check-mesh-keeps = λ m scratch. asked-unchanged _ scratch tt scratch;
+  next-move-keeps = λ m o scratch. asked-unchanged _ scratch _ scratch;
+  numbered-keeps = λ m n axis low high scratch. numbered-unchanged lims m (numbered-oracle n axis low high) scratch;
+}
+
+-- THE MEMORY OF A SOUND BLOCK: 1 and 2 are answered yes
+module _ (lim : Limits) (fits : lim .block-darts ≤ room) (b : Block) (s : sound-block lim b ≡ true) where
+  pub sound-length : length (image b) ≡ words
+  sound-length = let few = ranges-of lim b (parts-of lim b s .ranges) .few-darts in image-length b (omega arith)
+
+  pub memory-yes : (qs : List Check) → first-no (memory-checks lim (image b) ++ qs) ≡ first-no qs
+  unfolding memory-checks
+  memory-yes qs = yes-then 1 (eqb (length (image b)) words) _ (eq-eqb (length (image b)) words sound-length) ∙ yes-then 2 (is-image lim (image b)) qs (is-image-of lim b fits s)
+
+  -- so each call asks the block's own questions and stores or writes what is the block's own
+  asked-same : {A : Type 0} (qs : List Check) (before : List ℕ) (value : A) (after : List ℕ) → asked (memory-checks lim (image b) ++ qs) before value after ≡ asked qs before value after
+  unfolding asked
+  asked-same qs before value after = rw (memory-yes qs)
+
+  pub save-file-is : (out : List ℕ) → save-file lim (image b) out ≡ writing [] out (file lim .put b)
+  unfolding save-file writing
+  save-file-is out = rw (block-back lim b s) (asked-same _ out _ _)
+
+  pub send-is : (j x : ℕ) (outbox : List ℕ) → send lim (image b) j x outbox ≡ writing (departure-checks (lim .volume-darts) b j x) outbox (concat (messages b j x))
+  unfolding send writing
+  send-is j x outbox = rw (
+    block-back lim b s,
+    append-assoc (memory-checks lim (image b)) (departure-checks (lim .volume-darts) b j x) ((15, leb (length (concat (messages b j x))) (length outbox)) ∷ []),
+  ) (asked-same _ outbox _ _)
+
+  pub receive-is : (message : List ℕ) → receive lim (image b) message ≡ storing (receive-checks lim b (message-in message)) (image b) (received-from b (message-in message))
+  unfolding receive storing
+  receive-is message = rw (block-back lim b s) (asked-same _ (image b) tt _)
+
+  pub release-is : (j x : ℕ) → release lim (image b) j x ≡ storing (departure-checks (lim .volume-darts) b j x) (image b) (released b j x)
+  unfolding release storing
+  release-is j x = rw (block-back lim b s) (asked-same _ (image b) tt _)
+
+  pub redirect-is : (message : List ℕ) → redirect lim (image b) message ≡ storing (redirect-checks b (message-in message)) (image b) (redirected-from b (message-in message))
+  unfolding redirect storing
+  redirect-is message = rw (block-back lim b s) (asked-same _ (image b) tt _)

@@ -1,0 +1,5 @@
+pub mod LayoutLaws
+pub mod MessageLaws
+pub mod FileLaws
+pub mod ImageLaws
+pub mod CallLaws

@@ -1,0 +1,1 @@
+// Laws of the model stand in proofs/; this crate has no code.
