@@ -48,6 +48,20 @@ module _ {A : Type 0} (qs : List Check) (before : List ℕ) (value : A) (after :
       same-number : (m n : ℕ) → _≡_ {A = Answer A} (refused m) (refused n) → m ≡ n
       same-number m n h = cc
 
+served-same : {A : Type 0} (a b : A) → _≡_ {A = Answer A} (served a) (served b) → a ≡ b
+served-same a b h = cc
+
+never-served : {A : Type 0} (n : ℕ) (b : A) → _≡_ {A = Answer A} (refused n) (served b) → ⊥
+never-served n b h = let z : _≡_ {A = ℕ} 0 1 = cc in omega arith
+
+-- a served call has had a yes to each question, and gives its value
+pub served-value : {A : Type 0} (qs : List Check) (before : List ℕ) (value : A) (after : List ℕ) (v : A) → asked qs before value after .answer ≡ served v
+    → (first-no qs ≡ 0) × (value ≡ v)
+unfolding asked
+served-value qs before value after v e = by-cases (eqb (first-no qs) 0)
+    (λ t. (eqb-true (first-no qs) 0 t, served-same value v (rw t at e)))
+    (λ t. absurd (never-served (first-no qs) v (rw t at e)))
+
 -- DEMAND 1
 numbered-unchanged : (lims : ℕ → Limits) (m : List ℕ) (o : Option Oracle) (scratch : List ℕ) → Unchanged scratch (next-move-of lims m o scratch)
 unfolding next-move

@@ -77,7 +77,7 @@ column-is b p f h k =
 
 -- READING BACK
 -- what has to be held
-abbrev links-held : List Dart → Third → Bool
+abbrev pub links-held : List Dart → Third → Bool
 links-held ds free = true
 links-held ds (sewn y) = held ds y
 links-held ds (critical o l) = true
@@ -133,7 +133,7 @@ module _ (b : Block) where
   read-back r = rw (tab-list no-dart (b .darts) (dart-in (image b)) (λ p h. dart-back p h (r p h)))
 
 -- A SOUND BLOCK is read back
-readable-dart : (ds : List Dart) (d : Dart) → link-right ds d ≡ true → third-right ds d (d .third) ≡ true → dart-in-range d ≡ true → Readable ds d
+pub readable-dart : (ds : List Dart) (d : Dart) → link-right ds d ≡ true → third-right ds d (d .third) ≡ true → dart-in-range d ≡ true → Readable ds d
 unfolding link-right third-right dart-in-range
 readable-dart ds d l t r = record {
   next-held = and-left (held ds (d .next)) _ (and-left two _ three);
