@@ -1,62 +1,17 @@
 -- Laws of cycles: what an injective function on a finite set reaches. Assumes nothing.
 use mathlib.Core.Path.{_≡_, refl, sym, _∙_, ap, subst}
 use mathlib.Core.Logic.{_⊎_, inl, inr, _≢_}
-use mathlib.Core.Bool.{Bool, true, false, true≢false, cond, not, _&&_, _||_}
-use mathlib.Core.List.{List, [], _∷_, _++_, map}
-use Prim.Native.Nat.{ℕ, zero, suc, _+_, _*_, _-_, _<_, _≤_}
+use mathlib.Core.Bool.{true, false, true≢false}
+use mathlib.Core.List.{List, [], _∷_}
+use Prim.Native.Nat.{ℕ, zero, suc, _+_, _-_, _<_, _≤_}
 use native.Mathlib.Omega.{arith}
 use native.Mathlib.Nat.{zero-add, suc-add, not-suc-le-zero}
-use lib.Dec.{leb, ltb, eqb}
+use lib.Dec.{ltb, eqb}
 use lib.ListN.{length}
-use borrow.Author.Tests.{eqb-true, eqb-false, eq-eqb, ne-eqb, ltb-true, ltb-false, lt-ltb, le-ltb, not-true, not-false}
-use Rattle.model.specs.Lists.{all, any, keep, mem}
-use Rattle.laws.proofs.Tests.{by-cases, or-cases, and-left, and-right, and-intro}
-use Rattle.model.specs.Cells.{around, cycle}
-
-abbrev pub In : ℕ → List ℕ → Type 0
-In x l = mem x l ≡ true
-
-pub or-left : (a b : Bool) → a ≡ true → (a || b) ≡ true
-or-left a b p = rw p
-
-pub or-right : (a b : Bool) → b ≡ true → (a || b) ≡ true
-or-right true b p = refl
-or-right false b p = p
-
-pub in-here : (x : ℕ) (l : List ℕ) → In x (x ∷ l)
-in-here x l = or-left _ _ (eq-eqb x x refl)
-
-pub in-there : (x y : ℕ) (l : List ℕ) → In x l → In x (y ∷ l)
-in-there x y l h = or-right (eqb x y) _ h
-
-pub in-keep : (q : ℕ → Bool) (x : ℕ) (l : List ℕ) → In x l → q x ≡ true → In x (keep q l)
-in-keep q x [] h p = h
-in-keep q x (y ∷ l) h p = by-cases (eqb x y)
-    (λ e. rw (← eqb-true x y e, p) (in-here x (keep q l)))
-    (λ e. by-cases (q y)
-    (λ k. rw k (in-there x y (keep q l) (in-keep q x l (rw e at h) p)))
-    (λ k. rw k (in-keep q x l (rw e at h) p)))
-
-pub keep-le : (q : ℕ → Bool) (l : List ℕ) → length (keep q l) ≤ length l
-keep-le q [] = omega arith
-keep-le q (y ∷ l) = by-cases (q y) (λ k. rw k (omega (arith, keep-le q l))) (λ k. rw k (omega (arith, keep-le q l)))
-
-pub keep-less : (q : ℕ → Bool) (x : ℕ) (l : List ℕ) → In x l → q x ≡ false → length (keep q l) < length l
-keep-less q x [] h p = absurd (true≢false (sym h))
-keep-less q x (y ∷ l) h p = by-cases (eqb x y)
-    (λ e. rw (← eqb-true x y e, p) (omega (arith, keep-le q l)))
-    (λ e. by-cases (q y)
-    (λ k. rw k (omega (arith, keep-less q x l (rw e at h) p)))
-    (λ k. rw k (omega (arith, keep-less q x l (rw e at h) p))))
-
--- n different values in a list: it has at least n elements
-pub pigeonhole : (n : ℕ) (g : ℕ → ℕ) (l : List ℕ) → ((k : ℕ) → k < n → In (g k) l) → ((a b : ℕ) → a < b → b < n → g a ≢ g b) → n ≤ length l
-pigeonhole zero g l m d = omega arith
-pigeonhole (suc n) g l m d =
-    let q : ℕ → Bool = λ y. not (eqb y (g n)) in
-    let less = keep-less q (g n) l (m n (omega arith)) (rw (eq-eqb (g n) (g n) refl)) in
-    let rest = pigeonhole n g (keep q l) (λ k h. in-keep q (g k) l (m k (omega arith)) (rw (ne-eqb (g k) (g n) (d k n h (omega arith))))) (λ a b h k. d a b h (omega arith)) in
-    omega arith
+use borrow.Author.Tests.{eqb-true, eqb-false, ltb-true, ltb-false}
+use Rattle.laws.proofs.Tests.{by-cases, or-cases}
+use Rattle.laws.proofs.Members.{In, in-here, in-there, pigeonhole}
+use Rattle.model.specs.Cells.{around}
 
 abbrev pub iter : (ℕ → ℕ) → ℕ → ℕ → ℕ
 iter f zero x = x

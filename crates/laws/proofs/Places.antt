@@ -1,18 +1,18 @@
 -- A list by places as a table by serials: lookup by the serial at a place gives the dart at that place.
 -- Assumes nothing.
-use Prim.Native.Nat.{ℕ, zero, suc, _+_, _≤_, _<_}
-use mathlib.Core.Path.{_≡_, refl, sym, ap, _∙_}
-use mathlib.Core.Bool.{Bool, true, false, cond, _&&_, _||_, true≢false}
-use mathlib.Core.List.{List, [], _∷_, map}
-use mathlib.Core.Logic.{_⊎_, inl, inr, ⊎-elim, _↔_}
-use mathlib.Core.Option.{Option, some, none}
+use Prim.Native.Nat.{ℕ, zero, suc, _<_}
+use mathlib.Core.Path.{_≡_, refl, sym, ap}
+use mathlib.Core.Bool.{Bool, true, true≢false}
+use mathlib.Core.List.{List, _∷_, map}
+use mathlib.Core.Logic.{_⊎_, inl, inr}
+use mathlib.Core.Option.{some}
 use native.Mathlib.Omega.{arith}
 use lib.Dec.{eqb, ltb}
 use lib.ListN.{length, getD}
-use borrow.Author.Tests.{eq-eqb, ne-eqb, eqb-true, eqb-false, lt-ltb, ltb-true, ltb-false}
-use Rattle.model.specs.Lists.{all, any, mem, find, tab, ascending, index-of}
+use borrow.Author.Tests.{eq-eqb, ne-eqb, eqb-true, lt-ltb, ltb-true, ltb-false}
+use Rattle.model.specs.Lists.{all, any, find, tab, ascending, index-of}
 use Rattle.model.specs.Values.{Dart}
-use Rattle.model.specs.Cells.{dart-at, held, serials}
+use Rattle.model.specs.Cells.{dart-at, held}
 use Rattle.laws.proofs.Tests.{by-cases, and-intro, and-left, and-right, or-cases}
 
 -- s ascends strictly below n
@@ -50,8 +50,8 @@ module _ {A : Type 0} where
   any-tab q f (suc n) e = go (or-cases (q (f 0)) _ e) (any-tab q (λ k. f (suc k)) n)
     where
       go : (q (f 0) ≡ true) ⊎ (any q (tab (λ k. f (suc k)) n) ≡ true)
-        → (any q (tab (λ k. f (suc k)) n) ≡ true → (p : ℕ) × (p < n) × (q (f (suc p)) ≡ true))
-        → (p : ℕ) × (p < suc n) × (q (f p) ≡ true)
+          → (any q (tab (λ k. f (suc k)) n) ≡ true → (p : ℕ) × (p < n) × (q (f (suc p)) ≡ true))
+          → (p : ℕ) × (p < suc n) × (q (f p) ≡ true)
       go (inl t) r = (0, omega arith, t)
       go (inr t) r = let w = r t in (suc (w .0), omega (arith, w .1), w .2)
 

@@ -1,18 +1,18 @@
 -- Laws of volumes: what two links reach is the least set that is closed under both. Assumes nothing.
-use mathlib.Core.Path.{_≡_, refl, sym, _∙_, ap, subst}
-use mathlib.Core.Logic.{_⊎_, inl, inr, _≢_}
-use mathlib.Core.Bool.{Bool, true, false, true≢false, cond, not, _&&_, _||_}
-use mathlib.Core.List.{List, [], _∷_, _++_, map}
-use Prim.Native.Nat.{ℕ, zero, suc, _+_, _*_, _-_, _<_, _≤_}
+use mathlib.Core.Path.{_≡_, refl, sym, ap}
+use mathlib.Core.Logic.{_⊎_, inl, inr}
+use mathlib.Core.Bool.{Bool, true, false, true≢false, not}
+use mathlib.Core.List.{List, [], _∷_}
+use Prim.Native.Nat.{ℕ, zero, suc, _+_, _*_, _<_, _≤_}
 use native.Mathlib.Omega.{arith}
-use native.Mathlib.Nat.{zero-add, suc-add, not-suc-le-zero}
-use lib.Dec.{leb, ltb, eqb}
+use native.Mathlib.Nat.{not-suc-le-zero}
+use lib.Dec.{eqb}
 use lib.ListN.{length}
-use borrow.Author.Tests.{eqb-true, eqb-false, eq-eqb, ne-eqb, not-true, not-false}
-use Rattle.model.specs.Lists.{all, any, keep, mem}
-use Rattle.laws.proofs.Tests.{by-cases, or-cases, and-left, and-right, and-intro}
+use borrow.Author.Tests.{eqb-true, eq-eqb}
+use Rattle.model.specs.Lists.{keep, mem}
+use Rattle.laws.proofs.Tests.{by-cases}
 use Rattle.model.specs.Cells.{reach, volume}
-use Rattle.laws.proofs.Orbits.{In, in-here, in-there, or-left, or-right, keep-le}
+use Rattle.laws.proofs.Members.{In, in-here, in-there, in-cons, in-eq, keep-le}
 
 fewer : (q r : ℕ → Bool) → ((y : ℕ) → r y ≡ true → q y ≡ true) → (l : List ℕ) → length (keep r l) ≤ length (keep q l)
 fewer q r imp [] = omega arith
@@ -27,12 +27,6 @@ fewer-still q r imp x yes' not' (y ∷ l) h = by-cases (eqb x y)
     (λ e. let ih = fewer-still q r imp x yes' not' l (rw e at h) in by-cases (r y)
     (λ k. rw (k, imp y k) (omega arith))
     (λ k. rw k (by-cases (q y) (λ j. rw j (omega arith)) (λ j. rw j ih))))
-
-pub in-cons {ℓ} : {C : Type ℓ} (y x : ℕ) (l : List ℕ) → In y (x ∷ l) → (y ≡ x → C) → (In y l → C) → C
-in-cons y x l h a b = by-cases (eqb y x) (λ e. a (eqb-true y x e)) (λ e. b (rw e at h))
-
-pub in-eq : (y x : ℕ) (l : List ℕ) → y ≡ x → In x l → In y l
-in-eq y x l e h = rw e h
 
 abbrev Either : ℕ → List ℕ → List ℕ → Type 0
 Either y seen todo = In y seen ⊎ In y todo

@@ -6,7 +6,7 @@ use Prim.Native.Nat.{ℕ, suc, _+_}
 use lib.Dec.{leb, ltb, eqb}
 use lib.ListN.{length, getD}
 use Rattle.model.specs.Lists.{all, any, keep, mem, distinct, ascending, find, insert, collect, zip, concat-map, turned, least, same-list, Check}
-use Rattle.model.specs.Values.{Label, Third, free, sewn, critical, Dart, Block, Limits, code, same-point, finite, no-point, is-critical-with, label-of, with-other}
+use Rattle.model.specs.Values.{Label, free, sewn, critical, Dart, Block, Limits, code, same-point, finite, no-point, is-critical-with, label-of, with-other}
 use Rattle.model.specs.Cells.{cycle, volume, vertices, vertex-number, start-of, dart-at, held, next-in, opposite-in, previous-in, third-at, labels, least-label, labelled}
 use Rattle.model.specs.Messages.{FaceDart, Part2, Part3, Part4, Transfer, Update, size-all, Message, a-transfer, an-update, no-message}
 use Rattle.model.specs.Departure.{pairs-once, Placed, placed, Link, relink, label-links}

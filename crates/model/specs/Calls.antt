@@ -4,7 +4,7 @@
 use mathlib.Core.Bool.{Bool, false, cond, _&&_}
 use mathlib.Core.List.{List, [], _∷_, _++_, map}
 use mathlib.Core.Option.{Option, none, some}
-use Prim.Native.Nat.{ℕ, _+_, _*_, _/_}
+use Prim.Native.Nat.{ℕ, _*_, _/_}
 use lib.Dec.{leb, eqb}
 use lib.ListN.{length, getD, take, drop}
 use Rattle.model.specs.Lists.{all, concat, tab, is-some, first-no, Check}
@@ -15,7 +15,7 @@ use Rattle.model.specs.Image.{words, image, block-in, is-image, memory-c
 use Rattle.model.specs.Messages.{file, message-in}
 use Rattle.model.specs.Departure.{departure-checks, messages, released}
 use Rattle.model.specs.Arrival.{receive-checks, received-from, redirect-checks, redirected-from}
-use Rattle.model.specs.Balance.{Oracle, every, oracle-right, NextMove, level, blocked, move, next-of, numbered-oracle}
+use Rattle.model.specs.Balance.{Oracle, oracle-right, NextMove, level, blocked, move, next-of, numbered-oracle}
 
 -- ANSWERS: served with its values, or refused with a number alone
 pub data Answer (A : Type 0) : Type 0 where

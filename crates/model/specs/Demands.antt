@@ -2,18 +2,18 @@
 -- of the two runs (Runs). Their proofs are in the crate theory. Assumes nothing.
 use mathlib.Core.Path.{_≡_}
 use mathlib.Core.Logic.{_≢_}
-use mathlib.Core.Bool.{Bool, true, _&&_}
+use mathlib.Core.Bool.{true, _&&_}
 use mathlib.Core.List.{List, [], _∷_, _++_, map, List·Permᴰ}
 use Prim.Native.Nat.{ℕ, suc, _<_, _≤_}
 use lib.Dec.{ltb}
 use lib.ListN.{length, take, drop}
 use Rattle.model.specs.Lists.{all, mem, concat, first-no}
 use Rattle.model.specs.Values.{Block, Limits, Point}
-use Rattle.model.specs.Sound.{sound-block, Sound, Fit, block-at}
+use Rattle.model.specs.Sound.{sound-block, Sound, block-at}
 use Rattle.model.specs.Image.{words, image}
 use Rattle.model.specs.Departure.{departure-checks, messages}
 use Rattle.model.specs.Balance.{Oracle, Move, move, positive-surplus}
-use Rattle.model.specs.Calls.{Answer, served, refused, number-of, Result, empty, read-file, save-file, send, receive, release, redirect, check-mesh, next-move, next-move-by-number}
+use Rattle.model.specs.Calls.{served, refused, number-of, Result, empty, read-file, save-file, send, receive, release, redirect, check-mesh, next-move, next-move-by-number}
 use Rattle.model.specs.Runs.{Request, memory-at, is-refused, finished, unfinished, Step, last-steps, sent-messages, Round, round, State, start, whole-map, holder, Undivided, undivided}
 
 -- DEMAND 1: "A refused call returns that number only and changes no byte that was lent to it"

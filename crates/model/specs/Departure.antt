@@ -6,10 +6,10 @@ use Prim.Native.Nat.{ℕ, suc, _+_, _^_}
 use lib.Dec.{leb, ltb, eqb}
 use lib.ListN.{length}
 use Rattle.model.specs.Lists.{all, any, keep, mem, find, collect, concat, concat-map, tab, Check}
-use Rattle.model.specs.Values.{Label, Third, free, sewn, critical, Dart, Block, code, with-third, is-critical-with, label-of, partner}
+use Rattle.model.specs.Values.{Label, Third, free, sewn, critical, Dart, Block, code, with-third, is-critical-with, partner}
 use Rattle.model.specs.Layouts.{framed}
 use Rattle.model.specs.Cells.{vertex, vertices, vertex-number, start-of, dart-at, held, next-in, opposite-in, third-at, volume-in, faces-in, labels-along, least-label}
-use Rattle.model.specs.Messages.{FaceDart, Part2, Part3, Part4, Transfer, Update, transfer, update}
+use Rattle.model.specs.Messages.{Part2, Part3, Part4, Transfer, Update, transfer, update}
 
 -- QUESTIONS 9 TO 14
 -- 12: "No dart sewn within the volume"

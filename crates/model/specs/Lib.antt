@@ -13,3 +13,5 @@ pub mod Runs
 pub mod Listing
 pub mod Demands
 pub mod Everything
+pub mod Figures
+pub mod Examples

@@ -3,14 +3,13 @@ use mathlib.Core.Bool.{cond}
 use mathlib.Core.List.{List, [], _∷_, _++_}
 use Prim.Native.Nat.{ℕ, zero, suc, _+_, _/_, _%_}
 use Prim.Native.String as text
-use Prim.Native.Char.{Char}
 use Prim.Native.Char as char
 use lib.Dec.{ltb}
 use lib.ListN.{length, replicate}
 use Rattle.model.specs.Lists.{concat-map}
-use Rattle.model.specs.Values.{Label, Third, free, sewn, critical, Dart, Block, Limits}
+use Rattle.model.specs.Values.{Third, free, sewn, critical, Dart, Block, Limits}
 use Rattle.model.specs.Image.{words, block-in}
-use Rattle.model.specs.Calls.{Answer, served, refused, Result, read-file}
+use Rattle.model.specs.Calls.{served, refused, Result, read-file}
 
 -- the bytes of a quoted text
 unfoldable pub bytes : text.String → List ℕ

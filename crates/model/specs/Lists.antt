@@ -4,12 +4,11 @@
 --   tab f n           f 0, f 1, .., n values
 --   find key x        the first row of a table whose key is x
 --   first-no          the number of the first check that fails, 0 if none does
-use mathlib.Core.Path.{_≡_}
 use mathlib.Core.Bool.{Bool, true, false, cond, not, _&&_, _||_}
-use mathlib.Core.List.{List, [], _∷_, _++_, map}
+use mathlib.Core.List.{List, [], _∷_, _++_}
 use mathlib.Core.Option.{Option, none, some}
 use Prim.Native.Nat.{ℕ, zero, suc, _+_, min}
-use lib.Dec.{leb, ltb, eqb}
+use lib.Dec.{ltb, eqb}
 
 module _ {A : Type 0} where
   abbrev pub all : (A → Bool) → List A → Bool

@@ -1,7 +1,7 @@
 -- Sound blocks and sound meshes, as tests. Each test has the number of its question (3 to 8 of a block, 23 to 27 of a mesh).
 -- Assumes nothing.
-use mathlib.Core.Bool.{Bool, true, false, cond, not, _&&_, _||_}
-use mathlib.Core.List.{List, [], _∷_, _++_, map}
+use mathlib.Core.Bool.{Bool, true, false, not, _&&_, _||_}
+use mathlib.Core.List.{List, [], _∷_, map}
 use mathlib.Core.Path.{_≡_}
 use Prim.Native.Nat.{ℕ, suc, _≤_, _^_, min}
 use lib.Dec.{leb, ltb, eqb}

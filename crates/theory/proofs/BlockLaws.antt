@@ -1,22 +1,22 @@
 -- What the tests of a block say of the darts that it holds. Assumes nothing.
 use mathlib.Core.Path.{_≡_, refl, sym, _∙_, ap, subst}
-use mathlib.Core.Logic.{_⊎_, inl, inr, _≢_}
-use mathlib.Core.Bool.{Bool, true, false, true≢false, cond, not, _&&_, _||_}
-use mathlib.Core.List.{List, [], _∷_, _++_, map}
-use mathlib.Core.Option.{Option, none, some, Option·none-ne-some, Option·some-injective}
-use Prim.Native.Nat.{ℕ, zero, suc, _+_, _*_, _-_, _<_, _≤_}
+use mathlib.Core.Logic.{_≢_}
+use mathlib.Core.Bool.{Bool, true, true≢false, not, _&&_}
+use mathlib.Core.List.{List, [], _∷_}
+use mathlib.Core.Option.{some, Option·none-ne-some, Option·some-injective}
+use Prim.Native.Nat.{ℕ, zero, suc, _<_, _≤_}
 use native.Mathlib.Omega.{arith}
 use native.Mathlib.Nat.{not-suc-le-zero}
-use lib.Dec.{leb, ltb, eqb}
+use lib.Dec.{eqb}
 use lib.ListN.{length}
-use borrow.Author.Tests.{eqb-true, eqb-false, eq-eqb, ne-eqb, not-true, not-false}
-use Rattle.model.specs.Lists.{all, any, keep, mem, distinct, find}
-use Rattle.laws.proofs.Tests.{by-cases, or-cases, and-left, and-right, and-intro, found-key, found-all}
-use Rattle.model.specs.Values.{Dart, Block, or-no-dart}
+use borrow.Author.Tests.{eqb-true, eqb-false, eq-eqb, ne-eqb, not-true}
+use Rattle.model.specs.Lists.{all, any, mem, distinct, find}
+use Rattle.laws.proofs.Tests.{by-cases, and-left, and-right, found-all}
+use Rattle.model.specs.Values.{Dart, or-no-dart}
 use Rattle.model.specs.Cells.{around, dart-at, next-in, opposite-in, previous-in, serials}
 use Rattle.model.specs.Sound.{links-right, link-right}
-use Rattle.laws.proofs.Orbits.{In, in-here, in-there, iter, iter-out, iter-stays, around-path, cycle-sym, in-cycle, cycle-in}
-use Rattle.laws.proofs.Volumes.{in-cons, in-eq}
+use Rattle.laws.proofs.Members.{In, in-here, in-there, in-eq}
+use Rattle.laws.proofs.Orbits.{iter, iter-out, iter-stays, around-path, cycle-sym, in-cycle}
 
 -- a dart that is held is found
 pub held-found : (x : ℕ) (ds : List Dart) → In x (serials ds) → (d : Dart) × (find (λ d. d .serial) x ds ≡ some d) × (d .serial ≡ x)

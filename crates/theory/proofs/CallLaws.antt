@@ -1,23 +1,23 @@
 -- A refused call changes nothing (demand 1), and what each call does on the memory of a sound block. Assumes nothing.
 use mathlib.Core.Path.{_≡_, refl, sym, _∙_}
 use mathlib.Core.Logic.{_≢_}
-use mathlib.Core.Bool.{Bool, true, false, cond, _&&_}
+use mathlib.Core.Bool.{true}
 use mathlib.Core.List.{List, [], _∷_, _++_, append-assoc}
 use mathlib.Core.Option.{Option, none, some}
-use Prim.Native.Nat.{ℕ, _+_, _≤_}
+use Prim.Native.Nat.{ℕ, _≤_}
 use native.Mathlib.Omega.{arith}
 use lib.Dec.{leb, eqb}
-use lib.ListN.{length, drop}
+use lib.ListN.{length}
 use borrow.Author.Tests.{eqb-true, eqb-false, eq-eqb, ne-eqb}
 use Rattle.model.specs.Lists.{concat, Check, first-no}
-use Rattle.model.specs.Values.{Point, Block, Limits}
+use Rattle.model.specs.Values.{Block, Limits}
 use Rattle.model.specs.Sound.{sound-block}
-use Rattle.model.specs.Image.{room, words, image, block-in, is-image, memory-checks}
+use Rattle.model.specs.Image.{room, words, image, is-image, memory-checks}
 use Rattle.model.specs.Messages.{file, message-in}
 use Rattle.model.specs.Departure.{departure-checks, messages, released}
 use Rattle.model.specs.Arrival.{receive-checks, received-from, redirect-checks, redirected-from}
 use Rattle.model.specs.Balance.{Oracle, numbered-oracle}
-use Rattle.model.specs.Calls.{Answer, served, refused, number-of, Result, asked, storing, writing, empty, read-file, save-file, send, receive, release, redirect, check-mesh, next-move, next-move-of, next-move-by-number}
+use Rattle.model.specs.Calls.{Answer, served, refused, number-of, asked, storing, writing, empty, read-file, save-file, send, receive, release, redirect, check-mesh, next-move, next-move-of, next-move-by-number}
 use Rattle.model.specs.Demands.{Unchanged, Demand1}
 use Rattle.laws.proofs.Tests.{by-cases, yes-then}
 use Rattle.theory.proofs.ImageLaws.{parts-of, ranges-of, block-back, is-image-of, image-length}

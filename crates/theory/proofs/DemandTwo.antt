@@ -1,30 +1,29 @@
 -- Demand 2: what is written reads back to the same block, and every file that is read is written back byte for byte.
 -- Assumes nothing.
 use mathlib.Core.Path.{_≡_, refl, sym, _∙_, ap}
-use mathlib.Core.Bool.{Bool, true, false, true≢false, _&&_}
-use mathlib.Core.List.{List, [], _∷_, _++_, map}
+use mathlib.Core.Bool.{true, true≢false, _&&_}
+use mathlib.Core.List.{List, [], _∷_, _++_}
 use mathlib.Core.Option.{Option, none, some}
-use Prim.Native.Nat.{ℕ, zero, suc, _+_, _<_, _≤_, _^_}
+use Prim.Native.Nat.{ℕ, _<_, _≤_, _^_}
 use native.Mathlib.Omega.{arith}
 use lib.Dec.{leb, ltb, eqb}
 use lib.ListN.{length, take, drop}
 use lib.Seq.{take-append-seam}
-use borrow.Author.Tests.{eqb-true, eq-eqb, leb-true, le-leb, lt-ltb, ltb-true}
-use Rattle.model.specs.Lists.{all, ascending, is-some, first-no, Check}
+use borrow.Author.Tests.{eq-eqb, leb-true, le-leb, lt-ltb}
+use Rattle.model.specs.Lists.{all, is-some, first-no}
 use Rattle.model.specs.Values.{Point, Label, Third, free, sewn, critical, Dart, Block, Limits, serial-bound, finite, finite-bits}
-use Rattle.model.specs.Cells.{dart-at, held, serials}
+use Rattle.model.specs.Cells.{dart-at, held}
 use Rattle.model.specs.Sound.{third-in-range, dart-in-range, ranges-right, coordinates-finite, link-right, links-right, third-right, thirds-right, labels-right, points-agree, sound-block, block-checks}
 use Rattle.model.specs.Image.{room, words, image, block-in, is-image, memory-checks}
-use Rattle.model.specs.Layouts.{Layout, group, group-below, serial, coordinate, _⊗_, _⊕_, as-type, such-that, at-most, times, counted, whole}
+use Rattle.model.specs.Layouts.{group, group-below, serial, coordinate, _⊗_, _⊕_, as-type, such-that, at-most, times, counted, whole}
 use Rattle.model.specs.Messages.{kind-of, critical-link, label, point, third-ok, third, a-dart, file}
-use Rattle.model.specs.Calls.{Answer, served, refused, Result, asked, storing, writing, or-no-block, read-file, save-file}
+use Rattle.model.specs.Calls.{served, Result, storing, writing, or-no-block, read-file, save-file}
 use Rattle.model.specs.Demands.{Bytes, Demand2}
-use Rattle.laws.proofs.Tests.{by-cases, and-left, and-right, and-intro, yes-then, yes-first}
-use Rattle.laws.proofs.Orbits.{In}
+use Rattle.laws.proofs.Tests.{and-left, and-right, and-intro, yes-then, yes-first}
 use Rattle.theory.proofs.LayoutLaws.{whole-back, whole-only}
 use Rattle.theory.proofs.FileLaws.{file-lawful}
 use Rattle.theory.proofs.BlockLaws.{at-held}
-use Rattle.theory.proofs.ImageLaws.{Parts, parts-of, parts-sound, Ranges, ranges-of, image-is, Readable, links-held, readable-dart}
+use Rattle.theory.proofs.ImageLaws.{Parts, parts-of, parts-sound, ranges-of, image-is, Readable, links-held, readable-dart}
 use Rattle.theory.proofs.CallLaws.{served-gives, served-value, save-file-is}
 
 -- EVERY SOUND BLOCK HAS A FILE

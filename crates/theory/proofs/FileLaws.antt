@@ -1,12 +1,12 @@
 -- The layout of files is lawful. Assumes nothing.
-use mathlib.Core.Path.{_≡_, refl, sym, ap}
+use mathlib.Core.Path.{_≡_, refl, sym}
 use mathlib.Core.Bool.{true, _&&_}
 use mathlib.Core.List.{List, _++_}
-use mathlib.Core.Option.{none, some, Option·none-ne-some}
+use mathlib.Core.Option.{some, Option·none-ne-some}
 use Prim.Native.Nat.{ℕ, zero, suc}
 use lib.Dec.{eqb}
 use borrow.Author.Tests.{eqb-true}
-use Rattle.model.specs.Values.{Third, free, sewn, critical, Limits, Label}
+use Rattle.model.specs.Values.{Third, free, sewn, critical, Limits}
 use Rattle.model.specs.Layouts.{Layout, Read, then, serial, _⊗_, _⊕_, at-most}
 use Rattle.model.specs.Messages.{label, point, kind-of, critical-link, third-put, third-get, third-ok, third, a-dart, file}
 use Rattle.model.specs.Demands.{Bytes}

@@ -1,21 +1,21 @@
 -- A sound block is read back from its image, so an image determines its block; memory that passes question 2 is the image of what is
 -- read from it. Assumes nothing.
 use mathlib.Core.Path.{_≡_, refl, sym, _∙_, ap}
-use mathlib.Core.Bool.{Bool, true, false, true≢false, cond, _&&_}
+use mathlib.Core.Bool.{Bool, true, true≢false, _&&_}
 use mathlib.Core.List.{List, [], _∷_, _++_, map, append-assoc}
 use Prim.Native.Nat.{ℕ, zero, suc, _+_, _*_, _-_, _<_, _≤_, _^_, _/_, _%_}
 use native.Mathlib.Omega.{arith}
-use native.Mathlib.Nat.{not-suc-le-zero, suc-mul, zero-mul, zero-add, add-assoc}
+use native.Mathlib.Nat.{not-suc-le-zero, zero-mul, zero-add, add-assoc}
 use lib.Dec.{leb, ltb, eqb}
 use lib.ListN.{length, getD, replicate, length-append, length-replicate, length-map, List·getD-append}
 use lib.Seq.{getD-append-add}
-use borrow.Author.Tests.{eqb-true, eq-eqb, ne-eqb, leb-true, ltb-true, le-leb}
+use borrow.Author.Tests.{eqb-true, ne-eqb, leb-true, ltb-true, le-leb}
 use Rattle.model.specs.Lists.{all, any, mem, tab, ascending, concat, index-of, same-list}
 use Rattle.model.specs.Values.{Label, Third, free, sewn, critical, Dart, no-dart, Block, Limits, serial-bound, code}
 use Rattle.model.specs.Cells.{serials, held}
 use Rattle.model.specs.Sound.{third-in-range, dart-in-range, ranges-right, links-right, link-right, thirds-right, third-right, coordinates-finite, labels-right, points-agree, sound-block}
 use Rattle.model.specs.Image.{room, words, kind-word, link-word, dart-words, image, column, label-in, third-in, dart-in, block-in, is-image}
-use Rattle.laws.proofs.Tests.{by-cases, and-left, and-right, and-intro, all-at, same-list-is, same-list-self}
+use Rattle.laws.proofs.Tests.{by-cases, and-left, and-right, all-at, same-list-is, same-list-self}
 
 -- LABELS AND PLACES
 pub label-back : (l : Label) → l .number < 2 ^ 32 → l .position ≤ 4095 → label-in (code l) ≡ l

@@ -1,7 +1,8 @@
 pub mod LayoutLaws
+pub mod GroupLaws
 pub mod MessageLaws
 pub mod FileLaws
+pub mod BlockLaws
 pub mod ImageLaws
 pub mod CallLaws
-pub mod BlockLaws
 pub mod DemandTwo

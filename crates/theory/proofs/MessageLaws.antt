@@ -1,12 +1,11 @@
 -- The layouts of messages are lawful. Assumes nothing.
-use mathlib.Core.Path.{_≡_, refl}
-use mathlib.Core.Bool.{true, _&&_}
+use mathlib.Core.Path.{refl}
+use mathlib.Core.Bool.{_&&_}
 use mathlib.Core.List.{List}
-use Prim.Native.Nat.{ℕ}
 use lib.Dec.{leb, ltb, eqb}
 use borrow.Author.Tests.{eqb-true}
 use Rattle.laws.proofs.Tests.{and-left, and-right}
-use Rattle.model.specs.Layouts.{Layout, group, _⊗_, _⊕_, such-that, exactly}
+use Rattle.model.specs.Layouts.{group, _⊗_, _⊕_, such-that, exactly}
 use Rattle.model.specs.Messages.{point, label, face-dart, part2, part3, part4, part1, transfer, update, size-all, size-at, FaceDart}
 use Rattle.theory.proofs.LayoutLaws.{Lawful, group-lawful, serial-lawful, coordinate-lawful, ⊗-lawful, ⊕-lawful, as-type-lawful, such-that-lawful, at-most-lawful, exactly-lawful, times-lawful, counted-lawful}
 

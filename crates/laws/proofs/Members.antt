@@ -1,0 +1,219 @@
+-- Laws of lists: what is in them, what is kept of them, order and least elements. Assumes nothing.
+use mathlib.Core.Path.{_≡_, refl, sym, _∙_, ap, subst}
+use mathlib.Core.Logic.{_⊎_, inl, inr, _≢_}
+use mathlib.Core.Bool.{Bool, true, false, true≢false, not, _||_}
+use mathlib.Core.List.{List, [], _∷_, _++_}
+use mathlib.Core.Option.{some, Option·none-ne-some, Option·some-injective}
+use Prim.Native.Nat.{ℕ, zero, suc, _<_, _≤_, min}
+use native.Mathlib.Omega.{arith}
+use lib.Dec.{leb, ltb, eqb}
+use lib.ListN.{length}
+use borrow.Author.Tests.{eqb-true, eq-eqb, ne-eqb, ltb-true, lt-ltb, leb-true, leb-false, not-true}
+use Rattle.model.specs.Lists.{all, any, keep, mem, distinct, ascending, find, least, least-from}
+use Rattle.laws.proofs.Tests.{by-cases, and-left, and-right, and-intro}
+
+-- MEMBERS
+abbrev pub In : ℕ → List ℕ → Type 0
+In x l = mem x l ≡ true
+
+pub or-left : (a b : Bool) → a ≡ true → (a || b) ≡ true
+or-left a b p = rw p
+
+pub or-right : (a b : Bool) → b ≡ true → (a || b) ≡ true
+or-right true b p = refl
+or-right false b p = p
+
+pub in-here : (x : ℕ) (l : List ℕ) → In x (x ∷ l)
+in-here x l = or-left _ _ (eq-eqb x x refl)
+
+pub in-there : (x y : ℕ) (l : List ℕ) → In x l → In x (y ∷ l)
+in-there x y l h = or-right (eqb x y) _ h
+
+pub in-keep : (q : ℕ → Bool) (x : ℕ) (l : List ℕ) → In x l → q x ≡ true → In x (keep q l)
+in-keep q x [] h p = h
+in-keep q x (y ∷ l) h p = by-cases (eqb x y)
+    (λ e. rw (← eqb-true x y e, p) (in-here x (keep q l)))
+    (λ e. by-cases (q y)
+    (λ k. rw k (in-there x y (keep q l) (in-keep q x l (rw e at h) p)))
+    (λ k. rw k (in-keep q x l (rw e at h) p)))
+
+pub keep-le : (q : ℕ → Bool) (l : List ℕ) → length (keep q l) ≤ length l
+keep-le q [] = omega arith
+keep-le q (y ∷ l) = by-cases (q y) (λ k. rw k (omega (arith, keep-le q l))) (λ k. rw k (omega (arith, keep-le q l)))
+
+pub keep-less : (q : ℕ → Bool) (x : ℕ) (l : List ℕ) → In x l → q x ≡ false → length (keep q l) < length l
+keep-less q x [] h p = absurd (true≢false (sym h))
+keep-less q x (y ∷ l) h p = by-cases (eqb x y)
+    (λ e. rw (← eqb-true x y e, p) (omega (arith, keep-le q l)))
+    (λ e. by-cases (q y)
+    (λ k. rw k (omega (arith, keep-less q x l (rw e at h) p)))
+    (λ k. rw k (omega (arith, keep-less q x l (rw e at h) p))))
+
+-- n different values in a list: it has at least n elements
+pub pigeonhole : (n : ℕ) (g : ℕ → ℕ) (l : List ℕ) → ((k : ℕ) → k < n → In (g k) l) → ((a b : ℕ) → a < b → b < n → g a ≢ g b) → n ≤ length l
+pigeonhole zero g l m d = omega arith
+pigeonhole (suc n) g l m d =
+    let q : ℕ → Bool = λ y. not (eqb y (g n)) in
+    let less = keep-less q (g n) l (m n (omega arith)) (rw (eq-eqb (g n) (g n) refl)) in
+    let rest = pigeonhole n g (keep q l) (λ k h. in-keep q (g k) l (m k (omega arith)) (rw (ne-eqb (g k) (g n) (d k n h (omega arith))))) (λ a b h k. d a b h (omega arith)) in
+    omega arith
+
+pub in-cons {ℓ} : {C : Type ℓ} (y x : ℕ) (l : List ℕ) → In y (x ∷ l) → (y ≡ x → C) → (In y l → C) → C
+in-cons y x l h a b = by-cases (eqb y x) (λ e. a (eqb-true y x e)) (λ e. b (rw e at h))
+
+pub in-eq : (y x : ℕ) (l : List ℕ) → y ≡ x → In x l → In y l
+in-eq y x l e h = rw e h
+
+-- a test of every element
+pub all-in : (p : ℕ → Bool) (l : List ℕ) → all p l ≡ true → (x : ℕ) → In x l → p x ≡ true
+all-in p [] a x h = absurd (true≢false (sym h))
+all-in p (y ∷ l) a x h = in-cons x y l h (λ e. rw e (and-left (p y) _ a)) (λ k. all-in p l (and-right (p y) _ a) x k)
+
+pub all-from : (p : ℕ → Bool) (l : List ℕ) → ((x : ℕ) → In x l → p x ≡ true) → all p l ≡ true
+all-from p [] h = refl
+all-from p (y ∷ l) h = and-intro (h y (in-here y l)) (all-from p l (λ x k. h x (in-there x y l k)))
+
+pub any-in : (p : ℕ → Bool) (l : List ℕ) (x : ℕ) → In x l → p x ≡ true → any p l ≡ true
+any-in p [] x h t = absurd (true≢false (sym h))
+any-in p (y ∷ l) x h t = in-cons x y l h (λ e. or-left (p y) _ (rw e at t)) (λ k. or-right (p y) _ (any-in p l x k t))
+
+pub all-cong : (p q : ℕ → Bool) (l : List ℕ) → ((x : ℕ) → In x l → p x ≡ q x) → all p l ≡ all q l
+all-cong p q [] h = refl
+all-cong p q (x ∷ l) h = rw (h x (in-here x l), all-cong p q l (λ y k. h y (in-there y x l k)))
+
+-- what is kept
+pub keep-in : (q : ℕ → Bool) (l : List ℕ) (x : ℕ) → In x (keep q l) → In x l × (q x ≡ true)
+keep-in q [] x h = absurd (true≢false (sym h))
+keep-in q (y ∷ l) x h = by-cases (q y)
+    (λ e. in-cons x y (keep q l) (rw e at h) (λ k. (in-eq x y (y ∷ l) k (in-here y l), rw k e)) (λ k. let r = keep-in q l x k in (in-there x y l (r .0), r .1)))
+    (λ e. let r = keep-in q l x (rw e at h) in (in-there x y l (r .0), r .1))
+
+-- TWO LISTS IN A ROW
+pub in-append-left : (x : ℕ) (l r : List ℕ) → In x l → In x (l ++ r)
+in-append-left x [] r h = absurd (true≢false (sym h))
+in-append-left x (y ∷ l) r h = in-cons x y l h (λ e. in-eq x y (y ∷ l ++ r) e (in-here y (l ++ r))) (λ k. in-there x y (l ++ r) (in-append-left x l r k))
+
+pub in-append-right : (x : ℕ) (l r : List ℕ) → In x r → In x (l ++ r)
+in-append-right x [] r h = h
+in-append-right x (y ∷ l) r h = in-there x y (l ++ r) (in-append-right x l r h)
+
+pub append-in : (x : ℕ) (l r : List ℕ) → In x (l ++ r) → In x l ⊎ In x r
+append-in x [] r h = inr h
+append-in x (y ∷ l) r h = in-cons x y (l ++ r) h (λ e. inl (in-eq x y (y ∷ l) e (in-here y l))) (λ k. go (append-in x l r k))
+  where
+    go : In x l ⊎ In x r → In x (y ∷ l) ⊎ In x r
+    go (inl a) = inl (in-there x y l a)
+    go (inr a) = inr a
+
+pub distinct-append : (l r : List ℕ) → distinct l ≡ true → distinct r ≡ true → ((x : ℕ) → In x l → mem x r ≡ false) → distinct (l ++ r) ≡ true
+distinct-append [] r a b h = b
+distinct-append (y ∷ l) r a b h = and-intro (go (mem y (l ++ r)) refl) (distinct-append l r (and-right (not (mem y l)) _ a) b (λ x k. h x (in-there x y l k)))
+  where
+    go : (o : Bool) → mem y (l ++ r) ≡ o → not (mem y (l ++ r)) ≡ true
+    go false e = rw e
+    go true e = absurd (bad (append-in y l r e))
+      where
+        bad : In y l ⊎ In y r → ⊥
+        bad (inl k) = true≢false (sym k ∙ not-true (mem y l) (and-left _ _ a))
+        bad (inr k) = true≢false (sym k ∙ h y (in-here y l))
+
+pub distinct-not : (x : ℕ) (l : List ℕ) → distinct (x ∷ l) ≡ true → (y : ℕ) → In y l → y ≢ x
+distinct-not x l d y h e = true≢false (sym (in-eq x y l (sym e) h) ∙ not-true (mem x l) (and-left _ _ d))
+
+pub distinct-left : (l r : List ℕ) → distinct (l ++ r) ≡ true → distinct l ≡ true
+distinct-left [] r d = refl
+distinct-left (x ∷ l) r d = and-intro (go (mem x l) refl) (distinct-left l r (and-right (not (mem x (l ++ r))) _ d))
+  where
+    go : (o : Bool) → mem x l ≡ o → not (mem x l) ≡ true
+    go false e = rw e
+    go true e = absurd (distinct-not x (l ++ r) d x (in-append-left x l r e) refl)
+
+pub distinct-right : (l r : List ℕ) → distinct (l ++ r) ≡ true → distinct r ≡ true
+distinct-right [] r d = d
+distinct-right (x ∷ l) r d = distinct-right l r (and-right (not (mem x (l ++ r))) _ d)
+
+pub distinct-apart : (l r : List ℕ) → distinct (l ++ r) ≡ true → (x : ℕ) → In x r → mem x l ≡ false
+distinct-apart [] r d x h = refl
+distinct-apart (y ∷ l) r d x h = rw (ne-eqb x y (distinct-not y (l ++ r) d x (in-append-right x l r h))) (distinct-apart l r (and-right (not (mem y (l ++ r))) _ d) x h)
+
+-- ASCENDING LISTS
+pub absent : (x : ℕ) (l : List ℕ) → all (ltb x) l ≡ true → (y : ℕ) → In y l → x < y
+absent x l a y h = ltb-true x y (all-in (ltb x) l a y h)
+
+pub ascending-unique : (l r : List ℕ) → ascending l ≡ true → ascending r ≡ true → ((x : ℕ) → In x l → In x r) → ((x : ℕ) → In x r → In x l) → l ≡ r
+unfolding ascending
+ascending-unique [] [] a b f g = refl
+ascending-unique [] (y ∷ r) a b f g = absurd (true≢false (sym (g y (in-here y r))))
+ascending-unique (x ∷ l) [] a b f g = absurd (true≢false (sym (f x (in-here x l))))
+ascending-unique (x ∷ l) (y ∷ r) a b f g = rw (← same) (ap (λ (t : List ℕ). x ∷ t) (ascending-unique l r (and-right (all (ltb x) l) _ a) (and-right (all (ltb y) r) _ b) (λ z h. down z h) (λ z h. up z h)))
+  where
+    above : (z : ℕ) → In z l → x < z
+    above = absent x l (and-left _ _ a)
+
+    over : (z : ℕ) → In z r → y < z
+    over = absent y r (and-left _ _ b)
+
+    same : x ≡ y
+    same = in-cons x y r (f x (in-here x l)) (λ e. e) (λ k. in-cons y x l (g y (in-here y r)) (λ e. sym e) (λ j. absurd (let p = over x k in let q = above y j in omega arith)))
+
+    down : (z : ℕ) → In z l → In z r
+    down z h = in-cons z y r (f z (in-there z x l h)) (λ e. absurd (let p = above z h in omega (arith, same))) (λ k. k)
+
+    up : (z : ℕ) → In z r → In z l
+    up z h = in-cons z x l (g z (in-there z y r h)) (λ e. absurd (let p = over z h in omega (arith, same))) (λ k. k)
+
+pub keep-ascending : (q : ℕ → Bool) (l : List ℕ) → ascending l ≡ true → ascending (keep q l) ≡ true
+unfolding ascending
+keep-ascending q [] a = refl
+keep-ascending q (x ∷ l) a =
+    let rest = keep-ascending q l (and-right (all (ltb x) l) _ a) in
+    by-cases (q x)
+    (λ e. rw e (and-intro (all-from (ltb x) (keep q l) (λ y h. lt-ltb x y (absent x l (and-left _ _ a) y (keep-in q l y h .0)))) rest))
+    (λ e. rw e rest)
+
+-- LEAST ELEMENTS
+-- the least of a list is in it, and below all of it
+least-from-in : (m : ℕ) (l : List ℕ) → (least-from m l ≡ m) ⊎ In (least-from m l) l
+least-from-in m [] = inl refl
+least-from-in m (y ∷ l) = go (least-from-in (min m y) l) (by-cases (leb m y) (λ e. let h = leb-true m y e in inl (omega arith)) (λ e. let h = leb-false m y e in inr (omega arith)))
+  where
+    go : (least-from (min m y) l ≡ min m y) ⊎ In (least-from (min m y) l) l → (min m y ≡ m) ⊎ (min m y ≡ y) → (least-from (min m y) l ≡ m) ⊎ In (least-from (min m y) l) (y ∷ l)
+    go (inl a) (inl b) = inl (a ∙ b)
+    go (inl a) (inr b) = inr (in-eq _ y (y ∷ l) (a ∙ b) (in-here y l))
+    go (inr a) b = inr (in-there _ y l a)
+
+pub least-in : (x : ℕ) (l : List ℕ) → In (least (x ∷ l)) (x ∷ l)
+unfolding least
+least-in x l = go (least-from-in x l)
+  where
+    go : (least-from x l ≡ x) ⊎ In (least-from x l) l → In (least-from x l) (x ∷ l)
+    go (inl a) = in-eq _ x (x ∷ l) a (in-here x l)
+    go (inr a) = in-there _ x l a
+
+least-from-le : (m : ℕ) (l : List ℕ) → least-from m l ≤ m
+least-from-le m [] = omega arith
+least-from-le m (y ∷ l) = omega (arith, least-from-le (min m y) l)
+
+least-from-below : (m : ℕ) (l : List ℕ) (x : ℕ) → In x l → least-from m l ≤ x
+least-from-below m [] x h = absurd (true≢false (sym h))
+least-from-below m (y ∷ l) x h = in-cons x y l h (λ e. omega (arith, least-from-le (min m y) l)) (λ k. least-from-below (min m y) l x k)
+
+pub least-below : (l : List ℕ) (x : ℕ) → In x l → least l ≤ x
+unfolding least
+least-below [] x h = absurd (true≢false (sym h))
+least-below (y ∷ l) x h = in-cons x y l h (λ e. omega (arith, least-from-le y l)) (λ k. least-from-below y l x k)
+
+-- EACH ELEMENT, as a type
+abbrev pub Each : {A : Type 0} → (A → Type 0) → List A → Type 0
+Each P [] = Unit {0}
+Each P (x ∷ xs) = P x × Each P xs
+
+pub each-append : {A : Type 0} (P : A → Type 0) (xs ys : List A) → Each P xs → Each P ys → Each P (xs ++ ys)
+each-append P [] ys a b = b
+each-append P (x ∷ xs) ys a b = (a .0, each-append P xs ys (a .1) b)
+
+pub each-found : {A : Type 0} (key : A → ℕ) (P : A → Type 0) (x : ℕ) (l : List A) (d : A) → Each P l → find key x l ≡ some d → P d
+each-found key P x [] d a e = absurd (Option·none-ne-some d e)
+each-found key P x (y ∷ l) d a e = by-cases (eqb x (key y))
+    (λ h. subst P (Option·some-injective y d (rw h at e)) (a .0))
+    (λ h. each-found key P x l d (a .1) (rw h at e))
