@@ -96,6 +96,10 @@ pub yes-then : (n : ℕ) (a : Bool) (qs : List Check) → a ≡ true → first-n
 unfolding first-no
 yes-then n a qs p = rw p
 
+pub no-more : first-no [] ≡ 0
+unfolding first-no
+no-more = refl
+
 pub no-here : (n : ℕ) (a : Bool) (qs : List Check) → a ≡ false → first-no ((n, a) ∷ qs) ≡ n
 unfolding first-no
 no-here n a qs p = rw p

@@ -19,7 +19,7 @@ use Rattle.model.specs.Layouts.{group, group-below, serial, coordinate, _⊗_, 
 use Rattle.model.specs.Messages.{kind-of, critical-link, label, point, third-ok, third, a-dart, file}
 use Rattle.model.specs.Calls.{served, Result, storing, writing, or-no-block, read-file, save-file}
 use Rattle.model.specs.Demands.{Bytes, Demand2}
-use Rattle.laws.proofs.Tests.{and-left, and-right, and-intro, yes-then, yes-first}
+use Rattle.laws.proofs.Tests.{and-left, and-right, and-intro, yes-then, yes-first, no-more}
 use Rattle.theory.proofs.LayoutLaws.{whole-back, whole-only}
 use Rattle.theory.proofs.FileLaws.{file-lawful}
 use Rattle.theory.proofs.BlockLaws.{at-held}
@@ -160,10 +160,6 @@ checked-parts lim b r e =
     let q7 = yes-first 7 (labels-right b) _ (λ z. omega arith) (q6 .1) in
     let q8 = yes-first 8 (points-agree (b .darts)) _ (λ z. omega arith) (q7 .1) in
     record { ranges = r; finite = q4 .0; links = q5 .0; thirds = q6 .0; labels = q7 .0; points = q8 .0 }
-
-no-more : first-no [] ≡ 0
-unfolding first-no
-no-more = refl
 
 pub parts-checked : (lim : Limits) (b : Block) → Parts lim b → first-no (block-checks b) ≡ 0
 unfolding block-checks

@@ -6,3 +6,4 @@ pub mod BlockLaws
 pub mod ImageLaws
 pub mod CallLaws
 pub mod DemandTwo
+pub mod MeshLaws
