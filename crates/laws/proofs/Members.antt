@@ -1,16 +1,16 @@
 -- Laws of lists: what is in them, what is kept of them, order and least elements. Assumes nothing.
 use mathlib.Core.Path.{_≡_, refl, sym, _∙_, ap, subst}
 use mathlib.Core.Logic.{_⊎_, inl, inr, _≢_}
-use mathlib.Core.Bool.{Bool, true, false, true≢false, not, _||_}
-use mathlib.Core.List.{List, [], _∷_, _++_}
+use mathlib.Core.Bool.{Bool, true, false, true≢false, not, _&&_, _||_}
+use mathlib.Core.List.{List, [], _∷_, _++_, map}
 use mathlib.Core.Option.{some, Option·none-ne-some, Option·some-injective}
 use Prim.Native.Nat.{ℕ, zero, suc, _<_, _≤_, min}
 use native.Mathlib.Omega.{arith}
 use lib.Dec.{leb, ltb, eqb}
 use lib.ListN.{length}
-use borrow.Author.Tests.{eqb-true, eq-eqb, ne-eqb, ltb-true, lt-ltb, leb-true, leb-false, not-true}
+use borrow.Author.Tests.{eqb-true, eqb-false, eq-eqb, ne-eqb, ltb-true, lt-ltb, leb-true, leb-false, not-true}
 use Rattle.model.specs.Lists.{all, any, keep, mem, distinct, ascending, find, least, least-from}
-use Rattle.laws.proofs.Tests.{by-cases, and-left, and-right, and-intro}
+use Rattle.laws.proofs.Tests.{by-cases, and-intro, and-left, and-right}
 
 -- MEMBERS
 abbrev pub In : ℕ → List ℕ → Type 0
@@ -87,6 +87,13 @@ keep-in q [] x h = absurd (true≢false (sym h))
 keep-in q (y ∷ l) x h = by-cases (q y)
     (λ e. in-cons x y (keep q l) (rw e at h) (λ k. (in-eq x y (y ∷ l) k (in-here y l), rw k e)) (λ k. let r = keep-in q l x k in (in-there x y l (r .0), r .1)))
     (λ e. let r = keep-in q l x (rw e at h) in (in-there x y l (r .0), r .1))
+
+pub mem-keep : (q : ℕ → Bool) (x : ℕ) (l : List ℕ) → mem x (keep q l) ≡ (mem x l && q x)
+mem-keep q x l = by-cases (mem x (keep q l))
+    (λ e. let r = keep-in q l x e in rw (e, r .0, r .1))
+    (λ e. by-cases (mem x l)
+    (λ a. by-cases (q x) (λ b. absurd (true≢false (sym (in-keep q x l a b) ∙ e))) (λ b. rw (e, a, b)))
+    (λ a. rw (e, a)))
 
 -- TWO LISTS IN A ROW
 pub in-append-left : (x : ℕ) (l r : List ℕ) → In x l → In x (l ++ r)
@@ -171,6 +178,15 @@ keep-ascending q (x ∷ l) a =
     (λ e. rw e (and-intro (all-from (ltb x) (keep q l) (λ y h. lt-ltb x y (absent x l (and-left _ _ a) y (keep-in q l y h .0)))) rest))
     (λ e. rw e rest)
 
+pub ascending-distinct : (l : List ℕ) → ascending l ≡ true → distinct l ≡ true
+unfolding ascending
+ascending-distinct [] a = refl
+ascending-distinct (x ∷ l) a = and-intro (go (mem x l) refl) (ascending-distinct l (and-right (all (ltb x) l) _ a))
+  where
+    go : (o : Bool) → mem x l ≡ o → not (mem x l) ≡ true
+    go false e = rw e
+    go true e = absurd (let less = absent x l (and-left (all (ltb x) l) _ a) x e in omega arith)
+
 -- LEAST ELEMENTS
 -- the least of a list is in it, and below all of it
 least-from-in : (m : ℕ) (l : List ℕ) → (least-from m l ≡ m) ⊎ In (least-from m l) l
@@ -217,3 +233,92 @@ each-found key P x [] d a e = absurd (Option·none-ne-some d e)
 each-found key P x (y ∷ l) d a e = by-cases (eqb x (key y))
     (λ h. subst P (Option·some-injective y d (rw h at e)) (a .0))
     (λ h. each-found key P x l d (a .1) (rw h at e))
+
+-- MAPS
+pub all-map : {A B : Type 0} (p : B → Bool) (f : A → B) (l : List A) → all p (map f l) ≡ all (λ x. p (f x)) l
+all-map p f [] = refl
+all-map p f (x ∷ l) = rw (all-map p f l)
+
+pub any-map : {A B : Type 0} (p : B → Bool) (f : A → B) (l : List A) → any p (map f l) ≡ any (λ x. p (f x)) l
+any-map p f [] = refl
+any-map p f (x ∷ l) = rw (any-map p f l)
+
+pub keep-map : {A B : Type 0} (p : B → Bool) (f : A → B) (l : List A) → keep p (map f l) ≡ map f (keep (λ x. p (f x)) l)
+keep-map p f [] = refl
+keep-map p f (x ∷ l) = by-cases (p (f x)) (λ e. rw (e, keep-map p f l)) (λ e. rw (e, keep-map p f l))
+
+pub map-append : {A B : Type 0} (f : A → B) (l r : List A) → map f (l ++ r) ≡ map f l ++ map f r
+map-append f [] r = refl
+map-append f (x ∷ l) r = ap (λ (t : List _). f x ∷ t) (map-append f l r)
+
+pub map-map : {A B C : Type 0} (f : A → B) (g : B → C) (l : List A) → map g (map f l) ≡ map (λ x. g (f x)) l
+map-map f g [] = refl
+map-map f g (x ∷ l) = ap (λ (t : List _). g (f x) ∷ t) (map-map f g l)
+
+pub map-cong : {B : Type 0} (f g : ℕ → B) (l : List ℕ) → ((x : ℕ) → In x l → f x ≡ g x) → map f l ≡ map g l
+map-cong f g [] h = refl
+map-cong f g (x ∷ l) h = rw (h x (in-here x l), map-cong f g l (λ y k. h y (in-there y x l k)))
+
+pub in-map : (f : ℕ → ℕ) (x : ℕ) (l : List ℕ) → In x l → In (f x) (map f l)
+in-map f x [] h = h
+in-map f x (y ∷ l) h = in-cons x y l h (λ e. in-eq (f x) (f y) (f y ∷ map f l) (ap f e) (in-here (f y) (map f l))) (λ k. in-there (f x) (f y) (map f l) (in-map f x l k))
+
+pub map-in : (f : ℕ → ℕ) (l : List ℕ) (y : ℕ) → In y (map f l) → (x : ℕ) × In x l × (y ≡ f x)
+map-in f [] y h = absurd (true≢false (sym h))
+map-in f (z ∷ l) y h = by-cases (eqb y (f z))
+    (λ e. (z, in-here z l, eqb-true y (f z) e))
+    (λ e. let r = map-in f l y (rw e at h) in (r .0, in-there (r .0) z l (r .1), r .2))
+
+-- exactly two elements pass
+pub none-kept : (q : ℕ → Bool) (l : List ℕ) → ((z : ℕ) → In z l → q z ≡ false) → keep q l ≡ []
+none-kept q [] h = refl
+none-kept q (x ∷ l) h = rw (h x (in-here x l)) (none-kept q l (λ z k. h z (in-there z x l k)))
+
+pub one-kept : (q : ℕ → Bool) (y : ℕ) (l : List ℕ) → distinct l ≡ true → In y l → q y ≡ true → ((z : ℕ) → In z l → q z ≡ true → z ≡ y) → keep q l ≡ y ∷ []
+one-kept q y [] d h p only = absurd (true≢false (sym h))
+one-kept q y (x ∷ l) d h p only = by-cases (eqb y x)
+    (λ e. let same = eqb-true y x e in rw (← same, p) (ap (λ (t : List ℕ). y ∷ t) (none-kept q l (λ z k. go z k (q z) refl same))))
+    (λ e. let other : q x ≡ false = not-here (q x) refl (eqb-false y x e) in
+    rw other (one-kept q y l (and-right (not (mem x l)) _ d) (rw e at h) p (λ z k. only z (in-there z x l k))))
+  where
+    go : (z : ℕ) → In z l → (o : Bool) → q z ≡ o → y ≡ x → q z ≡ false
+    go z k false e same = e
+    go z k true e same = absurd (true≢false (sym (in-eq x z l (sym same ∙ sym (only z (in-there z x l k) e)) k) ∙ not-true (mem x l) (and-left _ _ d)))
+
+    not-here : (o : Bool) → q x ≡ o → (y ≡ x → ⊥) → q x ≡ false
+    not-here false e ne = e
+    not-here true e ne = absurd (ne (sym (only x (in-here x l) e)))
+
+pub two-kept : (q : ℕ → Bool) (x y : ℕ) (l : List ℕ) → distinct l ≡ true → In x l → In y l → x ≢ y → q x ≡ true → q y ≡ true
+    → ((z : ℕ) → In z l → q z ≡ true → (x ≡ z) ⊎ (y ≡ z)) → length (keep q l) ≡ 2
+two-kept q x y [] d hx hy ne px py only = absurd (true≢false (sym hx))
+two-kept q x y (w ∷ l) d hx hy ne px py only = by-cases (eqb x w)
+    (λ e. let same = eqb-true x w e in
+    rw (← same, px) (ap suc (ap length (one-kept q y l (and-right (not (mem w l)) _ d) (there y hy (λ s. ne (same ∙ sym s))) py (λ z k p. first z k p same (only z (in-there z w l k) p))))))
+    (λ e. by-cases (eqb y w)
+    (λ f. let same = eqb-true y w f in
+    rw (← same, py) (ap suc (ap length (one-kept q x l (and-right (not (mem w l)) _ d) (there x hx (λ s. ne (s ∙ sym same))) px (λ z k p. second z k p same (only z (in-there z w l k) p))))))
+    (λ f. rw (neither (q w) refl (eqb-false x w e) (eqb-false y w f))
+    (two-kept q x y l (and-right (not (mem w l)) _ d) (rw e at hx) (rw f at hy) ne px py (λ z k p. only z (in-there z w l k) p))))
+  where
+    there : (z : ℕ) → In z (w ∷ l) → z ≢ w → In z l
+    there z h n = in-cons z w l h (λ s. absurd (n s)) (λ k. k)
+
+    clash : (z : ℕ) → In z l → w ≡ z → ⊥
+    clash z k s = true≢false (sym (in-eq w z l s k) ∙ not-true (mem w l) (and-left _ _ d))
+
+    first : (z : ℕ) → In z l → q z ≡ true → x ≡ w → (x ≡ z) ⊎ (y ≡ z) → z ≡ y
+    first z k p same (inl s) = absurd (clash z k (sym same ∙ s))
+    first z k p same (inr s) = sym s
+
+    second : (z : ℕ) → In z l → q z ≡ true → y ≡ w → (x ≡ z) ⊎ (y ≡ z) → z ≡ x
+    second z k p same (inl s) = sym s
+    second z k p same (inr s) = absurd (clash z k (sym same ∙ s))
+
+    neither : (o : Bool) → q w ≡ o → x ≢ w → y ≢ w → q w ≡ false
+    neither false e a b = e
+    neither true e a b = go (only w (in-here w l) e)
+      where
+        go : (x ≡ w) ⊎ (y ≡ w) → q w ≡ false
+        go (inl s) = absurd (a s)
+        go (inr s) = absurd (b s)

@@ -1,16 +1,16 @@
 -- Laws of tests and tables. A passed test is the fact `b ≡ true`. Assumes nothing.
 use mathlib.Core.Path.{_≡_, refl, sym, _∙_, ap}
-use mathlib.Core.Bool.{Bool, true, false, true≢false, cond, _&&_, _||_}
+use mathlib.Core.Logic.{_⊎_, inl, inr, _≢_}
+use mathlib.Core.Bool.{Bool, true, false, true≢false, cond, not, _&&_, _||_}
 use mathlib.Core.List.{List, [], _∷_, _++_, map}
 use mathlib.Core.Option.{none, some, Option·map, Option·none-ne-some, Option·some-injective}
-use mathlib.Core.Logic.{_⊎_, inl, inr, _≢_}
 use Prim.Native.Nat.{ℕ, zero, suc, _<_}
+use native.Mathlib.Omega.{arith}
+use native.Mathlib.Nat.{not-suc-le-zero}
 use lib.Dec.{ltb, eqb}
 use lib.ListN.{length, getD}
 use borrow.Author.Tests.{eqb-true, eqb-false, eq-eqb, ne-eqb, ltb-true}
-use native.Mathlib.Omega.{arith}
-use native.Mathlib.Nat.{not-suc-le-zero}
-use Rattle.model.specs.Lists.{all, keep, find, insert, same-list, Check, first-no}
+use Rattle.model.specs.Lists.{all, keep, same-list, find, insert, Check, first-no}
 
 -- to go by a test and keep its equation
 pub by-cases {ℓ} : {C : Type ℓ} (b : Bool) → (b ≡ true → C) → (b ≡ false → C) → C
@@ -31,6 +31,9 @@ and-right false b p = cc
 pub or-cases : (a b : Bool) → (a || b) ≡ true → (a ≡ true) ⊎ (b ≡ true)
 or-cases true b p = inl refl
 or-cases false b p = inr p
+
+pub not-equal : (a b : ℕ) → a ≢ b → not (eqb a b) ≡ true
+not-equal a b h = rw (ne-eqb a b h)
 
 -- TABLES
 module _ {A : Type 0} (key : A → ℕ) where
