@@ -1,3 +1,4 @@
 pub mod Described
 pub mod BlockSound
 pub mod MeshSound
+pub mod MovedCell
