@@ -2,3 +2,4 @@ pub mod Described
 pub mod BlockSound
 pub mod MeshSound
 pub mod MovedCell
+pub mod NewLabels

@@ -8,32 +8,33 @@ use native.Mathlib.Omega.{arith}
 use lib.Dec.{leb}
 use lib.ListN.{length}
 use borrow.Author.Tests.{leb-true, le-leb, not-true}
-use Rattle.model.specs.Lists.{all, keep, mem, distinct, concat, least}
-use Rattle.model.specs.Cells.{faces, around, cycle}
-use Rattle.laws.proofs.Tests.{and-left, and-right, and-intro}
-use Rattle.laws.proofs.Members.{In, in-here, in-there, in-cons, in-eq, in-keep, keep-in, all-in, all-from, in-append-left, in-append-right, append-in, distinct-append, least-in, least-below}
-use Rattle.laws.proofs.Orbits.{iter, iter-add, iter-stays, iter-inj, path, path-in, around-path, in-cycle, cycle-in, cycle-sym, Cyc}
+use Rattle.model.specs.Lists.{all, keep, concat, mem, distinct, least}
+use Rattle.model.specs.Cells.{around, cycle, faces}
+use Rattle.model.specs.Runs.{nx}
+use Rattle.laws.proofs.Members.{In, in-here, in-there, in-keep, in-cons, in-eq, all-in, all-from, keep-in, in-append-left, in-append-right, append-in, distinct-append, least-in, least-below}
+use Rattle.laws.proofs.Orbits.{iter, iter-add, path, path-in, iter-stays, iter-inj, around-path, Cyc, in-cycle, cycle-in, cycle-sym}
+use Rattle.laws.proofs.Tests.{and-intro, and-left, and-right}
 
 module _ (nx : ℕ → ℕ) (v : List ℕ) (stays : (x : ℕ) → In x v → In (nx x) v) (inj : (x y : ℕ) → In x v → In y v → nx x ≡ nx y → x ≡ y) (small : length v ≤ 4096) where
-  abbrev face : ℕ → List ℕ
+  abbrev pub face : ℕ → List ℕ
   face x = around nx x 4096 x
 
-  face-stays : (x y : ℕ) → In x v → In y (face x) → In y v
+  pub face-stays : (x y : ℕ) → In x v → In y (face x) → In y v
   face-stays x y h k = let r = cycle-in nx v stays inj 4096 x y small h k in in-eq y (iter nx (r .0) x) v (r .1) (iter-stays nx v stays inj (r .0) x h)
 
-  face-self : (x : ℕ) → In x v → In x (face x)
+  pub face-self : (x : ℕ) → In x v → In x (face x)
   face-self x h = in-cycle nx v stays inj 4096 x 0 small h
 
-  face-trans : (x y z : ℕ) → In x v → In y (face x) → In z (face y) → In z (face x)
+  pub face-trans : (x y z : ℕ) → In x v → In y (face x) → In z (face y) → In z (face x)
   face-trans x y z h k j =
       let a = cycle-in nx v stays inj 4096 x y small h k in
       let b = cycle-in nx v stays inj 4096 y z small (face-stays x y h k) j in
       in-eq z (iter nx (a .0 + b .0) x) (face x) (b .1 ∙ ap (iter nx (b .0)) (a .1) ∙ sym (iter-add nx (a .0) (b .0) x)) (in-cycle nx v stays inj 4096 x (a .0 + b .0) small h)
 
-  face-sym : (x y : ℕ) → In x v → In y (face x) → In x (face y)
+  pub face-sym : (x y : ℕ) → In x v → In y (face x) → In x (face y)
   face-sym x y h k = cycle-sym nx v stays inj 4096 x y small h (face-stays x y h k) k
 
-  abbrev is-start : ℕ → Bool
+  abbrev pub is-start : ℕ → Bool
   is-start x = all (leb x) (face x)
 
   -- the least dart of a face starts it
@@ -41,46 +42,62 @@ module _ (nx : ℕ → ℕ) (v : List ℕ) (stays : (x : ℕ) → In x v → In 
   nonempty [] x h = absurd (true≢false (sym h))
   nonempty (y ∷ l) x h = least-in y l
 
-  start-of : ℕ → ℕ
-  start-of x = least (face x)
+  pub face-start : ℕ → ℕ
+  face-start x = least (face x)
 
-  start-in : (x : ℕ) → In x v → In (start-of x) (face x)
-  unfolding start-of
+  pub start-in : (x : ℕ) → In x v → In (face-start x) (face x)
+  unfolding face-start
   start-in x h = nonempty (face x) x (face-self x h)
 
-  start-starts : (x : ℕ) → In x v → is-start (start-of x) ≡ true
-  unfolding start-of
-  start-starts x h = all-from (leb (least (face x))) (face (least (face x))) (λ z k. le-leb _ z (least-below (face x) z (face-trans x (start-of x) z h (start-in x h) k)))
+  pub start-starts : (x : ℕ) → In x v → is-start (face-start x) ≡ true
+  unfolding face-start
+  start-starts x h = all-from (leb (least (face x))) (face (least (face x))) (λ z k. le-leb _ z (least-below (face x) z (face-trans x (face-start x) z h (start-in x h) k)))
 
   -- one face, one start
-  start-unique : (x y : ℕ) → In x v → In y v → is-start x ≡ true → is-start y ≡ true → In y (face x) → x ≡ y
+  pub start-unique : (x y : ℕ) → In x v → In y v → is-start x ≡ true → is-start y ≡ true → In y (face x) → x ≡ y
   start-unique x y hx hy sx sy k =
       let a = leb-true x y (all-in (leb x) (face x) sx y k) in
       let b = leb-true y x (all-in (leb y) (face y) sy x (face-sym x y hx k)) in
       omega arith
 
-  in-faces : (l : List ℕ) (s x : ℕ) → In s l → In x (face s) → In x (concat (map face l))
+  pub in-faces : (l : List ℕ) (s x : ℕ) → In s l → In x (face s) → In x (concat (map face l))
   unfolding concat
   in-faces [] s x h k = absurd (true≢false (sym h))
   in-faces (y ∷ l) s x h k = in-cons s y l h (λ e. in-append-left x (face y) _ (subst (λ (t : ℕ). In x (face t)) e k)) (λ j. in-append-right x (face y) (concat (map face l)) (in-faces l s x j k))
 
-  faces-in : (l : List ℕ) (x : ℕ) → In x (concat (map face l)) → (s : ℕ) × In s l × In x (face s)
+  pub faces-only : (l : List ℕ) (x : ℕ) → In x (concat (map face l)) → (s : ℕ) × In s l × In x (face s)
   unfolding concat
-  faces-in [] x h = absurd (true≢false (sym h))
-  faces-in (y ∷ l) x h = go (append-in x (face y) (concat (map face l)) h) (faces-in l x)
+  faces-only [] x h = absurd (true≢false (sym h))
+  faces-only (y ∷ l) x h = go (append-in x (face y) (concat (map face l)) h) (faces-only l x)
     where
       go : In x (face y) ⊎ In x (concat (map face l)) → (In x (concat (map face l)) → (s : ℕ) × In s l × In x (face s)) → (s : ℕ) × In s (y ∷ l) × In x (face s)
       go (inl a) ih = (y, in-here y l, a)
       go (inr a) ih = let r = ih a in (r .0, in-there (r .0) y l (r .1), r .2)
 
+  -- a face has at most as many darts as the volume
+  pub face-few : (x : ℕ) → In x v → length (face x) ≤ 4096
+  face-few x h = let r = around-path nx v stays inj 4096 x small h in let n = path-length (r .0) x in omega (arith, ap length (r .3), r .2)
+    where
+      path-length : (p x : ℕ) → length (path nx p x) ≡ p
+      path-length zero x = refl
+      path-length (suc p) x = ap suc (path-length p (nx x))
+
+  -- what holds of a dart and goes on along next holds of its face
+  pub along-face : (P : ℕ → Type 0) → ((y : ℕ) → In y v → P y → P (nx y)) → (x y : ℕ) → In x v → P x → In y (face x) → P y
+  along-face P step x y h p m = let r = cycle-in nx v stays inj 4096 x y small h m in subst P (sym (r .1)) (go (r .0) x h p)
+    where
+      go : (n z : ℕ) → In z v → P z → P (iter nx n z)
+      go zero z k q = q
+      go (suc n) z k q = go n (nx z) (stays z k) (step z k q)
+
   -- message order: all darts of the volume and no other
   pub order-has : (x : ℕ) → In x v → In x (concat (faces nx v))
   unfolding faces cycle
-  order-has x h = in-faces (keep is-start v) (start-of x) x (in-keep is-start (start-of x) v (face-stays x (start-of x) h (start-in x h)) (start-starts x h)) (face-sym x (start-of x) h (start-in x h))
+  order-has x h = in-faces (keep is-start v) (face-start x) x (in-keep is-start (face-start x) v (face-stays x (face-start x) h (start-in x h)) (start-starts x h)) (face-sym x (face-start x) h (start-in x h))
 
   pub order-only : (x : ℕ) → In x (concat (faces nx v)) → In x v
   unfolding faces cycle
-  order-only x h = let r = faces-in (keep is-start v) x h in face-stays (r .0) x (keep-in is-start v (r .0) (r .1) .0) (r .2)
+  order-only x h = let r = faces-only (keep is-start v) x h in face-stays (r .0) x (keep-in is-start v (r .0) (r .1) .0) (r .2)
 
   -- each face has a dart once
   path-distinct : (p x : ℕ) → In x v → ((a b : ℕ) → a < b → b < p → iter nx a x ≢ iter nx b x) → distinct (path nx p x) ≡ true
@@ -97,10 +114,10 @@ module _ (nx : ℕ → ℕ) (v : List ℕ) (stays : (x : ℕ) → In x v → In 
       shift : iter nx b x ≡ iter nx a (iter nx (b - a) x)
       shift = let q : b ≡ (b - a) + a = omega arith in ap (λ (k : ℕ). iter nx k x) q ∙ iter-add nx (b - a) a x
 
-  face-distinct : (x : ℕ) → In x v → distinct (face x) ≡ true
+  pub face-distinct : (x : ℕ) → In x v → distinct (face x) ≡ true
   face-distinct x h = let r = around-path nx v stays inj 4096 x small h in rw (r .3) (path-distinct (r .0) x h (cycle-apart x h r))
 
-  faces-distinct : (l : List ℕ) → ((x : ℕ) → In x l → In x v × (is-start x ≡ true)) → distinct l ≡ true → distinct (concat (map face l)) ≡ true
+  pub faces-distinct : (l : List ℕ) → ((x : ℕ) → In x l → In x v × (is-start x ≡ true)) → distinct l ≡ true → distinct (concat (map face l)) ≡ true
   unfolding concat
   faces-distinct [] h d = refl
   faces-distinct (y ∷ l) h d = distinct-append (face y) (concat (map face l)) (face-distinct y (h y (in-here y l) .0))
@@ -109,7 +126,7 @@ module _ (nx : ℕ → ℕ) (v : List ℕ) (stays : (x : ℕ) → In x v → In 
       go : (x : ℕ) → In x (face y) → (o : Bool) → mem x (concat (map face l)) ≡ o → mem x (concat (map face l)) ≡ false
       go x k false e = e
       go x k true e =
-          let r = faces-in l x e in
+          let r = faces-only l x e in
           let hy = h y (in-here y l) in
           let hs = h (r .0) (in-there (r .0) y l (r .1)) in
           let same = start-unique y (r .0) (hy .0) (hs .0) (hy .1) (hs .1) (face-trans y x (r .0) (hy .0) k (face-sym (r .0) x (hs .0) (r .2))) in

@@ -1,0 +1,162 @@
+-- The labels of the faces that a move cuts: one number to a face from the counter on, positions along next. Assumes nothing.
+use mathlib.Core.Path.{_≡_, refl, sym, _∙_, ap}
+use mathlib.Core.Logic.{_⊎_, inl, inr, _≢_}
+use mathlib.Core.Bool.{Bool, true, false, true≢false, cond, not, _&&_}
+use mathlib.Core.List.{List, [], _∷_, _++_, map}
+use Prim.Native.Nat.{ℕ, suc, _+_, _<_, _≤_}
+use native.Mathlib.Omega.{arith}
+use lib.Dec.{leb, eqb}
+use lib.ListN.{length}
+use borrow.Author.Tests.{eqb-true, eqb-false, eq-eqb, not-true}
+use Rattle.model.specs.Lists.{all, keep, concat, mem, distinct, index-of}
+use Rattle.model.specs.Values.{Label}
+use Rattle.model.specs.Cells.{around, cycle, faces, start-of}
+use Rattle.model.specs.Runs.{State, nx, th}
+use Rattle.laws.proofs.Faces.{face-stays, face-sym, is-start, face-start, start-in, start-starts, in-faces, faces-only, face-few, along-face, faces-distinct}
+use Rattle.laws.proofs.Members.{In, in-here, in-there, in-keep, keep-in, append-in, keep-ascending, ascending-distinct, Each, keep-map}
+use Rattle.laws.proofs.Tests.{by-cases, and-intro, and-left, and-right, not-equal}
+use Rattle.agreement.proofs.Described.{Map, third-level}
+use Rattle.agreement.proofs.MovedCell.{Cell}
+
+-- the label that a dart of the cut faces gets
+unfoldable pub fresh-of : ℕ → ℕ → List (List ℕ) → ℕ → Label
+fresh-of i c [] x = record { maker = i; number = c; position = 0 }
+fresh-of i c (f ∷ fs) x = cond (mem x f) (record { maker = i; number = c; position = index-of x f }) (fresh-of i (suc c) fs x)
+
+pub fresh-maker : (i c : ℕ) (fs : List (List ℕ)) (x : ℕ) → fresh-of i c fs x .maker ≡ i
+unfolding fresh-of
+fresh-maker i c [] x = refl
+fresh-maker i c (f ∷ fs) x = by-cases (mem x f) (λ e. rw e) (λ e. rw e (fresh-maker i (suc c) fs x))
+
+pub fresh-low : (i c : ℕ) (fs : List (List ℕ)) (x : ℕ) → c ≤ fresh-of i c fs x .number
+unfolding fresh-of
+fresh-low i c [] x = omega arith
+fresh-low i c (f ∷ fs) x = by-cases (mem x f) (λ e. rw e (omega arith)) (λ e. rw e (omega (arith, fresh-low i (suc c) fs x)))
+
+pub fresh-high : (i c : ℕ) (fs : List (List ℕ)) (x : ℕ) → In x (concat fs) → fresh-of i c fs x .number < c + length fs
+unfolding fresh-of concat
+fresh-high i c [] x h = absurd (true≢false (sym h))
+fresh-high i c (f ∷ fs) x h = by-cases (mem x f)
+    (λ e. rw e (omega arith))
+    (λ e. rw e (go (append-in x f (concat fs) h) e (fresh-high i (suc c) fs x)))
+  where
+    go : In x f ⊎ In x (concat fs) → mem x f ≡ false → (In x (concat fs) → fresh-of i (suc c) fs x .number < suc c + length fs) → fresh-of i (suc c) fs x .number < c + suc (length fs)
+    go (inl a) e ih = absurd (true≢false (sym a ∙ e))
+    go (inr a) e ih = omega (arith, ih a)
+
+pub index-in : (x : ℕ) (l : List ℕ) → In x l → index-of x l < length l
+unfolding index-of
+index-in x [] h = absurd (true≢false (sym h))
+index-in x (y ∷ l) h = by-cases (eqb x y) (λ e. rw e (omega arith)) (λ e. rw e (omega (arith, index-in x l (rw e at h))))
+
+pub index-one : (x y : ℕ) (l : List ℕ) → In x l → In y l → index-of x l ≡ index-of y l → x ≡ y
+unfolding index-of
+index-one x y [] h k e = absurd (true≢false (sym h))
+index-one x y (z ∷ l) h k e = by-cases (eqb x z)
+    (λ a. by-cases (eqb y z)
+    (λ b. eqb-true x z a ∙ sym (eqb-true y z b))
+    (λ b. absurd (let q : 0 ≡ suc (index-of y l) = rw (a, b) at e in omega arith)))
+    (λ a. by-cases (eqb y z)
+    (λ b. absurd (let q : suc (index-of x l) ≡ 0 = rw (a, b) at e in omega arith))
+    (λ b. let q : suc (index-of x l) ≡ suc (index-of y l) = rw (a, b) at e in index-one x y l (rw a at h) (rw b at k) (omega arith)))
+
+pub fresh-position : (i c : ℕ) (fs : List (List ℕ)) (x : ℕ) → Each (λ f. length f ≤ 4096) fs → fresh-of i c fs x .position ≤ 4095
+unfolding fresh-of
+fresh-position i c [] x few = omega arith
+fresh-position i c (f ∷ fs) x few = by-cases (mem x f)
+    (λ e. rw e (let n = index-in x f e in let m = few .0 in omega arith))
+    (λ e. rw e (fresh-position i (suc c) fs x (few .1)))
+
+pub fresh-one : (i c : ℕ) (fs : List (List ℕ)) (x y : ℕ) → In x (concat fs) → In y (concat fs) → fresh-of i c fs x ≡ fresh-of i c fs y → x ≡ y
+unfolding fresh-of concat
+fresh-one i c [] x y h k e = absurd (true≢false (sym h))
+fresh-one i c (f ∷ fs) x y h k e = by-cases (mem x f)
+    (λ a. by-cases (mem y f)
+    (λ b. index-one x y f a b (ap (λ (l : Label). l .position) (rw (a, b) at e)))
+    (λ b. absurd (let low = fresh-low i (suc c) fs y in let q : c ≡ fresh-of i (suc c) fs y .number = ap (λ (l : Label). l .number) (rw (a, b) at e) in omega arith)))
+    (λ a. by-cases (mem y f)
+    (λ b. absurd (let low = fresh-low i (suc c) fs x in let q : fresh-of i (suc c) fs x .number ≡ c = ap (λ (l : Label). l .number) (rw (a, b) at e) in omega arith))
+    (λ b. fresh-one i (suc c) fs x y (rest x h a) (rest y k b) (rw (a, b) at e)))
+  where
+    rest : (z : ℕ) → In z (f ++ concat fs) → mem z f ≡ false → In z (concat fs)
+    rest z m n = go (append-in z f (concat fs) m)
+      where
+        go : In z f ⊎ In z (concat fs) → In z (concat fs)
+        go (inl q) = absurd (true≢false (sym q ∙ n))
+        go (inr q) = q
+
+-- THE FACES THAT A MOVE CUTS
+module _ (u : State) (M : Map u) (i s : ℕ) (v : List ℕ) (C : Cell u i s v) (leaves : (x : ℕ) → In x v → mem (th u x) v ≡ false) where
+  next-one-cell : (x y : ℕ) → In x v → In y v → nx u x ≡ nx u y → x ≡ y
+  next-one-cell x y h k e = M .next-one x y (C .mine x h .here) (C .mine y k .here) e
+
+  -- the third link of x leads to another cell of block i
+  pub record Cut (x : ℕ) : Type 0 where
+    pub linked : th u x ≢ 0
+    pub same-block : u .number (th u x) ≡ i
+
+  abbrev pub inner : List ℕ → Bool
+  inner f = let y = th u (start-of f) in not (eqb y 0) && not (mem y v) && eqb (u .number y) i
+
+  abbrev pub cut-faces : List (List ℕ)
+  cut-faces = keep inner (faces (nx u) v)
+
+  abbrev starts : List ℕ
+  starts = keep (λ x. inner (cycle (nx u) x)) (keep (λ x. all (leb x) (cycle (nx u) x)) v)
+
+  cut-are : cut-faces ≡ map (cycle (nx u)) starts
+  unfolding faces
+  cut-are = keep-map inner (cycle (nx u)) (keep (λ x. all (leb x) (cycle (nx u) x)) v)
+
+  cut-next : (x : ℕ) → In x v → Cut x → Cut (nx u x)
+  cut-next x h c = let d = C .mine x h .here in record { linked = M .third-goes-on x d (c .linked); same-block = third-level u M x d (c .linked) ∙ c .same-block }
+
+  start-cut : (x : ℕ) → In x v → inner (cycle (nx u) x) ≡ true → Cut x
+  unfolding cycle around
+  start-cut x h e =
+      let a = and-left (not (eqb (th u x) 0) && not (mem (th u x) v)) _ e in
+      record { linked = eqb-false (th u x) 0 (not-true (eqb (th u x) 0) (and-left _ _ a)); same-block = eqb-true (u .number (th u x)) i (and-right (not (eqb (th u x) 0) && not (mem (th u x) v)) _ e) }
+
+  cut-start : (x : ℕ) → In x v → Cut x → inner (cycle (nx u) x) ≡ true
+  unfolding cycle around
+  cut-start x h c = and-intro (and-intro (not-equal (th u x) 0 (c .linked)) (rw (leaves x h))) (eq-eqb (u .number (th u x)) i (c .same-block))
+
+  start-mine : (x : ℕ) → In x starts → In x v × (is-start (nx u) v (C .next-closed) next-one-cell (C .few) x ≡ true) × (inner (cycle (nx u) x) ≡ true)
+  unfolding cycle
+  start-mine x h = let a = keep-in (λ y. inner (cycle (nx u) y)) (keep (λ y. all (leb y) (cycle (nx u) y)) v) x h in let b = keep-in (λ y. all (leb y) (cycle (nx u) y)) v x (a .0) in (b .0, b .1, a .1)
+
+  -- their darts are those of the cell whose third link leads to another cell of block i
+  pub cut-in : (x : ℕ) → In x (concat cut-faces) → In x v × Cut x
+  unfolding cycle
+  cut-in x h =
+      let r = faces-only (nx u) v (C .next-closed) next-one-cell (C .few) starts x (rw cut-are at h) in
+      let a = start-mine (r .0) (r .1) in
+      (
+        face-stays (nx u) v (C .next-closed) next-one-cell (C .few) (r .0) x (a .0) (r .2),
+        along-face (nx u) v (C .next-closed) next-one-cell (C .few) Cut cut-next (r .0) x (a .0) (start-cut (r .0) (a .0) (a .2)) (r .2),
+      )
+
+  pub in-cut : (x : ℕ) → In x v → Cut x → In x (concat cut-faces)
+  unfolding cycle
+  in-cut x h c =
+      let st = face-start (nx u) v (C .next-closed) next-one-cell (C .few) x in
+      let m = start-in (nx u) v (C .next-closed) next-one-cell (C .few) x h in
+      let sv = face-stays (nx u) v (C .next-closed) next-one-cell (C .few) x st h m in
+      let cs = along-face (nx u) v (C .next-closed) next-one-cell (C .few) Cut cut-next x st h c m in
+      let is = start-starts (nx u) v (C .next-closed) next-one-cell (C .few) x h in
+      rw cut-are (in-faces (nx u) v (C .next-closed) next-one-cell (C .few) starts st x
+      (in-keep (λ y. inner (cycle (nx u) y)) st (keep (λ y. all (leb y) (cycle (nx u) y)) v) (in-keep (λ y. all (leb y) (cycle (nx u) y)) st v sv is) (cut-start st sv cs))
+      (face-sym (nx u) v (C .next-closed) next-one-cell (C .few) x st h m))
+
+  pub cut-distinct : distinct (concat cut-faces) ≡ true
+  unfolding cycle
+  cut-distinct = rw cut-are (faces-distinct (nx u) v (C .next-closed) next-one-cell (C .few) starts (λ x h. let a = start-mine x h in (a .0, a .1))
+      (ascending-distinct starts (keep-ascending (λ x. inner (cycle (nx u) x)) _ (keep-ascending (λ x. all (leb x) (cycle (nx u) x)) v (C .in-order)))))
+
+  few-each : (l : List ℕ) → ((x : ℕ) → In x l → In x v) → Each (λ f. length f ≤ 4096) (map (cycle (nx u)) l)
+  unfolding cycle
+  few-each [] h = tt
+  few-each (x ∷ l) h = (face-few (nx u) v (C .next-closed) next-one-cell (C .few) x (h x (in-here x l)), few-each l (λ y m. h y (in-there y x l m)))
+
+  pub cut-few : Each (λ f. length f ≤ 4096) cut-faces
+  cut-few = rw cut-are (few-each starts (λ x h. start-mine x h .0))
