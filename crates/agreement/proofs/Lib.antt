@@ -3,3 +3,4 @@ pub mod BlockSound
 pub mod MeshSound
 pub mod MovedCell
 pub mod NewLabels
+pub mod AfterMove
