@@ -4,3 +4,4 @@ pub mod MeshSound
 pub mod MovedCell
 pub mod NewLabels
 pub mod AfterMove
+pub mod Moved

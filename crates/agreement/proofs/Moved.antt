@@ -1,0 +1,140 @@
+-- A request that the undivided run serves: its cell, the cut faces, the new labels, and the invariant afterwards. Assumes nothing.
+use mathlib.Core.Path.{_≡_, refl, sym, _∙_, ap}
+use mathlib.Core.Logic.{_≢_}
+use mathlib.Core.Bool.{Bool, true, false, _||_}
+use mathlib.Core.List.{List}
+use Prim.Native.Nat.{ℕ, _+_, _^_, _<_, _≤_}
+use native.Mathlib.Omega.{arith}
+use lib.Dec.{eqb}
+use lib.ListN.{length}
+use borrow.Author.Tests.{eqb-true, eqb-false, eq-eqb}
+use Rattle.model.specs.Lists.{keep, mem}
+use Rattle.model.specs.Values.{Label, Limits}
+use Rattle.model.specs.Cells.{labelled}
+use Rattle.model.specs.Sound.{Fit}
+use Rattle.model.specs.Departure.{pairs-once, vertex-pairs}
+use Rattle.model.specs.Runs.{Request, State, nx, op, th, cell, inner-faces}
+use Rattle.laws.proofs.Members.{In, in-keep, keep-in, ascending-unique, keep-ascending}
+use Rattle.laws.proofs.Tests.{by-cases}
+use Rattle.agreement.proofs.AfterMove.{keep-fewer, keep-either, after, label-after, map-after, labelled-after}
+use Rattle.agreement.proofs.Described.{members, Map, Inv, Mine}
+use Rattle.agreement.proofs.MovedCell.{Cell, cell-is}
+use Rattle.agreement.proofs.NewLabels.{fresh-of, fresh-maker, fresh-low, fresh-high, fresh-position, fresh-one, Cut, cut-faces, in-cut, cut-few}
+
+-- what is known of a request that is served
+pub record Served (lims : ℕ → Limits) (k : ℕ) (u : State) (r : Request) : Type 0 where
+  pub from-below : r .from < k
+  pub to-below : r .to < k
+  pub apart-blocks : r .from ≢ r .to
+  pub start-mine : Mine u (r .from) (r .serial)
+  pub few-darts : length (cell u (r .serial)) ≤ lims (r .from) .volume-darts
+  pub leaves : (x : ℕ) → In x (cell u (r .serial)) → mem (th u x) (cell u (r .serial)) ≡ false
+  pub pairs : pairs-once (vertex-pairs (nx u) (op u) (cell u (r .serial))) ≡ true
+  pub counter-fits : u .count (r .from) + inner-faces u (r .from) (cell u (r .serial)) < 2 ^ 32
+  pub block-fits : length (members u (r .to)) + length (cell u (r .serial)) ≤ lims (r .to) .block-darts
+
+module _ (lims : ℕ → Limits) (fit : Fit lims) (k : ℕ) (u : State) (label : ℕ → Label) (I : Inv lims k u label) (r : Request) (S : Served lims k u r) where
+  abbrev pub M : Map u
+  M = I .map-sound
+
+  abbrev pub i : ℕ
+  i = r .from
+
+  abbrev pub j : ℕ
+  j = r .to
+
+  abbrev pub s : ℕ
+  s = r .serial
+
+  abbrev pub v : List ℕ
+  v = cell u s
+
+  abbrev pub C : Cell u i s v
+  C = cell-is lims fit k u label I i (S .from-below) s (S .start-mine)
+
+  abbrev pub g : ℕ
+  g = inner-faces u i v
+
+  -- the faces that are cut, in message order
+  abbrev pub fs : List (List ℕ)
+  fs = cut-faces u M i s v C (S .leaves)
+
+  pub g-is : g ≡ length fs
+  unfolding inner-faces
+  g-is = refl
+
+  abbrev pub IsCut : ℕ → Type 0
+  IsCut x = Cut u M i s v C (S .leaves) x
+
+  -- what the darts of the cut faces are labelled
+  abbrev pub fresh : ℕ → Label
+  fresh = fresh-of i (u .count i) fs
+
+  fresh-made : (x : ℕ) → In x v → IsCut x → (fresh x .maker ≡ i) × (u .count i ≤ fresh x .number) × (fresh x .number < u .count i + g) × (fresh x .position ≤ 4095)
+  fresh-made x h c = (
+    fresh-maker i (u .count i) fs x,
+    fresh-low i (u .count i) fs x,
+    rw g-is (fresh-high i (u .count i) fs x (in-cut u M i s v C (S .leaves) x h c)),
+    fresh-position i (u .count i) fs x (cut-few u M i s v C (S .leaves)),
+  )
+
+  fresh-apart : (x y : ℕ) → In x v → In y v → IsCut x → IsCut y → fresh x ≡ fresh y → x ≡ y
+  fresh-apart x y h m c d e = fresh-one i (u .count i) fs x y (in-cut u M i s v C (S .leaves) x h c) (in-cut u M i s v C (S .leaves) y m d) e
+
+  abbrev pub u' : State
+  u' = after u v i j g
+
+  abbrev pub label' : ℕ → Label
+  label' = label-after u label v fresh
+
+  pub M' : Map u'
+  M' = map-after u M i j s g v C (S .apart-blocks) (S .leaves)
+
+  -- WHO IS WHERE
+  pub in-cell-there : (x : ℕ) → In x v → u' .number x ≡ j
+  in-cell-there x h = rw h
+
+  pub elsewhere-stays : (x : ℕ) → mem x v ≡ false → u' .number x ≡ u .number x
+  elsewhere-stays x h = rw h
+
+  -- the cell again, out of all darts
+  cell-kept : keep (λ x. mem x v) (u .darts) ≡ v
+  cell-kept = ascending-unique (keep (λ x. mem x v) (u .darts)) v (keep-ascending (λ x. mem x v) (u .darts) (M .ordered)) (C .in-order)
+      (λ x h. keep-in (λ y. mem y v) (u .darts) x h .1) (λ x h. in-keep (λ y. mem y v) x (u .darts) (C .mine x h .here) h)
+
+  pub size-there : length (members u' j) ≡ length (members u j) + length v
+  size-there =
+      keep-either (λ x. eqb (u' .number x) j) (λ x. eqb (u .number x) j) (λ x. mem x v) (u .darts)
+      (λ x h. by-cases (mem x v) (λ e. rw (e, eq-eqb j j refl) (sym (or-true (eqb (u .number x) j)))) (λ e. rw e (sym (or-false (eqb (u .number x) j)))))
+      (λ x h e. not-both x (mem x v) refl (eqb-true (u .number x) j e))
+      ∙ ap (λ (l : List ℕ). length (members u j) + length l) cell-kept
+    where
+      or-true : (b : Bool) → (b || true) ≡ true
+      or-true true = refl
+      or-true false = refl
+
+      or-false : (b : Bool) → (b || false) ≡ b
+      or-false true = refl
+      or-false false = refl
+
+      not-both : (x : ℕ) (o : Bool) → mem x v ≡ o → u .number x ≡ j → mem x v ≡ false
+      not-both x false e q = e
+      not-both x true e q = absurd (S .apart-blocks (sym (C .mine x e .block) ∙ q))
+
+  size-other : (b : ℕ) → b ≢ j → length (members u' b) ≤ length (members u b)
+  size-other b n = keep-fewer (λ x. eqb (u' .number x) b) (λ x. eqb (u .number x) b) (u .darts)
+      (λ x h e. by-cases (mem x v) (λ a. absurd (n (sym (eqb-true j b (rw a at e))))) (λ a. rw a at e))
+
+  -- THE INVARIANT AFTERWARDS
+  pub inv-after : Inv lims k u' label'
+  inv-after = record {
+    some-blocks = I .some-blocks;
+    few-blocks = I .few-blocks;
+    map-sound = M';
+    labelled = labelled-after u M i j s g v C (S .apart-blocks) (S .leaves) k label fresh (I .labelled) (S .from-below) fresh-made fresh-apart;
+    in-a-block = λ x h. by-cases (mem x v) (λ e. rw e (S .to-below)) (λ e. rw e (I .in-a-block x h));
+    counts-small = λ b h. by-cases (eqb b i) (λ e. rw (e, eqb-true b i e) (S .counter-fits)) (λ e. rw e (I .counts-small b h));
+    blocks-fit = λ b h. by-cases (eqb b j)
+        (λ e. rw (eqb-true b j e) (let a = size-there in let c = S .block-fits in omega arith))
+        (λ e. let a = size-other b (eqb-false b j e) in let c = I .blocks-fit b h in omega arith);
+  }
