@@ -5,3 +5,5 @@ pub mod MovedCell
 pub mod NewLabels
 pub mod AfterMove
 pub mod Moved
+pub mod Links
+pub mod Released
