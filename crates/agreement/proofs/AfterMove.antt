@@ -16,7 +16,7 @@ use Rattle.laws.proofs.Members.{In, in-here, in-there}
 use Rattle.laws.proofs.Tests.{by-cases}
 use Rattle.agreement.proofs.Described.{Crossing, Map, Labelled, third-back-linked}
 use Rattle.agreement.proofs.MovedCell.{Cell}
-use Rattle.agreement.proofs.NewLabels.{Cut}
+use Rattle.agreement.proofs.NewLabels.{Facing}
 
 -- COUNTING
 pub same-truth : (a b : Bool) → (a ≡ true → b ≡ true) → (b ≡ true → a ≡ true) → a ≡ b
@@ -97,18 +97,18 @@ module _ (u : State) (M : Map u) (i j s g : ℕ) (v : List ℕ) (C : Cell u i s 
   -- a link that crosses afterwards crossed before, or is cut by the move: then one side is in the cell
   pub record Fresh (x : ℕ) : Type 0 where
     pub inside : In (moved-side u v x) v
-    pub cut : Cut u M i s v C leaves (moved-side u v x)
+    pub cut : Facing u i (moved-side u v x)
     pub side : (moved-side u v x ≡ x) ⊎ (moved-side u v x ≡ th u x)
 
   pub new-crossing : (x : ℕ) → Crossing u' x → crosses u x ≡ false → Fresh x
   new-crossing x c e =
       let level : u .number (th u x) ≡ u .number x = eqb-true _ _ (not-false (eqb (u .number (th u x)) (u .number x)) e) in
       by-cases (mem x v)
-      (λ a. record { inside = rw a a; cut = rw a (record { linked = c .linked; same-block = level ∙ C .mine x a .block }); side = rw a (inl refl) })
+      (λ a. record { inside = rw a a; cut = rw a (record { linked = c .linked; block = level ∙ C .mine x a .block }); side = rw a (inl refl) })
       (λ a. by-cases (mem (th u x) v)
       (λ b. record {
         inside = rw a b;
-        cut = rw a (record { linked = third-back-linked u M x (c .here) (c .linked); same-block = ap (u .number) (M .third-twice x (c .here) (c .linked)) ∙ sym level ∙ C .mine (th u x) b .block });
+        cut = rw a (record { linked = third-back-linked u M x (c .here) (c .linked); block = ap (u .number) (M .third-twice x (c .here) (c .linked)) ∙ sym level ∙ C .mine (th u x) b .block });
         side = rw a (inr refl);
       })
       (λ b. absurd (c .other (rw (a, b) level))))
@@ -131,8 +131,8 @@ module _ (u : State) (M : Map u) (i j s g : ℕ) (v : List ℕ) (C : Cell u i s 
   count-grows m n h = by-cases (eqb m i) (λ e. rw e (omega arith)) (λ e. rw e h)
 
   module _ (k : ℕ) (label fresh : ℕ → Label) (L : Labelled k u label) (i-below : i < k)
-      (fresh-made : (x : ℕ) → In x v → Cut u M i s v C leaves x → (fresh x .maker ≡ i) × (u .count i ≤ fresh x .number) × (fresh x .number < u .count i + g) × (fresh x .position ≤ 4095))
-      (fresh-apart : (x y : ℕ) → In x v → In y v → Cut u M i s v C leaves x → Cut u M i s v C leaves y → fresh x ≡ fresh y → x ≡ y) where
+      (fresh-made : (x : ℕ) → In x v → Facing u i x → (fresh x .maker ≡ i) × (u .count i ≤ fresh x .number) × (fresh x .number < u .count i + g) × (fresh x .position ≤ 4095))
+      (fresh-apart : (x y : ℕ) → In x v → In y v → Facing u i x → Facing u i y → fresh x ≡ fresh y → x ≡ y) where
     abbrev label' : ℕ → Label
     label' = label-after u label v fresh
 
@@ -145,7 +145,7 @@ module _ (u : State) (M : Map u) (i j s g : ℕ) (v : List ℕ) (C : Cell u i s 
     is-new x e = rw e
 
     -- an old label is no new one: its number lies below the count
-    old-new : (x w : ℕ) → Crossing u x → In w v → Cut u M i s v C leaves w → label x ≢ fresh w
+    old-new : (x w : ℕ) → Crossing u x → In w v → Facing u i w → label x ≢ fresh w
     old-new x w c h cut e =
         let f = fresh-made w h cut in
         let maker : label x .maker ≡ i = ap (λ (l : Label). l .maker) e ∙ f .0 in
@@ -178,7 +178,7 @@ module _ (u : State) (M : Map u) (i j s g : ℕ) (v : List ℕ) (C : Cell u i s 
         (λ b. let h = new-crossing y cy b in both-new x y cx cy f h (fresh-apart (moved-side u v x) (moved-side u v y) (f .inside) (h .inside) (f .cut) (h .cut) (sym (is-new x a) ∙ e ∙ is-new y b))))
 
     -- what holds of old labels and of new ones
-    either-label : (P : Label → Type 0) → ((x : ℕ) → Crossing u x → P (label x)) → ((x : ℕ) → In x v → Cut u M i s v C leaves x → P (fresh x)) → (x : ℕ) → Crossing u' x → P (label' x)
+    either-label : (P : Label → Type 0) → ((x : ℕ) → Crossing u x → P (label x)) → ((x : ℕ) → In x v → Facing u i x → P (fresh x)) → (x : ℕ) → Crossing u' x → P (label' x)
     either-label P old new x c = by-cases (crosses u x)
         (λ a. subst P (sym (is-old x a)) (old x (old-crossing x c a)))
         (λ a. let f = new-crossing x c a in subst P (sym (is-new x a)) (new (moved-side u v x) (f .inside) (f .cut)))

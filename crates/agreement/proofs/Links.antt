@@ -13,7 +13,6 @@ use Rattle.model.specs.Values.{Third, critical, Dart}
 use Rattle.model.specs.Departure.{Link, third-or, relink, label-links, label-faces}
 use Rattle.laws.proofs.Members.{In, in-here, in-there, in-cons, in-append-left, in-append-right, append-in, distinct-not, distinct-left, distinct-right, distinct-apart, Each, each-append, each-found}
 use Rattle.laws.proofs.Tests.{by-cases, and-right, found-key}
-use Rattle.agreement.proofs.Moved.{i, j, v, g, fs}
 use Rattle.agreement.proofs.NewLabels.{fresh-of}
 
 -- each link gives what T says

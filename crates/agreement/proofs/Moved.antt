@@ -19,7 +19,7 @@ use Rattle.laws.proofs.Tests.{by-cases}
 use Rattle.agreement.proofs.AfterMove.{keep-fewer, keep-either, after, label-after, map-after, labelled-after}
 use Rattle.agreement.proofs.Described.{members, Map, Inv, Mine}
 use Rattle.agreement.proofs.MovedCell.{Cell, cell-is}
-use Rattle.agreement.proofs.NewLabels.{fresh-of, fresh-maker, fresh-low, fresh-high, fresh-position, fresh-one, Cut, cut-faces, in-cut, cut-few}
+use Rattle.agreement.proofs.NewLabels.{fresh-of, fresh-maker, fresh-low, fresh-high, fresh-position, fresh-one, Facing, cut-faces, in-cut, cut-few}
 
 -- what is known of a request that is served
 pub record Served (lims : ℕ → Limits) (k : ℕ) (u : State) (r : Request) : Type 0 where
@@ -64,7 +64,7 @@ module _ (lims : ℕ → Limits) (fit : Fit lims) (k : ℕ) (u : State) (label :
   g-is = refl
 
   abbrev pub IsCut : ℕ → Type 0
-  IsCut x = Cut u M i s v C (S .leaves) x
+  IsCut x = Facing u i x
 
   -- what the darts of the cut faces are labelled
   abbrev pub fresh : ℕ → Label

@@ -12,7 +12,7 @@ use Rattle.model.specs.Lists.{all, keep, concat, mem, distinct, index-of}
 use Rattle.model.specs.Values.{Label}
 use Rattle.model.specs.Cells.{around, cycle, faces, start-of}
 use Rattle.model.specs.Runs.{State, nx, th}
-use Rattle.laws.proofs.Faces.{face-stays, face-sym, is-start, face-start, start-in, start-starts, in-faces, faces-only, face-few, along-face, faces-distinct}
+use Rattle.laws.proofs.Faces.{face, face-stays, face-sym, is-start, face-start, start-in, start-starts, in-faces, faces-only, face-few, along-face, faces-distinct}
 use Rattle.laws.proofs.Members.{In, in-here, in-there, in-keep, keep-in, append-in, keep-ascending, ascending-distinct, Each, keep-map}
 use Rattle.laws.proofs.Tests.{by-cases, and-intro, and-left, and-right, not-equal}
 use Rattle.agreement.proofs.Described.{Map, third-level}
@@ -85,78 +85,111 @@ fresh-one i c (f ∷ fs) x y h k e = by-cases (mem x f)
         go (inl q) = absurd (true≢false (sym q ∙ n))
         go (inr q) = q
 
--- THE FACES THAT A MOVE CUTS
-module _ (u : State) (M : Map u) (i s : ℕ) (v : List ℕ) (C : Cell u i s v) (leaves : (x : ℕ) → In x v → mem (th u x) v ≡ false) where
-  next-one-cell : (x y : ℕ) → In x v → In y v → nx u x ≡ nx u y → x ≡ y
+-- FACES OF A CELL THAT MEET ONE BLOCK
+-- the third link of x leads to a dart of block b
+pub record Facing (u : State) (b x : ℕ) : Type 0 where
+  pub linked : th u x ≢ 0
+  pub block : u .number (th u x) ≡ b
+
+module _ (u : State) (M : Map u) (i s : ℕ) (v : List ℕ) (C : Cell u i s v) where
+  pub next-one-cell : (x y : ℕ) → In x v → In y v → nx u x ≡ nx u y → x ≡ y
   next-one-cell x y h k e = M .next-one x y (C .mine x h .here) (C .mine y k .here) e
 
-  -- the third link of x leads to another cell of block i
-  pub record Cut (x : ℕ) : Type 0 where
-    pub linked : th u x ≢ 0
-    pub same-block : u .number (th u x) ≡ i
+  pub facing-next : (b x : ℕ) → In x v → Facing u b x → Facing u b (nx u x)
+  facing-next b x h c = let d = C .mine x h .here in record { linked = M .third-goes-on x d (c .linked); block = third-level u M x d (c .linked) ∙ c .block }
 
-  abbrev pub inner : List ℕ → Bool
-  inner f = let y = th u (start-of f) in not (eqb y 0) && not (mem y v) && eqb (u .number y) i
+  -- a test of faces that tells, by its start, whether a face meets block b
+  pub record Tells (b : ℕ) (p : List ℕ → Bool) : Type 0 where
+    pub says : (x : ℕ) → In x v → p (cycle (nx u) x) ≡ true → Facing u b x
+    pub hears : (x : ℕ) → In x v → Facing u b x → p (cycle (nx u) x) ≡ true
 
-  abbrev pub cut-faces : List (List ℕ)
-  cut-faces = keep inner (faces (nx u) v)
+  -- the faces that pass, in message order
+  abbrev pub facing-starts : (List ℕ → Bool) → List ℕ
+  facing-starts p = keep (λ x. p (cycle (nx u) x)) (keep (λ x. all (leb x) (cycle (nx u) x)) v)
 
-  abbrev starts : List ℕ
-  starts = keep (λ x. inner (cycle (nx u) x)) (keep (λ x. all (leb x) (cycle (nx u) x)) v)
-
-  cut-are : cut-faces ≡ map (cycle (nx u)) starts
+  pub facing-are : (p : List ℕ → Bool) → keep p (faces (nx u) v) ≡ map (cycle (nx u)) (facing-starts p)
   unfolding faces
-  cut-are = keep-map inner (cycle (nx u)) (keep (λ x. all (leb x) (cycle (nx u) x)) v)
+  facing-are p = keep-map p (cycle (nx u)) (keep (λ x. all (leb x) (cycle (nx u) x)) v)
 
-  cut-next : (x : ℕ) → In x v → Cut x → Cut (nx u x)
-  cut-next x h c = let d = C .mine x h .here in record { linked = M .third-goes-on x d (c .linked); same-block = third-level u M x d (c .linked) ∙ c .same-block }
-
-  start-cut : (x : ℕ) → In x v → inner (cycle (nx u) x) ≡ true → Cut x
-  unfolding cycle around
-  start-cut x h e =
-      let a = and-left (not (eqb (th u x) 0) && not (mem (th u x) v)) _ e in
-      record { linked = eqb-false (th u x) 0 (not-true (eqb (th u x) 0) (and-left _ _ a)); same-block = eqb-true (u .number (th u x)) i (and-right (not (eqb (th u x) 0) && not (mem (th u x) v)) _ e) }
-
-  cut-start : (x : ℕ) → In x v → Cut x → inner (cycle (nx u) x) ≡ true
-  unfolding cycle around
-  cut-start x h c = and-intro (and-intro (not-equal (th u x) 0 (c .linked)) (rw (leaves x h))) (eq-eqb (u .number (th u x)) i (c .same-block))
-
-  start-mine : (x : ℕ) → In x starts → In x v × (is-start (nx u) v (C .next-closed) next-one-cell (C .few) x ≡ true) × (inner (cycle (nx u) x) ≡ true)
+  pub start-there : (p : List ℕ → Bool) (x : ℕ) → In x (facing-starts p) → In x v × (is-start (nx u) v (C .next-closed) next-one-cell (C .few) x ≡ true) × (p (cycle (nx u) x) ≡ true)
   unfolding cycle
-  start-mine x h = let a = keep-in (λ y. inner (cycle (nx u) y)) (keep (λ y. all (leb y) (cycle (nx u) y)) v) x h in let b = keep-in (λ y. all (leb y) (cycle (nx u) y)) v x (a .0) in (b .0, b .1, a .1)
+  start-there p x h = let a = keep-in (λ y. p (cycle (nx u) y)) (keep (λ y. all (leb y) (cycle (nx u) y)) v) x h in let b = keep-in (λ y. all (leb y) (cycle (nx u) y)) v x (a .0) in (b .0, b .1, a .1)
 
-  -- their darts are those of the cell whose third link leads to another cell of block i
-  pub cut-in : (x : ℕ) → In x (concat cut-faces) → In x v × Cut x
-  unfolding cycle
-  cut-in x h =
-      let r = faces-only (nx u) v (C .next-closed) next-one-cell (C .few) starts x (rw cut-are at h) in
-      let a = start-mine (r .0) (r .1) in
-      (
-        face-stays (nx u) v (C .next-closed) next-one-cell (C .few) (r .0) x (a .0) (r .2),
-        along-face (nx u) v (C .next-closed) next-one-cell (C .few) Cut cut-next (r .0) x (a .0) (start-cut (r .0) (a .0) (a .2)) (r .2),
-      )
+  pub starts-distinct : (p : List ℕ → Bool) → distinct (facing-starts p) ≡ true
+  starts-distinct p = ascending-distinct (facing-starts p) (keep-ascending (λ x. p (cycle (nx u) x)) _ (keep-ascending (λ x. all (leb x) (cycle (nx u) x)) v (C .in-order)))
 
-  pub in-cut : (x : ℕ) → In x v → Cut x → In x (concat cut-faces)
+  -- their darts are in no two of them
+  pub facing-distinct : (p : List ℕ → Bool) → distinct (concat (keep p (faces (nx u) v))) ≡ true
   unfolding cycle
-  in-cut x h c =
-      let st = face-start (nx u) v (C .next-closed) next-one-cell (C .few) x in
-      let m = start-in (nx u) v (C .next-closed) next-one-cell (C .few) x h in
-      let sv = face-stays (nx u) v (C .next-closed) next-one-cell (C .few) x st h m in
-      let cs = along-face (nx u) v (C .next-closed) next-one-cell (C .few) Cut cut-next x st h c m in
-      let is = start-starts (nx u) v (C .next-closed) next-one-cell (C .few) x h in
-      rw cut-are (in-faces (nx u) v (C .next-closed) next-one-cell (C .few) starts st x
-      (in-keep (λ y. inner (cycle (nx u) y)) st (keep (λ y. all (leb y) (cycle (nx u) y)) v) (in-keep (λ y. all (leb y) (cycle (nx u) y)) st v sv is) (cut-start st sv cs))
-      (face-sym (nx u) v (C .next-closed) next-one-cell (C .few) x st h m))
-
-  pub cut-distinct : distinct (concat cut-faces) ≡ true
-  unfolding cycle
-  cut-distinct = rw cut-are (faces-distinct (nx u) v (C .next-closed) next-one-cell (C .few) starts (λ x h. let a = start-mine x h in (a .0, a .1))
-      (ascending-distinct starts (keep-ascending (λ x. inner (cycle (nx u) x)) _ (keep-ascending (λ x. all (leb x) (cycle (nx u) x)) v (C .in-order)))))
+  facing-distinct p = rw (facing-are p) (faces-distinct (nx u) v (C .next-closed) next-one-cell (C .few) (facing-starts p) (λ x h. let a = start-there p x h in (a .0, a .1)) (starts-distinct p))
 
   few-each : (l : List ℕ) → ((x : ℕ) → In x l → In x v) → Each (λ f. length f ≤ 4096) (map (cycle (nx u)) l)
   unfolding cycle
   few-each [] h = tt
   few-each (x ∷ l) h = (face-few (nx u) v (C .next-closed) next-one-cell (C .few) x (h x (in-here x l)), few-each l (λ y m. h y (in-there y x l m)))
 
-  pub cut-few : Each (λ f. length f ≤ 4096) cut-faces
-  cut-few = rw cut-are (few-each starts (λ x h. start-mine x h .0))
+  pub facing-few : (p : List ℕ → Bool) → Each (λ f. length f ≤ 4096) (keep p (faces (nx u) v))
+  facing-few p = rw (facing-are p) (few-each (facing-starts p) (λ x h. start-there p x h .0))
+
+  module _ (b : ℕ) (p : List ℕ → Bool) (tells : Tells b p) where
+    -- and they are the darts of the cell that face block b
+    pub facing-in : (x : ℕ) → In x (concat (keep p (faces (nx u) v))) → In x v × Facing u b x
+    unfolding cycle
+    facing-in x h =
+        let r = faces-only (nx u) v (C .next-closed) next-one-cell (C .few) (facing-starts p) x (rw (facing-are p) at h) in
+        let a = start-there p (r .0) (r .1) in
+        (
+          face-stays (nx u) v (C .next-closed) next-one-cell (C .few) (r .0) x (a .0) (r .2),
+          along-face (nx u) v (C .next-closed) next-one-cell (C .few) (Facing u b) (facing-next b) (r .0) x (a .0) (tells .says (r .0) (a .0) (a .2)) (r .2),
+        )
+
+    -- the start of the face of a dart that faces block b
+    pub start-facing : (x : ℕ) → In x v → Facing u b x → (st : ℕ) × In st (facing-starts p) × In st (face (nx u) v (C .next-closed) next-one-cell (C .few) x) × In x (face (nx u) v (C .next-closed) next-one-cell (C .few) st)
+    unfolding cycle
+    start-facing x h c =
+        let st = face-start (nx u) v (C .next-closed) next-one-cell (C .few) x in
+        let m = start-in (nx u) v (C .next-closed) next-one-cell (C .few) x h in
+        let sv = face-stays (nx u) v (C .next-closed) next-one-cell (C .few) x st h m in
+        let cs = along-face (nx u) v (C .next-closed) next-one-cell (C .few) (Facing u b) (facing-next b) x st h c m in
+        let is = start-starts (nx u) v (C .next-closed) next-one-cell (C .few) x h in
+        (
+          st,
+          in-keep (λ y. p (cycle (nx u) y)) st (keep (λ y. all (leb y) (cycle (nx u) y)) v) (in-keep (λ y. all (leb y) (cycle (nx u) y)) st v sv is) (tells .hears st sv cs),
+          m,
+          face-sym (nx u) v (C .next-closed) next-one-cell (C .few) x st h m,
+        )
+
+    pub in-facing : (x : ℕ) → In x v → Facing u b x → In x (concat (keep p (faces (nx u) v)))
+    unfolding cycle
+    in-facing x h c = let q = start-facing x h c in rw (facing-are p) (in-faces (nx u) v (C .next-closed) next-one-cell (C .few) (facing-starts p) (q .0) x (q .1) (q .3))
+
+  -- THE FACES THAT A MOVE CUTS meet another cell of block i
+  module _ (leaves : (x : ℕ) → In x v → mem (th u x) v ≡ false) where
+    abbrev pub inner : List ℕ → Bool
+    inner f = let y = th u (start-of f) in not (eqb y 0) && not (mem y v) && eqb (u .number y) i
+
+    abbrev pub cut-faces : List (List ℕ)
+    cut-faces = keep inner (faces (nx u) v)
+
+    pub inner-tells : Tells i inner
+    unfolding cycle around
+    inner-tells = record {
+      says = λ x h e. let a = and-left (not (eqb (th u x) 0) && not (mem (th u x) v)) _ e in
+          record { linked = eqb-false (th u x) 0 (not-true (eqb (th u x) 0) (and-left _ _ a)); block = eqb-true (u .number (th u x)) i (and-right (not (eqb (th u x) 0) && not (mem (th u x) v)) _ e) };
+      hears = λ x h c. and-intro (and-intro (not-equal (th u x) 0 (c .linked)) (not-in x h)) (eq-eqb (u .number (th u x)) i (c .block));
+    }
+      where
+        not-in : (x : ℕ) → In x v → not (mem (th u x) v) ≡ true
+        not-in x h = rw (leaves x h)
+
+    pub cut-in : (x : ℕ) → In x (concat cut-faces) → In x v × Facing u i x
+    cut-in = facing-in i inner inner-tells
+
+    pub in-cut : (x : ℕ) → In x v → Facing u i x → In x (concat cut-faces)
+    in-cut = in-facing i inner inner-tells
+
+    pub cut-distinct : distinct (concat cut-faces) ≡ true
+    cut-distinct = facing-distinct inner
+
+    pub cut-few : Each (λ f. length f ≤ 4096) cut-faces
+    cut-few = facing-few inner

@@ -94,7 +94,7 @@ module _ (lims : ℕ → Limits) (fit : Fit lims) (k : ℕ) (u : State) (label :
   across-is x h =
       let c = cut-of x h in
       let m = C₀ .mine x (c .0) in
-      rw (third-is u label (r .from) x m, kind-sewn u label x (c .1 .linked) (c .1 .same-block ∙ sym (m .block)))
+      rw (third-is u label (r .from) x m, kind-sewn u label x (c .1 .linked) (c .1 .block ∙ sym (m .block)))
 
   -- across a cut face the dart left behind is critical with j
   gives-across : (x : ℕ) → In x (concat fs₀) → T (across x) ≡ critical (r .to) (fresh lims fit k u label I r S x)
@@ -102,7 +102,7 @@ module _ (lims : ℕ → Limits) (fit : Fit lims) (k : ℕ) (u : State) (label :
       let c = cut-of x h in
       let d = C₀ .mine x (c .0) .here in
       let back = M₀ .third-twice x d (c .1 .linked) in
-      ap T (across-is x h) ∙ third-cut (th u x) (M₀ .third-in-map x d (c .1 .linked)) (S .leaves x (c .0)) (in-eq (th u (th u x)) x v₀ back (c .0)) (third-back-linked u M₀ x d (c .1 .linked)) (c .1 .same-block)
+      ap T (across-is x h) ∙ third-cut (th u x) (M₀ .third-in-map x d (c .1 .linked)) (S .leaves x (c .0)) (in-eq (th u (th u x)) x v₀ back (c .0)) (third-back-linked u M₀ x d (c .1 .linked)) (c .1 .block)
       ∙ ap (λ (y : ℕ). critical (r .to) (fresh lims fit k u label I r S y)) back
 
   abbrev links : List Link
@@ -115,7 +115,7 @@ module _ (lims : ℕ → Limits) (fit : Fit lims) (k : ℕ) (u : State) (label :
       (λ z. let t = eqb-false (th u x) 0 z in
       let back = M₀ .third-twice x (m .here) t in
       let here = M₀ .third-in-map x (m .here) t in
-      let there : In (th u x) (concat fs₀) = in-cut u M₀ (r .from) (r .serial) v₀ C₀ (S .leaves) (th u x) b (record { linked = third-back-linked u M₀ x (m .here) t; same-block = ap (u .number) back ∙ m .block }) in
+      let there : In (th u x) (concat fs₀) = in-cut u M₀ (r .from) (r .serial) v₀ C₀ (S .leaves) (th u x) b (record { linked = third-back-linked u M₀ x (m .here) t; block = ap (u .number) back ∙ m .block }) in
       absurd (faces-reach across T (r .to) (r .from) (u .count (r .from)) fs₀ (th u x) there (rw (across-is (th u x) there, back) f))))
       (λ b. sym (third-stays x a b))
 
