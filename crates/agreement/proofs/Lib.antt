@@ -7,3 +7,4 @@ pub mod AfterMove
 pub mod Moved
 pub mod Links
 pub mod Released
+pub mod Redirected

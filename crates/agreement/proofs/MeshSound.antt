@@ -143,7 +143,7 @@ module _ (lims : ℕ → Limits) (k : ℕ) (u : State) (label : ℕ → Label) (
   has-it x z e = eq-eqb (suc (code (label x))) (label-key (third-by u label z)) (sym e)
 
   -- in the block across
-  labelled-by : (x : ℕ) → Crossing u x → labelled (label x) (darts-by u label (u .number (th u x))) ≡ dart-by u label (th u x)
+  pub labelled-by : (x : ℕ) → Crossing u x → labelled (label x) (darts-by u label (u .number (th u x))) ≡ dart-by u label (th u x)
   unfolding labelled dart-by
   labelled-by x c =
       let y : Mine u (u .number (th u x)) (th u x) = record { here = M .third-in-map x (c .here) (c .linked); block = refl } in

@@ -49,17 +49,17 @@ module _ (lims : ℕ → Limits) (fit : Fit lims) (k : ℕ) (u : State) (label :
   abbrev pub v : List ℕ
   v = cell u s
 
-  abbrev pub C : Cell u i s v
-  C = cell-is lims fit k u label I i (S .from-below) s (S .start-mine)
+  abbrev pub moved-cell : Cell u i s v
+  moved-cell = cell-is lims fit k u label I i (S .from-below) s (S .start-mine)
 
   abbrev pub g : ℕ
   g = inner-faces u i v
 
   -- the faces that are cut, in message order
-  abbrev pub fs : List (List ℕ)
-  fs = cut-faces u M i s v C (S .leaves)
+  abbrev pub cuts : List (List ℕ)
+  cuts = cut-faces u M i s v moved-cell (S .leaves)
 
-  pub g-is : g ≡ length fs
+  pub g-is : g ≡ length cuts
   unfolding inner-faces
   g-is = refl
 
@@ -67,44 +67,44 @@ module _ (lims : ℕ → Limits) (fit : Fit lims) (k : ℕ) (u : State) (label :
   IsCut x = Facing u i x
 
   -- what the darts of the cut faces are labelled
-  abbrev pub fresh : ℕ → Label
-  fresh = fresh-of i (u .count i) fs
+  abbrev pub new-label : ℕ → Label
+  new-label = fresh-of i (u .count i) cuts
 
-  fresh-made : (x : ℕ) → In x v → IsCut x → (fresh x .maker ≡ i) × (u .count i ≤ fresh x .number) × (fresh x .number < u .count i + g) × (fresh x .position ≤ 4095)
+  fresh-made : (x : ℕ) → In x v → IsCut x → (new-label x .maker ≡ i) × (u .count i ≤ new-label x .number) × (new-label x .number < u .count i + g) × (new-label x .position ≤ 4095)
   fresh-made x h c = (
-    fresh-maker i (u .count i) fs x,
-    fresh-low i (u .count i) fs x,
-    rw g-is (fresh-high i (u .count i) fs x (in-cut u M i s v C (S .leaves) x h c)),
-    fresh-position i (u .count i) fs x (cut-few u M i s v C (S .leaves)),
+    fresh-maker i (u .count i) cuts x,
+    fresh-low i (u .count i) cuts x,
+    rw g-is (fresh-high i (u .count i) cuts x (in-cut u M i s v moved-cell (S .leaves) x h c)),
+    fresh-position i (u .count i) cuts x (cut-few u M i s v moved-cell (S .leaves)),
   )
 
-  fresh-apart : (x y : ℕ) → In x v → In y v → IsCut x → IsCut y → fresh x ≡ fresh y → x ≡ y
-  fresh-apart x y h m c d e = fresh-one i (u .count i) fs x y (in-cut u M i s v C (S .leaves) x h c) (in-cut u M i s v C (S .leaves) y m d) e
+  fresh-apart : (x y : ℕ) → In x v → In y v → IsCut x → IsCut y → new-label x ≡ new-label y → x ≡ y
+  fresh-apart x y h m c d e = fresh-one i (u .count i) cuts x y (in-cut u M i s v moved-cell (S .leaves) x h c) (in-cut u M i s v moved-cell (S .leaves) y m d) e
 
-  abbrev pub u' : State
-  u' = after u v i j g
+  abbrev pub state-after : State
+  state-after = after u v i j g
 
-  abbrev pub label' : ℕ → Label
-  label' = label-after u label v fresh
+  abbrev pub labels-after : ℕ → Label
+  labels-after = label-after u label v new-label
 
-  pub M' : Map u'
-  M' = map-after u M i j s g v C (S .apart-blocks) (S .leaves)
+  pub M' : Map state-after
+  M' = map-after u M i j s g v moved-cell (S .apart-blocks) (S .leaves)
 
   -- WHO IS WHERE
-  pub in-cell-there : (x : ℕ) → In x v → u' .number x ≡ j
+  pub in-cell-there : (x : ℕ) → In x v → state-after .number x ≡ j
   in-cell-there x h = rw h
 
-  pub elsewhere-stays : (x : ℕ) → mem x v ≡ false → u' .number x ≡ u .number x
+  pub elsewhere-stays : (x : ℕ) → mem x v ≡ false → state-after .number x ≡ u .number x
   elsewhere-stays x h = rw h
 
   -- the cell again, out of all darts
   cell-kept : keep (λ x. mem x v) (u .darts) ≡ v
-  cell-kept = ascending-unique (keep (λ x. mem x v) (u .darts)) v (keep-ascending (λ x. mem x v) (u .darts) (M .ordered)) (C .in-order)
-      (λ x h. keep-in (λ y. mem y v) (u .darts) x h .1) (λ x h. in-keep (λ y. mem y v) x (u .darts) (C .mine x h .here) h)
+  cell-kept = ascending-unique (keep (λ x. mem x v) (u .darts)) v (keep-ascending (λ x. mem x v) (u .darts) (M .ordered)) (moved-cell .in-order)
+      (λ x h. keep-in (λ y. mem y v) (u .darts) x h .1) (λ x h. in-keep (λ y. mem y v) x (u .darts) (moved-cell .mine x h .here) h)
 
-  pub size-there : length (members u' j) ≡ length (members u j) + length v
+  pub size-there : length (members state-after j) ≡ length (members u j) + length v
   size-there =
-      keep-either (λ x. eqb (u' .number x) j) (λ x. eqb (u .number x) j) (λ x. mem x v) (u .darts)
+      keep-either (λ x. eqb (state-after .number x) j) (λ x. eqb (u .number x) j) (λ x. mem x v) (u .darts)
       (λ x h. by-cases (mem x v) (λ e. rw (e, eq-eqb j j refl) (sym (or-true (eqb (u .number x) j)))) (λ e. rw e (sym (or-false (eqb (u .number x) j)))))
       (λ x h e. not-both x (mem x v) refl (eqb-true (u .number x) j e))
       ∙ ap (λ (l : List ℕ). length (members u j) + length l) cell-kept
@@ -119,19 +119,19 @@ module _ (lims : ℕ → Limits) (fit : Fit lims) (k : ℕ) (u : State) (label :
 
       not-both : (x : ℕ) (o : Bool) → mem x v ≡ o → u .number x ≡ j → mem x v ≡ false
       not-both x false e q = e
-      not-both x true e q = absurd (S .apart-blocks (sym (C .mine x e .block) ∙ q))
+      not-both x true e q = absurd (S .apart-blocks (sym (moved-cell .mine x e .block) ∙ q))
 
-  size-other : (b : ℕ) → b ≢ j → length (members u' b) ≤ length (members u b)
-  size-other b n = keep-fewer (λ x. eqb (u' .number x) b) (λ x. eqb (u .number x) b) (u .darts)
+  size-other : (b : ℕ) → b ≢ j → length (members state-after b) ≤ length (members u b)
+  size-other b n = keep-fewer (λ x. eqb (state-after .number x) b) (λ x. eqb (u .number x) b) (u .darts)
       (λ x h e. by-cases (mem x v) (λ a. absurd (n (sym (eqb-true j b (rw a at e))))) (λ a. rw a at e))
 
   -- THE INVARIANT AFTERWARDS
-  pub inv-after : Inv lims k u' label'
+  pub inv-after : Inv lims k state-after labels-after
   inv-after = record {
     some-blocks = I .some-blocks;
     few-blocks = I .few-blocks;
     map-sound = M';
-    labelled = labelled-after u M i j s g v C (S .apart-blocks) (S .leaves) k label fresh (I .labelled) (S .from-below) fresh-made fresh-apart;
+    labelled = labelled-after u M i j s g v moved-cell (S .apart-blocks) (S .leaves) k label new-label (I .labelled) (S .from-below) fresh-made fresh-apart;
     in-a-block = λ x h. by-cases (mem x v) (λ e. rw e (S .to-below)) (λ e. rw e (I .in-a-block x h));
     counts-small = λ b h. by-cases (eqb b i) (λ e. rw (e, eqb-true b i e) (S .counter-fits)) (λ e. rw e (I .counts-small b h));
     blocks-fit = λ b h. by-cases (eqb b j)
