@@ -8,3 +8,5 @@ pub mod Moved
 pub mod Links
 pub mod Released
 pub mod Redirected
+pub mod Rings
+pub mod Rebuilt

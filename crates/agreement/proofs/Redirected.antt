@@ -37,7 +37,7 @@ unfolding labels-along
 labels-map ds label o [] h = refl
 labels-map ds label o (x ∷ f) h = rw (h x (in-here x f)) (ap (λ (l : List Label). label x ∷ l) (labels-map ds label o f (λ y k. h y (in-there y x f k))))
 
-nonempty-least : (l : List ℕ) (x : ℕ) → In x l → In (least l) l
+pub nonempty-least : (l : List ℕ) (x : ℕ) → In x l → In (least l) l
 nonempty-least [] x h = absurd (true≢false (sym h))
 nonempty-least (y ∷ l) x h = least-in y l
 
