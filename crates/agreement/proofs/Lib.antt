@@ -10,3 +10,4 @@ pub mod Released
 pub mod Redirected
 pub mod Rings
 pub mod Rebuilt
+pub mod Sent

@@ -160,7 +160,7 @@ module _ (lims : ℕ → Limits) (fit : Fit lims) (k : ℕ) (u : State) (label :
     twelve-same = all-cong _ _ v (λ x h. ap not (within-same x h))
 
     -- 13
-    vertex-same : (x : ℕ) → Mine u i x → vertex (next-in ds) (opposite-in ds) x ≡ vertex (nx u) (op u) x
+    pub vertex-same : (x : ℕ) → Mine u i x → vertex (next-in ds) (opposite-in ds) x ≡ vertex (nx u) (op u) x
     vertex-same = vertex-cong (next-in ds) (nx u) (opposite-in ds) (op u) (Mine u i) next-keeps opposite-keeps next-same opposite-same
 
     pub pairs-same : vertex-pairs (next-in ds) (opposite-in ds) v ≡ vertex-pairs (nx u) (op u) v
@@ -185,7 +185,7 @@ module _ (lims : ℕ → Limits) (fit : Fit lims) (k : ℕ) (u : State) (label :
     abbrev pub is-inner : List ℕ → Bool
     is-inner f = let y = th u (start-of f) in not (eqb y 0) && not (mem y v) && eqb (u .number y) i
 
-    out-same : (f : List ℕ) → In (start-of f) v → is-sewn-out-of v (third-at ds (start-of f)) ≡ is-inner f
+    pub out-same : (f : List ℕ) → In (start-of f) v → is-sewn-out-of v (third-at ds (start-of f)) ≡ is-inner f
     out-same f h = let x = start-of f in let m = cell-is .mine x h in rw (third-is u label i x m) (by-kind u label x
         (λ e. rw (kind-free u label x e, eq-eqb (th u x) 0 e))
         (λ t e. rw (kind-sewn u label x t e, ne-eqb (th u x) 0 t, eq-eqb (u .number (th u x)) i (e ∙ m .block)) (sym (and-true (not (mem (th u x) v)))))
