@@ -11,3 +11,4 @@ pub mod Redirected
 pub mod Rings
 pub mod Rebuilt
 pub mod Sent
+pub mod Received
