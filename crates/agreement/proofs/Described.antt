@@ -90,7 +90,7 @@ pub record Inv (lims : ℕ → Limits) (k : ℕ) (u : State) (label : ℕ → La
   pub blocks-fit : (b : ℕ) → b < k → length (members u b) ≤ lims b .block-darts
 
 -- LOOKING DARTS UP in what is described
-serials-by : (u : State) (label : ℕ → Label) (l : List ℕ) → serials (map (dart-by u label) l) ≡ l
+pub serials-by : (u : State) (label : ℕ → Label) (l : List ℕ) → serials (map (dart-by u label) l) ≡ l
 unfolding dart-by
 serials-by u label [] = refl
 serials-by u label (x ∷ l) = ap (λ (t : List ℕ). x ∷ t) (serials-by u label l)

@@ -12,3 +12,4 @@ pub mod Rings
 pub mod Rebuilt
 pub mod Sent
 pub mod Received
+pub mod Arrived

@@ -171,7 +171,7 @@ module _ (lims : ℕ → Limits) (k : ℕ) (u : State) (label : ℕ → Label) (
       (λ q. M .third-other x (c .here) (sym q)) (has-it x x (key-critical x c)) (has-it x (th u x) (key-across x c))
       (λ z h e. who-has x z c (all-in-map z h) (sym (eqb-true (suc (code (label x))) (label-key (third-by u label z)) e))))
 
-  previous-across : (x : ℕ) → Crossing u x → previous-in (other-darts x) (th u x) ≡ th u (nx u x)
+  pub previous-across : (x : ℕ) → Crossing u x → previous-in (other-darts x) (th u x) ≡ th u (nx u x)
   previous-across x c =
       let cn = crossing-next u M x c in
       let level = third-level u M x (c .here) (c .linked) in

@@ -90,7 +90,7 @@ sew-gives th T [] h = tt
 sew-gives th T (x ∷ f) h = (sym (h x (in-here x f) .0), (sym (h x (in-here x f) .1), sew-gives th T f (λ y k. h y (in-there y x f k))))
 
 -- both darts of a pair are reached
-abbrev not-linked : ℕ → List Link → Type 0
+abbrev pub not-linked : ℕ → List Link → Type 0
 not-linked y ks = find (λ k. k .dart) y ks ≡ none
 
 pub sew-reach : (th : ℕ → ℕ) (f : List ℕ) (x y : ℕ) → In x f → (y ≡ x) ⊎ (y ≡ th x) → not-linked y (sew-both (zip f (map th f))) → ⊥
