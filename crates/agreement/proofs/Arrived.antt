@@ -96,7 +96,7 @@ module _ (lims : ℕ → Limits) (fit : Fit lims) (k : ℕ) (u : State) (label :
   one-cell = next-one-cell u M₃ (r .from) (r .serial) v₃ C₃
 
   -- faces have darts
-  some-dart : (f : List ℕ) → Face f → 0 < length f
+  pub some-dart : (f : List ℕ) → Face f → 0 < length f
   some-dart f q = rw (q .is-cycle) (some-cycle (nx u) (q .from-dart))
 
   pub all-some : Each (λ f. 0 < length f) F
@@ -373,7 +373,7 @@ module _ (lims : ℕ → Limits) (fit : Fit lims) (k : ℕ) (u : State) (label :
       λ n. record { serial = y; next = nx u y; opposite = op u y; third = q n; point = pt u y }
 
   -- 13: a vertex pair is a dart's alone
-  once-only : (x y : ℕ) → In x v₃ → In y v₃ → vertex (nx u) (op u) x ≡ vertex (nx u) (op u) y → vertex (nx u) (op u) (nx u x) ≡ vertex (nx u) (op u) (nx u y) → x ≡ y
+  pub once-only : (x y : ℕ) → In x v₃ → In y v₃ → vertex (nx u) (op u) x ≡ vertex (nx u) (op u) y → vertex (nx u) (op u) (nx u x) ≡ vertex (nx u) (op u) (nx u y) → x ≡ y
   unfolding vertex-pairs
   once-only x y h m a b = pair-one (λ z. (vertex (nx u) (op u) z, vertex (nx u) (op u) (nx u z))) v₃ (S .pairs) x y h m a b
 

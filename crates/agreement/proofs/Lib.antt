@@ -13,3 +13,4 @@ pub mod Rebuilt
 pub mod Sent
 pub mod Received
 pub mod Arrived
+pub mod Passes
