@@ -130,6 +130,10 @@ module _ (lims : ℕ → Limits) (fit : Fit lims) (k : ℕ) (u : State) (label :
       opposite-back = λ x h m. subst (λ (y : ℕ). In y v) (M .opposite-twice x h) (in-cell (op u (op u x)) (reached-is .closed-g (op u x) (cell-in (op u x) m)));
     }
 
+    -- what holds of the start and goes on along both links holds of the cell
+    pub reached-from : (P : ℕ → Type 0) → P s → ((x : ℕ) → P x → P (nx u x)) → ((x : ℕ) → P x → P (op u x)) → (y : ℕ) → In y v → P y
+    reached-from P p f g y h = reached-is .least P p f g y (cell-in y h)
+
     -- faces of the cell
     pub faces-same : faces-in ds s ≡ faces (nx u) v
     unfolding faces-in

@@ -1,28 +1,31 @@
 -- A transfer that send writes passes questions 17, 18 and 19 at its destination. Assumes nothing.
-use mathlib.Core.Path.{_≡_, refl, sym, _∙_, ap}
+use mathlib.Core.Path.{_≡_, refl, sym, _∙_, ap, subst}
 use mathlib.Core.Logic.{_≢_}
-use mathlib.Core.Bool.{Bool, true, false, true≢false, not, _&&_}
+use mathlib.Core.Bool.{Bool, true, false, true≢false, cond, not, _&&_}
 use mathlib.Core.List.{List, [], _∷_, map}
+use mathlib.Core.Option.{none, some}
 use Prim.Native.Nat.{ℕ, _≤_}
 use native.Mathlib.Omega.{arith}
 use lib.Dec.{leb, ltb, eqb}
-use lib.ListN.{length}
+use lib.ListN.{length, length-map}
 use borrow.Author.Tests.{eqb-true, eqb-false, eq-eqb, ne-eqb, lt-ltb, le-leb, not-true}
-use Rattle.model.specs.Lists.{all, any, keep, concat, mem, distinct, ascending, index-of}
-use Rattle.model.specs.Values.{Label, Dart, Limits, finite}
-use Rattle.model.specs.Cells.{around, cycle, vertex, faces, start-of, vertices, vertex-number, held}
+use Rattle.model.specs.Lists.{all, any, keep, concat, mem, distinct, ascending, firsts, index-of, find}
+use Rattle.model.specs.Values.{Label, free, Dart, Limits, finite}
+use Rattle.model.specs.Cells.{around, cycle, volume, vertex, faces, start-of, vertices, vertex-number, held, dart-at, next-in, opposite-in}
 use Rattle.model.specs.Sound.{Fit}
 use Rattle.model.specs.Messages.{Transfer}
 use Rattle.model.specs.Departure.{same-pair, pairs-once, vertex-pairs}
-use Rattle.model.specs.Arrival.{Side, sides, reverses, face-serials, serials-new, faces-ordered, pairs-right, addressed}
+use Rattle.model.specs.Arrival.{Side, sides, reverses, first-serial, new-darts, face-serials, serials-new, faces-ordered, pairs-right, one-volume, vertices-right, volume-right, addressed}
 use Rattle.model.specs.Runs.{Request, State, nx, op, cell}
+use Rattle.laws.proofs.Carry.{volume-cong, vertex-cong}
 use Rattle.laws.proofs.Faces.{order-has, order-only}
-use Rattle.laws.proofs.Members.{In, in-here, in-there, in-keep, keep-less, in-cons, in-eq, all-from, any-in, distinct-not, keep-ascending, ascending-distinct, Each, all-map, any-map, map-map, in-map, map-in}
-use Rattle.laws.proofs.Tests.{by-cases, and-intro, and-left, and-right, not-equal}
-use Rattle.agreement.proofs.Arrived.{some-dart, once-only, order-distinct}
+use Rattle.laws.proofs.Members.{In, in-here, in-there, in-keep, keep-less, in-cons, in-eq, all-from, any-in, distinct-not, keep-ascending, ascending-distinct, Each, all-map, any-map, map-map, map-cong, in-map, map-in}
+use Rattle.laws.proofs.Tests.{by-cases, and-intro, and-left, and-right, not-equal, same-list-self}
+use Rattle.laws.proofs.Volumes.{Volume, volume-is}
+use Rattle.agreement.proofs.Arrived.{some-dart, once-only, new-are, order-distinct}
 use Rattle.agreement.proofs.Described.{pt, block-by, Map, Inv, darts-by, held-by}
 use Rattle.agreement.proofs.Moved.{Served, moved-cell}
-use Rattle.agreement.proofs.MovedCell.{Cell}
+use Rattle.agreement.proofs.MovedCell.{Cell, round-again, reached-from}
 use Rattle.agreement.proofs.NewLabels.{index-one, next-one-cell}
 use Rattle.agreement.proofs.Rebuilt.{side-of, reverse-there, firsts-have, firsts-only, sides-order}
 use Rattle.agreement.proofs.Received.{each-weaken, faces-back}
@@ -205,3 +208,90 @@ module _ (lims : ℕ → Limits) (fit : Fit lims) (k : ℕ) (u : State) (label :
   unfolding pairs-right
   right-pairs = rw sides-are (and-intro (ap pairs-once (map-map (side-of (nx u) num) (λ a. (a .tail, a .head)) order₄) ∙ pairs-numbered)
       (all-map (λ a. any (reverses a) (map (side-of (nx u) num) order₄)) (side-of (nx u) num) order₄ ∙ all-from (λ x. any (reverses (side-of (nx u) num x)) (map (side-of (nx u) num) order₄)) order₄ (λ x m. reverse-present x (in-v x m))))
+
+  -- the darts of the transfer, looked up
+  abbrev new₄ : List Dart
+  new₄ = new-darts t₄
+
+  abbrev again₄ : ℕ → Dart
+  again₄ x = record { serial = x; next = nx u x; opposite = op u x; third = free; point = pt u x }
+
+  find-again : (l : List ℕ) (x : ℕ) → find (λ d. d .serial) x (map again₄ l) ≡ cond (mem x l) (some (again₄ x)) none
+  find-again [] x = refl
+  find-again (y ∷ l) x = by-cases (eqb x y) (λ e. rw (e, eqb-true x y e)) (λ e. rw e (find-again l x))
+
+  pub new-at : (x : ℕ) → In x v₄ → dart-at new₄ x ≡ again₄ x
+  unfolding dart-at
+  new-at x h = rw (new-are lims fit k u label I r S, find-again order₄ x, v-in x h)
+
+  new-next : (x : ℕ) → In x v₄ → next-in new₄ x ≡ nx u x
+  new-next x h = ap (λ (d : Dart). d .next) (new-at x h)
+
+  new-opposite : (x : ℕ) → In x v₄ → opposite-in new₄ x ≡ op u x
+  new-opposite x h = ap (λ (d : Dart). d .opposite) (new-at x h)
+
+  -- one volume: every dart of the cell is reached from any other
+  module _ (x₀ : ℕ) (h₀ : In x₀ v₄) where
+    abbrev W : List ℕ
+    W = volume (nx u) (op u) x₀
+
+    W-is : Volume (nx u) (op u) x₀ W
+    W-is = volume-is (nx u) (op u) v₄ (C₄ .next-closed) (C₄ .opposite-closed) (C₄ .few) x₀ h₀
+
+    W-back : (y : ℕ) → In y (u .darts) → In (nx u y) W → In y W
+    W-back = round-again u M₄ (λ z. In z W) (W-is .closed-f)
+
+    s-there : In (r .serial) W
+    s-there = reached-from lims fit k u label I (r .from) (S .from-below) (r .serial) (S .start-mine) (λ y. In y (u .darts) × (In y W → In (r .serial) W))
+        (S .start-mine .here, λ m. m)
+        (λ y p. (M₄ .next-in-map y (p .0), λ m. p .1 (W-back y (p .0) m)))
+        (λ y p. (M₄ .opposite-in-map y (p .0), λ m. p .1 (subst (λ (z : ℕ). In z W) (M₄ .opposite-twice y (p .0)) (W-is .closed-g (op u y) m))))
+        x₀ h₀ .1 (W-is .here)
+
+    pub one-all : (y : ℕ) → In y v₄ → In y W
+    one-all y h = reached-from lims fit k u label I (r .from) (S .from-below) (r .serial) (S .start-mine) (λ z. In z W) s-there (W-is .closed-f) (W-is .closed-g) y h
+
+  volume-new : (x₀ : ℕ) → In x₀ v₄ → volume (next-in new₄) (opposite-in new₄) x₀ ≡ volume (nx u) (op u) x₀
+  volume-new x₀ h = volume-cong (next-in new₄) (nx u) (λ x. In x v₄) (λ x m. rw (new-next x m) (C₄ .next-closed x m)) new-next (opposite-in new₄) (op u) (λ x m. rw (new-opposite x m) (C₄ .opposite-closed x m)) new-opposite x₀ h
+
+  first-in : In (first-serial (sides t₄)) v₄
+  first-in = rw sides-are (go order₄ in-v (v-in (r .serial) (C₄ .has-start)))
+    where
+      go : (l : List ℕ) → ((x : ℕ) → In x l → In x v₄) → In (r .serial) l → In (first-serial (map (side-of (nx u) num) l)) v₄
+      go [] f h = absurd (true≢false (sym h))
+      go (x ∷ l) f h = f x (in-here x l)
+
+  whole-volume : one-volume t₄ ≡ true
+  unfolding one-volume
+  whole-volume = all-sides _ (λ x h. rw (volume-new (first-serial (sides t₄)) first-in) (one-all (first-serial (sides t₄)) first-in x h))
+
+  -- numbering
+  new-vertex : (x : ℕ) → In x v₄ → vertex (next-in new₄) (opposite-in new₄) x ≡ vertex (nx u) (op u) x
+  new-vertex = vertex-cong (next-in new₄) (nx u) (opposite-in new₄) (op u) (λ x. In x v₄) (λ x m. rw (new-next x m) (C₄ .next-closed x m)) (λ x m. rw (new-opposite x m) (C₄ .opposite-closed x m)) new-next new-opposite
+
+  new-vertices : vertices (next-in new₄) (opposite-in new₄) order₄ ≡ vertices (nx u) (op u) order₄
+  unfolding vertices
+  new-vertices = ap firsts (map-cong _ _ order₄ (λ x m. new-vertex x (in-v x m)))
+
+  new-number : (x : ℕ) → In x v₄ → vertex-number (next-in new₄) (opposite-in new₄) order₄ x ≡ num x
+  unfolding vertex-number
+  new-number x h = rw (new-vertices, new-vertex x h)
+
+  points-count : length (t₄ .points) ≡ length (vertices (nx u) (op u) order₄)
+  unfolding transfer-by
+  points-count = length-map (vertices (nx u) (op u) order₄) (pt u)
+
+  tails-are : map (λ a. a .tail) (sides t₄) ≡ map num order₄
+  tails-are = rw sides-are (map-map (side-of (nx u) num) (λ a. a .tail) order₄)
+
+  numbers-are : map (vertex-number (next-in new₄) (opposite-in new₄) order₄) order₄ ≡ map num order₄
+  numbers-are = map-cong _ _ order₄ (λ x m. new-number x (in-v x m))
+
+  right-vertices : vertices-right t₄ ≡ true
+  unfolding vertices-right
+  right-vertices = rw (side-serials, tails-are, numbers-are, new-vertices, points-count)
+      (and-intro (same-list-self (map num order₄)) (eq-eqb (length (vertices (nx u) (op u) order₄)) (length (vertices (nx u) (op u) order₄)) refl))
+
+  pub nineteen : volume-right t₄ ≡ true
+  unfolding volume-right
+  nineteen = and-intro (and-intro (and-intro ordered-faces right-pairs) whole-volume) right-vertices
