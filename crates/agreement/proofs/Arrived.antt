@@ -117,14 +117,14 @@ module _ (lims : ℕ → Limits) (fit : Fit lims) (k : ℕ) (u : State) (label :
   meeting-next : (x : ℕ) → Meeting x → Meeting (nx u x)
   meeting-next x m = record { in-cell = C₃ .next-closed x (m .in-cell); facing = facing-next u M₃ (r .from) (r .serial) v₃ C₃ (r .to) x (m .in-cell) (m .facing) }
 
-  meeting-crossing : (x : ℕ) → Meeting x → Crossing u x
+  pub meeting-crossing : (x : ℕ) → Meeting x → Crossing u x
   meeting-crossing x m = record {
     here = C₃ .mine x (m .in-cell) .here;
     linked = m .facing .linked;
     other = λ q. S .apart-blocks (sym (C₃ .mine x (m .in-cell) .block) ∙ sym q ∙ m .facing .block);
   }
 
-  across-there : (x : ℕ) → Meeting x → Mine u (r .to) (th u x)
+  pub across-there : (x : ℕ) → Meeting x → Mine u (r .to) (th u x)
   across-there x m = record { here = M₃ .third-in-map x (C₃ .mine x (m .in-cell) .here) (m .facing .linked); block = m .facing .block }
 
   previous-is : (x : ℕ) → Meeting x → previous-in es (th u x) ≡ th u (nx u x)
@@ -139,7 +139,7 @@ module _ (lims : ℕ → Limits) (fit : Fit lims) (k : ℕ) (u : State) (label :
   unfolding cycle
   met-face x m = around-map (nx u) (previous-in es) (th u) Meeting meeting-next previous-is third-one x 4096 x m m
 
-  labelled-there : (x : ℕ) → Meeting x → labelled (label x) es ≡ dart-by u label (th u x)
+  pub labelled-there : (x : ℕ) → Meeting x → labelled (label x) es ≡ dart-by u label (th u x)
   labelled-there x m = ap (λ (b : ℕ). labelled (label x) (darts-by u label b)) (sym (m .facing .block)) ∙ labelled-by lims k u label I x (meeting-crossing x m)
 
   met-twice : (x : ℕ) → Meeting x → T₃ (th u x) ≡ sewn x
@@ -157,7 +157,7 @@ module _ (lims : ℕ → Limits) (fit : Fit lims) (k : ℕ) (u : State) (label :
   unfolding part2-links dart-by
   met-links-are p again q m = rw (again, labelled-there (q .from-dart) m, met-face (q .from-dart) m, ← q .is-cycle)
 
-  face-meeting : (p : Placed) → (q : Face (p .face)) → Meeting (q .from-dart) → (x : ℕ) → In x (p .face) → Meeting x
+  pub face-meeting : (p : Placed) → (q : Face (p .face)) → Meeting (q .from-dart) → (x : ℕ) → In x (p .face) → Meeting x
   face-meeting p q m x h = record { in-cell = in-face-cell lims fit k u label I r S (p .face) q x h; facing = face-faces lims fit k u label I r S (p .face) q (r .to) (m .facing) x h }
 
   met-gives : (p : Placed) → face-from t₀ (p .at) ≡ p .face → (q : Face (p .face)) → Meeting (q .from-dart) → Gives (met-links p (label (q .from-dart))) T₃
@@ -170,7 +170,7 @@ module _ (lims : ℕ → Limits) (fit : Fit lims) (k : ℕ) (u : State) (label :
   parts2 ps = collect (λ p. part2-entry (r .to) (p .at) (third-by u label (start-of (p .face)))) ps
 
   -- what the start of a face says
-  by-start : {A : Type 0} (P : Third → A → Type 0) (f : List ℕ) (q : Face f) (a : A) → (th u (q .from-dart) ≡ 0 → P free a)
+  pub by-start : {A : Type 0} (P : Third → A → Type 0) (f : List ℕ) (q : Face f) (a : A) → (th u (q .from-dart) ≡ 0 → P free a)
       → (th u (q .from-dart) ≢ 0 → u .number (th u (q .from-dart)) ≡ r .from → P (sewn (th u (q .from-dart))) a)
       → (th u (q .from-dart) ≢ 0 → u .number (th u (q .from-dart)) ≢ r .from → P (critical (u .number (th u (q .from-dart))) (label (q .from-dart))) a)
       → P (third-by u label (start-of f)) a

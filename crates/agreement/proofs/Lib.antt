@@ -14,3 +14,4 @@ pub mod Sent
 pub mod Received
 pub mod Arrived
 pub mod Passes
+pub mod Parts

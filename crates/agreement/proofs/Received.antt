@@ -37,12 +37,12 @@ each-keep P q [] p = tt
 each-keep P q (x ∷ l) p = by-cases (q x) (λ e. rw e (p .0, each-keep P q l (p .1))) (λ e. rw e (each-keep P q l (p .1)))
 
 -- FACES BY THE INDEX OF THEIR START
-placed-low : (a : ℕ) (fs : List (List ℕ)) → Each (λ q. a ≤ q .at) (placed a fs)
+pub placed-low : (a : ℕ) (fs : List (List ℕ)) → Each (λ q. a ≤ q .at) (placed a fs)
 unfolding placed
 placed-low a [] = tt
 placed-low a (f ∷ fs) = (omega arith, each-weaken (placed (a + length f) fs) (placed-low (a + length f) fs) (λ q h. omega arith))
 
-placed-find : (a : ℕ) (fs : List (List ℕ)) → Each (λ f. 0 < length f) fs → Each (λ q. find (λ p. p .at) (q .at) (placed a fs) ≡ some q) (placed a fs)
+pub placed-find : (a : ℕ) (fs : List (List ℕ)) → Each (λ f. 0 < length f) fs → Each (λ q. find (λ p. p .at) (q .at) (placed a fs) ≡ some q) (placed a fs)
 unfolding placed
 placed-find a [] n = tt
 placed-find a (f ∷ fs) n = (

@@ -1,0 +1,338 @@
+-- A transfer that send writes passes question 20 at its destination, and 21 is the undivided run's. Assumes nothing.
+use mathlib.Core.Path.{_≡_, refl, sym, _∙_, ap, subst}
+use mathlib.Core.Logic.{_⊎_, inl, inr, _≢_}
+use mathlib.Core.Bool.{Bool, true, false, true≢false, cond, not, _&&_}
+use mathlib.Core.List.{List, [], _∷_, _++_, map}
+use mathlib.Core.Option.{some, Option·some-injective}
+use Prim.Native.Nat.{ℕ, suc, _+_, _<_}
+use native.Mathlib.Omega.{arith}
+use lib.Dec.{leb, ltb, eqb}
+use lib.ListN.{length, length-append, length-map}
+use borrow.Author.Tests.{eqb-true, eqb-false, eq-eqb, lt-ltb, not-true}
+use Rattle.model.specs.Lists.{all, keep, concat, more, collect, zip, mem, distinct, ascending, find}
+use Rattle.model.specs.Values.{Label, Third, free, sewn, critical, Dart, Limits, is-critical-with}
+use Rattle.model.specs.Cells.{around, cycle, start-of, dart-at, next-in}
+use Rattle.model.specs.Sound.{Fit}
+use Rattle.model.specs.Messages.{Transfer, size-all}
+use Rattle.model.specs.Departure.{Placed, placed, part2-entry, part3-from}
+use Rattle.model.specs.Arrival.{new-darts, placed-faces, face-from, indices-right, points-meet, part2-right, consecutive}
+use Rattle.model.specs.Runs.{Request, State, nx, th, cell}
+use Rattle.laws.proofs.Members.{In, in-here, in-there, in-cons, in-eq, all-from, append-in, distinct-append, ascending-distinct, Each, all-map, map-in}
+use Rattle.laws.proofs.Tests.{by-cases, and-intro, and-left, and-right}
+use Rattle.agreement.proofs.Arrived.{all-some, faces-again, Meeting, meeting-crossing, across-there, met-face, labelled-there, face-meeting, by-start}
+use Rattle.agreement.proofs.BlockSound.{same-point-self}
+use Rattle.agreement.proofs.Described.{pt, third-by, dart-by, Map, Inv, darts-by, next-at, point-at, kind-free, kind-sewn, kind-critical, by-kind, next-mine, third-back-linked, crossing-third}
+use Rattle.agreement.proofs.Moved.{Served, moved-cell}
+use Rattle.agreement.proofs.MovedCell.{Cell}
+use Rattle.agreement.proofs.NewLabels.{next-one-cell}
+use Rattle.agreement.proofs.Passes.{all-each, order-length, new-at}
+use Rattle.agreement.proofs.Rebuilt.{face-dart-of}
+use Rattle.agreement.proofs.Received.{each-weaken, placed-low, placed-find, faces-back}
+use Rattle.agreement.proofs.Sent.{placed-each, cell-faces, number-in, IsFace, all-faces, start-is, part4-by, is-inner-face, transfer-by}
+
+-- INDICES
+ascending-kept : {A : Type 0} (f : A → ℕ) (p : A → Bool) (l : List A) → ascending (map f l) ≡ true → ascending (map f (keep p l)) ≡ true
+unfolding ascending
+ascending-kept f p [] a = refl
+ascending-kept f p (x ∷ l) a =
+    let rest = ascending-kept f p l (and-right (all (ltb (f x)) (map f l)) _ a) in
+    by-cases (p x) (λ e. rw e (and-intro (all-kept (ltb (f x)) l (and-left (all (ltb (f x)) (map f l)) _ a)) rest)) (λ e. rw e rest)
+  where
+    all-kept : (q : ℕ → Bool) (m : List _) → all q (map f m) ≡ true → all q (map f (keep p m)) ≡ true
+    all-kept q [] h = refl
+    all-kept q (y ∷ m) h = by-cases (p y) (λ e. rw e (and-intro (and-left (q (f y)) _ h) (all-kept q m (and-right (q (f y)) _ h)))) (λ e. rw e (all-kept q m (and-right (q (f y)) _ h)))
+
+placed-ascend : (n : ℕ) (fs : List (List ℕ)) → Each (λ f. 0 < length f) fs → ascending (map (λ p. p .at) (placed n fs)) ≡ true
+unfolding placed ascending
+placed-ascend n [] e = refl
+placed-ascend n (f ∷ fs) e = and-intro (above (n + length f) fs (let m = e .0 in omega arith)) (placed-ascend (n + length f) fs (e .1))
+  where
+    above : (a : ℕ) (gs : List (List ℕ)) → n < a → all (ltb n) (map (λ p. p .at) (placed a gs)) ≡ true
+    above a gs h = all-map (ltb n) (λ p. p .at) (placed a gs) ∙ all-each (λ p. ltb n (p .at)) (placed a gs) (each-weaken (placed a gs) (placed-low a gs) (λ q m. lt-ltb n (q .at) (omega arith)))
+
+kept-mem : (p : Placed → Bool) (l : List Placed) (i : ℕ) → In i (map (λ q. q .at) (keep p l)) → In i (map (λ q. q .at) l)
+kept-mem p [] i h = h
+kept-mem p (q ∷ l) i h = by-cases (p q)
+    (λ e. in-cons i (q .at) (map (λ q. q .at) (keep p l)) (rw e at h) (λ s. in-eq i (q .at) (q .at ∷ map (λ q. q .at) l) s (in-here (q .at) (map (λ q. q .at) l))) (λ s. in-there i (q .at) (map (λ q. q .at) l) (kept-mem p l i s)))
+    (λ e. in-there i (q .at) (map (λ q. q .at) l) (kept-mem p l i (rw e at h)))
+
+-- the face of an index that is kept
+kept-at : (P : Placed → Type 0) (all-placed : List Placed) (p : Placed → Bool) (l : List Placed) (i : ℕ) → Each (λ q. find (λ p. p .at) (q .at) all-placed ≡ some q) l → Each P l
+    → In i (map (λ q. q .at) (keep p l)) → (q : Placed) × (find (λ p. p .at) i all-placed ≡ some q) × (p q ≡ true) × P q
+kept-at P all-placed p [] i e f h = absurd (true≢false (sym h))
+kept-at P all-placed p (q ∷ l) i e f h = by-cases (p q)
+    (λ t. in-cons i (q .at) (map (λ q. q .at) (keep p l)) (rw t at h) (λ s. (q, ap (λ (n : ℕ). find (λ p. p .at) n all-placed) s ∙ e .0, t, f .0)) (λ s. kept-at P all-placed p l i (e .1) (f .1) s))
+    (λ t. kept-at P all-placed p l i (e .1) (f .1) (rw t at h))
+
+-- tests that exclude each other keep no index twice
+kept-apart : (P : Placed → Type 0) (all-placed : List Placed) (p q : Placed → Bool) → Each (λ w. find (λ p. p .at) (w .at) all-placed ≡ some w) all-placed → Each P all-placed
+    → ((w : Placed) → P w → p w ≡ true → q w ≡ true → ⊥)
+    → (i : ℕ) → In i (map (λ w. w .at) (keep p all-placed)) → mem i (map (λ w. w .at) (keep q all-placed)) ≡ false
+kept-apart P all-placed p q e f x i h = go (mem i (map (λ w. w .at) (keep q all-placed))) refl
+  where
+    go : (o : Bool) → mem i (map (λ w. w .at) (keep q all-placed)) ≡ o → mem i (map (λ w. w .at) (keep q all-placed)) ≡ false
+    go false m = m
+    go true m =
+        let a = kept-at P all-placed p all-placed i e f h in
+        let b = kept-at P all-placed q all-placed i e f m in
+        absurd (x (a .0) (a .3) (a .2) (subst (λ (w : Placed). q w ≡ true) (Option·some-injective (b .0) (a .0) (sym (b .1) ∙ a .1)) (b .2)))
+
+part3-indices : (c : ℕ) (l : List ℕ) → map (λ m. m .index) (part3-from c l) ≡ l
+unfolding part3-from
+part3-indices c [] = refl
+part3-indices c (i ∷ l) = ap (λ (t : List ℕ). i ∷ t) (part3-indices (suc c) l)
+
+part3-consecutive : (c : ℕ) (l : List ℕ) → consecutive (part3-from c l) ≡ true
+unfolding part3-from
+part3-consecutive c [] = refl
+part3-consecutive c (i ∷ []) = refl
+part3-consecutive c (i ∷ n ∷ l) = and-intro (eq-eqb (suc c) (suc c) refl) (part3-consecutive (suc c) (n ∷ l))
+
+-- distinct values of distinct elements
+pub distinct-map : (f : ℕ → ℕ) (l : List ℕ) → distinct l ≡ true → ((x y : ℕ) → In x l → In y l → f x ≡ f y → x ≡ y) → distinct (map f l) ≡ true
+distinct-map f [] d o = refl
+distinct-map f (x ∷ l) d o = and-intro (go (mem (f x) (map f l)) refl) (distinct-map f l (and-right (not (mem x l)) _ d) (λ y z m n. o y z (in-there y x l m) (in-there z x l n)))
+  where
+    go : (t : Bool) → mem (f x) (map f l) ≡ t → not (mem (f x) (map f l)) ≡ true
+    go false e = rw e
+    go true e = let q = map-in f l (f x) e in
+        absurd (true≢false (sym (in-eq x (q .0) l (o x (q .0) (in-here x l) (in-there (q .0) x l (q .1)) (q .2)) (q .1)) ∙ not-true (mem x l) (and-left _ _ d)))
+
+size-concat : (nx number : ℕ → ℕ) (fs : List (List ℕ)) → size-all (map (λ f. map (face-dart-of nx number) f) fs) ≡ length (concat fs)
+unfolding size-all concat
+size-concat nx number [] = refl
+size-concat nx number (f ∷ fs) = rw (length-append f (concat fs), size-concat nx number fs, length-map f (face-dart-of nx number))
+
+module _ (lims : ℕ → Limits) (fit : Fit lims) (k : ℕ) (u : State) (label : ℕ → Label) (I : Inv lims k u label) (r : Request) (S : Served lims k u r) where
+  abbrev M₅ : Map u
+  M₅ = I .map-sound
+
+  abbrev v₅ : List ℕ
+  v₅ = cell u (r .serial)
+
+  abbrev C₅ : Cell u (r .from) (r .serial) v₅
+  C₅ = moved-cell lims fit k u label I r S
+
+  abbrev es₅ : List Dart
+  es₅ = darts-by u label (r .to)
+
+  abbrev t₅ : Transfer
+  t₅ = transfer-by lims fit k u label I r S
+
+  abbrev F₅ : List (List ℕ)
+  F₅ = cell-faces lims fit k u label I r S
+
+  abbrev PF₅ : List Placed
+  PF₅ = placed 0 F₅
+
+  abbrev Face₅ : List ℕ → Type 0
+  Face₅ f = IsFace lims fit k u label I r S f
+
+  one₅ : (x y : ℕ) → In x v₅ → In y v₅ → nx u x ≡ nx u y → x ≡ y
+  one₅ = next-one-cell u M₅ (r .from) (r .serial) v₅ C₅
+
+  -- 21
+  pub size-is : size-all (t₅ .faces) ≡ length v₅
+  unfolding transfer-by
+  size-is = size-concat (nx u) (number-in lims fit k u label I r S) F₅ ∙ order-length lims fit k u label I r S
+
+  -- which part a face is in, by the third link of its start
+  abbrev is2 : Third → Bool
+  is2 free = false
+  is2 (sewn y) = false
+  is2 (critical o l) = eqb o (r .to)
+
+  abbrev is4 : Third → Bool
+  is4 free = false
+  is4 (sewn y) = false
+  is4 (critical o l) = not (eqb o (r .to))
+
+  abbrev in2 : List ℕ → Bool
+  in2 f = is2 (third-by u label (start-of f))
+
+  abbrev in3 : List ℕ → Bool
+  in3 = is-inner-face lims fit k u label I r S
+
+  abbrev in4 : List ℕ → Bool
+  in4 f = is4 (third-by u label (start-of f))
+
+  indices2 : (ps : List Placed) → map (λ m. m .index) (collect (λ p. part2-entry (r .to) (p .at) (third-by u label (start-of (p .face)))) ps) ≡ map (λ p. p .at) (keep (λ p. in2 (p .face)) ps)
+  indices2 [] = refl
+  indices2 (p ∷ ps) = go (third-by u label (start-of (p .face))) (indices2 ps)
+    where
+      go : (x : Third) → map (λ m. m .index) (collect (λ p. part2-entry (r .to) (p .at) (third-by u label (start-of (p .face)))) ps) ≡ map (λ p. p .at) (keep (λ p. in2 (p .face)) ps)
+          → map (λ m. m .index) (more (part2-entry (r .to) (p .at) x) (collect (λ p. part2-entry (r .to) (p .at) (third-by u label (start-of (p .face)))) ps))
+          ≡ map (λ p. p .at) (cond (is2 x) (p ∷ keep (λ p. in2 (p .face)) ps) (keep (λ p. in2 (p .face)) ps))
+      go free ih = ih
+      go (sewn y) ih = ih
+      go (critical o l) ih = by-cases (eqb o (r .to)) (λ e. rw e (ap (λ (t : List ℕ). p .at ∷ t) ih)) (λ e. rw e ih)
+
+  indices4 : (ps : List Placed) → map (λ m. m .index) (collect (λ p. part4-by lims fit k u label I r S p (third-by u label (start-of (p .face)))) ps) ≡ map (λ p. p .at) (keep (λ p. in4 (p .face)) ps)
+  indices4 [] = refl
+  indices4 (p ∷ ps) = go (third-by u label (start-of (p .face))) (indices4 ps)
+    where
+      go : (x : Third) → map (λ m. m .index) (collect (λ p. part4-by lims fit k u label I r S p (third-by u label (start-of (p .face)))) ps) ≡ map (λ p. p .at) (keep (λ p. in4 (p .face)) ps)
+          → map (λ m. m .index) (more (part4-by lims fit k u label I r S p x) (collect (λ p. part4-by lims fit k u label I r S p (third-by u label (start-of (p .face)))) ps))
+          ≡ map (λ p. p .at) (cond (is4 x) (p ∷ keep (λ p. in4 (p .face)) ps) (keep (λ p. in4 (p .face)) ps))
+      go free ih = ih
+      go (sewn y) ih = ih
+      go (critical o l) ih = by-cases (eqb o (r .to)) (λ e. rw e ih) (λ e. rw e (ap (λ (t : List ℕ). p .at ∷ t) ih))
+
+  abbrev at2 : List ℕ
+  at2 = map (λ p. p .at) (keep (λ p. in2 (p .face)) PF₅)
+
+  abbrev at3 : List ℕ
+  at3 = map (λ p. p .at) (keep (λ p. in3 (p .face)) PF₅)
+
+  abbrev at4 : List ℕ
+  at4 = map (λ p. p .at) (keep (λ p. in4 (p .face)) PF₅)
+
+  two-indices : map (λ m. m .index) (t₅ .part2) ≡ at2
+  unfolding transfer-by
+  two-indices = indices2 PF₅
+
+  three-indices : map (λ m. m .index) (t₅ .part3) ≡ at3
+  unfolding transfer-by
+  three-indices = part3-indices (u .count (r .from)) at3
+
+  four-indices : map (λ m. m .index) (t₅ .part4) ≡ at4
+  unfolding transfer-by
+  four-indices = indices4 PF₅
+
+  placed-same : placed-faces t₅ ≡ PF₅
+  unfolding placed-faces transfer-by
+  placed-same = ap (placed 0) (faces-back (nx u) (number-in lims fit k u label I r S) F₅)
+
+  -- no face is in two parts
+  not-2-4 : (f : List ℕ) → in2 f ≡ true → in4 f ≡ true → ⊥
+  not-2-4 f a b = go (third-by u label (start-of f)) a b
+    where
+      go : (x : Third) → is2 x ≡ true → is4 x ≡ true → ⊥
+      go free a b = true≢false (sym a)
+      go (sewn y) a b = true≢false (sym a)
+      go (critical o l) a b = true≢false (sym a ∙ not-true (eqb o (r .to)) b)
+
+  -- an inner face is sewn, so it is in neither of the others
+  inner-kind : (f : List ℕ) → Face₅ f → in3 f ≡ true → (in2 f ≡ false) × (in4 f ≡ false)
+  inner-kind f q e =
+      let st = q .from-dart in
+      let same = start-is lims fit k u label I r S f q in
+      let two = not (eqb (th u (start-of f)) 0) && not (mem (th u (start-of f)) v₅) in
+      let t : th u (start-of f) ≢ 0 = eqb-false (th u (start-of f)) 0 (not-true _ (and-left (not (eqb (th u (start-of f)) 0)) _ (and-left two _ e))) in
+      let b : u .number (th u (start-of f)) ≡ r .from = eqb-true _ _ (and-right two _ e) in
+      let home : u .number (start-of f) ≡ r .from = ap (u .number) same ∙ C₅ .mine st (q .in-cell) .block in
+      let sewn-there = kind-sewn u label (start-of f) t (b ∙ sym home) in
+      (ap is2 sewn-there, ap is4 sewn-there)
+
+  placed-found : Each (λ w. find (λ p. p .at) (w .at) PF₅ ≡ some w) PF₅
+  placed-found = placed-find 0 F₅ (all-some lims fit k u label I r S)
+
+  placed-faces₅ : Each (λ w. Face₅ (w .face)) PF₅
+  placed-faces₅ = placed-each Face₅ 0 F₅ (all-faces lims fit k u label I r S)
+
+  all-ascend : ascending (map (λ p. p .at) PF₅) ≡ true
+  all-ascend = placed-ascend 0 F₅ (all-some lims fit k u label I r S)
+
+  apart-parts : (p q : List ℕ → Bool) → ((f : List ℕ) → Face₅ f → p f ≡ true → q f ≡ true → ⊥)
+      → (i : ℕ) → In i (map (λ w. w .at) (keep (λ w. p (w .face)) PF₅)) → mem i (map (λ w. w .at) (keep (λ w. q (w .face)) PF₅)) ≡ false
+  apart-parts p q x = kept-apart (λ w. Face₅ (w .face)) PF₅ (λ w. p (w .face)) (λ w. q (w .face)) placed-found placed-faces₅ (λ w. x (w .face))
+
+  part-ascends : (p : List ℕ → Bool) → ascending (map (λ w. w .at) (keep (λ w. p (w .face)) PF₅)) ≡ true
+  part-ascends p = ascending-kept (λ w. w .at) (λ w. p (w .face)) PF₅ all-ascend
+
+  not-2-3 : (f : List ℕ) → Face₅ f → in2 f ≡ true → in3 f ≡ true → ⊥
+  not-2-3 f q a b = true≢false (sym a ∙ inner-kind f q b .0)
+
+  not-3-4 : (f : List ℕ) → Face₅ f → in3 f ≡ true → in4 f ≡ true → ⊥
+  not-3-4 f q a b = true≢false (sym b ∙ inner-kind f q a .1)
+
+  indices-apart : distinct (at2 ++ at3 ++ at4) ≡ true
+  indices-apart = distinct-append (at2 ++ at3) at4
+      (distinct-append at2 at3 (ascending-distinct at2 (part-ascends in2)) (ascending-distinct at3 (part-ascends in3)) (apart-parts in2 in3 not-2-3))
+      (ascending-distinct at4 (part-ascends in4))
+      (λ i h. go i (append-in i at2 at3 h))
+    where
+      go : (i : ℕ) → In i at2 ⊎ In i at3 → mem i at4 ≡ false
+      go i (inl m) = apart-parts in2 in4 (λ f q. not-2-4 f) i m
+      go i (inr m) = apart-parts in3 in4 not-3-4 i m
+
+  indices-there : all (λ i. mem i (map (λ p. p .at) PF₅)) (at2 ++ at3 ++ at4) ≡ true
+  indices-there = all-from (λ i. mem i (map (λ p. p .at) PF₅)) (at2 ++ at3 ++ at4) (λ i h. go i (append-in i (at2 ++ at3) at4 h))
+    where
+      two : (i : ℕ) → In i at2 ⊎ In i at3 → In i (map (λ p. p .at) PF₅)
+      two i (inl m) = kept-mem (λ w. in2 (w .face)) PF₅ i m
+      two i (inr m) = kept-mem (λ w. in3 (w .face)) PF₅ i m
+
+      go : (i : ℕ) → In i (at2 ++ at3) ⊎ In i at4 → In i (map (λ p. p .at) PF₅)
+      go i (inl m) = two i (append-in i at2 at3 m)
+      go i (inr m) = kept-mem (λ w. in4 (w .face)) PF₅ i m
+
+  right-indices : indices-right t₅ ≡ true
+  unfolding indices-right
+  right-indices = rw (two-indices, three-indices, four-indices, placed-same)
+      (and-intro (and-intro (and-intro (and-intro indices-there (part-ascends in2)) (part-ascends in3)) (part-ascends in4)) indices-apart)
+
+  -- PART 2
+  abbrev Meets₅ : ℕ → Type 0
+  Meets₅ x = Meeting lims fit k u label I r S x
+
+  points-right : (x : ℕ) → Meets₅ x → points-meet es₅ t₅ x (th u x) ≡ true
+  unfolding points-meet
+  points-right x m =
+      let h = m .in-cell in
+      let d = C₅ .mine x h .here in
+      let y = across-there lims fit k u label I r S x m in
+      let t = m .facing .linked in
+      let back = M₅ .third-twice x d t in
+      let here : dart-at (new-darts t₅) x .point ≡ pt u x = ap (λ (e : Dart). e .point) (new-at lims fit k u label I r S x h) in
+      let after-here : dart-at (new-darts t₅) (next-in (new-darts t₅) x) .point ≡ pt u (nx u x) =
+      ap (λ (z : ℕ). dart-at (new-darts t₅) z .point) (ap (λ (e : Dart). e .next) (new-at lims fit k u label I r S x h)) ∙ ap (λ (e : Dart). e .point) (new-at lims fit k u label I r S (nx u x) (C₅ .next-closed x h)) in
+      let after-there : dart-at es₅ (next-in es₅ (th u x)) .point ≡ pt u (nx u (th u x)) =
+      ap (λ (z : ℕ). dart-at es₅ z .point) (next-at u label (r .to) (th u x) y) ∙ point-at u label (r .to) (nx u (th u x)) (next-mine u M₅ (r .to) (th u x) y) in
+      and-intro (same-point-self _ _ (here ∙ M₅ .point-third x d t ∙ sym after-there))
+      (same-point-self _ _ (point-at u label (r .to) (th u x) y ∙ M₅ .point-third (th u x) (y .here) (third-back-linked u M₅ x d t) ∙ ap (λ (z : ℕ). pt u (nx u z)) back ∙ sym after-here))
+
+  zip-points : (f : List ℕ) → ((x : ℕ) → In x f → Meets₅ x) → all (λ p. points-meet es₅ t₅ (p .0) (p .1)) (zip f (map (th u) f)) ≡ true
+  zip-points [] h = refl
+  zip-points (x ∷ f) h = and-intro (points-right x (h x (in-here x f))) (zip-points f (λ y m. h y (in-there y x f m)))
+
+  names-sender : (x : ℕ) → Meets₅ x → is-critical-with (r .from) (third-by u label (th u x)) ≡ true
+  names-sender x m =
+      let d = C₅ .mine x (m .in-cell) .here in
+      let ct = crossing-third u M₅ x (meeting-crossing lims fit k u label I r S x m) in
+      rw (kind-critical u label (th u x) (ct .linked) (ct .other)) (eq-eqb (r .from) (u .number (th u (th u x))) (sym (ap (u .number) (M₅ .third-twice x d (m .facing .linked)) ∙ C₅ .mine x (m .in-cell) .block)))
+
+  face2 : (p : Placed) → face-from t₅ (p .at) ≡ p .face → (q : Face₅ (p .face)) → Meets₅ (q .from-dart) → part2-right es₅ t₅ (record { label = label (q .from-dart); index = p .at }) ≡ true
+  unfolding part2-right dart-by transfer-by
+  face2 p again q m = rw (labelled-there lims fit k u label I r S (q .from-dart) m, again, met-face lims fit k u label I r S (q .from-dart) m, ← q .is-cycle)
+      (and-intro (and-intro (names-sender (q .from-dart) m) (eq-eqb (length (p .face)) (length (map (th u) (p .face))) (sym (length-map (p .face) (th u)))))
+      (zip-points (p .face) (face-meeting lims fit k u label I r S p q m)))
+
+  all2 : (ps : List Placed) → Each (λ q. face-from t₅ (q .at) ≡ q .face) ps → Each (λ q. Face₅ (q .face)) ps
+      → all (part2-right es₅ t₅) (collect (λ p. part2-entry (r .to) (p .at) (third-by u label (start-of (p .face)))) ps) ≡ true
+  all2 [] a f = refl
+  all2 (p ∷ ps) a f = by-start lims fit k u label I r S {A = Unit {0}}
+      (λ x w. all (part2-right es₅ t₅) (more (part2-entry (r .to) (p .at) x) (collect (λ p. part2-entry (r .to) (p .at) (third-by u label (start-of (p .face)))) ps)) ≡ true) (p .face) (f .0) tt
+      (λ e. all2 ps (a .1) (f .1))
+      (λ t e. all2 ps (a .1) (f .1))
+      (λ t e. by-cases (eqb (u .number (th u (f .0 .from-dart))) (r .to))
+      (λ c. rw c (and-intro (face2 p (a .0) (f .0) (record { in-cell = f .0 .in-cell; facing = record { linked = t; block = eqb-true _ _ c } })) (all2 ps (a .1) (f .1))))
+      (λ c. rw c (all2 ps (a .1) (f .1))))
+
+  right2 : all (part2-right es₅ t₅) (t₅ .part2) ≡ true
+  unfolding transfer-by
+  right2 = all2 PF₅ (faces-again lims fit k u label I r S) placed-faces₅
+
+  -- on different faces
+  abbrev all-starts : List ℕ
+  all-starts = keep (λ x. all (leb x) (cycle (nx u) x)) v₅
+
+  labels2 : (n : ℕ) (l : List ℕ) → map (λ m. m .label) (collect (λ p. part2-entry (r .to) (p .at) (third-by u label (start-of (p .face)))) (placed n (map (cycle (nx u)) l))) ≡ map label (keep (λ x. is2 (third-by u label x)) l)
+  unfolding placed cycle around
+  labels2 n [] = refl
+  labels2 n (x ∷ l) = by-kind u label x
+      (λ e. rw (kind-free u label x e) (labels2 (n + length (cycle (nx u) x)) l))
+      (λ t e. rw (kind-sewn u label x t e) (labels2 (n + length (cycle (nx u) x)) l))
+      (λ t e. rw (kind-critical u label x t e) (by-cases (eqb (u .number (th u x)) (r .to))
+      (λ c. rw c (ap (λ (w : List Label). label x ∷ w) (labels2 (n + length (cycle (nx u) x)) l)))
+      (λ c. rw c (labels2 (n + length (cycle (nx u) x)) l))))
