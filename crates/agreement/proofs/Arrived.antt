@@ -226,12 +226,12 @@ module _ (lims : ℕ → Limits) (fit : Fit lims) (k : ℕ) (u : State) (label :
   abbrev cuts₃ : List (List ℕ)
   cuts₃ = cuts lims fit k u label I r S
 
-  links3 : concat-map (part3-links t₀) (t₀ .part3) ≡ label-faces (λ x. x) (r .from) (r .from) (u .count (r .from)) cuts₃
+  pub links3 : concat-map (part3-links t₀) (t₀ .part3) ≡ label-faces (λ x. x) (r .from) (r .from) (u .count (r .from)) cuts₃
   unfolding transfer-by
   links3 = part3-is t₀ (u .count (r .from)) (keep (λ p. is-inner-face lims fit k u label I r S (p .face)) PF) (each-keep _ _ PF faces-again)
       ∙ ap (label-faces (λ x. x) (r .from) (r .from) (u .count (r .from))) (placed-keep (is-inner-face lims fit k u label I r S) 0 F)
 
-  cut-dart : (x : ℕ) → In x (concat cuts₃) → In x v₃ × Facing u (r .from) x
+  pub cut-dart : (x : ℕ) → In x (concat cuts₃) → In x v₃ × Facing u (r .from) x
   cut-dart = cut-in u M₃ (r .from) (r .serial) v₃ C₃ (S .leaves)
 
   parts3-give : Gives (concat-map (part3-links t₀) (t₀ .part3)) T₃
@@ -245,7 +245,7 @@ module _ (lims : ℕ → Limits) (fit : Fit lims) (k : ℕ) (u : State) (label :
   abbrev parts4 : List Placed → List Part4
   parts4 ps = collect (λ p. part4-by lims fit k u label I r S p (third-by u label (start-of (p .face)))) ps
 
-  abbrev kept-links : ℕ → List ℕ → List Link
+  abbrev pub kept-links : ℕ → List ℕ → List Link
   kept-links o f = map (λ q. record { dart = q .0; third = critical o (q .1) }) (zip f (map label f))
 
   kept-give : (o : ℕ) (f : List ℕ) → ((x : ℕ) → In x f → T₃ x ≡ critical o (label x)) → Gives (kept-links o f) T₃
@@ -256,7 +256,7 @@ module _ (lims : ℕ → Limits) (fit : Fit lims) (k : ℕ) (u : State) (label :
   kept-reach o [] x m e = true≢false (sym m)
   kept-reach o (y ∷ f) x m e = by-cases (eqb x y) (λ t. Option·none-ne-some _ (sym (rw t at e))) (λ t. kept-reach o f x (rw t at m) (rw t at e))
 
-  part4-face : (p : Placed) (o : ℕ) → face-from t₀ (p .at) ≡ p .face → part4-links t₀ (record { index = p .at; other = o; labels = map label (p .face) }) ≡ kept-links o (p .face)
+  pub part4-face : (p : Placed) (o : ℕ) → face-from t₀ (p .at) ≡ p .face → part4-links t₀ (record { index = p .at; other = o; labels = map label (p .face) }) ≡ kept-links o (p .face)
   unfolding part4-links
   part4-face p o again = rw again
 

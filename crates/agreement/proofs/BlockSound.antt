@@ -157,7 +157,7 @@ module _ (lims : ℕ → Limits) (k : ℕ) (u : State) (label : ℕ → Label) (
     abbrev codes : List ℕ → List ℕ
     codes l = map code (collect (λ d. label-of (d .third)) (map (dart-by u label) l))
 
-    code-from : (l : List ℕ) → ((x : ℕ) → In x l → Mine u b x) → (v : ℕ) → In v (codes l) → (x : ℕ) × In x l × Crossing u x × (v ≡ code (label x))
+    pub code-from : (l : List ℕ) → ((x : ℕ) → In x l → Mine u b x) → (v : ℕ) → In v (codes l) → (x : ℕ) × In x l × Crossing u x × (v ≡ code (label x))
     unfolding dart-by
     code-from [] m v h = absurd (true≢false (sym h))
     code-from (x ∷ l) m v h =
