@@ -15,3 +15,4 @@ pub mod Received
 pub mod Arrived
 pub mod Passes
 pub mod Parts
+pub mod Written

@@ -34,7 +34,7 @@ held-small ds a x h =
     let d = dart-at ds x in
     rw (← r .1) (and-right (leb 1 (d .serial)) _ (and-left (leb 1 (d .serial) && ltb (d .serial) serial-bound) _ (r .0)))
 
-small-ok : (n most : ℕ) → most < 2 ^ 32 → leb n most ≡ true → at-most most .ok n ≡ true
+pub small-ok : (n most : ℕ) → most < 2 ^ 32 → leb n most ≡ true → at-most most .ok n ≡ true
 unfolding at-most such-that group group-below
 small-ok n most h e = let k = leb-true n most e in and-intro (lt-ltb n (2 ^ 32) (omega arith)) e
 
@@ -64,7 +64,7 @@ finite-small : (n : ℕ) → finite-bits n ≡ true → coordinate .ok n ≡ tru
 unfolding coordinate finite-bits
 finite-small n f = and-left (ltb n (2 ^ 64)) _ f
 
-point-ok : (p : Point) → finite p ≡ true → point .ok p ≡ true
+pub point-ok : (p : Point) → finite p ≡ true → point .ok p ≡ true
 unfolding point as-type _⊕_ _⊗_ finite
 point-ok p f =
     let two = and-left (finite-bits (p .x) && finite-bits (p .y)) _ f in
