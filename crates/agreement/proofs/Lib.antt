@@ -16,3 +16,4 @@ pub mod Arrived
 pub mod Passes
 pub mod Parts
 pub mod Written
+pub mod SentLayout

@@ -123,6 +123,10 @@ pub serial-ok : (v : ℕ) → v < serial-bound → serial .ok v ≡ true
 unfolding serial group-below
 serial-ok v h = lt-ltb v serial-bound h
 
+-- the layout of a label, where a labelling goes by the same name
+abbrev pub label-layout : Layout Label
+label-layout = label
+
 pub label-ok : (l : Label) → l .maker ≤ 15 → l .number < 2 ^ 32 → l .position ≤ 4095 → label .ok l ≡ true
 unfolding label as-type _⊕_ _⊗_
 label-ok l a b c = and-intro (small-ok (l .maker) 15 (omega arith) (le-leb (l .maker) 15 a)) (and-intro (group-ok (l .number) b) (small-ok (l .position) 4095 (omega arith) (le-leb (l .position) 4095 c)))
