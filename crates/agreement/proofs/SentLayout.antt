@@ -2,37 +2,38 @@
 use mathlib.Core.Path.{_≡_, refl, sym, _∙_, ap}
 use mathlib.Core.Logic.{_≢_}
 use mathlib.Core.Bool.{Bool, true, true≢false, not, _&&_}
-use mathlib.Core.List.{List, [], _∷_, map}
+use mathlib.Core.List.{List, [], _∷_, _++_, map}
 use mathlib.Core.Option.{Option, none, some}
-use Prim.Native.Nat.{ℕ, suc, _+_, _-_, _^_, _<_, _≤_}
+use Prim.Native.Nat.{ℕ, suc, _+_, _*_, _-_, _^_, _<_, _≤_}
 use native.Mathlib.Omega.{arith}
 use lib.Dec.{leb, ltb, eqb}
 use lib.ListN.{length, length-append, length-map}
 use borrow.Author.Tests.{eq-eqb, lt-ltb, le-ltb, le-leb}
-use Rattle.model.specs.Lists.{all, keep, concat, more, collect, firsts}
+use Rattle.model.specs.Lists.{all, keep, concat, more, collect, firsts, first-no}
 use Rattle.model.specs.Values.{Label, Limits}
-use Rattle.model.specs.Cells.{cycle, vertex, start-of, vertices, vertex-number}
+use Rattle.model.specs.Cells.{cycle, vertex, start-of, vertices, vertex-number, labels}
 use Rattle.model.specs.Sound.{Fit}
-use Rattle.model.specs.Layouts.{_⊗_, _⊕_, as-type, such-that, at-most, exactly, times, counted}
-use Rattle.model.specs.Messages.{FaceDart, Transfer, point, face-dart, part2, part3, size-all, size-at, part4, part1, transfer}
+use Rattle.model.specs.Layouts.{_⊗_, _⊕_, as-type, such-that, at-most, exactly, times, counted, framed}
+use Rattle.model.specs.Messages.{FaceDart, Part4, Transfer, point, face-dart, part2, part3, size-all, size-at, part4, part1, transfer, a-transfer, message-in}
 use Rattle.model.specs.Departure.{Placed, placed, part2-entry, part3-from}
+use Rattle.model.specs.Arrival.{parts-right, addressed, receive-checks}
 use Rattle.model.specs.Runs.{Request, State, nx, op, th, cell, inner-faces}
 use Rattle.laws.proofs.Faces.{face-few}
 use Rattle.laws.proofs.Members.{In, keep-le, all-from, Each, all-map}
-use Rattle.laws.proofs.Tests.{by-cases, and-intro}
+use Rattle.laws.proofs.Tests.{by-cases, and-intro, yes-then}
 use Rattle.theory.proofs.DemandTwo.{small-ok, point-ok}
 use Rattle.agreement.proofs.Arrived.{some-dart, all-some, by-start}
 use Rattle.agreement.proofs.BlockSound.{label-range}
-use Rattle.agreement.proofs.Described.{pt, third-by, Crossing, Map, Inv}
+use Rattle.agreement.proofs.Described.{pt, third-by, dart-by, members, block-by, Crossing, Map, Inv, darts-by}
 use Rattle.agreement.proofs.Moved.{Served, moved-cell}
 use Rattle.agreement.proofs.MovedCell.{Cell}
 use Rattle.agreement.proofs.NewLabels.{index-in, next-one-cell}
-use Rattle.agreement.proofs.Parts.{size-is}
-use Rattle.agreement.proofs.Passes.{all-each, order-length, vertices-in, vertex-there₄}
+use Rattle.agreement.proofs.Parts.{size-is, twenty}
+use Rattle.agreement.proofs.Passes.{all-each, order-length, seventeen, vertices-in, eighteen, vertex-there₄, nineteen}
 use Rattle.agreement.proofs.Rebuilt.{face-dart-of}
 use Rattle.agreement.proofs.Received.{each-weaken, each-keep, placed-keep}
 use Rattle.agreement.proofs.Sent.{placed-each, cell-faces, number-in, IsFace, all-faces, in-face-cell, face-faces, part4-by, is-inner-face, transfer-by}
-use Rattle.agreement.proofs.Written.{counted-ok, group-ok, serial-ok, label-layout, label-ok}
+use Rattle.agreement.proofs.Written.{counted-short, point-short, at-most-short, exactly-short, face-dart-short, part2-short, part3-short, each-of, part4-short, counted-ok, group-ok, serial-ok, label-layout, label-ok, transfer-back}
 
 abbrev Passing : {B : Type 0} → (B → Bool) → Option B → Type 0
 Passing q none = Unit {0}
@@ -105,6 +106,22 @@ each-map P f (a ∷ l) e = (e .0, each-map P f l (e .1))
 each-and : {A : Type 0} (P Q : A → Type 0) (l : List A) → Each P l → Each Q l → Each (λ a. P a × Q a) l
 each-and P Q [] p q = tt
 each-and P Q (a ∷ l) p q = ((p .0, q .0), each-and P Q l (p .1) (q .1))
+
+abbrev Holding : {B : Type 0} → (B → Type 0) → Option B → Type 0
+Holding P none = Unit {0}
+Holding P (some b) = P b
+
+collect-each : {A B : Type 0} (P : B → Type 0) (f : A → Option B) (l : List A) → Each (λ a. Holding P (f a)) l → Each P (collect f l)
+collect-each P f [] e = tt
+collect-each P f (a ∷ l) e = go (f a) (e .0) (collect-each P f l (e .1))
+  where
+    go : (o : Option _) → Holding P o → Each P (collect f l) → Each P (more o (collect f l))
+    go none p r = r
+    go (some b) p r = (p, r)
+
+each-of-map : {A B : Type 0} (P : B → Type 0) (f : A → B) (l : List A) → Each (λ a. P (f a)) l → Each P (map f l)
+each-of-map P f [] e = tt
+each-of-map P f (a ∷ l) e = (e .0, each-of-map P f l (e .1))
 
 module _ (lims : ℕ → Limits) (fit : Fit lims) (k : ℕ) (u : State) (label : ℕ → Label) (I : Inv lims k u label) (r : Request) (S : Served lims k u r) where
   abbrev M₆ : Map u
@@ -298,3 +315,119 @@ module _ (lims : ℕ → Limits) (fit : Fit lims) (k : ℕ) (u : State) (label :
     where
       ends : (at-most 15 .ok (t₆ .from) ≡ true) × (at-most 15 .ok (t₆ .to) ≡ true)
       ends = unfold transfer-by in ends-ok
+
+  -- LENGTH
+  faces-short : length (counted (counted face-dart) .put (t₆ .faces)) ≤ 5 + 512 * 40965
+  unfolding transfer-by
+  faces-short =
+      let a = counted-short (counted face-dart) 40965 (map (λ f. map (face-dart-of (nx u) num₆) f) F₆) (each-of-map _ (λ f. map (face-dart-of (nx u) num₆) f) F₆ (each-weaken F₆ (all-faces lims fit k u label I r S) one)) in
+      let b = length-map F₆ (λ f. map (face-dart-of (nx u) num₆) f) in
+      let c = faces-few in
+      omega arith
+    where
+      one : (f : List ℕ) → IsFace lims fit k u label I r S f → length (counted face-dart .put (map (face-dart-of (nx u) num₆) f)) ≤ 40965
+      one f q =
+          let a = counted-short face-dart 10 (map (face-dart-of (nx u) num₆) f) (each-of (map (face-dart-of (nx u) num₆) f) face-dart-short) in
+          let b = length-map f (face-dart-of (nx u) num₆) in
+          let c = face-small f q in
+          omega arith
+
+  points-short : length (counted point .put (t₆ .points)) ≤ 5 + 512 * 24
+  unfolding transfer-by
+  points-short =
+      let a = counted-short point 24 (map (pt u) (vertices (nx u) (op u) (concat F₆))) (each-of (map (pt u) (vertices (nx u) (op u) (concat F₆))) point-short) in
+      let b = length-map (vertices (nx u) (op u) (concat F₆)) (pt u) in
+      let c = vertices-few in
+      omega arith
+
+  parts2-short : length (counted part2 .put (t₆ .part2)) ≤ 5 + 512 * 20
+  unfolding transfer-by
+  parts2-short =
+      let ps = collect (λ p. part2-entry (r .to) (p .at) (third-by u label (start-of (p .face)))) PF₆ in
+      let a = counted-short part2 20 ps (each-of ps part2-short) in
+      let b = collect-fewer (λ p. part2-entry (r .to) (p .at) (third-by u label (start-of (p .face)))) PF₆ in
+      let c = placed-count 0 F₆ in
+      let d = faces-few in
+      omega arith
+
+  parts3-short : length (counted part3 .put (t₆ .part3)) ≤ 5 + 512 * 10
+  unfolding transfer-by
+  parts3-short =
+      let ps = part3-from (u .count (r .from)) inner-at in
+      let a = counted-short part3 10 ps (each-of ps part3-short) in
+      let b = part3-length (u .count (r .from)) inner-at in
+      let n = length-map (keep (λ p. is-inner-face lims fit k u label I r S (p .face)) PF₆) (λ p. p .face) in
+      let m = length-map (keep (λ p. is-inner-face lims fit k u label I r S (p .face)) PF₆) (λ p. p .at) in
+      let w = ap length (placed-keep (is-inner-face lims fit k u label I r S) 0 F₆) in
+      let z = kept-fewer (is-inner-face lims fit k u label I r S) F₆ in
+      let d = faces-few in
+      omega arith
+    where
+      kept-fewer : (q : List ℕ → Bool) (l : List (List ℕ)) → length (keep q l) ≤ length l
+      kept-fewer q [] = omega arith
+      kept-fewer q (f ∷ l) = by-cases (q f) (λ e. rw e (let i = kept-fewer q l in omega arith)) (λ e. rw e (let i = kept-fewer q l in omega arith))
+
+  entry4-short : (p : Placed) → Known p → Holding (λ m. length (part4 (t₆ .faces) .put m) ≤ 61450) (part4-by lims fit k u label I r S p (third-by u label (start-of (p .face))))
+  entry4-short p w = by-start lims fit k u label I r S {A = Unit {0}} (λ x z. Holding (λ m. length (part4 (t₆ .faces) .put m) ≤ 61450) (part4-by lims fit k u label I r S p x)) (p .face) (w .0) tt
+      (λ e. tt)
+      (λ t e. tt)
+      (λ t e. by-cases (eqb (u .number (th u (w .0 .from-dart))) (r .to))
+      (λ c. rw c tt)
+      (λ c. rw c (let a = part4-short (t₆ .faces) (record { index = p .at; other = u .number (th u (w .0 .from-dart)); labels = map label (p .face) }) in let b = length-map (p .face) label in let d = face-small (p .face) (w .0) in omega arith)))
+
+  parts4-short : length (counted (part4 (t₆ .faces)) .put (t₆ .part4)) ≤ 5 + 512 * 61450
+  parts4-short = go (t₆ .part4) parts4-are
+    where
+      parts4-are : t₆ .part4 ≡ collect (λ p. part4-by lims fit k u label I r S p (third-by u label (start-of (p .face)))) PF₆
+      parts4-are = unfold transfer-by in refl
+
+      go : (ps : List Part4) → ps ≡ collect (λ p. part4-by lims fit k u label I r S p (third-by u label (start-of (p .face)))) PF₆ → length (counted (part4 (t₆ .faces)) .put ps) ≤ 5 + 512 * 61450
+      go ps e =
+          let a = counted-short (part4 (t₆ .faces)) 61450 ps (rw e (collect-each (λ m. length (part4 (t₆ .faces) .put m) ≤ 61450) _ PF₆ (each-weaken PF₆ known entry4-short))) in
+          let b = collect-fewer (λ p. part4-by lims fit k u label I r S p (third-by u label (start-of (p .face)))) PF₆ in
+          let c = placed-count 0 F₆ in
+          let d = faces-few in
+          let n = ap length e in
+          omega arith
+
+  pub transfer-short : length (transfer .put t₆) < 2 ^ 32
+  unfolding transfer part1 as-type _⊕_ _⊗_ such-that
+  transfer-short =
+      let a = exactly-short 1 1 in
+      let b = at-most-short 15 (t₆ .from) in
+      let c = at-most-short 15 (t₆ .to) in
+      let d = points-short in
+      let e = faces-short in
+      let f = parts2-short in
+      let g = parts3-short in
+      let h = parts4-short in
+      let p1 = exactly 1 .put 1 ++ (at-most 15 .put (t₆ .from) ++ (at-most 15 .put (t₆ .to) ++ (counted point .put (t₆ .points) ++ counted (counted face-dart) .put (t₆ .faces)))) in
+      omega (
+        arith,
+        length-append (exactly 1 .put 1) (at-most 15 .put (t₆ .from) ++ (at-most 15 .put (t₆ .to) ++ (counted point .put (t₆ .points) ++ counted (counted face-dart) .put (t₆ .faces)))),
+        length-append (at-most 15 .put (t₆ .from)) (at-most 15 .put (t₆ .to) ++ (counted point .put (t₆ .points) ++ counted (counted face-dart) .put (t₆ .faces))),
+        length-append (at-most 15 .put (t₆ .to)) (counted point .put (t₆ .points) ++ counted (counted face-dart) .put (t₆ .faces)),
+        length-append (counted point .put (t₆ .points)) (counted (counted face-dart) .put (t₆ .faces)),
+        length-append p1 (counted part2 .put (t₆ .part2) ++ (counted part3 .put (t₆ .part3) ++ counted (part4 (t₆ .faces)) .put (t₆ .part4))),
+        length-append (counted part2 .put (t₆ .part2)) (counted part3 .put (t₆ .part3) ++ counted (part4 (t₆ .faces)) .put (t₆ .part4)),
+        length-append (counted part3 .put (t₆ .part3)) (counted (part4 (t₆ .faces)) .put (t₆ .part4)),
+      )
+
+  -- the transfer is read back
+  pub transfer-read : message-in (framed transfer t₆) ≡ a-transfer t₆
+  transfer-read = transfer-back t₆ transfer-ok transfer-short
+
+  -- THE RECEIVER'S QUESTIONS
+  pub receive-asks : first-no (receive-checks (lims (r .to)) (block-by u label (r .to)) (a-transfer t₆)) ≡ first-no ((21, leb (length (members u (r .to)) + length v₆) (lims (r .to) .block-darts)) ∷ [])
+  unfolding receive-checks block-by
+  receive-asks = yes-then 17 _ _ (seventeen-by) ∙ yes-then 18 _ _ (eighteen lims fit k u label I r S) ∙ yes-then 19 _ _ (nineteen lims fit k u label I r S) ∙ yes-then 20 _ _ twenty-by
+      ∙ ap (λ (n : ℕ). first-no ((21, leb n (lims (r .to) .block-darts)) ∷ [])) sizes-same
+    where
+      seventeen-by : addressed (t₆ .from) (t₆ .to) (record { number = r .to; counter = u .count (r .to); darts = darts-by u label (r .to) }) ≡ true
+      seventeen-by = unfold block-by in (seventeen lims fit k u label I r S)
+
+      twenty-by : parts-right (record { number = r .to; counter = u .count (r .to); darts = darts-by u label (r .to) }) t₆ ≡ true
+      twenty-by = unfold block-by in (twenty lims fit k u label I r S)
+
+      sizes-same : length (darts-by u label (r .to)) + size-all (t₆ .faces) ≡ length (members u (r .to)) + length v₆
+      sizes-same = rw (length-map (members u (r .to)) (dart-by u label), size-is lims fit k u label I r S)

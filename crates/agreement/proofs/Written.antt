@@ -55,11 +55,11 @@ pub point-short : (p : Point) → length (point .put p) ≤ 24
 unfolding point as-type
 point-short p = pair-short coordinate (coordinate ⊕ coordinate) (p .x) (p .y, p .z) 8 16 (coordinate-short (p .x)) (pair-short coordinate coordinate (p .y) (p .z) 8 8 (coordinate-short (p .y)) (coordinate-short (p .z)))
 
-at-most-short : (n v : ℕ) → length (at-most n .put v) ≤ 5
+pub at-most-short : (n v : ℕ) → length (at-most n .put v) ≤ 5
 unfolding at-most such-that
 at-most-short n v = group-short v
 
-exactly-short : (n v : ℕ) → length (exactly n .put v) ≤ 5
+pub exactly-short : (n v : ℕ) → length (exactly n .put v) ≤ 5
 unfolding exactly such-that
 exactly-short n v = group-short v
 
@@ -67,26 +67,26 @@ pub label-short : (l : Label) → length (label .put l) ≤ 15
 unfolding label as-type
 label-short l = pair-short (at-most 15) (group ⊕ at-most 4095) (l .maker) (l .number, l .position) 5 10 (at-most-short 15 (l .maker)) (pair-short group (at-most 4095) (l .number) (l .position) 5 5 (group-short (l .number)) (at-most-short 4095 (l .position)))
 
-face-dart-short : (d : FaceDart) → length (face-dart .put d) ≤ 10
+pub face-dart-short : (d : FaceDart) → length (face-dart .put d) ≤ 10
 unfolding face-dart as-type
 face-dart-short d = pair-short group serial (d .vertex) (d .serial) 5 5 (group-short (d .vertex)) (serial-short (d .serial))
 
-part2-short : (m : Part2) → length (part2 .put m) ≤ 20
+pub part2-short : (m : Part2) → length (part2 .put m) ≤ 20
 unfolding part2 as-type
 part2-short m = pair-short label group (m .label) (m .index) 15 5 (label-short (m .label)) (group-short (m .index))
 
-part3-short : (m : Part3) → length (part3 .put m) ≤ 10
+pub part3-short : (m : Part3) → length (part3 .put m) ≤ 10
 unfolding part3 as-type
 part3-short m = pair-short group group (m .number) (m .index) 5 5 (group-short (m .number)) (group-short (m .index))
 
-each-of : {A : Type 0} {P : A → Type 0} (l : List A) → ((a : A) → P a) → Each P l
+pub each-of : {A : Type 0} {P : A → Type 0} (l : List A) → ((a : A) → P a) → Each P l
 each-of [] h = tt
 each-of (a ∷ l) h = (h a, each-of l h)
 
 labels-short : (l : List Label) → length (put-all label l) ≤ length l * 15
 labels-short l = all-short label 15 l (each-of l label-short)
 
-part4-short : (fs : List (List FaceDart)) (m : Part4) → length (part4 fs .put m) ≤ 10 + length (m .labels) * 15
+pub part4-short : (fs : List (List FaceDart)) (m : Part4) → length (part4 fs .put m) ≤ 10 + length (m .labels) * 15
 unfolding part4 as-type _⊗_ _⊕_ such-that times
 part4-short fs m =
     let a = group-short (m .index) in
