@@ -21,7 +21,7 @@ use Rattle.agreement.proofs.Described.{members, Map, Inv, Mine}
 use Rattle.agreement.proofs.MovedCell.{Cell, cell-is}
 use Rattle.agreement.proofs.NewLabels.{fresh-of, fresh-maker, fresh-low, fresh-high, fresh-position, fresh-one, Facing, cut-faces, in-cut, cut-few}
 
--- what is known of a request that is served
+-- what is known of a request that 9 to 14 let pass
 pub record Served (lims : ℕ → Limits) (k : ℕ) (u : State) (r : Request) : Type 0 where
   pub from-below : r .from < k
   pub to-below : r .to < k
@@ -31,7 +31,10 @@ pub record Served (lims : ℕ → Limits) (k : ℕ) (u : State) (r : Request) : 
   pub leaves : (x : ℕ) → In x (cell u (r .serial)) → mem (th u x) (cell u (r .serial)) ≡ false
   pub pairs : pairs-once (vertex-pairs (nx u) (op u) (cell u (r .serial))) ≡ true
   pub counter-fits : u .count (r .from) + inner-faces u (r .from) (cell u (r .serial)) < 2 ^ 32
-  pub block-fits : length (members u (r .to)) + length (cell u (r .serial)) ≤ lims (r .to) .block-darts
+
+-- limits with room for one cell more
+abbrev pub wider : (ℕ → Limits) → ℕ → Limits
+wider lims b = record { block-darts = lims b .block-darts + 4096; volume-darts = lims b .volume-darts }
 
 module _ (lims : ℕ → Limits) (fit : Fit lims) (k : ℕ) (u : State) (label : ℕ → Label) (I : Inv lims k u label) (r : Request) (S : Served lims k u r) where
   abbrev pub M : Map u
@@ -125,16 +128,25 @@ module _ (lims : ℕ → Limits) (fit : Fit lims) (k : ℕ) (u : State) (label :
   size-other b n = keep-fewer (λ x. eqb (state-after .number x) b) (λ x. eqb (u .number x) b) (u .darts)
       (λ x h e. by-cases (mem x v) (λ a. absurd (n (sym (eqb-true j b (rw a at e))))) (λ a. rw a at e))
 
-  -- THE INVARIANT AFTERWARDS
-  pub inv-after : Inv lims k state-after labels-after
-  inv-after = record {
+  -- THE INVARIANT AFTERWARDS, within any limits that the blocks keep to
+  inv-within : (wide : ℕ → Limits) → ((b : ℕ) → b < k → length (members state-after b) ≤ wide b .block-darts) → Inv wide k state-after labels-after
+  inv-within wide few = record {
     some-blocks = I .some-blocks;
     few-blocks = I .few-blocks;
     map-sound = M';
     labelled = labelled-after u M i j s g v moved-cell (S .apart-blocks) (S .leaves) k label new-label (I .labelled) (S .from-below) fresh-made fresh-apart;
     in-a-block = λ x h. by-cases (mem x v) (λ e. rw e (S .to-below)) (λ e. rw e (I .in-a-block x h));
     counts-small = λ b h. by-cases (eqb b i) (λ e. rw (e, eqb-true b i e) (S .counter-fits)) (λ e. rw e (I .counts-small b h));
-    blocks-fit = λ b h. by-cases (eqb b j)
-        (λ e. rw (eqb-true b j e) (let a = size-there in let c = S .block-fits in omega arith))
-        (λ e. let a = size-other b (eqb-false b j e) in let c = I .blocks-fit b h in omega arith);
+    blocks-fit = few;
   }
+
+  pub inv-wider : Inv (wider lims) k state-after labels-after
+  inv-wider = inv-within (wider lims) (λ b h. by-cases (eqb b j)
+      (λ e. rw (eqb-true b j e) (let a = size-there in let c = I .blocks-fit j (S .to-below) in let d = moved-cell .few in omega arith))
+      (λ e. let a = size-other b (eqb-false b j e) in let c = I .blocks-fit b h in omega arith))
+
+  -- 21: the cell fits into block j
+  pub inv-after : length (members u j) + length v ≤ lims j .block-darts → Inv lims k state-after labels-after
+  inv-after fits = inv-within lims (λ b h. by-cases (eqb b j)
+      (λ e. rw (eqb-true b j e) (let a = size-there in omega arith))
+      (λ e. let a = size-other b (eqb-false b j e) in let c = I .blocks-fit b h in omega arith))

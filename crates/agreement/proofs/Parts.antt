@@ -27,7 +27,7 @@ use Rattle.agreement.proofs.AfterMove.{crosses, label-after}
 use Rattle.agreement.proofs.Arrived.{all-some, faces-again, Meeting, meeting-crossing, across-there, met-face, labelled-there, face-meeting, by-start, links3, cut-dart, kept-links, part4-face}
 use Rattle.agreement.proofs.BlockSound.{same-point-self, label-range, code-one, code-from}
 use Rattle.agreement.proofs.Described.{pt, third-by, dart-by, members, block-by, Crossing, Map, Inv, Mine, member-mine, darts-by, next-at, point-at, kind-free, kind-sewn, kind-critical, by-kind, next-mine, third-back-linked, crossing-third}
-use Rattle.agreement.proofs.Moved.{Served, moved-cell, state-after, labels-after, inv-after}
+use Rattle.agreement.proofs.Moved.{Served, wider, moved-cell, state-after, labels-after, inv-wider}
 use Rattle.agreement.proofs.MovedCell.{Cell}
 use Rattle.agreement.proofs.NewLabels.{fresh-of, fresh-maker, fresh-low, Facing, next-one-cell, facing-next, facing-starts, facing-are, start-there, facing-distinct}
 use Rattle.agreement.proofs.Passes.{all-each, order-length, new-at}
@@ -407,8 +407,8 @@ module _ (lims : ℕ → Limits) (fit : Fit lims) (k : ℕ) (u : State) (label :
   abbrev label₅ : ℕ → Label
   label₅ = labels-after lims fit k u label I r S
 
-  abbrev I₅ : Inv lims k u₅ label₅
-  I₅ = inv-after lims fit k u label I r S
+  abbrev I₅ : Inv (wider lims) k u₅ label₅
+  I₅ = inv-wider lims fit k u label I r S
 
   -- the darts that become or stay critical
   abbrev kept-darts : List ℕ
@@ -530,7 +530,7 @@ module _ (lims : ℕ → Limits) (fit : Fit lims) (k : ℕ) (u : State) (label :
   key-one x y h m e =
       let a = kept-crossing x h in
       let b = kept-crossing y m in
-      go (I₅ .labelled .apart x y (a .1) (b .1) (code-one lims k u₅ label₅ I₅ x y (a .1) (b .1) e))
+      go (I₅ .labelled .apart x y (a .1) (b .1) (code-one (wider lims) k u₅ label₅ I₅ x y (a .1) (b .1) e))
     where
       go : (x ≡ y) ⊎ (th u x ≡ y) → x ≡ y
       go (inl q) = q
@@ -541,7 +541,7 @@ module _ (lims : ℕ → Limits) (fit : Fit lims) (k : ℕ) (u : State) (label :
   unfolding label-after
   not-held-label x h y m c e =
       let a = kept-crossing x h in
-      let rx = label-range lims k u₅ label₅ I₅ x (a .1) in
+      let rx = label-range (wider lims) k u₅ label₅ I₅ x (a .1) in
       let ry = label-range lims k u label I y c in
       let same : label₅ x ≡ label y = sym (label-back (label₅ x) (rx .number-range) (rx .position-range)) ∙ ap label-in e ∙ label-back (label y) (ry .number-range) (ry .position-range) in
       by-cases (crosses u x)
