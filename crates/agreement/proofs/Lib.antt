@@ -17,3 +17,4 @@ pub mod Passes
 pub mod Parts
 pub mod Written
 pub mod SentLayout
+pub mod Told

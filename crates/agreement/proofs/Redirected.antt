@@ -85,6 +85,10 @@ module _ (lims : ℕ → Limits) (fit : Fit lims) (k : ℕ) (u : State) (label :
   unfolding cycle
   block-face-sym x y h m = face-sym (nx u) (members u b) stays-there one-there few-there x y (mine-member u b x h) m
 
+  pub block-face-trans : (x y z : ℕ) → Mine u b x → In y (cycle (nx u) x) → In z (cycle (nx u) y) → In z (cycle (nx u) x)
+  unfolding cycle
+  block-face-trans x y z h p q = face-trans (nx u) (members u b) stays-there one-there few-there x y z (mine-member u b x h) p q
+
   pub block-face-distinct : (x : ℕ) → Mine u b x → distinct (cycle (nx u) x) ≡ true
   unfolding cycle
   block-face-distinct x h = face-distinct (nx u) (members u b) stays-there one-there few-there x (mine-member u b x h)
@@ -142,7 +146,7 @@ module _ (lims : ℕ → Limits) (fit : Fit lims) (k : ℕ) (u : State) (label :
   abbrev pub shared : List ℕ → Bool
   shared f = is-critical-with b (third-at ds (start-of f))
 
-  facing-crossing : (x : ℕ) → In x v₁ → Facing u b x → Crossing u x
+  pub facing-crossing : (x : ℕ) → In x v₁ → Facing u b x → Crossing u x
   facing-crossing x h c = record { here = C₁ .mine x h .here; linked = c .linked; other = λ q. not-from (sym (c .block) ∙ q ∙ C₁ .mine x h .block) }
 
   facing-third : (x : ℕ) → In x v₁ → Facing u b x → third-at ds x ≡ critical b (label x)
@@ -256,20 +260,20 @@ module _ (lims : ℕ → Limits) (fit : Fit lims) (k : ℕ) (u : State) (label :
   chosen = choose ss (λ x m. m) (starts-distinct u M₁ (r .from) (r .serial) v₁ C₁ shared)
 
   -- THE UPDATE that b gets
-  pub told : Update
+  unfoldable pub told : Update
   told = record { from = r .from; to = b; block = r .to; labels = map label (chosen .picked-darts) }
 
   -- a dart that has a chosen label, and the face across from it
-  picked-facing : (z : ℕ) → In z (chosen .picked-darts) → In z v₁ × Facing u b z
+  pub picked-facing : (z : ℕ) → In z (chosen .picked-darts) → In z v₁ × Facing u b z
   picked-facing z m =
       let w = chosen .each z m in
       let a = start-there u M₁ (r .from) (r .serial) v₁ C₁ shared (w .0) (w .1) in
       face-facing (w .0) (a .0) (shared-tells .says (w .0) (a .0) (a .2)) z (w .2 .in-face)
 
-  across-mine : (z : ℕ) → In z v₁ → Facing u b z → Mine u b (th u z)
+  pub across-mine : (z : ℕ) → In z v₁ → Facing u b z → Mine u b (th u z)
   across-mine z h c = record { here = M₁ .third-in-map z (C₁ .mine z h .here) (c .linked); block = c .block }
 
-  across-labelled : (z : ℕ) → In z v₁ → Facing u b z → labelled (label z) es ≡ dart-by u label (th u z)
+  pub across-labelled : (z : ℕ) → In z v₁ → Facing u b z → labelled (label z) es ≡ dart-by u label (th u z)
   across-labelled z h c = ap (λ (n : ℕ). labelled (label z) (darts-by u label n)) (sym (c .block)) ∙ labelled-by lims k u label I z (facing-crossing z h c)
 
   pub face-told : (z : ℕ) → In z v₁ → Facing u b z → face-with es (label z) ≡ face-of (th u z)
@@ -282,7 +286,7 @@ module _ (lims : ℕ → Limits) (fit : Fit lims) (k : ℕ) (u : State) (label :
     pub linked : th u y ≢ 0
     pub left : In (th u y) v₁
 
-  across-along : (z : ℕ) → In z v₁ → Facing u b z → (y : ℕ) → In y (face-of (th u z)) → Across y
+  pub across-along : (z : ℕ) → In z v₁ → Facing u b z → (y : ℕ) → In y (face-of (th u z)) → Across y
   across-along z h c y m =
       let d = C₁ .mine z h .here in
       block-face-along lims fit k u label I b below Across

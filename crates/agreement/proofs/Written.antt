@@ -94,7 +94,7 @@ part4-short fs m =
     let c = labels-short (m .labels) in
     omega (arith, length-append (group .put (m .index)) (at-most 15 .put (m .other) ++ put-all label (m .labels)), length-append (at-most 15 .put (m .other)) (put-all label (m .labels)))
 
-update-short : (w : Update) → length (update .put w) ≤ 25 + length (w .labels) * 15
+pub update-short : (w : Update) → length (update .put w) ≤ 25 + length (w .labels) * 15
 unfolding update as-type _⊕_ _⊗_
 update-short w =
     let a = exactly-short 2 2 in
