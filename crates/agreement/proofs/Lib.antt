@@ -18,3 +18,4 @@ pub mod Parts
 pub mod Written
 pub mod SentLayout
 pub mod Told
+pub mod Steps
