@@ -19,3 +19,4 @@ pub mod Written
 pub mod SentLayout
 pub mod Told
 pub mod Steps
+pub mod Finishes
