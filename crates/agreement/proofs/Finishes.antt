@@ -1,31 +1,45 @@
 -- A round whose cell was received finishes, in any order of its last steps, with the memories that the state after the move describes.
 -- Assumes nothing.
-use mathlib.Core.Path.{_≡_, refl, sym, _∙_, ap}
+use mathlib.Core.Path.{_≡_, refl, sym, _∙_, ap, subst}
 use mathlib.Core.Logic.{_≢_}
 use mathlib.Core.Bool.{Bool, true, false, true≢false, not, _&&_}
-use mathlib.Core.List.{List, [], _∷_, map}
+use mathlib.Core.List.{List, [], _∷_, map, List·Permᴰ}
 use mathlib.Core.Option.{Option, none, some}
 use Prim.Native.Nat.{ℕ, _<_}
 use native.Mathlib.Omega.{arith}
 use lib.Dec.{eqb}
-use lib.ListN.{length}
-use borrow.Author.Tests.{eqb-true, eqb-false, ne-eqb, not-true}
-use Rattle.model.specs.Lists.{keep, tab, collect, concat-map, mem}
+use lib.ListN.{length, set, length-set, length-map}
+use lib.Seq.{getD-set-same, getD-set-other, ext-getD}
+use borrow.Author.Tests.{eqb-true, eqb-false, eq-eqb, ne-eqb, not-true}
+use Rattle.model.specs.Lists.{any, keep, concat, tab, collect, concat-map, mem, distinct, ascending, first-no}
 use Rattle.model.specs.Values.{Label, Dart, Block, Limits, is-critical-with}
 use Rattle.model.specs.Cells.{cycle, start-of, third-at, labels}
 use Rattle.model.specs.Sound.{Fit}
-use Rattle.model.specs.Messages.{Update}
-use Rattle.model.specs.Departure.{least-labels, update-for, updates-of, relink}
-use Rattle.model.specs.Arrival.{update-links, redirected}
-use Rattle.model.specs.Runs.{Request, State, nx, th, cell}
-use Rattle.laws.proofs.Members.{In, in-here, Each}
+use Rattle.model.specs.Image.{image}
+use Rattle.model.specs.Layouts.{framed}
+use Rattle.model.specs.Messages.{transfer, Update, update, Message}
+use Rattle.model.specs.Departure.{departure-checks, least-labels, update-for, updates-of, messages, relink, released}
+use Rattle.model.specs.Arrival.{redirect-checks, update-links, redirected, redirected-from}
+use Rattle.model.specs.Calls.{served, number-of, Result, storing, release, redirect}
+use Rattle.model.specs.Runs.{Request, releasing, Step, called, memory-at, run-steps, messages-in, addressee, redirect-step, last-steps, State, nx, th, cell}
+use Rattle.laws.proofs.Members.{In, in-here, in-there, in-keep, in-cons, in-eq, keep-in, keep-ascending, ascending-distinct, Each}
+use Rattle.laws.proofs.Places.{length-tab, getD-tab, tab-any, map-tab, tab-ascending}
 use Rattle.laws.proofs.Tests.{by-cases, and-intro, and-left, and-right, not-equal}
-use Rattle.agreement.proofs.Described.{third-by, block-by, Map, Inv, darts-by, kind-free, kind-sewn, kind-critical, by-kind}
+use Rattle.theory.proofs.CallLaws.{storing-serves, release-is, redirect-is}
+use Rattle.theory.proofs.CutLaws.{Framed, framed-is, messages-back}
+use Rattle.agreement.proofs.BlockSound.{block-sound}
+use Rattle.agreement.proofs.Described.{third-by, block-by, mesh-by, Map, Inv, darts-by, kind-free, kind-sewn, kind-critical, by-kind}
 use Rattle.agreement.proofs.Moved.{Served, moved-cell, state-after, labels-after}
 use Rattle.agreement.proofs.MovedCell.{Cell, faces-same}
 use Rattle.agreement.proofs.NewLabels.{facing-starts, facing-are}
+use Rattle.agreement.proofs.Rebuilt.{order}
 use Rattle.agreement.proofs.Redirected.{shared, chosen, told, redirected-is}
-use Rattle.agreement.proofs.Sent.{cell-faces, IsFace, all-faces, start-third}
+use Rattle.agreement.proofs.Released.{released-is}
+use Rattle.agreement.proofs.Sent.{cell-faces, IsFace, all-faces, start-third, transfer-by, transfer-is}
+use Rattle.agreement.proofs.SentLayout.{transfer-short}
+use Rattle.agreement.proofs.Steps.{Serves, blocks-of, Ran, steps-run, each-perm, mem-perm, distinct-perm}
+use Rattle.agreement.proofs.Told.{told-read, told-short, told-addressee, told-asks}
+use Rattle.agreement.proofs.Written.{group-ok}
 
 relink-none : (d : Dart) → relink [] d ≡ d
 unfolding relink
@@ -165,3 +179,154 @@ module _ (lims : ℕ → Limits) (fit : Fit lims) (k : ℕ) (u : State) (label :
 
       same : redirected (block-by u label b) (told-to b q) ≡ block-by u label b
       same = unfold redirected in unfold update-links in unfold told in unfold block-by in (rw (chosen-none, map-none (darts-by u label b)))
+
+  -- THE LAST STEPS SERVE
+  abbrev before-memory : ℕ → List ℕ
+  before-memory b = image (block-by u label b)
+
+  abbrev after-memory : ℕ → List ℕ
+  after-memory b = image (after₈ b)
+
+  release-serves : first-no (departure-checks (lims (r .from) .volume-darts) (block-by u label (r .from)) (r .to) (r .serial)) ≡ 0
+      → Serves lims before-memory after-memory (record { block = r .from; call = releasing (r .to) (r .serial) })
+  release-serves asks = record { does = unfold called in (ap (λ (w : Result (Unit {0})). record { number = number-of (w .answer); memory = w .lent; sent = [] }) answered) }
+    where
+      answered : release (lims (r .from)) (image (block-by u label (r .from))) (r .to) (r .serial) ≡ record { answer = served tt; lent = after-memory (r .from) }
+      answered = release-is (lims (r .from)) (fit .block-fits (r .from)) (block-by u label (r .from)) (block-sound lims k u label I (r .from) (S .from-below)) (r .to) (r .serial)
+          ∙ storing-serves _ (image (block-by u label (r .from))) (released (block-by u label (r .from)) (r .to) (r .serial)) asks
+          ∙ ap (λ (b : Block). record { answer = served tt; lent = image b }) (released-is lims fit k u label I r S)
+
+  redirect-serves : (w : Update) → Told w → Serves lims before-memory after-memory (redirect-step (framed update w))
+  redirect-serves w t = rw (t .is) (record { does = unfold called in (rw there (ap (λ (a : Result (Unit {0})). record { number = number-of (a .answer); memory = a .lent; sent = [] }) answered)) })
+    where
+      there : addressee (framed update (told-to (t .block) (t .rel))) ≡ t .block
+      there = told-addressee lims fit k u label I r S (t .block) (t .rel .below) (t .rel .not-from) (t .rel .not-to)
+
+      answered : redirect (lims (t .block)) (image (block-by u label (t .block))) (framed update (told-to (t .block) (t .rel))) ≡ record { answer = served tt; lent = after-memory (t .block) }
+      answered = redirect-is (lims (t .block)) (fit .block-fits (t .block)) (block-by u label (t .block)) (block-sound lims k u label I (t .block) (t .rel .below)) (framed update (told-to (t .block) (t .rel)))
+          ∙ ap (λ (m : Message). storing (redirect-checks (block-by u label (t .block)) m) (image (block-by u label (t .block))) (redirected-from (block-by u label (t .block)) m)) (told-read lims fit k u label I r S (t .block) (t .rel .below) (t .rel .not-from) (t .rel .not-to))
+          ∙ storing-serves _ (image (block-by u label (t .block))) (redirected (block-by u label (t .block)) (told-to (t .block) (t .rel))) (told-asks lims fit k u label I r S (t .block) (t .rel .below) (t .rel .not-from) (t .rel .not-to))
+          ∙ ap (λ (c : Block). record { answer = served tt; lent = image c }) (redirected-is lims fit k u label I r S (t .block) (t .rel .below) (t .rel .not-from) (t .rel .not-to))
+
+  -- WHAT IS SENT
+  abbrev updates₈ : List Update
+  updates₈ = updates-of (block-by u label (r .from)) (r .to) (r .serial)
+
+  messages-are : messages (block-by u label (r .from)) (r .to) (r .serial) ≡ framed transfer (transfer-by lims fit k u label I r S) ∷ map (framed update) updates₈
+  unfolding messages
+  messages-are = rw (transfer-is lims fit k u label I r S)
+
+  update-framed : (l : List Update) → Each Told l → Each Framed (map (framed update) l)
+  update-framed [] e = tt
+  update-framed (w ∷ l) e = (rw (e .0 .is) (framed-is update _ (group-ok _ (told-short lims fit k u label I r S (e .0 .block) (e .0 .rel .below) (e .0 .rel .not-from) (e .0 .rel .not-to)))), update-framed l (e .1))
+
+  pub cut-again : messages-in (concat (messages (block-by u label (r .from)) (r .to) (r .serial))) ≡ framed transfer (transfer-by lims fit k u label I r S) ∷ map (framed update) updates₈
+  cut-again = rw messages-are (messages-back _ (framed-is transfer _ (group-ok _ (transfer-short lims fit k u label I r S)), update-framed updates₈ all-told))
+
+  -- THE LAST STEPS, on different blocks
+  abbrev last₈ : List Step
+  last₈ = last-steps r (framed transfer (transfer-by lims fit k u label I r S) ∷ map (framed update) updates₈)
+
+  told-there : (b : ℕ) (q : IsRelative b) → told-to b q .to ≡ b
+  unfolding told
+  told-there b q = refl
+
+  redirect-blocks : (l : List Update) → Each Told l → blocks-of (map redirect-step (map (framed update) l)) ≡ map (λ w. w .to) l
+  redirect-blocks [] e = refl
+  redirect-blocks (w ∷ l) e = cons-same (addressee (framed update w)) (w .to) _ _ first (redirect-blocks l (e .1))
+    where
+      cons-same : (x y : ℕ) (s t : List ℕ) → x ≡ y → s ≡ t → x ∷ s ≡ y ∷ t
+      cons-same x y s t p q = rw (p, q)
+
+      first : addressee (framed update w) ≡ w .to
+      first = ap (λ (z : Update). addressee (framed update z)) (e .0 .is) ∙ told-addressee lims fit k u label I r S (e .0 .block) (e .0 .rel .below) (e .0 .rel .not-from) (e .0 .rel .not-to)
+          ∙ sym (told-there (e .0 .block) (e .0 .rel)) ∙ ap (λ (z : Update). z .to) (sym (e .0 .is))
+
+  abbrev told-blocks : List ℕ
+  told-blocks = keep relative (tab (λ b. b) 16)
+
+  last-blocks : blocks-of last₈ ≡ r .from ∷ told-blocks
+  last-blocks = ap (λ (l : List ℕ). r .from ∷ l) (redirect-blocks updates₈ all-told ∙ who-is-told)
+
+  told-relative : (b : ℕ) → In b told-blocks → IsRelative b
+  told-relative b h = relative-is b (keep-in relative (tab (λ b. b) 16) b h .1)
+
+  last-distinct : distinct (blocks-of last₈) ≡ true
+  last-distinct = subst (λ (l : List ℕ). distinct l ≡ true) (sym last-blocks) (and-intro (from-not (mem (r .from) told-blocks) refl) (ascending-distinct told-blocks (keep-ascending relative (tab (λ b. b) 16) numbers-ascend)))
+    where
+      from-not : (o : Bool) → mem (r .from) told-blocks ≡ o → not (mem (r .from) told-blocks) ≡ true
+      from-not false e = rw e
+      from-not true e = absurd (told-relative (r .from) e .not-from refl)
+
+      numbers-ascend : ascending (tab (λ b. b) 16) ≡ true
+      numbers-ascend = tab-ascending (λ b. b) 16 (λ i j l h. l)
+
+  -- AFTERWARDS
+  redirects-serve : (l : List Update) → Each Told l → Each (Serves lims before-memory after-memory) (map redirect-step (map (framed update) l))
+  redirects-serve [] e = tt
+  redirects-serve (w ∷ l) e = (redirect-serves w (e .0), redirects-serve l (e .1))
+
+  each-block : (P : ℕ → Type 0) (cs : List Step) → ((b : ℕ) → In b (blocks-of cs) → P b) → Each (λ c. P (c .block)) cs
+  each-block P [] h = tt
+  each-block P (c ∷ cs) h = (h (c .block) (in-here (c .block) (blocks-of cs)), each-block P cs (λ b m. h b (in-there b (c .block) (blocks-of cs) m)))
+
+  -- a step is at i or at a relative
+  at-block : (P : ℕ → Type 0) → P (r .from) → ((b : ℕ) → IsRelative b → P b) → Each (λ c. P (c .block)) last₈
+  at-block P p q = each-block P last₈ (λ b m. in-cons b (r .from) told-blocks (subst (λ (l : List ℕ). In b l) last-blocks m) (λ e. rw e p) (λ n. q b (told-relative b n)))
+
+  pub memories-at : (b : ℕ) → b < k → memory-at (map image (mesh-by k u label)) b ≡ before-memory b
+  memories-at b h = rw (map-tab image (block-by u label) k) (getD-tab (λ c. image (block-by u label c)) k b [] h)
+
+  memories-length : length (map image (mesh-by k u label)) ≡ k
+  memories-length = length-map (mesh-by k u label) image ∙ length-tab (block-by u label) k
+
+  -- the memories once the cell is received
+  abbrev pub received-memories : List (List ℕ)
+  received-memories = set (map image (mesh-by k u label)) (r .to) (after-memory (r .to))
+
+  received-length : length received-memories ≡ k
+  received-length = length-set (map image (mesh-by k u label)) (r .to) (after-memory (r .to)) ∙ memories-length
+
+  not-yet : (b : ℕ) → b < k → b ≢ r .to → memory-at received-memories b ≡ before-memory b
+  not-yet b h n = getD-set-other (map image (mesh-by k u label)) (r .to) b (after-memory (r .to)) [] n ∙ memories-at b h
+
+  module _ (asks : first-no (departure-checks (lims (r .from) .volume-darts) (block-by u label (r .from)) (r .to) (r .serial)) ≡ 0) (order : List Step) (any : List·Permᴰ order last₈) where
+    ran : Ran lims before-memory after-memory order received-memories
+    ran = steps-run lims before-memory after-memory order received-memories
+        (each-perm (Serves lims before-memory after-memory) any (release-serves asks, redirects-serve updates₈ all-told))
+        (each-perm (λ c. c .block < length received-memories) any (at-block (λ b. b < length received-memories) (rw received-length (S .from-below)) (λ b q. rw received-length (q .below))))
+        (distinct-perm any last-distinct)
+        (each-perm (λ c. memory-at received-memories (c .block) ≡ before-memory (c .block)) any
+        (at-block (λ b. memory-at received-memories b ≡ before-memory b) (not-yet (r .from) (S .from-below) (S .apart-blocks)) (λ b q. not-yet b (q .below) (q .not-to))))
+
+    pub finishes : run-steps lims order received-memories .0 ≡ true
+    finishes = ran .all-zero
+
+    -- a block that is in no step
+    stays : (b : ℕ) → b < k → mem b (r .from ∷ told-blocks) ≡ false → memory-at received-memories b ≡ after-memory b
+    stays b h n = by-cases (eqb b (r .to))
+        (λ e. rw (eqb-true b (r .to) e) (getD-set-same (map image (mesh-by k u label)) (r .to) (after-memory (r .to)) [] (rw memories-length (S .to-below))))
+        (λ e. let nt = eqb-false b (r .to) e in
+        let nf : b ≢ r .from = λ q. true≢false (sym (in-eq b (r .from) (r .from ∷ told-blocks) q (in-here (r .from) told-blocks)) ∙ n) in
+        not-yet b h nt ∙ ap image (untold b (record { below = h; not-from = nf; not-to = nt }) (nothing-shared (shared-with b) refl nt)))
+      where
+        not-relative : relative b ≡ true → ⊥
+        not-relative t = true≢false (sym (in-there b (r .from) told-blocks (in-keep relative b (tab (λ c. c) 16) (in-sixteen b (let few = I .few-blocks in omega arith)) t)) ∙ n)
+          where
+            in-sixteen : (c : ℕ) → c < 16 → In c (tab (λ c. c) 16)
+            in-sixteen c l = tab-any (eqb c) (λ c. c) 16 c l (eq-eqb c c refl)
+
+        nothing-shared : (fs : List (List ℕ)) → shared-with b ≡ fs → b ≢ r .to → shared-with b ≡ []
+        nothing-shared [] e t = e
+        nothing-shared (f ∷ fs) e t = absurd (not-relative (and-intro (ap nonempty e) (not-equal b (r .to) t)))
+
+    memory-after : (b : ℕ) → b < k → memory-at (run-steps lims order received-memories .1) b ≡ after-memory b
+    memory-after b below =
+        let told-or-not : mem b (blocks-of order) ≡ mem b (r .from ∷ told-blocks) = mem-perm b any ∙ ap (mem b) last-blocks in
+        ran .changed b (rw received-length below) ∙ by-cases (mem b (r .from ∷ told-blocks)) (λ t. rw (told-or-not ∙ t)) (λ t. rw (told-or-not ∙ t) (stays b below t))
+
+    pub memories-after : run-steps lims order received-memories .1 ≡ map image (mesh-by k (state-after lims fit k u label I r S) (labels-after lims fit k u label I r S))
+    memories-after = ext-getD [] _ _ (ran .same-length ∙ received-length ∙ sym (length-map (mesh-by k (state-after lims fit k u label I r S) (labels-after lims fit k u label I r S)) image ∙ length-tab after₈ k)) (λ b h.
+        let below : b < k = rw (ran .same-length ∙ received-length) at h in
+        let there : memory-at (map image (mesh-by k (state-after lims fit k u label I r S) (labels-after lims fit k u label I r S))) b ≡ after-memory b = rw (map-tab image after₈ k) (getD-tab (λ c. image (after₈ c)) k b [] below) in
+        memory-after b below ∙ sym there)

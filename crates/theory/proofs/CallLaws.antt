@@ -7,13 +7,13 @@ use mathlib.Core.Option.{Option, none, some}
 use Prim.Native.Nat.{ℕ, _≤_}
 use native.Mathlib.Omega.{arith}
 use lib.Dec.{leb, eqb}
-use lib.ListN.{length}
+use lib.ListN.{length, drop}
 use borrow.Author.Tests.{eqb-true, eqb-false, eq-eqb, ne-eqb}
 use Rattle.model.specs.Lists.{concat, Check, first-no}
 use Rattle.model.specs.Values.{Block, Limits}
 use Rattle.model.specs.Sound.{sound-block}
 use Rattle.model.specs.Image.{room, words, image, is-image, memory-checks}
-use Rattle.model.specs.Messages.{file, message-in}
+use Rattle.model.specs.Messages.{message-in, file}
 use Rattle.model.specs.Departure.{departure-checks, messages, released}
 use Rattle.model.specs.Arrival.{receive-checks, received-from, redirect-checks, redirected-from}
 use Rattle.model.specs.Balance.{Oracle, numbered-oracle}
@@ -61,6 +61,26 @@ unfolding asked
 served-value qs before value after v e = by-cases (eqb (first-no qs) 0)
     (λ t. (eqb-true (first-no qs) 0 t, served-same value v (rw t at e)))
     (λ t. absurd (never-served (first-no qs) v (rw t at e)))
+
+-- calls that store a block, and calls that write bytes
+pub storing-serves : (qs : List Check) (m : List ℕ) (b : Block) → first-no qs ≡ 0 → storing qs m b ≡ record { answer = served tt; lent = image b }
+unfolding storing
+storing-serves qs m b e = served-gives qs m tt (image b) e
+
+pub storing-refuses : (qs : List Check) (m : List ℕ) (b : Block) → first-no qs ≢ 0 → storing qs m b ≡ record { answer = refused (first-no qs); lent = m }
+unfolding storing
+storing-refuses qs m b e = refused-gives qs m tt (image b) e
+
+abbrev pub with-fifteen : List Check → List ℕ → List ℕ → List Check
+with-fifteen qs out bytes = qs ++ (15, leb (length bytes) (length out)) ∷ []
+
+pub writing-serves : (qs : List Check) (out bytes : List ℕ) → first-no (with-fifteen qs out bytes) ≡ 0 → writing qs out bytes ≡ record { answer = served (length bytes); lent = bytes ++ drop (length bytes) out }
+unfolding writing
+writing-serves qs out bytes e = served-gives _ out (length bytes) (bytes ++ drop (length bytes) out) e
+
+pub writing-refuses : (qs : List Check) (out bytes : List ℕ) → first-no (with-fifteen qs out bytes) ≢ 0 → writing qs out bytes ≡ record { answer = refused (first-no (with-fifteen qs out bytes)); lent = out }
+unfolding writing
+writing-refuses qs out bytes e = refused-gives _ out (length bytes) (bytes ++ drop (length bytes) out) e
 
 -- DEMAND 1
 numbered-unchanged : (lims : ℕ → Limits) (m : List ℕ) (o : Option Oracle) (scratch : List ℕ) → Unchanged scratch (next-move-of lims m o scratch)

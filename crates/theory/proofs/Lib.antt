@@ -7,3 +7,4 @@ pub mod ImageLaws
 pub mod CallLaws
 pub mod DemandTwo
 pub mod MeshLaws
+pub mod CutLaws
