@@ -20,3 +20,4 @@ pub mod SentLayout
 pub mod Told
 pub mod Steps
 pub mod Finishes
+pub mod Keeps

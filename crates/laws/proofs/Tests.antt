@@ -118,3 +118,8 @@ first-no-append [] qs e h = refl
 first-no-append (p ∷ ps) qs e h = by-cases (p .1)
     (λ t. rw t (first-no-append ps qs (rw t at e) (and-right (ltb 0 (p .0)) _ h)))
     (λ t. let zero-number : p .0 ≡ 0 = rw t at e in let positive = ltb-true 0 (p .0) (and-left _ _ h) in absurd (omega arith))
+
+pub first-no-stays : (ps qs : List Check) → first-no ps ≢ 0 → first-no (ps ++ qs) ≡ first-no ps
+unfolding first-no
+first-no-stays [] qs h = absurd (h refl)
+first-no-stays (p ∷ ps) qs h = by-cases (p .1) (λ t. rw t (first-no-stays ps qs (rw t at h))) (λ t. rw t)
