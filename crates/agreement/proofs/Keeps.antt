@@ -1,31 +1,39 @@
 -- A round and an undivided request have the same outcome and keep the invariant. Assumes nothing.
-use mathlib.Core.Path.{_≡_, sym, _∙_, ap}
+use mathlib.Core.Path.{_≡_, refl, sym, _∙_, ap, subst}
 use mathlib.Core.Logic.{_≢_}
-use mathlib.Core.Bool.{true, false, not, _&&_}
-use mathlib.Core.List.{List, [], map}
+use mathlib.Core.Bool.{Bool, true, false, not, _&&_}
+use mathlib.Core.List.{List, [], _∷_, map, List·Permᴰ}
 use Prim.Native.Nat.{ℕ, _+_, _^_, _<_}
 use native.Mathlib.Omega.{arith}
 use lib.Dec.{leb, ltb, eqb}
-use lib.ListN.{length, take, set}
+use lib.ListN.{length, take, drop, set}
+use lib.Seq.{take-append-seam, set-getD}
 use borrow.Author.Tests.{eqb-true, eqb-false, ne-eqb, ltb-true, leb-true, not-true}
-use Rattle.model.specs.Lists.{all, concat, mem, Check, first-no}
+use Rattle.model.specs.Lists.{all, any, concat, mem, Check, first-no}
 use Rattle.model.specs.Values.{Label, Block, Limits}
 use Rattle.model.specs.Sound.{sound-block, Fit, volume-limit}
 use Rattle.model.specs.Image.{image}
-use Rattle.model.specs.Departure.{pairs-once, vertex-pairs, departure-checks, messages}
-use Rattle.model.specs.Calls.{number-of, Result, writing, send, memories}
-use Rattle.model.specs.Runs.{Request, refused-by, finished, unfinished, Step, Done, written, called, memory-at, done, run-steps, messages-in, send-step, receive-step, Round, round, State, nx, op, th, cell, inner-faces, request-checks, after-move, Undivided, undivided}
+use Rattle.model.specs.Layouts.{framed}
+use Rattle.model.specs.Messages.{Transfer, transfer, update, Message, a-transfer}
+use Rattle.model.specs.Departure.{pairs-once, vertex-pairs, departure-checks, updates-of, messages}
+use Rattle.model.specs.Arrival.{received, receive-checks, received-from}
+use Rattle.model.specs.Calls.{number-of, Result, storing, writing, send, receive, memories}
+use Rattle.model.specs.Runs.{Request, refused-by, finished, unfinished, Step, Done, written, called, memory-at, done, run-steps, messages-in, send-step, receive-step, last-steps, sent-messages, Round, round, State, nx, op, th, cell, inner-faces, request-checks, after-move, Undivided, undivided}
+use Rattle.model.specs.Demands.{Enough}
 use Rattle.laws.proofs.Members.{all-in}
 use Rattle.laws.proofs.Places.{getD-tab, map-tab}
-use Rattle.laws.proofs.Tests.{and-left, and-right, yes-first, first-no-stays}
-use Rattle.theory.proofs.CallLaws.{with-fifteen, writing-refuses, send-is}
-use Rattle.agreement.proofs.AfterMove.{after}
+use Rattle.laws.proofs.Tests.{by-cases, and-left, and-right, yes-then, no-more, no-here, yes-first, first-no-append, first-no-stays}
+use Rattle.theory.proofs.CallLaws.{storing-serves, storing-refuses, with-fifteen, writing-serves, writing-refuses, send-is, receive-is}
+use Rattle.agreement.proofs.AfterMove.{after, after-is}
+use Rattle.agreement.proofs.Arrived.{received-is}
 use Rattle.agreement.proofs.BlockSound.{block-sound}
 use Rattle.agreement.proofs.Described.{block-by, mesh-by, Inv}
-use Rattle.agreement.proofs.Moved.{Served}
-use Rattle.agreement.proofs.MovedCell.{first-six, checks-split, questions-agree}
+use Rattle.agreement.proofs.Finishes.{cut-again, finishes, memories-after}
+use Rattle.agreement.proofs.Moved.{Served, state-after, labels-after, inv-after}
+use Rattle.agreement.proofs.MovedCell.{first-six, twenty-one, checks-split, questions-agree}
 use Rattle.agreement.proofs.Rebuilt.{order}
-use Rattle.agreement.proofs.SentLayout.{few-darts}
+use Rattle.agreement.proofs.Sent.{transfer-by}
+use Rattle.agreement.proofs.SentLayout.{few-darts, transfer-read, receive-asks}
 
 -- A ROUND, by what its calls give
 module _ (lims : ℕ → Limits) (ms : List (List ℕ)) (r : Request) (outbox : List ℕ) (order : List Step) (d : Done) (sends : done lims ms (send-step r outbox) ≡ d) where
@@ -147,3 +155,106 @@ module _ (lims : ℕ → Limits) (fit : Fit lims) (k : ℕ) (u : State) (label :
         pairs = q13 .0;
         counter-fits = ltb-true _ _ (q14 .0);
       }
+
+  module _ (six : first-no (first-six lims u r) ≡ 0) (enough : Enough lims ms r outbox) (any : List·Permᴰ order (last-steps r (sent-messages lims ms r outbox))) where
+    abbrev S : Served lims k u r
+    S = served-six six
+
+    abbrev t₀ : Transfer
+    t₀ = transfer-by lims fit k u label I r S
+
+    abbrev sent-list : List (List ℕ)
+    sent-list = framed transfer t₀ ∷ map (framed update) (updates-of here (r .to) (r .serial))
+
+    asks : first-no leaving ≡ 0
+    asks = agree-six ∙ six
+
+    positive-numbers : all (λ q. ltb 0 (q .0)) leaving ≡ true
+    unfolding departure-checks
+    positive-numbers = refl
+
+    fifteen : first-no (with-fifteen leaving outbox sent-bytes) ≡ 0
+    fifteen = by-cases (leb (length sent-bytes) (length outbox))
+        (λ t. first-no-append leaving _ asks positive-numbers ∙ yes-then 15 _ [] t ∙ no-more)
+        (λ t. let n : first-no (with-fifteen leaving outbox sent-bytes) ≡ 15 = first-no-append leaving _ asks positive-numbers ∙ no-here 15 _ [] t in
+        absurd (enough (ap (λ (w : Result ℕ). number-of (w .answer)) (sends-is ∙ writing-refuses leaving outbox sent-bytes (λ z. let q = sym n ∙ z in omega arith)) ∙ n)))
+
+    send-served : done lims ms (send-step r outbox) ≡ record { number = 0; memory = memory-at ms (r .from); sent = sent-bytes }
+    send-served = send-done _ (writing-serves leaving outbox sent-bytes fifteen)
+        ∙ ap (λ (l : List ℕ). record { number = 0; memory = memory-at ms (r .from); sent = l }) (take-append-seam sent-bytes (drop (length sent-bytes) outbox))
+
+    cut-is : messages-in sent-bytes ≡ sent-list
+    cut-is = cut-again lims fit k u label I r S
+
+    sent-is : sent-messages lims ms r outbox ≡ sent-list
+    unfolding sent-messages
+    sent-is = ap (λ (d : Done). messages-in (d .sent)) send-served ∙ cut-is
+
+    any-order : List·Permᴰ order (last-steps r sent-list)
+    any-order = subst (λ (l : List (List ℕ)). List·Permᴰ order (last-steps r l)) sent-is any
+
+    -- RECEIVE
+    abbrev arriving : List Check
+    arriving = receive-checks (lims (r .to)) there (a-transfer t₀)
+
+    receives-is : receive (lims (r .to)) (memory-at ms (r .to)) (framed transfer t₀) ≡ storing arriving (image there) (received there t₀)
+    receives-is = ap (λ (m : List ℕ). receive (lims (r .to)) m (framed transfer t₀)) memory-there
+        ∙ receive-is (lims (r .to)) (fit .block-fits (r .to)) there there-sound (framed transfer t₀)
+        ∙ ap (λ (m : Message). storing (receive-checks (lims (r .to)) there m) (image there) (received-from there m)) (transfer-read lims fit k u label I r S)
+
+    receive-done : (w : Result (Unit {0})) → storing arriving (image there) (received there t₀) ≡ w
+        → done lims ms (receive-step r (messages-in sent-bytes)) ≡ record { number = number-of (w .answer); memory = w .lent; sent = [] }
+    receive-done w e = ap (λ (l : List (List ℕ)). done lims ms (receive-step r l)) cut-is ∙ one w e
+      where
+        one : (w : Result (Unit {0})) → storing arriving (image there) (received there t₀) ≡ w → done lims ms (receive-step r sent-list) ≡ record { number = number-of (w .answer); memory = w .lent; sent = [] }
+        one w e = unfold done in unfold called in (ap (λ (a : Result (Unit {0})). record { number = number-of (a .answer); memory = a .lent; sent = [] }) (receives-is ∙ e))
+
+    abbrev fits : Bool
+    fits = twenty-one lims u r
+
+    arriving-is : first-no arriving ≡ first-no ((21, fits) ∷ [])
+    arriving-is = receive-asks lims fit k u label I r S
+
+    whole-checks : first-no (request-checks lims u r) ≡ first-no ((21, fits) ∷ [])
+    whole-checks = ap first-no (checks-split lims u r) ∙ first-no-append (first-six lims u r) _ six refl
+
+    -- 21 refuses
+    refused-there : fits ≡ false → Kept lims k (round lims ms r outbox order) (undivided lims u r)
+    refused-there f =
+        let n21 : first-no ((21, fits) ∷ []) ≡ 21 = no-here 21 fits [] f in
+        let un = undivided-refuses lims u r 21 (whole-checks ∙ n21) (λ z. omega arith) in
+        let number : first-no arriving ≡ 21 = arriving-is ∙ n21 in
+        let stored-is = storing-refuses arriving (image there) (received there t₀) (λ z. let q = sym number ∙ z in omega arith) in
+        let round-is = round-untaken lims ms r outbox order _ send-served refl _ (receive-done _ stored-is) (ne-eqb (first-no arriving) 0 (λ z. let q = sym number ∙ z in omega arith)) in
+        let outcome : round lims ms r outbox order .outcome ≡ refused-by 21 = ap (λ (z : Round). z .outcome) round-is ∙ ap refused-by number in
+        record {
+          same-outcome = outcome ∙ ap (λ (z : Undivided). z .outcome) (sym un);
+          labels-now = label;
+          inv-now = rw un I;
+          memories-now = ap (λ (z : Round). z .memories) round-is ∙ ap (set ms (r .to)) (sym memory-there) ∙ set-getD ms (r .to) [] ∙ ap (λ (z : Undivided). map image (mesh-by k (z .state) label)) (sym un);
+          never-unfinished = λ e. not-unfinished 21 (sym outcome ∙ e);
+        }
+
+    -- the cell moves
+    moved-there : fits ≡ true → Kept lims k (round lims ms r outbox order) (undivided lims u r)
+    moved-there f =
+        let n0 : first-no ((21, fits) ∷ []) ≡ 0 = yes-then 21 fits [] f ∙ no-more in
+        let un : undivided lims u r ≡ record { outcome = finished; state = state-after lims fit k u label I r S } =
+        undivided-serves lims u r (whole-checks ∙ n0) ∙ ap (λ (z : State). record { outcome = finished; state = z }) (after-is u r) in
+        let stored-is = storing-serves arriving (image there) (received there t₀) (arriving-is ∙ n0) in
+        let lent : image (received there t₀) ≡ image (block-by (state-after lims fit k u label I r S) (labels-after lims fit k u label I r S) (r .to)) = ap image (received-is lims fit k u label I r S) in
+        let received-done = receive-done _ stored-is ∙ ap (λ (m : List ℕ). record { number = 0; memory = m; sent = [] }) lent in
+        let round-is = round-taken lims ms r outbox order _ send-served refl _ received-done refl _ (finishes lims fit k u label I r S asks order any-order) (memories-after lims fit k u label I r S asks order any-order) in
+        let outcome : round lims ms r outbox order .outcome ≡ finished = ap (λ (z : Round). z .outcome) round-is in
+        record {
+          same-outcome = outcome ∙ ap (λ (z : Undivided). z .outcome) (sym un);
+          labels-now = labels-after lims fit k u label I r S;
+          inv-now = rw un (inv-after lims fit k u label I r S (leb-true _ _ f));
+          memories-now = ap (λ (z : Round). z .memories) round-is ∙ ap (λ (z : Undivided). map image (mesh-by k (z .state) (labels-after lims fit k u label I r S))) (sym un);
+          never-unfinished = λ e. finished-not (sym outcome ∙ e);
+        }
+
+  pub keeps : Enough lims ms r outbox → List·Permᴰ order (last-steps r (sent-messages lims ms r outbox)) → Kept lims k (round lims ms r outbox order) (undivided lims u r)
+  keeps enough any = by-cases (eqb (first-no (first-six lims u r)) 0)
+      (λ e. let six = eqb-true (first-no (first-six lims u r)) 0 e in by-cases (twenty-one lims u r) (moved-there six enough any) (refused-there six enough any))
+      (λ e. refused-six (eqb-false (first-no (first-six lims u r)) 0 e))
