@@ -21,3 +21,4 @@ pub mod Told
 pub mod Steps
 pub mod Finishes
 pub mod Keeps
+pub mod Homes
