@@ -22,3 +22,4 @@ pub mod Steps
 pub mod Finishes
 pub mod Keeps
 pub mod Homes
+pub mod Begins
