@@ -10,9 +10,9 @@ use lib.Dec.{leb, ltb, eqb}
 use lib.ListN.{length, length-map, List·getD-eq-default}
 use borrow.Author.Tests.{eqb-true, eqb-false, eq-eqb, ltb-true, ltb-false, leb-true, not-true}
 use Rattle.model.specs.Lists.{all, any, keep, mem, distinct, find}
-use Rattle.model.specs.Values.{Label, Third, free, sewn, critical, Dart, Block, Limits, serial-bound, code, label-key, has-label, is-free, is-sewn-to, is-critical-with, no-dart, or-no-dart, no-block}
+use Rattle.model.specs.Values.{Label, Third, free, sewn, critical, Dart, Block, Limits, serial-bound, code, label-key, has-label, is-free, is-sewn-to, is-critical-with, same-point, no-dart, or-no-dart, no-block}
 use Rattle.model.specs.Cells.{serials, held, dart-at, next-in, opposite-in, third-at, previous-in, labelled}
-use Rattle.model.specs.Sound.{third-in-range, dart-in-range, sewn-along, third-right, thirds-right, label-right, labels-right, block-at, all-darts, share-label, paired, labels-paired, Sound}
+use Rattle.model.specs.Sound.{third-in-range, dart-in-range, sewn-along, third-right, thirds-right, label-right, labels-right, sewn-points, points-agree, block-at, all-darts, share-label, paired, labels-paired, same-across, points-across, Sound}
 use Rattle.model.specs.Image.{label-in}
 use Rattle.model.specs.Runs.{Whole, other-with, third-of, whole-map, State, start, or-nothing, nx, op, th}
 use Rattle.laws.proofs.Members.{In, or-left, or-right, in-eq, ascending-distinct, keep-map}
@@ -21,7 +21,8 @@ use Rattle.theory.proofs.BlockLaws.{held-found, at-held, Links, found-in, found
 use Rattle.theory.proofs.ImageLaws.{label-back, Parts, ranges-of}
 use Rattle.theory.proofs.MeshLaws.{MeshParts, mesh-parts}
 use Rattle.agreement.proofs.Arrived.{es}
-use Rattle.agreement.proofs.Described.{pt, found-there}
+use Rattle.agreement.proofs.BlockSound.{same-point-is}
+use Rattle.agreement.proofs.Described.{pt, Crossing, found-there}
 use Rattle.agreement.proofs.Homes.{sorted-in, in-sorted, Home, homes, one-of-two, distinct-all, block-number, block-is-sound, block-links, home-of, holder-is, one-home}
 
 -- a table with distinct serials is what its serials find
@@ -362,3 +363,137 @@ module _ (lims : ℕ → Limits) (m : List Block) (sound : Sound lims m) where
 
   th-free : (b x : ℕ) → (a : At b x) → third-at (ds b) x ≡ free → th u x ≡ 0
   th-free b x a e = th-at b x a ∙ ap (third-of m x) e
+
+  -- to go by a dart's third link
+  by-third : (C : Type 0) (b x : ℕ) → At b x → (third-at (ds b) x ≡ free → C) → ((y : ℕ) → third-at (ds b) x ≡ sewn y → C) → ((o : ℕ) (l : Label) → third-at (ds b) x ≡ critical o l → C) → C
+  by-third C b x a f s c = go (third-at (ds b) x) refl
+    where
+      go : (t : Third) → third-at (ds b) x ≡ t → C
+      go free e = f e
+      go (sewn y) e = s y e
+      go (critical o l) e = c o l e
+
+  mate-crosses : (b x o : ℕ) (l : Label) → (a : At b x) → (e : third-at (ds b) x ≡ critical o l) → Crossing u x
+  mate-crosses b x o l a e =
+      let w = mate-at b x o l a e in
+      let t = th-critical b x o l a e w in
+      record {
+        here = here-at b x a;
+        linked = λ z. let p = positive-at o (w .mate) (w .there) .0 in let q = sym t ∙ z in omega arith;
+        other = λ q. w .other-block (sym (number-at o (w .mate) (w .there)) ∙ ap (u .number) (sym t) ∙ q ∙ number-at b x a);
+      }
+
+  -- a mate's third link leads back
+  mate-back : (b x o : ℕ) (l : Label) → (a : At b x) → third-at (ds b) x ≡ critical o l → (w : Mate b x o l) → th u (w .mate) ≡ x
+  mate-back b x o l a e w =
+      let w' = mate-at o (w .mate) b l (w .there) (w .names-back) in
+      th-critical o (w .mate) b l (w .there) (w .names-back) w' ∙ pick (only-two b x o l a e w (w' .mate) (home-at b (w' .mate) (w' .there) .in-mesh) (bears-at b (w' .mate) o l (w' .there) (w' .names-back))) w' refl
+    where
+      pick : {y : ℕ} → (x ≡ y) ⊎ (w .mate ≡ y) → (w' : Mate o (w .mate) b l) → y ≡ w' .mate → w' .mate ≡ x
+      pick (inl q) w' s = sym s ∙ sym q
+      pick (inr q) w' s = absurd (w .other-block (one-home lims m sound o b (w .mate) (w .there .below) (w' .there .below) (w .there .held-there) (in-eq (w .mate) (w' .mate) (serials (ds b)) (q ∙ s) (w' .there .held-there))))
+
+  -- THE WHOLE MAP IS SOUND
+  third-in-map-at : (b x : ℕ) → At b x → th u x ≢ 0 → In (th u x) (u .darts)
+  third-in-map-at b x a t = by-third (In (th u x) (u .darts)) b x a
+      (λ e. absurd (t (th-free b x a e)))
+      (λ y e. rw (th-sewn b x y a e) (here-at b y (sewn-at b x y a e .there)))
+      (λ o l e. let w = mate-at b x o l a e in rw (th-critical b x o l a e w) (here-at o (w .mate) (w .there)))
+
+  third-twice-at : (b x : ℕ) → At b x → th u x ≢ 0 → th u (th u x) ≡ x
+  third-twice-at b x a t = by-third (th u (th u x) ≡ x) b x a
+      (λ e. absurd (t (th-free b x a e)))
+      (λ y e. let s = sewn-at b x y a e in ap (th u) (th-sewn b x y a e) ∙ th-sewn b y x (s .there) (s .back))
+      (λ o l e. let w = mate-at b x o l a e in ap (th u) (th-critical b x o l a e w) ∙ mate-back b x o l a e w)
+
+  third-other-at : (b x : ℕ) → At b x → th u x ≢ x
+  third-other-at b x a q = by-third ⊥ b x a
+      (λ e. let p = positive-at b x a .0 in let z = sym (th-free b x a e) ∙ q in omega arith)
+      (λ y e. sewn-at b x y a e .differs (sym (th-sewn b x y a e) ∙ q))
+      (λ o l e. mate-crosses b x o l a e .other (ap (u .number) q))
+
+  next-third : (b x : ℕ) → At b x → third-at (ds b) (nx u x) ≡ third-at (ds b) (next-in (ds b) x)
+  next-third b x a = ap (third-at (ds b)) (nx-at b x a)
+
+  -- next of a free dart is free, and so on
+  free-next : (b x : ℕ) → At b x → third-at (ds b) x ≡ free → third-at (ds b) (next-in (ds b) x) ≡ free
+  unfolding third-right
+  free-next b x a e = free-is _ (subst (λ (t : Third). third-right (ds b) (dart-at (ds b) x) t ≡ true) e (third-test b x a))
+
+  critical-next : (b x o : ℕ) (l : Label) → At b x → third-at (ds b) x ≡ critical o l → (n : Label) × (third-at (ds b) (next-in (ds b) x) ≡ critical o n)
+  unfolding third-right
+  critical-next b x o l a e = critical-is o _ (subst (λ (t : Third). third-right (ds b) (dart-at (ds b) x) t ≡ true) e (third-test b x a))
+
+  third-ends-at : (b x : ℕ) → At b x → th u x ≡ 0 → th u (nx u x) ≡ 0
+  third-ends-at b x a z = by-third (th u (nx u x) ≡ 0) b x a
+      (λ e. th-free b (nx u x) (next-of-at b x a) (next-third b x a ∙ free-next b x a e))
+      (λ y e. absurd (let p = positive-at b y (sewn-at b x y a e .there) .0 in let q = sym (th-sewn b x y a e) ∙ z in omega arith))
+      (λ o l e. absurd (mate-crosses b x o l a e .linked z))
+
+  third-goes-at : (b x : ℕ) → At b x → th u x ≢ 0 → th u (nx u x) ≢ 0
+  third-goes-at b x a t z = by-third ⊥ b x a
+      (λ e. t (th-free b x a e))
+      (λ y e. let s = sewn-at b x y a e in
+      let n = sewn-at b (nx u x) (s .after-third) (next-of-at b x a) (next-third b x a ∙ s .next-sewn) in
+      let p = positive-at b (s .after-third) (n .there) .0 in
+      let q = sym (th-sewn b (nx u x) (s .after-third) (next-of-at b x a) (next-third b x a ∙ s .next-sewn)) ∙ z in
+      omega arith)
+      (λ o l e. let n = critical-next b x o l a e in mate-crosses b (nx u x) o (n .0) (next-of-at b x a) (next-third b x a ∙ n .1) .linked z)
+
+  -- the mate of the next dart is the one before the mate
+  mate-next : (b x o : ℕ) (l : Label) → (a : At b x) → (e : third-at (ds b) x ≡ critical o l) → nx u (th u (nx u x)) ≡ th u x
+  mate-next b x o l a e =
+      let w = mate-at b x o l a e in
+      let n = critical-next b x o l a e in
+      let an = next-of-at b x a in
+      let en = next-third b x a ∙ n .1 in
+      let wn = mate-at b (nx u x) o (n .0) an en in
+      let before = previous-in (ds o) (w .mate) in
+      let ab : At o before = record { below = w .there .below; held-there = L o (w .there .below) .previous-in-block (w .mate) (w .there .held-there) } in
+      let keys : label-key (third-at (ds o) before) ≡ suc (code (n .0)) =
+      sym (eqb-true _ _ (and-right (ltb 0 (label-key (third-at (ds b) (next-in (ds b) x)))) _ (w .along))) ∙ ap label-key (n .1) in
+      let bearing : bears (n .0) before ≡ true = ap (has-label (n .0)) (ap (λ (d : Dart). d .third) (at-whole o before ab)) ∙ eq-eqb (suc (code (n .0))) _ (sym keys) in
+      let is-mate : wn .mate ≡ before = pick (only-two b (nx u x) o (n .0) an en wn before (home-at o before ab .in-mesh) bearing) an ab (w .other-block) in
+      ap (nx u) (th-critical b (nx u x) o (n .0) an en wn ∙ is-mate) ∙ nx-at o before ab ∙ L o (w .there .below) .next-previous (w .mate) (w .there .held-there) ∙ sym (th-critical b x o l a e w)
+    where
+      pick : {y z c : ℕ} → (y ≡ z) ⊎ (c ≡ z) → At b y → At o z → o ≢ b → c ≡ z
+      pick {y} {z} {c} (inl q) ay az ne = absurd (ne (one-home lims m sound o b z (az .below) (ay .below) (az .held-there) (in-eq z y (serials (ds b)) (sym q) (ay .held-there))))
+      pick (inr q) ay az ne = q
+
+  third-next-at : (b x : ℕ) → At b x → th u x ≢ 0 → nx u (th u (nx u x)) ≡ th u x
+  third-next-at b x a t = by-third (nx u (th u (nx u x)) ≡ th u x) b x a
+      (λ e. absurd (t (th-free b x a e)))
+      (λ y e. let s = sewn-at b x y a e in
+      let an = next-of-at b x a in
+      let en = next-third b x a ∙ s .next-sewn in
+      let n = sewn-at b (nx u x) (s .after-third) an en in
+      ap (nx u) (th-sewn b (nx u x) (s .after-third) an en) ∙ nx-at b (s .after-third) (n .there) ∙ s .runs-against ∙ sym (th-sewn b x y a e))
+      (λ o l e. mate-next b x o l a e)
+
+  -- points
+  points-test : (b x : ℕ) → At b x → (same-point (dart-at (ds b) x .point) (dart-at (ds b) (next-in (ds b) (dart-at (ds b) x .opposite)) .point) && sewn-points (ds b) (dart-at (ds b) x) (third-at (ds b) x)) ≡ true
+  unfolding points-agree
+  points-test b x a = test-at (λ d. same-point (d .point) (dart-at (ds b) (next-in (ds b) (d .opposite)) .point) && sewn-points (ds b) d (d .third)) b x (sound-at b (a .below) .points) a
+
+  point-ring-at : (b x : ℕ) → At b x → pt u x ≡ pt u (nx u (op u x))
+  point-ring-at b x a =
+      let ao = opposite-of-at b x a in
+      let an = next-of-at b (op u x) ao in
+      let q = same-point-is _ _ (and-left (same-point (dart-at (ds b) x .point) (dart-at (ds b) (next-in (ds b) (dart-at (ds b) x .opposite)) .point)) _ (points-test b x a)) in
+      pt-at b x a ∙ q ∙ ap (λ (y : ℕ). dart-at (ds b) y .point) (ap (next-in (ds b)) (sym (op-at b x a)) ∙ sym (nx-at b (op u x) ao)) ∙ sym (pt-at b (nx u (op u x)) an)
+
+  across-test : (b x : ℕ) → At b x → same-across m (dart-at (ds b) x) (third-at (ds b) x) ≡ true
+  unfolding points-across block-at
+  across-test b x a = test-at (λ d. same-across m d (d .third)) b x (all-at (λ c. all (λ d. same-across m d (d .third)) (c .darts)) no-block m b (P .points) (a .below)) a
+
+  point-third-at : (b x : ℕ) → At b x → th u x ≢ 0 → pt u x ≡ pt u (nx u (th u x))
+  unfolding same-across
+  point-third-at b x a t = by-third (pt u x ≡ pt u (nx u (th u x))) b x a
+      (λ e. absurd (t (th-free b x a e)))
+      (λ y e. let s = sewn-at b x y a e in
+      let q = same-point-is _ _ (subst (λ (w : Third). sewn-points (ds b) (dart-at (ds b) x) w ≡ true) e (and-right (same-point (dart-at (ds b) x .point) (dart-at (ds b) (next-in (ds b) (dart-at (ds b) x .opposite)) .point)) _ (points-test b x a))) in
+      pt-at b x a ∙ q ∙ ap (λ (z : ℕ). dart-at (ds b) z .point) (sym (nx-at b y (s .there))) ∙ sym (pt-at b (nx u y) (next-of-at b y (s .there))) ∙ ap (λ (z : ℕ). pt u (nx u z)) (sym (th-sewn b x y a e)))
+      (λ o l e. let w = mate-at b x o l a e in
+      let q = same-point-is _ _ (subst (λ (z : Third). same-across m (dart-at (ds b) x) z ≡ true) e (across-test b x a)) in
+      pt-at b x a ∙ q ∙ ap (λ (d : Dart). dart-at (ds o) (d .next) .point) (w .found-by-label) ∙ ap (λ (z : ℕ). dart-at (ds o) z .point) (sym (nx-at o (w .mate) (w .there)))
+      ∙ sym (pt-at o (nx u (w .mate)) (next-of-at o (w .mate) (w .there))) ∙ ap (λ (z : ℕ). pt u (nx u z)) (sym (th-critical b x o l a e w)))
