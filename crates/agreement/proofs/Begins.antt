@@ -1,29 +1,31 @@
 -- A sound mesh is what its own starting state and its labels describe: the invariant holds at the start. Assumes nothing.
 use mathlib.Core.Path.{_≡_, refl, sym, _∙_, ap, subst}
 use mathlib.Core.Logic.{_⊎_, inl, inr, _≢_}
-use mathlib.Core.Bool.{Bool, true, true≢false, not, _&&_}
+use mathlib.Core.Bool.{Bool, true, false, true≢false, not, _&&_}
 use mathlib.Core.List.{List, [], _∷_, map}
 use mathlib.Core.Option.{Option, none, some, Option·map, Option·none-ne-some, Option·some-injective}
 use Prim.Native.Nat.{ℕ, suc, _^_, _<_, _≤_}
 use native.Mathlib.Omega.{arith}
 use lib.Dec.{leb, ltb, eqb}
 use lib.ListN.{length, length-map, List·getD-eq-default}
+use lib.Seq.{ext-getD}
 use borrow.Author.Tests.{eqb-true, eqb-false, eq-eqb, ltb-true, ltb-false, leb-true, not-true}
-use Rattle.model.specs.Lists.{all, any, keep, mem, distinct, find}
-use Rattle.model.specs.Values.{Label, Third, free, sewn, critical, Dart, Block, Limits, serial-bound, code, label-key, has-label, is-free, is-sewn-to, is-critical-with, same-point, no-dart, or-no-dart, no-block}
+use Rattle.model.specs.Lists.{all, any, keep, mem, distinct, ascending, find}
+use Rattle.model.specs.Values.{Label, Third, free, sewn, critical, Dart, Block, Limits, serial-bound, code, label-key, has-label, is-free, is-sewn-to, is-critical-with, same-point, finite, no-dart, or-no-dart, no-block}
 use Rattle.model.specs.Cells.{serials, held, dart-at, next-in, opposite-in, third-at, previous-in, labelled}
-use Rattle.model.specs.Sound.{third-in-range, dart-in-range, sewn-along, third-right, thirds-right, label-right, labels-right, sewn-points, points-agree, block-at, all-darts, share-label, paired, labels-paired, same-across, points-across, Sound}
+use Rattle.model.specs.Sound.{third-in-range, dart-in-range, coordinates-finite, sewn-along, third-right, thirds-right, label-right, labels-right, sewn-points, points-agree, block-at, all-darts, share-label, paired, labels-paired, same-across, points-across, made-before, makers-right, Sound}
 use Rattle.model.specs.Image.{label-in}
 use Rattle.model.specs.Runs.{Whole, other-with, third-of, whole-map, State, start, or-nothing, nx, op, th}
 use Rattle.laws.proofs.Members.{In, or-left, or-right, in-eq, ascending-distinct, keep-map}
+use Rattle.laws.proofs.Places.{length-tab, getD-tab}
 use Rattle.laws.proofs.Tests.{by-cases, and-intro, and-left, and-right, not-equal, found-key, all-at}
 use Rattle.theory.proofs.BlockLaws.{held-found, at-held, Links, found-in, found-self}
 use Rattle.theory.proofs.ImageLaws.{label-back, Parts, ranges-of}
 use Rattle.theory.proofs.MeshLaws.{MeshParts, mesh-parts}
 use Rattle.agreement.proofs.Arrived.{es}
 use Rattle.agreement.proofs.BlockSound.{same-point-is}
-use Rattle.agreement.proofs.Described.{pt, Crossing, found-there}
-use Rattle.agreement.proofs.Homes.{sorted-in, in-sorted, Home, homes, one-of-two, distinct-all, block-number, block-is-sound, block-links, home-of, holder-is, one-home}
+use Rattle.agreement.proofs.Described.{pt, third-by, dart-by, members, block-by, mesh-by, Crossing, Map, Labelled, Inv, found-there, absent-not-found, table-unique, darts-by, found-by, in-order-by, kind-free, kind-sewn, kind-critical}
+use Rattle.agreement.proofs.Homes.{sorted-in, in-sorted, sorted-ascends, Home, homes, one-of-two, distinct-all, block-number, block-counts, block-is-sound, block-links, home-of, holder-is, one-home}
 
 -- a table with distinct serials is what its serials find
 self-table : (ds es : List Dart) → distinct (serials ds) ≡ true → ((d : Dart) → find (λ e. e .serial) (d .serial) ds ≡ some d → find (λ e. e .serial) (d .serial) es ≡ some d) → map (dart-at es) (serials ds) ≡ ds
@@ -497,3 +499,191 @@ module _ (lims : ℕ → Limits) (m : List Block) (sound : Sound lims m) where
       let q = same-point-is _ _ (subst (λ (z : Third). same-across m (dart-at (ds b) x) z ≡ true) e (across-test b x a)) in
       pt-at b x a ∙ q ∙ ap (λ (d : Dart). dart-at (ds o) (d .next) .point) (w .found-by-label) ∙ ap (λ (z : ℕ). dart-at (ds o) z .point) (sym (nx-at o (w .mate) (w .there)))
       ∙ sym (pt-at o (nx u (w .mate)) (next-of-at o (w .mate) (w .there))) ∙ ap (λ (z : ℕ). pt u (nx u z)) (sym (th-critical b x o l a e w)))
+
+  finite-at : (b x : ℕ) → At b x → finite (pt u x) ≡ true
+  unfolding coordinates-finite
+  finite-at b x a = ap finite (pt-at b x a) ∙ test-at (λ d. finite (d .point)) b x (sound-at b (a .below) .finite) a
+
+  inside-at : (x : ℕ) → In x (u .darts) → (w : Whole) × (u .links x ≡ some w)
+  inside-at x h = let q = where-at x h in (_, links-at (q .0) x (q .1))
+
+  outside-at : (x : ℕ) → mem x (u .darts) ≡ false → u .links x ≡ none
+  unfolding start whole-map
+  outside-at x h = rw (absent-not-found x D (go (mem x (serials D)) refl))
+    where
+      go : (o : Bool) → mem x (serials D) ≡ o → mem x (serials D) ≡ false
+      go false e = e
+      go true e = absurd (true≢false (sym (in-sorted (serials D) x e) ∙ h))
+
+  onto-at : (x : ℕ) → In x (u .darts) → (y : ℕ) × In y (u .darts) × (nx u y ≡ x)
+  onto-at x h =
+      let q = where-at x h in
+      let b = q .0 in
+      let l = L b (q .1 .below) in
+      let y = previous-in (ds b) x in
+      let ay : At b y = record { below = q .1 .below; held-there = l .previous-in-block x (q .1 .held-there) } in
+      (y, here-at b y ay, nx-at b y ay ∙ l .next-previous x (q .1 .held-there))
+
+  one-at : (x y : ℕ) → In x (u .darts) → In y (u .darts) → nx u x ≡ nx u y → x ≡ y
+  one-at x y h n e =
+      let a = where-at x h in
+      let c = where-at y n in
+      let same : a .0 ≡ c .0 = one-home lims m sound (a .0) (c .0) (nx u x) (a .1 .below) (c .1 .below) (next-of-at (a .0) x (a .1) .held-there)
+      (in-eq (nx u x) (nx u y) (serials (ds (c .0))) e (next-of-at (c .0) y (c .1) .held-there)) in
+      let ay : At (a .0) y = subst (λ (b : ℕ). At b y) (sym same) (c .1) in
+      let l = L (a .0) (a .1 .below) in
+      sym (l .previous-next x (a .1 .held-there)) ∙ ap (previous-in (ds (a .0))) (sym (nx-at (a .0) x (a .1)) ∙ e ∙ nx-at (a .0) y ay) ∙ l .previous-next y (ay .held-there)
+
+  start-map : Map u
+  start-map = record {
+    ordered = order;
+    inside = inside-at;
+    outside = outside-at;
+    positive = λ x h. let q = where-at x h in positive-at (q .0) x (q .1) .0;
+    serial-small = λ x h. let q = where-at x h in positive-at (q .0) x (q .1) .1;
+    next-in-map = λ x h. let q = where-at x h in here-at (q .0) (nx u x) (next-of-at (q .0) x (q .1));
+    next-onto = onto-at;
+    next-one = one-at;
+    opposite-in-map = λ x h. let q = where-at x h in here-at (q .0) (op u x) (opposite-of-at (q .0) x (q .1));
+    opposite-twice = λ x h. let q = where-at x h in let l = L (q .0) (q .1 .below) in
+        op-at (q .0) (op u x) (opposite-of-at (q .0) x (q .1)) ∙ ap (opposite-in (ds (q .0))) (op-at (q .0) x (q .1)) ∙ l .opposite-opposite x (q .1 .held-there);
+    opposite-other = λ x h e. let q = where-at x h in L (q .0) (q .1 .below) .opposite-other x (q .1 .held-there) (sym (op-at (q .0) x (q .1)) ∙ e);
+    third-in-map = λ x h. let q = where-at x h in third-in-map-at (q .0) x (q .1);
+    third-twice = λ x h. let q = where-at x h in third-twice-at (q .0) x (q .1);
+    third-other = λ x h. let q = where-at x h in third-other-at (q .0) x (q .1);
+    third-next = λ x h. let q = where-at x h in third-next-at (q .0) x (q .1);
+    third-ends = λ x h. let q = where-at x h in third-ends-at (q .0) x (q .1);
+    third-goes-on = λ x h. let q = where-at x h in third-goes-at (q .0) x (q .1);
+    point-finite = λ x h. let q = where-at x h in finite-at (q .0) x (q .1);
+    point-ring = λ x h. let q = where-at x h in point-ring-at (q .0) x (q .1);
+    point-third = λ x h. let q = where-at x h in point-third-at (q .0) x (q .1);
+    cell-next = λ x h. let q = where-at x h in number-at (q .0) (nx u x) (next-of-at (q .0) x (q .1)) ∙ sym (number-at (q .0) x (q .1));
+    cell-opposite = λ x h. let q = where-at x h in number-at (q .0) (op u x) (opposite-of-at (q .0) x (q .1)) ∙ sym (number-at (q .0) x (q .1));
+  }
+    where
+      order : ascending (u .darts) ≡ true
+      order = unfold start in (sorted-ascends (serials D) (distinct-all lims m sound))
+
+  -- THE LABELS
+  pub start-label : ℕ → Label
+  start-label x = label-or (third-at D x)
+
+  label-at : (b x o : ℕ) (l : Label) → At b x → third-at (ds b) x ≡ critical o l → start-label x ≡ l
+  unfolding start-label
+  label-at b x o l a e = ap label-or (ap (λ (d : Dart). d .third) (at-whole b x a) ∙ e)
+
+  -- a dart that crosses is critical
+  record Critical (x : ℕ) : Type 0 where
+    block : ℕ
+    place : At block x
+    other : ℕ
+    label : Label
+    is : third-at (ds block) x ≡ critical other label
+
+  crossing-critical : (x : ℕ) → Crossing u x → Critical x
+  crossing-critical x c =
+      let q = where-at x (c .here) in
+      let b = q .0 in
+      let a = q .1 in
+      by-third (Critical x) b x a
+      (λ e. absurd (c .linked (th-free b x a e)))
+      (λ y e. absurd (c .other (ap (u .number) (th-sewn b x y a e) ∙ number-at b y (sewn-at b x y a e .there) ∙ sym (number-at b x a))))
+      (λ o l e. record { block = b; place = a; other = o; label = l; is = e })
+
+  made-test : (b x : ℕ) → At b x → made-before m (third-at (ds b) x) ≡ true
+  unfolding makers-right block-at
+  made-test b x a = test-at (λ d. made-before m (d .third)) b x (all-at (λ c. all (λ d. made-before m (d .third)) (c .darts)) no-block m b (P .makers) (a .below)) a
+
+  made-at : (x : ℕ) (c : Critical x) → (start-label x .maker < k) × (start-label x .number < block-at m (start-label x .maker) .counter) × (start-label x .position ≤ 4095)
+  unfolding made-before
+  made-at x c =
+      let l = c .label in
+      let t : made-before m (critical (c .other) l) ≡ true = subst (λ (z : Third). made-before m z ≡ true) (c .is) (made-test (c .block) x (c .place)) in
+      let g : third-in-range (critical (c .other) l) ≡ true = subst (λ (z : Third). third-in-range z ≡ true) (c .is) (range-at (c .block) x (c .place)) in
+      rw (label-at (c .block) x (c .other) l (c .place) (c .is)) (
+        ltb-true (l .maker) k (and-left (ltb (l .maker) k) _ t),
+        ltb-true (l .number) (block-at m (l .maker) .counter) (and-right (ltb (l .maker) k) _ t),
+        leb-true (l .position) 4095 (and-right (leb (c .other) 15 && leb (l .maker) 15 && ltb (l .number) (2 ^ 32)) _ g),
+      )
+
+  start-labelled : Labelled k u start-label
+  unfolding start
+  start-labelled = record {
+    paired = λ x h. let c = crossing-critical x h in
+        let w = mate-at (c .block) x (c .other) (c .label) (c .place) (c .is) in
+        ap start-label (th-critical (c .block) x (c .other) (c .label) (c .place) (c .is) w) ∙ label-at (c .other) (w .mate) (c .block) (c .label) (w .there) (w .names-back) ∙ sym (label-at (c .block) x (c .other) (c .label) (c .place) (c .is));
+    apart = apart-labels;
+    maker-small = λ x h. made-at x (crossing-critical x h) .0;
+    number-small = λ x h. made-at x (crossing-critical x h) .1;
+    position-small = λ x h. made-at x (crossing-critical x h) .2;
+  }
+    where
+      apart-labels : (x y : ℕ) → Crossing u x → Crossing u y → start-label x ≡ start-label y → (x ≡ y) ⊎ (th u x ≡ y)
+      apart-labels x y hx hy e =
+          let c = crossing-critical x hx in
+          let d = crossing-critical y hy in
+          let same : c .label ≡ d .label = sym (label-at (c .block) x (c .other) (c .label) (c .place) (c .is)) ∙ e ∙ label-at (d .block) y (d .other) (d .label) (d .place) (d .is) in
+          let w = mate-at (c .block) x (c .other) (c .label) (c .place) (c .is) in
+          let bearing : bears (c .label) y ≡ true = subst (λ (l : Label). bears l y ≡ true) (sym same) (bears-at (d .block) y (d .other) (d .label) (d .place) (d .is)) in
+          go (th-critical (c .block) x (c .other) (c .label) (c .place) (c .is) w) (only-two (c .block) x (c .other) (c .label) (c .place) (c .is) w y (home-at (d .block) y (d .place) .in-mesh) bearing)
+        where
+          go : {n : ℕ} → th u x ≡ n → (x ≡ y) ⊎ (n ≡ y) → (x ≡ y) ⊎ (th u x ≡ y)
+          go t (inl q) = inl q
+          go t (inr q) = inr (t ∙ q)
+
+  -- THE MESH IS DESCRIBED
+  dart-is : (b x : ℕ) → (a : At b x) → dart-at (ds b) x ≡ dart-by u start-label x
+  unfolding dart-by
+  dart-is b x a = λ n. record { serial = serial-at b x a n; next = sym (nx-at b x a) n; opposite = sym (op-at b x a) n; third = thirds n; point = sym (pt-at b x a) n }
+    where
+      thirds : third-at (ds b) x ≡ third-by u start-label x
+      thirds = by-third (third-at (ds b) x ≡ third-by u start-label x) b x a
+          (λ e. e ∙ sym (kind-free u start-label x (th-free b x a e)))
+          (λ y e. let s = sewn-at b x y a e in
+          let t = th-sewn b x y a e in
+          e ∙ ap sewn (sym t) ∙ sym (kind-sewn u start-label x (λ z. let p = positive-at b y (s .there) .0 in let q = sym t ∙ z in omega arith) (ap (u .number) t ∙ number-at b y (s .there) ∙ sym (number-at b x a))))
+          (λ o l e. let w = mate-at b x o l a e in
+          let c = mate-crosses b x o l a e in
+          let number : o ≡ u .number (th u x) = sym (ap (u .number) (th-critical b x o l a e w) ∙ number-at o (w .mate) (w .there)) in
+          e ∙ ap (λ (n : ℕ). critical n l) number ∙ ap (critical (u .number (th u x))) (sym (label-at b x o l a e)) ∙ sym (kind-critical u start-label x (c .linked) (c .other)))
+
+  found-same : (b : ℕ) → b < k → (x : ℕ) → find (λ d. d .serial) x (ds b) ≡ find (λ d. d .serial) x (darts-by u start-label b)
+  found-same b below x = by-cases (mem x (serials (ds b)))
+      (λ h. let a : At b x = record { below = below; held-there = h } in
+      found-at b x a ∙ ap {B = Option Dart} some (dart-is b x a) ∙ sym (found-by u start-label b x ∙ rw (here-at b x a, number-at b x a, eq-eqb b b refl)))
+      (λ h. absent-not-found x (ds b) h ∙ sym (found-by u start-label b x ∙ rw (no-one h)))
+    where
+      no-one : mem x (serials (ds b)) ≡ false → (mem x (u .darts) && eqb (u .number x) b) ≡ false
+      no-one h = go (mem x (u .darts) && eqb (u .number x) b) refl
+        where
+          go : (o : Bool) → (mem x (u .darts) && eqb (u .number x) b) ≡ o → (mem x (u .darts) && eqb (u .number x) b) ≡ false
+          go false e = e
+          go true e =
+              let q = where-at x (and-left (mem x (u .darts)) _ e) in
+              let same : q .0 ≡ b = sym (number-at (q .0) x (q .1)) ∙ eqb-true (u .number x) b (and-right (mem x (u .darts)) _ e) in
+              absurd (true≢false (sym (subst (λ (c : ℕ). In x (serials (ds c))) same (q .1 .held-there)) ∙ h))
+
+  darts-same : (b : ℕ) → b < k → ds b ≡ darts-by u start-label b
+  darts-same b below = table-unique (ds b) (darts-by u start-label b) (ranges-of (lims b) (block-at m b) (sound-at b below .ranges) .in-order) (in-order-by u start-label b (start-map .ordered)) (found-same b below)
+
+  block-same : (b : ℕ) → b < k → block-at m b ≡ block-by u start-label b
+  unfolding block-by start
+  block-same b below = λ n. record { number = block-number lims m sound b below n; counter = block-at m b .counter; darts = darts-same b below n }
+
+  pub described : m ≡ mesh-by k u start-label
+  unfolding block-at
+  described = ext-getD no-block m (mesh-by k u start-label) (sym (length-tab (block-by u start-label) k)) (λ b h. block-same b h ∙ sym (getD-tab (block-by u start-label) k b no-block h))
+
+  pub start-inv : Inv lims k u start-label
+  start-inv = record {
+    some-blocks = block-counts lims m sound .0;
+    few-blocks = block-counts lims m sound .1;
+    map-sound = start-map;
+    labelled = start-labelled;
+    in-a-block = λ x h. let q = where-at x h in rw (number-at (q .0) x (q .1)) (q .1 .below);
+    counts-small = λ b h. small b h;
+    blocks-fit = λ b h. let a = ranges-of (lims b) (block-at m b) (sound-at b h .ranges) .few-darts in let c = ap length (darts-same b h) in let n = length-map (members u b) (dart-by u start-label) in omega arith;
+  }
+    where
+      small : (b : ℕ) → b < k → u .count b < 2 ^ 32
+      small b h = unfold start in (ranges-of (lims b) (block-at m b) (sound-at b h .ranges) .counter-small)

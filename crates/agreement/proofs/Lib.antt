@@ -23,3 +23,4 @@ pub mod Finishes
 pub mod Keeps
 pub mod Homes
 pub mod Begins
+pub mod Agreement

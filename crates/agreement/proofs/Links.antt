@@ -72,4 +72,3 @@ module _ (p : ℕ → ℕ) (T : ℕ → Third) (j i : ℕ) where
           → (In x (concat fs) → find (λ k. k .dart) (p x) (label-faces p j i (suc c) fs) ≡ none → ⊥) → ⊥
       go (inl a) u v ih = links-reach c 0 f x a u
       go (inr a) u v ih = ih a v
-

@@ -137,8 +137,7 @@ module _ (u : State) (M : Map u) (i s : ℕ) (v : List ℕ) (C : Cell u i s v) w
     unfolding cycle
     facing-in x h =
         let r = faces-only (nx u) v (C .next-closed) next-one-cell (C .few) (facing-starts p) x (rw (facing-are p) at h) in
-        let a = start-there p (r .0) (r .1) in
-        (
+        let a = start-there p (r .0) (r .1) in (
           face-stays (nx u) v (C .next-closed) next-one-cell (C .few) (r .0) x (a .0) (r .2),
           along-face (nx u) v (C .next-closed) next-one-cell (C .few) (Facing u b) (facing-next b) (r .0) x (a .0) (tells .says (r .0) (a .0) (a .2)) (r .2),
         )
@@ -151,8 +150,7 @@ module _ (u : State) (M : Map u) (i s : ℕ) (v : List ℕ) (C : Cell u i s v) w
         let m = start-in (nx u) v (C .next-closed) next-one-cell (C .few) x h in
         let sv = face-stays (nx u) v (C .next-closed) next-one-cell (C .few) x st h m in
         let cs = along-face (nx u) v (C .next-closed) next-one-cell (C .few) (Facing u b) (facing-next b) x st h c m in
-        let is = start-starts (nx u) v (C .next-closed) next-one-cell (C .few) x h in
-        (
+        let is = start-starts (nx u) v (C .next-closed) next-one-cell (C .few) x h in (
           st,
           in-keep (λ y. p (cycle (nx u) y)) st (keep (λ y. all (leb y) (cycle (nx u) y)) v) (in-keep (λ y. all (leb y) (cycle (nx u) y)) st v sv is) (tells .hears st sv cs),
           m,

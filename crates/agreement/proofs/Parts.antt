@@ -354,11 +354,13 @@ module _ (lims : ℕ → Limits) (fit : Fit lims) (k : ℕ) (u : State) (label :
   unfolding starts2 cycle
   starts2-meet x h =
       let a = keep-in (λ x. is2 (third-by u label x)) all-starts x h in
-      let b = keep-in (λ x. all (leb x) (cycle (nx u) x)) v₅ x (a .0) in
-      (by-kind u label x
-      (λ e. absurd (true≢false (sym (a .1) ∙ ap is2 (kind-free u label x e))))
-      (λ t e. absurd (true≢false (sym (a .1) ∙ ap is2 (kind-sewn u label x t e))))
-      (λ t e. record { in-cell = b .0; facing = record { linked = t; block = eqb-true _ _ (sym (ap is2 (kind-critical u label x t e)) ∙ a .1) } }), b .1)
+      let b = keep-in (λ x. all (leb x) (cycle (nx u) x)) v₅ x (a .0) in (
+        by-kind u label x
+            (λ e. absurd (true≢false (sym (a .1) ∙ ap is2 (kind-free u label x e))))
+            (λ t e. absurd (true≢false (sym (a .1) ∙ ap is2 (kind-sewn u label x t e))))
+            (λ t e. record { in-cell = b .0; facing = record { linked = t; block = eqb-true _ _ (sym (ap is2 (kind-critical u label x t e)) ∙ a .1) } }),
+        b .1,
+      )
 
   abbrev met-least : Label → ℕ
   met-least l = least (cycle (next-in es₅) (labelled l es₅ .serial))

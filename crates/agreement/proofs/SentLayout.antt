@@ -74,13 +74,12 @@ placed-size nx number n [] e = tt
 placed-size nx number n (f ∷ fs) e =
     let some-dart = e .0 in
     let size = length-map f (face-dart-of nx number) in
-    let here : n - n ≡ 0 = omega arith in
-    (
+    let here : n - n ≡ 0 = omega arith in (
       (omega arith, rw (here, size, lt-ltb 0 (length f) some-dart)),
       each-weaken (placed (n + length f) fs) (placed-size nx number (n + length f) fs (e .1)) (λ q h.
-      let low = h .0 in
-      let past : q .at - n - length f ≡ q .at - (n + length f) = omega arith in
-      (omega arith, rw (size, le-ltb (q .at - n) (length f) (omega arith), past) (h .1))),
+          let low = h .0 in
+          let past : q .at - n - length f ≡ q .at - (n + length f) = omega arith in
+          (omega arith, rw (size, le-ltb (q .at - n) (length f) (omega arith), past) (h .1))),
     )
 
 firsts-fewer : (l : List ℕ) → length (firsts l) ≤ length l
