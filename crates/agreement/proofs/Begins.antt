@@ -17,7 +17,7 @@ use Rattle.model.specs.Sound.{third-in-range, dart-in-range, coordinates-finite
 use Rattle.model.specs.Image.{label-in}
 use Rattle.model.specs.Runs.{Whole, other-with, third-of, whole-map, State, start, or-nothing, nx, op, th}
 use Rattle.laws.proofs.Members.{In, or-left, or-right, in-eq, ascending-distinct, keep-map}
-use Rattle.laws.proofs.Places.{length-tab, getD-tab}
+use Rattle.laws.proofs.Tables.{length-tab, getD-tab}
 use Rattle.laws.proofs.Tests.{by-cases, and-intro, and-left, and-right, not-equal, found-key, all-at}
 use Rattle.theory.proofs.BlockLaws.{held-found, at-held, Links, found-in, found-self}
 use Rattle.theory.proofs.ImageLaws.{label-back, Parts, ranges-of}

@@ -23,7 +23,7 @@ use Rattle.model.specs.Arrival.{redirect-checks, update-links, redirected, redi
 use Rattle.model.specs.Calls.{served, number-of, Result, storing, release, redirect}
 use Rattle.model.specs.Runs.{Request, releasing, Step, called, memory-at, run-steps, messages-in, addressee, redirect-step, last-steps, State, nx, th, cell}
 use Rattle.laws.proofs.Members.{In, in-here, in-there, in-keep, in-cons, in-eq, keep-in, keep-ascending, ascending-distinct, Each}
-use Rattle.laws.proofs.Places.{length-tab, getD-tab, tab-any, map-tab, tab-ascending}
+use Rattle.laws.proofs.Tables.{length-tab, getD-tab, tab-any, map-tab, tab-ascending}
 use Rattle.laws.proofs.Tests.{by-cases, and-intro, and-left, and-right, not-equal}
 use Rattle.theory.proofs.CallLaws.{storing-serves, release-is, redirect-is}
 use Rattle.theory.proofs.CutLaws.{Framed, framed-is, messages-back}

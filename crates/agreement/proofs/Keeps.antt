@@ -21,7 +21,7 @@ use Rattle.model.specs.Calls.{number-of, Result, storing, writing, send, receiv
 use Rattle.model.specs.Runs.{Request, refused-by, finished, unfinished, Step, Done, written, called, memory-at, done, run-steps, messages-in, send-step, receive-step, last-steps, sent-messages, Round, round, State, nx, op, th, cell, inner-faces, request-checks, after-move, Undivided, undivided}
 use Rattle.model.specs.Demands.{Enough}
 use Rattle.laws.proofs.Members.{all-in}
-use Rattle.laws.proofs.Places.{getD-tab, map-tab}
+use Rattle.laws.proofs.Tables.{getD-tab, map-tab}
 use Rattle.laws.proofs.Tests.{by-cases, and-left, and-right, yes-then, no-more, no-here, yes-first, first-no-append, first-no-stays}
 use Rattle.theory.proofs.CallLaws.{storing-serves, storing-refuses, with-fifteen, writing-serves, writing-refuses, send-is, receive-is}
 use Rattle.agreement.proofs.AfterMove.{after, after-is}

@@ -18,7 +18,7 @@ use Rattle.model.specs.Image.{image}
 use Rattle.model.specs.Runs.{Whole, other-with, third-of, whole-map, holder, State, or-nothing, nx, th}
 use Rattle.model.specs.Demands.{Matches}
 use Rattle.laws.proofs.Members.{In, in-here, in-there, in-cons, in-append-left, in-append-right, append-in, distinct-append, keep-ascending, ascending-distinct, keep-map, map-append, two-kept}
-use Rattle.laws.proofs.Places.{length-tab, getD-tab, tab-all}
+use Rattle.laws.proofs.Tables.{length-tab, getD-tab, tab-all}
 use Rattle.laws.proofs.Tests.{by-cases, and-intro, and-left, and-right, not-equal}
 use Rattle.theory.proofs.MeshLaws.{parts-mesh}
 use Rattle.agreement.proofs.BlockSound.{same-point-self, code-one, block-sound}

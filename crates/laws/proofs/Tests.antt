@@ -4,12 +4,12 @@ use mathlib.Core.Logic.{_⊎_, inl, inr, _≢_}
 use mathlib.Core.Bool.{Bool, true, false, true≢false, cond, not, _&&_, _||_}
 use mathlib.Core.List.{List, [], _∷_, _++_, map}
 use mathlib.Core.Option.{none, some, Option·map, Option·none-ne-some, Option·some-injective}
-use Prim.Native.Nat.{ℕ, zero, suc, _<_}
+use Prim.Native.Nat.{ℕ, zero, suc, _+_, _<_, _≤_}
 use native.Mathlib.Omega.{arith}
-use native.Mathlib.Nat.{not-suc-le-zero}
+use native.Mathlib.Nat.{eq-or-lt-of-le, not-suc-le-zero}
 use lib.Dec.{ltb, eqb}
 use lib.ListN.{length, getD}
-use borrow.Author.Tests.{eqb-true, eqb-false, eq-eqb, ne-eqb, ltb-true}
+use borrow.Author.Tests.{eqb-true, eqb-false, eq-eqb, ne-eqb, ltb-true, ltb-false}
 use Rattle.model.specs.Lists.{all, keep, same-list, find, insert, Check, first-no}
 
 -- to go by a test and keep its equation
@@ -17,6 +17,18 @@ pub by-cases {ℓ} : {C : Type ℓ} (b : Bool) → (b ≡ true → C) → (b ≡
 by-cases true f g = f refl
 by-cases false f g = g refl
 
+-- TWO NUMBERS
+pub lt-or-ge : (a b : ℕ) → (a < b) ⊎ (b ≤ a)
+lt-or-ge a b = by-cases (ltb a b) (λ e. inl (ltb-true a b e)) (λ e. inr (ltb-false a b e))
+
+pub eq-or-ne : (a b : ℕ) → (a ≡ b) ⊎ (a ≡ b → ⊥)
+eq-or-ne a b = by-cases (eqb a b) (λ e. inl (eqb-true a b e)) (λ e. inr (eqb-false a b e))
+
+-- the code's i + 1
+pub last-or-below : {k i : ℕ} → k < i + 1 → (k ≡ i) ⊎ (k < i)
+last-or-below {k} {i} h = eq-or-lt-of-le (omega arith)
+
+-- TESTS JOINED
 pub and-intro : {a b : Bool} → a ≡ true → b ≡ true → (a && b) ≡ true
 and-intro p q = rw (p, q)
 

@@ -12,7 +12,7 @@ use borrow.Author.Tests.{eqb-true, ltb-true, ltb-false, leb-true, leb-false, le-
 use Rattle.model.specs.Lists.{all, tab}
 use Rattle.model.specs.Layouts.{groups, group-below, group, group-counts, group-count}
 use Rattle.laws.proofs.Tests.{by-cases}
-use Rattle.laws.proofs.Places.{all-tab}
+use Rattle.laws.proofs.Tables.{all-tab}
 
 -- THE TABLE'S RULE, by one computed test
 abbrev rule : ℕ → ℕ

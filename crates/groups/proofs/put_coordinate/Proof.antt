@@ -1,0 +1,65 @@
+-- `groups::put_coordinate` meets its contract. The loop's invariant (`Spelling`): what is left of the word, put where the next byte goes,
+-- gives the same slice in the end. The measure is how many bytes are left. Assumes nothing.
+use native.Mathlib.Omega.{arith}
+use borrow.Author.Needs.{needs}
+use Rattle.groups.proofs.Coordinates.{Spelling, spelling-start, spelling-step, spelling-end}
+use Rattle.groups.proofs.put_coordinate.Statement.{statement}
+use Rattle.groups.proofs.put_coordinate.Tie as tie
+
+abbrev Inv-loop : tie.InvT-loop
+Inv-loop out₀ at word p₀ x₀ left₀ out p x left =
+    Spelling out₀ at word out p x left
+
+abbrev μ-loop : tie.MeasureT-loop
+μ-loop out₀ at word p₀ x₀ left₀ out p x left =
+    left
+
+loop-holds : tie.Need-loop-holds Inv-loop μ-loop
+loop-holds c =
+    spelling-start _ _ _ (c .pre)
+
+cast-out : tie.Need-cast-out Inv-loop μ-loop
+cast-out c = search needs
+
+slice-write-out : tie.Need-slice-write-out Inv-loop μ-loop
+slice-write-out c =
+    omega (arith, c .before .loop .inv .end, c .before .loop .inv .room, c .before .loop .inv .same-length)
+
+add-p : tie.Need-add-p Inv-loop μ-loop
+add-p c =
+    omega (arith, c .before .loop .inv .end, c .before .loop .inv .room, c .before .loop .inv .same-length)
+
+sub-left : tie.Need-sub-left Inv-loop μ-loop
+sub-left c = search needs
+
+loop-less : tie.Need-loop-less Inv-loop μ-loop
+loop-less c =
+    omega arith
+
+loop-again : tie.Need-loop-again Inv-loop μ-loop
+loop-again c =
+    spelling-step (c .before .loop .inv) (c .loop-test .taken)
+
+same-length : tie.Need-same-length Inv-loop μ-loop
+same-length c =
+    c .before .loop .inv .same-length
+
+returns : tie.Need-returns Inv-loop μ-loop
+returns c =
+    spelling-end (c .before .loop .inv) (omega arith)
+
+pub put-coordinate-spec : {M : Type 1} → statement M
+put-coordinate-spec =
+    tie.close
+    (tie.spec
+    Inv-loop
+    μ-loop
+    loop-holds
+    cast-out
+    slice-write-out
+    add-p
+    sub-left
+    loop-less
+    loop-again
+    same-length
+    returns)

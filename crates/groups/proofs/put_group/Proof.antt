@@ -1,0 +1,26 @@
+-- `groups::put_group` meets its contract. Five groups are enough below 2^32, so that nine allowed are the same. Assumes nothing.
+use native.Mathlib.Omega.{arith}
+use borrow.Author.Needs.{needs}
+use Rattle.model.specs.Layouts.{group-below, group}
+use Rattle.groups.proofs.Writing.{four-is-eight}
+use Rattle.groups.proofs.put_group.Statement.{statement}
+use Rattle.groups.proofs.put_group.Tie as tie
+
+widen-requires : tie.Need-widen-requires
+widen-requires c κs = search needs
+
+put-number-requires : tie.Need-put-number-requires
+unfolding group group-below
+put-number-requires c κs =
+    (omega arith, rw (c .widen .ensures, four-is-eight (c .before .before .before .args .v) (omega arith)) (c .before .before .before .pre))
+
+same-length : tie.Need-same-length
+same-length c = search needs
+
+returns : tie.Need-returns
+unfolding group group-below
+returns c =
+    rw (c .before .before .before .widen .ensures, four-is-eight (c .before .before .before .before .before .before .args .v) (omega arith)) at (c .before .before .put-number .ensures)
+
+pub put-group-spec : {M : Type 1} → statement M
+put-group-spec = tie.close (tie.spec widen-requires put-number-requires same-length returns)

@@ -1,0 +1,83 @@
+-- `groups_run::show` meets its contract. A number ends within the sixteen bytes. Assumes nothing.
+use mathlib.Core.Path.{sym}
+use native.Mathlib.Omega.{arith}
+use lib.Seq.{length-take-le}
+use borrow.Author.Needs.{needs}
+use Rattle.groups.proofs.Counts.{group-most}
+use Rattle.groups.proofs.Writing.{stored-length}
+use Rattle.groups_run.proofs.show.Statement.{statement}
+use Rattle.groups_run.proofs.show.Tie as tie
+
+returns : tie.Need-returns
+returns c = search needs
+
+put-group-requires : tie.Need-put-group-requires
+put-group-requires c κs =
+    omega (arith, group-most (c .before .before .before .args .v) (omega arith), c .before .if1 .left)
+
+number-requires : tie.Need-number-requires
+number-requires c κs = search needs
+
+slice-aggregate-text : tie.Need-slice-aggregate-text
+slice-aggregate-text c = search needs
+
+text-requires : tie.Need-text-requires
+text-requires c κs = search needs
+
+group-count-requires : tie.Need-group-count-requires
+group-count-requires c κs = search needs
+
+place-requires : tie.Need-place-requires
+place-requires c κs = search needs
+
+slice-reshare-prefix-bytes : tie.Need-slice-reshare-prefix-bytes
+slice-reshare-prefix-bytes c =
+    omega (arith, group-most (c .before .before .before .before .before .before .before .before .before .before .before .args .v) (omega arith), c .before .before .before .before .before .before .before .before .before .if1 .left, c .before .before .before .before .before .before .before .put-group .ensures .past, stored-length (c .before .before .before .before .before .before .before .put-group .ensures))
+
+slice-aggregate-bytes : tie.Need-slice-aggregate-bytes
+slice-aggregate-bytes c =
+    sym (length-take-le (c .before .before .before .before .before .before .before .before .put-group .result) (c .before .before .before .before .before .before .before .before .put-group .last .0) (omega (arith, group-most (c .before .before .before .before .before .before .before .before .before .before .before .before .args .v) (omega arith), c .before .before .before .before .before .before .before .before .before .before .if1 .left, c .before .before .before .before .before .before .before .before .put-group .ensures .past, stored-length (c .before .before .before .before .before .before .before .before .put-group .ensures))))
+
+bytes-requires : tie.Need-bytes-requires
+bytes-requires c κs = search needs
+
+slice-reshare-prefix-read-group : tie.Need-slice-reshare-prefix-read-group
+slice-reshare-prefix-read-group c =
+    omega (arith, group-most (c .before .before .before .before .before .before .before .before .before .before .before .before .before .args .v) (omega arith), c .before .before .before .before .before .before .before .before .before .before .before .if1 .left, c .before .before .before .before .before .before .before .before .before .put-group .ensures .past, stored-length (c .before .before .before .before .before .before .before .before .before .put-group .ensures))
+
+slice-aggregate-read-group : tie.Need-slice-aggregate-read-group
+slice-aggregate-read-group c =
+    sym (length-take-le (c .before .before .before .before .before .before .before .before .before .before .put-group .result) (c .before .before .before .before .before .before .before .before .before .before .put-group .last .0) (omega (arith, group-most (c .before .before .before .before .before .before .before .before .before .before .before .before .before .before .args .v) (omega arith), c .before .before .before .before .before .before .before .before .before .before .before .before .if1 .left, c .before .before .before .before .before .before .before .before .before .before .put-group .ensures .past, stored-length (c .before .before .before .before .before .before .before .before .before .before .put-group .ensures))))
+
+read-group-requires : tie.Need-read-group-requires
+read-group-requires c κs = search needs
+
+answer-requires : tie.Need-answer-requires
+answer-requires c κs = search needs
+
+same-length : tie.Need-same-length
+same-length c = search needs
+
+returns-2 : tie.Need-returns-2
+returns-2 c = search needs
+
+pub show-spec : {M : Type 1} → statement M
+show-spec =
+    tie.close
+    (tie.spec
+    returns
+    put-group-requires
+    number-requires
+    slice-aggregate-text
+    text-requires
+    group-count-requires
+    place-requires
+    slice-reshare-prefix-bytes
+    slice-aggregate-bytes
+    bytes-requires
+    slice-reshare-prefix-read-group
+    slice-aggregate-read-group
+    read-group-requires
+    answer-requires
+    same-length
+    returns-2)

@@ -1,0 +1,44 @@
+-- `groups_run::show_coordinate` meets its contract. A coordinate ends within the sixteen bytes. Assumes nothing.
+use mathlib.Core.Path.{sym}
+use native.Mathlib.Omega.{arith}
+use lib.Seq.{length-take-le}
+use borrow.Author.Needs.{needs}
+use Rattle.groups.proofs.Coordinates.{coordinate-length}
+use Rattle.groups.proofs.Writing.{stored-length}
+use Rattle.groups_run.proofs.show_coordinate.Statement.{statement}
+use Rattle.groups_run.proofs.show_coordinate.Tie as tie
+
+returns : tie.Need-returns
+returns c = search needs
+
+put-coordinate-requires : tie.Need-put-coordinate-requires
+put-coordinate-requires c κs = search needs
+
+slice-reshare-prefix-read-coordinate : tie.Need-slice-reshare-prefix-read-coordinate
+slice-reshare-prefix-read-coordinate c =
+    omega (arith, coordinate-length (c .before .before .before .before .before .before .args .word), c .before .before .before .before .if1 .left, c .before .before .put-coordinate .ensures .past, stored-length (c .before .before .put-coordinate .ensures))
+
+slice-aggregate-read-coordinate : tie.Need-slice-aggregate-read-coordinate
+slice-aggregate-read-coordinate c =
+    sym (length-take-le (c .before .before .before .put-coordinate .result) (c .before .before .before .put-coordinate .last .0) (omega (arith, coordinate-length (c .before .before .before .before .before .before .before .args .word), c .before .before .before .before .before .if1 .left, c .before .before .before .put-coordinate .ensures .past, stored-length (c .before .before .before .put-coordinate .ensures))))
+
+read-coordinate-requires : tie.Need-read-coordinate-requires
+read-coordinate-requires c κs = search needs
+
+same-length : tie.Need-same-length
+same-length c = search needs
+
+returns-2 : tie.Need-returns-2
+returns-2 c = search needs
+
+pub show-coordinate-spec : {M : Type 1} → statement M
+show-coordinate-spec =
+    tie.close
+    (tie.spec
+    returns
+    put-coordinate-requires
+    slice-reshare-prefix-read-coordinate
+    slice-aggregate-read-coordinate
+    read-coordinate-requires
+    same-length
+    returns-2)

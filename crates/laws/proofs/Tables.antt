@@ -1,0 +1,153 @@
+-- Lists by place, `tab f n`, and lookups in a table whose keys ascend: the row of the key at place p is the row at place p.
+-- Assumes nothing.
+--   find-place, find-none, index-place, index-none    lookups by key
+--   tab-ascending, ascending-tab    the model's test of order
+use Prim.Native.Nat.{ℕ, zero, suc, _<_}
+use mathlib.Core.Path.{_≡_, refl, sym, ap}
+use mathlib.Core.Bool.{Bool, true, false, true≢false}
+use mathlib.Core.List.{List, _∷_, map}
+use mathlib.Core.Logic.{_⊎_, inl, inr, ⊎-elim}
+use mathlib.Core.Option.{none, some}
+use native.Mathlib.Omega.{arith}
+use lib.Dec.{eqb, ltb}
+use lib.ListN.{length, getD}
+use borrow.Author.Tests.{eq-eqb, ne-eqb, eqb-true, lt-ltb, ltb-true}
+use Rattle.model.specs.Lists.{all, any, mem, tab, find, index-of, ascending}
+use Rattle.model.specs.Values.{Dart}
+use Rattle.model.specs.Cells.{dart-at, held}
+use Rattle.laws.specs.Order.{Ascending}
+use Rattle.laws.proofs.Tests.{by-cases, lt-or-ge, and-intro, and-left, and-right, or-cases}
+
+-- LISTS BY PLACE
+module _ {A : Type 0} where
+  pub length-tab : (f : ℕ → A) (n : ℕ) → length (tab f n) ≡ n
+  length-tab f zero = refl
+  length-tab f (suc n) = ap suc (length-tab (λ k. f (suc k)) n)
+
+  pub getD-tab : (f : ℕ → A) (n p : ℕ) (d : A) → p < n → getD (tab f n) p d ≡ f p
+  getD-tab f zero p d h = absurd (omega arith)
+  getD-tab f (suc n) zero d h = refl
+  getD-tab f (suc n) (suc p) d h = getD-tab (λ k. f (suc k)) n p d (omega arith)
+
+  pub tab-cong : (f g : ℕ → A) (n : ℕ) → ((p : ℕ) → p < n → f p ≡ g p) → tab f n ≡ tab g n
+  tab-cong f g zero h = refl
+  tab-cong f g (suc n) h = rw (h 0 (omega arith), tab-cong (λ k. f (suc k)) (λ k. g (suc k)) n (λ p l. h (suc p) (omega arith)))
+
+  pub all-tab : (q : A → Bool) (f : ℕ → A) (n : ℕ) → all q (tab f n) ≡ true → (p : ℕ) → p < n → q (f p) ≡ true
+  all-tab q f zero e p h = absurd (omega arith)
+  all-tab q f (suc n) e zero h = and-left _ _ e
+  all-tab q f (suc n) e (suc p) h = all-tab q (λ k. f (suc k)) n (and-right (q (f 0)) _ e) p (omega arith)
+
+  pub tab-all : (q : A → Bool) (f : ℕ → A) (n : ℕ) → ((p : ℕ) → p < n → q (f p) ≡ true) → all q (tab f n) ≡ true
+  tab-all q f zero h = refl
+  tab-all q f (suc n) h = and-intro (h 0 (omega arith)) (tab-all q (λ k. f (suc k)) n (λ p l. h (suc p) (omega arith)))
+
+  pub tab-any : (q : A → Bool) (f : ℕ → A) (n p : ℕ) → p < n → q (f p) ≡ true → any q (tab f n) ≡ true
+  tab-any q f zero p h e = absurd (omega arith)
+  tab-any q f (suc n) zero h e = rw e
+  tab-any q f (suc n) (suc p) h e = by-cases (q (f 0)) (λ t. rw t) (λ t. rw t (tab-any q (λ k. f (suc k)) n p (omega arith) e))
+
+  pub any-tab : (q : A → Bool) (f : ℕ → A) (n : ℕ) → any q (tab f n) ≡ true → (p : ℕ) × (p < n) × (q (f p) ≡ true)
+  any-tab q f zero e = absurd (true≢false (sym e))
+  any-tab q f (suc n) e = go (or-cases (q (f 0)) _ e) (any-tab q (λ k. f (suc k)) n)
+    where
+      go : (q (f 0) ≡ true) ⊎ (any q (tab (λ k. f (suc k)) n) ≡ true)
+          → (any q (tab (λ k. f (suc k)) n) ≡ true → (p : ℕ) × (p < n) × (q (f (suc p)) ≡ true))
+          → (p : ℕ) × (p < suc n) × (q (f p) ≡ true)
+      go (inl t) r = (0, omega arith, t)
+      go (inr t) r = let w = r t in (suc (w .0), omega (arith, w .1), w .2)
+
+  pub none-tab : (q : A → Bool) (f : ℕ → A) (n : ℕ) → ((p : ℕ) → p < n → q (f p) ≡ false) → any q (tab f n) ≡ false
+  none-tab q f zero h = refl
+  none-tab q f (suc n) h = rw (h 0 (omega arith)) (none-tab q (λ k. f (suc k)) n (λ p l. h (suc p) (omega arith)))
+
+pub map-tab : {A B : Type 0} (g : A → B) (f : ℕ → A) (n : ℕ) → map g (tab f n) ≡ tab (λ k. g (f k)) n
+map-tab g f zero = refl
+map-tab g f (suc n) = ap (λ (l : List _). g (f 0) ∷ l) (map-tab g (λ k. f (suc k)) n)
+
+-- KEYS THAT ASCEND
+pub tail-ascends : {n : ℕ} {s : ℕ → ℕ} → Ascending (suc n) s → Ascending n (λ k. s (suc k))
+tail-ascends a i j l h = a (suc i) (suc j) (omega arith) (omega arith)
+
+-- one key stands at one place only
+pub one-place : {n : ℕ} {s : ℕ → ℕ} → Ascending n s → {p q : ℕ} → p < n → q < n → s p ≡ s q → p ≡ q
+one-place {n} {s} a {p} {q} hp hq e = ⊎-elim
+    (λ l. absurd (omega (arith, a p q l hq)))
+    (λ l. ⊎-elim (λ m. absurd (omega (arith, a q p m hp))) (λ m. omega arith) (lt-or-ge q p))
+    (lt-or-ge p q)
+
+pub tab-ascending : (s : ℕ → ℕ) (n : ℕ) → Ascending n s → ascending (tab s n) ≡ true
+unfolding ascending
+tab-ascending s zero a = refl
+tab-ascending s (suc n) a = and-intro (tab-all (ltb (s 0)) (λ k. s (suc k)) n (λ p l. lt-ltb _ _ (a 0 (suc p) (omega arith) (omega arith)))) (tab-ascending (λ k. s (suc k)) n (tail-ascends a))
+
+pub ascending-tab : (s : ℕ → ℕ) (n : ℕ) → ascending (tab s n) ≡ true → Ascending n s
+unfolding ascending
+ascending-tab s zero e i j l h = absurd (omega arith)
+ascending-tab s (suc n) e zero zero l h = absurd (omega arith)
+ascending-tab s (suc n) e zero (suc j) l h = ltb-true _ _ (all-tab (ltb (s 0)) (λ k. s (suc k)) n (and-left _ _ e) j (omega arith))
+ascending-tab s (suc n) e (suc i) zero l h = absurd (omega arith)
+ascending-tab s (suc n) e (suc i) (suc j) l h = ascending-tab (λ k. s (suc k)) n (and-right (all (ltb (s 0)) (tab (λ k. s (suc k)) n)) _ e) i j (omega arith) (omega arith)
+
+-- LOOKUPS: f by place, keyed by key
+module _ {A : Type 0} (key : A → ℕ) where
+  pub find-place : (f : ℕ → A) (n p : ℕ) → Ascending n (λ k. key (f k)) → p < n → find key (key (f p)) (tab f n) ≡ some (f p)
+  find-place f zero p a h = absurd (omega arith)
+  find-place f (suc n) zero a h = rw (eq-eqb (key (f 0)) (key (f 0)) refl)
+  find-place f (suc n) (suc p) a h =
+      rw (ne-eqb (key (f (suc p))) (key (f 0)) (λ e. omega (arith, a 0 (suc p) (omega arith) h))) (find-place (λ k. f (suc k)) n p (tail-ascends a) (omega arith))
+
+  pub find-none : (f : ℕ → A) (n x : ℕ) → ((p : ℕ) → p < n → key (f p) ≡ x → ⊥) → find key x (tab f n) ≡ none
+  find-none f zero x h = refl
+  find-none f (suc n) x h = rw (ne-eqb x (key (f 0)) (λ e. h 0 (omega arith) (sym e))) (find-none (λ k. f (suc k)) n x (λ p l. h (suc p) (omega arith)))
+
+-- a place is the index of its key
+pub index-place : (s : ℕ → ℕ) (n p : ℕ) → Ascending n s → p < n → index-of (s p) (tab s n) ≡ p
+unfolding index-of
+index-place s zero p a h = absurd (omega arith)
+index-place s (suc n) zero a h = rw (eq-eqb (s 0) (s 0) refl)
+index-place s (suc n) (suc p) a h = rw (ne-eqb (s (suc p)) (s 0) (λ e. omega (arith, a 0 (suc p) (omega arith) h))) (ap suc (index-place (λ k. s (suc k)) n p (tail-ascends a) (omega arith)))
+
+pub index-none : (s : ℕ → ℕ) (n x : ℕ) → ((p : ℕ) → p < n → s p ≡ x → ⊥) → index-of x (tab s n) ≡ n
+unfolding index-of
+index-none s zero x h = refl
+index-none s (suc n) x h = rw (ne-eqb x (s 0) (λ e. h 0 (omega arith) (sym e))) (ap suc (index-none (λ k. s (suc k)) n x (λ p l. h (suc p) (omega arith))))
+
+-- an index below n is a place of the key, and there is one where the key stands at a place
+pub index-held : (s : ℕ → ℕ) (n x : ℕ) → index-of x (tab s n) < n → s (index-of x (tab s n)) ≡ x
+unfolding index-of
+index-held s zero x h = absurd (omega arith)
+index-held s (suc n) x h = by-cases (eqb x (s 0))
+    (λ t. rw t (sym (eqb-true x (s 0) t)))
+    (λ t. rw t (index-held (λ k. s (suc k)) n x (omega (arith, rw t at h))))
+
+pub index-lt : (s : ℕ → ℕ) (n x p : ℕ) → p < n → s p ≡ x → index-of x (tab s n) < n
+unfolding index-of
+index-lt s zero x p h e = absurd (omega arith)
+index-lt s (suc n) x zero h e = rw (eq-eqb x (s 0) (sym e)) (omega arith)
+index-lt s (suc n) x (suc p) h e = by-cases (eqb x (s 0))
+    (λ t. rw t (omega arith))
+    (λ t. rw t (omega (arith, index-lt (λ k. s (suc k)) n x p (omega arith) e)))
+
+-- a key is held where it stands at a place
+pub mem-place : (s : ℕ → ℕ) (n p x : ℕ) → p < n → s p ≡ x → mem x (tab s n) ≡ true
+mem-place s n p x h e = tab-any (eqb x) s n p h (eq-eqb _ _ (sym e))
+
+pub place-mem : (s : ℕ → ℕ) (n x : ℕ) → mem x (tab s n) ≡ true → (p : ℕ) × (p < n) × (s p ≡ x)
+place-mem s n x e = let w = any-tab (eqb x) s n e in (w .0, w .1, sym (eqb-true _ _ (w .2)))
+
+pub mem-none : (s : ℕ → ℕ) (n x : ℕ) → ((p : ℕ) → p < n → s p ≡ x → ⊥) → mem x (tab s n) ≡ false
+mem-none s n x h = none-tab (eqb x) s n (λ p l. ne-eqb x (s p) (λ e. h p l (sym e)))
+
+-- THE BRIDGE from places to serials, for darts
+pub dart-place : (f : ℕ → Dart) (n p : ℕ) → Ascending n (λ k. f k .serial) → p < n → dart-at (tab f n) (f p .serial) ≡ f p
+unfolding dart-at
+dart-place f n p a h = rw (find-place (λ d. d .serial) f n p a h)
+
+pub held-place : (f : ℕ → Dart) (n p x : ℕ) → p < n → x ≡ f p .serial → held (tab f n) x ≡ true
+held-place f n p x h e = rw (map-tab (λ d. d .serial) f n) (tab-any (eqb x) (λ k. f k .serial) n p h (eq-eqb _ _ e))
+
+pub place-held : (f : ℕ → Dart) (n x : ℕ) → held (tab f n) x ≡ true → (p : ℕ) × (p < n) × (x ≡ f p .serial)
+place-held f n x e =
+    let w = any-tab (eqb x) (λ k. f k .serial) n (rw (map-tab (λ d. d .serial) f n) at e) in
+    (w .0, w .1, eqb-true _ _ (w .2))

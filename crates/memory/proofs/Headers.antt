@@ -1,0 +1,66 @@
+-- The header stored, a part cleared, and the image of an empty block. Assumes nothing.
+use Prim.Native.Nat.{ℕ, _+_, _*_, _-_, _≤_, _<_}
+use mathlib.Core.Path.{_≡_, refl, sym, ap, _∙_}
+use mathlib.Core.List.{List, [], _∷_, _++_}
+use native.Mathlib.Omega.{arith}
+use native.Mathlib.Numerals.{add-one}
+use lib.ListN.{length, take, drop, set, replicate, length-set, replicate-append-replicate}
+use lib.Seq.{sets-eq, take-suc-set, take-all}
+use borrow.Author.Tests.{eq-eqb, ne-eqb, le-leb, lt-leb}
+use Rattle.laws.proofs.Lists.{drop-zeros}
+use Rattle.model.specs.Lists.{first-no, concat}
+use Rattle.model.specs.Cells.{labels}
+use Rattle.model.specs.Image.{room, words, image, new-block}
+use Rattle.memory.specs.Header.{empty-header, header-words}
+use Rattle.memory.specs.declared.header.Header.{Header}
+use Rattle.model.specs.Calls.{number-of, asked, storing, empty}
+
+pub stores-are : (m : List ℕ) (a b c : ℕ) → 8 ≤ length m
+    → set (set (set (set (set (set (set (set m 0 a) 1 b) 2 c) 3 0) 4 0) 5 0) 6 0) 7 0 ≡ (a ∷ b ∷ c ∷ 0 ∷ 0 ∷ 0 ∷ 0 ∷ 0 ∷ []) ++ drop 8 m
+stores-are m a b c h = sets-eq (a ∷ b ∷ c ∷ 0 ∷ 0 ∷ 0 ∷ 0 ∷ 0 ∷ []) m 0 (omega arith)
+
+-- the words of x below i are zero
+pub record Cleared (m x : List ℕ) (i : ℕ) : Type 0 where
+  pub i-le : i ≤ length m
+  pub len : length x ≡ length m
+  pub zeros : take i x ≡ replicate i 0
+
+pub clear-none : (m : List ℕ) → Cleared m m 0
+clear-none m = record { i-le = omega arith; len = refl; zeros = refl }
+
+pub clear-more : {m x : List ℕ} {i : ℕ} → Cleared m x i → i < length x → Cleared m (set x i 0) (i + 1)
+clear-more {m} {x} {i} w h = record {
+  i-le = omega (arith, w .len);
+  len = length-set x i 0 ∙ w .len;
+  zeros = rw (add-one, take-suc-set x i 0 h, w .zeros) (replicate-append-replicate {A = ℕ} i 1 0 ∙ ap (λ (k : ℕ). replicate k 0) (add-one i));
+}
+
+pub clear-all : {m x : List ℕ} {i : ℕ} → Cleared m x i → length x ≤ i → x ≡ replicate (length m) 0
+clear-all {m} {x} {i} w h =
+    let e : i ≡ length m = omega (arith, w .i-le, w .len) in
+    sym (take-all i x h) ∙ w .zeros ∙ ap (λ (k : ℕ). replicate k 0) e
+
+-- zeros with the header of an empty block are its image
+image-of-empty : (n : ℕ) → image (new-block n []) ≡ (n ∷ 0 ∷ 0 ∷ 0 ∷ 0 ∷ 0 ∷ 0 ∷ 0 ∷ []) ++ replicate (room * 8) 0
+unfolding image new-block labels concat
+image-of-empty n = refl
+
+pub empty-image : (n : ℕ) (m : List ℕ) {x y : List ℕ} {h : Header} → length m ≡ words → x ≡ replicate (length m) 0
+    → h ≡ empty-header n → y ≡ header-words h ++ drop 8 x → y ≡ image (new-block n [])
+empty-image n m {x} {y} {h} l e g f =
+    f ∙ ap (λ (k : Header). header-words k ++ drop 8 x) g
+    ∙ ap (λ (k : List ℕ). header-words (empty-header n) ++ k) (ap (drop 8) e ∙ drop-zeros 8 (room * 8) (length m) (omega arith))
+    ∙ sym (image-of-empty n)
+
+-- the questions of an empty block
+pub refused-size : (n : ℕ) (m : List ℕ) → (length m ≡ words → ⊥) → (1 ≡ number-of (empty n m .answer)) × (m ≡ empty n m .lent)
+unfolding empty storing asked first-no
+refused-size n m h = rw (ne-eqb (length m) words h) (refl, refl)
+
+pub refused-number : (n : ℕ) (m : List ℕ) → length m ≡ words → 15 < n → (9 ≡ number-of (empty n m .answer)) × (m ≡ empty n m .lent)
+unfolding empty storing asked first-no
+refused-number n m h k = rw (eq-eqb (length m) words h, lt-leb n 15 k) (refl, refl)
+
+pub served : (n : ℕ) (m : List ℕ) {x : List ℕ} → length m ≡ words → n ≤ 15 → x ≡ image (new-block n []) → (0 ≡ number-of (empty n m .answer)) × (x ≡ empty n m .lent)
+unfolding empty storing asked first-no
+served n m h k e = rw (eq-eqb (length m) words h, le-leb n 15 k) (refl, e)

@@ -1,0 +1,5 @@
+pub mod Records
+pub mod Headers
+pub mod Lookups
+pub mod Labels
+pub mod Points

@@ -1,0 +1,4 @@
+pub mod Header
+pub mod Record
+pub mod Lookup
+pub mod Point

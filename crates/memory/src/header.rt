@@ -1,0 +1,102 @@
+// The header of a block's memory: number, counter and dart count, in the first 8 words.
+ghost use mathlib.Core.Path.{_≡_};
+ghost use mathlib.Core.List.{[], _++_};
+ghost use Prim.Native.Nat.{_+_, _≤_, _<_};
+ghost use lib.ListN.{length, drop, replicate};
+ghost use Rattle.model.specs.Calls.{number-of, empty as emptied};
+ghost use Rattle.model.specs.Image.{words, image, new-block};
+ghost use Rattle.memory.specs.Header.{empty-header, header-in, header-words};
+
+// The header by value. A block's limits are its constants.
+pub struct Header {
+    pub number: u64,
+    pub counter: u64,
+    pub darts: usize,
+}
+
+impl Header {
+    // Darts that a block may have.
+    pub const DARTS: usize = 4096;
+
+    // Darts that a volume may have that is sent.
+    pub const VOLUME: usize = 512;
+
+    // Blocks that a mesh may have: numbers lie below this.
+    pub const BLOCKS: u64 = 16;
+
+    // Words of a block's memory: 8 of the header, 8 for each dart.
+    pub const WORDS: usize = 32776;
+
+    // The header of an empty block: from its number alone, counter 0.
+    pub fn empty(number: u64) -> Header
+        ensures { λ r. ⌜ r ≡ empty-header number ⌝ }
+    {
+        Header {
+            number,
+            counter: 0,
+            darts: 0,
+        }
+    }
+
+    // The header that stands in a block's memory.
+    pub fn read(block: &[u64]) -> Header
+        requires { ⌜ 8 ≤ length (now block) ⌝ }
+        ensures { λ r. ⌜ r ≡ header-in (now (block .entry)) ⌝ }
+    {
+        Header {
+            number: block[0],
+            counter: block[1],
+            darts: block[2] as usize,
+        }
+    }
+
+    // Stores the header; the rest of the memory stays.
+    pub fn write(self, block: &mut [u64])
+        requires { ⌜ 8 ≤ length (now block) ⌝ }
+        ensures { λ _. ⌜ now (block .exit) ≡ header-words self ++ drop 8 (now (block .entry)) ⌝ }
+    {
+        block[0] = self.number;
+        block[1] = self.counter;
+        block[2] = self.darts as u64;
+        block[3] = 0;
+        block[4] = 0;
+        block[5] = 0;
+        block[6] = 0;
+        block[7] = 0;
+    }
+}
+
+// Sets every word to zero.
+pub fn clear(part: &mut [u64])
+    ensures { λ _. ⌜ now (part .exit) ≡ replicate (length (now (part .entry))) 0 ⌝ }
+{
+    // The words below i are zero.
+    let mut i = 0;
+    while i < part.len() {
+        part[i] = 0;
+        i += 1;
+    }
+}
+
+// Makes a block's memory the image of the empty block with this number.
+pub fn make_empty(number: u64, block: &mut [u64])
+    requires { ⌜ length (now block) ≡ words ⌝ }
+    ensures { λ _. ⌜ now (block .exit) ≡ image (new-block number []) ⌝ }
+{
+    clear(block);
+    Header::empty(number).write(block);
+}
+
+// Makes an empty block. 1: is the memory of a block's size? 9: is the number at most 15? A refused call leaves the memory.
+pub fn empty(number: u64, block: &mut [u64]) -> u32
+    ensures { λ r. ⌜ (r ≡ number-of (emptied number (now (block .entry)) .answer)) × (now (block .exit) ≡ emptied number (now (block .entry)) .lent) ⌝ }
+{
+    if block.len() != Header::WORDS {
+        return 1;
+    }
+    if Header::BLOCKS <= number {
+        return 9;
+    }
+    make_empty(number, block);
+    0
+}

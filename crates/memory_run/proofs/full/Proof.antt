@@ -1,0 +1,65 @@
+-- `memory_run::full` meets its contract. The loop's invariant: the places below `p` have their serials.
+-- Assumes nothing.
+use Prim.Native.Nat.{_-_}
+use Rattle.memory_run.specs.Filled.{Filled}
+use Rattle.memory_run.proofs.Serials.{filled-none, filled-more}
+use native.Mathlib.Omega.{arith}
+use borrow.Author.Needs.{needs}
+use Rattle.memory_run.proofs.full.Statement.{statement}
+use Rattle.memory_run.proofs.full.Tie as tie
+
+abbrev Inv-loop : tie.InvT-loop
+Inv-loop block₀ p₀ block p =
+    Filled block p
+
+abbrev μ-loop : tie.MeasureT-loop
+μ-loop block₀ p₀ block p =
+    4096 - p
+
+loop-holds : tie.Need-loop-holds Inv-loop μ-loop
+loop-holds c =
+    filled-none _ (c .before .pre)
+
+mul-put-field : tie.Need-mul-put-field Inv-loop μ-loop
+mul-put-field c = search needs
+
+add-put-field : tie.Need-add-put-field Inv-loop μ-loop
+add-put-field c = search needs
+
+put-field-requires : tie.Need-put-field-requires Inv-loop μ-loop
+put-field-requires c κs = search needs
+
+add-p : tie.Need-add-p Inv-loop μ-loop
+add-p c = search needs
+
+loop-less : tie.Need-loop-less Inv-loop μ-loop
+loop-less c = search needs
+
+loop-again : tie.Need-loop-again Inv-loop μ-loop
+loop-again c =
+    let turn = c .before .before .before .before .before in
+    let test = c .before .before .before .before in
+    filled-more (turn .loop .inv) (test .loop-test .taken) (c .before .before .put-field .ensures)
+
+same-length : tie.Need-same-length Inv-loop μ-loop
+same-length c = search needs
+
+returns : tie.Need-returns Inv-loop μ-loop
+returns c =
+    record { len = c .before .loop .inv .len; serials = λ q h. c .before .loop .inv .serials q (omega arith) }
+
+pub full-spec : {M : Type 1} → statement M
+full-spec =
+    tie.close
+    (tie.spec
+    Inv-loop
+    μ-loop
+    loop-holds
+    mul-put-field
+    add-put-field
+    put-field-requires
+    add-p
+    loop-less
+    loop-again
+    same-length
+    returns)
