@@ -1,0 +1,269 @@
+//! Medians of the plain calls on nearly full blocks, beside the value version and a copy of an image.
+
+use crate::generate::{assemble, label_crossings};
+use crate::image::{self, SCRATCH, WORDS};
+use crate::lent::{Core, OracleNumbers, Peer};
+use crate::message;
+use crate::plain::{self, Plain};
+use crate::rng::Rng;
+use crate::shapes::{self, Filling, Map};
+use crate::value::{Block, Label, Third};
+use std::hint::black_box;
+use std::time::Instant;
+
+/// The median of timed runs in µs, the least of three batches; `prepare` is not timed.
+fn median(runs: usize, mut prepare: impl FnMut(), mut run: impl FnMut()) -> f64 {
+    let mut batch = || {
+        let mut times: Vec<f64> = (0..runs)
+            .map(|_| {
+                prepare();
+                let start = Instant::now();
+                run();
+                start.elapsed().as_secs_f64() * 1e6
+            })
+            .collect();
+        times.sort_by(f64::total_cmp);
+        times[runs / 2]
+    };
+    batch().min(batch()).min(batch())
+}
+
+fn line(what: &str, plain: f64, value: Option<f64>) {
+    match value {
+        Some(value) => println!("{what:58} {plain:10.2} {value:10.1}"),
+        None => println!("{what:58} {plain:10.2}"),
+    }
+}
+
+/// A map with homes, and nearly full blocks made of it.
+struct Scene {
+    map: Map,
+    home: Vec<usize>,
+}
+
+impl Scene {
+    /// All darts from the last home on belong to a block.
+    fn settle(&mut self, block: usize) {
+        self.home.resize(self.map.len(), block);
+    }
+
+    /// Adds sewn hexahedra to a block until it has about so many darts.
+    fn fill(&mut self, block: usize, goal: usize) {
+        let held = self.home.iter().filter(|home| **home == block).count();
+        let cells = goal.saturating_sub(held) / 24;
+        if cells > 0 {
+            self.map.append(&shapes::grid([cells, 1, 1], Filling::Hexahedra));
+            self.settle(block);
+        }
+    }
+
+    /// Darts block after block; block 0, its first cell in its middle, lies in the middle of block 1.
+    fn in_the_middle(&self, count: usize) -> Vec<usize> {
+        let of = |block: usize| (0..self.map.len()).filter(move |dart| self.home[*dart] == block);
+        let mut zero: Vec<usize> = of(0).collect();
+        let half = zero.len() / 2;
+        zero.rotate_left(half);
+        let one: Vec<usize> = of(1).collect();
+        let (front, back) = one.split_at(one.len() / 2);
+        let mut order = [front, &zero, back].concat();
+        (2..count).for_each(|block| order.extend(of(block)));
+        order
+    }
+
+    fn blocks(&self, count: usize, shuffled: bool) -> Vec<Block> {
+        let mut order: Vec<usize> = (0..self.map.len()).collect();
+        let mut serials: Vec<u32> = vec![0; self.map.len()];
+        if shuffled {
+            Rng::new(1).shuffle(&mut order);
+        } else {
+            order = self.in_the_middle(count);
+        }
+        for (serial, dart) in (1..).zip(order) {
+            serials[dart] = serial;
+        }
+        let mut number = 0;
+        let label_of = label_crossings(&self.map, &self.home, |size| {
+            number += 1;
+            (0..size).map(|position| Label { maker: 0, number: number - 1, position: position as u16 }).collect()
+        });
+        let mut counters = vec![0; count];
+        counters[0] = number;
+        let points = self.map.wished_points();
+        assemble(&self.map, &self.home, &serials, &points, &label_of, &counters)
+    }
+}
+
+/// A cell in block 0 whose faces lead to blocks 0, 1, 2 or nowhere in turn; blocks nearly full.
+fn scene(large: bool) -> (Scene, usize) {
+    let mut scene = Scene { map: Map::default(), home: Vec::new() };
+    if large {
+        shapes::torus(&mut scene.map, 8, 16);
+    } else {
+        shapes::prism(&mut scene.map, 4);
+    }
+    let darts = scene.map.len();
+    scene.settle(0);
+    for (turn, face) in scene.map.face_starts().into_iter().enumerate() {
+        if turn % 4 < 3 {
+            let partner = shapes::pillow(&mut scene.map, 4);
+            scene.settle(turn % 4);
+            scene.map.sew(face, partner);
+        }
+    }
+    scene.fill(0, 4080);
+    scene.fill(1, 4090 - darts);
+    scene.fill(2, 4080);
+    (scene, darts)
+}
+
+fn bench_question_2() {
+    let few = &Scene { map: shapes::grid([10, 17, 1], Filling::Hexahedra), home: vec![0; 4080] }.blocks(1, false)[0];
+    let mut one = few.clone();
+    let mut all = few.clone();
+    // All faces critical, each with labels of its own; and one such face.
+    for (block, wanted) in [(&mut one, 1), (&mut all, usize::MAX)] {
+        let darts: std::collections::BTreeSet<u32> = block.darts.keys().copied().collect();
+        let free: Vec<Vec<u32>> = crate::cells::faces(block, &darts)
+            .into_iter()
+            .filter(|face| wanted > 1 || block.darts[&face[0]].third == Third::Free)
+            .take(wanted)
+            .collect();
+        for (number, face) in (0..).zip(free) {
+            for (position, serial) in face.iter().enumerate() {
+                let label = Label { maker: 3, number, position: position as u16 };
+                block.darts.entry(*serial).and_modify(|dart| dart.third = Third::Critical { other: 3, label });
+            }
+        }
+    }
+    for (what, block) in
+        [("question 2, 4,080 darts, 4 critical", &one), ("question 2, 4,080 darts, all critical", &all)]
+    {
+        let words = image::encode(block);
+        assert!(plain::is_sound(&words) && image::sound_block(&words).is_some());
+        let fast = median(4001, || (), || assert!(plain::is_sound(black_box(&words))));
+        let slow = median(51, || (), || assert!(image::sound_block(black_box(&words)).is_some()));
+        line(what, fast, Some(slow));
+    }
+    let words = image::encode(&one);
+    let mut copy = vec![0; WORDS];
+    let copied = median(
+        4001,
+        || (),
+        || {
+            copy.copy_from_slice(black_box(&words));
+            black_box(&copy);
+        },
+    );
+    line("copy of an image", copied, None);
+}
+
+/// Each call of a round, and the round as a whole.
+fn bench_round(large: bool, shuffled: bool) {
+    let (scene, darts) = scene(large);
+    let blocks = scene.blocks(3, shuffled);
+    let images: Vec<Vec<u64>> = blocks.iter().map(image::encode).collect();
+    let serial = u64::from(
+        *crate::cells::volumes(&blocks[0], blocks[0].darts.keys().copied())
+            .iter()
+            .find(|cell| cell.len() == darts && (large || cell.iter().any(|d| blocks[0].darts[d].label().is_some())))
+            .and_then(|cell| cell.first())
+            .unwrap_or(&0),
+    );
+    let name = format!("{darts}-dart cell, {}", if shuffled { "shuffled" } else { "contiguous" });
+    let mut rows: Vec<Vec<f64>> = Vec::new();
+    for (core, runs) in [(&Plain as &dyn Core, 2001), (&Peer as &dyn Core, 15)] {
+        let mut outbox = vec![0; 65_536];
+        let mut written = 0;
+        assert_eq!(core.send(&images[0], 1, serial, &mut outbox, &mut written), 0);
+        let sent = outbox[..written as usize].to_vec();
+        let messages = message::split(&sent).unwrap_or_default();
+        assert_eq!(messages.len(), 2);
+        let mut row = vec![median(
+            runs,
+            || (),
+            || {
+                assert_eq!(core.send(black_box(&images[0]), 1, serial, &mut outbox, &mut written), 0);
+            },
+        )];
+        for call in 0..3 {
+            let (block, at) = [(1, 0), (0, 0), (2, 1)][call];
+            let memory = std::cell::RefCell::new(images[block].clone());
+            row.push(median(
+                runs,
+                || memory.borrow_mut().copy_from_slice(&images[block]),
+                || {
+                    let words = &mut memory.borrow_mut()[..];
+                    let answer = match call {
+                        0 => core.receive(words, messages[at]),
+                        1 => core.release(words, 1, serial),
+                        _ => core.redirect(words, messages[at]),
+                    };
+                    assert_eq!(answer, 0);
+                },
+            ));
+        }
+        let memory = std::cell::RefCell::new(images.clone());
+        let reset = || {
+            for (words, image) in memory.borrow_mut().iter_mut().zip(&images) {
+                words.copy_from_slice(image);
+            }
+        };
+        row.push(median(runs, reset, || {
+            let mut memory = memory.borrow_mut();
+            assert_eq!(core.send(&memory[0], 1, serial, &mut outbox, &mut written), 0);
+            let messages = message::split(&outbox[..written as usize]).unwrap_or_default();
+            assert_eq!(core.receive(&mut memory[1], messages[0]), 0);
+            assert_eq!(core.release(&mut memory[0], 1, serial), 0);
+            assert_eq!(core.redirect(&mut memory[2], messages[1]), 0);
+        }));
+        rows.push(row);
+    }
+    for (at, call) in ["send", "receive", "release", "redirect", "whole round"].iter().enumerate() {
+        line(&format!("{call}, {name}"), rows[0][at], Some(rows[1][at]));
+    }
+}
+
+/// Sixteen slabs of 170 hexahedra, each a block of 4,080 darts.
+fn bench_mesh() {
+    let map = shapes::grid([16, 10, 17], Filling::Hexahedra);
+    let home = (0..map.len()).map(|dart| dart / 4080).collect();
+    let scene = Scene { map, home };
+    let mesh: Vec<u64> = scene.blocks(16, true).iter().flat_map(image::encode).collect();
+    let mut scratch = vec![0; SCRATCH];
+    let every = OracleNumbers { oracle: 0, axis: 0, floats: [0; 6] };
+    let upper = OracleNumbers { oracle: 1, floats: [8.5, 0.0, 0.0, 99.0, 99.0, 99.0].map(f64::to_bits), ..every };
+    let mut check = Vec::new();
+    let mut level = Vec::new();
+    let mut blocked = Vec::new();
+    for (core, runs) in [(&Plain as &dyn Core, 201), (&Peer as &dyn Core, 5)] {
+        check.push(median(runs, || (), || assert_eq!(core.check_mesh(black_box(&mesh), &mut scratch), 0)));
+        for (oracle, wanted, row) in [(&every, 0, &mut level), (&upper, 1, &mut blocked)] {
+            let mut answer = [9; 4];
+            row.push(median(
+                runs,
+                || (),
+                || {
+                    assert_eq!(core.next_move(black_box(&mesh), oracle, &mut scratch, &mut answer), 0);
+                    assert_eq!(answer[0], wanted);
+                },
+            ));
+        }
+    }
+    let sound = median(201, || (), || assert!(black_box(&mesh).chunks_exact(WORDS).all(plain::is_sound)));
+    line("question 2 alone on each of sixteen blocks", sound, None);
+    line("check_mesh, sixteen blocks of 4,080 darts", check[0], Some(check[1]));
+    line("next_move, every volume, level", level[0], Some(level[1]));
+    line("next_move, a box, blocked", blocked[0], Some(blocked[1]));
+}
+
+/// Prints medians in µs.
+pub fn bench() {
+    println!("{:58} {:>10} {:>10}", "median µs", "plain", "value");
+    bench_question_2();
+    for large in [false, true] {
+        for shuffled in [false, true] {
+            bench_round(large, shuffled);
+        }
+    }
+    bench_mesh();
+}

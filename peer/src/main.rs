@@ -1,0 +1,101 @@
+//! The peer's program: simulate, vectors, compare, bench, list.
+
+use peer::bench;
+use peer::compare;
+use peer::lent::Peer;
+use peer::listing;
+use peer::plain::Plain;
+use peer::simulate::{self, Failure};
+use peer::vectors;
+use std::io::{Read, Write};
+use std::path::Path;
+use std::process::ExitCode;
+
+const USAGE: &str =
+    "peer simulate SEED N | peer vectors SEED N DIR | peer compare SEED N | peer bench | peer list < FILE";
+
+fn main() -> ExitCode {
+    let words: Vec<String> = std::env::args().skip(1).collect();
+    let words: Vec<&str> = words.iter().map(String::as_str).collect();
+    let done = match words[..] {
+        ["simulate", seed, count] => match (seed.parse(), count.parse()) {
+            (Ok(seed), Ok(count)) => run_simulation(seed, count),
+            _ => Err(USAGE.to_string()),
+        },
+        ["vectors", seed, count, folder] => match (seed.parse(), count.parse()) {
+            (Ok(seed), Ok(count)) => write_vectors(seed, count, folder),
+            _ => Err(USAGE.to_string()),
+        },
+        ["compare", seed, count] => match (seed.parse(), count.parse()) {
+            (Ok(seed), Ok(count)) => run_comparison(seed, count),
+            _ => Err(USAGE.to_string()),
+        },
+        ["bench"] => {
+            bench::bench();
+            Ok(())
+        }
+        ["list"] => list(),
+        _ => Err(USAGE.to_string()),
+    };
+    match done {
+        Ok(()) => ExitCode::SUCCESS,
+        Err(why) => {
+            eprintln!("{why}");
+            ExitCode::FAILURE
+        }
+    }
+}
+
+/// Prints the listing of the file on standard input.
+fn list() -> Result<(), String> {
+    let mut input = Vec::new();
+    // One byte past the limit is enough to know that it is too long.
+    let limit = listing::MAX_INPUT as u64 + 1;
+    std::io::stdin().take(limit).read_to_end(&mut input).map_err(|e| e.to_string())?;
+    std::io::stdout().write_all(listing::listing(&input).as_bytes()).map_err(|e| e.to_string())
+}
+
+fn write_vectors(seed: u64, count: usize, folder: &str) -> Result<(), String> {
+    let total = vectors::write(seed, count, Path::new(folder)).map_err(|e| e.to_string())?;
+    println!("{total} bytes in {folder}");
+    Ok(())
+}
+
+fn run_simulation(seed: u64, count: usize) -> Result<(), String> {
+    match simulate::simulate(&Peer, seed, count) {
+        Ok(tally) => {
+            println!(
+                "{} requests over {} meshes, {} redirects: the runs agree",
+                tally.requests, tally.meshes, tally.redirects
+            );
+            for (answer, times) in &tally.answers {
+                match answer {
+                    0 => println!("served        {times}"),
+                    number => println!("refused by {number:2} {times}"),
+                }
+            }
+            Ok(())
+        }
+        Err(failure) => Err(describe(&failure)),
+    }
+}
+
+/// The plain version against the value version.
+fn run_comparison(seed: u64, count: usize) -> Result<(), String> {
+    for ((call, answer), times) in compare::compare(&Plain, &Peer, seed, count)? {
+        println!("{call:10} {answer:2} {times}");
+    }
+    Ok(())
+}
+
+fn describe(failure: &Failure) -> String {
+    let mut text = format!("the runs disagree: {}\nmesh seed {}\n", failure.what, failure.mesh_seed);
+    for turn in &failure.turns {
+        let request = turn.request;
+        text += &format!("move {} from {} to {} (order {})\n", request.serial, request.from, request.to, turn.order);
+    }
+    for block in &failure.blocks {
+        text += &listing::lines(block);
+    }
+    text
+}

@@ -1,0 +1,290 @@
+//! The divided run against the undivided run, request by request.
+
+use crate::generate::{self, Size};
+use crate::image::{self, SCRATCH, WORDS};
+use crate::lent::{Core, OracleNumbers};
+use crate::mesh::{self, whole_map};
+use crate::message;
+use crate::rng::Rng;
+use crate::runs::{Request, Undivided};
+use crate::value::{Block, No};
+use std::collections::{BTreeMap, BTreeSet};
+
+/// Longer than all messages of a round of 512 darts.
+pub const OUTBOX: usize = 65_536;
+
+/// A request, and the seed of the order in which release and the redirects run.
+#[derive(Clone, Copy, PartialEq, Eq, Debug)]
+pub struct Turn {
+    pub request: Request,
+    pub order: u64,
+}
+
+/// Both runs side by side.
+pub struct BothRuns {
+    pub undivided: Undivided,
+    pub mesh: Vec<u64>,
+    scratch: Vec<u64>,
+    outbox: Vec<u8>,
+    redirects: usize,
+}
+
+/// How two runs differ.
+pub type Disagreement = String;
+
+/// One call that ends a round.
+enum Ending<'a> {
+    Release,
+    Redirect(&'a [u8]),
+}
+
+impl BothRuns {
+    pub fn start(blocks: &[Block]) -> BothRuns {
+        BothRuns {
+            undivided: Undivided::start(blocks),
+            mesh: blocks.iter().flat_map(image::encode).collect(),
+            scratch: vec![0; SCRATCH],
+            outbox: vec![0; OUTBOX],
+            redirects: 0,
+        }
+    }
+
+    fn block(&mut self, number: u32) -> &mut [u64] {
+        let start = WORDS * number as usize;
+        &mut self.mesh[start..start + WORDS]
+    }
+
+    /// A complete round of the divided run: the number that refused it, or 0 when it finished.
+    fn round(&mut self, core: &dyn Core, turn: Turn) -> Result<u32, Disagreement> {
+        let Request { from, to, serial } = turn.request;
+        let mut written = 0;
+        let mut outbox = std::mem::take(&mut self.outbox);
+        let answer = core.send(self.block(from), u64::from(to), serial, &mut outbox, &mut written);
+        let sent = outbox.get(..written as usize).map(<[u8]>::to_vec);
+        self.outbox = outbox;
+        if answer != 0 {
+            return Ok(answer);
+        }
+        let sent = sent.ok_or("send says it wrote past the outbox")?;
+        let messages = message::split(&sent).ok_or("what send wrote is no list of messages")?;
+        let (transfer, updates) = messages.split_first().ok_or("send wrote nothing")?;
+        let answer = core.receive(self.block(to), transfer);
+        if answer != 0 {
+            return Ok(answer);
+        }
+        let mut endings: Vec<Ending> = updates.iter().map(|update| Ending::Redirect(update)).collect();
+        endings.push(Ending::Release);
+        Rng::new(turn.order).shuffle(&mut endings);
+        for ending in endings {
+            let answer = match ending {
+                Ending::Release => core.release(self.block(from), u64::from(to), serial),
+                Ending::Redirect(update) => {
+                    let relative = message::address(update).ok_or("an update has no address")?;
+                    if relative as usize >= self.mesh.len() / WORDS {
+                        return Err(format!("an update goes to block {relative}, outside the mesh"));
+                    }
+                    self.redirects += 1;
+                    core.redirect(self.block(relative), update)
+                }
+            };
+            if answer != 0 {
+                return Err(format!("the cell was taken, yet the round does not finish: {answer}"));
+            }
+        }
+        Ok(0)
+    }
+
+    /// Plays one request in both runs and compares all that demand 3 names.
+    pub fn step(&mut self, core: &dyn Core, turn: Turn) -> Result<u32, Disagreement> {
+        let expected = match self.undivided.step(turn.request) {
+            Ok(()) => 0,
+            Err(No(number)) => number,
+        };
+        let answer = self.round(core, turn)?;
+        if answer != expected {
+            return Err(format!("the divided run answers {answer}, the undivided run {expected}"));
+        }
+        self.compare(core)?;
+        Ok(answer)
+    }
+
+    fn compare(&mut self, core: &dyn Core) -> Result<(), Disagreement> {
+        let mut blocks = Vec::new();
+        for (number, words) in self.mesh.chunks_exact(WORDS).enumerate() {
+            blocks.push(image::sound_block(words).ok_or(format!("block {number} is not sound"))?);
+        }
+        if let Err(No(number)) = mesh::check(&blocks) {
+            return Err(format!("the mesh is not sound: {number}"));
+        }
+        let checked = core.check_mesh(&self.mesh, &mut self.scratch);
+        if checked != 0 {
+            return Err(format!("the mesh is sound, yet check_mesh answers {checked}"));
+        }
+        for block in &blocks {
+            let held: BTreeSet<u32> = block.darts.keys().copied().collect();
+            if held != self.undivided.darts_of(u32::from(block.number)) {
+                return Err(format!("block {} has other cells than the undivided run", block.number));
+            }
+        }
+        if whole_map(&blocks) != self.undivided.map {
+            return Err("the whole maps differ".to_string());
+        }
+        Ok(())
+    }
+
+    /// A request, mostly one that may be served.
+    pub fn draw(&self, rng: &mut Rng, last: Option<Request>) -> Turn {
+        let count = self.mesh.len() / WORDS;
+        let cells = &self.undivided.cells;
+        let any = rng.below(count) as u32;
+        let (mut from, mut serial) = (any, rng.bits() >> (32 + rng.below(32)));
+        if !cells.is_empty() && !rng.one_in(40) {
+            let (darts, number) = &cells[rng.below(cells.len())];
+            serial = darts.iter().nth(rng.below(darts.len())).map_or(0, |dart| u64::from(*dart));
+            from = *number;
+        }
+        if let Some(last) = last.filter(|_| rng.one_in(5)) {
+            // The same cell again: on, or straight back.
+            serial = last.serial;
+            from = last.to;
+        }
+        if rng.one_in(16) {
+            from = rng.below(count) as u32;
+        }
+        let mut to = rng.below(count) as u32;
+        if to == from && !rng.one_in(8) {
+            to = (to + 1) % count as u32;
+        }
+        if rng.one_in(60) {
+            serial = [0, u64::from(u32::MAX), 1 << 32, serial | 1 << 32, u64::MAX][rng.below(5)];
+        }
+        Turn { request: Request { from, to, serial }, order: rng.bits() }
+    }
+}
+
+/// Plays turns from a mesh; the place and kind of the first disagreement.
+pub fn play(core: &dyn Core, blocks: &[Block], turns: &[Turn]) -> Result<(), (usize, Disagreement)> {
+    let mut runs = BothRuns::start(blocks);
+    for (place, turn) in turns.iter().enumerate() {
+        runs.step(core, *turn).map_err(|what| (place, what))?;
+    }
+    Ok(())
+}
+
+/// Drops turns as long as the runs still disagree.
+pub fn shrink(core: &dyn Core, blocks: &[Block], turns: &[Turn]) -> (Vec<Turn>, Disagreement) {
+    let mut kept = turns.to_vec();
+    let mut what = String::new();
+    if let Err((place, first)) = play(core, blocks, &kept) {
+        kept.truncate(place + 1);
+        what = first;
+    }
+    let mut place = kept.len();
+    while place > 0 {
+        place -= 1;
+        let mut fewer = kept.clone();
+        fewer.remove(place);
+        if let Err((end, found)) = play(core, blocks, &fewer) {
+            fewer.truncate(end + 1);
+            kept = fewer;
+            what = found;
+            place = place.min(kept.len());
+        }
+    }
+    (kept, what)
+}
+
+/// What a simulation counted.
+#[derive(Default, Debug)]
+pub struct Tally {
+    pub meshes: usize,
+    pub requests: usize,
+    /// Requests by answer; 0 is served.
+    pub answers: BTreeMap<u32, usize>,
+    /// Redirects played.
+    pub redirects: usize,
+}
+
+/// A disagreement with the smallest case found.
+pub struct Failure {
+    pub what: Disagreement,
+    /// `mesh_of_seed` of this gives the mesh.
+    pub mesh_seed: u64,
+    pub blocks: Vec<Block>,
+    pub turns: Vec<Turn>,
+}
+
+/// The mesh of a seed: most small, some larger, a few with full blocks.
+pub fn mesh_of_seed(seed: u64) -> (Rng, Vec<Block>, usize) {
+    let mut rng = Rng::new(seed);
+    let (size, turns) = match rng.below(120) {
+        0..=2 => (Size::Large, 30),
+        3..=20 => (Size::Medium, 60),
+        _ => (Size::Small, 70),
+    };
+    let blocks = match size {
+        Size::Large => {
+            let count = rng.between(2, 4);
+            generate::mesh_of(&mut rng, size, count)
+        }
+        _ => generate::mesh(&mut rng, size),
+    };
+    (rng, blocks, turns)
+}
+
+/// N requests over many meshes.
+pub fn simulate(core: &dyn Core, seed: u64, requests: usize) -> Result<Tally, Box<Failure>> {
+    let mut tally = Tally::default();
+    let mut mesh_seed = seed.wrapping_mul(0x1_0000_0000);
+    while tally.requests < requests {
+        mesh_seed = mesh_seed.wrapping_add(1);
+        let (mut rng, blocks, turns) = mesh_of_seed(mesh_seed);
+        let mut runs = BothRuns::start(&blocks);
+        if let Err(what) = runs.compare(core) {
+            return Err(Box::new(Failure { what, mesh_seed, blocks, turns: Vec::new() }));
+        }
+        tally.meshes += 1;
+        let mut played: Vec<Turn> = Vec::new();
+        for _ in 0..turns.min(requests - tally.requests) {
+            let turn = runs.draw(&mut rng, played.last().map(|turn| turn.request));
+            played.push(turn);
+            match runs.step(core, turn) {
+                Ok(answer) => *tally.answers.entry(answer).or_default() += 1,
+                Err(_) => {
+                    let (turns, what) = shrink(core, &blocks, &played);
+                    return Err(Box::new(Failure { what, mesh_seed, blocks, turns }));
+                }
+            }
+            tally.requests += 1;
+        }
+        tally.redirects += runs.redirects;
+    }
+    Ok(tally)
+}
+
+/// Plays next moves until the mesh is level or blocked: each lowers the sum of positive surpluses by one.
+pub fn balance(core: &dyn Core, blocks: &[Block], oracle: &OracleNumbers) -> Result<usize, Disagreement> {
+    let mut runs = BothRuns::start(blocks);
+    let mut moves = 0;
+    loop {
+        let mut answer = [0; 4];
+        let number = core.next_move(&runs.mesh, oracle, &mut runs.scratch, &mut answer);
+        if number != 0 {
+            return Err(format!("next_move is refused by {number}"));
+        }
+        if answer[0] != 2 {
+            return Ok(moves);
+        }
+        let request = Request { from: answer[1] as u32, to: answer[2] as u32, serial: answer[3] };
+        match runs.step(core, Turn { request, order: moves as u64 })? {
+            0 => moves += 1,
+            refused => return Err(format!("the next move is refused by {refused}")),
+        }
+        if moves > MAX_MOVES {
+            return Err("the moves do not end".to_string());
+        }
+    }
+}
+
+/// No mesh has more volumes than pairs of darts.
+const MAX_MOVES: usize = 16 * 4096;

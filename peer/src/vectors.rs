@@ -1,0 +1,286 @@
+//! Cases as flat binary files, one for each call; README.md has the format.
+
+use crate::calls;
+use crate::cases::{Call, Case, CALLS};
+use crate::damage::{self, requests};
+use crate::file;
+use crate::generate::{self, Size};
+use crate::image;
+use crate::lent::Peer;
+use crate::rng::Rng;
+use crate::value::{Block, Point};
+use std::collections::{BTreeMap, BTreeSet};
+use std::path::Path;
+
+/// Longest record of a case that is not about a limit.
+const MAX_RECORD: usize = 2048;
+
+fn put_u32(out: &mut Vec<u8>, number: usize) {
+    out.extend_from_slice(&(number as u32).to_le_bytes());
+}
+
+fn put_u64(out: &mut Vec<u8>, number: u64) {
+    out.extend_from_slice(&number.to_le_bytes());
+}
+
+/// Bytes behind their length.
+fn put_bytes(out: &mut Vec<u8>, bytes: &[u8]) {
+    put_u32(out, bytes.len());
+    out.extend_from_slice(bytes);
+}
+
+/// A word as the count of its low bytes that matter, then those bytes.
+fn put_word(out: &mut Vec<u8>, word: u64) {
+    let count = (64 - word.leading_zeros() as usize).div_ceil(8);
+    out.push(count as u8);
+    out.extend_from_slice(&word.to_le_bytes()[..count]);
+}
+
+/// The runs of words where `wanted` says so: start, count, words.
+fn put_runs(out: &mut Vec<u8>, words: &[u64], wanted: impl Fn(usize) -> bool) {
+    let mut runs: Vec<(usize, usize)> = Vec::new();
+    for at in (0..words.len()).filter(|at| wanted(*at)) {
+        match runs.last_mut() {
+            // Up to eight unwanted words cost no more than a run of their own.
+            Some((_, end)) if at <= *end + 8 => *end = at + 1,
+            _ => runs.push((at, at + 1)),
+        }
+    }
+    put_u32(out, runs.len());
+    for (start, end) in runs {
+        put_u32(out, start);
+        put_u32(out, end - start);
+        for word in &words[start..end] {
+            put_word(out, *word);
+        }
+    }
+}
+
+/// Memory: its words, then the runs that are not zero.
+fn put_memory(out: &mut Vec<u8>, words: &[u64]) {
+    put_u32(out, words.len());
+    put_runs(out, words, |at| words[at] != 0);
+}
+
+/// What a call changed in memory: runs over what was there.
+fn put_change(out: &mut Vec<u8>, before: &[u64], after: &[u64]) {
+    put_runs(out, after, |at| before[at] != after[at]);
+}
+
+/// Lent bytes: room, the byte that fills them, what stands at the front after the call.
+fn put_room(out: &mut Vec<u8>, before: &[u8], after: &[u8], written: usize) {
+    put_u32(out, before.len());
+    out.push(before.first().copied().unwrap_or(0));
+    put_bytes(out, &after[..written]);
+}
+
+/// A record without its length: the answer, the inputs, what is expected.
+pub fn record(case: &Case) -> (u32, Vec<u8>) {
+    let mut after = case.clone();
+    let answer = after.run(&Peer);
+    let mut out = Vec::new();
+    put_u32(&mut out, answer as usize);
+    let served = |written: u64| if answer == 0 { written as usize } else { 0 };
+    match (case, &after) {
+        (Case::Empty { number, block }, Case::Empty { block: end, .. }) => {
+            put_u64(&mut out, *number);
+            put_memory(&mut out, block);
+            put_change(&mut out, block, end);
+        }
+        (Case::ReadFile { file, block }, Case::ReadFile { block: end, .. }) => {
+            put_bytes(&mut out, file);
+            put_memory(&mut out, block);
+            put_change(&mut out, block, end);
+        }
+        (Case::SaveFile { block, out: room, .. }, Case::SaveFile { out: end, written, .. }) => {
+            put_memory(&mut out, block);
+            put_room(&mut out, room, end, served(*written));
+        }
+        (Case::Send { block, to, serial, outbox, .. }, Case::Send { outbox: end, written, .. }) => {
+            put_u64(&mut out, *to);
+            put_u64(&mut out, *serial);
+            put_memory(&mut out, block);
+            put_room(&mut out, outbox, end, served(*written));
+        }
+        (Case::Receive { block, message }, Case::Receive { block: end, .. })
+        | (Case::Redirect { block, message }, Case::Redirect { block: end, .. }) => {
+            put_bytes(&mut out, message);
+            put_memory(&mut out, block);
+            put_change(&mut out, block, end);
+        }
+        (Case::Release { block, to, serial }, Case::Release { block: end, .. }) => {
+            put_u64(&mut out, *to);
+            put_u64(&mut out, *serial);
+            put_memory(&mut out, block);
+            put_change(&mut out, block, end);
+        }
+        (Case::CheckMesh { mesh, scratch }, _) => {
+            put_memory(&mut out, mesh);
+            put_memory(&mut out, scratch);
+        }
+        (Case::NextMove { mesh, oracle, scratch, answer: room }, Case::NextMove { answer: end, .. }) => {
+            put_u32(&mut out, oracle.oracle as usize);
+            put_u32(&mut out, oracle.axis as usize);
+            for float in oracle.floats {
+                put_u64(&mut out, float);
+            }
+            put_memory(&mut out, mesh);
+            put_memory(&mut out, scratch);
+            put_u32(&mut out, room.len());
+            let words = if answer == 0 { end.as_slice() } else { &[0; 4] };
+            words.iter().for_each(|word| put_u64(&mut out, *word));
+        }
+        _ => {}
+    }
+    (answer, out)
+}
+
+/// Records by answer and way.
+type Shelf = BTreeMap<u32, BTreeMap<&'static str, Vec<Vec<u8>>>>;
+
+/// Draws cases of a call until every answer has some and there are enough in all.
+fn shelf(seed: u64, call: Call, wanted: usize) -> Shelf {
+    let mut shelf = Shelf::new();
+    let mut taken = BTreeSet::new();
+    for round in 0..400 {
+        let complete = call.answers().iter().all(|answer| shelf.contains_key(answer));
+        if round >= 12 && complete && taken.len() >= 2 * wanted {
+            break;
+        }
+        let mut rng = Rng::new(seed.wrapping_mul(1_000_003).wrapping_add(round));
+        let count = rng.between(2, 5);
+        let size = if rng.one_in(3) { Size::Small } else { Size::Tiny };
+        let mesh = generate::mesh_of(&mut rng, size, count);
+        for (way, case) in damage::batch(&mut rng, call, &mesh) {
+            let (answer, bytes) = record(&case);
+            if bytes.len() <= MAX_RECORD && taken.insert(bytes.clone()) {
+                shelf.entry(answer).or_default().entry(way).or_default().push(bytes);
+            }
+        }
+    }
+    shelf
+}
+
+/// Takes records in turn: answers, within an answer ways, within a way in order.
+fn choose(shelf: Shelf, wanted: usize) -> Vec<Vec<u8>> {
+    let mut queues: Vec<Vec<Vec<u8>>> = Vec::new();
+    for mut ways in shelf.into_values() {
+        for records in ways.values_mut() {
+            // Small cases first, but not the very smallest.
+            records.sort_by_key(Vec::len);
+            let quarter = records.len() / 4;
+            records.rotate_left(quarter);
+        }
+        let mut queue = Vec::new();
+        let deepest = ways.values().map(Vec::len).max().unwrap_or(0);
+        for depth in 0..deepest {
+            queue.extend(ways.values().filter_map(|records| records.get(depth).cloned()));
+        }
+        queues.push(queue);
+    }
+    let mut chosen = Vec::new();
+    let deepest = queues.iter().map(Vec::len).max().unwrap_or(0);
+    for depth in 0..deepest {
+        for queue in &queues {
+            if chosen.len() < wanted {
+                chosen.extend(queue.get(depth).cloned());
+            }
+        }
+    }
+    chosen
+}
+
+/// The few cases about limits, whose records may be long.
+fn limits(call: Call) -> Vec<Case> {
+    const FILL: u8 = 0x3c;
+    // Points at zero keep the records short.
+    let pillow = |n: usize| {
+        let mut block = requests::pillow_block(n, 2);
+        block.darts.values_mut().for_each(|dart| dart.point = Point::default());
+        block
+    };
+    let full = pillow(2048);
+    let room = |length: usize| vec![FILL; length];
+    match call {
+        Call::ReadFile => {
+            let mut odd = full.clone();
+            if let Some(lone) = full.darts.get(&1) {
+                odd.darts.insert(5000, *lone);
+            }
+            [&full, &odd]
+                .into_iter()
+                .map(|block| Case::ReadFile { file: file::encode(block), block: image::encode(&Block::empty(9)) })
+                .collect()
+        }
+        Call::SaveFile => {
+            let length = file::encode(&full).len();
+            vec![Case::SaveFile { block: image::encode(&full), out: room(length), written: 0 }]
+        }
+        Call::Send => [256, 257]
+            .into_iter()
+            .map(|n| {
+                let block = image::encode(&pillow(n));
+                Case::Send { block, to: 5, serial: n as u64, outbox: room(16_000), written: 0 }
+            })
+            .collect(),
+        Call::Release => [256, 257]
+            .into_iter()
+            .map(|n| Case::Release { block: image::encode(&pillow(n)), to: 5, serial: n as u64 })
+            .collect(),
+        Call::Receive => {
+            let mut cell = requests::pillow_block(4, 0);
+            cell.darts = cell
+                .darts
+                .into_iter()
+                .map(|(serial, mut dart)| {
+                    dart.next += 9000;
+                    dart.opposite += 9000;
+                    (serial + 9000, dart)
+                })
+                .collect();
+            let message = calls::send(&cell, 2, 9001, usize::MAX).unwrap_or_default();
+            let big = calls::send(&requests::pillow_block(256, 0), 2, 1, usize::MAX).unwrap_or_default();
+            let mut cases: Vec<Case> = [2044, 2045]
+                .into_iter()
+                .map(|n| Case::Receive { block: image::encode(&pillow(n)), message: message.clone() })
+                .collect();
+            cases.push(Case::Receive { block: image::encode(&Block::empty(2)), message: big.clone() });
+            if let Some(over) = with_513_darts(&big) {
+                cases.push(Case::Receive { block: image::encode(&Block::empty(2)), message: over });
+            }
+            cases
+        }
+        _ => Vec::new(),
+    }
+}
+
+/// A transfer of 512 darts with one more.
+fn with_513_darts(bytes: &[u8]) -> Option<Vec<u8>> {
+    use crate::message::{decode, encode, Message};
+    let Message::Transfer(mut transfer) = decode(bytes)? else { return None };
+    transfer.faces.last_mut()?.push((0, 9000));
+    Some(encode(&Message::Transfer(transfer)))
+}
+
+/// The file of a call: N drawn cases, then those about limits.
+pub fn vectors(seed: u64, call: Call, wanted: usize) -> Vec<u8> {
+    let mut records = choose(shelf(seed, call, wanted), wanted);
+    records.extend(limits(call).iter().map(|case| record(case).1));
+    let mut out = Vec::new();
+    for bytes in records {
+        put_bytes(&mut out, &bytes);
+    }
+    out
+}
+
+/// Writes the files of all calls; gives their total length.
+pub fn write(seed: u64, wanted: usize, folder: &Path) -> std::io::Result<usize> {
+    std::fs::create_dir_all(folder)?;
+    let mut total = 0;
+    for call in CALLS {
+        let bytes = vectors(seed, call, wanted);
+        total += bytes.len();
+        std::fs::write(folder.join(format!("{}.bin", call.name())), bytes)?;
+    }
+    Ok(total)
+}

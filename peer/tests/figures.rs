@@ -1,0 +1,246 @@
+//! The paper's figures, all of them.
+
+mod common;
+
+use common::{block_of, p, pillow};
+use peer::balance::{next_move, NextMove, Oracle};
+use peer::calls;
+use peer::file;
+use peer::groups::{group_count, put_number, Reader};
+use peer::image;
+use peer::lent::{Core, OracleNumbers, Peer};
+use peer::listing::listing;
+use peer::message::{self, Index, Message, Transfer, Update};
+use peer::shapes::{self, Map};
+use peer::simulate;
+use peer::value::{Block, Label, No, Point, Third};
+
+const ROOM: usize = 65_536;
+
+fn label(maker: u8, number: u32, position: u16) -> Label {
+    Label { maker, number, position }
+}
+
+/// P and Q sewn 1-12, 2-11, 3-10, in block 0.
+fn p_and_q() -> Block {
+    let mut map = Map::default();
+    shapes::pillow(&mut map, 3);
+    shapes::pillow(&mut map, 3);
+    assert!(map.sew(0, 11));
+    block_of(&map, 0, 1)
+}
+
+#[test]
+fn p_is_as_the_paper_draws_it() {
+    let block = p();
+    let links: Vec<(u32, u32, u32)> = block.darts.iter().map(|(s, d)| (*s, d.next, d.opposite)).collect();
+    assert_eq!(links, [(1, 2, 6), (2, 3, 5), (3, 1, 4), (4, 5, 3), (5, 6, 2), (6, 4, 1)]);
+    assert!(block.darts.values().all(|dart| dart.third == Third::Free));
+}
+
+#[test]
+fn file_of_p_is_171_bytes() {
+    let bytes = calls::save_file(&p(), ROOM).unwrap();
+    assert_eq!(bytes.len(), 171);
+    assert_eq!(calls::read_file(&bytes), Ok(p()));
+    assert_eq!(calls::save_file(&p(), 171).map(|b| b.len()), Ok(171));
+    assert_eq!(calls::save_file(&p(), 170), Err(No(15)));
+}
+
+#[test]
+fn transfer_of_p_is_95_bytes() {
+    assert_eq!(calls::send(&p(), 1, 1, ROOM).unwrap().len(), 95);
+    assert_eq!(calls::send(&p(), 1, 6, 95).unwrap().len(), 95);
+    assert_eq!(calls::send(&p(), 1, 1, 94), Err(No(15)));
+}
+
+#[test]
+fn transfer_of_a_tetrahedron_is_134_bytes() {
+    let mut map = Map::default();
+    shapes::pyramid(&mut map, 3);
+    let bytes = calls::send(&block_of(&map, 0, 1), 1, 1, ROOM).unwrap();
+    assert_eq!(bytes.len(), 134);
+    assert_eq!(bytes[..2], [0x84, 0x01]);
+    // The last serial below 128 is 127: still 134 bytes.
+    assert_eq!(calls::send(&block_of(&map, 3, 116), 1, 116, ROOM).unwrap().len(), 134);
+    assert_eq!(calls::send(&block_of(&map, 3, 117), 1, 117, ROOM).unwrap().len(), 135);
+}
+
+#[test]
+fn p_then_q_move_to_block_1() {
+    let start = p_and_q();
+    assert_eq!(start.darts[&1].third, Third::Sewn(12));
+    assert_eq!(start.darts[&2].third, Third::Sewn(11));
+    assert_eq!(start.darts[&3].third, Third::Sewn(10));
+    assert!(peer::sound::is_sound(&start));
+
+    let first = calls::send(&start, 1, 1, ROOM).unwrap();
+    assert_eq!(first.len(), 97);
+    let one = calls::receive(&Block::empty(1), &first).unwrap();
+    let zero = calls::release(&start, 1, 1).unwrap();
+    for (ours, theirs, position) in [(1, 12, 0), (2, 11, 1), (3, 10, 2)] {
+        assert_eq!(one.darts[&ours].third, Third::Critical { other: 0, label: label(0, 0, position) });
+        assert_eq!(zero.darts[&theirs].third, Third::Critical { other: 1, label: label(0, 0, position) });
+    }
+    assert_eq!(zero.counter, 1);
+    assert_eq!(one.counter, 0);
+
+    let second = calls::send(&zero, 1, 7, ROOM).unwrap();
+    assert_eq!(second.len(), 99);
+    let both = calls::receive(&one, &second).unwrap();
+    let none = calls::release(&zero, 1, 7).unwrap();
+    assert!(none.darts.is_empty());
+    assert_eq!(none.counter, 1);
+    assert_eq!(both.darts[&1].third, Third::Sewn(12));
+    assert_eq!(both.darts[&12].third, Third::Sewn(1));
+    assert_eq!(both.darts, start.darts);
+}
+
+#[test]
+fn update_is_nine_bytes() {
+    let update = Message::Update(Update { from: 0, to: 2, new: 1, labels: vec![label(0, 5, 0)] });
+    let bytes = [0x08, 0x02, 0x00, 0x02, 0x01, 0x01, 0x00, 0x05, 0x00];
+    assert_eq!(message::encode(&update), bytes);
+    assert_eq!(message::decode(&bytes), Some(update));
+}
+
+#[test]
+fn groups_are_shortest() {
+    for (number, groups) in
+        [(0, 1), (127, 1), (128, 2), (16_383, 2), (16_384, 3), (1 << 21, 4), (1 << 28, 5), (u32::MAX, 5)]
+    {
+        let mut bytes = Vec::new();
+        put_number(&mut bytes, u64::from(number));
+        assert_eq!((bytes.len(), group_count(number)), (groups, groups));
+        let mut reader = Reader::new(&bytes);
+        assert_eq!(reader.number(), Some(number));
+        assert!(reader.at_end());
+    }
+    let refused: [&[u8]; 6] = [
+        &[0x80, 0x00],
+        &[0xff, 0x00],
+        &[0x80],
+        &[],
+        &[0xff, 0xff, 0xff, 0xff, 0x10],
+        &[0x80, 0x80, 0x80, 0x80, 0x80, 0x01],
+    ];
+    for bytes in refused {
+        assert_eq!(Reader::new(bytes).number(), None);
+    }
+}
+
+/// Blocks with so many pillows of three darts a side.
+fn counts(of: &[usize]) -> Vec<Block> {
+    let mut serial = 1;
+    of.iter()
+        .enumerate()
+        .map(|(number, cells)| {
+            let mut block = Block::empty(number as u8);
+            for _ in 0..*cells {
+                block.darts.extend(pillow(3, 0, serial).darts);
+                serial += 6;
+            }
+            block
+        })
+        .collect()
+}
+
+#[test]
+fn counts_5_1_1_1_take_three_moves() {
+    let mesh = counts(&[5, 1, 1, 1]);
+    assert_eq!(next_move(&mesh, &Oracle::Every), Ok(NextMove::Move { donor: 0, recipient: 1, serial: 1 }));
+    let every = OracleNumbers { oracle: 0, axis: 0, floats: [0; 6] };
+    assert_eq!(simulate::balance(&Peer, &mesh, &every), Ok(3));
+}
+
+#[test]
+fn counts_3_1_1_are_level() {
+    assert_eq!(next_move(&counts(&[3, 1, 1]), &Oracle::Every), Ok(NextMove::Level));
+}
+
+#[test]
+fn a_block_has_at_most_4096_darts() {
+    let full = pillow(2048, 0, 1);
+    let bytes = calls::save_file(&full, 200_000).unwrap();
+    let mut memory = vec![7; image::WORDS];
+    assert_eq!(Peer.read_file(&bytes, &mut memory), 0);
+    assert_eq!(image::sound_block(&memory), Some(full));
+    // 4,098 darts, all right but their number.
+    let over = file::encode(&pillow(2049, 0, 1));
+    assert_eq!(calls::read_file(&over), Err(No(3)));
+    // 4,097 darts, the last one beside a full block.
+    let mut odd = pillow(2048, 0, 1);
+    let mut lone = odd.darts[&1];
+    (lone.next, lone.opposite) = (5000, 5000);
+    odd.darts.insert(5000, lone);
+    assert_eq!(calls::read_file(&file::encode(&odd)), Err(No(3)));
+    // A header that says 4,097 or more is no image.
+    memory[2] = 4097;
+    let before = memory.clone();
+    assert_eq!(Peer.release(&mut memory, 1, 1), 2);
+    assert_eq!(memory, before);
+    // Afterwards 4,096 is served, 4,098 refused by 21.
+    let transfer = calls::send(&pillow(4, 0, 9001), 1, 9001, ROOM).unwrap();
+    assert_eq!(calls::receive(&pillow(2044, 1, 1), &transfer).unwrap().darts.len(), 4096);
+    assert_eq!(calls::receive(&pillow(2045, 1, 1), &transfer), Err(No(21)));
+}
+
+#[test]
+fn a_volume_that_moves_has_at_most_512_darts() {
+    let sent = calls::send(&pillow(256, 0, 1), 1, 1, ROOM).unwrap();
+    assert_eq!(calls::receive(&Block::empty(1), &sent).unwrap().darts.len(), 512);
+    assert_eq!(calls::send(&pillow(257, 0, 1), 1, 1, ROOM), Err(No(11)));
+    assert_eq!(calls::release(&pillow(257, 0, 1), 1, 1), Err(No(11)));
+    let Some(Message::Transfer(mut transfer)) = message::decode(&sent) else { panic!("a transfer") };
+    // One dart more makes 513.
+    transfer.faces[1].push((0, 600));
+    assert_eq!(transfer.dart_count(), 513);
+    let bytes = message::encode(&Message::Transfer(transfer));
+    assert_eq!(calls::receive(&Block::empty(1), &bytes), Err(No(16)));
+}
+
+#[test]
+fn listing_of_p() {
+    let text = "block 0 darts 6 counter 0\n1 2 6 free\n2 3 5 free\n3 1 4 free\n4 5 3 free\n5 6 2 free\n6 4 1 free\n";
+    assert_eq!(listing(&file::encode(&p())), text);
+}
+
+#[test]
+fn listing_of_others() {
+    let sewn = listing(&file::encode(&p_and_q()));
+    assert!(sewn.starts_with("block 0 darts 12 counter 0\n1 2 6 sewn 12\n"), "{sewn}");
+    let left = calls::release(&p_and_q(), 1, 1).unwrap();
+    let critical = listing(&file::encode(&left));
+    assert!(critical.ends_with("10 11 9 crit 1 0.0.2\n11 12 8 crit 1 0.0.1\n12 10 7 crit 1 0.0.0\n"), "{critical}");
+    assert_eq!(listing(&[0; 65_537]), "too long\n");
+    assert_eq!(listing(&[0; 65_536]), "refused 3\n");
+    assert_eq!(listing(&[]), "refused 3\n");
+    assert_eq!(listing(&[0, 0, 0]), "block 0 darts 0 counter 0\n");
+    assert_eq!(listing(&[0, 0x80, 0]), "refused 3\n");
+}
+
+#[test]
+fn parts_of_a_transfer_stand_in_order() {
+    // A pillow with one face critical with the receiver and one with block 2.
+    let mut block = p();
+    for (serial, other, position) in [(1, 1, 7), (2, 1, 8), (3, 1, 9), (4, 2, 3), (5, 2, 1), (6, 2, 2)] {
+        let third = Third::Critical { other, label: label(5, 6, position) };
+        block.darts.get_mut(&serial).unwrap().third = third;
+    }
+    let sent = calls::send(&block, 1, 5, ROOM).unwrap();
+    let messages = message::split(&sent).unwrap();
+    assert_eq!(messages.len(), 2);
+    let points: Vec<Point> = [1, 2, 3].iter().map(|s| block.darts[s].point).collect();
+    let transfer = Transfer {
+        from: 0,
+        to: 1,
+        points,
+        faces: vec![vec![(0, 1), (1, 2), (2, 3)], vec![(0, 4), (2, 5), (1, 6)]],
+        part2: vec![(label(5, 6, 7), Index(0))],
+        part3: vec![],
+        part4: vec![(Index(3), 2, vec![label(5, 6, 3), label(5, 6, 1), label(5, 6, 2)])],
+    };
+    assert_eq!(message::decode(messages[0]), Some(Message::Transfer(transfer)));
+    let update = Update { from: 0, to: 2, new: 1, labels: vec![label(5, 6, 1)] };
+    assert_eq!(message::decode(messages[1]), Some(Message::Update(update)));
+}

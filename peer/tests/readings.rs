@@ -1,0 +1,274 @@
+//! Places where the papers could be read in two ways, and the order of questions.
+
+mod common;
+
+use common::{p, pillow};
+use peer::balance::{next_move, NextMove, Oracle};
+use peer::calls::{read_file, receive, redirect, send};
+use peer::file;
+use peer::image::{self, SCRATCH, WORDS};
+use peer::lent::{Core, Peer};
+use peer::mesh;
+use peer::message::{self, Index, Message, Transfer, Update};
+use peer::value::{Block, Label, No, Point, Third};
+
+const ROOM: usize = 65_536;
+
+fn label(maker: u8, number: u32, position: u16) -> Label {
+    Label { maker, number, position }
+}
+
+/// Makes the darts of a face critical, with labels in the order of the serials.
+fn critical(block: &mut Block, serials: [u32; 3], other: u8, labels: [Label; 3]) {
+    for (serial, label) in serials.into_iter().zip(labels) {
+        block.darts.get_mut(&serial).unwrap().third = Third::Critical { other, label };
+    }
+}
+
+/// A block with all points equal, so that any turn of a face fits.
+fn flat(mut block: Block) -> Block {
+    block.darts.values_mut().for_each(|dart| dart.point = Point::of([1.0, 2.0, -0.0]));
+    block
+}
+
+fn transfer(bytes: &[u8]) -> Transfer {
+    match message::decode(bytes) {
+        Some(Message::Transfer(transfer)) => transfer,
+        other => panic!("{other:?}"),
+    }
+}
+
+fn sent(change: impl Fn(&mut Transfer)) -> Vec<u8> {
+    let mut t = transfer(&send(&p(), 1, 1, ROOM).unwrap());
+    change(&mut t);
+    message::encode(&Message::Transfer(t))
+}
+
+fn update(update: Update) -> Vec<u8> {
+    message::encode(&Message::Update(update))
+}
+
+#[test]
+fn a_face_critical_with_two_blocks_is_6() {
+    let mut block = p();
+    critical(&mut block, [1, 2, 3], 1, [label(2, 0, 0), label(2, 0, 1), label(2, 0, 2)]);
+    assert_eq!(read_file(&file::encode(&block)), Ok(block.clone()));
+    block.darts.get_mut(&2).unwrap().third = Third::Critical { other: 2, label: label(2, 0, 1) };
+    assert_eq!(read_file(&file::encode(&block)), Err(No(6)));
+}
+
+#[test]
+fn both_layouts_are_read_by_both_calls() {
+    let transfer = send(&p(), 1, 1, ROOM).unwrap();
+    let fits = update(Update { from: 0, to: 1, new: 2, labels: vec![] });
+    assert_eq!(receive(&Block::empty(1), &fits), Err(No(17)));
+    assert_eq!(redirect(&Block::empty(1), &transfer), Err(No(17)));
+    let mut broken = fits.clone();
+    broken[5] = 1;
+    assert_eq!(receive(&Block::empty(1), &broken), Err(No(16)));
+    let mut broken = transfer;
+    broken[4] = 4;
+    assert_eq!(redirect(&Block::empty(1), &broken), Err(No(16)));
+}
+
+#[test]
+fn indices_past_the_darts() {
+    let one = Block::empty(1);
+    let labels = vec![label(9, 0, 0), label(9, 0, 1), label(9, 0, 2)];
+    assert_eq!(receive(&one, &sent(|t| t.part2.push((label(0, 0, 0), Index(6))))), Err(No(20)));
+    assert_eq!(receive(&one, &sent(|t| t.part3.push((4, Index(6))))), Err(No(20)));
+    assert_eq!(receive(&one, &sent(|t| t.part3.push((4, Index(u32::MAX))))), Err(No(20)));
+    assert_eq!(receive(&one, &sent(|t| t.part4.push((Index(6), 5, labels.clone())))), Err(No(16)));
+    // Inside a face: its number of labels is read, then 20.
+    assert_eq!(receive(&one, &sent(|t| t.part4.push((Index(4), 5, labels.clone())))), Err(No(20)));
+    assert!(receive(&one, &sent(|t| t.part4.push((Index(3), 5, labels.clone())))).is_ok());
+}
+
+#[test]
+fn vertices_are_the_rings() {
+    let one = Block::empty(1);
+    assert_eq!(receive(&one, &sent(|t| t.points.push(Point::default()))), Err(No(19)));
+    assert_eq!(receive(&one, &sent(|t| t.points.push(Point([0x7ff0_0000_0000_0000, 0, 0])))), Err(No(18)));
+    assert_eq!(receive(&one, &sent(|t| t.points.truncate(2))), Err(No(19)));
+    assert_eq!(receive(&one, &sent(|t| t.faces[0][0].0 = 3)), Err(No(19)));
+    assert_eq!(receive(&one, &sent(|t| t.faces.push(vec![]))), Err(No(19)));
+    assert_eq!(receive(&one, &sent(|t| t.faces.clear())), Err(No(16)));
+}
+
+#[test]
+fn any_label_of_a_part_2_face_that_fits_is_taken() {
+    let mut held = flat(pillow(3, 1, 101));
+    critical(&mut held, [101, 102, 103], 0, [label(5, 0, 0), label(5, 0, 1), label(5, 0, 2)]);
+    let mut arriving = flat(p());
+    critical(&mut arriving, [1, 2, 3], 1, [label(5, 0, 0), label(5, 0, 2), label(5, 0, 1)]);
+    let bytes = send(&arriving, 1, 1, ROOM).unwrap();
+    assert_eq!(receive(&held, &bytes).unwrap().darts[&1].third, Third::Sewn(101));
+    let mut turned = transfer(&bytes);
+    turned.part2[0].0 = label(5, 0, 1);
+    let after = receive(&held, &message::encode(&Message::Transfer(turned.clone()))).unwrap();
+    assert_eq!(after.darts[&1].third, Third::Sewn(102));
+    assert_eq!(after.darts[&2].third, Third::Sewn(101));
+    assert_eq!(after.darts[&3].third, Third::Sewn(103));
+    assert!(peer::sound::is_sound(&after));
+    // New means not held by the block as given, even where part 2 would remove it.
+    turned.part4.push((Index(3), 7, vec![label(5, 0, 0), label(5, 1, 1), label(5, 1, 2)]));
+    assert_eq!(receive(&held, &message::encode(&Message::Transfer(turned))), Err(No(20)));
+}
+
+#[test]
+fn part_3_starts_at_any_number() {
+    let one = Block::empty(1);
+    let after = receive(&one, &sent(|t| t.part3 = vec![(u32::MAX - 1, Index(0)), (u32::MAX, Index(3))])).unwrap();
+    assert_eq!(after.darts[&5].third, Third::Critical { other: 0, label: label(0, u32::MAX, 1) });
+    assert_eq!(receive(&one, &sent(|t| t.part3 = vec![(u32::MAX, Index(0)), (0, Index(3))])), Err(No(20)));
+    assert_eq!(receive(&one, &sent(|t| t.part3 = vec![(7, Index(0)), (9, Index(3))])), Err(No(20)));
+    assert_eq!(receive(&one, &sent(|t| t.part3 = vec![(7, Index(0)), (7, Index(3))])), Err(No(20)));
+}
+
+#[test]
+fn updates_may_list_some_faces_in_any_order() {
+    let mut block = p();
+    critical(&mut block, [1, 2, 3], 4, [label(9, 1, 2), label(9, 1, 1), label(9, 0, 3)]);
+    critical(&mut block, [4, 5, 6], 4, [label(8, 1, 0), label(8, 1, 1), label(8, 1, 2)]);
+    let (one, two) = (label(9, 0, 3), label(8, 1, 0));
+    let with = |labels: Vec<Label>| redirect(&block, &update(Update { from: 4, to: 0, new: 5, labels }));
+    assert_eq!(with(vec![]), Ok(block.clone()));
+    let after = with(vec![one, two]).unwrap();
+    assert!(after.darts.values().all(|dart| matches!(dart.third, Third::Critical { other: 5, .. })));
+    assert_eq!(with(vec![two, one]), Ok(after));
+    let half = with(vec![one]).unwrap();
+    assert!(matches!(half.darts[&2].third, Third::Critical { other: 5, .. }));
+    assert!(matches!(half.darts[&5].third, Third::Critical { other: 4, .. }));
+    for wrong in [vec![one, one], vec![label(9, 1, 1)], vec![label(1, 1, 1)], vec![one, label(9, 1, 2)]] {
+        assert_eq!(with(wrong), Err(No(22)));
+    }
+    for (from, new) in [(4, 4), (4, 0), (3, 5)] {
+        assert_eq!(redirect(&block, &update(Update { from, to: 0, new, labels: vec![one] })), Err(No(22)));
+    }
+    assert_eq!(redirect(&block, &update(Update { from: 0, to: 0, new: 5, labels: vec![] })), Err(No(17)));
+}
+
+#[test]
+fn the_first_no_gives_the_number() {
+    let one = Block::empty(1);
+    let wrong = |t: &mut Transfer| {
+        t.points[0].0[0] = f64::NAN.to_bits();
+        t.faces[0][0].0 = 9;
+        t.part3.push((0, Index(1)));
+    };
+    assert_eq!(receive(&Block::empty(2), &sent(wrong)), Err(No(17)));
+    assert_eq!(receive(&one, &sent(wrong)), Err(No(18)));
+    assert_eq!(send(&p(), 0, 0, 0), Err(No(9)));
+    assert_eq!(send(&p(), 16, 0, 0), Err(No(9)));
+    assert_eq!(send(&p(), 1, 0, 0), Err(No(10)));
+    assert_eq!(send(&p(), 1, 1 << 32 | 1, 0), Err(No(10)));
+    assert_eq!(Peer.empty(16, &mut []), 1);
+    assert_eq!(Peer.empty(16, &mut vec![0; WORDS]), 9);
+    assert_eq!(Peer.read_file(&[], &mut []), 1);
+    assert_eq!(Peer.receive(&mut vec![1; WORDS], &[]), 2);
+}
+
+#[test]
+fn mesh_questions_in_order() {
+    let mut scratch = vec![0; SCRATCH];
+    let mut check = |mesh: &[u64]| Peer.check_mesh(mesh, &mut scratch);
+    let words = |blocks: &[Block]| blocks.iter().flat_map(image::encode).collect::<Vec<u64>>();
+    assert_eq!(check(&[]), 23);
+    assert_eq!(check(&[0; 5]), 1);
+    assert_eq!(check(&words(&[Block::empty(0)])), 0);
+    assert_eq!(check(&words(&[Block::empty(1)])), 23);
+    let sixteen: Vec<Block> = (0..16).map(Block::empty).collect();
+    assert_eq!(check(&words(&sixteen)), 0);
+    let mut seventeen = words(&sixteen);
+    seventeen.extend(image::encode(&Block::empty(0)));
+    assert_eq!(check(&seventeen), 23);
+    // 2 for any block comes before 23.
+    seventeen[16 * WORDS + 7] = 1;
+    assert_eq!(check(&seventeen), 2);
+    assert_eq!(Peer.check_mesh(&[], &mut vec![0; SCRATCH - 1]), 1);
+    let mut stained = vec![0; SCRATCH];
+    stained[SCRATCH - 1] = 1;
+    assert_eq!(Peer.check_mesh(&seventeen, &mut stained), 1);
+
+    // A named block outside the mesh is 25, a maker outside it 27.
+    let (mut zero, mut one) = (p(), pillow(3, 1, 11));
+    let labels = [label(0, 0, 0), label(0, 0, 1), label(0, 0, 2)];
+    zero.counter = 1;
+    critical(&mut zero, [1, 2, 3], 1, labels);
+    // The paired face runs the other way; its points are those across.
+    critical(&mut one, [11, 13, 12], 0, labels);
+    for (mine, theirs) in [(1, 11), (2, 13), (3, 12)] {
+        let point = zero.darts[&mine].point;
+        let after = one.darts[&theirs].next;
+        let mut at = after;
+        loop {
+            one.darts.get_mut(&at).unwrap().point = point;
+            at = one.darts[&one.darts[&at].opposite].next;
+            if at == after {
+                break;
+            }
+        }
+    }
+    assert_eq!(mesh::check(&[zero.clone(), one.clone()]), Ok(()));
+    let mut outside = zero.clone();
+    critical(&mut outside, [1, 2, 3], 2, labels);
+    assert_eq!(mesh::check(&[outside, one.clone()]), Err(No(25)));
+    let far = labels.map(|l| Label { maker: 2, ..l });
+    let (mut zero2, mut one2) = (zero.clone(), one.clone());
+    critical(&mut zero2, [1, 2, 3], 1, far);
+    critical(&mut one2, [11, 13, 12], 0, far);
+    assert_eq!(mesh::check(&[zero2.clone(), one2.clone()]), Err(No(27)));
+    assert_eq!(mesh::check(&[zero2.clone(), one2.clone(), Block::empty(2)]), Err(No(27)));
+    let two = Block { counter: 1, ..Block::empty(2) };
+    assert_eq!(mesh::check(&[zero2, one2, two]), Ok(()));
+    // Labels in the face's own direction are not paired.
+    let mut own = one.clone();
+    critical(&mut own, [11, 12, 13], 0, labels);
+    assert_eq!(mesh::check(&[zero.clone(), own]), Err(No(25)));
+    // Points that differ by the sign of a zero do not agree.
+    let mut sign = one;
+    sign.darts.values_mut().for_each(|dart| dart.point.0[2] ^= 1 << 63);
+    assert_eq!(mesh::check(&[zero, sign]), Err(No(26)));
+}
+
+#[test]
+fn oracles_compare_numbers() {
+    let at = |z: f64| {
+        let mut block = p();
+        block.darts.values_mut().for_each(|dart| dart.point = Point::of([0.0, 0.0, z]));
+        block
+    };
+    let zeros = Oracle::Box { low: Point::of([0.0; 3]), high: Point::of([-0.0; 3]) };
+    let moves = Ok(NextMove::Move { donor: 0, recipient: 1, serial: 1 });
+    let two = |z: f64| {
+        let mut block = at(z);
+        let mut other = pillow(3, 0, 7);
+        other.darts.values_mut().for_each(|dart| dart.point = Point::of([0.0, 0.0, z]));
+        block.darts.extend(other.darts);
+        vec![block, Block::empty(1)]
+    };
+    // Empty blocks count: two cells over two blocks, mean 1.
+    assert_eq!(next_move(&two(-0.0), &Oracle::Every), moves);
+    assert_eq!(next_move(&two(-0.0), &zeros), moves);
+    assert_eq!(next_move(&two(5e-324), &zeros), Ok(NextMove::Level));
+    assert_eq!(next_move(&[at(0.0), Block::empty(1)], &Oracle::Every), Ok(NextMove::Level));
+    // P has x 0, 1, 2: strictly below and strictly above.
+    let mut flat = p();
+    flat.darts.extend(pillow(3, 0, 7).darts);
+    let mesh = [flat, Block::empty(1)];
+    let plane = |value: f64| next_move(&mesh, &Oracle::Plane { axis: 0, value });
+    assert_eq!(plane(0.0), Ok(NextMove::Level));
+    assert_eq!(plane(5e-324), moves);
+    assert_eq!(plane(2.0), Ok(NextMove::Level));
+    assert_eq!(plane(1.0), moves);
+    assert_eq!(plane(f64::NAN), Err(No(28)));
+    assert_eq!(next_move(&mesh, &Oracle::Plane { axis: 3, value: 0.0 }), Err(No(28)));
+}
+
+#[test]
+fn blocked_when_no_volume_may_move() {
+    // Two loops, which question 13 keeps where they are.
+    let mut block = pillow(1, 0, 1);
+    block.darts.extend(pillow(1, 0, 3).darts);
+    assert_eq!(next_move(&[block, Block::empty(1)], &Oracle::Every), Ok(NextMove::Blocked));
+}
