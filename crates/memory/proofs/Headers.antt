@@ -8,12 +8,14 @@ use lib.ListN.{length, take, drop, set, replicate, length-set, replicate-append-
 use lib.Seq.{sets-eq, take-suc-set, take-all}
 use borrow.Author.Tests.{eq-eqb, ne-eqb, le-leb, lt-leb}
 use Rattle.laws.proofs.Lists.{drop-zeros}
-use Rattle.model.specs.Lists.{first-no, concat}
+use Rattle.model.specs.Lists.{concat}
 use Rattle.model.specs.Cells.{labels}
 use Rattle.model.specs.Image.{room, words, image, new-block}
 use Rattle.memory.specs.Header.{empty-header, header-words}
 use Rattle.memory.specs.declared.header.Header.{Header}
-use Rattle.model.specs.Calls.{number-of, asked, storing, empty}
+use Rattle.model.specs.Calls.{served, refused, storing, empty}
+use Rattle.answers.specs.Answers.{Gives}
+use Rattle.answers.proofs.Questions.{gives, ask-no, ask-yes, ask-end}
 
 pub stores-are : (m : List ℕ) (a b c : ℕ) → 8 ≤ length m
     → set (set (set (set (set (set (set (set m 0 a) 1 b) 2 c) 3 0) 4 0) 5 0) 6 0) 7 0 ≡ (a ∷ b ∷ c ∷ 0 ∷ 0 ∷ 0 ∷ 0 ∷ 0 ∷ []) ++ drop 8 m
@@ -53,14 +55,14 @@ empty-image n m {x} {y} {h} l e g f =
     ∙ sym (image-of-empty n)
 
 -- the questions of an empty block
-pub refused-size : (n : ℕ) (m : List ℕ) → (length m ≡ words → ⊥) → (1 ≡ number-of (empty n m .answer)) × (m ≡ empty n m .lent)
-unfolding empty storing asked first-no
-refused-size n m h = rw (ne-eqb (length m) words h) (refl, refl)
+pub refused-size : (n : ℕ) (m : List ℕ) → (length m ≡ words → ⊥) → Gives (empty n m) (refused 1) m
+unfolding empty storing
+refused-size n m h = gives _ _ _ _ (ask-no refl (ne-eqb (length m) words h) refl)
 
-pub refused-number : (n : ℕ) (m : List ℕ) → length m ≡ words → 15 < n → (9 ≡ number-of (empty n m .answer)) × (m ≡ empty n m .lent)
-unfolding empty storing asked first-no
-refused-number n m h k = rw (eq-eqb (length m) words h, lt-leb n 15 k) (refl, refl)
+pub refused-number : (n : ℕ) (m : List ℕ) → length m ≡ words → 15 < n → Gives (empty n m) (refused 9) m
+unfolding empty storing
+refused-number n m h k = gives _ _ _ _ (ask-yes (eq-eqb (length m) words h) (ask-no refl (lt-leb n 15 k) refl))
 
-pub served : (n : ℕ) (m : List ℕ) {x : List ℕ} → length m ≡ words → n ≤ 15 → x ≡ image (new-block n []) → (0 ≡ number-of (empty n m .answer)) × (x ≡ empty n m .lent)
-unfolding empty storing asked first-no
-served n m h k e = rw (eq-eqb (length m) words h, le-leb n 15 k) (refl, e)
+pub served-empty : (n : ℕ) (m : List ℕ) {x : List ℕ} → length m ≡ words → n ≤ 15 → x ≡ image (new-block n []) → Gives (empty n m) (served tt) x
+unfolding empty storing
+served-empty n m h k e = gives _ _ _ _ (ask-yes (eq-eqb (length m) words h) (ask-yes (le-leb n 15 k) (ask-end e)))

@@ -3,9 +3,12 @@ ghost use mathlib.Core.Path.{_≡_};
 ghost use mathlib.Core.List.{[], _++_};
 ghost use Prim.Native.Nat.{_+_, _≤_, _<_};
 ghost use lib.ListN.{length, drop, replicate};
-ghost use Rattle.model.specs.Calls.{number-of, empty as emptied};
+ghost use Rattle.model.specs.Calls.{empty as emptied};
+ghost use Rattle.answers.specs.Answers.{answer-of, Gives};
 ghost use Rattle.model.specs.Image.{words, image, new-block};
 ghost use Rattle.memory.specs.Header.{empty-header, header-in, header-words};
+use answers::Answer;
+use answers::Refusal;
 
 // The header by value. A block's limits are its constants.
 pub struct Header {
@@ -88,15 +91,15 @@ pub fn make_empty(number: u64, block: &mut [u64])
 }
 
 // Makes an empty block. 1: is the memory of a block's size? 9: is the number at most 15? A refused call leaves the memory.
-pub fn empty(number: u64, block: &mut [u64]) -> u32
-    ensures { λ r. ⌜ (r ≡ number-of (emptied number (now (block .entry)) .answer)) × (now (block .exit) ≡ emptied number (now (block .entry)) .lent) ⌝ }
+pub fn empty(number: u64, block: &mut [u64]) -> Answer
+    ensures { λ r. ⌜ Gives (emptied number (now (block .entry))) (answer-of r) (now (block .exit)) ⌝ }
 {
     if block.len() != Header::WORDS {
-        return 1;
+        return Answer::Refused(Refusal::MemorySize);
     }
     if Header::BLOCKS <= number {
-        return 9;
+        return Answer::Refused(Refusal::Destination);
     }
     make_empty(number, block);
-    0
+    Answer::Served
 }

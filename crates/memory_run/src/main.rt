@@ -46,7 +46,7 @@ fn show_empty(number_of: u64, block: &mut [u64]) {
     let answer = memory::header::empty(number_of, block);
     number(number_of);
     number(block.len() as u64);
-    number(wide(answer));
+    number(wide(answers::answer_number(answer)));
     number(used(block));
     line(b"number, words lent, answer, words not zero");
 }

@@ -1,6 +1,6 @@
 -- `memory::header::empty` meets its contract: each answer is that of the first question that is answered no.
 -- Assumes nothing.
-use Rattle.memory.proofs.Headers.{refused-size, refused-number, served}
+use Rattle.memory.proofs.Headers.{refused-size, refused-number, served-empty}
 use native.Mathlib.Omega.{arith}
 use borrow.Author.Needs.{needs}
 use Rattle.memory.proofs.header.empty.Statement.{statement}
@@ -22,7 +22,7 @@ same-length c = search needs
 
 returns-3 : tie.Need-returns-3
 returns-3 c =
-    served _ _ (omega arith) (omega arith) (c .before .before .make-empty .ensures)
+    served-empty _ _ (omega arith) (omega arith) (c .before .before .make-empty .ensures)
 
 pub empty-spec : {M : Type 1} → statement M
 empty-spec = tie.close (tie.spec returns returns-2 make-empty-requires same-length returns-3)
