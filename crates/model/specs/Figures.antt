@@ -39,12 +39,16 @@ tetrahedron = image (block 0 (dart 1 2 4 free ∷ dart 2 3 7 free ∷ dart 3 1 1
     ∷ dart 7 8 2 free ∷ dart 8 9 6 free ∷ dart 9 7 11 free
     ∷ dart 10 11 3 free ∷ dart 11 12 9 free ∷ dart 12 10 5 free ∷ []))
 
--- "Sew 1-12, 2-11, 3-10, block 0, counter 0", and an empty block 1
+-- "Sew 1-12, 2-11, 3-10"
+unfoldable pub sewn-pillows : List Dart
+unfolding dart
+sewn-pillows = dart 1 2 6 (sewn 12) ∷ dart 2 3 5 (sewn 11) ∷ dart 3 1 4 (sewn 10) ∷ dart 4 5 3 free ∷ dart 5 6 2 free ∷ dart 6 4 1 free
+    ∷ dart 7 8 12 free ∷ dart 8 9 11 free ∷ dart 9 7 10 free ∷ dart 10 11 9 (sewn 3) ∷ dart 11 12 8 (sewn 2) ∷ dart 12 10 7 (sewn 1) ∷ []
+
+-- "block 0, counter 0", and an empty block 1
 pq : List (List ℕ)
-unfolding dart block everything
-pq = image (block 0 (dart 1 2 6 (sewn 12) ∷ dart 2 3 5 (sewn 11) ∷ dart 3 1 4 (sewn 10) ∷ dart 4 5 3 free ∷ dart 5 6 2 free ∷ dart 6 4 1 free
-    ∷ dart 7 8 12 free ∷ dart 8 9 11 free ∷ dart 9 7 10 free ∷ dart 10 11 9 (sewn 3) ∷ dart 11 12 8 (sewn 2) ∷ dart 12 10 7 (sewn 1) ∷ []))
-    ∷ empty 1 (replicate 32776 7) .lent ∷ []
+unfolding sewn-pillows block everything
+pq = image (block 0 sewn-pillows) ∷ empty 1 (replicate 32776 7) .lent ∷ []
 
 -- ROUNDS
 unfoldable pub outbox : List ℕ
@@ -67,10 +71,10 @@ unfolding p-sent played request everything
 q-sent = played (p-sent .memories) (request 0 1 7)
 
 -- AS NUMBERS
-outcome-numbers : Outcome → List ℕ
-outcome-numbers (refused-by n) = n ∷ []
+unfoldable pub outcome-numbers : Outcome → List ℕ
 outcome-numbers finished = 0 ∷ []
-outcome-numbers unfinished = 999 ∷ []
+outcome-numbers unfinished = 1 ∷ []
+outcome-numbers (refused-by n) = 2 ∷ n ∷ []
 
 -- kind; sewn to; or other block and label
 third-numbers : Third → List ℕ

@@ -15,3 +15,4 @@ pub mod Demands
 pub mod Everything
 pub mod Figures
 pub mod Examples
+pub mod Trials
