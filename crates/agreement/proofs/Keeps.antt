@@ -63,7 +63,7 @@ undivided-refuses : (lims : ℕ → Limits) (u : State) (r : Request) (n : ℕ) 
 unfolding undivided
 undivided-refuses lims u r n e h = rw (e, ne-eqb n 0 h)
 
-undivided-serves : (lims : ℕ → Limits) (u : State) (r : Request) → first-no (request-checks lims u r) ≡ 0 → undivided lims u r ≡ record { outcome = finished; state = after-move u r }
+pub undivided-serves : (lims : ℕ → Limits) (u : State) (r : Request) → first-no (request-checks lims u r) ≡ 0 → undivided lims u r ≡ record { outcome = finished; state = after-move u r }
 unfolding undivided
 undivided-serves lims u r e = rw e
 

@@ -39,7 +39,7 @@ pub tab-list : {A : Type 0} (d : A) (l : List A) (f : ℕ → A) → ((p : ℕ) 
 tab-list d [] f h = refl
 tab-list d (a ∷ l) f h = rw (h 0 (omega arith), tab-list d l (λ p. f (suc p)) (λ p k. h (suc p) (omega arith)))
 
-getD-serial : (ds : List Dart) (p : ℕ) → getD (serials ds) p 0 ≡ getD ds p no-dart .serial
+pub getD-serial : (ds : List Dart) (p : ℕ) → getD (serials ds) p 0 ≡ getD ds p no-dart .serial
 unfolding no-dart
 getD-serial [] p = refl
 getD-serial (d ∷ ds) zero = refl

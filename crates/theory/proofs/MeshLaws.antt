@@ -131,7 +131,7 @@ mesh-of lims m scratch e =
 
 -- IMAGES OF A SOUND MESH pass
 module _ (lims : ℕ → Limits) (fit : Fit lims) where
-  images-pass : (m : List Block) → all (λ b. sound-block (lims (b .number)) b) m ≡ true
+  pub images-pass : (m : List Block) → all (λ b. sound-block (lims (b .number)) b) m ≡ true
       → (all (λ i. is-image (lims (getD i 0 0)) i) (map image m) ≡ true) × (map block-in (map image m) ≡ m) × Each (λ i. length i ≡ words) (map image m)
   unfolding image
   images-pass [] h = (refl, refl, tt)

@@ -1,0 +1,5 @@
+pub mod Sums
+pub mod Chosen
+pub mod Shapes
+pub mod Picked
+pub mod Lowers

@@ -1,0 +1,176 @@
+-- THE NEXT MOVE: each move that next-move answers, carried out, lowers the sum of positive surpluses by one. Assumes nothing.
+--
+-- The blocks afterwards are any that have the memories for images, sound or not: what is picked in them can be told from the image.
+use mathlib.Core.Path.{_≡_, refl, sym, _∙_, ap, subst}
+use mathlib.Core.Logic.{_≢_}
+use mathlib.Core.Bool.{true, not}
+use mathlib.Core.List.{List, [], map, List·Permᴰ}
+use Prim.Native.Nat.{ℕ, suc, _+_, _<_}
+use native.Mathlib.Omega.{arith}
+use lib.Dec.{leb, eqb}
+use lib.ListN.{length, length-map}
+use lib.IntN.{ℤ}
+use borrow.Author.Tests.{eqb-true, eqb-false, not-true}
+use Rattle.model.specs.Lists.{any, tab, sum, first-no}
+use Rattle.model.specs.Values.{Label, Block, Limits, all-rack}
+use Rattle.model.specs.Cells.{volume-in}
+use Rattle.model.specs.Sound.{Fit, block-at, volume-limit}
+use Rattle.model.specs.Image.{image}
+use Rattle.model.specs.Departure.{departure-checks}
+use Rattle.model.specs.Balance.{Oracle, picked, counts, mean, surpluses, is-above, is-below, positive-part, positive-surplus, Move, move, can-move, next-of}
+use Rattle.model.specs.Runs.{Request, finished, Step, last-steps, sent-messages, round, State, start, cell, inner-faces, Undivided, undivided}
+use Rattle.model.specs.Demands.{Enough, MoveLowers}
+use Rattle.laws.proofs.Members.{In, keep-in}
+use Rattle.laws.proofs.Tests.{and-left, and-right, yes-then, yes-first, no-more, first-no-append}
+use Rattle.theory.proofs.MeshLaws.{mesh-parts}
+use Rattle.agreement.proofs.AfterMove.{after, after-is}
+use Rattle.agreement.proofs.Agreement.{rack-fits}
+use Rattle.agreement.proofs.Begins.{start-label, described, start-inv}
+use Rattle.agreement.proofs.Described.{members, block-by, mesh-by, dart-by, Inv, Mine, member-mine}
+use Rattle.agreement.proofs.Keeps.{keeps, undivided-serves}
+use Rattle.agreement.proofs.MeshSound.{block-at-by, mesh-sound}
+use Rattle.agreement.proofs.MovedCell.{volume-same, first-six, twenty-one, checks-split, questions-agree}
+use Rattle.balancing.proofs.Chosen.{answered, Candidate, chosen}
+use Rattle.balancing.proofs.Picked.{stands, count-by, picked-are, counts-are, donor-loses, recipient-gains, others-stay}
+use Rattle.balancing.proofs.Shapes.{counts-same}
+use Rattle.balancing.proofs.Sums.{above-is, below-is, surplus-at, surpluses-length, lowers}
+
+-- the request of a move
+abbrev pub request-of : Move → Request
+request-of t = record { from = t .donor; to = t .recipient; serial = t .serial }
+
+-- A MOVE THAT IS CHOSEN in a described mesh
+module _ (lims : ℕ → Limits) (fit : Fit lims) (k : ℕ) (u : State) (label : ℕ → Label) (I : Inv lims k u label) (o : Oracle) (t : Move) where
+  abbrev mesh : List Block
+  mesh = mesh-by k u label
+
+  abbrev c : ℕ → ℕ
+  c = count-by o u
+
+  abbrev d : ℕ
+  d = t .donor
+
+  abbrev r : ℕ
+  r = t .recipient
+
+  abbrev s : ℕ
+  s = t .serial
+
+  abbrev v : List ℕ
+  v = cell u s
+
+  abbrev u' : State
+  u' = after u v d r (inner-faces u d v)
+
+  -- what is known of it
+  record Known : Type 0 where
+    donor-below : d < k
+    recipient-below : r < k
+    above : mean (tab c k) < c d
+    below : c r < mean (tab c k)
+    mine : Mine u d s
+    standing : stands o u s ≡ true
+    six : first-no (first-six lims u (request-of t)) ≡ 0
+    fits : twenty-one lims u (request-of t) ≡ true
+
+  one-limit : volume-limit lims d r ≡ lims d .volume-darts
+  one-limit = let e = fit .one-volume-limit d r in omega arith
+
+  asks-same : d < k → first-no (departure-checks (volume-limit lims d r) (block-at mesh d) r s) ≡ first-no (departure-checks (lims d .volume-darts) (block-by u label d) r s)
+  asks-same h = ap (λ (n : ℕ). first-no (departure-checks n (block-at mesh d) r s)) one-limit
+      ∙ ap (λ (b : Block). first-no (departure-checks (lims d .volume-darts) b r s)) (block-at-by k u label d h)
+
+  size-same : r < k → length (block-at mesh r .darts) ≡ length (members u r)
+  unfolding block-by
+  size-same h = ap (λ (b : Block). length (b .darts)) (block-at-by k u label r h) ∙ length-map (members u r) (dart-by u label)
+
+  volume-is-cell : d < k → Mine u d s → volume-in (block-at mesh d .darts) s ≡ v
+  unfolding block-by
+  volume-is-cell h m = ap (λ (b : Block). volume-in (b .darts) s) (block-at-by k u label d h) ∙ volume-same lims fit k u label I d h s m
+
+  picked-there : d < k → In s (picked o (block-at mesh d .darts)) → Mine u d s × (stands o u s ≡ true)
+  unfolding block-by
+  picked-there h p =
+      let q = subst (λ (l : List ℕ). In s l) (ap (λ (b : Block). picked o (b .darts)) (block-at-by k u label d h) ∙ picked-are lims fit k u label I o d h) p in
+      let w = keep-in (stands o u) (members u d) s q in
+      (member-mine u d s (w .0), w .1)
+
+  known-of : Candidate o mesh (surpluses (tab c k)) t → can-move lims mesh t ≡ true → Known
+  unfolding can-move
+  known-of q can =
+      let n = surpluses-length c k in
+      let dk : d < k = omega (arith, q .donor-below) in
+      let rk : r < k = omega (arith, q .recipient-below) in
+      let w = picked-there dk (q .serial-picked) in
+      let asks = eqb-true _ 0 (and-left (eqb (first-no (departure-checks (volume-limit lims d r) (block-at mesh d) r s)) 0) _ can) in
+      let room = and-right (eqb (first-no (departure-checks (volume-limit lims d r) (block-at mesh d) r s)) 0) _ can in
+      record {
+        donor-below = dk;
+        recipient-below = rk;
+        above = above-is (c d) (mean (tab c k)) (subst (λ (z : ℤ). is-above z ≡ true) (surplus-at c k d dk) (q .donor-above-mean));
+        below = below-is (c r) (mean (tab c k)) (subst (λ (z : ℤ). is-below z ≡ true) (surplus-at c k r rk) (q .recipient-below-mean));
+        mine = w .0;
+        standing = w .1;
+        six = sym (questions-agree lims fit k u label I (request-of t) dk rk) ∙ sym (asks-same dk) ∙ asks;
+        fits = ap (λ (x : ℕ). leb (x + length v) (lims r .block-darts)) (sym (size-same rk))
+            ∙ ap (λ (l : List ℕ). leb (length (block-at mesh r .darts) + length l) (lims r .block-darts)) (sym (volume-is-cell dk (w .0))) ∙ room;
+      }
+
+  known : next-of lims o mesh ≡ move t → Known
+  known e =
+      let q = chosen lims o mesh t e in
+      known-of (subst (λ (cs : List ℕ). Candidate o mesh (surpluses cs) t) (counts-are lims fit k u label I o) (q .0)) (q .1)
+
+  module _ (K : Known) where
+    apart : d ≢ r
+    apart e = eqb-false r d (not-true _ (yes-first 9 (not (eqb r d)) _ (λ z. omega arith) (K .six) .0)) (sym e)
+
+    serves : undivided lims u (request-of t) ≡ record { outcome = finished; state = u' }
+    serves = undivided-serves lims u (request-of t)
+        (ap first-no (checks-split lims u (request-of t)) ∙ first-no-append (first-six lims u (request-of t)) _ (K .six) refl ∙ yes-then 21 _ [] (K .fits) ∙ no-more)
+        ∙ ap (λ (z : State). record { outcome = finished; state = z }) (after-is u (request-of t))
+
+    -- the counts afterwards
+    lowered : suc (sum (map positive-part (surpluses (tab (count-by o u') k)))) ≡ sum (map positive-part (surpluses (tab c k)))
+    lowered = lowers c (count-by o u') k d r (K .donor-below) (K .recipient-below) apart
+        (donor-loses lims fit k u label I o d (K .donor-below) s (K .mine) r apart (inner-faces u d v) (K .standing))
+        (recipient-gains lims fit k u label I o d (K .donor-below) s (K .mine) r apart (inner-faces u d v) (K .standing))
+        (λ b h. others-stay lims fit k u label I o d (K .donor-below) s (K .mine) r apart (inner-faces u d v) (K .standing) b)
+        (K .above) (K .below)
+
+    -- of any blocks with the images of the mesh that is described afterwards
+    lowered-after : (label' : ℕ → Label) → Inv lims k u' label' → (after : List Block) → map image after ≡ map image (mesh-by k u' label') → suc (positive-surplus o after) ≡ positive-surplus o mesh
+    unfolding positive-surplus
+    lowered-after label' I' after e =
+        let now : counts o after ≡ tab (count-by o u') k = counts-same lims o after (mesh-by k u' label') (mesh-parts lims (mesh-by k u' label') (mesh-sound lims k u' label' I') .blocks-sound) e ∙ counts-are lims fit k u' label' I' o in
+        ap (λ (cs : List ℕ). suc (sum (map positive-part (surpluses cs)))) now ∙ lowered
+        ∙ ap (λ (cs : List ℕ). sum (map positive-part (surpluses cs))) (sym (counts-are lims fit k u label I o))
+
+  Lowers : List Block → List ℕ → List Step → Type 0
+  Lowers l outbox order = next-of lims o l ≡ move t → Enough lims (map image l) (request-of t) outbox
+      → List·Permᴰ order (last-steps (request-of t) (sent-messages lims (map image l) (request-of t) outbox))
+      → (round lims (map image l) (request-of t) outbox order .outcome ≡ finished)
+      × ((after : List Block) → round lims (map image l) (request-of t) outbox order .memories ≡ map image after → suc (positive-surplus o after) ≡ positive-surplus o l)
+
+  lowers-described : (outbox : List ℕ) (order : List Step) → Lowers mesh outbox order
+  unfolding Lowers
+  lowers-described outbox order e enough any =
+      let K = known e in
+      let kept = keeps lims fit k u label I (request-of t) (K .donor-below) (K .recipient-below) outbox order enough any in
+      let I' : Inv lims k u' (kept .labels-now) = subst (λ (w : Undivided). Inv lims k (w .state) (kept .labels-now)) (serves K) (kept .inv-now) in (
+        kept .same-outcome ∙ ap (λ (w : Undivided). w .outcome) (serves K),
+        λ after f. lowered-after K (kept .labels-now) I' after (sym f ∙ kept .memories-now ∙ ap (λ (w : Undivided). map image (mesh-by k (w .state) (kept .labels-now))) (serves K)),
+      )
+
+-- EVERY MOVE
+pub move-lowers : (lims : ℕ → Limits) → Fit lims → MoveLowers lims
+unfolding Lowers
+move-lowers lims fit m o scratch outbox t order sound e enough any =
+    let k = length m in
+    let label = start-label lims m sound in
+    subst (λ (l : List Block). Lowers lims fit k (start m) label (start-inv lims m sound) o t l outbox order) (sym (described lims m sound))
+    (lowers-described lims fit k (start m) label (start-inv lims m sound) o t outbox order) (answered lims fit m o scratch t sound e) enough any
+
+-- on the rack
+pub rack-move-lowers : MoveLowers all-rack
+rack-move-lowers = move-lowers all-rack rack-fits
