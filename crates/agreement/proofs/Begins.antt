@@ -45,22 +45,22 @@ self-table (d ∷ ds) es u h = cons-same (or-no-dart (find (λ e. e .serial) (d 
         (λ t. absurd (true≢false (sym (in-eq (d .serial) (e .serial) (serials ds) (sym (eqb-true (e .serial) (d .serial) t)) (found-there (e .serial) ds e f)) ∙ not-true (mem (d .serial) (serials ds)) (and-left _ _ u))))
         (λ t. rw t f)
 
-sewn-to-is : (x : ℕ) (t : Third) → is-sewn-to x t ≡ true → t ≡ sewn x
+pub sewn-to-is : (x : ℕ) (t : Third) → is-sewn-to x t ≡ true → t ≡ sewn x
 sewn-to-is x free h = absurd (true≢false (sym h))
 sewn-to-is x (sewn y) h = ap sewn (sym (eqb-true x y h))
 sewn-to-is x (critical o l) h = absurd (true≢false (sym h))
 
-free-is : (t : Third) → is-free t ≡ true → t ≡ free
+pub free-is : (t : Third) → is-free t ≡ true → t ≡ free
 free-is free h = refl
 free-is (sewn y) h = absurd (true≢false (sym h))
 free-is (critical o l) h = absurd (true≢false (sym h))
 
-along-is : (ds : List Dart) (y : ℕ) (t : Third) → sewn-along ds y t ≡ true → (z : ℕ) × (t ≡ sewn z) × (next-in ds z ≡ y)
+pub along-is : (ds : List Dart) (y : ℕ) (t : Third) → sewn-along ds y t ≡ true → (z : ℕ) × (t ≡ sewn z) × (next-in ds z ≡ y)
 along-is ds y free h = absurd (true≢false (sym h))
 along-is ds y (sewn z) h = (z, refl, eqb-true (next-in ds z) y h)
 along-is ds y (critical o l) h = absurd (true≢false (sym h))
 
-critical-is : (o : ℕ) (t : Third) → is-critical-with o t ≡ true → (l : Label) × (t ≡ critical o l)
+pub critical-is : (o : ℕ) (t : Third) → is-critical-with o t ≡ true → (l : Label) × (t ≡ critical o l)
 critical-is o free h = absurd (true≢false (sym h))
 critical-is o (sewn y) h = absurd (true≢false (sym h))
 critical-is o (critical p l) h = (l, ap (λ (n : ℕ). critical n l) (sym (eqb-true o p h)))

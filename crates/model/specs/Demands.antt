@@ -10,7 +10,7 @@ use lib.ListN.{length, take, drop}
 use Rattle.model.specs.Lists.{all, mem, concat, first-no}
 use Rattle.model.specs.Values.{Block, Limits, Point}
 use Rattle.model.specs.Sound.{sound-block, Sound, block-at}
-use Rattle.model.specs.Image.{words, image}
+use Rattle.model.specs.Image.{words, image, is-image}
 use Rattle.model.specs.Departure.{departure-checks, messages}
 use Rattle.model.specs.Balance.{Oracle, Move, move, positive-surplus}
 use Rattle.model.specs.Calls.{served, refused, number-of, Result, empty, read-file, save-file, send, receive, release, redirect, check-mesh, next-move, next-move-by-number}
@@ -33,10 +33,21 @@ pub record Demand1 (lim : Limits) (lims : ℕ → Limits) : Type 0 where
   pub next-move-keeps : (m : List ℕ) (o : Oracle) (scratch : List ℕ) → Unchanged scratch (next-move lims m o scratch)
   pub numbered-keeps : (m : List ℕ) (n axis : ℕ) (low high : Point) (scratch : List ℕ) → Unchanged scratch (next-move-by-number lims m n axis low high scratch)
 
--- DEMAND 2
 abbrev pub Bytes : List ℕ → Type 0
 Bytes bs = all (λ b. ltb b 256) bs ≡ true
 
+-- beside it: a served call that stores a block leaves a sound block's image, whatever file or message it was given
+abbrev pub Leaves-image : Limits → Result (Unit {0}) → Type 0
+Leaves-image lim r = r .answer ≡ served tt → is-image lim (r .lent) ≡ true
+
+pub record LeavesSound (lim : Limits) : Type 0 where
+  pub empty-leaves : (n : ℕ) (m : List ℕ) → Leaves-image lim (empty n m)
+  pub read-file-leaves : (file m : List ℕ) → Bytes file → Leaves-image lim (read-file lim file m)
+  pub receive-leaves : (m message : List ℕ) → Bytes message → Leaves-image lim (receive lim m message)
+  pub release-leaves : (m : List ℕ) (j s : ℕ) → Leaves-image lim (release lim m j s)
+  pub redirect-leaves : (m message : List ℕ) → Bytes message → Leaves-image lim (redirect lim m message)
+
+-- DEMAND 2
 pub record Demand2 (lim : Limits) : Type 0 where
   -- "what is written reads back to the same block"
   pub reads-back : (m out into : List ℕ) (n : ℕ) → length into ≡ words → save-file lim m out .answer ≡ served n
