@@ -1,2 +1,3 @@
 pub mod Pointwise
+pub mod Rethird
 pub mod Served
