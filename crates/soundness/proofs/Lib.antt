@@ -1,3 +1,4 @@
 pub mod Pointwise
 pub mod Rethird
+pub mod RedirectSound
 pub mod Served

@@ -212,8 +212,8 @@ module _ (lim : Limits) (b : Block) (sound : sound-block lim b ≡ true) where
   apart-serials : distinct (serials ds) ≡ true
   apart-serials = ascending-distinct (serials ds) (R .in-order)
 
-  L : Links ds
-  L = links-from ds apart-serials (P .links)
+  pub links-of : Links ds
+  links-of = links-from ds apart-serials (P .links)
 
   third-test : (x : ℕ) → In x (serials ds) → third-right ds (dart-at ds x) (third-at ds x) ≡ true
   unfolding thirds-right
@@ -272,11 +272,11 @@ module _ (lim : Limits) (b : Block) (sound : sound-block lim b ≡ true) where
     in-order = R .in-order;
     in-range = λ x h. at-held dart-in-range ds (R .each-dart) x h .0;
     finite-point = λ x h. at-held (λ d. finite (d .point)) ds (P .finite) x h .0;
-    next-held = L .next-in-block;
-    next-onto = λ x h. (previous-in ds x, L .previous-in-block x h, L .next-previous x h);
-    opposite-held = L .opposite-in-block;
-    opposite-twice = L .opposite-opposite;
-    opposite-other = L .opposite-other;
+    next-held = links-of .next-in-block;
+    next-onto = λ x h. (previous-in ds x, links-of .previous-in-block x h, links-of .next-previous x h);
+    opposite-held = links-of .opposite-in-block;
+    opposite-twice = links-of .opposite-opposite;
+    opposite-other = links-of .opposite-other;
     ring-point = λ x h. same-point-is _ _ (points-test x h .0);
     free-on = free-test;
     sewn-right = sewn-test;
