@@ -4,5 +4,6 @@ pub mod Members
 pub mod Orbits
 pub mod Volumes
 pub mod Faces
+pub mod KeptFaces
 pub mod Tables
 pub mod Carry

@@ -1,4 +1,5 @@
 pub mod Pointwise
 pub mod Rethird
 pub mod RedirectSound
+pub mod ReleaseSound
 pub mod Served

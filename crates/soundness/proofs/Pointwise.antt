@@ -63,7 +63,7 @@ by-third (sewn y) f g h = g y refl
 by-third (critical o l) f g h = h o l refl
 
 -- A TABLE OF DARTS
-serial-held : (ds : List Dart) (x : ℕ) → In x (serials ds) → dart-at ds x .serial ≡ x
+pub serial-held : (ds : List Dart) (x : ℕ) → In x (serials ds) → dart-at ds x .serial ≡ x
 serial-held ds x h = at-held (λ d. true) ds (all-true ds) x h .1
   where
     all-true : (l : List Dart) → all (λ d. true) l ≡ true
