@@ -6,12 +6,12 @@ use mathlib.Core.List.{List, [], _∷_, map}
 use Prim.Native.Nat.{ℕ, _^_, _<_, _≤_}
 use lib.Dec.{ltb, eqb}
 use lib.ListN.{length}
-use borrow.Author.Tests.{eqb-true, eqb-false, eq-eqb, ne-eqb, lt-ltb, le-leb, not-true}
+use borrow.Author.Tests.{eqb-false, eq-eqb, ne-eqb, lt-ltb, le-leb, not-true}
 use Rattle.model.specs.Lists.{all, any, mem, distinct, ascending}
 use Rattle.model.specs.Values.{Label, Third, free, sewn, critical, Dart, Block, Limits, code, finite, same-point, is-free, is-sewn-to, is-critical-with}
 use Rattle.model.specs.Cells.{serials, dart-at, next-in, opposite-in, previous-in, third-at, labels}
 use Rattle.model.specs.Sound.{sewn-along, dart-in-range, ranges-right, coordinates-finite, link-right, links-right, third-right, thirds-right, label-right, labels-right, sewn-points, points-agree, sound-block}
-use Rattle.laws.proofs.Members.{In, in-here, in-there, in-cons, in-eq, ascending-distinct, distinct-not}
+use Rattle.laws.proofs.Members.{In, in-here, in-there, in-cons, ascending-distinct, distinct-not}
 use Rattle.laws.proofs.Tests.{by-cases, and-intro, and-left, and-right, not-equal}
 use Rattle.theory.proofs.BlockLaws.{at-held, Links, links-from}
 use Rattle.theory.proofs.ImageLaws.{Parts, parts-of, parts-sound, Ranges, ranges-of}

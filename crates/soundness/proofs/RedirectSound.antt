@@ -9,18 +9,18 @@ use native.Mathlib.Omega.{arith}
 use lib.Dec.{leb, ltb, eqb}
 use lib.ListN.{length, length-map}
 use borrow.Author.Tests.{eqb-true, eqb-false, eq-eqb, le-leb, not-true}
-use Rattle.model.specs.Lists.{all, any, keep, mem, concat-map, find, distinct, first-no}
-use Rattle.model.specs.Values.{Label, Third, free, sewn, critical, Dart, Block, Limits, serial-bound, no-dart, or-no-dart, code, label-key, is-free, is-sewn-to, is-critical-with, with-other}
+use Rattle.model.specs.Lists.{all, any, keep, mem, concat-map, find}
+use Rattle.model.specs.Values.{Label, Third, free, sewn, critical, Dart, Block, Limits, serial-bound, no-dart, or-no-dart, code, label-key, is-free, is-critical-with, with-other}
 use Rattle.model.specs.Cells.{cycle, serials, dart-at, next-in, third-at, previous-in, least-label, labelled}
 use Rattle.model.specs.Sound.{third-in-range, dart-in-range, sound-block}
-use Rattle.model.specs.Messages.{Update, an-update}
+use Rattle.model.specs.Messages.{Update}
 use Rattle.model.specs.Departure.{Link, third-or, relink}
-use Rattle.model.specs.Arrival.{face-with, names-face, update-right, redirect-checks, update-links, redirected}
-use Rattle.laws.proofs.Faces.{face, face-self, face-trans, face-sym}
-use Rattle.laws.proofs.Members.{In, in-eq}
+use Rattle.model.specs.Arrival.{face-with, names-face, update-right, update-links, redirected}
+use Rattle.laws.proofs.Faces.{face, face-trans, face-sym}
+use Rattle.laws.proofs.Members.{In}
 use Rattle.laws.proofs.Orbits.{in-cycle, cycle-closed}
-use Rattle.laws.proofs.Tests.{by-cases, and-intro, and-left, and-right, yes-first}
-use Rattle.theory.proofs.BlockLaws.{found-in, Links}
+use Rattle.laws.proofs.Tests.{by-cases, and-intro, and-left, and-right}
+use Rattle.theory.proofs.BlockLaws.{found-in}
 use Rattle.soundness.proofs.Pointwise.{CriticalRight, Right, right-of, links-of, right-sound}
 use Rattle.soundness.proofs.Rethird.{left, T, Stays, Fits, third-left, next-left, right-left}
 

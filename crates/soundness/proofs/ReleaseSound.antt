@@ -2,22 +2,22 @@
 use mathlib.Core.Path.{_≡_, refl, sym, _∙_, ap, subst}
 use mathlib.Core.Logic.{_⊎_, inl, inr, _≢_}
 use mathlib.Core.Bool.{Bool, true, false, true≢false, cond, not, _&&_, _||_}
-use mathlib.Core.List.{List, [], map}
+use mathlib.Core.List.{List}
 use mathlib.Core.Option.{none}
 use Prim.Native.Nat.{ℕ, _+_, _^_, _<_, _≤_}
 use native.Mathlib.Omega.{arith}
 use lib.Dec.{leb, ltb, eqb}
 use lib.ListN.{length}
-use borrow.Author.Tests.{eqb-true, eqb-false, eq-eqb, le-leb, lt-ltb, leb-true, ltb-true, not-true}
-use Rattle.model.specs.Lists.{all, keep, concat, mem, distinct, find, ascending, first-no}
+use borrow.Author.Tests.{eqb-false, eq-eqb, le-leb, lt-ltb, leb-true, ltb-true, not-true}
+use Rattle.model.specs.Lists.{keep, concat, mem, distinct, find, ascending, first-no}
 use Rattle.model.specs.Values.{Label, Third, free, sewn, critical, Dart, Block, Limits, serial-bound, code, is-free, is-critical-with, partner}
 use Rattle.model.specs.Cells.{around, cycle, volume, faces, start-of, serials, dart-at, next-in, opposite-in, third-at, volume-in, faces-in}
 use Rattle.model.specs.Sound.{third-in-range, dart-in-range, sound-block}
 use Rattle.model.specs.Image.{label-in}
-use Rattle.model.specs.Departure.{is-sewn-into, is-sewn-out-of, sewn-faces, pairs-once, vertex-pairs, departure-checks, Link, third-or, relink, label-faces, released}
+use Rattle.model.specs.Departure.{is-sewn-out-of, sewn-faces, departure-checks, Link, third-or, relink, label-faces, released}
 use Rattle.laws.proofs.Faces.{face, face-sym, along-face}
 use Rattle.laws.proofs.KeptFaces.{kept-distinct, kept-few, kept-in, in-kept}
-use Rattle.laws.proofs.Members.{In, in-keep, keep-in, keep-le, keep-ascending, all-in, in-eq}
+use Rattle.laws.proofs.Members.{In, in-keep, keep-in, keep-le, keep-ascending, in-eq}
 use Rattle.laws.proofs.Orbits.{in-cycle}
 use Rattle.laws.proofs.Tests.{by-cases, and-intro, and-left, and-right, yes-first}
 use Rattle.laws.proofs.Volumes.{Volume, volume-is}
@@ -310,7 +310,7 @@ module _ (lim : Limits) (b : Block) (fits : lim .block-darts ≤ 4096) (sound : 
           low z h = rw (eq-eqb (new z .maker) n (fresh-maker n c fs z)) (lt-ltb (new z .number) (c + length fs) (fresh-high n c fs z h))
 
   -- a number is never used again: a new label is on no dart that is left
-  new-unused : (y p : ℕ) (k : Label) (z : ℕ) → In y all-serials → third-at ds y ≡ critical p k → In z (concat fs) → k ≡ new z → ⊥
+  pub new-unused : (y p : ℕ) (k : Label) (z : ℕ) → In y all-serials → third-at ds y ≡ critical p k → In z (concat fs) → k ≡ new z → ⊥
   new-unused y p k z h e hz same =
       let below = R .critical-right y p k h e .own-below in
       let mine : k .maker ≡ n = ap (λ (l : Label). l .maker) same ∙ fresh-maker n c fs z in
