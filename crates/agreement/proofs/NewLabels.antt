@@ -5,15 +5,16 @@ use mathlib.Core.Bool.{Bool, true, false, true≢false, cond, not, _&&_}
 use mathlib.Core.List.{List, [], _∷_, _++_, map}
 use Prim.Native.Nat.{ℕ, suc, _+_, _<_, _≤_}
 use native.Mathlib.Omega.{arith}
-use lib.Dec.{leb, eqb}
+use lib.Dec.{eqb}
 use lib.ListN.{length}
 use borrow.Author.Tests.{eqb-true, eqb-false, eq-eqb, not-true}
-use Rattle.model.specs.Lists.{all, keep, concat, mem, distinct, index-of}
+use Rattle.model.specs.Lists.{keep, concat, mem, distinct, index-of}
 use Rattle.model.specs.Values.{Label}
 use Rattle.model.specs.Cells.{around, cycle, faces, start-of}
 use Rattle.model.specs.Runs.{State, nx, th}
-use Rattle.laws.proofs.Faces.{face, face-stays, face-sym, is-start, face-start, start-in, start-starts, in-faces, faces-only, face-few, along-face, faces-distinct}
-use Rattle.laws.proofs.Members.{In, in-here, in-there, in-keep, keep-in, append-in, keep-ascending, ascending-distinct, Each, keep-map}
+use Rattle.laws.proofs.Faces.{face, is-start}
+use Rattle.laws.proofs.KeptFaces.{starts, start-there as start-there-is, starts-distinct as distinct-starts, kept-are, kept-distinct, kept-few, kept-in, start-kept, in-kept}
+use Rattle.laws.proofs.Members.{In, append-in, Each}
 use Rattle.laws.proofs.Tests.{by-cases, and-intro, and-left, and-right, not-equal}
 use Rattle.agreement.proofs.Described.{Map, third-level}
 use Rattle.agreement.proofs.MovedCell.{Cell}
@@ -105,61 +106,35 @@ module _ (u : State) (M : Map u) (i s : ℕ) (v : List ℕ) (C : Cell u i s v) w
 
   -- the faces that pass, in message order
   abbrev pub facing-starts : (List ℕ → Bool) → List ℕ
-  facing-starts p = keep (λ x. p (cycle (nx u) x)) (keep (λ x. all (leb x) (cycle (nx u) x)) v)
-
-  pub facing-are : (p : List ℕ → Bool) → keep p (faces (nx u) v) ≡ map (cycle (nx u)) (facing-starts p)
-  unfolding faces
-  facing-are p = keep-map p (cycle (nx u)) (keep (λ x. all (leb x) (cycle (nx u) x)) v)
+  facing-starts p = starts (nx u) v (C .next-closed) next-one-cell (C .few) (C .in-order) p
 
   pub start-there : (p : List ℕ → Bool) (x : ℕ) → In x (facing-starts p) → In x v × (is-start (nx u) v (C .next-closed) next-one-cell (C .few) x ≡ true) × (p (cycle (nx u) x) ≡ true)
-  unfolding cycle
-  start-there p x h = let a = keep-in (λ y. p (cycle (nx u) y)) (keep (λ y. all (leb y) (cycle (nx u) y)) v) x h in let b = keep-in (λ y. all (leb y) (cycle (nx u) y)) v x (a .0) in (b .0, b .1, a .1)
+  start-there p = start-there-is (nx u) v (C .next-closed) next-one-cell (C .few) (C .in-order) p
 
   pub starts-distinct : (p : List ℕ → Bool) → distinct (facing-starts p) ≡ true
-  starts-distinct p = ascending-distinct (facing-starts p) (keep-ascending (λ x. p (cycle (nx u) x)) _ (keep-ascending (λ x. all (leb x) (cycle (nx u) x)) v (C .in-order)))
+  starts-distinct p = distinct-starts (nx u) v (C .next-closed) next-one-cell (C .few) (C .in-order) p
+
+  pub facing-are : (p : List ℕ → Bool) → keep p (faces (nx u) v) ≡ map (cycle (nx u)) (facing-starts p)
+  facing-are p = kept-are (nx u) v (C .next-closed) next-one-cell (C .few) (C .in-order) p
 
   -- their darts are in no two of them
   pub facing-distinct : (p : List ℕ → Bool) → distinct (concat (keep p (faces (nx u) v))) ≡ true
-  unfolding cycle
-  facing-distinct p = rw (facing-are p) (faces-distinct (nx u) v (C .next-closed) next-one-cell (C .few) (facing-starts p) (λ x h. let a = start-there p x h in (a .0, a .1)) (starts-distinct p))
-
-  few-each : (l : List ℕ) → ((x : ℕ) → In x l → In x v) → Each (λ f. length f ≤ 4096) (map (cycle (nx u)) l)
-  unfolding cycle
-  few-each [] h = tt
-  few-each (x ∷ l) h = (face-few (nx u) v (C .next-closed) next-one-cell (C .few) x (h x (in-here x l)), few-each l (λ y m. h y (in-there y x l m)))
+  facing-distinct p = kept-distinct (nx u) v (C .next-closed) next-one-cell (C .few) (C .in-order) p
 
   pub facing-few : (p : List ℕ → Bool) → Each (λ f. length f ≤ 4096) (keep p (faces (nx u) v))
-  facing-few p = rw (facing-are p) (few-each (facing-starts p) (λ x h. start-there p x h .0))
+  facing-few p = kept-few (nx u) v (C .next-closed) next-one-cell (C .few) (C .in-order) p
 
   module _ (b : ℕ) (p : List ℕ → Bool) (tells : Tells b p) where
     -- and they are the darts of the cell that face block b
     pub facing-in : (x : ℕ) → In x (concat (keep p (faces (nx u) v))) → In x v × Facing u b x
-    unfolding cycle
-    facing-in x h =
-        let r = faces-only (nx u) v (C .next-closed) next-one-cell (C .few) (facing-starts p) x (rw (facing-are p) at h) in
-        let a = start-there p (r .0) (r .1) in (
-          face-stays (nx u) v (C .next-closed) next-one-cell (C .few) (r .0) x (a .0) (r .2),
-          along-face (nx u) v (C .next-closed) next-one-cell (C .few) (Facing u b) (facing-next b) (r .0) x (a .0) (tells .says (r .0) (a .0) (a .2)) (r .2),
-        )
+    facing-in = kept-in (nx u) v (C .next-closed) next-one-cell (C .few) (C .in-order) p (Facing u b) (facing-next b) (tells .says) (tells .hears)
 
     -- the start of the face of a dart that faces block b
     pub start-facing : (x : ℕ) → In x v → Facing u b x → (st : ℕ) × In st (facing-starts p) × In st (face (nx u) v (C .next-closed) next-one-cell (C .few) x) × In x (face (nx u) v (C .next-closed) next-one-cell (C .few) st)
-    unfolding cycle
-    start-facing x h c =
-        let st = face-start (nx u) v (C .next-closed) next-one-cell (C .few) x in
-        let m = start-in (nx u) v (C .next-closed) next-one-cell (C .few) x h in
-        let sv = face-stays (nx u) v (C .next-closed) next-one-cell (C .few) x st h m in
-        let cs = along-face (nx u) v (C .next-closed) next-one-cell (C .few) (Facing u b) (facing-next b) x st h c m in
-        let is = start-starts (nx u) v (C .next-closed) next-one-cell (C .few) x h in (
-          st,
-          in-keep (λ y. p (cycle (nx u) y)) st (keep (λ y. all (leb y) (cycle (nx u) y)) v) (in-keep (λ y. all (leb y) (cycle (nx u) y)) st v sv is) (tells .hears st sv cs),
-          m,
-          face-sym (nx u) v (C .next-closed) next-one-cell (C .few) x st h m,
-        )
+    start-facing = start-kept (nx u) v (C .next-closed) next-one-cell (C .few) (C .in-order) p (Facing u b) (facing-next b) (tells .says) (tells .hears)
 
     pub in-facing : (x : ℕ) → In x v → Facing u b x → In x (concat (keep p (faces (nx u) v)))
-    unfolding cycle
-    in-facing x h c = let q = start-facing x h c in rw (facing-are p) (in-faces (nx u) v (C .next-closed) next-one-cell (C .few) (facing-starts p) (q .0) x (q .1) (q .3))
+    in-facing = in-kept (nx u) v (C .next-closed) next-one-cell (C .few) (C .in-order) p (Facing u b) (facing-next b) (tells .says) (tells .hears)
 
   -- THE FACES THAT A MOVE CUTS meet another cell of block i
   module _ (leaves : (x : ℕ) → In x v → mem (th u x) v ≡ false) where

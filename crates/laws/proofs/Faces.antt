@@ -10,7 +10,6 @@ use lib.ListN.{length}
 use borrow.Author.Tests.{leb-true, le-leb, not-true}
 use Rattle.model.specs.Lists.{all, keep, concat, mem, distinct, least}
 use Rattle.model.specs.Cells.{around, cycle, faces}
-use Rattle.model.specs.Runs.{nx}
 use Rattle.laws.proofs.Members.{In, in-here, in-there, in-keep, in-cons, in-eq, all-in, all-from, keep-in, in-append-left, in-append-right, append-in, distinct-append, least-in, least-below}
 use Rattle.laws.proofs.Orbits.{iter, iter-add, path, path-in, iter-stays, iter-inj, around-path, Cyc, in-cycle, cycle-in, cycle-sym}
 use Rattle.laws.proofs.Tests.{and-intro, and-left, and-right}

@@ -7,28 +7,30 @@ use lib.Dec.{leb}
 use lib.ListN.{length}
 use Rattle.model.specs.Lists.{all, keep, concat, distinct, ascending}
 use Rattle.model.specs.Cells.{cycle, faces}
-use Rattle.laws.proofs.Faces.{face-stays, face-sym, is-start, face-start, start-in, start-starts, in-faces, faces-only, face-few, along-face, faces-distinct}
+use Rattle.laws.proofs.Faces.{face, face-stays, face-sym, is-start, face-start, start-in, start-starts, in-faces, faces-only, face-few, along-face, faces-distinct}
 use Rattle.laws.proofs.Members.{In, in-here, in-there, in-keep, keep-in, keep-ascending, ascending-distinct, Each, keep-map}
 
 module _ (nx : ℕ → ℕ) (v : List ℕ) (stays : (x : ℕ) → In x v → In (nx x) v) (inj : (x y : ℕ) → In x v → In y v → nx x ≡ nx y → x ≡ y) (small : length v ≤ 4096)
     (order : ascending v ≡ true) (p : List ℕ → Bool) where
   -- where they start
-  abbrev starts : List ℕ
+  abbrev pub starts : List ℕ
   starts = keep (λ x. p (cycle nx x)) (keep (λ x. all (leb x) (cycle nx x)) v)
 
-  kept-are : keep p (faces nx v) ≡ map (cycle nx) starts
+  pub kept-are : keep p (faces nx v) ≡ map (cycle nx) starts
   unfolding faces
   kept-are = keep-map p (cycle nx) (keep (λ x. all (leb x) (cycle nx x)) v)
 
-  start-there : (x : ℕ) → In x starts → In x v × (is-start nx v stays inj small x ≡ true) × (p (cycle nx x) ≡ true)
+  pub start-there : (x : ℕ) → In x starts → In x v × (is-start nx v stays inj small x ≡ true) × (p (cycle nx x) ≡ true)
   unfolding cycle
   start-there x h = let a = keep-in (λ y. p (cycle nx y)) (keep (λ y. all (leb y) (cycle nx y)) v) x h in let b = keep-in (λ y. all (leb y) (cycle nx y)) v x (a .0) in (b .0, b .1, a .1)
+
+  pub starts-distinct : distinct starts ≡ true
+  starts-distinct = ascending-distinct starts (keep-ascending (λ x. p (cycle nx x)) _ (keep-ascending (λ x. all (leb x) (cycle nx x)) v order))
 
   -- their darts are in no two of them
   pub kept-distinct : distinct (concat (keep p (faces nx v))) ≡ true
   unfolding cycle
-  kept-distinct = rw kept-are (faces-distinct nx v stays inj small starts (λ x h. let a = start-there x h in (a .0, a .1))
-      (ascending-distinct starts (keep-ascending (λ x. p (cycle nx x)) _ (keep-ascending (λ x. all (leb x) (cycle nx x)) v order))))
+  kept-distinct = rw kept-are (faces-distinct nx v stays inj small starts (λ x h. let a = start-there x h in (a .0, a .1)) starts-distinct)
 
   few-each : (l : List ℕ) → ((x : ℕ) → In x l → In x v) → Each (λ f. length f ≤ 4096) (map (cycle nx) l)
   unfolding cycle
@@ -47,13 +49,17 @@ module _ (nx : ℕ → ℕ) (v : List ℕ) (stays : (x : ℕ) → In x v → In 
         let a = start-there (r .0) (r .1) in
         (face-stays nx v stays inj small (r .0) x (a .0) (r .2), along-face nx v stays inj small P goes (r .0) x (a .0) (says (r .0) (a .0) (a .2)) (r .2))
 
-    pub in-kept : (x : ℕ) → In x v → P x → In x (concat (keep p (faces nx v)))
+    -- the start of the face of such a dart
+    pub start-kept : (x : ℕ) → In x v → P x → (st : ℕ) × In st starts × In st (face nx v stays inj small x) × In x (face nx v stays inj small st)
     unfolding cycle
-    in-kept x h c =
+    start-kept x h c =
         let st = face-start nx v stays inj small x in
         let m = start-in nx v stays inj small x h in
         let sv = face-stays nx v stays inj small x st h m in
         let cs = along-face nx v stays inj small P goes x st h c m in
         let is = start-starts nx v stays inj small x h in
-        let there = in-keep (λ y. p (cycle nx y)) st (keep (λ y. all (leb y) (cycle nx y)) v) (in-keep (λ y. all (leb y) (cycle nx y)) st v sv is) (hears st sv cs) in
-        rw kept-are (in-faces nx v stays inj small starts st x there (face-sym nx v stays inj small x st h m))
+        (st, in-keep (λ y. p (cycle nx y)) st (keep (λ y. all (leb y) (cycle nx y)) v) (in-keep (λ y. all (leb y) (cycle nx y)) st v sv is) (hears st sv cs), m, face-sym nx v stays inj small x st h m)
+
+    pub in-kept : (x : ℕ) → In x v → P x → In x (concat (keep p (faces nx v)))
+    unfolding cycle
+    in-kept x h c = let q = start-kept x h c in rw kept-are (in-faces nx v stays inj small starts (q .0) x (q .1) (q .3))

@@ -1,5 +1,5 @@
 -- START HERE: what is claimed. The three demands, and what the paper says beside them, about the definitions of the calls (Calls) and
--- of the two runs (Runs). Their proofs are in the crate theory. Assumes nothing.
+-- of the two runs (Runs). Their proofs are in the crates theory, agreement, soundness and balancing. Assumes nothing.
 use mathlib.Core.Path.{_≡_}
 use mathlib.Core.Logic.{_≢_}
 use mathlib.Core.Bool.{true, _&&_}
@@ -7,11 +7,10 @@ use mathlib.Core.List.{List, [], _∷_, _++_, map, List·Permᴰ}
 use Prim.Native.Nat.{ℕ, suc, _<_, _≤_}
 use lib.Dec.{ltb}
 use lib.ListN.{length, take, drop}
-use Rattle.model.specs.Lists.{all, mem, concat, first-no}
+use Rattle.model.specs.Lists.{all, mem, concat}
 use Rattle.model.specs.Values.{Block, Limits, Point}
-use Rattle.model.specs.Sound.{sound-block, Sound, block-at}
+use Rattle.model.specs.Sound.{Sound, block-at}
 use Rattle.model.specs.Image.{words, image, is-image}
-use Rattle.model.specs.Departure.{departure-checks, messages}
 use Rattle.model.specs.Balance.{Oracle, Move, move, positive-surplus}
 use Rattle.model.specs.Calls.{served, refused, number-of, Result, empty, read-file, save-file, send, receive, release, redirect, check-mesh, next-move, next-move-by-number}
 use Rattle.model.specs.Runs.{Request, memory-at, is-refused, finished, unfinished, Step, last-steps, sent-messages, Round, round, State, start, whole-map, holder, Undivided, undivided}
@@ -113,11 +112,3 @@ MoveLowers lims = (m : List Block) (o : Oracle) (scratch outbox : List ℕ) (t :
     Enough lims (map image m) r outbox → List·Permᴰ order (last-steps r (sent-messages lims (map image m) r outbox))
     → (round lims (map image m) r outbox order .outcome ≡ finished)
     × ((after : List Block) → round lims (map image m) r outbox order .memories ≡ map image after → suc (positive-surplus o after) ≡ positive-surplus o m)
-
--- THE OUTBOX: so many bytes are always enough
-abbrev pub outbox-bytes : ℕ
-outbox-bytes = 32768
-
-abbrev pub OutboxSuffices : Limits → Type 0
-OutboxSuffices lim = (b : Block) (j s : ℕ) → sound-block lim b ≡ true → first-no (departure-checks (lim .volume-darts) b j s) ≡ 0
-    → length (concat (messages b j s)) ≤ outbox-bytes
