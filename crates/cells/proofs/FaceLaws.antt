@@ -1,0 +1,221 @@
+-- Message order by place: a marked place that no face so far holds starts a face, and any other does not. Assumes nothing.
+use mathlib.Core.Path.{_≡_, refl, sym, _∙_, ap}
+use mathlib.Core.Logic.{_≢_}
+use mathlib.Core.Bool.{Bool, true, false, true≢false, cond, not, _&&_, _||_}
+use mathlib.Core.List.{List, [], _∷_, _++_, map, append-assoc, append-nil}
+use Prim.Native.Nat.{ℕ, zero, suc, _+_, _≤_, _<_}
+use native.Mathlib.Omega.{arith}
+use native.Mathlib.Nat.{add-zero, add-assoc, zero-add}
+use native.Mathlib.Numerals.{add-one}
+use lib.Dec.{leb, eqb}
+use lib.ListN.{length, getD, set, replicate, length-append, length-set, length-replicate}
+use lib.Seq.{take-suc-set}
+use borrow.Author.Tests.{eqb-true, eqb-false, eq-eqb, leb-true}
+use Rattle.model.specs.Lists.{all, keep, concat, distinct, mem, tab}
+use Rattle.model.specs.Cells.{cycle, faces}
+use Rattle.model.specs.Image.{room}
+use Rattle.model.specs.Departure.{placed}
+use Rattle.laws.proofs.Tests.{by-cases, and-left, and-right}
+use Rattle.laws.proofs.Members.{In, in-here, in-there, in-keep, keep-in, all-in, keep-ascending, ascending-distinct, distinct-not, pigeonhole, map-append}
+use Rattle.laws.proofs.Faces.{face-sym, face-stays, face-start, start-in, start-starts, in-faces, faces-only, faces-distinct, along-face}
+use Rattle.laws.proofs.Tables.{length-tab, tab-ascending}
+use Rattle.cells.specs.Places.{Within, Apart, Closed, InOrder, Painted, Put, bit, marked}
+use Rattle.cells.proofs.Walks.{eq-or-ne, getD-zeros}
+use Rattle.cells.proofs.Reached.{places, in-places, places-below, within-places}
+use Rattle.cells.proofs.Paths.{apart-places, few-places, mem-append}
+
+-- LISTS that grow at the end
+tab-more : {A : Type 0} (f : ℕ → A) (n : ℕ) → tab f (suc n) ≡ tab f n ++ f n ∷ []
+tab-more f zero = refl
+tab-more f (suc n) = ap (λ (l : List _). f 0 ∷ l) (tab-more (λ k. f (suc k)) n)
+
+pub keep-append : {A : Type 0} (q : A → Bool) (l r : List A) → keep q (l ++ r) ≡ keep q l ++ keep q r
+keep-append q [] r = refl
+keep-append q (x ∷ l) r = by-cases (q x) (λ e. rw (e, keep-append q l r)) (λ e. rw (e, keep-append q l r))
+
+concat-append : {A : Type 0} (l r : List (List A)) → concat (l ++ r) ≡ concat l ++ concat r
+unfolding concat
+concat-append [] r = refl
+concat-append (x ∷ l) r = rw (concat-append l r, append-assoc)
+
+concat-one : {A : Type 0} (l : List A) → concat (l ∷ []) ≡ l
+unfolding concat
+concat-one l = append-nil l
+
+placed-more : (i : ℕ) (fs : List (List ℕ)) (f : List ℕ) → placed i (fs ++ f ∷ []) ≡ placed i fs ++ record { at = i + length (concat fs); face = f } ∷ []
+unfolding placed concat
+placed-more i [] f = rw add-zero
+placed-more i (g ∷ fs) f = rw (placed-more (i + length g) fs f, length-append, add-assoc)
+
+pub getD-in : (l : List ℕ) (k : ℕ) → k < length l → In (getD l k 0) l
+getD-in [] k h = absurd (omega arith)
+getD-in (x ∷ l) zero h = in-here x l
+getD-in (x ∷ l) (suc k) h = in-there (getD l k 0) x l (getD-in l k (omega arith))
+
+-- a list of different numbers below n has at most n
+pub distinct-at : (l : List ℕ) → distinct l ≡ true → (a b : ℕ) → a < b → b < length l → getD l a 0 ≢ getD l b 0
+distinct-at [] d a b h k e = absurd (omega arith)
+distinct-at (x ∷ l) d a zero h k e = absurd (omega arith)
+distinct-at (x ∷ l) d zero (suc b) h k e = distinct-not x l d (getD l b 0) (getD-in l b (omega arith)) (sym e)
+distinct-at (x ∷ l) d (suc a) (suc b) h k e = distinct-at l (and-right (not (mem x l)) _ d) a b (omega arith) (omega arith) e
+
+pub distinct-few : (l : List ℕ) (n : ℕ) → distinct l ≡ true → ((x : ℕ) → In x l → x < n) → length l ≤ n
+distinct-few l n d h = omega (arith, pigeonhole (length l) (λ k. getD l k 0) (places n) (λ k j. in-places n (getD l k 0) (h (getD l k 0) (getD-in l k j))) (distinct-at l d), length-tab (λ (p : ℕ). p) n)
+
+-- one marked place more, or none
+pub marked-more : (n : ℕ) (marks : List ℕ) → marked (n + 1) marks ≡ marked n marks ++ cond (eqb (getD marks n 0) 1) (n ∷ []) []
+unfolding marked
+marked-more n marks = ap (λ (k : ℕ). keep (λ p. eqb (getD marks p 0) 1) (places k)) (add-one n)
+    ∙ ap (keep (λ p. eqb (getD marks p 0) 1)) (tab-more (λ p. p) n) ∙ keep-append (λ p. eqb (getD marks p 0) 1) (places n) (n ∷ [])
+
+faces-more : (f : ℕ → ℕ) (l : List ℕ) (x : ℕ) → faces f (l ++ x ∷ []) ≡ faces f l ++ cond (all (leb x) (cycle f x)) (cycle f x ∷ []) []
+unfolding faces
+faces-more f l x = rw (keep-append (λ y. all (leb y) (cycle f y)) l (x ∷ []), map-append) (by-cases (all (leb x) (cycle f x)) (λ e. rw e) (λ e. rw e))
+
+pub marked-in : (n : ℕ) (marks : List ℕ) (p : ℕ) → In p (marked n marks) → (p < n) × (getD marks p 0 ≡ 1)
+unfolding marked
+marked-in n marks p h = let r = keep-in (λ q. eqb (getD marks q 0) 1) (places n) p h in (places-below n p (r .0), eqb-true _ 1 (r .1))
+
+pub in-marked : (n : ℕ) (marks : List ℕ) (p : ℕ) → p < n → getD marks p 0 ≡ 1 → In p (marked n marks)
+unfolding marked
+in-marked n marks p h e = in-keep (λ q. eqb (getD marks q 0) 1) p (places n) (in-places n p h) (eq-eqb _ 1 e)
+
+-- WHAT IS PUT SO FAR: the faces that the marked places below p start
+pub record Ordering (n : ℕ) (f : ℕ → ℕ) (marks : List ℕ) (p : ℕ) (out starts seen : List ℕ) (darts count : ℕ) : Type 0 where
+  pub so-far : InOrder (faces f (marked p marks)) out starts darts count
+  pub p-le : p ≤ n
+  pub count-le : count ≤ p
+  pub seen-size : length seen ≡ room
+  pub seen-is : (q : ℕ) → getD seen q 0 ≡ bit (mem q (concat (faces f (marked p marks))))
+
+module _ (n : ℕ) (f : ℕ → ℕ) (marks : List ℕ) (few : n ≤ room) (wf : Within n f) (af : Apart n f) (closed : Closed n f marks) where
+  -- a marked place that is seen does not start its face
+  seen-no-start : (p : ℕ) → p < n → In p (concat (faces f (marked p marks))) → all (leb p) (cycle f p) ≡ false
+  unfolding faces cycle
+  seen-no-start p h k = by-cases (all (leb p) (cycle f p))
+      (λ e. let r = faces-only f (places n) (within-places wf) (apart-places af) (few-places few) (keep (λ x. all (leb x) (cycle f x)) (marked p marks)) p k in
+      let s = marked-in p marks (r .0) (keep-in (λ x. all (leb x) (cycle f x)) (marked p marks) (r .0) (r .1) .0) in
+      absurd (omega (
+        arith,
+        s .0,
+        leb-true p (r .0) (all-in (leb p) (cycle f p) e (r .0)
+            (face-sym f (places n) (within-places wf) (apart-places af) (few-places few) (r .0) p (in-places n (r .0) (omega (arith, s .0))) (r .2))),
+      )))
+      (λ e. e)
+
+  -- a marked place that is not seen starts its face
+  new-start : (p : ℕ) → p < n → getD marks p 0 ≡ 1 → mem p (concat (faces f (marked p marks))) ≡ false → all (leb p) (cycle f p) ≡ true
+  unfolding faces cycle
+  new-start p h one k = eq-or-ne s p (λ e. rw e at starts) (λ e. absurd (true≢false (sym (seen (omega (arith, s-le))) ∙ k)))
+    where
+      hp : In p (places n)
+      hp = in-places n p h
+
+      s : ℕ
+      s = face-start f (places n) (within-places wf) (apart-places af) (few-places few) p
+
+      there : In s (cycle f p)
+      there = start-in f (places n) (within-places wf) (apart-places af) (few-places few) p hp
+
+      starts : all (leb s) (cycle f s) ≡ true
+      starts = start-starts f (places n) (within-places wf) (apart-places af) (few-places few) p hp
+
+      back : In p (cycle f s)
+      back = face-sym f (places n) (within-places wf) (apart-places af) (few-places few) p s hp there
+
+      s-le : s ≤ p
+      s-le = leb-true s p (all-in (leb s) (cycle f s) starts p back)
+
+      s-marked : getD marks s 0 ≡ 1
+      s-marked = along-face f (places n) (within-places wf) (apart-places af) (few-places few) (λ x. getD marks x 0 ≡ 1) (λ y j. closed y (places-below n y j)) p s hp one there
+
+      seen : s < p → In p (concat (map (cycle f) (keep (λ x. all (leb x) (cycle f x)) (marked p marks))))
+      seen less = in-faces f (places n) (within-places wf) (apart-places af) (few-places few) (keep (λ x. all (leb x) (cycle f x)) (marked p marks)) s p
+          (in-keep (λ x. all (leb x) (cycle f x)) s (marked p marks) (in-marked p marks s less s-marked) starts) back
+
+  -- the faces of marked places have at most n darts in all
+  pub faces-fit : (p : ℕ) → p ≤ n → length (concat (faces f (marked p marks))) ≤ n
+  unfolding faces cycle marked
+  faces-fit p h = distinct-few (concat (faces f (marked p marks))) n
+      (faces-distinct f (places n) (within-places wf) (apart-places af) (few-places few) (keep (λ x. all (leb x) (cycle f x)) (marked p marks))
+      (λ x k. let r = keep-in (λ x. all (leb x) (cycle f x)) (marked p marks) x k in (in-places n x (omega (arith, marked-in p marks x (r .0) .0)), r .1))
+      (ascending-distinct _ (keep-ascending (λ x. all (leb x) (cycle f x)) (marked p marks) (keep-ascending (λ q. eqb (getD marks q 0) 1) (places p) (tab-ascending (λ q. q) p (λ i j l k. l))))))
+      (λ x k. let r = faces-only f (places n) (within-places wf) (apart-places af) (few-places few) (keep (λ x. all (leb x) (cycle f x)) (marked p marks)) x k in
+      let s = marked-in p marks (r .0) (keep-in (λ x. all (leb x) (cycle f x)) (marked p marks) (r .0) (r .1) .0) in
+      places-below n x (face-stays f (places n) (within-places wf) (apart-places af) (few-places few) (r .0) x (in-places n (r .0) (omega (arith, s .0))) (r .2)))
+
+  -- nothing is put at the start
+  pub ordering-start : (out starts seen : List ℕ) → length out ≡ room → length starts ≡ room → seen ≡ replicate room 0 → Ordering n f marks 0 out starts seen 0 0
+  unfolding faces marked concat placed
+  ordering-start out starts seen a b e = record {
+    so-far = record { out-size = a; starts-size = b; order = refl; darts-are = refl; indices = refl; count-is = refl };
+    p-le = omega arith;
+    count-le = omega arith;
+    seen-size = rw e (length-replicate {A = ℕ} room 0);
+    seen-is = λ q. rw e (getD-zeros room q);
+  }
+
+  module _ {p darts count : ℕ} {out starts seen : List ℕ} (o : Ordering n f marks p out starts seen darts count) (h : p < n) where
+    -- the same faces, one place on
+    stay : faces f (marked (p + 1) marks) ≡ faces f (marked p marks) → Ordering n f marks (p + 1) out starts seen darts count
+    stay e = record { so-far = rw e (o .so-far); p-le = omega arith; count-le = omega (arith, o .count-le); seen-size = o .seen-size; seen-is = λ q. rw e (o .seen-is q) }
+
+    seen-bit : (b : Bool) → getD seen p 0 ≡ bit b → (getD seen p 0 ≡ 0 → ⊥) → b ≡ true
+    seen-bit true e ne = refl
+    seen-bit false e ne = absurd (ne e)
+
+    unseen-bit : (b : Bool) → getD seen p 0 ≡ bit b → getD seen p 0 ≡ 0 → b ≡ false
+    unseen-bit true e z = absurd (omega arith)
+    unseen-bit false e z = refl
+
+    pub ordering-skip : (eqb (getD marks p 0) 1 && eqb (getD seen p 0) 0) ≡ false → Ordering n f marks (p + 1) out starts seen darts count
+    ordering-skip e = by-cases (eqb (getD marks p 0) 1)
+        (λ m. let z : eqb (getD seen p 0) 0 ≡ false = rw m at e in
+        let there = seen-bit (mem p (concat (faces f (marked p marks)))) (o .seen-is p) (eqb-false (getD seen p 0) 0 z) in
+        let none = seen-no-start p h there in
+        stay (ap (faces f) (marked-more p marks ∙ ap (λ (b : Bool). marked p marks ++ cond b (p ∷ []) []) m) ∙ faces-more f (marked p marks) p
+        ∙ ap (λ (b : Bool). faces f (marked p marks) ++ cond b (cycle f p ∷ []) []) none ∙ append-nil (faces f (marked p marks))))
+        (λ m. stay (ap (faces f) (marked-more p marks ∙ ap (λ (b : Bool). marked p marks ++ cond b (p ∷ []) []) m ∙ append-nil (marked p marks))))
+
+    -- p starts a face
+    module _ (e : (eqb (getD marks p 0) 1 && eqb (getD seen p 0) 0) ≡ true) where
+      new-face : faces f (marked (p + 1) marks) ≡ faces f (marked p marks) ++ cycle f p ∷ []
+      new-face =
+          let m = and-left (eqb (getD marks p 0) 1) _ e in
+          let z = and-right (eqb (getD marks p 0) 1) _ e in
+          let absent = unseen-bit (mem p (concat (faces f (marked p marks)))) (o .seen-is p) (eqb-true (getD seen p 0) 0 z) in
+          let some = new-start p h (eqb-true (getD marks p 0) 1 m) absent in
+          ap (faces f) (marked-more p marks ∙ ap (λ (b : Bool). marked p marks ++ cond b (p ∷ []) []) m) ∙ faces-more f (marked p marks) p
+          ∙ ap (λ (b : Bool). faces f (marked p marks) ++ cond b (cycle f p ∷ []) []) some
+
+      longer : concat (faces f (marked (p + 1) marks)) ≡ concat (faces f (marked p marks)) ++ cycle f p
+      longer = ap concat new-face ∙ concat-append (faces f (marked p marks)) (cycle f p ∷ []) ∙ ap (λ (l : List ℕ). concat (faces f (marked p marks)) ++ l) (concat-one (cycle f p))
+
+      pub face-room : darts + length (cycle f p) ≤ room
+      face-room = omega (arith, faces-fit (p + 1) (omega arith), o .so-far .darts-are, ap length longer, length-append (concat (faces f (marked p marks))) (cycle f p), few)
+
+      pub ordering-put : {end : ℕ} {out′ seen′ : List ℕ} → Put (cycle f p) darts out out′ end → Painted 1 (cycle f p) seen seen′ → Ordering n f marks (p + 1) out′ (set starts count darts) seen′ end (count + 1)
+      ordering-put {end} {out′} {seen′} w s = record {
+        so-far = record {
+          out-size = w .size ∙ o .so-far .out-size;
+          starts-size = simp length-set (o .so-far .starts-size);
+          order = w .front ∙ ap (λ (l : List ℕ). l ++ cycle f p) (o .so-far .order) ∙ sym longer;
+          darts-are = omega (arith, w .end, o .so-far .darts-are, ap length longer, length-append (concat (faces f (marked p marks))) (cycle f p));
+          indices = rw (new-face, placed-more 0 (faces f (marked p marks)) (cycle f p), map-append, ← o .so-far .indices, add-one, zero-add, ← o .so-far .darts-are) (take-suc-set starts count darts (omega (arith, o .so-far .starts-size, o .count-le, few)));
+          count-is = omega (arith, o .so-far .count-is, ap length new-face, length-append (faces f (marked p marks)) (cycle f p ∷ []));
+        };
+        p-le = omega arith;
+        count-le = omega (arith, o .count-le);
+        seen-size = s .size ∙ o .seen-size;
+        seen-is = λ q. rw (longer, mem-append q (concat (faces f (marked p marks))) (cycle f p), s .value q, o .seen-is q) (either (mem q (concat (faces f (marked p marks)))) (mem q (cycle f p)));
+      }
+        where
+          either : (a b : Bool) → cond b 1 (bit a) ≡ bit (a || b)
+          either true true = refl
+          either true false = refl
+          either false true = refl
+          either false false = refl
+
+-- all places are passed
+pub ordering-end : {n p darts count : ℕ} {f : ℕ → ℕ} {marks out starts seen : List ℕ} → Ordering n f marks p out starts seen darts count → n ≤ p → InOrder (faces f (marked n marks)) out starts darts count
+ordering-end {n} {p} {f = f} {marks = marks} o h = let same : p ≡ n = omega (arith, o .p-le) in rw same at (o .so-far)

@@ -1,0 +1,15 @@
+pub mod Walks
+pub mod Reached
+pub mod Sited
+pub mod Serials
+pub mod SewnLaws
+pub mod Paths
+pub mod FaceLaws
+pub mod FaceSerials
+pub mod RingLaws
+pub mod VertexSerials
+pub mod StartLaws
+pub mod PairLaws
+pub mod PairsNumbered
+pub mod VolumeReady
+pub mod VolumeArrays

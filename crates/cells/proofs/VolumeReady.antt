@@ -1,0 +1,36 @@
+-- The arrays of a volume, one made from the other: what each function asks follows from what those before it ensure. Assumes nothing.
+use mathlib.Core.List.{List}
+use Prim.Native.Nat.{ℕ, _≤_, _<_}
+use native.Mathlib.Omega.{arith}
+use lib.ListN.{length, getD, take}
+use lib.Seq.{getD-take, length-take-le}
+use Rattle.model.specs.Lists.{concat}
+use Rattle.model.specs.Cells.{faces}
+use Rattle.model.specs.Image.{column}
+use Rattle.cells.specs.Places.{Ended, InOrder, Linked, Marked, Numbered, Whole, marked, volume-of}
+use Rattle.cells.proofs.FaceLaws.{getD-in}
+use Rattle.cells.proofs.FaceSerials.{closed-next, closed-opposite}
+use Rattle.cells.proofs.StartLaws.{in-order-few}
+use Rattle.cells.proofs.PairsNumbered.{ended, order-whole}
+
+module _ {b : List ℕ} {n d : ℕ} (l : Linked b n) (h : d < n) {marks : List ℕ} (mk : Marked (volume-of b d) marks) where
+  pub whole : Whole n (column b 1) (column b 2) (concat (faces (column b 1) (marked n marks)))
+  whole = order-whole n (column b 1) (column b 2) marks (l .few) (l .next-within) (l .next-apart) (l .opposite-within) (closed-next l h mk) (closed-opposite l h mk)
+
+  module _ {out starts : List ℕ} {darts count : ℕ} (o : InOrder (faces (column b 1) (marked n marks)) out starts darts count) where
+    pub out-whole : Whole n (column b 1) (column b 2) (take darts out)
+    out-whole = rw (o .order) whole
+
+    -- what `number_vertices` asks of the order
+    pub out-long : darts ≤ length out
+    out-long = omega (arith, in-order-few o .0, o .out-size)
+
+    pub out-below : (k : ℕ) → k < darts → getD out k 0 < n
+    out-below k j =
+        let inside : k < length (take darts out) = omega (arith, length-take-le darts out out-long) in
+        let r = out-whole .below (getD (take darts out) k 0) (getD-in (take darts out) k inside) in
+        omega (arith, getD-take darts out k 0 j)
+
+    -- what `pairs_once` asks of the numbers
+    pub ends-ready : {numbers first : List ℕ} {vs : ℕ} → Numbered (column b 1) (column b 2) (take darts out) numbers first vs → Ended n (column b 1) (column b 2) numbers first vs
+    ends-ready nb = ended n (column b 1) (column b 2) (l .few) (l .next-within) (l .next-apart) (l .opposite-within) (l .opposite-apart) out-whole nb

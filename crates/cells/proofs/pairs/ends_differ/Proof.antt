@@ -1,0 +1,135 @@
+-- `cells::pairs::ends_differ` meets its contract. The loop's invariant: the ends before p's differ, and have the colour.
+-- The measure is what is left of the ring. Assumes nothing.
+use mathlib.Core.Path.{refl, sym, ap, _∙_}
+use Prim.Native.Nat.{ℕ, _-_, _<_}
+use lib.ListN.{length, getD}
+use borrow.Author.Tests.{not-true, not-false}
+use Rattle.model.specs.Cells.{cycle, ring}
+use Rattle.model.specs.Image.{room, column}
+use Rattle.cells.proofs.Paths.{round, going-start, going-next}
+use Rattle.cells.proofs.RingLaws.{step-within, step-apart}
+use Rattle.cells.proofs.PairLaws.{Ending, going-in, stamped-first, stamped-next, stamped-size, ending-more, ending-twice, ending-all}
+use native.Mathlib.Omega.{arith}
+use borrow.Author.Needs.{needs}
+use Rattle.cells.proofs.pairs.ends_differ.Statement.{statement}
+use Rattle.cells.proofs.pairs.ends_differ.Tie as tie
+
+abbrev Inv-loop : tie.InvT-loop
+Inv-loop block n start a numbers stamps₀ colour steps₀ p₀ stamps steps p =
+    Ending n (column block 1) (λ d. column block 1 (column block 2 d)) numbers start a (length (cycle (λ d. column block 1 (column block 2 d)) start)) steps p stamps
+
+abbrev μ-loop : tie.MeasureT-loop
+μ-loop block n start a numbers stamps₀ colour steps₀ p₀ stamps steps p =
+    length (cycle (λ d. column block 1 (column block 2 d)) start) - steps
+
+add-colour : tie.Need-add-colour Inv-loop μ-loop
+add-colour c = search needs
+
+stamp-requires : tie.Need-stamp-requires Inv-loop μ-loop
+stamp-requires c κs = search needs
+
+loop-holds : tie.Need-loop-holds Inv-loop μ-loop
+loop-holds c =
+    let l = c .before .before .before .before .before .before .before .pre .0 .0 in
+    record {
+      going = going-start (round (l .few) (step-within _ _ _ (l .few) (l .next-within) (l .next-apart) (l .opposite-within) (l .opposite-apart)) (step-apart _ _ _ (l .few) (l .next-within) (l .next-apart) (l .opposite-within) (l .opposite-apart)) _ (c .before .before .before .before .before .before .before .pre .0 .1)) (c .before .before .before .before .before .before .before .pre .0 .1);
+      differ = refl;
+      stamped = stamped-first (c .before .before .before .before .before .before .before .args .stamps .now) (c .before .before .before .before .before .before .before .pre .0 .2) (c .before .before .before .before .before .before .before .pre .0 .4) (c .before .before .before .before .before .before .before .pre .1 .1) (c .before .before .stamp .ensures .1);
+    }
+
+field-requires : tie.Need-field-requires Inv-loop μ-loop
+field-requires c κs =
+    (omega (arith, c .loop .inv .going .below, c .before .before .before .before .before .before .before .before .pre .0 .0 .few), omega arith, c .before .before .before .before .before .before .before .before .pre .0 .0 .size)
+
+mul-b : tie.Need-mul-b Inv-loop μ-loop
+mul-b c =
+    omega (arith, c .field .ensures, c .before .before .before .before .before .before .before .before .before .pre .0 .0 .next-within _ (c .before .loop .inv .going .below), c .before .before .before .before .before .before .before .before .before .pre .0 .0 .few)
+
+shared-slice-read-b : tie.Need-shared-slice-read-b Inv-loop μ-loop
+shared-slice-read-b c =
+    omega (arith, c .before .field .ensures, c .before .before .before .before .before .before .before .before .before .before .pre .0 .0 .next-within _ (c .before .before .loop .inv .going .below), c .before .before .before .before .before .before .before .before .before .before .pre .0 .0 .few, c .before .before .before .before .before .before .before .before .before .before .pre .0 .3)
+
+stamp-requires-2 : tie.Need-stamp-requires-2 Inv-loop μ-loop
+unfolding ring
+stamp-requires-2 c κs =
+    let l = c .before .before .before .before .before .before .before .before .before .before .before .pre .0 .0 in
+    let w = step-within _ _ _ (l .few) (l .next-within) (l .next-apart) (l .opposite-within) (l .opposite-apart) in
+    let r = round (l .few) w (step-apart _ _ _ (l .few) (l .next-within) (l .next-apart) (l .opposite-within) (l .opposite-apart)) _ (c .before .before .before .before .before .before .before .before .before .before .before .pre .0 .1) in
+    (c .before .before .before .loop .inv .stamped .size, omega (arith, ap (λ (z : ℕ). getD (c .before .before .before .before .before .before .before .before .before .before .before .args .numbers .now) z 0) (c .before .before .field .ensures), c .before .before .before .before .before .before .before .before .before .before .before .pre .1 .0 _ (going-in r (c .before .before .before .loop .inv .going))))
+
+same-length : tie.Need-same-length Inv-loop μ-loop
+same-length c =
+    stamped-size _ (c .before .before .before .before .before .before .before .loop .inv .stamped) (c .before .before .before .stamp2 .ensures .1) ∙ sym (c .before .before .before .before .before .before .before .before .before .before .before .before .before .before .before .pre .0 .4)
+
+returns : tie.Need-returns Inv-loop μ-loop
+unfolding ring
+returns c =
+    let l = c .before .before .before .before .before .before .before .before .before .before .before .before .before .before .before .pre .0 .0 in
+    let w = step-within _ _ _ (l .few) (l .next-within) (l .next-apart) (l .opposite-within) (l .opposite-apart) in
+    let r = round (l .few) w (step-apart _ _ _ (l .few) (l .next-within) (l .next-apart) (l .opposite-within) (l .opposite-apart)) _ (c .before .before .before .before .before .before .before .before .before .before .before .before .before .before .before .pre .0 .1) in
+    let e = ap (λ (z : ℕ). getD (c .before .before .before .before .before .before .before .before .before .before .before .before .before .before .before .args .numbers .now) z 0) (c .before .before .before .before .before .before .field .ensures) in
+    let small : getD (c .before .before .before .before .before .before .before .before .before .before .before .before .before .before .before .args .numbers .now) (c .before .before .before .before .before .before .field .result) 0 < room = omega (arith, e, c .before .before .before .before .before .before .before .before .before .before .before .before .before .before .before .pre .1 .0 _ (going-in r (c .before .before .before .before .before .before .before .loop .inv .going))) in
+    let s = stamped-next (c .before .before .before .before .before .before .before .loop .inv .stamped) small (c .before .before .before .stamp2 .ensures .1) in
+    (ending-twice w r (c .before .before .before .before .before .before .before .loop .inv) e small (sym (c .before .before .before .stamp2 .ensures .0) ∙ not-true _ (c .if1 .taken)), (s .bound, s .size))
+
+add-steps : tie.Need-add-steps Inv-loop μ-loop
+add-steps c =
+    let l = c .before .before .before .before .before .before .before .before .before .before .before .before .before .before .before .pre .0 .0 in
+    let w = step-within _ _ _ (l .few) (l .next-within) (l .next-apart) (l .opposite-within) (l .opposite-apart) in
+    let a = step-apart _ _ _ (l .few) (l .next-within) (l .next-apart) (l .opposite-within) (l .opposite-apart) in
+    omega (arith, c .before .before .before .before .before .before .before .loop .inv .going .less, round (l .few) w a (c .before .before .before .before .before .before .before .before .before .before .before .before .before .before .before .args .start) (c .before .before .before .before .before .before .before .before .before .before .before .before .before .before .before .pre .0 .1) .few)
+
+ring-step-requires : tie.Need-ring-step-requires Inv-loop μ-loop
+ring-step-requires c κs =
+    (c .before .before .before .before .before .before .before .before .before .before .before .before .before .before .before .pre .0 .0, c .before .before .before .before .before .before .before .loop .inv .going .below)
+
+same-length-2 : tie.Need-same-length-2 Inv-loop μ-loop
+same-length-2 c =
+    stamped-size _ (c .before .before .before .before .before .before .before .before .before .loop .inv .stamped) (c .before .before .before .before .before .stamp2 .ensures .1) ∙ sym (c .before .before .before .before .before .before .before .before .before .before .before .before .before .before .before .before .before .pre .0 .4)
+
+returns-2 : tie.Need-returns-2 Inv-loop μ-loop
+unfolding ring
+returns-2 c =
+    let l = c .before .before .before .before .before .before .before .before .before .before .before .before .before .before .before .before .before .pre .0 .0 in
+    let w = step-within _ _ _ (l .few) (l .next-within) (l .next-apart) (l .opposite-within) (l .opposite-apart) in
+    let r = round (l .few) w (step-apart _ _ _ (l .few) (l .next-within) (l .next-apart) (l .opposite-within) (l .opposite-apart)) _ (c .before .before .before .before .before .before .before .before .before .before .before .before .before .before .before .before .before .pre .0 .1) in
+    let e = ap (λ (z : ℕ). getD (c .before .before .before .before .before .before .before .before .before .before .before .before .before .before .before .before .before .args .numbers .now) z 0) (c .before .before .before .before .before .before .before .before .field .ensures) in
+    let small : getD (c .before .before .before .before .before .before .before .before .before .before .before .before .before .before .before .before .before .args .numbers .now) (c .before .before .before .before .before .before .before .before .field .result) 0 < room = omega (arith, e, c .before .before .before .before .before .before .before .before .before .before .before .before .before .before .before .before .before .pre .1 .0 _ (going-in r (c .before .before .before .before .before .before .before .before .before .loop .inv .going))) in
+    let s = stamped-next (c .before .before .before .before .before .before .before .before .before .loop .inv .stamped) small (c .before .before .before .before .before .stamp2 .ensures .1) in
+    (ending-all w r (c .before .before .before .before .before .before .before .before .before .loop .inv) e small (sym (c .before .before .before .before .before .stamp2 .ensures .0) ∙ not-false _ (c .before .before .if1 .left)) (c .before .ring-step .ensures) (c .if2 .taken), (s .bound, s .size))
+
+loop-less : tie.Need-loop-less Inv-loop μ-loop
+loop-less c =
+    omega (arith, c .before .before .before .before .before .before .before .before .before .loop .inv .going .less)
+
+loop-again : tie.Need-loop-again Inv-loop μ-loop
+unfolding ring
+loop-again c =
+    let l = c .before .before .before .before .before .before .before .before .before .before .before .before .before .before .before .before .before .pre .0 .0 in
+    let w = step-within _ _ _ (l .few) (l .next-within) (l .next-apart) (l .opposite-within) (l .opposite-apart) in
+    let r = round (l .few) w (step-apart _ _ _ (l .few) (l .next-within) (l .next-apart) (l .opposite-within) (l .opposite-apart)) _ (c .before .before .before .before .before .before .before .before .before .before .before .before .before .before .before .before .before .pre .0 .1) in
+    let e = ap (λ (z : ℕ). getD (c .before .before .before .before .before .before .before .before .before .before .before .before .before .before .before .before .before .args .numbers .now) z 0) (c .before .before .before .before .before .before .before .before .field .ensures) in
+    let small : getD (c .before .before .before .before .before .before .before .before .before .before .before .before .before .before .before .before .before .args .numbers .now) (c .before .before .before .before .before .before .before .before .field .result) 0 < room = omega (arith, e, c .before .before .before .before .before .before .before .before .before .before .before .before .before .before .before .before .before .pre .1 .0 _ (going-in r (c .before .before .before .before .before .before .before .before .before .loop .inv .going))) in
+    ending-more w r (c .before .before .before .before .before .before .before .before .before .loop .inv) e small (sym (c .before .before .before .before .before .stamp2 .ensures .0) ∙ not-false _ (c .before .before .if1 .left)) (c .before .before .before .before .before .stamp2 .ensures .1) (going-next w r (c .before .before .before .before .before .before .before .before .before .loop .inv .going) (c .before .ring-step .ensures) (c .if2 .left))
+
+pub ends-differ-spec : {M : Type 1} → statement M
+ends-differ-spec =
+    tie.close
+    (tie.spec
+    Inv-loop
+    μ-loop
+    add-colour
+    stamp-requires
+    loop-holds
+    field-requires
+    mul-b
+    shared-slice-read-b
+    stamp-requires-2
+    same-length
+    returns
+    add-steps
+    ring-step-requires
+    same-length-2
+    returns-2
+    loop-less
+    loop-again)

@@ -1,0 +1,21 @@
+-- `cells::vertex::ring_step` meets its contract. Assumes nothing.
+use mathlib.Core.Path.{ap, _∙_}
+use Rattle.model.specs.Image.{column}
+use native.Mathlib.Omega.{arith}
+use borrow.Author.Needs.{needs}
+use Rattle.cells.proofs.vertex.ring_step.Statement.{statement}
+use Rattle.cells.proofs.vertex.ring_step.Tie as tie
+
+field-requires : tie.Need-field-requires
+field-requires c κs = search needs
+
+field-requires-2 : tie.Need-field-requires-2
+field-requires-2 c κs =
+    (omega (arith, c .field .ensures, c .before .before .pre .0 .opposite-within _ (c .before .before .pre .1), c .before .before .pre .0 .few), omega arith, c .before .before .pre .0 .size)
+
+returns : tie.Need-returns
+returns c =
+    c .field2 .ensures ∙ ap (column (c .before .before .before .args .block .now) 1) (c .before .field .ensures)
+
+pub ring-step-spec : {M : Type 1} → statement M
+ring-step-spec = tie.close (tie.spec field-requires field-requires-2 returns)

@@ -1,0 +1,84 @@
+// Whether every ordered vertex pair of a volume occurs once, with different ends (question 13): the edges of each vertex, along
+// its ring, end at different vertices and none at itself.
+ghost use mathlib.Core.Path.{_≡_};
+ghost use mathlib.Core.Bool.{true, not};
+ghost use mathlib.Core.List.{_∷_};
+ghost use Prim.Native.Nat.{ℕ, _+_, _≤_, _<_};
+ghost use lib.Dec.{eqb};
+ghost use lib.ListN.{length, getD, replicate, set};
+ghost use Rattle.model.specs.Lists.{distinct, mem};
+ghost use Rattle.model.specs.Cells.{ring};
+ghost use Rattle.model.specs.Image.{room, column};
+ghost use Rattle.cells.specs.Places.{Ended, Linked, ends-of, ends-once};
+use crate::vertex;
+use crate::walk;
+
+// Gives entry b a colour. Returns whether it had another.
+fn stamp(stamps: &mut [usize], b: usize, colour: usize) -> bool
+    requires { ⌜ (length (now stamps) ≡ room) × (b < room) ⌝ }
+    ensures fresh { λ r. ⌜ r ≡ not (eqb (getD (now (stamps .entry)) b 0) colour) ⌝ }
+    ensures stamped { λ r. ⌜ now (stamps .exit) ≡ set (now (stamps .entry)) b colour ⌝ }
+{
+    let old = stamps[b];
+    stamps[b] = colour;
+    old != colour
+}
+
+// Whether the edges of vertex `a`, which is that of the dart at place `start`, end at different vertices and none at `a`.
+fn ends_differ(
+    block: &[u64],
+    n: usize,
+    start: usize,
+    a: usize,
+    numbers: &[usize],
+    stamps: &mut [usize],
+) -> bool
+    requires { ⌜ Linked (now block) n × (start < n) × (a < room) × (length (now numbers) ≡ room) × (length (now stamps) ≡ room) ⌝ }
+    requires { ⌜ ((q : ℕ) → mem q (ring (column (now block) 1) (column (now block) 2) start) ≡ true → getD (now numbers) (column (now block) 1 q) 0 < room) ⌝ }
+    requires { ⌜ ((b : ℕ) → getD (now stamps) b 0 ≤ a) ⌝ }
+    ensures differ { λ r. ⌜ r ≡ distinct (a ∷ ends-of (column (now (block .entry)) 1) (column (now (block .entry)) 2) (now (numbers .entry)) start) ⌝ }
+    ensures bound { λ r. ⌜ ((b : ℕ) → getD (now (stamps .exit)) b 0 ≤ a + 1) ⌝ }
+    ensures size { λ r. ⌜ length (now (stamps .exit)) ≡ room ⌝ }
+{
+    // `a` and the ends of the edges before p's, `steps` of them, differ, and have the colour.
+    let colour = a + 1;
+    stamp(stamps, a, colour);
+    let mut steps: usize = 0;
+    let mut p = start;
+    loop {
+        let q = walk::field(block, p, 1) as usize;
+        let b = numbers[q];
+        if !stamp(stamps, b, colour) {
+            return false;
+        }
+        steps += 1;
+        p = vertex::ring_step(block, n, p);
+        if p == start {
+            return true;
+        }
+    }
+}
+
+// Whether the edges of each of `count` vertices end at different vertices, none at itself. `firsts` has a dart of each vertex.
+pub fn pairs_once(
+    block: &[u64],
+    n: usize,
+    numbers: &[usize],
+    firsts: &[usize],
+    count: usize,
+    stamps: &mut [usize],
+) -> bool
+    requires { ⌜ Linked (now block) n × Ended n (column (now block) 1) (column (now block) 2) (now numbers) (now firsts) count × (now stamps ≡ replicate room 0) ⌝ }
+    ensures { λ r. ⌜ r ≡ ends-once (column (now (block .entry)) 1) (column (now (block .entry)) 2) (now (numbers .entry)) (now (firsts .entry)) count ⌝ }
+{
+    // The edges of the vertices before a do; no stamp is above a.
+    let mut a = 0;
+    while a < count {
+        let p = firsts[a];
+        if !ends_differ(block, n, p, a, numbers, stamps) {
+            return false;
+        }
+        a += 1;
+    }
+    true
+}

@@ -1,0 +1,65 @@
+// The vertices of a volume: the rings of its darts, numbered by first use.
+ghost use mathlib.Core.Path.{_≡_};
+ghost use Prim.Native.Nat.{ℕ, _≤_, _<_};
+ghost use lib.ListN.{length, getD, replicate, take};
+ghost use Rattle.model.specs.Cells.{ring};
+ghost use Rattle.model.specs.Image.{room, column};
+ghost use Rattle.cells.specs.Places.{Linked, Numbered, Painted};
+use crate::walk;
+
+// The next dart of a ring: next of opposite.
+pub fn ring_step(block: &[u64], n: usize, p: usize) -> usize
+    requires { ⌜ Linked (now block) n × (p < n) ⌝ }
+    ensures { λ r. ⌜ r ≡ column (now (block .entry)) 1 (column (now (block .entry)) 2 p) ⌝ }
+{
+    let q = walk::field(block, p, 2) as usize;
+    walk::field(block, q, 1) as usize
+}
+
+// Gives the darts of the ring of the dart at place `start` a number.
+fn paint_ring(block: &[u64], n: usize, start: usize, number: usize, numbers: &mut [usize])
+    requires { ⌜ Linked (now block) n × (start < n) × (length (now numbers) ≡ room) ⌝ }
+    ensures { λ _. ⌜ Painted number (ring (column (now (block .entry)) 1) (column (now (block .entry)) 2) start) (now (numbers .entry)) (now (numbers .exit)) ⌝ }
+{
+    // The darts from `start` up to the one before p, `steps` of them, have the number.
+    let mut steps: usize = 0;
+    let mut p = start;
+    loop {
+        numbers[p] = number;
+        steps += 1;
+        p = ring_step(block, n, p);
+        if p == start {
+            return;
+        }
+    }
+}
+
+// Numbers the vertices of the first `darts` darts of `order` by first use, in `numbers` by place; a place without a number has 4,096.
+// `firsts` gets the first dart of each. Returns how many there are.
+pub fn number_vertices(
+    block: &[u64],
+    n: usize,
+    order: &[usize],
+    darts: usize,
+    numbers: &mut [usize],
+    firsts: &mut [usize],
+) -> usize
+    requires { ⌜ Linked (now block) n × (darts ≤ room) × (darts ≤ length (now order)) × ((k : ℕ) → k < darts → getD (now order) k 0 < n) ⌝ }
+    requires { ⌜ (now numbers ≡ replicate room room) × (length (now firsts) ≡ room) ⌝ }
+    ensures { λ r. ⌜ Numbered (column (now (block .entry)) 1) (column (now (block .entry)) 2) (take darts (now (order .entry))) (now (numbers .exit)) (now (firsts .exit)) r ⌝ }
+{
+    // The vertices of the darts before i have their numbers, at every dart of their rings.
+    let mut count = 0;
+    let mut i = 0;
+    while i < darts {
+        let p = order[i];
+        i += 1;
+        if numbers[p] != 4096 {
+            continue;
+        }
+        paint_ring(block, n, p, count, numbers);
+        firsts[count] = p;
+        count += 1;
+    }
+    count
+}

@@ -1,0 +1,73 @@
+-- `cells_run::dart_linked` meets its contract, arm by arm. Assumes nothing.
+use Prim.Native.Nat.{ℕ, _%_}
+use mathlib.Core.Path.{ap, _∙_}
+use mathlib.Core.Bool.{false≢true}
+use borrow.Author.Tests.{ltb-true}
+use Rattle.cells_run.proofs.LinkedLaws.{linked-at}
+use native.Mathlib.Omega.{arith}
+use borrow.Author.Needs.{needs}
+use Rattle.cells_run.proofs.dart_linked.Statement.{statement}
+use Rattle.cells_run.proofs.dart_linked.Tie as tie
+
+field-requires : tie.Need-field-requires
+field-requires c κs = search needs
+
+returns : tie.Need-returns
+returns c =
+    λ e. absurd (false≢true e)
+
+mul-if2 : tie.Need-mul-if2
+mul-if2 c = search needs
+
+shared-slice-read-if2 : tie.Need-shared-slice-read-if2
+shared-slice-read-if2 c = search needs
+
+returns-2 : tie.Need-returns-2
+returns-2 c =
+    λ e. absurd (false≢true e)
+
+field-requires-2 : tie.Need-field-requires-2
+field-requires-2 c κs = search needs
+
+returns-3 : tie.Need-returns-3
+returns-3 c =
+    λ e. absurd (false≢true e)
+
+field-requires-3 : tie.Need-field-requires-3
+field-requires-3 c κs = search needs
+
+returns-4 : tie.Need-returns-4
+returns-4 c =
+    λ e. absurd (false≢true e)
+
+field-requires-4 : tie.Need-field-requires-4
+field-requires-4 c κs = search needs
+
+returns-5 : tie.Need-returns-5
+returns-5 c =
+    λ e. linked-at (c .before .before .before .before .before .before .before .before .before .before .before .before .args .block .now) _ (c .before .before .before .before .before .before .before .before .before .before .before .before .args .back .now) _ (c .before .before .before .before .before .before .before .before .before .field .ensures) (omega (arith, c .before .before .before .before .before .before .before .before .if1 .left)) (c .before .before .before .before .before .before .if2 .left) (c .before .before .before .before .before .field2 .ensures) (omega (arith, c .before .before .before .before .if3 .left)) (c .before .before .before .field3 .ensures) (c .before .before .if4 .left) (λ s. absurd (c .if5 .taken (ap (λ (k : ℕ). k % 4) (c .before .field4 .ensures) ∙ s)))
+
+field-requires-5 : tie.Need-field-requires-5
+field-requires-5 c κs = search needs
+
+returns-6 : tie.Need-returns-6
+returns-6 c =
+    λ e. linked-at (c .before .before .before .before .before .before .before .before .before .before .before .before .before .args .block .now) _ (c .before .before .before .before .before .before .before .before .before .before .before .before .before .args .back .now) _ (c .before .before .before .before .before .before .before .before .before .before .field .ensures) (omega (arith, c .before .before .before .before .before .before .before .before .before .if1 .left)) (c .before .before .before .before .before .before .before .if2 .left) (c .before .before .before .before .before .before .field2 .ensures) (omega (arith, c .before .before .before .before .before .if3 .left)) (c .before .before .before .before .field3 .ensures) (c .before .before .before .if4 .left) (λ s. omega (arith, ltb-true (c .field5 .result) (c .before .before .before .before .before .before .before .before .before .before .before .before .before .args .n) e, c .field5 .ensures))
+
+pub dart-linked-spec : {M : Type 1} → statement M
+dart-linked-spec =
+    tie.close
+    (tie.spec
+    field-requires
+    returns
+    mul-if2
+    shared-slice-read-if2
+    returns-2
+    field-requires-2
+    returns-3
+    field-requires-3
+    returns-4
+    field-requires-4
+    returns-5
+    field-requires-5
+    returns-6)
