@@ -2,4 +2,16 @@ pub mod Pointwise
 pub mod Rethird
 pub mod RedirectSound
 pub mod ReleaseSound
+pub mod Rows
+pub mod ByDarts
+pub mod Beside
+pub mod Relinked
+pub mod NewDarts
+pub mod Fits
+pub mod Starts
+pub mod Joined
+pub mod FaceSteps
+pub mod Passed
+pub mod Linking
+pub mod ReceiveSound
 pub mod Served

@@ -9,22 +9,23 @@ use lib.Dec.{leb, eqb}
 use lib.ListN.{length}
 use borrow.Author.Tests.{le-leb, leb-true, eqb-true}
 use Rattle.model.specs.Lists.{ascending, Check, first-no}
-use Rattle.model.specs.Values.{Block, Limits}
+use Rattle.model.specs.Values.{Block, Limits, rack}
 use Rattle.model.specs.Cells.{labels}
 use Rattle.model.specs.Sound.{ranges-right, coordinates-finite, links-right, thirds-right, labels-right, points-agree, sound-block}
 use Rattle.model.specs.Image.{room, words, image, block-in, is-image, memory-checks, new-block}
 use Rattle.model.specs.Layouts.{Layout, group, _⊗_, _⊕_, as-type, such-that, at-most, exactly, counted, unframed}
 use Rattle.model.specs.Messages.{Transfer, Update, label, transfer, update, Message, a-transfer, an-update, no-message, one-of, message-in}
 use Rattle.model.specs.Departure.{released}
-use Rattle.model.specs.Arrival.{addressed, update-right, redirect-checks, redirected, redirected-from}
-use Rattle.model.specs.Calls.{Result, storing, empty, read-file, release, redirect}
-use Rattle.model.specs.Demands.{Bytes, Leaves-image}
+use Rattle.model.specs.Arrival.{addressed, update-right, receive-checks, received-from, redirect-checks, redirected, redirected-from}
+use Rattle.model.specs.Calls.{Result, storing, empty, read-file, receive, release, redirect}
+use Rattle.model.specs.Demands.{Bytes, Leaves-image, LeavesSound}
 use Rattle.laws.proofs.Tests.{and-left, and-right, yes-first}
 use Rattle.theory.proofs.CallLaws.{served-value, storing-serves}
 use Rattle.theory.proofs.DemandTwo.{read-as}
 use Rattle.theory.proofs.ImageLaws.{image-is, is-image-of}
 use Rattle.theory.proofs.LayoutLaws.{framed-only}
 use Rattle.theory.proofs.MessageLaws.{transfer-lawful, update-lawful}
+use Rattle.soundness.proofs.ReceiveSound.{received-sound}
 use Rattle.soundness.proofs.RedirectSound.{redirected-sound}
 use Rattle.soundness.proofs.ReleaseSound.{released-sound}
 
@@ -115,3 +116,21 @@ module _ (lim : Limits) (fits : lim .block-darts ≤ room) where
       told-sound no-message r sound e = sound
       told-sound (a-transfer t) r sound e = sound
       told-sound (an-update u) r sound e = told-update (block-in m) u sound (r u refl) e
+
+  pub receive-leaves : (m message : List ℕ) → Bytes message → Leaves-image lim (receive lim m message)
+  unfolding receive
+  receive-leaves m message h = storing-leaves _ m _ (λ e. let a = after-memory m _ e in taken-sound (message-in message) (transfer-read message h) (a .0) (a .1))
+    where
+      taken-sound : (g : Message) → ((t : Transfer) → g ≡ a-transfer t → transfer .ok t ≡ true) → sound-block lim (block-in m) ≡ true → first-no (receive-checks lim (block-in m) g) ≡ 0
+          → sound-block lim (received-from (block-in m) g) ≡ true
+      taken-sound no-message r sound e = sound
+      taken-sound (an-update u) r sound e = sound
+      taken-sound (a-transfer t) r sound e = received-sound lim (block-in m) t fits sound (r t refl) e
+
+  -- EVERY CALL THAT STORES A BLOCK
+  pub leaves-sound : LeavesSound lim
+  leaves-sound = record { empty-leaves = empty-leaves; read-file-leaves = read-file-leaves; receive-leaves = receive-leaves; release-leaves = release-leaves; redirect-leaves = redirect-leaves }
+
+-- on the rack
+pub rack-leaves-sound : LeavesSound rack
+rack-leaves-sound = leaves-sound rack (omega arith)
