@@ -10,6 +10,7 @@
 --   one that refuses all                                               exactly the same requests are refused
 --   labels in the wrong direction                                      same third links
 --   a number used again                                                equal counts, and a sound mesh's labels lie below them
+-- They are edits of the crate model that must fail: pretend_release, pretend_redirect, moves_nothing, own_direction, number_again.
 use mathlib.Core.Path.{_≡_, refl, sym, ap, subst}
 use mathlib.Core.Bool.{_&&_}
 use mathlib.Core.List.{List, [], _∷_, map, List·Permᴰ}
@@ -18,7 +19,6 @@ use native.Mathlib.Omega.{arith}
 use lib.Dec.{ltb}
 use lib.ListN.{length}
 use borrow.Author.Tests.{ltb-true}
-use Rattle.model.specs.Lists.{any}
 use Rattle.model.specs.Values.{Label, Block, Limits, all-rack}
 use Rattle.model.specs.Sound.{Sound, Fit}
 use Rattle.model.specs.Image.{image}
@@ -30,7 +30,6 @@ use Rattle.agreement.proofs.Described.{mesh-by, Inv}
 use Rattle.agreement.proofs.Finishes.{finishes}
 use Rattle.agreement.proofs.Keeps.{Kept, keeps}
 use Rattle.agreement.proofs.MeshSound.{says}
-use Rattle.agreement.proofs.Rebuilt.{order}
 
 -- along a list, by what one request keeps
 module _ (lims : ℕ → Limits) (fit : Fit lims) (claim : Claim) (k : ℕ)

@@ -26,7 +26,7 @@ use Rattle.agreement.proofs.Links.{Gives, relink-gives, faces-agree, faces-reac
 use Rattle.agreement.proofs.NewLabels.{fresh-of, fresh-maker, fresh-low, fresh-high, fresh-position, fresh-one}
 use Rattle.soundness.proofs.Pointwise.{CriticalRight, Right, right-of, right-sound, serial-held, by-third}
 use Rattle.soundness.proofs.RedirectSound.{next-one, few}
-use Rattle.soundness.proofs.Rethird.{left, T, Stays, Fits, third-left, next-left, right-left}
+use Rattle.soundness.proofs.Rethird.{left, T, Stays, in-stays, Fits, third-left, next-left, right-left}
 
 -- A THIRD LINK that is cut where it led to the darts m, and stays elsewhere
 abbrev cut-third : (ℕ → Bool) → (ℕ → Label) → ℕ → Third → Third
@@ -368,3 +368,27 @@ module _ (lim : Limits) (b : Block) (fits : lim .block-darts ≤ 4096) (sound : 
   pub released-sound : sound-block lim (released b j s) ≡ true
   unfolding released
   released-sound = right-sound lim n (c + length fs) after-darts (right-left lim n c ds R ks q (c + length fs) fit)
+
+  -- A NUMBER IS NEVER USED AGAIN: a label that a dart did not have before is the block's own, its number is not below the counter, and the
+  -- counter goes past it; `new-unused` says that no dart had it
+  pub record Fresh (l : Label) : Type 0 where
+    pub own : l .maker ≡ released b j s .number
+    pub not-below : b .counter ≤ l .number
+    pub passed : l .number < released b j s .counter
+
+  pub number-new : (x o : ℕ) (l : Label) → In x (serials (released b j s .darts)) → third-at (released b j s .darts) x ≡ critical o l → (third-at ds x ≡ critical o l) ⊎ Fresh l
+  unfolding released
+  number-new x o l h e = go (cut-critical (λ z. mem z v) new j o l (third-at ds x) (sym (after x st) ∙ sym (third-left lim n c ds R ks q x st) ∙ e))
+    where
+      st : S x
+      st = in-stays lim n c ds R ks q x h
+
+      go : (third-at ds x ≡ critical o l) ⊎ New (λ z. mem z v) new j (third-at ds x) o l → (third-at ds x ≡ critical o l) ⊎ Fresh l
+      go (inl was) = inl was
+      go (inr a) =
+          let z = a .across in
+          inr (record {
+            own = ap (λ (k : Label). k .maker) (a .label) ∙ fresh-maker n c fs z;
+            not-below = subst (λ (k : Label). c ≤ k .number) (sym (a .label)) (fresh-low n c fs z);
+            passed = subst (λ (k : Label). k .number < c + length fs) (sym (a .label)) (fresh-high n c fs z (partner-cut x z st (a .was) (a .cut)));
+          })
