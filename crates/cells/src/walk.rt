@@ -4,13 +4,15 @@ ghost use Prim.Native.Nat.{_≤_, _<_};
 ghost use lib.ListN.{length, getD, replicate};
 ghost use Rattle.model.specs.Image.{room, words, column};
 ghost use Rattle.cells.specs.Places.{Linked, Marked, Visited, places-in, volume-of};
+use memory::record;
+use memory::record::Place;
 
 // Word f of the dart at place p.
 pub fn field(block: &[u64], p: usize, f: usize) -> u64
     requires { ⌜ (p < room) × (f < 8) × (length (now block) ≡ words) ⌝ }
     ensures { λ r. ⌜ r ≡ column (now (block .entry)) f p ⌝ }
 {
-    block[8 + p * 8 + f]
+    record::field(block, Place(p), f)
 }
 
 // A place that is not marked is marked and put at the end of the queue. Returns the queue's new length.
