@@ -1,0 +1,11 @@
+pub mod Below
+pub mod Thirds
+pub mod Images
+pub mod Held
+pub mod Links
+pub mod ThirdLinks
+pub mod Labels
+pub mod Points
+pub mod Question
+pub mod OneDart
+pub mod Built

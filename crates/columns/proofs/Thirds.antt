@@ -1,0 +1,84 @@
+-- Kind words and link words: what the test of them says, and the third link that they stand for. Assumes nothing.
+use mathlib.Core.Path.{_≡_, refl, sym}
+use mathlib.Core.Bool.{true, not, _&&_, _||_}
+use mathlib.Core.List.{List}
+use mathlib.Core.Logic.{_⊎_, inl, inr}
+use Prim.Native.Nat.{ℕ, _/_, _%_, _≤_, _<_, _^_}
+use native.Mathlib.Omega.{arith}
+use lib.Dec.{ltb, eqb}
+use borrow.Author.Tests.{eqb-true, eq-eqb, ltb-true, ltb-false, lt-ltb, le-ltb}
+use Rattle.model.specs.Lists.{index-of}
+use Rattle.model.specs.Values.{free, sewn, critical, code}
+use Rattle.model.specs.Image.{kind-word, link-word, label-in, third-in}
+use Rattle.laws.proofs.Tests.{by-cases, and-intro, and-left, and-right, or-cases}
+use Rattle.laws.proofs.Members.{or-right}
+use Rattle.columns.specs.Columns.{Kind, kind-free, kind-sewn, kind-critical, label-test, critical-test, kind-test}
+
+-- THE THREE KINDS
+pub third-free : (s : ℕ → ℕ) (k a : ℕ) → k ≡ 0 → third-in s k a ≡ free
+unfolding third-in
+third-free s k a e = rw e refl
+
+pub third-sewn : (s : ℕ → ℕ) (k a : ℕ) → k ≡ 1 → third-in s k a ≡ sewn (s a)
+unfolding third-in
+third-sewn s k a e = rw e refl
+
+pub third-critical : (s : ℕ → ℕ) (k a : ℕ) → k % 4 ≡ 2 → third-in s k a ≡ critical (k / 4) (label-in a)
+unfolding third-in
+third-critical s k a e = rw e refl
+
+pub code-in : (a : ℕ) → code (label-in a) ≡ a
+unfolding code
+code-in a = omega arith
+
+-- THE TEST
+pub record KindRight (me counter n k a : ℕ) : Type 0 where
+  pub kind : Kind k a
+  pub label : label-test me counter k a ≡ true
+  pub sewn-lt : k ≡ 1 → a < n
+
+pub critical-says : (me counter n k a : ℕ) → 2 ≤ k → critical-test me counter k a ≡ true → KindRight me counter n k a
+unfolding critical-test label-test
+critical-says me counter n k a h e =
+    let own = not (eqb (a / 4096 / 2 ^ 32) me) || ltb (a / 4096 % 2 ^ 32) counter in
+    let two = eqb (k % 4) 2 && ltb (k / 4) 16 in
+    let three = two && ltb a (2 ^ 48) in
+    let four = three && not (eqb (k / 4) me) in
+    let e4 = and-left four own e in
+    let e3 = and-left three (not (eqb (k / 4) me)) e4 in
+    let e2 = and-left two (ltb a (2 ^ 48)) e3 in
+    record {
+      kind = kind-critical (eqb-true (k % 4) 2 (and-left (eqb (k % 4) 2) (ltb (k / 4) 16) e2)) (ltb-true (k / 4) 16 (and-right (eqb (k % 4) 2) (ltb (k / 4) 16) e2)) (ltb-true a (2 ^ 48) (and-right two (ltb a (2 ^ 48)) e3));
+      label = or-right (ltb k 2) _ (and-intro (and-right three (not (eqb (k / 4) me)) e4) (and-right four own e));
+      sewn-lt = λ q. absurd (omega arith);
+    }
+
+pub kind-says : (me counter n k a : ℕ) → kind-test me counter n k a ≡ true → KindRight me counter n k a
+unfolding kind-test label-test
+kind-says me counter n k a e = by-cases (ltb k 2) (λ t. near t (or-cases (eqb k 0 && eqb a 0) (eqb k 1 && ltb a n) (rw t at e))) (λ t. critical-says me counter n k a (ltb-false k 2 t) (rw t at e))
+  where
+    near : ltb k 2 ≡ true → (eqb k 0 && eqb a 0) ≡ true ⊎ ((eqb k 1 && ltb a n) ≡ true) → KindRight me counter n k a
+    near t (inl q) =
+        let zero-kind = eqb-true k 0 (and-left (eqb k 0) (eqb a 0) q) in
+        record { kind = kind-free zero-kind (eqb-true a 0 (and-right (eqb k 0) (eqb a 0) q)); label = rw t refl; sewn-lt = λ one. absurd (omega arith) }
+    near t (inr q) = record { kind = kind-sewn (eqb-true k 1 (and-left (eqb k 1) (ltb a n) q)); label = rw t refl; sewn-lt = λ _. ltb-true a n (and-right (eqb k 1) (ltb a n) q) }
+
+pub kind-yes : (me counter n k a : ℕ) → Kind k a → label-test me counter k a ≡ true → (k ≡ 1 → a < n) → kind-test me counter n k a ≡ true
+unfolding kind-test critical-test label-test
+kind-yes me counter n k a (kind-free e f) l s = rw (e, f) refl
+kind-yes me counter n k a (kind-sewn e) l s = rw (e, lt-ltb a n (s e)) refl
+kind-yes me counter n k a (kind-critical e f g) l s =
+    let far = le-ltb k 2 (omega arith) in
+    let t : (not (eqb (k / 4) me) && (not (eqb (a / 4096 / 2 ^ 32) me) || ltb (a / 4096 % 2 ^ 32) counter)) ≡ true = rw far at l in
+    rw far (and-intro (and-intro (and-intro (and-intro (eq-eqb (k % 4) 2 e) (lt-ltb (k / 4) 16 f)) (lt-ltb a (2 ^ 48) g)) (and-left (not (eqb (k / 4) me)) _ t)) (and-right (not (eqb (k / 4) me)) _ t))
+
+-- BACK TO WORDS
+pub kind-back : (s : ℕ → ℕ) (k a : ℕ) → Kind k a → kind-word (third-in s k a) ≡ k
+kind-back s k a (kind-free e f) = rw (third-free s k a e) (sym e)
+kind-back s k a (kind-sewn e) = rw (third-sewn s k a e) (sym e)
+kind-back s k a (kind-critical e f g) = rw (third-critical s k a e) (omega arith)
+
+pub link-back : (s : ℕ → ℕ) (ss : List ℕ) (k a : ℕ) → Kind k a → (k ≡ 1 → index-of (s a) ss ≡ a) → link-word ss (third-in s k a) ≡ a
+link-back s ss k a (kind-free e f) h = rw (third-free s k a e) (sym f)
+link-back s ss k a (kind-sewn e) h = rw (third-sewn s k a e) (h e)
+link-back s ss k a (kind-critical e f g) h = rw (third-critical s k a e) (code-in a)

@@ -1,0 +1,44 @@
+-- Keys of which no two are the same pass the model's test, and no others do. Assumes nothing.
+use mathlib.Core.Path.{_≡_, refl, sym, _∙_}
+use mathlib.Core.Bool.{true, false, not}
+use mathlib.Core.List.{List, [], _∷_}
+use Prim.Native.Nat.{ℕ, zero, suc, _≤_, _<_}
+use native.Mathlib.Omega.{arith}
+use lib.ListN.{length, getD, take}
+use lib.Seq.{getD-take, length-take-le}
+use Rattle.model.specs.Lists.{mem, distinct}
+use Rattle.laws.proofs.Tests.{by-cases, and-intro, and-right}
+use Rattle.laws.proofs.Members.{In, in-here, in-there, distinct-not}
+use Rattle.theory.proofs.ImageLaws.{place-back}
+use Rattle.keyset.specs.Slots.{Apart, Told}
+
+in-at : (l : List ℕ) (q : ℕ) → q < length l → In (getD l q 0) l
+in-at [] q h = absurd (omega arith)
+in-at (x ∷ l) zero h = in-here x l
+in-at (x ∷ l) (suc q) h = in-there (getD l q 0) x l (in-at l q (omega arith))
+
+apart-distinct : (l : List ℕ) → Apart l (length l) → distinct l ≡ true
+apart-distinct [] a = refl
+apart-distinct (x ∷ l) a = and-intro {a = not (mem x l)} (by-cases (mem x l)
+    (λ e. let r = place-back x l e in absurd (a 0 (suc _) (omega arith) (omega (arith, r .1)) (sym (r .0))))
+    (λ e. rw e refl))
+    (apart-distinct l (λ p q h k. a (suc p) (suc q) (omega arith) (omega arith)))
+
+distinct-apart : (l : List ℕ) → distinct l ≡ true → Apart l (length l)
+distinct-apart [] d p q h k = absurd (omega arith)
+distinct-apart (x ∷ l) d p zero h k = absurd (omega arith)
+distinct-apart (x ∷ l) d zero (suc q) h k = λ e. distinct-not x l d (getD l q 0) (in-at l q (omega arith)) (sym e)
+distinct-apart (x ∷ l) d (suc p) (suc q) h k = distinct-apart l (and-right (not (mem x l)) _ d) p q (omega arith) (omega arith)
+
+module _ (keys : List ℕ) (n : ℕ) (fits : n ≤ length keys) where
+  long : length (take n keys) ≡ n
+  long = length-take-le n keys fits
+
+  pub told-yes : {r : ℕ} → Told keys n r → r ≡ 0 → true ≡ distinct (take n keys)
+  told-yes t e = sym (apart-distinct (take n keys) (λ p q h k f. t .if-apart e p q h (omega (arith, long))
+      (sym (getD-take n keys p 0 (omega (arith, long))) ∙ f ∙ getD-take n keys q 0 (omega (arith, long)))))
+
+  pub told-no : {r : ℕ} → Told keys n r → r ≡ 1 → false ≡ distinct (take n keys)
+  told-no t e = by-cases (distinct (take n keys))
+      (λ d. absurd (t .if-twice e (λ p q h k f. distinct-apart (take n keys) d p q h (omega (arith, long)) (getD-take n keys p 0 (omega arith) ∙ f ∙ sym (getD-take n keys q 0 (omega arith))))))
+      (λ d. sym d)

@@ -1,0 +1,3 @@
+pub mod OneDart
+pub mod Passes
+pub mod Whole

@@ -1,0 +1,59 @@
+-- `sound::dart::third_at` meets its contract: a no to the kind or to a place is a no; a sewn dart goes on to `sewn_at`.
+-- Assumes nothing.
+use borrow.Author.Tests.{not-true, not-false}
+use Rattle.sound.proofs.OneDart.{both-lt, kind-stop, not-sewn, sewn-stop, sewn-go}
+use native.Mathlib.Omega.{arith}
+use borrow.Author.Needs.{needs}
+use Rattle.sound.proofs.dart.third_at.Statement.{statement}
+use Rattle.sound.proofs.dart.third_at.Tie as tie
+
+field-requires : tie.Need-field-requires
+field-requires c κs = search needs
+
+field-requires-2 : tie.Need-field-requires-2
+field-requires-2 c κs = search needs
+
+field-requires-3 : tie.Need-field-requires-3
+field-requires-3 c κs = search needs
+
+returns : tie.Need-returns
+returns c =
+    kind-stop _ _ _ (c .before .before .before .field .ensures) (c .before .before .field2 .ensures) (c .before .field3 .ensures) (c .if1 .taken)
+
+returns-2 : tie.Need-returns-2
+returns-2 c =
+    not-sewn _ _ _ (c .before .before .before .before .field .ensures) (c .before .before .before .field2 .ensures) (c .before .before .field3 .ensures) (c .before .if1 .left) (c .if2 .taken)
+
+field-requires-4 : tie.Need-field-requires-4
+field-requires-4 c κs = search needs
+
+field-requires-5 : tie.Need-field-requires-5
+field-requires-5 c κs = search needs
+
+returns-3 : tie.Need-returns-3
+returns-3 c =
+    sewn-stop _ _ _ (c .before .before .before .before .before .before .before .field .ensures) (c .before .before .before .before .before .before .field2 .ensures) (c .before .before .before .before .before .field3 .ensures) (c .before .before .before .before .if1 .left) (c .before .before .before .if2 .left) (c .before .before .field4 .ensures) (c .before .field5 .ensures) (not-true _ (c .if3 .taken))
+
+sewn-at-requires : tie.Need-sewn-at-requires
+sewn-at-requires c κs =
+    let within = both-lt (c .before .before .before .before .before .before .before .before .before .args .n) (c .before .before .field4 .ensures) (c .before .field5 .ensures) (not-false _ (c .if3 .left)) in
+    (omega (arith, within .0), omega (arith, within .1), search needs)
+
+returns-4 : tie.Need-returns-4
+returns-4 c =
+    sewn-go _ _ _ (c .before .before .before .before .before .before .before .before .field .ensures) (c .before .before .before .before .before .before .before .field2 .ensures) (c .before .before .before .before .before .before .field3 .ensures) (c .before .before .before .before .before .if1 .left) (c .before .before .before .before .if2 .left) (c .before .before .before .field4 .ensures) (c .before .before .field5 .ensures) (not-false _ (c .before .if3 .left)) (c .sewn-at .ensures)
+
+pub third-at-spec : {M : Type 1} → statement M
+third-at-spec =
+    tie.close
+    (tie.spec
+    field-requires
+    field-requires-2
+    field-requires-3
+    returns
+    returns-2
+    field-requires-4
+    field-requires-5
+    returns-3
+    sewn-at-requires
+    returns-4)

@@ -1,0 +1,115 @@
+-- `sound::darts_right` meets its contract: the darts below i are right by themselves, and their nexts are marked, no two the same.
+-- Assumes nothing.
+use mathlib.Core.Path.{_≡_, refl}
+use native.Mathlib.Numerals.{add-one}
+use Prim.Native.Nat.{_-_}
+use lib.ListN.{getD}
+use borrow.Author.Tests.{not-true, not-false}
+use Rattle.model.specs.Image.{column}
+use Rattle.columns.specs.Columns.{before, dart-test}
+use Rattle.sound.proofs.Passes.{Passing, passing-none, test-no, mark-no, passing-more, passing-end, as-darts, place-no, kind-is, next-below}
+use native.Mathlib.Omega.{arith}
+use borrow.Author.Needs.{needs}
+use Rattle.sound.proofs.darts_right.Statement.{statement}
+use Rattle.sound.proofs.darts_right.Tie as tie
+
+abbrev Inv-loop : tie.InvT-loop
+Inv-loop block n seen₀ me counter last₀ i₀ seen last i =
+    Passing (dart-test block n) (column block 1) n seen i × (last ≡ before (column block 0) i) × (me ≡ getD block 0 0) × (counter ≡ getD block 1 0)
+
+abbrev μ-loop : tie.MeasureT-loop
+μ-loop block n seen₀ me counter last₀ i₀ seen last i =
+    n - i
+
+shared-slice-read-me : tie.Need-shared-slice-read-me Inv-loop μ-loop
+shared-slice-read-me c = search needs
+
+shared-slice-read-counter : tie.Need-shared-slice-read-counter Inv-loop μ-loop
+shared-slice-read-counter c = search needs
+
+loop-holds : tie.Need-loop-holds Inv-loop μ-loop
+loop-holds c =
+    (passing-none _ _ _ _ (c .before .before .before .pre .2), refl, refl, refl)
+
+place-at-requires : tie.Need-place-at-requires Inv-loop μ-loop
+place-at-requires c κs = search needs
+
+returns : tie.Need-returns Inv-loop μ-loop
+returns c =
+    as-darts (test-no (c .before .before .before .loop .inv .0) (c .before .before .loop-test .taken) (place-no _ _ _ (c .before .place-at .ensures) (c .before .before .before .loop .inv .1) (not-true _ (c .if1 .taken))) refl)
+
+field-requires : tie.Need-field-requires Inv-loop μ-loop
+field-requires c κs = search needs
+
+field-requires-2 : tie.Need-field-requires-2 Inv-loop μ-loop
+field-requires-2 c κs = search needs
+
+kind-right-requires : tie.Need-kind-right-requires Inv-loop μ-loop
+kind-right-requires c κs = search needs
+
+returns-2 : tie.Need-returns-2 Inv-loop μ-loop
+returns-2 c =
+    as-darts (test-no (c .before .before .before .before .before .before .before .loop .inv .0) (c .before .before .before .before .before .before .loop-test .taken) (kind-is _ _ _ (c .before .before .before .before .before .place-at .ensures) (c .before .before .before .before .before .before .before .loop .inv .1) (not-false _ (c .before .before .before .before .if1 .left)) (c .before .kind-right .ensures) (c .before .before .before .field .ensures) (c .before .before .field2 .ensures) (c .before .before .before .before .before .before .before .loop .inv .2) (c .before .before .before .before .before .before .before .loop .inv .3)) (not-true _ (c .if2 .taken)))
+
+field-requires-3 : tie.Need-field-requires-3 Inv-loop μ-loop
+field-requires-3 c κs = search needs
+
+element-copy-out-if3 : tie.Need-element-copy-out-if3 Inv-loop μ-loop
+element-copy-out-if3 c =
+    let dart = kind-is _ _ _ (c .before .before .before .before .before .before .place-at .ensures) (c .before .before .before .before .before .before .before .before .loop .inv .1) (not-false _ (c .before .before .before .before .before .if1 .left)) (c .before .before .kind-right .ensures) (c .before .before .before .before .field .ensures) (c .before .before .before .field2 .ensures) (c .before .before .before .before .before .before .before .before .loop .inv .2) (c .before .before .before .before .before .before .before .before .loop .inv .3) in
+    let lt = next-below _ _ _ dart (not-false _ (c .before .if2 .left)) in
+    omega (arith, lt, c .field3 .ensures)
+
+returns-3 : tie.Need-returns-3 Inv-loop μ-loop
+returns-3 c =
+    as-darts (mark-no (c .before .before .before .before .before .before .before .before .before .before .loop .inv .0) (c .before .before .before .before .before .before .before .before .before .loop-test .taken) (c .before .before .field3 .ensures) refl (c .if3 .taken))
+
+element-write-seen : tie.Need-element-write-seen Inv-loop μ-loop
+element-write-seen c =
+    let dart = kind-is _ _ _ (c .before .before .before .before .before .before .before .before .place-at .ensures) (c .before .before .before .before .before .before .before .before .before .before .loop .inv .1) (not-false _ (c .before .before .before .before .before .before .before .if1 .left)) (c .before .before .before .before .kind-right .ensures) (c .before .before .before .before .before .before .field .ensures) (c .before .before .before .before .before .field2 .ensures) (c .before .before .before .before .before .before .before .before .before .before .loop .inv .2) (c .before .before .before .before .before .before .before .before .before .before .loop .inv .3) in
+    let lt = next-below _ _ _ dart (not-false _ (c .before .before .before .if2 .left)) in
+    omega (arith, lt, c .before .before .field3 .ensures)
+
+field-requires-4 : tie.Need-field-requires-4 Inv-loop μ-loop
+field-requires-4 c κs = search needs
+
+add-i : tie.Need-add-i Inv-loop μ-loop
+add-i c = search needs
+
+loop-less : tie.Need-loop-less Inv-loop μ-loop
+loop-less c = search needs
+
+loop-again : tie.Need-loop-again Inv-loop μ-loop
+loop-again c =
+    let dart = kind-is _ _ _ (c .before .before .before .before .before .before .before .before .before .place-at .ensures) (c .before .before .before .before .before .before .before .before .before .before .before .loop .inv .1) (not-false _ (c .before .before .before .before .before .before .before .before .if1 .left)) (c .before .before .before .before .before .kind-right .ensures) (c .before .before .before .before .before .before .before .field .ensures) (c .before .before .before .before .before .before .field2 .ensures) (c .before .before .before .before .before .before .before .before .before .before .before .loop .inv .2) (c .before .before .before .before .before .before .before .before .before .before .before .loop .inv .3) in
+    let lt = next-below _ _ _ dart (not-false _ (c .before .before .before .before .if2 .left)) in
+    (passing-more (c .before .before .before .before .before .before .before .before .before .before .before .loop .inv .0) (c .before .before .before .before .before .before .before .before .before .before .loop-test .taken) dart (not-false _ (c .before .before .before .before .if2 .left)) (omega (arith, lt)) (c .before .before .before .field3 .ensures) (c .before .if3 .left), rw add-one (c .field4 .ensures), c .before .before .before .before .before .before .before .before .before .before .before .loop .inv .2, c .before .before .before .before .before .before .before .before .before .before .before .loop .inv .3)
+
+returns-4 : tie.Need-returns-4 Inv-loop μ-loop
+returns-4 c =
+    as-darts (passing-end (c .before .loop .inv .0) (c .loop-test .left))
+
+pub darts-right-spec : {M : Type 1} → statement M
+darts-right-spec =
+    tie.close
+    (tie.spec
+    Inv-loop
+    μ-loop
+    shared-slice-read-me
+    shared-slice-read-counter
+    loop-holds
+    place-at-requires
+    returns
+    field-requires
+    field-requires-2
+    kind-right-requires
+    returns-2
+    field-requires-3
+    element-copy-out-if3
+    returns-3
+    element-write-seen
+    field-requires-4
+    add-i
+    loop-less
+    loop-again
+    returns-4)

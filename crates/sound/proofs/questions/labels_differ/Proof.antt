@@ -1,0 +1,24 @@
+-- `sound::questions::labels_differ` meets its contract: what `gather` gathers is what `apart` is asked of.
+-- Assumes nothing.
+use mathlib.Core.Path.{ap, _∙_}
+use Rattle.model.specs.Lists.{distinct}
+use borrow.Author.Needs.{needs}
+use Rattle.sound.proofs.questions.labels_differ.Statement.{statement}
+use Rattle.sound.proofs.questions.labels_differ.Tie as tie
+
+gather-requires : tie.Need-gather-requires
+gather-requires c κs = search needs
+
+slice-aggregate-apart : tie.Need-slice-aggregate-apart
+slice-aggregate-apart c = search needs
+
+apart-requires : tie.Need-apart-requires
+apart-requires c κs = search needs
+
+returns : tie.Need-returns
+returns c =
+    c .before .apart .ensures ∙ ap distinct (c .before .before .before .gather .ensures .2)
+
+pub labels-differ-spec : {M : Type 1} → statement M
+labels-differ-spec =
+    tie.close (tie.spec gather-requires slice-aggregate-apart apart-requires returns)

@@ -1,0 +1,33 @@
+-- `sound::questions::labels_right` meets its contract: labels one by one, then all of them together.
+-- Assumes nothing.
+use mathlib.Core.Path.{sym, _∙_}
+use borrow.Author.Tests.{not-true, not-false}
+use Rattle.columns.proofs.Labels.{labels-are}
+use Rattle.sound.proofs.OneDart.{and-stop, and-go}
+use borrow.Author.Needs.{needs}
+use Rattle.sound.proofs.questions.labels_right.Statement.{statement}
+use Rattle.sound.proofs.questions.labels_right.Tie as tie
+
+shared-slice-read-n : tie.Need-shared-slice-read-n
+shared-slice-read-n c = search needs
+
+own-labels-requires : tie.Need-own-labels-requires
+own-labels-requires c κs =
+    (c .before .before .pre .1 .few, c .before .before .pre .0)
+
+returns : tie.Need-returns
+returns c =
+    and-stop _ (sym (c .before .own-labels .ensures) ∙ not-true _ (c .if1 .taken)) ∙ labels-are _ (c .before .before .before .before .pre .1)
+
+labels-differ-requires : tie.Need-labels-differ-requires
+labels-differ-requires c κs =
+    (c .before .before .before .before .pre .1 .few, c .before .before .before .before .pre .0)
+
+returns-2 : tie.Need-returns-2
+returns-2 c =
+    and-go (sym (c .before .before .own-labels .ensures) ∙ not-false _ (c .before .if1 .left)) (c .labels-differ .ensures) ∙ labels-are _ (c .before .before .before .before .before .pre .1)
+
+pub labels-right-spec : {M : Type 1} → statement M
+labels-right-spec =
+    tie.close
+    (tie.spec shared-slice-read-n own-labels-requires returns labels-differ-requires returns-2)

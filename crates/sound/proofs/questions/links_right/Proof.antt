@@ -1,0 +1,21 @@
+-- `sound::questions::links_right` meets its contract: what the pass says is the answer to question 5.
+-- Assumes nothing.
+use mathlib.Core.Path.{refl}
+use Rattle.sound.proofs.Whole.{links-are}
+use borrow.Author.Needs.{needs}
+use Rattle.sound.proofs.questions.links_right.Statement.{statement}
+use Rattle.sound.proofs.questions.links_right.Tie as tie
+
+shared-slice-read-n : tie.Need-shared-slice-read-n
+shared-slice-read-n c = search needs
+
+links-pass-requires : tie.Need-links-pass-requires
+links-pass-requires c κs =
+    (c .before .before .before .pre .1 .few, c .before .before .before .pre .0, refl)
+
+returns : tie.Need-returns
+returns c =
+    links-are _ (c .before .before .before .before .pre .1) (c .links-pass .ensures)
+
+pub links-right-spec : {M : Type 1} → statement M
+links-right-spec = tie.close (tie.spec shared-slice-read-n links-pass-requires returns)

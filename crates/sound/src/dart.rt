@@ -1,0 +1,169 @@
+// The tests of the dart at place p among n: a few words are read, and nothing is kept.
+ghost use mathlib.Core.Path.{_≡_};
+ghost use Prim.Native.Nat.{_≤_, _<_};
+ghost use lib.ListN.{length};
+ghost use Rattle.model.specs.Values.{finite};
+ghost use Rattle.model.specs.Image.{room, words, column, dart-in};
+ghost use Rattle.memory.specs.Point.{FiniteAt};
+ghost use Rattle.columns.specs.Columns.{Places, SewnPlaces, Finite, Darts, place-test, critical-test, kind-test, label-test, link-test, sewn-test, third-test, same-at, point-test, far-test};
+use memory::label;
+use memory::point;
+use memory::record;
+use memory::record::Place;
+
+// 4: a finite point.
+pub fn finite_at(block: &[u64], p: usize) -> bool
+    requires { ⌜ (p < room) × (length (now block) ≡ words) ⌝ }
+    ensures { λ r. ⌜ r ≡ finite (dart-in (now (block .entry)) p .point) ⌝ }
+{
+    let x = point::finite_word(record::field(block, Place(p), 5));
+    let y = point::finite_word(record::field(block, Place(p), 6));
+    let z = point::finite_word(record::field(block, Place(p), 7));
+    x & y & z
+}
+
+// 5: next and opposite held; opposite another dart, and back again.
+pub fn link_at(block: &[u64], n: usize, p: usize) -> bool
+    requires { ⌜ (p < n) × (n ≤ room) × (length (now block) ≡ words) ⌝ }
+    ensures { λ r. ⌜ r ≡ link-test (now (block .entry)) n p ⌝ }
+{
+    let a = record::field(block, Place(p), 1);
+    let b = record::field(block, Place(p), 2);
+    if !((a < n as u64) & (b < n as u64)) {
+        return false;
+    }
+    let c = record::field(block, Place(b as usize), 2);
+    (b != p as u64) & (c == p as u64)
+}
+
+// 6: sewn to the dart at l and back, and next to the one at z, along.
+fn sewn_at(block: &[u64], p: usize, l: usize, z: usize) -> bool
+    requires { ⌜ (l < room) × (z < room) × (length (now block) ≡ words) ⌝ }
+    ensures { λ r. ⌜ r ≡ sewn-test (now (block .entry)) p l z ⌝ }
+{
+    let k = record::field(block, Place(l), 3);
+    let b = record::field(block, Place(l), 4);
+    let x = record::field(block, Place(z), 1);
+    (k == 1) & (b == p as u64) & (l != p) & (x == l as u64)
+}
+
+// 6: the kind of the next dart; where it is sewn, sewn right.
+pub fn third_at(block: &[u64], n: usize, p: usize) -> bool
+    requires { ⌜ (p < n) × (n ≤ room) × (length (now block) ≡ words) × (column (now block) 1 p < n) ⌝ }
+    ensures { λ r. ⌜ r ≡ third-test (now (block .entry)) n p ⌝ }
+{
+    let a = record::field(block, Place(p), 1) as usize;
+    let k = record::field(block, Place(p), 3);
+    let j = record::field(block, Place(a), 3);
+    if j != k {
+        return false;
+    }
+    if k != 1 {
+        return true;
+    }
+    let l = record::field(block, Place(p), 4);
+    let z = record::field(block, Place(a), 4);
+    if !((l < n as u64) & (z < n as u64)) {
+        return false;
+    }
+    sewn_at(block, p, l as usize, z as usize)
+}
+
+// 7: another block, and an own label below the counter.
+pub fn label_right(me: u64, counter: u64, k: u64, a: u64) -> bool
+    ensures { λ r. ⌜ r ≡ label-test me counter k a ⌝ }
+{
+    let maker = label::maker_of(a);
+    let number = label::number_of(a);
+    (k < 2) | ((k / 4 != me) & ((maker != me) | (number < counter)))
+}
+
+// 8: the points at p and v are one.
+fn same_at(block: &[u64], p: usize, v: usize) -> bool
+    requires { ⌜ (p < room) × (v < room) × (length (now block) ≡ words) × FiniteAt (now block) p × FiniteAt (now block) v ⌝ }
+    ensures { λ r. ⌜ r ≡ same-at (now (block .entry)) p v ⌝ }
+{
+    let here = point::point_at(block, Place(p));
+    let there = point::point_at(block, Place(v));
+    point::same_point(here, there)
+}
+
+// 8: the points of the dart, of next of opposite, and of next of the dart that it is sewn to.
+pub fn points_at(block: &[u64], n: usize, p: usize) -> bool
+    requires { ⌜ (p < n) × (n ≤ room) × (length (now block) ≡ words) × Places (now block) n × SewnPlaces (now block) n × Finite (now block) n ⌝ }
+    ensures { λ r. ⌜ r ≡ point-test (now (block .entry)) p ⌝ }
+{
+    let b = record::field(block, Place(p), 2) as usize;
+    let v = record::field(block, Place(b), 1) as usize;
+    if !same_at(block, p, v) {
+        return false;
+    }
+    let k = record::field(block, Place(p), 3);
+    if k != 1 {
+        return true;
+    }
+    let l = record::field(block, Place(p), 4) as usize;
+    let w = record::field(block, Place(l), 1) as usize;
+    same_at(block, p, w)
+}
+
+// 2, by itself: serial above the last one, point finite, next and opposite held.
+pub fn place_at(block: &[u64], n: usize, p: usize, last: u64) -> bool
+    requires { ⌜ (p < n) × (n ≤ room) × (length (now block) ≡ words) ⌝ }
+    ensures { λ r. ⌜ r ≡ place-test (now (block .entry)) n last p ⌝ }
+{
+    let s = record::field(block, Place(p), 0);
+    let f = finite_at(block, p);
+    let a = record::field(block, Place(p), 1);
+    let b = record::field(block, Place(p), 2);
+    (last < s) & (s < 4294967296) & f & (a < n as u64) & (b < n as u64) & (b != p as u64)
+}
+
+// 2, by itself: the words of a critical dart of block `me`.
+fn critical_right(me: u64, counter: u64, k: u64, a: u64) -> bool
+    ensures { λ r. ⌜ r ≡ critical-test me counter k a ⌝ }
+{
+    let maker = label::maker_of(a);
+    let number = label::number_of(a);
+    (k % 4 == 2)
+        & (k / 4 < 16)
+        & (a < 281474976710656)
+        & (k / 4 != me)
+        & ((maker != me) | (number < counter))
+}
+
+// 2, by itself: kind word and link word.
+pub fn kind_right(me: u64, counter: u64, n: usize, k: u64, a: u64) -> bool
+    ensures { λ r. ⌜ r ≡ kind-test me counter n k a ⌝ }
+{
+    if k < 2 {
+        return ((k == 0) & (a == 0)) | ((k == 1) & (a < n as u64));
+    }
+    critical_right(me, counter, k, a)
+}
+
+// 2, with the darts that it links to.
+pub fn far_at(block: &[u64], n: usize, p: usize) -> bool
+    requires { ⌜ (p < n) × (n ≤ room) × (length (now block) ≡ words) × Darts (now block) n ⌝ }
+    ensures { λ r. ⌜ r ≡ far-test (now (block .entry)) p ⌝ }
+{
+    let a = record::field(block, Place(p), 1) as usize;
+    let b = record::field(block, Place(p), 2) as usize;
+    let k = record::field(block, Place(p), 3);
+    let c = record::field(block, Place(b), 2);
+    let j = record::field(block, Place(a), 3);
+    let v = record::field(block, Place(b), 1) as usize;
+    let s = same_at(block, p, v);
+    if !((c == p as u64) & (j == k) & s) {
+        return false;
+    }
+    if k != 1 {
+        return true;
+    }
+    let l = record::field(block, Place(p), 4) as usize;
+    let z = record::field(block, Place(a), 4) as usize;
+    let w = record::field(block, Place(l), 1) as usize;
+    let t = sewn_at(block, p, l, z);
+    let u = same_at(block, p, w);
+    t & u
+}

@@ -1,0 +1,182 @@
+// Questions 4 to 8 of a block's memory, a loop each; each under what was asked before.
+ghost use mathlib.Core.Path.{_≡_};
+ghost use mathlib.Core.Bool.{true};
+ghost use mathlib.Core.Logic.{_↔_};
+ghost use Prim.Native.Nat.{_≤_, _<_};
+ghost use lib.ListN.{length, take, replicate};
+ghost use Rattle.model.specs.Lists.{distinct};
+ghost use Rattle.model.specs.Sound.{coordinates-finite, links-right as right-links, thirds-right as right-thirds, labels-right as right-labels, points-agree as agreeing-points};
+ghost use Rattle.model.specs.Image.{room, words, block-in};
+ghost use Rattle.columns.specs.Columns.{all-below, count, own-test, codes, Ranged, Links};
+use crate::dart;
+use memory::record;
+use memory::record::Place;
+
+// The labels of the critical darts, in order; how many there are.
+fn gather(block: &[u64], n: usize, out: &mut [u64; 4096]) -> usize
+    requires { ⌜ (n ≤ room) × (length (now block) ≡ words) × (length (now out) ≡ 4096) ⌝ }
+    ensures { λ r. ⌜ (r ≤ n) × (length (now (out .exit)) ≡ 4096) × (take r (now (out .exit)) ≡ codes (now (block .entry)) n) ⌝ }
+{
+    // The first c entries are the labels of the darts below i.
+    let mut c = 0;
+    let mut i = 0;
+    while i < n {
+        let k = record::field(block, Place(i), 3);
+        if 1 < k {
+            let l = record::field(block, Place(i), 4);
+            out[c] = l;
+            c += 1;
+        }
+        i += 1;
+    }
+    c
+}
+
+// Whether no key stands twice among the first c, by order.
+fn differ(keys: &mut [u64], scratch: &mut [u64], c: usize) -> bool
+    requires { ⌜ (c ≤ 4096) × (length (now keys) ≡ 4096) × (length (now scratch) ≡ 4096) ⌝ }
+    ensures { λ r. ⌜ r ≡ distinct (take c (now (keys .entry))) ⌝ }
+{
+    sort::distinct(&mut keys[..c], &mut scratch[..c])
+}
+
+// The same, by slots as far as they tell; labels that crowd a few slots are put in order.
+fn apart(keys: &mut [u64], c: usize) -> bool
+    requires { ⌜ (c ≤ 4096) × (length (now keys) ≡ 4096) ⌝ }
+    ensures { λ r. ⌜ r ≡ distinct (take c (now (keys .entry))) ⌝ }
+{
+    let mut table = [0u16; 8256];
+    let told = keyset::told(keys, c, &mut table);
+    if told == 0 {
+        return true;
+    }
+    if told == 1 {
+        return false;
+    }
+    let mut scratch = [0u64; 4096];
+    differ(keys, &mut scratch, c)
+}
+
+// 7: whether no label stands twice.
+pub fn labels_differ(block: &[u64], n: usize) -> bool
+    requires { ⌜ (n ≤ room) × (length (now block) ≡ words) ⌝ }
+    ensures { λ r. ⌜ r ≡ distinct (codes (now (block .entry)) n) ⌝ }
+{
+    let mut keys = [0u64; 4096];
+    let c = gather(block, n, &mut keys);
+    apart(&mut keys, c)
+}
+
+// 4: are the coordinates finite?
+pub fn coordinates_finite(block: &[u64]) -> bool
+    requires { ⌜ (length (now block) ≡ words) × (count (now block) ≤ room) ⌝ }
+    ensures { λ r. ⌜ r ≡ coordinates-finite (block-in (now (block .entry)) .darts) ⌝ }
+{
+    let n = block[2] as usize;
+    // The points below i are finite.
+    let mut i = 0;
+    while i < n {
+        if !dart::finite_at(block, i) {
+            return false;
+        }
+        i += 1;
+    }
+    true
+}
+
+// The test of links, with a mark for each next.
+fn links_pass(block: &[u64], n: usize, seen: &mut [u8; 4096]) -> bool
+    requires { ⌜ (n ≤ room) × (length (now block) ≡ words) × (now seen ≡ replicate 4096 0) ⌝ }
+    ensures { λ r. ⌜ (r ≡ true) ↔ Links (now (block .entry)) n ⌝ }
+{
+    // The links below i are right, and the nexts, marked in `seen`, differ.
+    let mut i = 0;
+    while i < n {
+        if !dart::link_at(block, n, i) {
+            return false;
+        }
+        let a = record::field(block, Place(i), 1) as usize;
+        if seen[a] != 0 {
+            return false;
+        }
+        seen[a] = 1;
+        i += 1;
+    }
+    true
+}
+
+// 5: are next and opposite right?
+pub fn links_right(block: &[u64]) -> bool
+    requires { ⌜ (length (now block) ≡ words) × Ranged (now block) ⌝ }
+    ensures { λ r. ⌜ r ≡ right-links (block-in (now (block .entry)) .darts) ⌝ }
+{
+    let n = block[2] as usize;
+    let mut seen = [0u8; 4096];
+    links_pass(block, n, &mut seen)
+}
+
+// 6: are the third links right, and each face of one kind?
+pub fn thirds_right(block: &[u64]) -> bool
+    requires { ⌜ (length (now block) ≡ words) × Ranged (now block) × (right-links (block-in (now block) .darts) ≡ true) ⌝ }
+    ensures { λ r. ⌜ r ≡ right-thirds (block-in (now (block .entry)) .darts) ⌝ }
+{
+    let n = block[2] as usize;
+    // The third links below i are right.
+    let mut i = 0;
+    while i < n {
+        if !dart::third_at(block, n, i) {
+            return false;
+        }
+        i += 1;
+    }
+    true
+}
+
+// The test of labels one by one.
+fn own_labels(block: &[u64], n: usize) -> bool
+    requires { ⌜ (n ≤ room) × (length (now block) ≡ words) ⌝ }
+    ensures { λ r. ⌜ r ≡ all-below (own-test (now (block .entry))) n ⌝ }
+{
+    let me = block[0];
+    let counter = block[1];
+    // The labels below i are right.
+    let mut i = 0;
+    while i < n {
+        let k = record::field(block, Place(i), 3);
+        let l = record::field(block, Place(i), 4);
+        if !dart::label_right(me, counter, k, l) {
+            return false;
+        }
+        i += 1;
+    }
+    true
+}
+
+// 7: are labels, other blocks and the counter right?
+pub fn labels_right(block: &[u64]) -> bool
+    requires { ⌜ (length (now block) ≡ words) × Ranged (now block) ⌝ }
+    ensures { λ r. ⌜ r ≡ right-labels (block-in (now (block .entry))) ⌝ }
+{
+    let n = block[2] as usize;
+    if !own_labels(block, n) {
+        return false;
+    }
+    labels_differ(block, n)
+}
+
+// 8: do the points agree?
+pub fn points_agree(block: &[u64]) -> bool
+    requires { ⌜ (length (now block) ≡ words) × Ranged (now block) × (coordinates-finite (block-in (now block) .darts) ≡ true) × (right-links (block-in (now block) .darts) ≡ true) × (right-thirds (block-in (now block) .darts) ≡ true) ⌝ }
+    ensures { λ r. ⌜ r ≡ agreeing-points (block-in (now (block .entry)) .darts) ⌝ }
+{
+    let n = block[2] as usize;
+    // The points below i agree.
+    let mut i = 0;
+    while i < n {
+        if !dart::points_at(block, n, i) {
+            return false;
+        }
+        i += 1;
+    }
+    true
+}
