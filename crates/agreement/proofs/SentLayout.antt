@@ -47,7 +47,7 @@ collect-all f q (a ∷ l) e = go (f a) (e .0) (collect-all f q l (e .1))
     go none p r = r
     go (some b) p r = and-intro p r
 
-collect-fewer : {A B : Type 0} (f : A → Option B) (l : List A) → length (collect f l) ≤ length l
+pub collect-fewer : {A B : Type 0} (f : A → Option B) (l : List A) → length (collect f l) ≤ length l
 collect-fewer f [] = omega arith
 collect-fewer f (a ∷ l) = go (f a) (collect-fewer f l)
   where
@@ -55,7 +55,7 @@ collect-fewer f (a ∷ l) = go (f a) (collect-fewer f l)
     go none r = omega arith
     go (some b) r = omega arith
 
-placed-count : (n : ℕ) (fs : List (List ℕ)) → length (placed n fs) ≡ length fs
+pub placed-count : (n : ℕ) (fs : List (List ℕ)) → length (placed n fs) ≡ length fs
 unfolding placed
 placed-count n [] = refl
 placed-count n (f ∷ fs) = ap suc (placed-count (n + length f) fs)
@@ -82,13 +82,13 @@ placed-size nx number n (f ∷ fs) e =
           (omega arith, rw (size, le-ltb (q .at - n) (length f) (omega arith), past) (h .1))),
     )
 
-firsts-fewer : (l : List ℕ) → length (firsts l) ≤ length l
+pub firsts-fewer : (l : List ℕ) → length (firsts l) ≤ length l
 unfolding firsts
 firsts-fewer [] = omega arith
 firsts-fewer (x ∷ l) = let a = keep-le (λ y. not (eqb x y)) (firsts l) in let b = firsts-fewer l in omega arith
 
 -- darts of faces are at least as many as faces
-faces-fewer : (fs : List (List ℕ)) → Each (λ f. 0 < length f) fs → length fs ≤ length (concat fs)
+pub faces-fewer : (fs : List (List ℕ)) → Each (λ f. 0 < length f) fs → length fs ≤ length (concat fs)
 unfolding concat
 faces-fewer [] e = omega arith
 faces-fewer (f ∷ fs) e = let a = e .0 in let b = faces-fewer fs (e .1) in omega (arith, length-append f (concat fs))

@@ -112,3 +112,10 @@ MoveLowers lims = (m : List Block) (o : Oracle) (scratch outbox : List ℕ) (t :
     Enough lims (map image m) r outbox → List·Permᴰ order (last-steps r (sent-messages lims (map image m) r outbox))
     → (round lims (map image m) r outbox order .outcome ≡ finished)
     × ((after : List Block) → round lims (map image m) r outbox order .memories ≡ map image after → suc (positive-surplus o after) ≡ positive-surplus o m)
+
+-- THE OUTBOX: so many bytes are always enough
+abbrev pub outbox-bytes : ℕ
+outbox-bytes = 65536
+
+abbrev pub OutboxSuffices : Limits → Type 0
+OutboxSuffices lim = (m : List ℕ) (j s : ℕ) (outbox : List ℕ) → outbox-bytes ≤ length outbox → number-of (send lim m j s outbox .answer) ≢ 15

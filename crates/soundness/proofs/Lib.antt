@@ -15,3 +15,4 @@ pub mod Passed
 pub mod Linking
 pub mod ReceiveSound
 pub mod Served
+pub mod OutboxLength

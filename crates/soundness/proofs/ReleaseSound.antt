@@ -107,18 +107,19 @@ module _ (lim : Limits) (b : Block) (fits : lim .block-darts ≤ 4096) (sound : 
   fs = sewn-faces ds s
 
   -- THE QUESTIONS
-  record Asked : Type 0 where
-    small : j ≤ 15
-    elsewhere : j ≢ n
-    here : In s all-serials
-    counter : c + length fs < 2 ^ 32
+  pub record Asked : Type 0 where
+    pub small : j ≤ 15
+    pub elsewhere : j ≢ n
+    pub here : In s all-serials
+    pub few-moved : length v ≤ lim .volume-darts
+    pub counter : c + length fs < 2 ^ 32
 
-  asked : Asked
+  pub asked : Asked
   unfolding departure-checks
   asked =
       let q9 = yes-first 9 (leb j 15 && not (eqb j n)) _ (λ z. omega arith) asks in
       let q10 = yes-first 10 (mem s all-serials) _ (λ z. omega arith) (q9 .1) in
-      let q11 = yes-first 11 _ _ (λ z. omega arith) (q10 .1) in
+      let q11 = yes-first 11 (leb (length v) (lim .volume-darts)) _ (λ z. omega arith) (q10 .1) in
       let q12 = yes-first 12 _ _ (λ z. omega arith) (q11 .1) in
       let q13 = yes-first 13 _ _ (λ z. omega arith) (q12 .1) in
       let q14 = yes-first 14 (ltb (c + length fs) (2 ^ 32)) _ (λ z. omega arith) (q13 .1) in
@@ -126,6 +127,7 @@ module _ (lim : Limits) (b : Block) (fits : lim .block-darts ≤ 4096) (sound : 
         small = leb-true j 15 (and-left (leb j 15) _ (q9 .0));
         elsewhere = eqb-false j n (not-true (eqb j n) (and-right (leb j 15) _ (q9 .0)));
         here = q10 .0;
+        few-moved = leb-true (length v) (lim .volume-darts) (q11 .0);
         counter = ltb-true (c + length fs) (2 ^ 32) (q14 .0);
       }
 
@@ -137,7 +139,7 @@ module _ (lim : Limits) (b : Block) (fits : lim .block-darts ≤ 4096) (sound : 
   unfolding volume-in
   in-block x h = keep-in (λ y. mem y (volume (next-in ds) (opposite-in ds) s)) all-serials x h .0
 
-  closed-next : (x : ℕ) → In x v → In (next-in ds x) v
+  pub closed-next : (x : ℕ) → In x v → In (next-in ds x) v
   unfolding volume-in
   closed-next x h = let a = keep-in (λ y. mem y (volume (next-in ds) (opposite-in ds) s)) all-serials x h in
       in-keep (λ y. mem y (volume (next-in ds) (opposite-in ds) s)) (next-in ds x) all-serials (R .next-held x (a .0)) (reached .closed-f x (a .1))
@@ -147,15 +149,15 @@ module _ (lim : Limits) (b : Block) (fits : lim .block-darts ≤ 4096) (sound : 
   closed-opposite x h = let a = keep-in (λ y. mem y (volume (next-in ds) (opposite-in ds) s)) all-serials x h in
       in-keep (λ y. mem y (volume (next-in ds) (opposite-in ds) s)) (opposite-in ds x) all-serials (R .opposite-held x (a .0)) (reached .closed-g x (a .1))
 
-  in-order : ascending v ≡ true
+  pub in-order : ascending v ≡ true
   unfolding volume-in
   in-order = keep-ascending (λ y. mem y (volume (next-in ds) (opposite-in ds) s)) all-serials (R .in-order)
 
-  v-few : length v ≤ 4096
+  pub v-few : length v ≤ 4096
   unfolding volume-in
   v-few = omega (arith, keep-le (λ y. mem y (volume (next-in ds) (opposite-in ds) s)) all-serials, few lim b fits sound)
 
-  v-one : (x y : ℕ) → In x v → In y v → next-in ds x ≡ next-in ds y → x ≡ y
+  pub v-one : (x y : ℕ) → In x v → In y v → next-in ds x ≡ next-in ds y → x ≡ y
   v-one x y hx hy e = next-one lim b fits sound x y (in-block x hx) (in-block y hy) e
 
   next-back : (x : ℕ) → In x all-serials → In (next-in ds x) v → In x v

@@ -82,7 +82,7 @@ module _ (lim : Limits) (fits : lim .block-darts ≤ room) where
       subst (λ (r : Result (Unit {0})). is-image lim (r .lent) ≡ true) (sym (storing-serves qs m b yes)) (is-image-of lim b fits (sound yes))
 
   -- one on the memory of a block
-  after-memory : (m : List ℕ) (qs : List Check) → first-no (memory-checks lim m ++ qs) ≡ 0 → (sound-block lim (block-in m) ≡ true) × (first-no qs ≡ 0)
+  pub after-memory : (m : List ℕ) (qs : List Check) → first-no (memory-checks lim m ++ qs) ≡ 0 → (sound-block lim (block-in m) ≡ true) × (first-no qs ≡ 0)
   unfolding memory-checks
   after-memory m qs e =
       let q1 = yes-first 1 (eqb (length m) words) _ (λ z. omega arith) e in
