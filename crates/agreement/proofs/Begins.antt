@@ -19,11 +19,10 @@ use Rattle.model.specs.Runs.{Whole, other-with, third-of, whole-map, State, sta
 use Rattle.laws.proofs.Members.{In, or-left, or-right, in-eq, ascending-distinct, keep-map}
 use Rattle.laws.proofs.Tables.{length-tab, getD-tab}
 use Rattle.laws.proofs.Tests.{by-cases, and-intro, and-left, and-right, not-equal, found-key, all-at}
-use Rattle.theory.proofs.BlockLaws.{held-found, at-held, Links, found-in, found-self}
+use Rattle.theory.proofs.BlockLaws.{held-found, at-held, Links, found-in, found-self, same-point-is}
 use Rattle.theory.proofs.ImageLaws.{label-back, Parts, ranges-of}
 use Rattle.theory.proofs.MeshLaws.{MeshParts, mesh-parts}
 use Rattle.agreement.proofs.Arrived.{es}
-use Rattle.agreement.proofs.BlockSound.{same-point-is}
 use Rattle.agreement.proofs.Described.{pt, third-by, dart-by, members, block-by, mesh-by, Crossing, Map, Labelled, Inv, found-there, absent-not-found, table-unique, darts-by, found-by, in-order-by, kind-free, kind-sewn, kind-critical}
 use Rattle.agreement.proofs.Homes.{sorted-in, in-sorted, sorted-ascends, Home, homes, one-of-two, distinct-all, block-number, block-counts, block-is-sound, block-links, home-of, holder-is, one-home}
 

@@ -1,7 +1,7 @@
 -- A block that a sound state and a labelling describe is sound: questions 3 to 8, one by one. Assumes nothing.
 use mathlib.Core.Path.{_≡_, refl, sym, _∙_, ap}
 use mathlib.Core.Logic.{_⊎_, inl, inr, _≢_}
-use mathlib.Core.Bool.{Bool, true, false, true≢false, not, _&&_, _||_}
+use mathlib.Core.Bool.{Bool, true, false, true≢false, not, _||_}
 use mathlib.Core.List.{List, [], _∷_, map}
 use Prim.Native.Nat.{ℕ, _^_, _<_, _≤_}
 use native.Mathlib.Omega.{arith}
@@ -9,29 +9,16 @@ use lib.Dec.{ltb, eqb}
 use lib.ListN.{length, length-map}
 use borrow.Author.Tests.{eqb-true, eq-eqb, ne-eqb, lt-ltb, le-leb, not-true}
 use Rattle.model.specs.Lists.{any, collect, mem, distinct}
-use Rattle.model.specs.Values.{Point, Label, sewn, Dart, Limits, serial-bound, code, label-of, same-point, finite}
+use Rattle.model.specs.Values.{Label, sewn, Dart, Limits, serial-bound, code, label-of, same-point, finite}
 use Rattle.model.specs.Cells.{dart-at, next-in, opposite-in, labels}
 use Rattle.model.specs.Sound.{third-in-range, dart-in-range, ranges-right, coordinates-finite, link-right, links-right, third-right, thirds-right, label-right, labels-right, sewn-points, points-agree, sound-block}
 use Rattle.model.specs.Image.{label-in}
 use Rattle.model.specs.Runs.{State, nx, op, th}
 use Rattle.laws.proofs.Members.{In, in-here, in-there, in-cons, in-eq, any-in, keep-ascending, ascending-distinct, any-map}
 use Rattle.laws.proofs.Tests.{by-cases, and-intro, and-left, and-right, not-equal}
+use Rattle.theory.proofs.BlockLaws.{same-point-self}
 use Rattle.theory.proofs.ImageLaws.{label-back, parts-sound}
 use Rattle.agreement.proofs.Described.{pt, third-by, dart-by, members, block-by, Crossing, Map, Inv, Mine, mine-member, member-mine, darts-by, held-mine, next-at, opposite-at, third-is, point-at, all-mine, in-order-by, kind-free, kind-sewn, kind-critical, by-kind, next-mine, opposite-mine, third-mine, third-level, third-back-linked, crossing-next}
-
--- points that are equal agree
-pub same-point-self : (p q : Point) → p ≡ q → same-point p q ≡ true
-unfolding same-point
-same-point-self p q e = rw e (and-intro (and-intro (eq-eqb (q .x) (q .x) refl) (eq-eqb (q .y) (q .y) refl)) (eq-eqb (q .z) (q .z) refl))
-
-pub same-point-is : (p q : Point) → same-point p q ≡ true → p ≡ q
-unfolding same-point
-same-point-is p q e =
-    let two = and-left (eqb (p .x) (q .x) && eqb (p .y) (q .y)) _ e in
-    let a = eqb-true (p .x) (q .x) (and-left (eqb (p .x) (q .x)) _ two) in
-    let b = eqb-true (p .y) (q .y) (and-right (eqb (p .x) (q .x)) _ two) in
-    let c = eqb-true (p .z) (q .z) (and-right (eqb (p .x) (q .x) && eqb (p .y) (q .y)) _ e) in
-    λ i. record { x = a i; y = b i; z = c i }
 
 module _ (lims : ℕ → Limits) (k : ℕ) (u : State) (label : ℕ → Label) (I : Inv lims k u label) where
   abbrev M : Map u

@@ -20,8 +20,9 @@ use Rattle.model.specs.Demands.{Matches}
 use Rattle.laws.proofs.Members.{In, in-here, in-there, in-cons, in-append-left, in-append-right, append-in, distinct-append, keep-ascending, ascending-distinct, keep-map, map-append, two-kept}
 use Rattle.laws.proofs.Tables.{length-tab, getD-tab, tab-all}
 use Rattle.laws.proofs.Tests.{by-cases, and-intro, and-left, and-right, not-equal}
+use Rattle.theory.proofs.BlockLaws.{same-point-self}
 use Rattle.theory.proofs.MeshLaws.{parts-mesh}
-use Rattle.agreement.proofs.BlockSound.{same-point-self, code-one, block-sound}
+use Rattle.agreement.proofs.BlockSound.{code-one, block-sound}
 use Rattle.agreement.proofs.Described.{pt, third-by, dart-by, members, block-by, mesh-by, Crossing, Map, Inv, find-by, Mine, mine-member, member-mine, darts-by, held-by, third-is, point-at, all-mine, found-alone, previous-at, kind-free, kind-sewn, kind-critical, by-kind, next-mine, third-level, crossing-next, crossing-third}
 
 -- LISTS IN A ROW

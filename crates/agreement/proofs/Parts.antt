@@ -22,10 +22,11 @@ use Rattle.model.specs.Runs.{Request, State, nx, th, cell}
 use Rattle.laws.proofs.Faces.{face-stays, face-trans, face-sym, is-start, start-unique, faces-only, along-face}
 use Rattle.laws.proofs.Members.{In, in-here, in-there, in-cons, in-eq, all-from, keep-in, in-append-left, in-append-right, append-in, distinct-append, distinct-not, distinct-left, distinct-right, distinct-apart, keep-ascending, ascending-distinct, Each, all-map, map-append, map-map, map-in}
 use Rattle.laws.proofs.Tests.{by-cases, and-intro, and-left, and-right, not-equal}
+use Rattle.theory.proofs.BlockLaws.{same-point-self}
 use Rattle.theory.proofs.ImageLaws.{label-back}
 use Rattle.agreement.proofs.AfterMove.{crosses, label-after}
 use Rattle.agreement.proofs.Arrived.{all-some, faces-again, Meeting, meeting-crossing, across-there, met-face, labelled-there, face-meeting, by-start, links3, cut-dart, kept-links, part4-face}
-use Rattle.agreement.proofs.BlockSound.{same-point-self, label-range, code-one, code-from}
+use Rattle.agreement.proofs.BlockSound.{label-range, code-one, code-from}
 use Rattle.agreement.proofs.Described.{pt, third-by, dart-by, members, block-by, Crossing, Map, Inv, Mine, member-mine, darts-by, next-at, point-at, kind-free, kind-sewn, kind-critical, by-kind, next-mine, third-back-linked, crossing-third}
 use Rattle.agreement.proofs.Moved.{Served, wider, moved-cell, state-after, labels-after, inv-wider}
 use Rattle.agreement.proofs.MovedCell.{Cell}

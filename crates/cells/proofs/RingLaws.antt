@@ -9,12 +9,12 @@ use native.Mathlib.Numerals.{add-one}
 use lib.Dec.{eqb}
 use lib.ListN.{length, getD, set, take, replicate, length-append, length-set, length-replicate}
 use lib.Seq.{getD-set-same, getD-set-other, take-suc, take-suc-set, length-take-le, getD-take}
-use borrow.Author.Tests.{eq-eqb, ne-eqb, eqb-true}
+use borrow.Author.Tests.{eq-eqb, ne-eqb}
 use Rattle.model.specs.Lists.{keep, mem, firsts, index-of, least}
 use Rattle.model.specs.Cells.{cycle, ring, vertex, vertices, vertex-number}
 use Rattle.model.specs.Image.{room}
 use Rattle.laws.proofs.Tests.{by-cases}
-use Rattle.laws.proofs.Members.{In, in-here, in-eq, in-append-left, in-append-right, in-map, map-append, mem-keep, least-in, least-below}
+use Rattle.laws.proofs.Members.{In, in-here, in-eq, in-getD, in-append-left, in-append-right, in-map, map-append, mem-keep, least-in, least-below}
 use Rattle.laws.proofs.Faces.{face-self, face-stays, face-sym, face-trans}
 use Rattle.theory.proofs.ImageLaws.{place-back}
 use Rattle.cells.specs.Places.{Within, Apart, Painted, Numbered}
@@ -235,9 +235,3 @@ passing-end {n} {darts} {i} {count} {nx} {op} {order} {numbers} {first} w h ther
     numbering-end (rw same at (w .passed)) (λ p k. let r = in-getD (take darts order) p k in
     let less : r .0 < darts = omega (arith, r .1, length-take-le darts order there) in
     rw (r .2, getD-take darts order (r .0) 0 less) (below (r .0) less))
-  where
-    in-getD : (l : List ℕ) (x : ℕ) → In x l → (k : ℕ) × (k < length l) × (x ≡ getD l k 0)
-    in-getD [] x m = absurd (true≢false (sym m))
-    in-getD (y ∷ l) x m = by-cases (eqb x y)
-        (λ e. (0, omega arith, eqb-true x y e))
-        (λ e. let r = in-getD l x (rw e at m) in (suc (r .0), omega (arith, r .1), r .2))

@@ -47,7 +47,7 @@ in-order-few {fs} {out} {starts} {darts} {count} o = (
 )
 
 -- the first dart of a face
-cycle-start : {f : ℕ → ℕ} {x c : ℕ} → Round f x c → start-of (cycle f x) ≡ x
+pub cycle-start : {f : ℕ → ℕ} {x c : ℕ} → Round f x c → start-of (cycle f x) ≡ x
 cycle-start {f} {x} {c} r = rw (r .cycle-is) (go c (r .some))
   where
     go : (k : ℕ) → 0 < k → getD (path f k x) 0 0 ≡ x

@@ -1,15 +1,15 @@
 -- Laws of lists: what is in them, what is kept of them, order and least elements. Assumes nothing.
 use mathlib.Core.Path.{_≡_, refl, sym, _∙_, ap, subst}
 use mathlib.Core.Logic.{_⊎_, inl, inr, _≢_}
-use mathlib.Core.Bool.{Bool, true, false, true≢false, not, _&&_, _||_}
+use mathlib.Core.Bool.{Bool, true, false, true≢false, cond, not, _&&_, _||_}
 use mathlib.Core.List.{List, [], _∷_, _++_, map}
-use mathlib.Core.Option.{some, Option·none-ne-some, Option·some-injective}
+use mathlib.Core.Option.{Option, none, some, Option·none-ne-some, Option·some-injective}
 use Prim.Native.Nat.{ℕ, zero, suc, _<_, _≤_, min}
 use native.Mathlib.Omega.{arith}
 use lib.Dec.{leb, ltb, eqb}
-use lib.ListN.{length}
+use lib.ListN.{length, getD}
 use borrow.Author.Tests.{eqb-true, eqb-false, eq-eqb, ne-eqb, ltb-true, lt-ltb, leb-true, leb-false, not-true}
-use Rattle.model.specs.Lists.{all, any, keep, mem, distinct, ascending, find, least, least-from}
+use Rattle.model.specs.Lists.{all, any, keep, mem, distinct, ascending, find, more, collect, least, least-from}
 use Rattle.laws.proofs.Tests.{by-cases, and-intro, and-left, and-right}
 
 -- MEMBERS
@@ -322,3 +322,37 @@ two-kept q x y (w ∷ l) d hx hy ne px py only = by-cases (eqb x w)
         go : (x ≡ w) ⊎ (y ≡ w) → q w ≡ false
         go (inl s) = absurd (a s)
         go (inr s) = absurd (b s)
+
+-- an element stands somewhere
+pub in-getD : (l : List ℕ) (x : ℕ) → In x l → (k : ℕ) × (k < length l) × (x ≡ getD l k 0)
+in-getD [] x m = absurd (true≢false (sym m))
+in-getD (y ∷ l) x m = in-cons x y l m (λ e. (0, omega arith, e)) (λ k. let r = in-getD l x k in (suc (r .0), omega (arith, r .1), r .2))
+
+-- UNDER MAPS AND TESTS, element by element
+module _ {A B : Type 0} (P : A → Type 0) where
+  pub map-each : (f g : A → B) (l : List A) → Each P l → ((x : A) → P x → f x ≡ g x) → map f l ≡ map g l
+  map-each f g [] a h = refl
+  map-each f g (x ∷ l) a h = rw (h x (a .0)) (ap (λ (t : List B). g x ∷ t) (map-each f g l (a .1) h))
+
+  -- values that a test decides
+  pub collect-each : (g : A → Option B) (c : A → Bool) (e : A → B) (l : List A) → Each P l → ((x : A) → P x → g x ≡ cond (c x) (some (e x)) none) → collect g l ≡ map e (keep c l)
+  collect-each g c e [] a h = refl
+  collect-each g c e (x ∷ l) a h = by-cases (c x)
+      (λ k. rw (h x (a .0), k) (ap (λ (t : List B). e x ∷ t) (collect-each g c e l (a .1) h)))
+      (λ k. rw (h x (a .0), k) (collect-each g c e l (a .1) h))
+
+pub keep-each : {A : Type 0} (P : A → Type 0) (p q : A → Bool) (l : List A) → Each P l → ((x : A) → P x → p x ≡ q x) → keep p l ≡ keep q l
+keep-each P p q [] a h = refl
+keep-each P p q (x ∷ l) a h = rw (h x (a .0), keep-each P p q l (a .1) h)
+
+pub each-kept : {A : Type 0} (P : A → Type 0) (q : A → Bool) (l : List A) → Each P l → Each (λ x. P x × (q x ≡ true)) (keep q l)
+each-kept P q [] a = tt
+each-kept P q (x ∷ l) a = by-cases (q x) (λ k. rw k ((a .0, k), each-kept P q l (a .1))) (λ k. rw k (each-kept P q l (a .1)))
+
+pub each-map : {B : Type 0} (P : B → Type 0) (f : ℕ → B) (l : List ℕ) → ((x : ℕ) → In x l → P (f x)) → Each P (map f l)
+each-map P f [] h = tt
+each-map P f (x ∷ l) h = (h x (in-here x l), each-map P f l (λ y k. h y (in-there y x l k)))
+
+pub collect-map : {A B C : Type 0} (f : A → B) (g : B → Option C) (l : List A) → collect g (map f l) ≡ collect (λ x. g (f x)) l
+collect-map f g [] = refl
+collect-map f g (x ∷ l) = ap (more (g (f x))) (collect-map f g l)

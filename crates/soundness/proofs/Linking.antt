@@ -20,10 +20,9 @@ use Rattle.laws.proofs.Faces.{face-self, face-trans, face-sym, face-distinct}
 use Rattle.laws.proofs.Members.{In, in-eq, in-append-left, in-append-right, distinct-left, distinct-right, distinct-apart}
 use Rattle.laws.proofs.Orbits.{iter, path, in-path, iter-stays, around-path, in-cycle}
 use Rattle.laws.proofs.Tests.{by-cases, and-left, and-right}
-use Rattle.theory.proofs.BlockLaws.{Links, found-in, found-self}
+use Rattle.theory.proofs.BlockLaws.{Links, found-in, found-self, same-point-is}
 use Rattle.theory.proofs.ImageLaws.{parts-of, ranges-of}
 use Rattle.agreement.proofs.Begins.{critical-is}
-use Rattle.agreement.proofs.BlockSound.{same-point-is}
 use Rattle.agreement.proofs.Redirected.{least-same}
 use Rattle.soundness.proofs.ByDarts.{dart-held, Frame, point-of, Good, serials-once, good-of}
 use Rattle.soundness.proofs.FaceSteps.{free-not-sewn, critical-not-sewn, critical-not-free, face-labelled, Paired, sewing, zip-at, sewing-after, faces-sewn}

@@ -13,10 +13,9 @@ use Rattle.model.specs.Cells.{serials, dart-at, next-in, opposite-in, previous-
 use Rattle.model.specs.Sound.{sewn-along, dart-in-range, ranges-right, coordinates-finite, link-right, links-right, third-right, thirds-right, label-right, labels-right, sewn-points, points-agree, sound-block}
 use Rattle.laws.proofs.Members.{In, in-here, in-there, in-cons, ascending-distinct, distinct-not}
 use Rattle.laws.proofs.Tests.{by-cases, and-intro, and-left, and-right, not-equal}
-use Rattle.theory.proofs.BlockLaws.{at-held, Links, links-from}
+use Rattle.theory.proofs.BlockLaws.{at-held, Links, links-from, same-point-self, same-point-is}
 use Rattle.theory.proofs.ImageLaws.{Parts, parts-of, parts-sound, Ranges, ranges-of}
 use Rattle.agreement.proofs.Begins.{sewn-to-is, free-is, along-is, critical-is}
-use Rattle.agreement.proofs.BlockSound.{same-point-self, same-point-is}
 
 -- A SEWN DART: x to y
 pub record SewnRight (ds : List Dart) (x y : ℕ) : Type 0 where

@@ -11,8 +11,8 @@ use lib.Dec.{eqb}
 use lib.ListN.{length}
 use borrow.Author.Tests.{eqb-true, eqb-false, eq-eqb, ne-eqb, not-true}
 use Rattle.model.specs.Lists.{all, any, mem, distinct, find}
-use Rattle.laws.proofs.Tests.{by-cases, and-left, and-right, found-all}
-use Rattle.model.specs.Values.{Dart, or-no-dart}
+use Rattle.laws.proofs.Tests.{by-cases, and-intro, and-left, and-right, found-all}
+use Rattle.model.specs.Values.{Point, Dart, same-point, or-no-dart}
 use Rattle.model.specs.Cells.{around, dart-at, next-in, opposite-in, previous-in, serials}
 use Rattle.model.specs.Sound.{links-right, link-right}
 use Rattle.laws.proofs.Members.{In, in-here, in-there, in-eq}
@@ -139,3 +139,18 @@ ring-of-next ds L n x big h = cycle-sym (ring-step ds) (serials ds) stays inj n 
     inj y z k j e =
         let p : opposite-in ds y ≡ opposite-in ds z = sym (L .previous-next _ (L .opposite-in-block y k)) ∙ ap (previous-in ds) e ∙ L .previous-next _ (L .opposite-in-block z j) in
         sym (L .opposite-opposite y k) ∙ ap (opposite-in ds) p ∙ L .opposite-opposite z j
+
+-- POINTS
+-- points that are equal agree
+pub same-point-self : (p q : Point) → p ≡ q → same-point p q ≡ true
+unfolding same-point
+same-point-self p q e = rw e (and-intro (and-intro (eq-eqb (q .x) (q .x) refl) (eq-eqb (q .y) (q .y) refl)) (eq-eqb (q .z) (q .z) refl))
+
+pub same-point-is : (p q : Point) → same-point p q ≡ true → p ≡ q
+unfolding same-point
+same-point-is p q e =
+    let two = and-left (eqb (p .x) (q .x) && eqb (p .y) (q .y)) _ e in
+    let a = eqb-true (p .x) (q .x) (and-left (eqb (p .x) (q .x)) _ two) in
+    let b = eqb-true (p .y) (q .y) (and-right (eqb (p .x) (q .x)) _ two) in
+    let c = eqb-true (p .z) (q .z) (and-right (eqb (p .x) (q .x) && eqb (p .y) (q .y)) _ e) in
+    λ i. record { x = a i; y = b i; z = c i }

@@ -1,0 +1,2 @@
+pub mod LeavingFaces
+pub mod Leaving
