@@ -25,9 +25,12 @@ pub file-length : (m : List ℕ) → length (file rack .put (block-in m)) ≡ le
 file-length m = rw (file-put m) (length-append (header-bytes m) (put-all a-dart (tab (dart-in m) (getD m 2 0))))
 
 -- THE COUNT, of header and darts
+pub record FileCounted (m : List ℕ) (s t u n : ℕ) : Type 0 where
+  pub same : s + (t + (u + n)) ≡ length (file rack .put (block-in m))
+  pub few : s + (t + (u + n)) ≤ 245775
+
 pub file-counted : (m : List ℕ) → is-image rack m ≡ true → {a b c s t u n : ℕ} → a ≡ getD m 0 0 → s ≡ group-count a → b ≡ getD m 1 0 → t ≡ group-count b
-    → c ≡ getD m 2 0 → u ≡ group-count c → n ≡ length (put-all a-dart (tab (dart-in m) (getD m 2 0)))
-    → (s + (t + (u + n)) ≡ length (file rack .put (block-in m))) × (s + (t + (u + n)) ≤ 245775)
+    → c ≡ getD m 2 0 → u ≡ group-count c → n ≡ length (put-all a-dart (tab (dart-in m) (getD m 2 0))) → FileCounted m s t u n
 file-counted m e {a} {b} {c} {s} {t} {u} {n} ea es eb et ec eu en =
     let few = count-small m e in
     let c0 = number-small m e in
@@ -40,7 +43,7 @@ file-counted m e {a} {b} {c} {s} {t} {u} {n} ea es eb et ec eu en =
     let t' : t ≡ length (group .put (getD m 1 0)) = et ∙ ap group-count eb ∙ sym (group-length (getD m 1 0) c1) in
     let u' : u ≡ length (group .put (getD m 2 0)) = eu ∙ ap group-count ec ∙ sym (group-length (getD m 2 0) (omega arith)) in
     let head = header-length m in
-    (omega arith, omega (arith, group-most (getD m 0 0) c0, group-most (getD m 1 0) c1, group-most (getD m 2 0) (omega arith)))
+    record { same = omega arith; few = omega (arith, group-most (getD m 0 0) c0, group-most (getD m 1 0) c1, group-most (getD m 2 0) (omega arith)) }
 
 -- THE CALL, question by question
 pub refused-size : (m out : List ℕ) → (length m ≡ words → ⊥) → Gives (save-file rack m out) (refused 1) out

@@ -36,7 +36,10 @@ fn count_dart(block: &[u64], p: usize) -> usize
     let serial = groups::serial_count(record::field(block, Place(p), 0));
     let next = groups::serial_count(links::serial_along(block, p, 1));
     let opposite = groups::serial_count(links::serial_along(block, p, 2));
-    let third = count_third(record::field(block, Place(p), 3), links::third_along(block, p));
+    let third = count_third(
+        record::field(block, Place(p), 3),
+        links::third_along(block, p),
+    );
     serial + (next + (opposite + (third + 24)))
 }
 

@@ -1,7 +1,7 @@
 -- `savefile::count::count_file` meets its contract: the counts of header and darts.
 -- Assumes nothing.
 use Rattle.savefile.proofs.Sizes.{image-size, image-small, number-small, counter-small, count-small}
-use Rattle.savefile.proofs.WholeFile.{file-counted}
+use Rattle.savefile.proofs.WholeFile.{FileCounted, file-counted}
 use native.Mathlib.Omega.{arith}
 use borrow.Author.Needs.{needs}
 use Rattle.savefile.proofs.count.count_file.Statement.{statement}
@@ -48,24 +48,25 @@ count-darts-requires : tie.Need-count-darts-requires
 count-darts-requires c κs =
     image-small (c .before .before .before .before .before .before .before .before .before .before .before .args .block .now) (c .before .before .before .before .before .before .before .before .before .before .before .pre)
 
+counted : (c : tie.After-count-darts) → FileCounted (c .before .before .before .before .before .before .before .before .before .before .before .before .args .block .now) (c .before .before .before .before .before .before .before .before .group-count .result) (c .before .before .before .before .before .group-count2 .result) (c .before .before .group-count3 .result) (c .count-darts .result)
+counted c =
+    file-counted (c .before .before .before .before .before .before .before .before .before .before .before .before .args .block .now) (c .before .before .before .before .before .before .before .before .before .before .before .before .pre) (c .before .before .before .before .before .before .before .before .before .narrow .ensures) (c .before .before .before .before .before .before .before .before .group-count .ensures) (c .before .before .before .before .before .before .narrow2 .ensures) (c .before .before .before .before .before .group-count2 .ensures) (c .before .before .before .narrow3 .ensures) (c .before .before .group-count3 .ensures) (c .count-darts .ensures)
+
 add-result : tie.Need-add-result
 add-result c =
-    let d = file-counted (c .before .before .before .before .before .before .before .before .before .before .before .before .args .block .now) (c .before .before .before .before .before .before .before .before .before .before .before .before .pre) (c .before .before .before .before .before .before .before .before .before .narrow .ensures) (c .before .before .before .before .before .before .before .before .group-count .ensures) (c .before .before .before .before .before .before .narrow2 .ensures) (c .before .before .before .before .before .group-count2 .ensures) (c .before .before .before .narrow3 .ensures) (c .before .before .group-count3 .ensures) (c .count-darts .ensures) in
-    omega (arith, d .1)
+    omega (arith, counted c .few)
 
 add-result-2 : tie.Need-add-result-2
 add-result-2 c =
-    let d = file-counted (c .before .before .before .before .before .before .before .before .before .before .before .before .args .block .now) (c .before .before .before .before .before .before .before .before .before .before .before .before .pre) (c .before .before .before .before .before .before .before .before .before .narrow .ensures) (c .before .before .before .before .before .before .before .before .group-count .ensures) (c .before .before .before .before .before .before .narrow2 .ensures) (c .before .before .before .before .before .group-count2 .ensures) (c .before .before .before .narrow3 .ensures) (c .before .before .group-count3 .ensures) (c .count-darts .ensures) in
-    omega (arith, d .1)
+    omega (arith, counted c .few)
 
 add-result-3 : tie.Need-add-result-3
 add-result-3 c =
-    let d = file-counted (c .before .before .before .before .before .before .before .before .before .before .before .before .args .block .now) (c .before .before .before .before .before .before .before .before .before .before .before .before .pre) (c .before .before .before .before .before .before .before .before .before .narrow .ensures) (c .before .before .before .before .before .before .before .before .group-count .ensures) (c .before .before .before .before .before .before .narrow2 .ensures) (c .before .before .before .before .before .group-count2 .ensures) (c .before .before .before .narrow3 .ensures) (c .before .before .group-count3 .ensures) (c .count-darts .ensures) in
-    omega (arith, d .1)
+    omega (arith, counted c .few)
 
 returns : tie.Need-returns
 returns c =
-    file-counted (c .before .before .before .before .before .before .before .before .before .before .before .before .args .block .now) (c .before .before .before .before .before .before .before .before .before .before .before .before .pre) (c .before .before .before .before .before .before .before .before .before .narrow .ensures) (c .before .before .before .before .before .before .before .before .group-count .ensures) (c .before .before .before .before .before .before .narrow2 .ensures) (c .before .before .before .before .before .group-count2 .ensures) (c .before .before .before .narrow3 .ensures) (c .before .before .group-count3 .ensures) (c .count-darts .ensures) .0
+    counted c .same
 
 pub count-file-spec : {M : Type 1} → statement M
 count-file-spec =
