@@ -28,6 +28,10 @@ stored-then {l} {m} {n} {a} {b} {at} {mid} {next} p q = record {
 pub stored-length : {l m a : List ℕ} {at next : ℕ} → Stored l at a m next → length m ≡ length l
 stored-length {l} {m} {a} {at} p = rw (p .slice) (length-sets l at a)
 
+-- nothing written
+pub stored-none : (l : List ℕ) (at : ℕ) → Stored l at [] l at
+stored-none l at = record { slice = refl; past = omega arith }
+
 -- GROUPS: with one more allowed than are needed, they are the same
 one-more : (n v : ℕ) → v < 128 ^ suc n → groups n v ≡ groups (suc n) v
 unfolding groups

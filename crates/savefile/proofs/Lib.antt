@@ -1,0 +1,4 @@
+pub mod Pieces
+pub mod FileBytes
+pub mod Sizes
+pub mod WholeFile

@@ -1,0 +1,90 @@
+-- A sound block's image: each dart's words lead to places, and what they name is in range. Assumes nothing.
+use mathlib.Core.Path.{_≡_, sym, _∙_, ap}
+use mathlib.Core.Bool.{true}
+use mathlib.Core.List.{List}
+use Prim.Native.Nat.{ℕ, _%_, _^_, _≤_, _<_}
+use native.Mathlib.Omega.{arith}
+use lib.ListN.{length, getD}
+use borrow.Author.Tests.{eq-eqb, ne-eqb}
+use Rattle.model.specs.Values.{rack, serial-bound}
+use Rattle.model.specs.Image.{room, words, column, dart-in, block-in, is-image}
+use Rattle.laws.proofs.Tables.{length-tab}
+use Rattle.theory.proofs.ImageLaws.{image-is, image-length}
+use Rattle.columns.specs.Columns.{count, Kind, kind-free, kind-sewn, kind-critical, Ranged, Places, SewnPlaces}
+use Rattle.columns.proofs.Links.{places}
+use Rattle.columns.proofs.ThirdLinks.{sewn-places}
+use Rattle.columns.proofs.Question.{image-passed}
+use Rattle.savefile.specs.Named.{third-named, ThirdSmall, Small, AllSmall}
+
+-- the dart at place p, by the columns' facts
+module _ (m : List ℕ) (p : ℕ) where
+  pub sewn-named : column m 3 p % 4 ≡ 1 → third-named m p ≡ column m 0 (column m 4 p)
+  unfolding third-named
+  sewn-named e = rw (eq-eqb (column m 3 p % 4) 1 e)
+
+  pub other-named : (column m 3 p % 4 ≡ 1 → ⊥) → third-named m p ≡ column m 4 p
+  unfolding third-named
+  other-named e = rw (ne-eqb (column m 3 p % 4) 1 e)
+
+  -- the sewn dart's serial, where it is sewn
+  third-small : Kind (column m 3 p) (column m 4 p) → (column m 3 p ≡ 1 → column m 0 (column m 4 p) < serial-bound) → ThirdSmall (column m 3 p) (third-named m p)
+  third-small (kind-free e z) h = record {
+    other-small = omega arith;
+    named-small = omega (arith, other-named (λ q. omega arith));
+    sewn-small = λ q. absurd (omega arith);
+  }
+  third-small (kind-sewn e) h =
+      let s = h e in
+      let n = sewn-named (omega arith) in
+      record { other-small = omega arith; named-small = omega arith; sewn-small = λ q. omega arith }
+  third-small (kind-critical e o a) h = record {
+    other-small = o;
+    named-small = omega (arith, other-named (λ q. omega arith));
+    sewn-small = λ q. absurd (omega arith);
+  }
+
+  one-kind : Kind (column m 3 p) (column m 4 p) → column m 3 p % 4 ≡ 1 → column m 3 p ≡ 1
+  one-kind (kind-free e z) h = absurd (omega arith)
+  one-kind (kind-sewn e) h = e
+  one-kind (kind-critical e o a) h = absurd (omega arith)
+
+  small-at : length m ≡ words → Ranged m → Places m (count m) → SewnPlaces m (count m) → p < count m → Small m p
+  small-at len w g s h =
+      let k = w .kinds p h in
+      let few = w .few in
+      let a = g .next-lt p h in
+      let b = g .opposite-lt p h in
+      record {
+        size = len;
+        here = omega arith;
+        next-here = omega arith;
+        opposite-here = omega arith;
+        sewn-here = λ e. omega (arith, s p h (one-kind k e));
+        serial-small = w .serial-small p h;
+        next-small = w .serial-small (column m 1 p) a;
+        opposite-small = w .serial-small (column m 2 p) b;
+        third-small = third-small k (λ e. w .serial-small (column m 4 p) (s p h e));
+      }
+
+module _ (m : List ℕ) (e : is-image rack m ≡ true) where
+  pub image-size : length m ≡ words
+  image-size =
+      let i = image-is rack m e .0 in
+      let few = image-passed m e .range .few in
+      sym (ap length i) ∙ image-length (block-in m) (omega (arith, length-tab (dart-in m) (count m)))
+
+  pub image-small : AllSmall m (getD m 2 0)
+  image-small =
+      let q = image-passed m e in
+      let n = count m in
+      record { few = q .range .few; each = λ p h. small-at m p image-size (q .range) (places m n (q .links)) (sewn-places m n (q .thirds)) h }
+
+  -- the header's words
+  pub number-small : getD m 0 0 < 2 ^ 32
+  number-small = omega (arith, image-passed m e .range .number-small)
+
+  pub counter-small : getD m 1 0 < 2 ^ 32
+  counter-small = image-passed m e .range .counter-small
+
+  pub count-small : getD m 2 0 ≤ room
+  count-small = image-passed m e .range .few

@@ -1,0 +1,78 @@
+-- `savefile::count::count_dart` meets its contract: the counts of its parts.
+-- Assumes nothing.
+use Rattle.savefile.proofs.FileBytes.{DartCounted, dart-counted}
+use native.Mathlib.Omega.{arith}
+use borrow.Author.Needs.{needs}
+use Rattle.savefile.proofs.count.count_dart.Statement.{statement}
+use Rattle.savefile.proofs.count.count_dart.Tie as tie
+
+field-requires : tie.Need-field-requires
+field-requires c κs = search needs
+
+serial-count-requires : tie.Need-serial-count-requires
+serial-count-requires c κs = search needs
+
+serial-along-requires : tie.Need-serial-along-requires
+serial-along-requires c κs = search needs
+
+serial-count-requires-2 : tie.Need-serial-count-requires-2
+serial-count-requires-2 c κs = search needs
+
+serial-along-requires-2 : tie.Need-serial-along-requires-2
+serial-along-requires-2 c κs = search needs
+
+serial-count-requires-3 : tie.Need-serial-count-requires-3
+serial-count-requires-3 c κs = search needs
+
+field-requires-2 : tie.Need-field-requires-2
+field-requires-2 c κs = search needs
+
+third-along-requires : tie.Need-third-along-requires
+third-along-requires c κs = search needs
+
+count-third-requires : tie.Need-count-third-requires
+count-third-requires c κs =
+    rw (c .before .field2 .ensures, c .third-along .ensures) (c .before .before .before .before .before .before .before .before .before .pre .third-small)
+
+counted : (c : tie.After-count-third) → DartCounted (c .before .before .before .before .before .before .before .before .before .before .args .block .now) (c .before .before .before .before .before .before .before .before .before .before .args .p) (c .before .before .before .before .before .before .before .serial-count .result) (c .before .before .before .before .before .serial-count2 .result) (c .before .before .before .serial-count3 .result) (c .count-third .result)
+counted c =
+    dart-counted _ _ (c .before .before .before .before .before .before .before .before .before .before .pre) (c .before .before .before .before .before .before .before .before .field .ensures) (c .before .before .before .before .before .before .before .serial-count .ensures) (c .before .before .before .before .before .before .serial-along .ensures) (c .before .before .before .before .before .serial-count2 .ensures) (c .before .before .before .before .serial-along2 .ensures) (c .before .before .before .serial-count3 .ensures) (c .before .before .field2 .ensures) (c .before .third-along .ensures) (c .count-third .ensures)
+
+add-result : tie.Need-add-result
+add-result c =
+    omega (arith, counted c .few)
+
+add-result-2 : tie.Need-add-result-2
+add-result-2 c =
+    omega (arith, counted c .few)
+
+add-result-3 : tie.Need-add-result-3
+add-result-3 c =
+    omega (arith, counted c .few)
+
+add-result-4 : tie.Need-add-result-4
+add-result-4 c =
+    omega (arith, counted c .few)
+
+returns : tie.Need-returns
+returns c =
+    counted c .same
+
+pub count-dart-spec : {M : Type 1} → statement M
+count-dart-spec =
+    tie.close
+    (tie.spec
+    field-requires
+    serial-count-requires
+    serial-along-requires
+    serial-count-requires-2
+    serial-along-requires-2
+    serial-count-requires-3
+    field-requires-2
+    third-along-requires
+    count-third-requires
+    add-result
+    add-result-2
+    add-result-3
+    add-result-4
+    returns)

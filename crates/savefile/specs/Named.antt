@@ -1,0 +1,52 @@
+-- What a file says of the dart at a place, and the numbers that it needs small. Assumes nothing.
+--   third-named    what a third link names, by itself: the serial of a sewn dart, the code of a label
+--   Small          the words of a dart lead to places, and what it names is in range
+use mathlib.Core.Path.{_≡_}
+use mathlib.Core.Bool.{cond}
+use mathlib.Core.List.{List, _++_}
+use Prim.Native.Nat.{ℕ, _+_, _*_, _/_, _%_, _^_, _<_, _≤_}
+use lib.Dec.{eqb}
+use lib.ListN.{length, getD}
+use Rattle.model.specs.Values.{serial-bound}
+use Rattle.model.specs.Layouts.{group, serial, at-most, _⊗_}
+use Rattle.model.specs.Image.{room, words, column, third-in}
+use Rattle.model.specs.Messages.{kind-of, third}
+
+unfoldable pub third-named : List ℕ → ℕ → ℕ
+third-named m p = cond (eqb (column m 3 p % 4) 1) (column m 0 (column m 4 p)) (column m 4 p)
+
+-- BYTES
+-- of a third link, kind first
+unfoldable pub third-bytes : ℕ → ℕ → List ℕ
+third-bytes k a = let t = third-in (λ x. x) k a in (at-most 2 ⊗ third) .put (kind-of t, t)
+
+-- serial, next, opposite
+unfoldable pub link-bytes : List ℕ → ℕ → List ℕ
+link-bytes m p = serial .put (column m 0 p) ++ (serial .put (column m 0 (column m 1 p)) ++ serial .put (column m 0 (column m 2 p)))
+
+-- block, counter, dart count
+unfoldable pub header-bytes : List ℕ → List ℕ
+header-bytes m = group .put (getD m 0 0) ++ (group .put (getD m 1 0) ++ group .put (getD m 2 0))
+
+-- NUMBERS IN RANGE
+-- of a third link, by its kind word and what it names
+pub record ThirdSmall (k a : ℕ) : Type 0 where
+  pub other-small : k / 4 < 16
+  pub named-small : a < 2 ^ 48
+  pub sewn-small : k % 4 ≡ 1 → a < serial-bound
+
+pub record Small (m : List ℕ) (p : ℕ) : Type 0 where
+  pub size : length m ≡ words
+  pub here : p < room
+  pub next-here : column m 1 p < room
+  pub opposite-here : column m 2 p < room
+  pub sewn-here : column m 3 p % 4 ≡ 1 → column m 4 p < room
+  pub serial-small : column m 0 p < serial-bound
+  pub next-small : column m 0 (column m 1 p) < serial-bound
+  pub opposite-small : column m 0 (column m 2 p) < serial-bound
+  pub third-small : ThirdSmall (column m 3 p) (third-named m p)
+
+-- of the first n darts
+pub record AllSmall (m : List ℕ) (n : ℕ) : Type 0 where
+  pub few : n ≤ room
+  pub each : (p : ℕ) → p < n → Small m p

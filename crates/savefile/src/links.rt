@@ -1,0 +1,37 @@
+// What the links of the dart at a place name: memory has places, a file and a listing have serials.
+ghost use mathlib.Core.Path.{_≡_};
+ghost use Prim.Native.Nat.{_<_, _^_};
+ghost use lib.ListN.{length};
+ghost use Rattle.model.specs.Image.{room, words, column};
+ghost use Rattle.savefile.specs.Named.{Small, third-named};
+use memory::record;
+use memory::record::Place;
+
+// The serial of the dart whose place is word f of the dart at place p.
+pub fn serial_along(block: &[u64], p: usize, f: usize) -> u64
+    requires { ⌜ (p < room) × (f < 8) × (length (now block) ≡ words) × (column (now block) f p < room) ⌝ }
+    ensures { λ r. ⌜ r ≡ column (now (block .entry)) 0 (column (now (block .entry)) f p) ⌝ }
+{
+    let q = record::field(block, Place(p), f) as usize;
+    record::field(block, Place(q), 0)
+}
+
+// What the third link of the dart at place p names: the serial of a sewn dart, the code of a label.
+pub fn third_along(block: &[u64], p: usize) -> u64
+    requires { ⌜ Small (now block) p ⌝ }
+    ensures { λ r. ⌜ r ≡ third-named (now (block .entry)) p ⌝ }
+{
+    let k = record::field(block, Place(p), 3);
+    if k % 4 == 1 {
+        return serial_along(block, p, 4);
+    }
+    record::field(block, Place(p), 4)
+}
+
+// A word that holds a number below 2^32.
+pub fn narrow(x: u64) -> u32
+    requires { ⌜ x < 2 ^ 32 ⌝ }
+    ensures { λ r. ⌜ r ≡ x ⌝ }
+{
+    x as u32
+}

@@ -1,0 +1,98 @@
+// A block's file written into an output that is long enough.
+ghost use mathlib.Core.Bool.{true};
+ghost use mathlib.Core.Path.{_≡_};
+ghost use Prim.Native.Nat.{_+_, _≤_};
+ghost use lib.ListN.{length};
+ghost use Rattle.model.specs.Lists.{tab};
+ghost use Rattle.model.specs.Values.{rack};
+ghost use Rattle.model.specs.Layouts.{put-all};
+ghost use Rattle.model.specs.Image.{dart-in, block-in, is-image};
+ghost use Rattle.model.specs.Messages.{point, a-dart, file};
+ghost use Rattle.groups.specs.Slices.{Stored};
+ghost use Rattle.savefile.specs.Named.{ThirdSmall, third-bytes, link-bytes, header-bytes, Small, AllSmall};
+use crate::links;
+use memory::record;
+use memory::record::Place;
+
+// Serial, next and opposite of the dart at place p.
+fn put_links(block: &[u64], p: usize, out: &mut [u8], at: usize) -> usize
+    requires { ⌜ Small (now block) p × (at + length (link-bytes (now block) p) ≤ length (now out)) ⌝ }
+    ensures { λ r. ⌜ Stored (now (out .entry)) at (link-bytes (now (block .entry)) p) (now (out .exit)) r ⌝ }
+{
+    let past_serial = groups::put_serial(out, at, record::field(block, Place(p), 0));
+    let past_next = groups::put_serial(out, past_serial, links::serial_along(block, p, 1));
+    groups::put_serial(out, past_next, links::serial_along(block, p, 2))
+}
+
+// A third link, by its kind word and what it names: 0 free; 1 sewn, serial; 2 critical, other block, label.
+fn put_third(kind: u64, named: u64, out: &mut [u8], at: usize) -> usize
+    requires { ⌜ ThirdSmall kind named × (at + length (third-bytes kind named) ≤ length (now out)) ⌝ }
+    ensures { λ r. ⌜ Stored (now (out .entry)) at (third-bytes kind named) (now (out .exit)) r ⌝ }
+{
+    let k = kind % 4;
+    if k == 0 {
+        return groups::put_group(out, at, 0);
+    }
+    if k == 1 {
+        let past_kind = groups::put_group(out, at, 1);
+        return groups::put_serial(out, past_kind, named);
+    }
+    let past_kind = groups::put_group(out, at, 2);
+    let past_other = groups::put_group(out, past_kind, links::narrow(kind / 4));
+    groups::put_label(out, past_other, named)
+}
+
+// The point of the dart at place p.
+fn put_point(block: &[u64], p: usize, out: &mut [u8], at: usize) -> usize
+    requires { ⌜ Small (now block) p × (at + 24 ≤ length (now out)) ⌝ }
+    ensures { λ r. ⌜ Stored (now (out .entry)) at (point .put (dart-in (now (block .entry)) p .point)) (now (out .exit)) r ⌝ }
+{
+    let past_x = groups::put_coordinate(out, at, record::field(block, Place(p), 5));
+    let past_y = groups::put_coordinate(out, past_x, record::field(block, Place(p), 6));
+    groups::put_coordinate(out, past_y, record::field(block, Place(p), 7))
+}
+
+// The dart at place p.
+fn put_dart(block: &[u64], p: usize, out: &mut [u8], at: usize) -> usize
+    requires { ⌜ Small (now block) p × (at + length (a-dart .put (dart-in (now block) p)) ≤ length (now out)) ⌝ }
+    ensures { λ r. ⌜ Stored (now (out .entry)) at (a-dart .put (dart-in (now (block .entry)) p)) (now (out .exit)) r ⌝ }
+{
+    let past_links = put_links(block, p, out, at);
+    let kind = record::field(block, Place(p), 3);
+    let past_third = put_third(kind, links::third_along(block, p), out, past_links);
+    put_point(block, p, out, past_third)
+}
+
+// The first n darts.
+fn put_darts(block: &[u64], n: usize, out: &mut [u8], at: usize) -> usize
+    requires { ⌜ AllSmall (now block) n × (at + length (put-all a-dart (tab (dart-in (now block)) n)) ≤ length (now out)) ⌝ }
+    ensures { λ r. ⌜ Stored (now (out .entry)) at (put-all a-dart (tab (dart-in (now (block .entry))) n)) (now (out .exit)) r ⌝ }
+{
+    // The darts below i are stored, up to past.
+    let mut past = at;
+    let mut i = 0;
+    while i < n {
+        past = put_dart(block, i, out, past);
+        i += 1;
+    }
+    past
+}
+
+// Block, counter, dart count.
+fn put_header(block: &[u64], out: &mut [u8]) -> usize
+    requires { ⌜ (is-image rack (now block) ≡ true) × (length (header-bytes (now block)) ≤ length (now out)) ⌝ }
+    ensures { λ r. ⌜ Stored (now (out .entry)) 0 (header-bytes (now (block .entry))) (now (out .exit)) r ⌝ }
+{
+    let past_number = groups::put_group(out, 0, links::narrow(block[0]));
+    let past_counter = groups::put_group(out, past_number, links::narrow(block[1]));
+    groups::put_group(out, past_counter, links::narrow(block[2]))
+}
+
+// The whole file, from the output's first byte.
+pub fn put_file(block: &[u64], out: &mut [u8]) -> usize
+    requires { ⌜ (is-image rack (now block) ≡ true) × (length (file rack .put (block-in (now block))) ≤ length (now out)) ⌝ }
+    ensures { λ r. ⌜ Stored (now (out .entry)) 0 (file rack .put (block-in (now (block .entry)))) (now (out .exit)) r ⌝ }
+{
+    let past_header = put_header(block, out);
+    put_darts(block, block[2] as usize, out, past_header)
+}
