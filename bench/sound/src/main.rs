@@ -1,4 +1,4 @@
-//! Question 2 on 4,080 darts: the proved version beside the plain one and a copy of the image, medians in µs of one run; then the answers of
+//! Question 2 on 4,080 darts: the proved version beside the plain one and a copy of the image, medians in µs, turn by turn; then the answers of
 //! both on images with one word changed.
 
 use peer::generate::assemble;
@@ -19,20 +19,20 @@ fn proved(words: &[u64]) -> bool {
     unsafe { x_sound(words.as_ptr(), words.len()) }
 }
 
-/// The median of timed runs in µs, the least of three batches.
-fn median(runs: usize, mut run: impl FnMut()) -> f64 {
-    let mut batch = || {
-        let mut times: Vec<f64> = (0..runs)
-            .map(|_| {
-                let start = Instant::now();
-                run();
-                start.elapsed().as_secs_f64() * 1e6
-            })
-            .collect();
+/// The medians in µs of tasks that take turns, so that what the machine does besides hits all alike.
+fn medians<const N: usize>(turns: usize, mut tasks: [&mut dyn FnMut(); N]) -> [f64; N] {
+    let mut times = [(); N].map(|()| Vec::with_capacity(turns));
+    for _ in 0..turns {
+        for (task, times) in tasks.iter_mut().zip(&mut times) {
+            let start = Instant::now();
+            task();
+            times.push(start.elapsed().as_secs_f64() * 1e6);
+        }
+    }
+    times.map(|mut times| {
         times.sort_by(f64::total_cmp);
-        times[runs / 2]
-    };
-    batch().min(batch()).min(batch())
+        times[turns / 2]
+    })
 }
 
 /// A block of sewn hexahedra; serials along the darts or shuffled.
@@ -63,7 +63,14 @@ fn critical(mut block: Block, wanted: usize, label: impl Fn(u32) -> u32) -> Bloc
     block
 }
 
+/// Numbers of labels whose search starts in one and the same slot, so that it gives up and the sort decides.
+fn crowded() -> Vec<u32> {
+    let slot = |key: u64| (key % (1 << 32) * 2246822519 / 524288 % 8192 + (key >> 32) * 2654435769 / 524288 % 8192) % 8192;
+    (0u32..).filter(|number| slot(((3 << 32) + u64::from(*number)) << 12) == 0).take(1024).collect()
+}
+
 fn main() {
+    let crowded = crowded();
     for shuffled in [false, true] {
         let few = hexahedra(shuffled);
         let cases = [
@@ -71,24 +78,30 @@ fn main() {
             ("4 critical", critical(few.clone(), 1, |n| n)),
             ("all critical", critical(few.clone(), usize::MAX, |n| n)),
             ("all critical, labels mixed", critical(few.clone(), usize::MAX, |n| n * 619 % 1021)),
-            ("all critical, numbers of 32 bits", critical(few, usize::MAX, |n| n.wrapping_mul(2654435761))),
+            ("all critical, numbers of 32 bits", critical(few.clone(), usize::MAX, |n| n.wrapping_mul(2654435761))),
+            ("all critical, labels that crowd", critical(few, usize::MAX, |n| crowded[n as usize])),
         ];
         for (what, block) in &cases {
             let words = image::encode(block);
             assert!(plain::is_sound(&words) && proved(&words));
-            let fast = median(2001, || assert!(plain::is_sound(black_box(&words))));
-            let ours = median(2001, || assert!(proved(black_box(&words))));
+            let mut copy = words.clone();
+            let [fast, ours, copied] = medians(
+                4001,
+                [
+                    &mut || assert!(plain::is_sound(black_box(&words))),
+                    &mut || assert!(proved(black_box(&words))),
+                    &mut || {
+                        copy.copy_from_slice(black_box(&words));
+                        black_box(&copy);
+                    },
+                ],
+            );
             let order = if shuffled { "shuffled" } else { "in order" };
-            println!("{order}, {what:34} plain {fast:7.2}, proved {ours:7.2}, ratio {:5.2}", ours / fast);
+            println!("{order}, {what:34} plain {fast:7.2}, proved {ours:7.2}, ratio {:5.2}, copy {copied:6.2}, ratio {:5.2}", ours / fast, ours / copied);
         }
     }
     let words = image::encode(&critical(hexahedra(false), usize::MAX, |n| n));
     let mut copy = words.clone();
-    let copied = median(2001, || {
-        copy.copy_from_slice(black_box(&words));
-        black_box(&copy);
-    });
-    println!("copy of an image {copied:.2}");
     let mut rng = Rng::new(7);
     let mut refused = 0;
     let rounds = 100_000;
