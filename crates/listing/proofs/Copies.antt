@@ -1,13 +1,13 @@
 -- Bytes put one after another: one byte, a text, and how far a stored value reaches. Assumes nothing.
-use mathlib.Core.Path.{_≡_, refl, sym, _∙_, ap}
-use mathlib.Core.List.{List, [], _∷_, _++_, append-assoc}
-use Prim.Native.Nat.{ℕ, suc, _+_, _≤_, _<_}
+use mathlib.Core.Path.{_≡_, refl, _∙_, ap}
+use mathlib.Core.List.{List, [], _∷_, _++_}
+use Prim.Native.Nat.{ℕ, _+_, _≤_, _<_}
 use native.Mathlib.Numerals.{add-one}
 use native.Mathlib.Omega.{arith}
 use lib.ListN.{length, getD, take, drop, set}
 use lib.Seq.{take-suc, take-all, sets-eq}
 use Rattle.groups.specs.Slices.{Stored}
-use Rattle.groups.proofs.Writing.{stored-none, stored-then, stored-length}
+use Rattle.groups.proofs.Writing.{stored-then, stored-length}
 use Rattle.listing.specs.Printed.{Printed}
 
 pub stored-byte : (l : List ℕ) (at b : ℕ) → Stored l at (b ∷ []) (set l at b) (at + 1)
