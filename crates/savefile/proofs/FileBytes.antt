@@ -3,7 +3,7 @@
 use mathlib.Core.Path.{_≡_, refl, sym, _∙_, ap}
 use mathlib.Core.Logic.{⊎-elim}
 use mathlib.Core.List.{List, [], _∷_, _++_, append-assoc, append-nil}
-use Prim.Native.Nat.{ℕ, suc, _+_, _*_, _/_, _%_, _^_, _≤_, _<_}
+use Prim.Native.Nat.{ℕ, _+_, _*_, _/_, _%_, _≤_, _<_}
 use native.Mathlib.Omega.{arith}
 use lib.Dec.{eqb}
 use lib.ListN.{length, getD, length-append}
@@ -67,7 +67,7 @@ third-most k a s = ⊎-elim
     (eq-or-ne (k % 4) 0)
 
 -- DARTS
-third-is : (m : List ℕ) (p : ℕ) → third-in (column m 0) (column m 3 p) (column m 4 p) ≡ third-in (λ x. x) (column m 3 p) (third-named m p)
+pub third-is : (m : List ℕ) (p : ℕ) → third-in (column m 0) (column m 3 p) (column m 4 p) ≡ third-in (λ x. x) (column m 3 p) (third-named m p)
 unfolding third-in third-named
 third-is m p = by-cases (eqb (column m 3 p % 4) 1) (λ e. rw e) (λ e. rw e)
 

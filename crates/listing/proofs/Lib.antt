@@ -1,0 +1,4 @@
+pub mod Digits
+pub mod Copies
+pub mod LineTexts
+pub mod Listed

@@ -1,0 +1,59 @@
+-- `listing::lines::put_darts` meets its contract: the lines below i are stored, up to past; each has at most 60 bytes.
+-- Assumes nothing.
+use Prim.Native.Nat.{_-_}
+use Rattle.groups.proofs.Writing.{stored-length}
+use Rattle.model.specs.Listing.{dart-line}
+use Rattle.savefile.proofs.Pieces.{Placing, place-none, place-more, place-all, in-pieces}
+use Rattle.listing.proofs.LineTexts.{dart-text, lines-short, line-room}
+use native.Mathlib.Omega.{arith}
+use borrow.Author.Needs.{needs}
+use Rattle.listing.proofs.lines.put_darts.Statement.{statement}
+use Rattle.listing.proofs.lines.put_darts.Tie as tie
+
+abbrev Inv-loop : tie.InvT-loop
+Inv-loop block n out₀ at past₀ i₀ out past i =
+    Placing (dart-text block) n at out₀ out past i
+
+abbrev μ-loop : tie.MeasureT-loop
+μ-loop block n out₀ at past₀ i₀ out past i =
+    n - i
+
+loop-holds : tie.Need-loop-holds Inv-loop μ-loop
+loop-holds c =
+    place-none (dart-text (c .before .before .args .block .now)) (c .before .before .args .n) (c .before .before .args .at) (c .before .before .args .out .now) (omega (arith, lines-short (c .before .before .pre .0), c .before .before .pre .1))
+
+put-dart-requires : tie.Need-put-dart-requires Inv-loop μ-loop
+put-dart-requires c κs =
+    (c .before .before .before .before .before .pre .0 .each _ (c .before .loop-test .taken), line-room (c .before .before .before .before .before .pre .0) (c .before .before .loop .inv) (c .before .loop-test .taken) (c .before .before .before .before .before .pre .1))
+
+add-i : tie.Need-add-i Inv-loop μ-loop
+add-i c = search needs
+
+loop-less : tie.Need-loop-less Inv-loop μ-loop
+loop-less c = search needs
+
+loop-again : tie.Need-loop-again Inv-loop μ-loop
+loop-again c =
+    place-more (c .before .before .before .before .before .loop .inv) (c .before .before .before .before .loop-test .taken) (c .before .before .put-dart .ensures)
+
+same-length : tie.Need-same-length Inv-loop μ-loop
+same-length c =
+    stored-length (c .before .loop .inv .stored)
+
+returns : tie.Need-returns Inv-loop μ-loop
+returns c =
+    rw (in-pieces dart-line _ _) (place-all (c .before .loop .inv) (c .loop-test .left))
+
+pub put-darts-spec : {M : Type 1} → statement M
+put-darts-spec =
+    tie.close
+    (tie.spec
+    Inv-loop
+    μ-loop
+    loop-holds
+    put-dart-requires
+    add-i
+    loop-less
+    loop-again
+    same-length
+    returns)
