@@ -1,3 +1,4 @@
 pub mod PartLaws
 pub mod Storing
 pub mod Whole
+pub mod Resolving
