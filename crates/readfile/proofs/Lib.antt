@@ -1,3 +1,4 @@
+pub mod Rows
 pub mod PartLaws
 pub mod Storing
 pub mod Whole

@@ -1,17 +1,16 @@
 -- Darts that are read one after the other and stored from the first place on. Assumes nothing.
 use mathlib.Core.Path.{_≡_, refl, sym, ap, _∙_}
 use mathlib.Core.Bool.{Bool, true, false, _&&_}
-use mathlib.Core.List.{List, [], _∷_, _++_, map, append-assoc, append-nil}
+use mathlib.Core.List.{List, [], _∷_, _++_, map, append-nil}
 use mathlib.Core.Option.{Option, none, some, Option·none-ne-some}
 use Prim.Native.Nat.{ℕ, zero, suc, _+_, _*_, _-_, _<_, _≤_}
 use native.Mathlib.Omega.{arith}
 use lib.Dec.{ltb}
-use lib.ListN.{length, take, drop, length-append, length-drop, take-append-drop}
-use lib.Seq.{append-snoc, take-at, drop-append-add, drop-drop, length-take-le}
+use lib.ListN.{length, drop, length-append, length-map}
+use lib.Seq.{append-snoc}
 use borrow.Author.Tests.{lt-ltb, le-ltb}
 use Rattle.laws.proofs.Tests.{by-cases}
 use Rattle.laws.proofs.Members.{map-append}
-use Rattle.model.specs.Lists.{concat}
 use Rattle.model.specs.Values.{Dart}
 use Rattle.model.specs.Cells.{serials}
 use Rattle.model.specs.Layouts.{Read, then, when, such-that, get-all, times}
@@ -21,9 +20,10 @@ use Rattle.memory.specs.declared.record.Record.{Record}
 use Rattle.groups.specs.declared.Read.the-variants as read
 use Rattle.groups.proofs.Ends.{Reads, from-onward, then-some, when-some}
 use Rattle.groups.proofs.Labels.{same-value}
-use Rattle.readfile.specs.Serials.{raw-words, stored-all}
+use Rattle.readfile.specs.Serials.{raw-words, behind, stored-all}
 use Rattle.readfile.specs.Parts.{dart-after, placed-serial, stored, DartStored, climbs, climbing, DartsStored}
 use Rattle.readfile.specs.declared.raw.End.the-variants as end
+use Rattle.readfile.proofs.Rows.{Eights, map-eights, behind-none, behind-length, behind-more}
 use Rattle.readfile.proofs.PartLaws.{Lacks, place-back, dart-ends, DartGot}
 
 -- ONE DART
@@ -85,62 +85,23 @@ stored-lacks {s} {at} {last} w = record { value = go (dart-after last .get (drop
     go none q = refl
     go (some r) q = let z : _≡_ {A = ℕ} 0 1 = cc in absurd (omega arith)
 
--- ROWS of eight words behind the header
-pub put-row : (front rest ws : List ℕ) (p : ℕ) → length front ≡ 8 + p * 8 → put (front ++ rest) p ws ≡ front ++ (ws ++ drop 8 rest)
-put-row front rest ws p l =
-    let past : 16 + p * 8 ≡ length front + 8 = omega arith in
-    rw (take-at front rest (8 + p * 8) l, past, drop-append-add front rest 8)
-
-raw-8 : (d : Dart) → length (raw-words d) ≡ 8
+-- ONE MORE STORED
+pub raw-8 : (d : Dart) → length (raw-words d) ≡ 8
 unfolding raw-words
 raw-8 d = refl
 
-pub raw-rows-length : (ds : List Dart) → length (concat (map raw-words ds)) ≡ length ds * 8
-unfolding concat
-raw-rows-length [] = refl
-raw-rows-length (d ∷ ds) = omega (arith, raw-rows-length ds, raw-8 d, length-append (raw-words d) (concat (map raw-words ds)))
+module _ (m : List ℕ) (ds : List Dart) (h : 8 + length ds * 8 ≤ length m) where
+  eights : Eights (map raw-words ds)
+  eights = map-eights raw-words raw-8 ds
 
-raw-rows-more : (ds : List Dart) (d : Dart) → concat (map raw-words (ds ++ d ∷ [])) ≡ concat (map raw-words ds) ++ raw-words d
-unfolding concat
-raw-rows-more [] d = append-nil (raw-words d)
-raw-rows-more (e ∷ ds) d = ap (λ (l : List ℕ). raw-words e ++ l) (raw-rows-more ds d) ∙ sym (append-assoc (raw-words e) (concat (map raw-words ds)) (raw-words d))
+  rows-fit : 8 + length (map raw-words ds) * 8 ≤ length m
+  rows-fit = omega (arith, length-map ds raw-words)
 
-module _ (m : List ℕ) where
-  abbrev stored-front : List Dart → List ℕ
-  stored-front ds = take 8 m ++ concat (map raw-words ds)
+  stored-length : length (stored-all m ds) ≡ length m
+  stored-length = behind-length m (map raw-words ds) eights rows-fit
 
-  stored-parts : (ds : List Dart) → stored-all m ds ≡ stored-front ds ++ drop (8 + length ds * 8) m
-  unfolding stored-all
-  stored-parts ds = sym (append-assoc (take 8 m) (concat (map raw-words ds)) (drop (8 + length ds * 8) m))
-
-  front-length : (ds : List Dart) → 8 ≤ length m → length (stored-front ds) ≡ 8 + length ds * 8
-  front-length ds h = omega (arith, length-append (take 8 m) (concat (map raw-words ds)), length-take-le 8 m h, raw-rows-length ds)
-
-  pub stored-length : (ds : List Dart) → 8 + length ds * 8 ≤ length m → length (stored-all m ds) ≡ length m
-  stored-length ds h = omega (
-    arith,
-    ap length (stored-parts ds),
-    length-append (stored-front ds) (drop (8 + length ds * 8) m),
-    front-length ds (omega arith),
-    length-drop (8 + length ds * 8) m,
-  )
-
-  pub stored-none : m ≡ stored-all m []
-  unfolding stored-all concat
-  stored-none = sym (take-append-drop 8 m)
-
-  pub stored-more : (ds : List Dart) (d : Dart) (i : ℕ) → length ds ≡ i → 16 + i * 8 ≤ length m → put (stored-all m ds) i (raw-words d) ≡ stored-all m (ds ++ d ∷ [])
-  stored-more ds d i e h =
-      let l = front-length ds (omega arith) in
-      let count = length-append ds (d ∷ []) in
-      let past : 8 + length ds * 8 + 8 ≡ 8 + length (ds ++ d ∷ []) * 8 = omega arith in
-      ap (λ (x : List ℕ). put x i (raw-words d)) (stored-parts ds)
-      ∙ put-row (stored-front ds) (drop (8 + length ds * 8) m) (raw-words d) i (omega arith)
-      ∙ ap (λ (x : List ℕ). stored-front ds ++ (raw-words d ++ x)) (drop-drop 8 (8 + length ds * 8) m)
-      ∙ sym (append-assoc (stored-front ds) (raw-words d) (drop (8 + length ds * 8 + 8) m))
-      ∙ ap (λ (x : List ℕ). x ++ drop (8 + length ds * 8 + 8) m) (append-assoc (take 8 m) (concat (map raw-words ds)) (raw-words d) ∙ ap (λ (x : List ℕ). take 8 m ++ x) (sym (raw-rows-more ds d)))
-      ∙ ap (λ (k : ℕ). stored-front (ds ++ d ∷ []) ++ drop k m) past
-      ∙ sym (stored-parts (ds ++ d ∷ []))
+  stored-more : (d : Dart) (i : ℕ) → length ds ≡ i → put (stored-all m ds) i (raw-words d) ≡ stored-all m (ds ++ d ∷ [])
+  stored-more d i e = behind-more m (map raw-words ds) eights rows-fit (raw-words d) i (length-map ds raw-words ∙ e) ∙ ap (behind m) (sym (map-append raw-words ds (d ∷ [])))
 
 -- THE LOOP
 -- what was read, and then what is read
@@ -191,7 +152,7 @@ fill-start s from n m h =
       i-le = omega arith;
       within = h;
       so-far = rw z (onward-none (get-all a-dart n (drop from s)));
-      memory-is = stored-none m;
+      memory-is = behind-none m;
       ordered = λ ss. refl;
     }
 
@@ -214,7 +175,7 @@ module _ {s : List ℕ} {from n : ℕ} {m x : List ℕ} {i last at : ℕ} (w : F
         i-le = omega arith;
         within = g .reads .within;
         so-far = w .so-far ∙ ap (onward (w .done)) step ∙ onward-more (w .done) (g .dart) (get-all a-dart (n - (i + 1)) (drop next s));
-        memory-is = g .memory-is ∙ ap (λ (y : List ℕ). put y i (raw-words (g .dart))) (w .memory-is) ∙ stored-more m (w .done) (g .dart) i (w .count) (omega arith);
+        memory-is = g .memory-is ∙ ap (λ (y : List ℕ). put y i (raw-words (g .dart))) (w .memory-is) ∙ stored-more m (w .done) (omega (arith, w .count)) (g .dart) i (w .count);
         ordered = λ ss. climbs-on last serial (w .done) (g .dart) ss (w .ordered) (g .serial-is) (g .above);
       }
 

@@ -6,7 +6,7 @@ use mathlib.Core.Option.{Option, none, some, Option·none-ne-some, Option·some-
 use Prim.Native.Nat.{ℕ, zero, suc, _+_, _*_, _-_, _<_, _≤_}
 use native.Mathlib.Omega.{arith}
 use lib.Dec.{leb, ltb}
-use lib.ListN.{length, take, drop, replicate, length-replicate, length-drop}
+use lib.ListN.{length, take, drop, replicate, length-replicate, length-drop, length-map}
 use lib.Seq.{drop-cons, drop-length, drop-at, length-take-le}
 use borrow.Author.Tests.{le-leb, lt-leb, lt-ltb, ltb-true}
 use Rattle.laws.proofs.Tests.{by-cases, and-intro, and-left, and-right}
@@ -22,7 +22,7 @@ use Rattle.memory.specs.Header.{header-words}
 use Rattle.groups.proofs.Ends.{Ends, Reads, then-some, when-some, same-rest}
 use Rattle.groups.proofs.Labels.{same-value}
 use Rattle.columns.proofs.Below.{same-test}
-use Rattle.readfile.specs.Serials.{raw-words, raw, stored-all}
+use Rattle.readfile.specs.Serials.{raw-words, raw, behind, stored-all}
 use Rattle.readfile.specs.Parts.{climbs, climbing, placed-end, DartsStored, RawRead}
 use Rattle.readfile.specs.declared.raw.End.the-variants as end
 use Rattle.readfile.proofs.PartLaws.{Lacks, dependent-lacks, dependent-then-lacks, pair-lacks, pair-then-lacks, as-lacks, dart-ends}
@@ -204,12 +204,13 @@ zeros-length w m e = ap length e ∙ length-replicate w 0
 -- zeros with the darts of a block and its header are the block with serials
 stored-raw : (w : ℕ) (m : List ℕ) (b : Block) → w ≡ words → m ≡ replicate w 0 → length (b .darts) ≤ room
     → header-words (record { number = b .number; counter = b .counter; darts = length (b .darts) }) ++ drop 8 (stored-all m (b .darts)) ≡ raw b
-unfolding stored-all raw
+unfolding behind raw
 stored-raw w m b ew em h =
     let l : length (take 8 m) ≡ 8 = length-take-le 8 m (omega (arith, zeros-length w m em)) in
-    let rest : drop (8 + length (b .darts) * 8) m ≡ replicate ((room - length (b .darts)) * 8) 0 =
-        ap (drop (8 + length (b .darts) * 8)) em ∙ drop-zeros (8 + length (b .darts) * 8) ((room - length (b .darts)) * 8) w (omega arith) in
-    rw (drop-at (take 8 m) (concat (map raw-words (b .darts)) ++ drop (8 + length (b .darts) * 8) m) 8 l, rest) refl
+    let rows = map raw-words (b .darts) in
+    let rest : drop (8 + length rows * 8) m ≡ replicate ((room - length (b .darts)) * 8) 0 =
+        ap (drop (8 + length rows * 8)) em ∙ drop-zeros (8 + length rows * 8) ((room - length (b .darts)) * 8) w (omega (arith, length-map (b .darts) raw-words)) in
+    rw (drop-at (take 8 m) (concat rows ++ drop (8 + length rows * 8) m) 8 l, rest) refl
 
 pub raw-served : {s : List ℕ} {number a counter b n c : ℕ} (p : Reads (at-most 15) s 0 number a) (q : Reads group s a counter b) (r : Reads group s b n c)
     → n ≤ 4096 → (w : ℕ) (m : List ℕ) → w ≡ words → m ≡ replicate w 0 → {x y : List ℕ} {next : ℕ} → DartsStored s c n m x (end.At next) → next ≡ length s

@@ -1,11 +1,12 @@
 -- Places for the serials of links. Assumes nothing.
 use mathlib.Core.Bool.{cond}
-use mathlib.Core.List.{List, [], _∷_, _++_}
-use Prim.Native.Nat.{ℕ, _+_, _*_}
+use mathlib.Core.List.{List, [], _∷_}
+use Prim.Native.Nat.{ℕ}
 use lib.Dec.{eqb}
-use lib.ListN.{getD, take, drop}
-use Rattle.model.specs.Lists.{tab, concat, index-of}
+use lib.ListN.{getD}
+use Rattle.model.specs.Lists.{tab, index-of}
 use Rattle.model.specs.Image.{column}
+use Rattle.readfile.specs.Serials.{behind}
 
 -- a link word: the place of the dart that a sewn one is sewn to
 abbrev pub place-link : List ℕ → ℕ → ℕ → ℕ
@@ -20,8 +21,8 @@ abbrev pub serials-in : List ℕ → List ℕ
 serials-in m = tab (column m 0) (getD m 2 0)
 
 -- the first i darts with places
-unfoldable pub places-below : List ℕ → ℕ → List ℕ
-places-below m i = take 8 m ++ (concat (tab (place-words (serials-in m) m) i) ++ drop (8 + i * 8) m)
+abbrev pub places-below : List ℕ → ℕ → List ℕ
+places-below m i = behind m (tab (place-words (serials-in m) m) i)
 
 abbrev pub resolved : List ℕ → List ℕ
 resolved m = places-below m (getD m 2 0)

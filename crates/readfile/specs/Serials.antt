@@ -1,6 +1,6 @@
 -- A block in memory with serials where its image has places. Assumes nothing.
---   raw-words, raw    the words of a dart, of a block
---   stored-all        darts stored from the first place on
+--   raw-words, raw        the words of a dart, of a block
+--   behind, stored-all    rows, darts stored from the first place on
 use mathlib.Core.List.{List, [], _∷_, _++_, map}
 use Prim.Native.Nat.{ℕ, _+_, _*_, _-_}
 use lib.ListN.{length, take, drop, replicate}
@@ -35,5 +35,9 @@ unfoldable pub raw : Block → List ℕ
 raw b = (b .number ∷ b .counter ∷ length (b .darts) ∷ 0 ∷ 0 ∷ 0 ∷ 0 ∷ 0 ∷ [])
     ++ (concat (map raw-words (b .darts)) ++ replicate ((room - length (b .darts)) * 8) 0)
 
-unfoldable pub stored-all : List ℕ → List Dart → List ℕ
-stored-all m ds = take 8 m ++ (concat (map raw-words ds) ++ drop (8 + length ds * 8) m)
+-- rows of eight words stored in memory, from the first place on
+unfoldable pub behind : List ℕ → List (List ℕ) → List ℕ
+behind m rows = take 8 m ++ (concat rows ++ drop (8 + length rows * 8) m)
+
+abbrev pub stored-all : List ℕ → List Dart → List ℕ
+stored-all m ds = behind m (map raw-words ds)
