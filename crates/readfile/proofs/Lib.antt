@@ -3,3 +3,4 @@ pub mod PartLaws
 pub mod Storing
 pub mod Whole
 pub mod Resolving
+pub mod Imaged

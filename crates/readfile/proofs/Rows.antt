@@ -25,7 +25,7 @@ pub tab-eights : (f : ℕ → List ℕ) → ((k : ℕ) → length (f k) ≡ 8) �
 tab-eights f e zero = tt
 tab-eights f e (suc n) = (e 0, tab-eights (λ k. f (suc k)) (λ k. e (suc k)) n)
 
-rows-length : (rows : List (List ℕ)) → Eights rows → length (concat rows) ≡ length rows * 8
+pub rows-length : (rows : List (List ℕ)) → Eights rows → length (concat rows) ≡ length rows * 8
 unfolding concat
 rows-length [] e = refl
 rows-length (r ∷ rows) e = omega (arith, e .0, rows-length rows (e .1), length-append r (concat rows))

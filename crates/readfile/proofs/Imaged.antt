@@ -1,0 +1,83 @@
+-- A block with serials, resolved, is the block's image. Assumes nothing.
+use mathlib.Core.Path.{_≡_, refl, sym, ap, _∙_}
+use mathlib.Core.List.{List, [], _∷_, _++_, map}
+use Prim.Native.Nat.{ℕ, zero, suc, _+_, _*_, _-_, _<_, _≤_}
+use native.Mathlib.Omega.{arith}
+use native.Mathlib.Nat.{add-assoc}
+use lib.ListN.{length, getD, drop, replicate, length-map}
+use lib.Seq.{drop-append-add, drop-at}
+use borrow.Author.Tests.{ne-eqb}
+use Rattle.laws.proofs.Tables.{length-tab}
+use Rattle.model.specs.Lists.{tab, concat}
+use Rattle.model.specs.Values.{Third, free, sewn, critical, Dart, no-dart, Block}
+use Rattle.model.specs.Cells.{serials}
+use Rattle.model.specs.Image.{room, kind-word, link-word, dart-words, image, column}
+use Rattle.theory.proofs.ImageLaws.{tab-list, getD-serial}
+use Rattle.readfile.specs.Serials.{raw-link, raw-words, raw, behind}
+use Rattle.readfile.specs.Places.{place-link, place-words, serials-in, resolved}
+use Rattle.readfile.proofs.Rows.{Eights, map-eights, rows-length, row-at, headed-at}
+use Rattle.readfile.proofs.Storing.{raw-8}
+
+map-at : {A B : Type 0} (f : A → B) (d : A) (e : B) (l : List A) (p : ℕ) → p < length l → getD (map f l) p e ≡ f (getD l p d)
+map-at f d e [] p h = absurd (omega arith)
+map-at f d e (a ∷ l) zero h = refl
+map-at f d e (a ∷ l) (suc p) h = map-at f d e l p (omega arith)
+
+link-placed : (ss : List ℕ) (t : Third) → place-link ss (kind-word t) (raw-link t) ≡ link-word ss t
+link-placed ss free = refl
+link-placed ss (sewn y) = refl
+link-placed ss (critical o l) = rw (ne-eqb (2 + 4 * o) 1 (λ e. omega arith)) refl
+
+module _ (b : Block) where
+  abbrev ds : List Dart
+  ds = b .darts
+
+  abbrev head : List ℕ
+  head = b .number ∷ b .counter ∷ length (b .darts) ∷ 0 ∷ 0 ∷ 0 ∷ 0 ∷ 0 ∷ []
+
+  abbrev zeros : List ℕ
+  zeros = replicate ((room - length (b .darts)) * 8) 0
+
+  eights : Eights (map raw-words (b .darts))
+  eights = map-eights raw-words raw-8 (b .darts)
+
+  -- THE WORDS
+  pub raw-column : (p f : ℕ) → p < length (b .darts) → f < 8 → column (raw b) f p ≡ getD (raw-words (getD (b .darts) p no-dart)) f 0
+  unfolding raw
+  raw-column p f h k =
+      ap (λ (i : ℕ). getD (head ++ (concat (map raw-words ds) ++ zeros)) i 0) (add-assoc 8 (p * 8) f) ∙ headed-at head (concat (map raw-words ds) ++ zeros) refl (p * 8 + f)
+      ∙ row-at (map raw-words ds) eights zeros p f (omega (arith, length-map ds raw-words)) k ∙ ap (λ (r : List ℕ). getD r f 0) (map-at raw-words no-dart [] ds p h)
+
+  pub raw-count : getD (raw b) 2 0 ≡ length (b .darts)
+  unfolding raw
+  raw-count = refl
+
+  raw-serial : (p : ℕ) → p < length (b .darts) → column (raw b) 0 p ≡ getD (b .darts) p no-dart .serial
+  unfolding raw-words
+  raw-serial p h = raw-column p 0 h (omega arith)
+
+  pub raw-serials : serials-in (raw b) ≡ serials (b .darts)
+  raw-serials = ap (tab (column (raw b) 0)) (raw-count ∙ sym (length-map ds (λ (d : Dart). d .serial))) ∙ tab-list 0 (serials ds) (column (raw b) 0)
+      (λ p h. let k : p < length ds = omega (arith, length-map ds (λ (d : Dart). d .serial)) in raw-serial p k ∙ sym (getD-serial ds p))
+
+  words-placed : (p : ℕ) → p < length (b .darts) → place-words (serials-in (raw b)) (raw b) p ≡ dart-words (serials (b .darts)) (getD (b .darts) p no-dart)
+  unfolding place-words dart-words raw-words
+  words-placed p h =
+      rw (raw-serials, raw-column p 0 h (omega arith), raw-column p 1 h (omega arith), raw-column p 2 h (omega arith), raw-column p 3 h (omega arith), raw-column p 4 h (omega arith),
+      raw-column p 5 h (omega arith), raw-column p 6 h (omega arith), raw-column p 7 h (omega arith), link-placed (serials ds) (getD ds p no-dart .third)) refl
+
+  -- THE WHOLE
+  behind-raw : (rows : List (List ℕ)) → length rows ≡ length (b .darts) → behind (raw b) rows ≡ head ++ (concat rows ++ zeros)
+  unfolding behind raw
+  behind-raw rows e = ap (λ (l : List ℕ). head ++ (concat rows ++ l))
+      (drop-append-add head (concat (map raw-words ds) ++ zeros) (length rows * 8)
+      ∙ drop-at (concat (map raw-words ds)) zeros (length rows * 8) (omega (arith, rows-length (map raw-words ds) eights, length-map ds raw-words)))
+
+  pub resolved-raw : resolved (raw b) ≡ image b
+  unfolding image
+  resolved-raw =
+      let rows : tab (place-words (serials-in (raw b)) (raw b)) (getD (raw b) 2 0) ≡ map (dart-words (serials ds)) ds =
+          ap (tab (place-words (serials-in (raw b)) (raw b))) (raw-count ∙ sym (length-map ds (dart-words (serials ds))))
+          ∙ tab-list [] (map (dart-words (serials ds)) ds) (place-words (serials-in (raw b)) (raw b))
+          (λ p h. let k : p < length ds = omega (arith, length-map ds (dart-words (serials ds))) in words-placed p k ∙ sym (map-at (dart-words (serials ds)) no-dart [] ds p k)) in
+      ap (behind (raw b)) rows ∙ behind-raw (map (dart-words (serials ds)) ds) (length-map ds (dart-words (serials ds)))
