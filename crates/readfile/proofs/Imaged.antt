@@ -1,19 +1,31 @@
--- A block with serials, resolved, is the block's image. Assumes nothing.
+-- A block with serials, resolved, is the block's image; so a file becomes the image of the block that it holds. Assumes nothing.
 use mathlib.Core.Path.{_≡_, refl, sym, ap, _∙_}
+use mathlib.Core.Bool.{Bool, true, false, true≢false, not}
 use mathlib.Core.List.{List, [], _∷_, _++_, map}
+use mathlib.Core.Option.{Option, none, some, Option·none-ne-some}
 use Prim.Native.Nat.{ℕ, zero, suc, _+_, _*_, _-_, _<_, _≤_}
 use native.Mathlib.Omega.{arith}
 use native.Mathlib.Nat.{add-assoc}
-use lib.ListN.{length, getD, drop, replicate, length-map}
+use lib.ListN.{length, getD, drop, replicate, length-append, length-replicate, length-map}
 use lib.Seq.{drop-append-add, drop-at}
-use borrow.Author.Tests.{ne-eqb}
-use Rattle.laws.proofs.Tables.{length-tab}
-use Rattle.model.specs.Lists.{tab, concat}
-use Rattle.model.specs.Values.{Third, free, sewn, critical, Dart, no-dart, Block}
+use borrow.Author.Tests.{ne-eqb, lt-ltb, not-true, not-false}
+use Rattle.laws.specs.Order.{Ascending}
+use Rattle.laws.proofs.Tests.{and-intro}
+use Rattle.laws.proofs.Tables.{ascending-tab}
+use Rattle.model.specs.Lists.{tab, concat, ascending, is-some}
+use Rattle.model.specs.Values.{Third, free, sewn, critical, Dart, no-dart, Block, rack}
 use Rattle.model.specs.Cells.{serials}
-use Rattle.model.specs.Image.{room, kind-word, link-word, dart-words, image, column}
-use Rattle.theory.proofs.ImageLaws.{tab-list, getD-serial}
+use Rattle.model.specs.Sound.{ranges-right}
+use Rattle.model.specs.Layouts.{whole}
+use Rattle.model.specs.Messages.{file}
+use Rattle.model.specs.Image.{room, words, kind-word, link-word, dart-words, image, column}
+use Rattle.model.specs.Demands.{Bytes}
+use Rattle.theory.proofs.LayoutLaws.{whole-only}
+use Rattle.theory.proofs.FileLaws.{file-lawful}
+use Rattle.theory.proofs.DemandTwo.{ok-ranges}
+use Rattle.theory.proofs.ImageLaws.{tab-list, getD-serial, ranges-of}
 use Rattle.readfile.specs.Serials.{raw-link, raw-words, raw, behind}
+use Rattle.readfile.specs.Parts.{RawRead, ImageRead}
 use Rattle.readfile.specs.Places.{place-link, place-words, serials-in, resolved}
 use Rattle.readfile.proofs.Rows.{Eights, map-eights, rows-length, row-at, headed-at}
 use Rattle.readfile.proofs.Storing.{raw-8}
@@ -81,3 +93,62 @@ module _ (b : Block) where
           ∙ tab-list [] (map (dart-words (serials ds)) ds) (place-words (serials-in (raw b)) (raw b))
           (λ p h. let k : p < length ds = omega (arith, length-map ds (dart-words (serials ds))) in words-placed p k ∙ sym (map-at (dart-words (serials ds)) no-dart [] ds p k)) in
       ap (behind (raw b)) rows ∙ behind-raw (map (dart-words (serials ds)) ds) (length-map ds (dart-words (serials ds)))
+
+  -- a block in range, with serials, is ready to be resolved
+  pub raw-length : length (b .darts) ≤ room → length (raw b) ≡ words
+  unfolding raw
+  raw-length h = omega (
+    arith,
+    length-append (concat (map raw-words ds)) zeros,
+    rows-length (map raw-words ds) eights,
+    length-map ds raw-words,
+    length-replicate {A = ℕ} ((room - length ds) * 8) 0,
+  )
+
+  pub raw-ascends : ascending (serials (b .darts)) ≡ true → Ascending (getD (raw b) 2 0) (column (raw b) 0)
+  raw-ascends e = ascending-tab (column (raw b) 0) (getD (raw b) 2 0) (ap ascending raw-serials ∙ e)
+
+-- QUESTION 3
+pub bytes-are : (s : List ℕ) → ((i : ℕ) → getD s i 0 < 256) → Bytes s
+bytes-are [] h = refl
+bytes-are (x ∷ s) h = and-intro (lt-ltb x 256 (h 0)) (bytes-are s (λ i. h (suc i)))
+
+-- the ranges of a block that a file holds
+pub file-ranges : (s : List ℕ) → Bytes s → (b : Block) → whole (file rack) s ≡ some b → ranges-right rack b ≡ true
+file-ranges s h b e = ok-ranges rack b (whole-only (file rack) (file-lawful rack) s b h e .1)
+
+some-block : (o : Option Block) → true ≡ is-some o → (b : Block) × (o ≡ some b)
+some-block none e = absurd (true≢false e)
+some-block (some b) e = (b, refl)
+
+no-block : (o : Option Block) → false ≡ is-some o → o ≡ none
+no-block none e = refl
+no-block (some b) e = absurd (true≢false (sym e))
+
+pub record Ready (m : List ℕ) : Type 0 where
+  pub length-is : length m ≡ words
+  pub few : getD m 2 0 ≤ room
+  pub ascends : Ascending (getD m 2 0) (column m 0)
+
+module _ {s m : List ℕ} {r : Bool} (w : RawRead s m r) where
+  pub image-refused : not r ≡ true → ImageRead s m false
+  image-refused e =
+      let q : false ≡ is-some (whole (file rack) s) = sym (not-true r e) ∙ w .answer in
+      record { answer = q; memory = λ b k. absurd (Option·none-ne-some b (sym (no-block (whole (file rack) s) q) ∙ k)) }
+
+  module _ (e : not r ≡ false) where
+    held : (b : Block) × (whole (file rack) s ≡ some b)
+    held = some-block (whole (file rack) s) (sym (not-false r e) ∙ w .answer)
+
+    pub raw-ready : Bytes s → Ready m
+    raw-ready h =
+        let b = held .0 in
+        let ranges = ranges-of rack b (file-ranges s h b (held .1)) in
+        rw (w .memory b (held .1)) (record {
+          length-is = raw-length b (ranges .few-darts);
+          few = rw (raw-count b) (ranges .few-darts);
+          ascends = raw-ascends b (ranges .in-order);
+        })
+
+    pub image-served : {after : List ℕ} → after ≡ resolved m → ImageRead s after true
+    image-served f = record { answer = sym (not-false r e) ∙ w .answer; memory = λ b k. f ∙ ap resolved (w .memory b k) ∙ resolved-raw b }
