@@ -11,6 +11,7 @@ use lib.Seq.{drop-append-add, drop-at}
 use borrow.Author.Tests.{ne-eqb, lt-ltb, not-true, not-false}
 use Rattle.laws.specs.Order.{Ascending}
 use Rattle.laws.proofs.Tests.{and-intro}
+use Rattle.laws.proofs.Maps.{map-at}
 use Rattle.laws.proofs.Tables.{ascending-tab}
 use Rattle.model.specs.Lists.{tab, concat, ascending, is-some}
 use Rattle.model.specs.Values.{Third, free, sewn, critical, Dart, no-dart, Block, rack}
@@ -29,11 +30,6 @@ use Rattle.readfile.specs.Parts.{RawRead, ImageRead}
 use Rattle.readfile.specs.Places.{place-link, place-words, serials-in, resolved}
 use Rattle.readfile.proofs.Rows.{Eights, map-eights, rows-length, row-at, headed-at}
 use Rattle.readfile.proofs.Storing.{raw-8}
-
-map-at : {A B : Type 0} (f : A → B) (d : A) (e : B) (l : List A) (p : ℕ) → p < length l → getD (map f l) p e ≡ f (getD l p d)
-map-at f d e [] p h = absurd (omega arith)
-map-at f d e (a ∷ l) zero h = refl
-map-at f d e (a ∷ l) (suc p) h = map-at f d e l p (omega arith)
 
 link-placed : (ss : List ℕ) (t : Third) → place-link ss (kind-word t) (raw-link t) ≡ link-word ss t
 link-placed ss free = refl

@@ -4,3 +4,4 @@ pub mod Storing
 pub mod Whole
 pub mod Resolving
 pub mod Imaged
+pub mod Unheld

@@ -10,6 +10,7 @@ use borrow.Author.Tests.{eq-eqb, ne-eqb}
 use Rattle.laws.specs.Order.{Ascending}
 use Rattle.laws.proofs.Tables.{length-tab, getD-tab, tab-cong, index-place, index-none}
 use Rattle.laws.proofs.Tests.{lt-or-ge}
+use Rattle.laws.proofs.Maps.{tab-more}
 use Rattle.model.specs.Lists.{tab, index-of}
 use Rattle.model.specs.Image.{column}
 use Rattle.memory.specs.Record.{record-in, record-words, put}
@@ -53,10 +54,6 @@ unfolding place-words
 words-8 ss m p = refl
 
 -- THE LOOP: the first i darts have places
-tab-more : {A : Type 0} (f : ℕ → A) (n : ℕ) → tab f n ++ f n ∷ [] ≡ tab f (suc n)
-tab-more f zero = refl
-tab-more f (suc n) = ap (λ (l : List _). f 0 ∷ l) (tab-more (λ k. f (suc k)) n)
-
 pub record Placing (m x : List ℕ) (i : ℕ) : Type 0 where
   pub i-le : i ≤ getD m 2 0
   pub memory-is : x ≡ places-below m i
