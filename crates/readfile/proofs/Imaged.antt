@@ -113,7 +113,7 @@ bytes-are (x ∷ s) h = and-intro (lt-ltb x 256 (h 0)) (bytes-are s (λ i. h (su
 pub file-ranges : (s : List ℕ) → Bytes s → (b : Block) → whole (file rack) s ≡ some b → ranges-right rack b ≡ true
 file-ranges s h b e = ok-ranges rack b (whole-only (file rack) (file-lawful rack) s b h e .1)
 
-some-block : (o : Option Block) → true ≡ is-some o → (b : Block) × (o ≡ some b)
+pub some-block : (o : Option Block) → true ≡ is-some o → (b : Block) × (o ≡ some b)
 some-block none e = absurd (true≢false e)
 some-block (some b) e = (b, refl)
 

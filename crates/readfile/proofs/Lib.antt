@@ -5,3 +5,4 @@ pub mod Whole
 pub mod Resolving
 pub mod Imaged
 pub mod Unheld
+pub mod Answered
