@@ -3,10 +3,10 @@ use mathlib.Core.Path.{_≡_, refl, sym, ap, _∙_}
 use mathlib.Core.Bool.{Bool, true, false, true≢false, not}
 use mathlib.Core.List.{List, [], _∷_, _++_, map}
 use mathlib.Core.Option.{Option, none, some, Option·none-ne-some}
-use Prim.Native.Nat.{ℕ, zero, suc, _+_, _*_, _-_, _<_, _≤_}
+use Prim.Native.Nat.{ℕ, suc, _+_, _*_, _-_, _<_, _≤_}
 use native.Mathlib.Omega.{arith}
 use native.Mathlib.Nat.{add-assoc}
-use lib.ListN.{length, getD, drop, replicate, length-append, length-replicate, length-map}
+use lib.ListN.{length, getD, replicate, length-append, length-replicate, length-map}
 use lib.Seq.{drop-append-add, drop-at}
 use borrow.Author.Tests.{ne-eqb, lt-ltb, not-true, not-false}
 use Rattle.laws.specs.Order.{Ascending}
@@ -71,8 +71,18 @@ module _ (b : Block) where
   words-placed : (p : ℕ) → p < length (b .darts) → place-words (serials-in (raw b)) (raw b) p ≡ dart-words (serials (b .darts)) (getD (b .darts) p no-dart)
   unfolding place-words dart-words raw-words
   words-placed p h =
-      rw (raw-serials, raw-column p 0 h (omega arith), raw-column p 1 h (omega arith), raw-column p 2 h (omega arith), raw-column p 3 h (omega arith), raw-column p 4 h (omega arith),
-      raw-column p 5 h (omega arith), raw-column p 6 h (omega arith), raw-column p 7 h (omega arith), link-placed (serials ds) (getD ds p no-dart .third)) refl
+      rw (
+        raw-serials,
+        raw-column p 0 h (omega arith),
+        raw-column p 1 h (omega arith),
+        raw-column p 2 h (omega arith),
+        raw-column p 3 h (omega arith),
+        raw-column p 4 h (omega arith),
+        raw-column p 5 h (omega arith),
+        raw-column p 6 h (omega arith),
+        raw-column p 7 h (omega arith),
+        link-placed (serials ds) (getD ds p no-dart .third),
+      ) refl
 
   -- THE WHOLE
   behind-raw : (rows : List (List ℕ)) → length rows ≡ length (b .darts) → behind (raw b) rows ≡ head ++ (concat rows ++ zeros)
@@ -85,9 +95,9 @@ module _ (b : Block) where
   unfolding image
   resolved-raw =
       let rows : tab (place-words (serials-in (raw b)) (raw b)) (getD (raw b) 2 0) ≡ map (dart-words (serials ds)) ds =
-          ap (tab (place-words (serials-in (raw b)) (raw b))) (raw-count ∙ sym (length-map ds (dart-words (serials ds))))
-          ∙ tab-list [] (map (dart-words (serials ds)) ds) (place-words (serials-in (raw b)) (raw b))
-          (λ p h. let k : p < length ds = omega (arith, length-map ds (dart-words (serials ds))) in words-placed p k ∙ sym (map-at (dart-words (serials ds)) no-dart [] ds p k)) in
+      ap (tab (place-words (serials-in (raw b)) (raw b))) (raw-count ∙ sym (length-map ds (dart-words (serials ds))))
+      ∙ tab-list [] (map (dart-words (serials ds)) ds) (place-words (serials-in (raw b)) (raw b))
+      (λ p h. let k : p < length ds = omega (arith, length-map ds (dart-words (serials ds))) in words-placed p k ∙ sym (map-at (dart-words (serials ds)) no-dart [] ds p k)) in
       ap (behind (raw b)) rows ∙ behind-raw (map (dart-words (serials ds)) ds) (length-map ds (dart-words (serials ds)))
 
   -- a block in range, with serials, is ready to be resolved

@@ -2,9 +2,9 @@
 --   dependent-reads, pair-reads, as-reads, .. -lacks    layouts one after the other
 --   third-got, point-got, dart-got    what an answer tells; third-lacks, point-lacks, dart-lacks    of no answer
 use mathlib.Core.Path.{_≡_, refl, sym, ap, _∙_}
-use mathlib.Core.List.{List, _∷_}
+use mathlib.Core.List.{List}
 use mathlib.Core.Option.{Option, none, some, Option·none-ne-some}
-use Prim.Native.Nat.{ℕ, zero, suc, _+_, _*_, _-_, _<_, _≤_}
+use Prim.Native.Nat.{ℕ, zero, suc, _+_, _*_, _-_, _≤_}
 use native.Mathlib.Omega.{arith}
 use lib.ListN.{length, drop, length-drop}
 use Rattle.model.specs.Values.{Point, Label, Third, free, sewn, critical, Dart, code}

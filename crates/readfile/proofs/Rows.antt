@@ -94,7 +94,7 @@ module _ (m : List ℕ) (rows : List (List ℕ)) (e : Eights rows) (h : 8 + leng
       let past : 16 + p * 8 ≡ length front + 8 = omega (arith, front-length) in
       let on : 8 + length rows * 8 + 8 ≡ 8 + length (rows ++ r ∷ []) * 8 = omega (arith, length-append rows (r ∷ [])) in
       let stored : put (front ++ drop (8 + length rows * 8) m) p r ≡ front ++ (r ++ drop 8 (drop (8 + length rows * 8) m)) =
-          rw (take-at front (drop (8 + length rows * 8) m) (8 + p * 8) (omega (arith, front-length)), past, drop-append-add front (drop (8 + length rows * 8) m) 8) in
+      rw (take-at front (drop (8 + length rows * 8) m) (8 + p * 8) (omega (arith, front-length)), past, drop-append-add front (drop (8 + length rows * 8) m) 8) in
       ap (λ (x : List ℕ). put x p r) parts ∙ stored
       ∙ ap (λ (x : List ℕ). front ++ (r ++ x)) (drop-drop 8 (8 + length rows * 8) m ∙ ap (λ (k : ℕ). drop k m) on)
       ∙ append-assoc (take 8 m) (concat rows) (r ++ drop (8 + length (rows ++ r ∷ []) * 8) m)

@@ -1,9 +1,9 @@
 -- Darts that are read one after the other and stored from the first place on. Assumes nothing.
 use mathlib.Core.Path.{_≡_, refl, sym, ap, _∙_}
-use mathlib.Core.Bool.{Bool, true, false, _&&_}
+use mathlib.Core.Bool.{true, false}
 use mathlib.Core.List.{List, [], _∷_, _++_, map, append-nil}
 use mathlib.Core.Option.{Option, none, some, Option·none-ne-some}
-use Prim.Native.Nat.{ℕ, zero, suc, _+_, _*_, _-_, _<_, _≤_}
+use Prim.Native.Nat.{ℕ, suc, _+_, _*_, _-_, _<_, _≤_}
 use native.Mathlib.Omega.{arith}
 use lib.Dec.{ltb}
 use lib.ListN.{length, drop, length-append, length-map}
@@ -168,7 +168,7 @@ module _ {s : List ℕ} {from n : ℕ} {m x : List ℕ} {i last at : ℕ} (w : F
   fill-more more h {after} {serial} {next} k =
       let g = stored-got k in
       let step : get-all a-dart (n - i) (drop at s) ≡ then (get-all a-dart (n - (i + 1)) (drop next s)) (λ ds rest. some (g .dart ∷ ds, rest)) =
-          one-fewer more (drop at s) ∙ rw (g .reads .value) refl in
+      one-fewer more (drop at s) ∙ rw (g .reads .value) refl in
       record {
         done = w .done ++ g .dart ∷ [];
         count = omega (arith, w .count, length-append (w .done) (g .dart ∷ []));

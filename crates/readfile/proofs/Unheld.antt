@@ -1,21 +1,20 @@
 -- Links that are not held: the block read back from an image has 0 for them, and is asked questions 4 to 8 with the same answers.
 -- Assumes nothing.
 use mathlib.Core.Path.{_≡_, refl, sym, ap, _∙_, fun-ext}
-use mathlib.Core.Bool.{Bool, true, false, true≢false, cond, not, _&&_}
+use mathlib.Core.Bool.{Bool, true, false, true≢false, cond, _&&_}
 use mathlib.Core.List.{List, [], _∷_, map}
 use mathlib.Core.Option.{Option, none, some, Option·map}
-use Prim.Native.Nat.{ℕ, _+_, _*_, _<_, _≤_}
+use Prim.Native.Nat.{ℕ, _+_, _*_, _<_}
 use native.Mathlib.Omega.{arith}
 use lib.Dec.{leb, ltb, eqb}
 use lib.ListN.{length, getD, length-map}
-use borrow.Author.Tests.{leb-true}
 use Rattle.laws.proofs.Tests.{by-cases, and-intro, and-left, and-right, all-at, find-map}
-use Rattle.laws.proofs.Members.{all-in, all-map, any-map, map-map}
+use Rattle.laws.proofs.Members.{all-in, all-map, any-map}
 use Rattle.laws.proofs.Maps.{all-weaken, map-where, map-at, map-self, index-absent}
-use Rattle.model.specs.Lists.{all, any, mem, tab, find, index-of, first-no, Check}
+use Rattle.model.specs.Lists.{all, any, mem, tab, find, index-of, first-no}
 use Rattle.model.specs.Values.{Third, free, sewn, critical, Dart, no-dart, or-no-dart, Block, rack, serial-bound, finite, with-third}
-use Rattle.model.specs.Cells.{serials, held, dart-at, opposite-in, third-at}
-use Rattle.model.specs.Sound.{third-in-range, dart-in-range, ranges-right, coordinates-finite, link-right, links-right, third-right, thirds-right, labels-right, points-agree, block-checks, sewn-along}
+use Rattle.model.specs.Cells.{serials, held, dart-at, opposite-in}
+use Rattle.model.specs.Sound.{third-in-range, dart-in-range, ranges-right, coordinates-finite, link-right, links-right, third-right, thirds-right, labels-right, points-agree, block-checks}
 use Rattle.model.specs.Image.{kind-word, link-word, dart-words, image, column, third-in, dart-in, block-in}
 use Rattle.theory.proofs.ImageLaws.{tab-list, column-is, ranges-of, links-held, serial-back, third-back}
 use Rattle.columns.proofs.Below.{same-test}
@@ -83,8 +82,8 @@ module _ (b : Block) where
   unfolding image
   read-clipped r =
       let darts : tab (dart-in (image b)) (length ds) ≡ clipped = ap (tab (dart-in (image b))) (sym (length-map ds (clip-dart ds)))
-          ∙ tab-list no-dart clipped (dart-in (image b)) (λ p h. let k : p < length ds = omega (arith, length-map ds (clip-dart ds)) in
-          clipped-dart p k (in-range r p k) ∙ sym (map-at (clip-dart ds) no-dart no-dart ds p k)) in
+      ∙ tab-list no-dart clipped (dart-in (image b)) (λ p h. let k : p < length ds = omega (arith, length-map ds (clip-dart ds)) in
+      clipped-dart p k (in-range r p k) ∙ sym (map-at (clip-dart ds) no-dart no-dart ds p k)) in
       ap (λ (l : List Dart). record { number = b .number; counter = b .counter; darts = l }) darts
 
 -- QUESTION 4

@@ -1,13 +1,13 @@
 -- Question 3: the parts of a file that are read one after the other make the whole, and the memory is filled with it. Assumes nothing.
 use mathlib.Core.Path.{_≡_, refl, sym, ap, _∙_}
-use mathlib.Core.Bool.{Bool, true, false, _&&_}
+use mathlib.Core.Bool.{true, false, _&&_}
 use mathlib.Core.List.{List, [], _∷_, _++_, map}
-use mathlib.Core.Option.{Option, none, some, Option·none-ne-some, Option·some-injective}
+use mathlib.Core.Option.{none, some, Option·none-ne-some, Option·some-injective}
 use Prim.Native.Nat.{ℕ, zero, suc, _+_, _*_, _-_, _<_, _≤_}
 use native.Mathlib.Omega.{arith}
 use lib.Dec.{leb, ltb}
 use lib.ListN.{length, take, drop, replicate, length-replicate, length-drop, length-map}
-use lib.Seq.{drop-cons, drop-length, drop-at, length-take-le}
+use lib.Seq.{drop-at, length-take-le}
 use borrow.Author.Tests.{le-leb, lt-leb, lt-ltb, ltb-true}
 use Rattle.laws.proofs.Tests.{by-cases, and-intro, and-left, and-right}
 use Rattle.laws.proofs.Members.{all-map}
@@ -209,7 +209,7 @@ stored-raw w m b ew em h =
     let l : length (take 8 m) ≡ 8 = length-take-le 8 m (omega (arith, zeros-length w m em)) in
     let rows = map raw-words (b .darts) in
     let rest : drop (8 + length rows * 8) m ≡ replicate ((room - length (b .darts)) * 8) 0 =
-        ap (drop (8 + length rows * 8)) em ∙ drop-zeros (8 + length rows * 8) ((room - length (b .darts)) * 8) w (omega (arith, length-map (b .darts) raw-words)) in
+    ap (drop (8 + length rows * 8)) em ∙ drop-zeros (8 + length rows * 8) ((room - length (b .darts)) * 8) w (omega (arith, length-map (b .darts) raw-words)) in
     rw (drop-at (take 8 m) (concat rows ++ drop (8 + length rows * 8) m) 8 l, rest) refl
 
 pub raw-served : {s : List ℕ} {number a counter b n c : ℕ} (p : Reads (at-most 15) s 0 number a) (q : Reads group s a counter b) (r : Reads group s b n c)
@@ -219,6 +219,6 @@ raw-served {s} {number} {a} {counter} {b} {n} {c} p q r h w m ew em {x} {y} {nex
     let t = all-read p q r h (k .answer) e in
     let whole-block : Block = record { number = number; counter = counter; darts = t .darts } in
     let filled : y ≡ raw whole-block = f ∙ ap (λ (i : ℕ). header-words (record { number = number; counter = counter; darts = i }) ++ drop 8 x) (sym (t .count))
-        ∙ ap (λ (l : List ℕ). header-words (record { number = number; counter = counter; darts = length (t .darts) }) ++ drop 8 l) (k .memory (t .darts) (t .rest) (t .value))
-        ∙ stored-raw w m whole-block ew em (omega (arith, t .count)) in
+    ∙ ap (λ (l : List ℕ). header-words (record { number = number; counter = counter; darts = length (t .darts) }) ++ drop 8 l) (k .memory (t .darts) (t .rest) (t .value))
+    ∙ stored-raw w m whole-block ew em (omega (arith, t .count)) in
     record { answer = rw (t .whole-is); memory = λ d g. filled ∙ ap raw (Option·some-injective whole-block d (sym (t .whole-is) ∙ g)) }

@@ -8,9 +8,11 @@ ghost use Rattle.model.specs.Calls.{read-file};
 ghost use Rattle.answers.specs.Answers.{answer-of, answered, Gives};
 ghost use Rattle.columns.specs.Columns.{Ranged};
 ghost use Rattle.readfile.specs.Parts.{ImageRead};
+
 mod dart; // dart.rt: one dart of a file
 mod raw; // raw.rt: the whole file, with serials where memory has places
 mod place; // place.rt: places for the serials
+
 use answers::Answer;
 use answers::Refusal;
 use memory::header::Header;

@@ -1,74 +1,58 @@
+-- `readfile::read_file` meets its contract: each answer is that of the first question that is answered no.
+-- Assumes nothing.
 use mathlib.Core.Path.{refl, sym, ap, _∙_}
 use Rattle.answers.specs.Answers.{answer-of}
 use Rattle.readfile.proofs.Imaged.{bytes-are}
 use Rattle.readfile.proofs.Answered.{size-refused, layout-refused, image-long, image-ranged, block-refused, block-served}
-use native.Mathlib.Omega.{arith}
 use borrow.Author.Needs.{needs}
 use Rattle.readfile.proofs.read_file.Statement.{statement}
 use Rattle.readfile.proofs.read_file.Tie as tie
-use Rattle.readfile.proofs.read_file.Reads as reads
-use Rattle.readfile.proofs.read_file.Lts as lts
-use Rattle.readfile.proofs.block_answer.Reads as block-answer-reads
-use Rattle.readfile.proofs.read_image.Reads as read-image-reads
-use Rattle.sort.proofs.table.copy.Reads as copy-reads
 
--- src/lib.rt:59:9
 returns : tie.Need-returns
 returns c =
     size-refused _ _ (c .if1 .taken)
 
--- src/lib.rt:62:26
 slice-aggregate-read-image : tie.Need-slice-aggregate-read-image
 slice-aggregate-read-image c = search needs
 
--- src/lib.rt:62:9
 read-image-requires : tie.Need-read-image-requires
 read-image-requires c κs =
     refl
 
--- src/lib.rt:63:9
 returns-2 : tie.Need-returns-2
 returns-2 c =
     layout-refused _ _ (c .before .before .before .before .if1 .left) (c .before .before .read-image .ensures) (c .if2 .taken)
 
--- src/lib.rt:65:24
 slice-aggregate-block-answer : tie.Need-slice-aggregate-block-answer
 slice-aggregate-block-answer c = search needs
 
--- src/lib.rt:65:11
 block-answer-requires : tie.Need-block-answer-requires
-block-answer-requires c κs =
-    (image-long _ (c .before .before .before .before .before .before .before .before .args .block .now) (c .before .before .before .before .before .if1 .left) (c .before .before .before .read-image .ensures) (c .before .if2 .left) (bytes-are (c .before .before .before .before .before .before .before .before .args .file .now) (λ i. c .before .before .before .before .before .before .before .shared-slice-known .given i .fits)),
-    image-ranged _ (c .before .before .before .before .before .before .before .before .args .block .now) (c .before .before .before .before .before .if1 .left) (c .before .before .before .read-image .ensures) (c .before .if2 .left) (bytes-are (c .before .before .before .before .before .before .before .before .args .file .now) (λ i. c .before .before .before .before .before .before .before .shared-slice-known .given i .fits)))
+block-answer-requires c κs = (
+  image-long _ (c .before .before .before .before .before .before .before .before .args .block .now) (c .before .before .before .before .before .if1 .left) (c .before .before .before .read-image .ensures) (c .before .if2 .left) (bytes-are (c .before .before .before .before .before .before .before .before .args .file .now) (λ i. c .before .before .before .before .before .before .before .shared-slice-known .given i .fits)),
+  image-ranged _ (c .before .before .before .before .before .before .before .before .args .block .now) (c .before .before .before .before .before .if1 .left) (c .before .before .before .read-image .ensures) (c .before .if2 .left) (bytes-are (c .before .before .before .before .before .before .before .before .args .file .now) (λ i. c .before .before .before .before .before .before .before .shared-slice-known .given i .fits)),
+)
 
--- src/lib.rt:67:31
 enum-told : tie.Need-enum-told
 enum-told c = search needs
 
--- src/lib.rt:67:31
 slice-aggregate-copy : tie.Need-slice-aggregate-copy
 slice-aggregate-copy c = search needs
 
--- src/lib.rt:67:13
 copy-requires : tie.Need-copy-requires
 copy-requires c κs =
     c .before .before .before .before .before .before .before .before .before .before .if1 .left ∙ sym (image-long _ (c .before .before .before .before .before .before .before .before .before .before .before .before .before .args .block .now) (c .before .before .before .before .before .before .before .before .before .before .if1 .left) (c .before .before .before .before .before .before .before .before .read-image .ensures) (c .before .before .before .before .before .before .if2 .left) (bytes-are (c .before .before .before .before .before .before .before .before .before .before .before .before .before .args .file .now) (λ i. c .before .before .before .before .before .before .before .before .before .before .before .before .shared-slice-known .given i .fits)))
 
--- src/lib.rt:70:25
 enum-known-r : tie.Need-enum-known-r
 enum-known-r c = search needs
 
--- src/lib.rt:55:1
 same-length : tie.Need-same-length
 same-length c = search needs
 
--- src/lib.rt:55:1
 returns-3 : tie.Need-returns-3
 returns-3 c =
     block-served _ _ (c .before .before .before .before .before .before .before .before .before .before .before .before .before .if1 .left) (c .before .before .before .before .before .before .before .before .before .before .before .read-image .ensures) (c .before .before .before .before .before .before .before .before .before .if2 .left) (bytes-are (c .before .before .before .before .before .before .before .before .before .before .before .before .before .before .before .before .args .file .now) (λ i. c .before .before .before .before .before .before .before .before .before .before .before .before .before .before .before .shared-slice-known .given i .fits))
     (ap answer-of (sym (c .before .before .before .before .before .enum-told .given .1)) ∙ c .before .before .before .before .before .before .before .block-answer .ensures) (c .before .before .copy .ensures)
 
--- src/lib.rt:55:1
 returns-4 : tie.Need-returns-4
 returns-4 c =
     block-refused _ _ (c .before .before .before .before .before .before .before .before .before .if1 .left) (c .before .before .before .before .before .before .before .read-image .ensures) (c .before .before .before .before .before .if2 .left) (bytes-are (c .before .before .before .before .before .before .before .before .before .before .before .before .args .file .now) (λ i. c .before .before .before .before .before .before .before .before .before .before .before .shared-slice-known .given i .fits))

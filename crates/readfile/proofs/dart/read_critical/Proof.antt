@@ -1,3 +1,5 @@
+-- `readfile::dart::read_critical` meets its contract: the other block and the label, each read where the one before ends.
+-- Assumes nothing.
 use mathlib.Core.Path.{sym, _∙_}
 use Rattle.model.specs.Layouts.{at-most}
 use Rattle.groups.specs.Slices.{label-code}
@@ -8,56 +10,41 @@ use native.Mathlib.Omega.{arith}
 use borrow.Author.Needs.{needs}
 use Rattle.readfile.proofs.dart.read_critical.Statement.{statement}
 use Rattle.readfile.proofs.dart.read_critical.Tie as tie
-use Rattle.readfile.proofs.dart.read_critical.Reads as reads
-use Rattle.readfile.proofs.dart.read_critical.Lts as lts
-use Rattle.groups.proofs.read_at_most.Reads as read-at-most-reads
-use Rattle.groups.proofs.read_label.Reads as read-label-reads
 
--- src/dart.rt:30:42
 read-at-most-requires : tie.Need-read-at-most-requires
 read-at-most-requires c κs = search needs
 
--- src/dart.rt:30:21
 enum-known-other : tie.Need-enum-known-other
 enum-known-other c = search needs
 
--- src/dart.rt:31:9
 enum-told : tie.Need-enum-told
 enum-told c = search needs
 
--- src/dart.rt:31:9
 returns : tie.Need-returns
 returns c =
     no-other (record { value = bad-at (at-most 15) _ _ (sym (c .enum-told .given .1) ∙ c .before .before .read-at-most .ensures) })
 
--- src/dart.rt:33:36
 read-label-requires : tie.Need-read-label-requires
 read-label-requires c κs = search needs
 
--- src/dart.rt:33:21
 enum-known-label : tie.Need-enum-known-label
 enum-known-label c = search needs
 
--- src/dart.rt:34:9
 enum-told-2 : tie.Need-enum-told-2
 enum-told-2 c = search needs
 
--- src/dart.rt:34:9
 returns-2 : tie.Need-returns-2
 returns-2 c =
     no-label (at-most-at 15 (sym (c .before .before .before .before .other .given .1) ∙ c .before .before .before .before .before .before .read-at-most .ensures)) (record { value = bad-at label-code _ _ (sym (c .enum-told2 .given .1) ∙ c .before .before .read-label .ensures) })
 
--- src/dart.rt:36:22
 mul-t9 : tie.Need-mul-t9
 mul-t9 c =
     omega (arith, at-most-bound 15 _ _ _ (at-most-at 15 (sym (c .before .before .before .before .before .other .given .1) ∙ c .before .before .before .before .before .before .before .read-at-most .ensures) .value))
 
--- src/dart.rt:36:18
 add-t10 : tie.Need-add-t10
 add-t10 c =
     omega (arith, at-most-bound 15 _ _ _ (at-most-at 15 (sym (c .before .before .before .before .before .other .given .1) ∙ c .before .before .before .before .before .before .before .read-at-most .ensures) .value))
 
--- src/dart.rt:27:1
 returns-3 : tie.Need-returns-3
 returns-3 c =
     critical-read _ (at-most-at 15 (sym (c .before .before .before .before .before .other .given .1) ∙ c .before .before .before .before .before .before .before .read-at-most .ensures)) (label-at (sym (c .before .label .given .1) ∙ c .before .before .before .read-label .ensures))

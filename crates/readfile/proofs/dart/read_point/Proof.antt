@@ -1,68 +1,53 @@
+-- `readfile::dart::read_point` meets its contract: three coordinates, each read where the one before ends.
+-- Assumes nothing.
 use mathlib.Core.Path.{sym, _∙_}
 use Rattle.model.specs.Layouts.{coordinate}
 use Rattle.groups.proofs.Ends.{bad-at, coordinate-at}
 use Rattle.readfile.proofs.PartLaws.{no-x, no-y, no-z, three-read}
-use native.Mathlib.Omega.{arith}
 use borrow.Author.Needs.{needs}
 use Rattle.readfile.proofs.dart.read_point.Statement.{statement}
 use Rattle.readfile.proofs.dart.read_point.Tie as tie
-use Rattle.readfile.proofs.dart.read_point.Reads as reads
-use Rattle.readfile.proofs.dart.read_point.Lts as lts
-use Rattle.groups.proofs.read_coordinate.Reads as read-coordinate-reads
 
--- src/dart.rt:62:34
 read-coordinate-requires : tie.Need-read-coordinate-requires
 read-coordinate-requires c κs = search needs
 
--- src/dart.rt:62:21
 enum-known-x : tie.Need-enum-known-x
 enum-known-x c = search needs
 
--- src/dart.rt:63:9
 enum-told : tie.Need-enum-told
 enum-told c = search needs
 
--- src/dart.rt:63:9
 returns : tie.Need-returns
 returns c =
     no-x (record { value = bad-at coordinate _ _ (sym (c .enum-told .given .1) ∙ c .before .before .read-coordinate .ensures) })
 
--- src/dart.rt:65:34
 read-coordinate-requires-2 : tie.Need-read-coordinate-requires-2
 read-coordinate-requires-2 c κs = search needs
 
--- src/dart.rt:65:21
 enum-known-y : tie.Need-enum-known-y
 enum-known-y c = search needs
 
--- src/dart.rt:66:9
 enum-told-2 : tie.Need-enum-told-2
 enum-told-2 c = search needs
 
--- src/dart.rt:66:9
 returns-2 : tie.Need-returns-2
 returns-2 c =
     no-y (coordinate-at (sym (c .before .before .before .before .x .given .1) ∙ c .before .before .before .before .before .before .read-coordinate .ensures)) (record { value = bad-at coordinate _ _ (sym (c .enum-told2 .given .1) ∙ c .before .before .read-coordinate2 .ensures) })
 
--- src/dart.rt:68:32
 read-coordinate-requires-3 : tie.Need-read-coordinate-requires-3
 read-coordinate-requires-3 c κs = search needs
 
--- src/dart.rt:68:21
 enum-known-z : tie.Need-enum-known-z
 enum-known-z c = search needs
 
--- src/dart.rt:69:9
 enum-told-3 : tie.Need-enum-told-3
 enum-told-3 c = search needs
 
--- src/dart.rt:69:9
 returns-3 : tie.Need-returns-3
 returns-3 c =
     no-z (coordinate-at (sym (c .before .before .before .before .before .before .before .before .x .given .1) ∙ c .before .before .before .before .before .before .before .before .before .before .read-coordinate .ensures)) (coordinate-at (sym (c .before .before .before .before .y .given .1) ∙ c .before .before .before .before .before .before .read-coordinate2 .ensures))
     (record { value = bad-at coordinate _ _ (sym (c .enum-told3 .given .1) ∙ c .before .before .read-coordinate3 .ensures) })
 
--- src/dart.rt:59:1
 returns-4 : tie.Need-returns-4
 returns-4 c =
     three-read (coordinate-at (sym (c .before .before .before .before .before .before .before .before .before .x .given .1) ∙ c .before .before .before .before .before .before .before .before .before .before .before .read-coordinate .ensures)) (coordinate-at (sym (c .before .before .before .before .before .y .given .1) ∙ c .before .before .before .before .before .before .before .read-coordinate2 .ensures))

@@ -1,3 +1,5 @@
+-- `readfile::raw::read_raw` meets its contract: number, counter, count and darts make the whole file where nothing is left over.
+-- Assumes nothing.
 use mathlib.Core.Path.{refl, sym, _∙_}
 use Rattle.model.specs.Layouts.{group, at-most}
 use Rattle.model.specs.Image.{words}
@@ -7,90 +9,66 @@ use native.Mathlib.Omega.{arith}
 use borrow.Author.Needs.{needs}
 use Rattle.readfile.proofs.raw.read_raw.Statement.{statement}
 use Rattle.readfile.proofs.raw.read_raw.Tie as tie
-use Rattle.readfile.proofs.raw.read_raw.Reads as reads
-use Rattle.readfile.proofs.raw.read_raw.Lts as lts
-use Rattle.groups.proofs.read_at_most.Reads as read-at-most-reads
-use Rattle.groups.proofs.read_group.Reads as read-group-reads
-use Rattle.memory.proofs.header.Header.write.Reads as write-reads
-use Rattle.readfile.proofs.raw.read_darts.Reads as read-darts-reads
 
--- src/raw.rt:60:44
 read-at-most-requires : tie.Need-read-at-most-requires
 read-at-most-requires c κs = search needs
 
--- src/raw.rt:60:21
 enum-known-number : tie.Need-enum-known-number
 enum-known-number c = search needs
 
--- src/raw.rt:61:9
 enum-told : tie.Need-enum-told
 enum-told c = search needs
 
--- src/raw.rt:61:9
 returns : tie.Need-returns
 returns c =
     raw-refused (no-number (record { value = bad-at (at-most 15) _ _ (sym (c .enum-told .given .1) ∙ c .before .before .read-at-most .ensures) }))
 
--- src/raw.rt:63:46
 read-group-requires : tie.Need-read-group-requires
 read-group-requires c κs = search needs
 
--- src/raw.rt:63:21
 enum-known-counter : tie.Need-enum-known-counter
 enum-known-counter c = search needs
 
--- src/raw.rt:64:9
 enum-told-2 : tie.Need-enum-told-2
 enum-told-2 c = search needs
 
--- src/raw.rt:64:9
 returns-2 : tie.Need-returns-2
 returns-2 c =
     raw-refused (no-counter (at-most-at 15 (sym (c .before .before .before .before .number .given .1) ∙ c .before .before .before .before .before .before .read-at-most .ensures)) (record { value = bad-at group _ _ (sym (c .enum-told2 .given .1) ∙ c .before .before .read-group .ensures) }))
 
--- src/raw.rt:66:42
 read-group-requires-2 : tie.Need-read-group-requires-2
 read-group-requires-2 c κs = search needs
 
--- src/raw.rt:66:21
 enum-known-count : tie.Need-enum-known-count
 enum-known-count c = search needs
 
--- src/raw.rt:67:9
 enum-told-3 : tie.Need-enum-told-3
 enum-told-3 c = search needs
 
--- src/raw.rt:67:9
 returns-3 : tie.Need-returns-3
 returns-3 c =
     raw-refused (no-count (at-most-at 15 (sym (c .before .before .before .before .before .before .before .before .number .given .1) ∙ c .before .before .before .before .before .before .before .before .before .before .read-at-most .ensures))
     (group-at (sym (c .before .before .before .before .counter .given .1) ∙ c .before .before .before .before .before .before .read-group .ensures)) (record { value = bad-at group _ _ (sym (c .enum-told3 .given .1) ∙ c .before .before .read-group2 .ensures) }))
 
--- src/raw.rt:70:9
 returns-4 : tie.Need-returns-4
 returns-4 c =
     raw-refused (too-many (at-most-at 15 (sym (c .before .before .before .before .before .before .before .before .before .before .number .given .1) ∙ c .before .before .before .before .before .before .before .before .before .before .before .before .read-at-most .ensures))
     (group-at (sym (c .before .before .before .before .before .before .counter .given .1) ∙ c .before .before .before .before .before .before .before .before .read-group .ensures))
     (group-at (sym (c .before .before .count .given .1) ∙ c .before .before .before .before .read-group2 .ensures)) (c .if1 .taken))
 
--- src/raw.rt:73:25
 read-darts-requires : tie.Need-read-darts-requires
 read-darts-requires c κs =
     (group-at (sym (c .before .before .before .count .given .1) ∙ c .before .before .before .before .before .read-group2 .ensures) .within, omega arith, zeros-length words _ (c .before .before .before .before .before .before .before .before .before .before .before .before .before .before .before .before .pre))
 
--- src/raw.rt:73:17
 enum-known-past : tie.Need-enum-known-past
 enum-known-past c = search needs
 
--- src/raw.rt:74:9
 enum-told-4 : tie.Need-enum-told-4
 enum-told-4 c = search needs
 
--- src/raw.rt:74:9
 same-length : tie.Need-same-length
 same-length c = search needs
 
--- src/raw.rt:74:9
 returns-5 : tie.Need-returns-5
 returns-5 c =
     raw-refused (no-darts (at-most-at 15 (sym (c .before .before .before .before .before .before .before .before .before .before .before .before .before .before .before .before .number .given .1) ∙ c .before .before .before .before .before .before .before .before .before .before .before .before .before .before .before .before .before .before .read-at-most .ensures))
@@ -98,11 +76,9 @@ returns-5 c =
     (group-at (sym (c .before .before .before .before .before .before .before .before .count .given .1) ∙ c .before .before .before .before .before .before .before .before .before .before .read-group2 .ensures)) (omega arith)
     (sym (c .enum-told4 .given .1) ∙ c .before .before .before .before .read-darts .ensures .answer))
 
--- src/raw.rt:77:9
 same-length-2 : tie.Need-same-length-2
 same-length-2 c = search needs
 
--- src/raw.rt:77:9
 returns-6 : tie.Need-returns-6
 returns-6 c =
     raw-refused (left-over (at-most-at 15 (sym (c .before .before .before .before .before .before .before .before .before .before .before .before .before .before .before .before .before .before .number .given .1) ∙ c .before .before .before .before .before .before .before .before .before .before .before .before .before .before .before .before .before .before .before .before .read-at-most .ensures))
@@ -110,16 +86,13 @@ returns-6 c =
     (group-at (sym (c .before .before .before .before .before .before .before .before .before .before .count .given .1) ∙ c .before .before .before .before .before .before .before .before .before .before .before .before .read-group2 .ensures)) (omega arith)
     (sym (c .before .before .past .given .1) ∙ c .before .before .before .before .before .before .read-darts .ensures .answer) (c .if2 .taken))
 
--- src/raw.rt:84:5
 write-requires : tie.Need-write-requires
 write-requires c κs =
     omega (arith, c .before .before .before .before .before .before .before .read-darts .kept .1 .1 .1 .0, zeros-length words _ (c .before .before .before .before .before .before .before .before .before .before .before .before .before .before .before .before .before .before .before .before .before .before .before .before .pre))
 
--- src/raw.rt:56:1
 same-length-3 : tie.Need-same-length-3
 same-length-3 c = search needs
 
--- src/raw.rt:56:1
 returns-7 : tie.Need-returns-7
 returns-7 c =
     raw-served (at-most-at 15 (sym (c .before .before .before .before .before .before .before .before .before .before .before .before .before .before .before .before .before .before .before .before .before .before .number .given .1) ∙ c .before .before .before .before .before .before .before .before .before .before .before .before .before .before .before .before .before .before .before .before .before .before .before .before .read-at-most .ensures))
