@@ -31,7 +31,7 @@ pub record Reads {A : Type 0} (l : Layout A) (s : List ℕ) (at : ℕ) (v : A) (
   pub past : at < next
   pub within : next ≤ length s
 
-from-onward : {A : Type 0} (l : Layout A) (s rest : List ℕ) (at : ℕ) (v : A) → l .get (drop at s) ≡ some (v, rest) → Onward (drop at s) rest → Reads l s at v (length s - length rest)
+pub from-onward : {A : Type 0} (l : Layout A) (s rest : List ℕ) (at : ℕ) (v : A) → l .get (drop at s) ≡ some (v, rest) → Onward (drop at s) rest → Reads l s at v (length s - length rest)
 from-onward l s rest at v e o =
     let n = length-drop at s in
     let m = ap length (o .left) ∙ length-drop (o .count) (drop at s) in
@@ -87,7 +87,7 @@ when-some false r y p = absurd (Option·none-ne-some y p)
 pub same-rest : {A : Type 0} {a b : A} {s t : List ℕ} → _≡_ {A = Read A} (some (a, s)) (some (b, t)) → s ≡ t
 same-rest {A} {a} {b} {s} {t} p = ap (λ (r : A × List ℕ). r .1) (Option·some-injective (a, s) (b, t) p)
 
-onward-then : {a b c : List ℕ} → Onward a b → Onward b c → Onward a c
+pub onward-then : {a b c : List ℕ} → Onward a b → Onward b c → Onward a c
 onward-then {a} {b} {c} p q =
     let n = ap length (p .left) ∙ length-drop (p .count) a in
     record {
@@ -97,7 +97,7 @@ onward-then {a} {b} {c} p q =
       left = rw (← drop-drop (q .count) (p .count) a, ← p .left) (q .left);
     }
 
-onward-to : {a b c : List ℕ} → b ≡ c → Onward a b → Onward a c
+pub onward-to : {a b c : List ℕ} → b ≡ c → Onward a b → Onward a c
 onward-to e p = record { count = p .count; some-read = p .some-read; within = p .within; left = sym e ∙ p .left }
 
 one-byte : (b : ℕ) (bs : List ℕ) → Onward (b ∷ bs) bs
@@ -135,7 +135,7 @@ unfolding _⊗_
     let u = then-some (m (t .0) .get (t .1)) _ _ (t .3) in
     onward-to (same-rest (u .3)) (onward-then (L bs (t .0) (t .1) (t .2)) (M (t .0) (t .1) (u .0) (u .1) (u .2)))
 
-⊕-ends : {A B : Type 0} (l : Layout A) (m : Layout B) → Ends l → Ends m → Ends (l ⊕ m)
+pub ⊕-ends : {A B : Type 0} (l : Layout A) (m : Layout B) → Ends l → Ends m → Ends (l ⊕ m)
 unfolding _⊕_
 ⊕-ends l m L M = ⊗-ends l (λ a. m) L (λ a. M)
 

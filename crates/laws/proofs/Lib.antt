@@ -7,3 +7,4 @@ pub mod Faces
 pub mod KeptFaces
 pub mod Tables
 pub mod Carry
+pub mod Maps

@@ -89,13 +89,13 @@ pub record Readable (ds : List Dart) (d : Dart) : Type 0 where
   pub in-range : third-in-range (d .third) ≡ true
 
 module _ (b : Block) where
-  serial-back : (x : ℕ) → held (b .darts) x ≡ true → column (image b) 0 (index-of x (serials (b .darts))) ≡ x
+  pub serial-back : (x : ℕ) → held (b .darts) x ≡ true → column (image b) 0 (index-of x (serials (b .darts))) ≡ x
   serial-back x h =
       let r = place-back x (serials (b .darts)) h in
       let small : index-of x (serials (b .darts)) < length (b .darts) = omega (arith, r .1, length-map (b .darts) (λ (d : Dart). d .serial)) in
       column-is b (index-of x (serials (b .darts))) 0 small (omega arith) ∙ first-word (serials (b .darts)) (getD (b .darts) (index-of x (serials (b .darts))) no-dart) ∙ sym (getD-serial (b .darts) (index-of x (serials (b .darts)))) ∙ r .0
 
-  third-back : (t : Third) → links-held (b .darts) t ≡ true → third-in-range t ≡ true
+  pub third-back : (t : Third) → links-held (b .darts) t ≡ true → third-in-range t ≡ true
       → third-in (column (image b) 0) (kind-word t) (link-word (serials (b .darts)) t) ≡ t
   unfolding third-in
   third-back free h r = refl

@@ -1,0 +1,66 @@
+-- `readfile::dart::read_critical` meets its contract: the other block and the label, each read where the one before ends.
+-- Assumes nothing.
+use mathlib.Core.Path.{sym, _∙_}
+use Rattle.model.specs.Layouts.{at-most}
+use Rattle.groups.specs.Slices.{label-code}
+use Rattle.groups.proofs.Ends.{bad-at, at-most-at}
+use Rattle.groups.proofs.Labels.{at-most-bound, label-at}
+use Rattle.readfile.proofs.PartLaws.{no-other, no-label, critical-read}
+use native.Mathlib.Omega.{arith}
+use borrow.Author.Needs.{needs}
+use Rattle.readfile.proofs.dart.read_critical.Statement.{statement}
+use Rattle.readfile.proofs.dart.read_critical.Tie as tie
+
+read-at-most-requires : tie.Need-read-at-most-requires
+read-at-most-requires c κs = search needs
+
+enum-known-other : tie.Need-enum-known-other
+enum-known-other c = search needs
+
+enum-told : tie.Need-enum-told
+enum-told c = search needs
+
+returns : tie.Need-returns
+returns c =
+    no-other (record { value = bad-at (at-most 15) _ _ (sym (c .enum-told .given .1) ∙ c .before .before .read-at-most .ensures) })
+
+read-label-requires : tie.Need-read-label-requires
+read-label-requires c κs = search needs
+
+enum-known-label : tie.Need-enum-known-label
+enum-known-label c = search needs
+
+enum-told-2 : tie.Need-enum-told-2
+enum-told-2 c = search needs
+
+returns-2 : tie.Need-returns-2
+returns-2 c =
+    no-label (at-most-at 15 (sym (c .before .before .before .before .other .given .1) ∙ c .before .before .before .before .before .before .read-at-most .ensures)) (record { value = bad-at label-code _ _ (sym (c .enum-told2 .given .1) ∙ c .before .before .read-label .ensures) })
+
+mul-t9 : tie.Need-mul-t9
+mul-t9 c =
+    omega (arith, at-most-bound 15 _ _ _ (at-most-at 15 (sym (c .before .before .before .before .before .other .given .1) ∙ c .before .before .before .before .before .before .before .read-at-most .ensures) .value))
+
+add-t10 : tie.Need-add-t10
+add-t10 c =
+    omega (arith, at-most-bound 15 _ _ _ (at-most-at 15 (sym (c .before .before .before .before .before .other .given .1) ∙ c .before .before .before .before .before .before .before .read-at-most .ensures) .value))
+
+returns-3 : tie.Need-returns-3
+returns-3 c =
+    critical-read _ (at-most-at 15 (sym (c .before .before .before .before .before .other .given .1) ∙ c .before .before .before .before .before .before .before .read-at-most .ensures)) (label-at (sym (c .before .label .given .1) ∙ c .before .before .before .read-label .ensures))
+
+pub read-critical-spec : {M : Type 1} → statement M
+read-critical-spec =
+    tie.close
+    (tie.spec
+    read-at-most-requires
+    enum-known-other
+    enum-told
+    returns
+    read-label-requires
+    enum-known-label
+    enum-told-2
+    returns-2
+    mul-t9
+    add-t10
+    returns-3)

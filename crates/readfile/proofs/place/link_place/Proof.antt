@@ -1,0 +1,20 @@
+-- `readfile::place::link_place` meets its contract: only a sewn dart's link is a serial.
+-- Assumes nothing.
+use Rattle.readfile.proofs.Resolving.{sewn-place, other-link}
+use borrow.Author.Needs.{needs}
+use Rattle.readfile.proofs.place.link_place.Statement.{statement}
+use Rattle.readfile.proofs.place.link_place.Tie as tie
+
+place-near-requires : tie.Need-place-near-requires
+place-near-requires c κs = search needs
+
+returns : tie.Need-returns
+returns c =
+    sewn-place _ _ _ _ (c .before .if1 .taken) (c .place-near .ensures)
+
+returns-2 : tie.Need-returns-2
+returns-2 c =
+    other-link _ _ _ (c .if1 .left)
+
+pub link-place-spec : {M : Type 1} → statement M
+link-place-spec = tie.close (tie.spec place-near-requires returns returns-2)

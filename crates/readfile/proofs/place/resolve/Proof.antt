@@ -1,0 +1,61 @@
+-- `readfile::place::resolve` meets its contract. The loop's invariant: the first `i` darts have places.
+-- Assumes nothing.
+use Prim.Native.Nat.{_-_}
+use mathlib.Core.Path.{_∙_}
+use Rattle.readfile.proofs.Resolving.{Placing, placing-start, placing-length, placing-ascends, placing-more, placing-ends}
+use native.Mathlib.Omega.{arith}
+use borrow.Author.Needs.{needs}
+use Rattle.readfile.proofs.place.resolve.Statement.{statement}
+use Rattle.readfile.proofs.place.resolve.Tie as tie
+
+abbrev Inv-loop : tie.InvT-loop
+Inv-loop block₀ n i₀ block i =
+    Placing block₀ block i
+
+abbrev μ-loop : tie.MeasureT-loop
+μ-loop block₀ n i₀ block i =
+    n - i
+
+slice-read-n : tie.Need-slice-read-n Inv-loop μ-loop
+slice-read-n c = search needs
+
+loop-holds : tie.Need-loop-holds Inv-loop μ-loop
+loop-holds c =
+    placing-start _
+
+resolve-dart-requires : tie.Need-resolve-dart-requires Inv-loop μ-loop
+resolve-dart-requires c κs =
+    (c .before .loop-test .taken, c .before .before .before .before .before .pre .1, placing-length (c .before .before .loop .inv) (omega arith) ∙ c .before .before .before .before .before .pre .0, placing-ascends (c .before .before .loop .inv) (omega arith) (c .before .before .before .before .before .pre .2))
+
+add-i : tie.Need-add-i Inv-loop μ-loop
+add-i c = search needs
+
+loop-less : tie.Need-loop-less Inv-loop μ-loop
+loop-less c = search needs
+
+loop-again : tie.Need-loop-again Inv-loop μ-loop
+loop-again c =
+    placing-more (c .before .before .before .before .before .loop .inv) (omega arith) (c .before .before .before .before .loop-test .taken) (c .before .before .resolve-dart .ensures)
+
+same-length : tie.Need-same-length Inv-loop μ-loop
+same-length c =
+    placing-length (c .before .loop .inv) (omega arith)
+
+returns : tie.Need-returns Inv-loop μ-loop
+returns c =
+    placing-ends (c .before .loop .inv) (omega arith) (c .loop-test .left)
+
+pub resolve-spec : {M : Type 1} → statement M
+resolve-spec =
+    tie.close
+    (tie.spec
+    Inv-loop
+    μ-loop
+    slice-read-n
+    loop-holds
+    resolve-dart-requires
+    add-i
+    loop-less
+    loop-again
+    same-length
+    returns)

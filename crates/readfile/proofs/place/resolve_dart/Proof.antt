@@ -1,0 +1,40 @@
+-- `readfile::place::resolve_dart` meets its contract: the record with places is stored at its place.
+-- Assumes nothing.
+use Rattle.readfile.proofs.Resolving.{record-placed}
+use borrow.Author.Needs.{needs}
+use Rattle.readfile.proofs.place.resolve_dart.Statement.{statement}
+use Rattle.readfile.proofs.place.resolve_dart.Tie as tie
+
+record-at-requires : tie.Need-record-at-requires
+record-at-requires c κs = search needs
+
+place-near-requires : tie.Need-place-near-requires
+place-near-requires c κs = search needs
+
+place-near-requires-2 : tie.Need-place-near-requires-2
+place-near-requires-2 c κs = search needs
+
+link-place-requires : tie.Need-link-place-requires
+link-place-requires c κs = search needs
+
+put-record-requires : tie.Need-put-record-requires
+put-record-requires c κs = search needs
+
+same-length : tie.Need-same-length
+same-length c = search needs
+
+returns : tie.Need-returns
+returns c =
+    record-placed _ (c .before .before .before .before .before .before .before .before .before .before .before .before .before .args .block .now) (c .before .before .before .before .before .before .before .before .before .before .before .before .before .args .p) (c .before .before .before .before .before .before .before .before .before .before .record-at .ensures) (c .before .before .before .before .before .before .before .before .place-near .ensures) (c .before .before .before .before .before .before .place-near2 .ensures) (c .before .before .before .before .link-place .ensures) (c .before .before .put-record .ensures)
+
+pub resolve-dart-spec : {M : Type 1} → statement M
+resolve-dart-spec =
+    tie.close
+    (tie.spec
+    record-at-requires
+    place-near-requires
+    place-near-requires-2
+    link-place-requires
+    put-record-requires
+    same-length
+    returns)

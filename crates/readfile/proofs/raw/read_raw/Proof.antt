@@ -1,0 +1,128 @@
+-- `readfile::raw::read_raw` meets its contract: number, counter, count and darts make the whole file where nothing is left over.
+-- Assumes nothing.
+use mathlib.Core.Path.{refl, sym, _∙_}
+use Rattle.model.specs.Layouts.{group, at-most}
+use Rattle.model.specs.Image.{words}
+use Rattle.groups.proofs.Ends.{bad-at, group-at, at-most-at}
+use Rattle.readfile.proofs.Whole.{no-number, no-counter, no-count, too-many, no-darts, left-over, raw-refused, zeros-length, raw-served}
+use native.Mathlib.Omega.{arith}
+use borrow.Author.Needs.{needs}
+use Rattle.readfile.proofs.raw.read_raw.Statement.{statement}
+use Rattle.readfile.proofs.raw.read_raw.Tie as tie
+
+read-at-most-requires : tie.Need-read-at-most-requires
+read-at-most-requires c κs = search needs
+
+enum-known-number : tie.Need-enum-known-number
+enum-known-number c = search needs
+
+enum-told : tie.Need-enum-told
+enum-told c = search needs
+
+returns : tie.Need-returns
+returns c =
+    raw-refused (no-number (record { value = bad-at (at-most 15) _ _ (sym (c .enum-told .given .1) ∙ c .before .before .read-at-most .ensures) }))
+
+read-group-requires : tie.Need-read-group-requires
+read-group-requires c κs = search needs
+
+enum-known-counter : tie.Need-enum-known-counter
+enum-known-counter c = search needs
+
+enum-told-2 : tie.Need-enum-told-2
+enum-told-2 c = search needs
+
+returns-2 : tie.Need-returns-2
+returns-2 c =
+    raw-refused (no-counter (at-most-at 15 (sym (c .before .before .before .before .number .given .1) ∙ c .before .before .before .before .before .before .read-at-most .ensures)) (record { value = bad-at group _ _ (sym (c .enum-told2 .given .1) ∙ c .before .before .read-group .ensures) }))
+
+read-group-requires-2 : tie.Need-read-group-requires-2
+read-group-requires-2 c κs = search needs
+
+enum-known-count : tie.Need-enum-known-count
+enum-known-count c = search needs
+
+enum-told-3 : tie.Need-enum-told-3
+enum-told-3 c = search needs
+
+returns-3 : tie.Need-returns-3
+returns-3 c =
+    raw-refused (no-count (at-most-at 15 (sym (c .before .before .before .before .before .before .before .before .number .given .1) ∙ c .before .before .before .before .before .before .before .before .before .before .read-at-most .ensures))
+    (group-at (sym (c .before .before .before .before .counter .given .1) ∙ c .before .before .before .before .before .before .read-group .ensures)) (record { value = bad-at group _ _ (sym (c .enum-told3 .given .1) ∙ c .before .before .read-group2 .ensures) }))
+
+returns-4 : tie.Need-returns-4
+returns-4 c =
+    raw-refused (too-many (at-most-at 15 (sym (c .before .before .before .before .before .before .before .before .before .before .number .given .1) ∙ c .before .before .before .before .before .before .before .before .before .before .before .before .read-at-most .ensures))
+    (group-at (sym (c .before .before .before .before .before .before .counter .given .1) ∙ c .before .before .before .before .before .before .before .before .read-group .ensures))
+    (group-at (sym (c .before .before .count .given .1) ∙ c .before .before .before .before .read-group2 .ensures)) (c .if1 .taken))
+
+read-darts-requires : tie.Need-read-darts-requires
+read-darts-requires c κs =
+    (group-at (sym (c .before .before .before .count .given .1) ∙ c .before .before .before .before .before .read-group2 .ensures) .within, omega arith, zeros-length words _ (c .before .before .before .before .before .before .before .before .before .before .before .before .before .before .before .before .pre))
+
+enum-known-past : tie.Need-enum-known-past
+enum-known-past c = search needs
+
+enum-told-4 : tie.Need-enum-told-4
+enum-told-4 c = search needs
+
+same-length : tie.Need-same-length
+same-length c = search needs
+
+returns-5 : tie.Need-returns-5
+returns-5 c =
+    raw-refused (no-darts (at-most-at 15 (sym (c .before .before .before .before .before .before .before .before .before .before .before .before .before .before .before .before .number .given .1) ∙ c .before .before .before .before .before .before .before .before .before .before .before .before .before .before .before .before .before .before .read-at-most .ensures))
+    (group-at (sym (c .before .before .before .before .before .before .before .before .before .before .before .before .counter .given .1) ∙ c .before .before .before .before .before .before .before .before .before .before .before .before .before .before .read-group .ensures))
+    (group-at (sym (c .before .before .before .before .before .before .before .before .count .given .1) ∙ c .before .before .before .before .before .before .before .before .before .before .read-group2 .ensures)) (omega arith)
+    (sym (c .enum-told4 .given .1) ∙ c .before .before .before .before .read-darts .ensures .answer))
+
+same-length-2 : tie.Need-same-length-2
+same-length-2 c = search needs
+
+returns-6 : tie.Need-returns-6
+returns-6 c =
+    raw-refused (left-over (at-most-at 15 (sym (c .before .before .before .before .before .before .before .before .before .before .before .before .before .before .before .before .before .before .number .given .1) ∙ c .before .before .before .before .before .before .before .before .before .before .before .before .before .before .before .before .before .before .before .before .read-at-most .ensures))
+    (group-at (sym (c .before .before .before .before .before .before .before .before .before .before .before .before .before .before .counter .given .1) ∙ c .before .before .before .before .before .before .before .before .before .before .before .before .before .before .before .before .read-group .ensures))
+    (group-at (sym (c .before .before .before .before .before .before .before .before .before .before .count .given .1) ∙ c .before .before .before .before .before .before .before .before .before .before .before .before .read-group2 .ensures)) (omega arith)
+    (sym (c .before .before .past .given .1) ∙ c .before .before .before .before .before .before .read-darts .ensures .answer) (c .if2 .taken))
+
+write-requires : tie.Need-write-requires
+write-requires c κs =
+    omega (arith, c .before .before .before .before .before .before .before .read-darts .kept .1 .1 .1 .0, zeros-length words _ (c .before .before .before .before .before .before .before .before .before .before .before .before .before .before .before .before .before .before .before .before .before .before .before .before .pre))
+
+same-length-3 : tie.Need-same-length-3
+same-length-3 c = search needs
+
+returns-7 : tie.Need-returns-7
+returns-7 c =
+    raw-served (at-most-at 15 (sym (c .before .before .before .before .before .before .before .before .before .before .before .before .before .before .before .before .before .before .before .before .before .before .number .given .1) ∙ c .before .before .before .before .before .before .before .before .before .before .before .before .before .before .before .before .before .before .before .before .before .before .before .before .read-at-most .ensures))
+    (group-at (sym (c .before .before .before .before .before .before .before .before .before .before .before .before .before .before .before .before .before .before .counter .given .1) ∙ c .before .before .before .before .before .before .before .before .before .before .before .before .before .before .before .before .before .before .before .before .read-group .ensures))
+    (group-at (sym (c .before .before .before .before .before .before .before .before .before .before .before .before .before .before .count .given .1) ∙ c .before .before .before .before .before .before .before .before .before .before .before .before .before .before .before .before .read-group2 .ensures)) (omega arith) words _ refl (c .before .before .before .before .before .before .before .before .before .before .before .before .before .before .before .before .before .before .before .before .before .before .before .before .before .before .before .pre) (rw (c .before .before .before .before .before .before .past .given .1) at (c .before .before .before .before .before .before .before .before .before .before .read-darts .ensures)) (omega arith) (c .before .before .write .ensures)
+
+pub read-raw-spec : {M : Type 1} → statement M
+read-raw-spec =
+    tie.close
+    (tie.spec
+    read-at-most-requires
+    enum-known-number
+    enum-told
+    returns
+    read-group-requires
+    enum-known-counter
+    enum-told-2
+    returns-2
+    read-group-requires-2
+    enum-known-count
+    enum-told-3
+    returns-3
+    returns-4
+    read-darts-requires
+    enum-known-past
+    enum-told-4
+    same-length
+    returns-5
+    same-length-2
+    returns-6
+    write-requires
+    same-length-3
+    returns-7)

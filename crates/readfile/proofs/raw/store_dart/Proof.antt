@@ -1,0 +1,48 @@
+-- `readfile::raw::store_dart` meets its contract: a dart is stored if it could be read and its serial is above the last one.
+-- Assumes nothing.
+use mathlib.Core.Path.{sym, _∙_}
+use Rattle.readfile.proofs.PartLaws.{dart-got, dart-lacks}
+use Rattle.readfile.proofs.Storing.{no-dart-stored, not-above, dart-stored}
+use borrow.Author.Needs.{needs}
+use Rattle.readfile.proofs.raw.store_dart.Statement.{statement}
+use Rattle.readfile.proofs.raw.store_dart.Tie as tie
+
+read-dart-requires : tie.Need-read-dart-requires
+read-dart-requires c κs = search needs
+
+enum-known-r : tie.Need-enum-known-r
+enum-known-r c = search needs
+
+enum-told : tie.Need-enum-told
+enum-told c = search needs
+
+returns : tie.Need-returns
+returns c =
+    no-dart-stored _ _ _ (dart-lacks (sym (c .enum-told .given .1) ∙ c .before .before .read-dart .ensures))
+
+returns-2 : tie.Need-returns-2
+returns-2 c =
+    not-above _ _ _ (dart-got (sym (c .before .before .r .given .1) ∙ c .before .before .before .before .read-dart .ensures)) (c .if1 .taken)
+
+put-record-requires : tie.Need-put-record-requires
+put-record-requires c κs = search needs
+
+same-length : tie.Need-same-length
+same-length c = search needs
+
+returns-3 : tie.Need-returns-3
+returns-3 c =
+    dart-stored _ _ _ (dart-got (sym (c .before .before .before .before .before .before .r .given .1) ∙ c .before .before .before .before .before .before .before .before .read-dart .ensures)) (c .before .before .before .before .if1 .left) (c .before .before .put-record .ensures)
+
+pub store-dart-spec : {M : Type 1} → statement M
+store-dart-spec =
+    tie.close
+    (tie.spec
+    read-dart-requires
+    enum-known-r
+    enum-told
+    returns
+    returns-2
+    put-record-requires
+    same-length
+    returns-3)

@@ -1,0 +1,3 @@
+pub mod Serials
+pub mod Parts
+pub mod Places

@@ -1,0 +1,97 @@
+-- What is read of a file at a place, and what is stored of it. Assumes nothing.
+use mathlib.Core.Path.{_≡_}
+use mathlib.Core.Bool.{Bool, true, _&&_}
+use mathlib.Core.List.{List, [], _∷_}
+use mathlib.Core.Option.{Option, none, some}
+use Prim.Native.Nat.{ℕ, _-_}
+use lib.Dec.{ltb}
+use lib.ListN.{length, drop}
+use Rattle.model.specs.Lists.{is-some}
+use Rattle.model.specs.Values.{Point, Third, Dart, Block, rack}
+use Rattle.model.specs.Cells.{serials}
+use Rattle.model.specs.Layouts.{Layout, _⊗_, as-type, such-that, at-most, times, whole}
+use Rattle.model.specs.Messages.{kind-of, third, point, a-dart, file}
+use Rattle.model.specs.Image.{kind-word, image}
+use Rattle.memory.specs.Record.{put}
+use Rattle.groups.specs.declared.Read.{Read}
+use Rattle.groups.specs.declared.Read.the-variants as read
+use Rattle.readfile.specs.Serials.{raw-link, raw-record, raw-words, raw, stored-all}
+use Rattle.readfile.specs.declared.dart.Linked.{Linked}
+use Rattle.readfile.specs.declared.dart.Linked.the-variants as linked
+use Rattle.readfile.specs.declared.dart.Located.{Located}
+use Rattle.readfile.specs.declared.dart.Located.the-variants as located
+use Rattle.readfile.specs.declared.dart.Parsed.{Parsed}
+use Rattle.readfile.specs.declared.dart.Parsed.the-variants as parsed
+use Rattle.readfile.specs.declared.raw.End.{End}
+use Rattle.readfile.specs.declared.raw.End.the-variants as end
+
+-- THIRD LINKS: a kind, and what follows it
+unfoldable pub kind-and-third : Layout Third
+kind-and-third = as-type (λ p. p .1) (λ t. (kind-of t, t)) (at-most 2 ⊗ third)
+
+abbrev pub placed-third : ℕ → Option (Third × List ℕ) → Linked
+placed-third n none = linked.Bad
+placed-third n (some r) = linked.Link (kind-word (r .0)) (raw-link (r .0)) (n - length (r .1))
+
+unfoldable pub third-read : Layout Third → List ℕ → ℕ → Linked
+third-read l s at = placed-third (length s) (l .get (drop at s))
+
+-- POINTS
+abbrev pub placed-point : ℕ → Option (Point × List ℕ) → Located
+placed-point n none = located.Bad
+placed-point n (some r) = located.Point (r .0 .x) (r .0 .y) (r .0 .z) (n - length (r .1))
+
+unfoldable pub point-read : List ℕ → ℕ → Located
+point-read s at = placed-point (length s) (point .get (drop at s))
+
+-- DARTS
+abbrev pub placed-dart : ℕ → Option (Dart × List ℕ) → Parsed
+placed-dart n none = parsed.Bad
+placed-dart n (some r) = parsed.Dart (raw-record (r .0)) (n - length (r .1))
+
+unfoldable pub dart-read : List ℕ → ℕ → Parsed
+dart-read s at = placed-dart (length s) (a-dart .get (drop at s))
+
+-- a dart whose serial is above the last one
+unfoldable pub dart-after : ℕ → Layout Dart
+dart-after last = such-that a-dart (λ d. ltb last (d .serial))
+
+abbrev pub placed-serial : ℕ → Option (Dart × List ℕ) → Read
+placed-serial n none = read.Bad
+placed-serial n (some r) = read.Value (r .0 .serial) (n - length (r .1))
+
+abbrev pub stored : List ℕ → ℕ → Option (Dart × List ℕ) → List ℕ
+stored m p none = m
+stored m p (some r) = put m p (raw-words (r .0))
+
+-- read at a place, and stored at place p
+pub record DartStored (s : List ℕ) (at last : ℕ) (m : List ℕ) (p : ℕ) (after : List ℕ) (r : Read) : Type 0 where
+  pub answer : r ≡ placed-serial (length s) (dart-after last .get (drop at s))
+  pub memory : after ≡ stored m p (dart-after last .get (drop at s))
+
+-- each number above the one before, the first above `last`
+unfoldable pub climbs : ℕ → List ℕ → Bool
+climbs last [] = true
+climbs last (x ∷ xs) = ltb last x && climbs x xs
+
+-- n darts in ascending serial, the first at least 1
+unfoldable pub climbing : ℕ → Layout (List Dart)
+climbing n = such-that (times n a-dart) (λ ds. climbs 0 (serials ds))
+
+abbrev pub placed-end : ℕ → Option (List Dart × List ℕ) → End
+placed-end n none = end.Bad
+placed-end n (some r) = end.At (n - length (r .1))
+
+-- read at a place, and stored from the first place on
+pub record DartsStored (s : List ℕ) (from n : ℕ) (m after : List ℕ) (r : End) : Type 0 where
+  pub answer : r ≡ placed-end (length s) (climbing n .get (drop from s))
+  pub memory : (ds : List Dart) (rest : List ℕ) → climbing n .get (drop from s) ≡ some (ds, rest) → after ≡ stored-all m ds
+
+-- WHOLE FILES
+pub record RawRead (s after : List ℕ) (r : Bool) : Type 0 where
+  pub answer : r ≡ is-some (whole (file rack) s)
+  pub memory : (b : Block) → whole (file rack) s ≡ some b → after ≡ raw b
+
+pub record ImageRead (s after : List ℕ) (r : Bool) : Type 0 where
+  pub answer : r ≡ is-some (whole (file rack) s)
+  pub memory : (b : Block) → whole (file rack) s ≡ some b → after ≡ image b

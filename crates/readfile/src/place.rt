@@ -1,0 +1,82 @@
+// Places for the serials of links, in memory whose darts ascend by serial.
+ghost use mathlib.Core.Path.{_≡_};
+ghost use Prim.Native.Nat.{_≤_, _<_};
+ghost use lib.ListN.{length, getD};
+ghost use Rattle.laws.specs.Order.{Ascending};
+ghost use Rattle.model.specs.Lists.{tab, index-of};
+ghost use Rattle.model.specs.Image.{room, words, column};
+ghost use Rattle.memory.specs.Record.{put};
+ghost use Rattle.readfile.specs.Places.{place-link, place-words, resolved};
+use memory::lookup::Found;
+use memory::record::Place;
+use memory::record::Record;
+
+// Where a serial would stand if serials rose by one from place p on, whose serial is given.
+fn guess(p: usize, own: u64, serial: u64) -> u64 {
+    std::num::wrapping_sub_u64(std::num::wrapping_add_u64(serial, p as u64), own)
+}
+
+// The place of a serial among n darts, n where none has it: first where it stands if serials rise by one from place p on.
+fn place_near(block: &[u64], n: usize, p: usize, own: u64, serial: u64) -> u64
+    requires { ⌜ (n ≤ room) × (length (now block) ≡ words) × Ascending n (column (now block) 0) ⌝ }
+    ensures { λ r. ⌜ r ≡ index-of serial (tab (column (now (block .entry)) 0) n) ⌝ }
+{
+    let g = guess(p, own, serial);
+    if g < n as u64 {
+        if memory::record::field(block, Place(g as usize), 0) == serial {
+            return g;
+        }
+    }
+    match memory::lookup::place_of(block, n, serial) {
+        Found::At(q) => q.0 as u64,
+        Found::Nothing => n as u64,
+    }
+}
+
+// The link word: the place of the dart that a sewn one is sewn to.
+fn link_place(block: &[u64], n: usize, p: usize, own: u64, kind: u64, link: u64) -> u64
+    requires { ⌜ (n ≤ room) × (length (now block) ≡ words) × Ascending n (column (now block) 0) ⌝ }
+    ensures { λ r. ⌜ r ≡ place-link (tab (column (now (block .entry)) 0) n) kind link ⌝ }
+{
+    if kind == 1 {
+        return place_near(block, n, p, own, link);
+    }
+    link
+}
+
+// Places for the serials of the dart at place p.
+fn resolve_dart(block: &mut [u64], n: usize, p: usize)
+    requires { ⌜ (p < n) × (n ≤ room) × (length (now block) ≡ words) × Ascending n (column (now block) 0) ⌝ }
+    ensures { λ _. ⌜ now (block .exit) ≡ put (now (block .entry)) p (place-words (tab (column (now (block .entry)) 0) n) (now (block .entry)) p) ⌝ }
+{
+    let r = memory::record::record_at(block, Place(p));
+    let own = r.serial;
+    let next = place_near(block, n, p, own, r.next);
+    let opposite = place_near(block, n, p, own, r.opposite);
+    let link = link_place(block, n, p, own, r.kind, r.link);
+    let placed = Record {
+        serial: own,
+        next,
+        opposite,
+        kind: r.kind,
+        link,
+        x: r.x,
+        y: r.y,
+        z: r.z,
+    };
+    memory::record::put_record(block, Place(p), placed);
+}
+
+// Places for the serials of all darts.
+pub fn resolve(block: &mut [u64])
+    requires { ⌜ (length (now block) ≡ words) × (getD (now block) 2 0 ≤ room) × Ascending (getD (now block) 2 0) (column (now block) 0) ⌝ }
+    ensures { λ _. ⌜ now (block .exit) ≡ resolved (now (block .entry)) ⌝ }
+{
+    let n = block[2] as usize;
+    // The first i darts have places.
+    let mut i = 0;
+    while i < n {
+        resolve_dart(block, n, i);
+        i += 1;
+    }
+}
