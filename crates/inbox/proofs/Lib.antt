@@ -1,0 +1,4 @@
+pub mod Taking
+pub mod Arrays
+pub mod Points
+pub mod FaceArrays

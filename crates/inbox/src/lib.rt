@@ -1,0 +1,4 @@
+// Messages read group by group from the first byte to the last: question 16.
+pub mod faces; // faces.rt: the points and faces of a transfer
+
+
