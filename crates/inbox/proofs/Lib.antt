@@ -2,3 +2,4 @@ pub mod Taking
 pub mod Arrays
 pub mod Points
 pub mod FaceArrays
+pub mod Passing

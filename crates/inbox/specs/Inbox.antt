@@ -115,3 +115,16 @@ pub record FacesRead (s : List ℕ) (at count : ℕ) (v x b z : List ℕ) (r : F
   pub sides : Sides v x b z
   pub no : r .ok ≡ false → (fs : List (List FaceDart)) (rest : List ℕ) → get-all (counted face-dart) count (drop at s) ≡ some (fs, rest) → some-darts fs ≡ false
   pub yes : r .ok ≡ true → (fs : List (List FaceDart)) × Took (times count (counted face-dart)) s at fs (r .next) × (some-darts fs ≡ true) × (r .darts ≡ size-all fs) × (r .hollow ≡ is-hollow fs) × FacesIn fs v x b z
+
+-- PARTS stay where they stand: something is passed over
+abbrev pub PassSaid : {A : Type 0} → Layout A → List ℕ → ℕ → Read → Type 0
+PassSaid l s at Bad = l .get (drop at s) ≡ none
+PassSaid {A} l s at (Value w next) = (a : A) × Took l s at a next
+
+pub record Passes {A : Type 0} (l : Layout A) (s : List ℕ) (at : ℕ) (r : Read) : Type 0 where
+  pub said : PassSaid l s at r
+
+-- the array has the size of the face of each dart
+pub record Sized (fs : List (List FaceDart)) (darts : ℕ) (sizes : List ℕ) : Type 0 where
+  pub count : darts ≡ size-all fs
+  pub front : take (size-all fs) sizes ≡ sizes-of fs
