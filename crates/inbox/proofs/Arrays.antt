@@ -1,15 +1,12 @@
 -- Arrays that hold what was read: one entry more, and the darts of a face. Assumes nothing.
 use mathlib.Core.Path.{_≡_, refl, sym, _∙_, ap, subst}
-use mathlib.Core.List.{List, [], _∷_, _++_, map, append-assoc, append-nil}
-use mathlib.Core.Option.{none}
+use mathlib.Core.List.{List, [], _∷_, _++_, append-assoc, append-nil}
 use Prim.Native.Nat.{ℕ, zero, suc, _+_, _≤_, _<_}
 use native.Mathlib.Omega.{arith}
-use native.Mathlib.Numerals.{add-one}
-use lib.ListN.{length, take, drop, set, replicate, length-append, length-set, length-map}
+use lib.ListN.{length, take, set, replicate, length-append, length-set, length-map}
 use lib.Seq.{take-suc-set}
 use Rattle.laws.proofs.Members.{map-append}
 use Rattle.model.specs.Messages.{FaceDart, face-dart}
-use Rattle.model.specs.Layouts.{times, get-all}
 use Rattle.groups.specs.declared.Read.{Read}
 use Rattle.groups.specs.declared.Read.the-variants.{Value, Bad}
 use Rattle.inbox.specs.Inbox.{most, Took, Sides, Grown, DartSaid, DartRead, DartsIn, DartsRead}

@@ -1,14 +1,14 @@
 -- Faces read one after the other into arrays. Assumes nothing.
 use mathlib.Core.Path.{_≡_, refl, sym, _∙_, ap, subst}
-use mathlib.Core.Bool.{Bool, true, false, true≢false, _&&_, _||_}
-use mathlib.Core.List.{List, [], _∷_, _++_, map, append-assoc, append-nil}
+use mathlib.Core.Bool.{Bool, false, true≢false, _&&_, _||_}
+use mathlib.Core.List.{List, [], _∷_, _++_, append-assoc, append-nil}
 use mathlib.Core.Option.{none, some, Option·none-ne-some}
 use Prim.Native.Nat.{ℕ, zero, suc, _+_, _-_, _≤_, _<_}
 use native.Mathlib.Omega.{arith}
 use lib.Dec.{leb, ltb, eqb}
 use lib.ListN.{length, take, drop, replicate, length-append, length-map}
 use borrow.Author.Tests.{le-leb, lt-leb, ltb-true, ltb-false}
-use Rattle.model.specs.Lists.{any, concat}
+use Rattle.model.specs.Lists.{concat}
 use Rattle.model.specs.Layouts.{Layout, then, group, as-type, _⊗_, times, get-all, counted}
 use Rattle.model.specs.Messages.{FaceDart, face-dart, size-all}
 use Rattle.laws.proofs.Members.{map-append}
@@ -18,7 +18,7 @@ use Rattle.groups.specs.declared.Read.the-variants.{Value, Bad}
 use Rattle.groups.proofs.Ends.{then-some}
 use Rattle.groups.proofs.Labels.{same-value}
 use Rattle.inbox.specs.declared.faces.Faces.{Faces}
-use Rattle.inbox.specs.Inbox.{most, Took, Sides, Grown, DartsIn, DartsSaid, DartsRead, FaceSaid, FaceRead, FacesIn, FacesRead, starts-of, sizes-of, some-darts, is-hollow}
+use Rattle.inbox.specs.Inbox.{most, Took, Sides, Grown, DartsSaid, DartsRead, FaceSaid, FaceRead, FacesIn, FacesRead, starts-of, sizes-of, some-darts, is-hollow}
 use Rattle.inbox.proofs.Taking.{SoFar, so-far-start, so-far-more, so-far-end, counted-none, counted-half, counted-took}
 use Rattle.inbox.proofs.Arrays.{length-replicate}
 

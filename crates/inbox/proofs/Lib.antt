@@ -3,3 +3,4 @@ pub mod Arrays
 pub mod Points
 pub mod FaceArrays
 pub mod Passing
+pub mod Outlining

@@ -5,15 +5,15 @@ use mathlib.Core.List.{List, [], _∷_, _++_}
 use mathlib.Core.Option.{Option, none, some, Option·none-ne-some}
 use Prim.Native.Nat.{ℕ, zero, suc, _+_, _-_, _≤_, _<_}
 use native.Mathlib.Omega.{arith}
-use lib.Dec.{leb, ltb}
-use lib.ListN.{length, getD, take, drop, replicate, length-append, List·getD-append}
+use lib.Dec.{ltb}
+use lib.ListN.{length, getD, drop, replicate, length-append, List·getD-append}
 use lib.Seq.{getD-take, getD-append-add}
-use borrow.Author.Tests.{lt-ltb, le-ltb, le-leb}
+use borrow.Author.Tests.{lt-ltb, le-ltb}
 use Rattle.model.specs.Values.{Label, code}
 use Rattle.model.specs.Image.{label-in}
-use Rattle.model.specs.Layouts.{Layout, then, group, at-most, such-that, _⊗_, _⊕_, as-type, times, get-all}
+use Rattle.model.specs.Layouts.{Layout, then, group, at-most, such-that, _⊗_, _⊕_, as-type, times}
 use Rattle.model.specs.Messages.{FaceDart, label, part2, part3, part4, size-all, size-at}
-use Rattle.laws.proofs.Tests.{by-cases, lt-or-ge}
+use Rattle.laws.proofs.Tests.{lt-or-ge}
 use Rattle.groups.specs.Slices.{read-at, label-code}
 use Rattle.groups.specs.declared.Read.{Read}
 use Rattle.groups.specs.declared.Read.the-variants.{Value, Bad}
@@ -132,14 +132,18 @@ module _ (fs : List (List FaceDart)) where
 
   pub part4-none : (s : List ℕ) (at : ℕ) → group .get (drop at s) ≡ none → Passes (part4 fs) s at Bad
   unfolding part4
-  part4-none s at e = record { said = as-none (λ p. record { index = p .0; other = p .1 .0; labels = p .1 .1 }) (λ k. (k .index, (k .other, k .labels))) (inside ⊗ after) (drop at s)
-      (pair-none inside after (drop at s) (such-none group (λ i. ltb i (size-all fs)) (drop at s) e)) }
+  part4-none s at e = record {
+    said = as-none (λ p. record { index = p .0; other = p .1 .0; labels = p .1 .1 }) (λ k. (k .index, (k .other, k .labels))) (inside ⊗ after) (drop at s)
+        (pair-none inside after (drop at s) (such-none group (λ i. ltb i (size-all fs)) (drop at s) e));
+  }
 
   module _ {s : List ℕ} {at p i : ℕ} (w : Took group s at i p) where
     pub part4-outside : {darts : ℕ} {sizes : List ℕ} → Sized fs darts sizes → darts ≤ i → Passes (part4 fs) s at Bad
     unfolding part4
-    part4-outside z h = record { said = as-none (λ p. record { index = p .0; other = p .1 .0; labels = p .1 .1 }) (λ k. (k .index, (k .other, k .labels))) (inside ⊗ after) (drop at s)
-        (pair-none inside after (drop at s) (such-refused group (λ i. ltb i (size-all fs)) w (le-ltb i (size-all fs) (let a = z .count in omega arith)))) }
+    part4-outside z h = record {
+      said = as-none (λ p. record { index = p .0; other = p .1 .0; labels = p .1 .1 }) (λ k. (k .index, (k .other, k .labels))) (inside ⊗ after) (drop at s)
+          (pair-none inside after (drop at s) (such-refused group (λ i. ltb i (size-all fs)) w (le-ltb i (size-all fs) (let a = z .count in omega arith))));
+    }
 
     module _ {darts : ℕ} {sizes : List ℕ} (z : Sized fs darts sizes) (h : i < darts) where
       took-index : Took inside s at i p
@@ -147,15 +151,20 @@ module _ (fs : List (List FaceDart)) where
 
       pub part4-alone : at-most 15 .get (drop p s) ≡ none → Passes (part4 fs) s at Bad
       unfolding part4
-      part4-alone e = record { said = as-none (λ p. record { index = p .0; other = p .1 .0; labels = p .1 .1 }) (λ k. (k .index, (k .other, k .labels))) (inside ⊗ after) (drop at s)
-          (pair-half inside after took-index (both-none (at-most 15) (times (size-at i fs) label) (drop p s) e)) }
+      part4-alone e = record {
+        said = as-none (λ p. record { index = p .0; other = p .1 .0; labels = p .1 .1 }) (λ k. (k .index, (k .other, k .labels))) (inside ⊗ after) (drop at s)
+            (pair-half inside after took-index (both-none (at-most 15) (times (size-at i fs) label) (drop p s) e));
+      }
 
       part4-said : {q o : ℕ} → Took (at-most 15) s p o q → (r : Read) → PassSaid (times (size-at i fs) label) s q r → PassSaid (part4 fs) s at r
       unfolding part4
       part4-said t Bad d = as-none (λ p. record { index = p .0; other = p .1 .0; labels = p .1 .1 }) (λ k. (k .index, (k .other, k .labels))) (inside ⊗ after) (drop at s)
           (pair-half inside after took-index (both-half (at-most 15) (times (size-at i fs) label) t d))
-      part4-said {q} {o} t (Value u n) d = (record { index = i; other = o; labels = d .0 }, as-took (λ p. record { index = p .0; other = p .1 .0; labels = p .1 .1 }) (λ k. (k .index, (k .other, k .labels))) (inside ⊗ after)
-          (pair-took inside after took-index (both-took (at-most 15) (times (size-at i fs) label) t (d .1))))
+      part4-said {q} {o} t (Value u n) d = (
+        record { index = i; other = o; labels = d .0 },
+        as-took (λ p. record { index = p .0; other = p .1 .0; labels = p .1 .1 }) (λ k. (k .index, (k .other, k .labels))) (inside ⊗ after)
+            (pair-took inside after took-index (both-took (at-most 15) (times (size-at i fs) label) t (d .1))),
+      )
 
       pub part4-pass : {q o n : ℕ} {r : Read} → Took (at-most 15) s p o q → n ≡ getD sizes i 0 → Passes (times n label) s q r → Passes (part4 fs) s at r
       part4-pass {q} {o} {n} {r} t e d = record { said = part4-said t r (subst (λ (k : ℕ). PassSaid (times k label) s q r) (e ∙ size-there z h) (d .said)) }

@@ -1,21 +1,20 @@
 -- Points where they stand: a word, a point and all points are taken where there is room, and not otherwise. Assumes nothing.
-use mathlib.Core.Path.{_≡_, refl, sym, _∙_, ap}
+use mathlib.Core.Path.{_≡_, refl, ap}
 use mathlib.Core.Logic.{⊎-elim}
 use mathlib.Core.List.{List, [], _∷_}
 use mathlib.Core.Option.{none, some}
-use Prim.Native.Nat.{ℕ, zero, suc, _+_, _*_, _/_, _≤_, _<_}
+use Prim.Native.Nat.{ℕ, zero, suc, _+_, _*_, _≤_, _<_}
 use native.Mathlib.Omega.{arith}
 use lib.ListN.{length, drop, length-drop}
 use lib.Seq.{drop-drop}
 use Rattle.model.specs.Lists.{tab}
-use Rattle.model.specs.Values.{Point}
-use Rattle.model.specs.Layouts.{Read, read-bytes, coordinate, group, _⊕_, get-all, times, counted}
+use Rattle.model.specs.Layouts.{read-bytes, coordinate, group, _⊕_, get-all, times}
 use Rattle.model.specs.Messages.{point}
 use Rattle.laws.proofs.Tests.{lt-or-ge}
 use Rattle.laws.proofs.Tables.{tab-cong}
 use Rattle.groups.specs.declared.Read.the-variants.{Value, Bad}
-use Rattle.inbox.specs.Inbox.{Took, value-or-zero, word-in, point-in, points-in, PointsRead}
-use Rattle.inbox.proofs.Taking.{both-none, both-half, both-took, as-none, as-took, counted-none, counted-half, counted-took}
+use Rattle.inbox.specs.Inbox.{Took, word-in, point-in, points-in, PointsRead}
+use Rattle.inbox.proofs.Taking.{both-none, both-half, both-took, as-none, as-took, counted-half, counted-took}
 
 -- BYTES
 bytes-some : (n : ℕ) (bs : List ℕ) → n ≤ length bs → (v : ℕ) × (read-bytes n bs ≡ some (v, drop n bs))
@@ -72,7 +71,7 @@ points-took s (suc n) from h =
     let e : from + 24 * 0 ≡ from = omega arith in
     let f : from + 24 + 24 * n ≡ from + 24 * suc n = omega arith in
     let same : tab (λ k. point-in s (from + 24 + 24 * k)) n ≡ tab (λ k. point-in s (from + 24 * suc k)) n
-            = tab-cong (λ k. point-in s (from + 24 + 24 * k)) (λ k. point-in s (from + 24 * suc k)) n (λ k j. ap (point-in s) (shift from k)) in
+    = tab-cong (λ k. point-in s (from + 24 + 24 * k)) (λ k. point-in s (from + 24 * suc k)) n (λ k j. ap (point-in s) (shift from k)) in
     record { value = rw (first .value, later .value, e, ← f, same); onward = omega arith; within = h }
   where
     shift : (from k : ℕ) → from + 24 + 24 * k ≡ from + 24 * suc k

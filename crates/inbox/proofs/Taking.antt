@@ -2,13 +2,13 @@
 use mathlib.Core.Path.{_≡_, refl, sym, _∙_, ap}
 use mathlib.Core.Bool.{Bool, true, false}
 use mathlib.Core.List.{List, [], _∷_, _++_, append-assoc, append-nil}
-use mathlib.Core.Option.{Option, none, some}
+use mathlib.Core.Option.{none, some}
 use Prim.Native.Nat.{ℕ, suc, _+_, _-_, _≤_}
 use native.Mathlib.Omega.{arith}
 use lib.ListN.{length, drop, length-append}
-use Rattle.model.specs.Layouts.{Layout, Read, then, when, group, serial, at-most, as-type, such-that, _⊗_, _⊕_, get-all, times, counted}
+use Rattle.model.specs.Layouts.{Layout, Read, then, group, serial, at-most, as-type, such-that, _⊗_, _⊕_, get-all, times, counted}
 use Rattle.model.specs.Messages.{face-dart}
-use Rattle.groups.specs.Slices.{read-at, label-code}
+use Rattle.groups.specs.Slices.{read-at}
 use Rattle.groups.specs.declared.Read.the-variants.{Value}
 use Rattle.groups.proofs.Ends.{Reads, group-at, serial-at, at-most-at}
 use Rattle.inbox.specs.Inbox.{Took}

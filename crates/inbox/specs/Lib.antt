@@ -1,1 +1,2 @@
 pub mod Inbox
+pub mod Outlines

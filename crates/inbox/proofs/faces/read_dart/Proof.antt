@@ -2,7 +2,6 @@ use mathlib.Core.Path.{refl, sym, _∙_}
 use Rattle.model.specs.Layouts.{group, serial}
 use Rattle.groups.proofs.Ends.{bad-at}
 use Rattle.inbox.proofs.Taking.{took-group, took-serial, dart-none, dart-half, dart-took}
-use native.Mathlib.Omega.{arith}
 use borrow.Author.Needs.{needs}
 use Rattle.inbox.proofs.faces.read_dart.Statement.{statement}
 use Rattle.inbox.proofs.faces.read_dart.Tie as tie

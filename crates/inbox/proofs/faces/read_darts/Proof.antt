@@ -1,4 +1,4 @@
-use mathlib.Core.Path.{refl, sym, _∙_}
+use mathlib.Core.Path.{refl}
 use Prim.Native.Nat.{_+_, _-_}
 use Rattle.inbox.proofs.Arrays.{Darts, darts-start, darts-more, darts-stop, darts-end}
 use native.Mathlib.Omega.{arith}

@@ -1,5 +1,4 @@
-use mathlib.Core.Path.{refl, sym, _∙_}
-use mathlib.Core.Bool.{_||_}
+use mathlib.Core.Path.{refl}
 use Rattle.inbox.proofs.FaceArrays.{Reading, reading-start, reading-more, reading-stop, reading-end, face-fits}
 use native.Mathlib.Omega.{arith}
 use borrow.Author.Needs.{needs}

@@ -1,4 +1,3 @@
-use mathlib.Core.Path.{sym, _∙_}
 use Rattle.model.specs.Messages.{label}
 use Rattle.inbox.proofs.Passing.{label-pass, Passing, passing-start, passing-more, passing-stop, passing-end}
 use native.Mathlib.Omega.{arith}

@@ -1,6 +1,5 @@
 use mathlib.Core.Path.{sym, _∙_}
 use Rattle.inbox.proofs.Passing.{no-label, took-label, group-pass, part2-none, part2-pass}
-use native.Mathlib.Omega.{arith}
 use borrow.Author.Needs.{needs}
 use Rattle.inbox.proofs.parts.pass_part2.Statement.{statement}
 use Rattle.inbox.proofs.parts.pass_part2.Tie as tie

@@ -3,7 +3,6 @@ use Rattle.model.specs.Layouts.{group}
 use Rattle.groups.proofs.Ends.{bad-at}
 use Rattle.inbox.proofs.Taking.{took-group}
 use Rattle.inbox.proofs.Passing.{group-pass, part3-none, part3-pass}
-use native.Mathlib.Omega.{arith}
 use borrow.Author.Needs.{needs}
 use Rattle.inbox.proofs.parts.pass_part3.Statement.{statement}
 use Rattle.inbox.proofs.parts.pass_part3.Tie as tie

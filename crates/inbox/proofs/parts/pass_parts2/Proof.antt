@@ -1,6 +1,5 @@
-use mathlib.Core.Path.{sym, _∙_}
 use Rattle.model.specs.Messages.{part2}
-use Rattle.inbox.proofs.Passing.{label-pass, Passing, passing-start, passing-more, passing-stop, passing-end}
+use Rattle.inbox.proofs.Passing.{Passing, passing-start, passing-more, passing-stop, passing-end}
 use native.Mathlib.Omega.{arith}
 use borrow.Author.Needs.{needs}
 use Rattle.inbox.proofs.parts.pass_parts2.Statement.{statement}

@@ -1,4 +1,3 @@
-use mathlib.Core.Path.{sym, _∙_}
 use mathlib.Core.List.{List}
 use Rattle.model.specs.Messages.{FaceDart, part4}
 use Rattle.inbox.specs.Inbox.{Sized}
