@@ -221,6 +221,11 @@ pub no-front : (s : List ℕ) (at : ℕ) → part1 .get (drop at s) ≡ none →
 unfolding transfer
 no-front s at e = whole-none transfer (drop at s) (as-none _ _ _ (drop at s) (pair-none part1 (λ h. tail-layout (h .1 .1 .1 .1)) (drop at s) e))
 
+-- whether something is left does not depend on what was read
+ended-alike : {A B : Type 0} (a : A) (b : B) (bs : List ℕ) → ended a bs ≡ none → ended b bs ≡ none
+ended-alike a b [] e = absurd (Option·none-ne-some _ (sym e))
+ended-alike a b (c ∷ bs) e = refl
+
 pub no-tail : {s : List ℕ} {at p : ℕ} {h : Part1} → Took part1 s at h p → whole (tail-layout (h .1 .1 .1 .1)) (drop p s) ≡ none → whole transfer (drop at s) ≡ none
 unfolding transfer whole as-type _⊗_
 no-tail {s} {at} {p} {h} w e = rw (w .value) (go (tail-layout (h .1 .1 .1 .1) .get (drop p s)) e)
@@ -228,11 +233,7 @@ no-tail {s} {at} {p} {h} w e = rw (w .value) (go (tail-layout (h .1 .1 .1 .1) .g
     go : (r : Read (List Part2 × (List Part3 × List Part4))) → at-end r ≡ none
         → at-end {A = Transfer} (then {A = Part1 × (List Part2 × (List Part3 × List Part4))} (then {B = Part1 × (List Part2 × (List Part3 × List Part4))} r (λ b rest. some ((h, b), rest))) (λ q rest. some (record { from = q .0 .1 .0; to = q .0 .1 .1 .0; points = q .0 .1 .1 .1 .0; faces = q .0 .1 .1 .1 .1; part2 = q .1 .0; part3 = q .1 .1 .0; part4 = q .1 .1 .1 }, rest))) ≡ none
     go none e = refl
-    go (some r) e = last (r .1) e
-      where
-        last : {A B : Type 0} {a : A} {b : B} (bs : List ℕ) → ended a bs ≡ none → ended b bs ≡ none
-        last [] e = absurd (Option·none-ne-some _ (sym e))
-        last (c ∷ bs) e = refl
+    go (some r) e = ended-alike (r .0) (record { from = h .1 .0; to = h .1 .1 .0; points = h .1 .1 .1 .0; faces = h .1 .1 .1 .1; part2 = r .0 .0; part3 = r .0 .1 .0; part4 = r .0 .1 .1 }) (r .1) e
 
 -- what both halves tell
 pub transfer-took : {s : List ℕ} {at : ℕ} {v x b z : List ℕ} {f : Front} {t : Tail} (w : Fronted s at v x b z f) (y : Tailed (w .fs) s (f .next) t)
