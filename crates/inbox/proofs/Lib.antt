@@ -1,0 +1,6 @@
+pub mod Taking
+pub mod Arrays
+pub mod Points
+pub mod FaceArrays
+pub mod Passing
+pub mod Outlining

@@ -1,0 +1,275 @@
+-- Whole messages by their parts: what is missing, and what is told when nothing is. Assumes nothing.
+use mathlib.Core.Path.{_≡_, refl, sym, _∙_, ap, subst}
+use mathlib.Core.Logic.{_≢_}
+use mathlib.Core.Bool.{Bool, true, false, true≢false, cond}
+use mathlib.Core.List.{List, [], _∷_}
+use mathlib.Core.Option.{Option, none, some, Option·none-ne-some}
+use Prim.Native.Nat.{ℕ, _+_, _*_, _-_}
+use native.Mathlib.Omega.{arith}
+use lib.Dec.{eqb}
+use lib.ListN.{length, drop, length-drop}
+use borrow.Author.Tests.{eq-eqb, ne-eqb, eqb-true, eqb-false}
+use Rattle.model.specs.Layouts.{Layout, Read, then, when, group, at-most, exactly, such-that, as-type, _⊗_, _⊕_, times, get-all, counted, at-end, ended, whole, unframed}
+use Rattle.model.specs.Messages.{FaceDart, face-dart, point, label, Part1, part1, Part2, part2, Part3, part3, Part4, part4, Transfer, transfer, update}
+use Rattle.laws.proofs.Lists.{drop-end}
+use Rattle.groups.specs.declared.Read.{Read as Answer}
+use Rattle.groups.specs.declared.Read.the-variants.{Value, Bad}
+use Rattle.groups.proofs.Ends.{then-some}
+use Rattle.groups.proofs.Labels.{same-value}
+use Rattle.inbox.specs.declared.faces.Faces.{Faces}
+use Rattle.inbox.specs.declared.message.Head.{Head}
+use Rattle.inbox.specs.declared.message.Counted.{Counted}
+use Rattle.inbox.specs.declared.message.Front.{Front}
+use Rattle.inbox.specs.declared.message.Tail.{Tail}
+use Rattle.inbox.specs.declared.message.Update.{Update as UpdateOutline}
+use Rattle.inbox.specs.Inbox.{Took, Sides, FacesRead, PointsSaid, PointsRead, PassSaid, Passes, points-in, some-darts}
+use Rattle.inbox.specs.Outlines.{FrameRead, NoHead, no-kind, no-from, no-to, Headed, HeadRead, Entries, CountedRead, Fronted, FrontRead, tail-layout, Tailed, TailRead, UpdateRead}
+use Rattle.inbox.proofs.Taking.{pair-none, pair-took, both-none, both-half, both-took, as-none, as-took, such-none, such-refused, such-took, counted-none, counted-half, counted-took}
+
+-- TO THE LAST BYTE
+module _ {A : Type 0} (l : Layout A) where
+  pub whole-none : (bs : List ℕ) → l .get bs ≡ none → whole l bs ≡ none
+  unfolding whole
+  whole-none bs e = rw e
+
+  pub whole-took : {s : List ℕ} {at p : ℕ} {a : A} → Took l s at a p → p ≡ length s → whole l (drop at s) ≡ some a
+  unfolding whole
+  whole-took {s} {at} {p} w e = rw (w .value, e, drop-end s (length s) (omega arith))
+
+  pub whole-more : {s : List ℕ} {at p : ℕ} {a : A} → Took l s at a p → p ≢ length s → whole l (drop at s) ≡ none
+  unfolding whole
+  whole-more {s} {at} {p} {a} w e = rw (w .value) (go (drop p s) (length-drop p s))
+    where
+      go : (bs : List ℕ) → length bs ≡ length s - p → ended a bs ≡ none
+      go [] k = absurd (e (let h = w .within in omega arith))
+      go (b ∷ bs) k = refl
+
+-- THE FRAME
+frame-as : {A : Type 0} (l : Layout A) {s : List ℕ} {n p : ℕ} → Took group s 0 n p → unframed l s ≡ cond (eqb (length s - p) n) (whole l (drop p s)) none
+unfolding unframed
+frame-as l {s} {n} {p} w = rw (w .value, length-drop p s)
+
+pub frame-none : (s : List ℕ) → group .get (drop 0 s) ≡ none → FrameRead s Bad
+unfolding unframed
+frame-none s e = record { said = (rw e, rw e) }
+
+pub frame-wrong : {s : List ℕ} {n p : ℕ} → Took group s 0 n p → length s - p ≢ n → FrameRead s Bad
+frame-wrong {s} {n} {p} w h = let e = ne-eqb (length s - p) n h in record { said = (frame-as transfer w ∙ rw e, frame-as update w ∙ rw e) }
+
+pub frame-right : {s : List ℕ} {n p : ℕ} → Took group s 0 n p → length s - p ≡ n → FrameRead s (Value n p)
+frame-right {s} {n} {p} w h = let e = eq-eqb (length s - p) n h in record { said = (frame-as transfer w ∙ rw e, frame-as update w ∙ rw e, w .within) }
+
+-- THE HEAD
+pub kind-none : (k : ℕ) (s : List ℕ) (at : ℕ) → group .get (drop at s) ≡ none → NoHead k s at
+unfolding exactly
+kind-none k s at e = no-kind (such-none group (eqb k) (drop at s) e)
+
+pub kind-other : (k : ℕ) {s : List ℕ} {at n p : ℕ} → Took group s at n p → k ≢ n → NoHead k s at
+unfolding exactly
+kind-other k {s} {at} {n} w h = no-kind (such-refused group (eqb k) w (ne-eqb k n h))
+
+pub took-kind : {k n : ℕ} {s : List ℕ} {at p : ℕ} → Took group s at n p → n ≡ k → Took (exactly k) s at k p
+unfolding exactly
+took-kind {k} {n} w e = such-took group (eqb k) (rw e at w) (eq-eqb k k refl)
+
+pub head-bad : {k : ℕ} {s : List ℕ} {at : ℕ} {r : Head} → r .ok ≡ false → NoHead k s at → HeadRead k s at r
+head-bad b n = record { no = λ e. n; yes = λ e. absurd (true≢false (sym e ∙ b)) }
+
+pub head-good : {k : ℕ} {s : List ℕ} {at : ℕ} (r : Head) → r .ok ≡ true → Headed k s at (r .from) (r .to) (r .next) → HeadRead k s at r
+head-good r b h = record { no = λ e. absurd (true≢false (sym b ∙ e)); yes = λ e. h }
+
+module _ {B : Type 0} (k : ℕ) (m : Layout B) where
+  abbrev headed-by : Layout (ℕ × (ℕ × (ℕ × B)))
+  headed-by = exactly k ⊕ at-most 15 ⊕ at-most 15 ⊕ m
+
+  pub head-none : {s : List ℕ} {at : ℕ} → NoHead k s at → headed-by .get (drop at s) ≡ none
+  head-none {s} {at} (no-kind e) = both-none (exactly k) (at-most 15 ⊕ at-most 15 ⊕ m) (drop at s) e
+  head-none {s} {at} (no-from p w e) = both-half (exactly k) (at-most 15 ⊕ at-most 15 ⊕ m) w (both-none (at-most 15) (at-most 15 ⊕ m) (drop p s) e)
+  head-none {s} {at} (no-to p q f w x e) = both-half (exactly k) (at-most 15 ⊕ at-most 15 ⊕ m) w (both-half (at-most 15) (at-most 15 ⊕ m) x (both-none (at-most 15) m (drop q s) e))
+
+  module _ {s : List ℕ} {at from to p : ℕ} (h : Headed k s at from to p) where
+    pub head-half : m .get (drop p s) ≡ none → headed-by .get (drop at s) ≡ none
+    head-half e = both-half (exactly k) (at-most 15 ⊕ at-most 15 ⊕ m) (h .kind-read) (both-half (at-most 15) (at-most 15 ⊕ m) (h .from-read) (both-half (at-most 15) m (h .to-read) e))
+
+    pub head-took : {b : B} {q : ℕ} → Took m s p b q → Took headed-by s at (k, (from, (to, b))) q
+    head-took w = both-took (exactly k) (at-most 15 ⊕ at-most 15 ⊕ m) (h .kind-read) (both-took (at-most 15) (at-most 15 ⊕ m) (h .from-read) (both-took (at-most 15) m (h .to-read) w))
+
+-- COUNTED ENTRIES
+module _ {A : Type 0} (l : Layout A) where
+  pub counted-bad : (s : List ℕ) (at : ℕ) {r : Counted} → r .ok ≡ false → group .get (drop at s) ≡ none → CountedRead l s at r
+  counted-bad s at b e = record { no = λ k. counted-none l (drop at s) e; yes = λ k. absurd (true≢false (sym k ∙ b)) }
+
+  pub counted-short : {s : List ℕ} {at n p : ℕ} {t : Answer} {r : Counted} → r .ok ≡ false → Took group s at n p → t ≡ Bad → Passes (times n l) s p t → CountedRead l s at r
+  unfolding times
+  counted-short {s} {at} {n} {p} {t} b w e d = record { no = λ k. counted-half l w (subst (PassSaid (times n l) s p) e (d .said)); yes = λ k. absurd (true≢false (sym k ∙ b)) }
+
+  pub counted-good : {s : List ℕ} {at n p m q : ℕ} {t : Answer} → Took group s at n p → t ≡ Value m q → Passes (times n l) s p t → CountedRead l s at (record { ok = true; count = n; first = p; next = q })
+  counted-good {s} {at} {n} {p} {m} {q} {t} w e d = record { no = λ k. absurd (true≢false k); yes = λ k. go (subst (PassSaid (times n l) s p) e (d .said)) }
+    where
+      go : PassSaid (times n l) s p (Value m q) → Entries l s at n p q
+      go d = record { items = d .0; count-read = w; items-read = d .1 }
+
+  pub entries-took : {s : List ℕ} {at n p q : ℕ} (e : Entries l s at n p q) → Took (counted l) s at (e .items) q
+  entries-took e = counted-took l (e .count-read) (e .items-read)
+
+-- FACES
+abbrev faces-layout : Layout (List (List FaceDart))
+faces-layout = such-that (counted (counted face-dart)) some-darts
+
+counted-items : {A : Type 0} (l : Layout A) {s : List ℕ} {at n p : ℕ} (xs : List A) (rest : List ℕ) → Took group s at n p → counted l .get (drop at s) ≡ some (xs, rest) → (t : List ℕ) × (get-all l n (drop p s) ≡ some (xs, t))
+unfolding counted times as-type _⊗_
+counted-items {A} l {s} {at} {n} {p} xs rest w e =
+    let e′ = rw (w .value) at e in
+    let r = then-some (then (get-all l n (drop p s)) _) _ _ e′ in
+    let t = then-some (get-all l n (drop p s)) _ _ (r .2) in
+    let same : t .0 ≡ xs = ap (λ (q : ℕ × List A). q .1) (same-value (t .3)) ∙ same-value (r .3) in
+    (t .1, t .2 ∙ ap (λ (ys : List A). some (ys, t .1)) same)
+
+faces-no : {s : List ℕ} {at n p : ℕ} → Took group s at n p
+    → ((fs : List (List FaceDart)) (rest : List ℕ) → get-all (counted face-dart) n (drop p s) ≡ some (fs, rest) → some-darts fs ≡ false) → faces-layout .get (drop at s) ≡ none
+unfolding such-that
+faces-no {s} {at} {n} {p} w h = go (counted (counted face-dart) .get (drop at s)) refl
+  where
+    go : (r : Read (List (List FaceDart))) → counted (counted face-dart) .get (drop at s) ≡ r → then r (λ v rest. when (some-darts v) (some (v, rest))) ≡ none
+    go none e = refl
+    go (some r) e = let t = counted-items (counted face-dart) (r .0) (r .1) w e in rw (h (r .0) (t .0) (t .1))
+
+-- PART 1 OF A TRANSFER
+pub front-bad : {s : List ℕ} {at : ℕ} {v x b z : List ℕ} {r : Front} → Sides v x b z → r .ok ≡ false → part1 .get (drop at s) ≡ none → FrontRead s at v x b z r
+front-bad w e n = record { sides = w; no = λ k. n; yes = λ k. absurd (true≢false (sym k ∙ e)) }
+
+pub no-head : {s : List ℕ} {at : ℕ} {h : Head} → h .ok ≡ false → HeadRead 1 s at h → part1 .get (drop at s) ≡ none
+unfolding part1
+no-head {s} {at} e w = head-none 1 (counted point ⊕ faces-layout) (w .no e)
+
+pub no-points : {s : List ℕ} {at from to p : ℕ} {r : Answer} → Headed 1 s at from to p → r ≡ Bad → PointsRead s p r → part1 .get (drop at s) ≡ none
+unfolding part1
+no-points {s} {at} {from} {to} {p} h e w = head-half 1 (counted point ⊕ faces-layout) h (both-none (counted point) faces-layout (drop p s) (subst (PointsSaid s p) e (w .said)))
+
+-- the points, and where they end
+pub took-points : {s : List ℕ} {p n from : ℕ} {r : Answer} → r ≡ Value n from → PointsRead s p r → Took (counted point) s p (points-in s from n) (from + 24 * n)
+took-points {s} {p} {n} {from} e w = go (subst (PointsSaid s p) e (w .said))
+  where
+    go : PointsSaid s p (Value n from) → Took (counted point) s p (points-in s from n) (from + 24 * n)
+    go d = record { value = d .0; onward = (let a = d .1 in omega arith); within = d .2 }
+
+module _ (m start : ℕ) {s : List ℕ} {at from to p : ℕ} (h : Headed 1 s at from to p) (points : Took (counted point) s p (points-in s start m) (start + 24 * m)) where
+  pub no-count : group .get (drop (start + 24 * m) s) ≡ none → part1 .get (drop at s) ≡ none
+  unfolding part1
+  no-count e = head-half 1 (counted point ⊕ faces-layout) h (both-half (counted point) faces-layout points
+      (such-none (counted (counted face-dart)) some-darts (drop (start + 24 * m) s) (counted-none (counted face-dart) (drop (start + 24 * m) s) e)))
+
+  pub front-read : {n first : ℕ} {v x b z : List ℕ} {f : Faces} → Took group s (start + 24 * m) n first → FacesRead s first n v x b z f
+      → FrontRead s at v x b z (record { ok = f .ok; hollow = f .hollow; from = from; to = to; vertices = m; points = start; darts = f .darts; next = f .next })
+  unfolding part1
+  front-read {n} {first} {v} {x} {b} {z} {f} count w = record {
+    sides = w .sides;
+    no = λ e. head-half 1 (counted point ⊕ faces-layout) h (both-half (counted point) faces-layout points (faces-no count (w .no e)));
+    yes = λ e. let y = w .yes e in record {
+      fs = y .0;
+      took = head-took 1 (counted point ⊕ faces-layout) h (both-took (counted point) faces-layout points (such-took (counted (counted face-dart)) some-darts (counted-took (counted face-dart) count (y .1)) (y .2)));
+      points-fit = points .within;
+      some-there = y .2;
+      darts-are = y .3;
+      hollow-is = y .4;
+      inside = y .5;
+    };
+  }
+
+-- PARTS 2 TO 4
+module _ (fs : List (List FaceDart)) where
+  pub tail-bad : {s : List ℕ} {at : ℕ} {r : Tail} → r .ok ≡ false → tail-layout fs .get (drop at s) ≡ none → TailRead fs s at r
+  tail-bad {s} {at} e n = record { no = λ k. whole-none (tail-layout fs) (drop at s) n; yes = λ k. absurd (true≢false (sym k ∙ e)) }
+
+  pub no-second : {s : List ℕ} {at : ℕ} {c2 : Counted} → CountedRead part2 s at c2 → c2 .ok ≡ false → tail-layout fs .get (drop at s) ≡ none
+  no-second {s} {at} w2 e = both-none (counted part2) (counted part3 ⊕ counted (part4 fs)) (drop at s) (w2 .no e)
+
+  module _ {s : List ℕ} {at : ℕ} {c2 : Counted} (w2 : CountedRead part2 s at c2) (y2 : c2 .ok ≡ true) where
+    pub no-third : {c3 : Counted} → CountedRead part3 s (c2 .next) c3 → c3 .ok ≡ false → tail-layout fs .get (drop at s) ≡ none
+    no-third w3 e = both-half (counted part2) (counted part3 ⊕ counted (part4 fs)) (entries-took part2 (w2 .yes y2)) (both-none (counted part3) (counted (part4 fs)) (drop (c2 .next) s) (w3 .no e))
+
+    module _ {c3 c4 : Counted} (w3 : CountedRead part3 s (c2 .next) c3) (y3 : c3 .ok ≡ true) (w4 : CountedRead (part4 fs) s (c3 .next) c4) where
+      pub no-fourth : c4 .ok ≡ false → tail-layout fs .get (drop at s) ≡ none
+      no-fourth e = both-half (counted part2) (counted part3 ⊕ counted (part4 fs)) (entries-took part2 (w2 .yes y2)) (both-half (counted part3) (counted (part4 fs)) (entries-took part3 (w3 .yes y3)) (w4 .no e))
+
+      pub tail-read : c4 .ok ≡ true → {end : Bool} → end ≡ eqb (c4 .next) (length s)
+          → TailRead fs s at (record { ok = end; count2 = c2 .count; part2 = c2 .first; count3 = c3 .count; part3 = c3 .first; count4 = c4 .count; part4 = c4 .first })
+      tail-read y4 {end} last =
+          let e2 = w2 .yes y2 in
+          let e3 = w3 .yes y3 in
+          let e4 = w4 .yes y4 in
+          let taken : Took (tail-layout fs) s at (e2 .items, (e3 .items, e4 .items)) (c4 .next)
+          = both-took (counted part2) (counted part3 ⊕ counted (part4 fs)) (entries-took part2 e2) (both-took (counted part3) (counted (part4 fs)) (entries-took part3 e3) (entries-took (part4 fs) e4)) in
+          record {
+            no = λ e. whole-more (tail-layout fs) taken (eqb-false (c4 .next) (length s) (sym last ∙ e));
+            yes = λ e. record {
+              second = e2 .items;
+              third = e3 .items;
+              fourth = e4 .items;
+              took = subst (Took (tail-layout fs) s at (e2 .items, (e3 .items, e4 .items))) (eqb-true (c4 .next) (length s) (sym last ∙ e)) taken;
+              past2 = c2 .next;
+              past3 = c3 .next;
+              past4 = c4 .next;
+              part2-in = e2 .items-read;
+              part3-in = e3 .items-read;
+              part4-in = e4 .items-read;
+            };
+          }
+
+-- A TRANSFER of both halves
+pub no-front : (s : List ℕ) (at : ℕ) → part1 .get (drop at s) ≡ none → whole transfer (drop at s) ≡ none
+unfolding transfer
+no-front s at e = whole-none transfer (drop at s) (as-none _ _ _ (drop at s) (pair-none part1 (λ h. tail-layout (h .1 .1 .1 .1)) (drop at s) e))
+
+-- whether something is left does not depend on what was read
+ended-alike : {A B : Type 0} (a : A) (b : B) (bs : List ℕ) → ended a bs ≡ none → ended b bs ≡ none
+ended-alike a b [] e = absurd (Option·none-ne-some _ (sym e))
+ended-alike a b (c ∷ bs) e = refl
+
+pub no-tail : {s : List ℕ} {at p : ℕ} {h : Part1} → Took part1 s at h p → whole (tail-layout (h .1 .1 .1 .1)) (drop p s) ≡ none → whole transfer (drop at s) ≡ none
+unfolding transfer whole as-type _⊗_
+no-tail {s} {at} {p} {h} w e = rw (w .value) (go (tail-layout (h .1 .1 .1 .1) .get (drop p s)) e)
+  where
+    go : (r : Read (List Part2 × (List Part3 × List Part4))) → at-end r ≡ none
+        → at-end {A = Transfer} (then {A = Part1 × (List Part2 × (List Part3 × List Part4))} (then {B = Part1 × (List Part2 × (List Part3 × List Part4))} r (λ b rest. some ((h, b), rest))) (λ q rest. some (record { from = q .0 .1 .0; to = q .0 .1 .1 .0; points = q .0 .1 .1 .1 .0; faces = q .0 .1 .1 .1 .1; part2 = q .1 .0; part3 = q .1 .1 .0; part4 = q .1 .1 .1 }, rest))) ≡ none
+    go none e = refl
+    go (some r) e = ended-alike (r .0) (record { from = h .1 .0; to = h .1 .1 .0; points = h .1 .1 .1 .0; faces = h .1 .1 .1 .1; part2 = r .0 .0; part3 = r .0 .1 .0; part4 = r .0 .1 .1 }) (r .1) e
+
+-- what both halves tell
+pub transfer-took : {s : List ℕ} {at : ℕ} {v x b z : List ℕ} {f : Front} {t : Tail} (w : Fronted s at v x b z f) (y : Tailed (w .fs) s (f .next) t)
+    → whole transfer (drop at s) ≡ some (record { from = f .from; to = f .to; points = points-in s (f .points) (f .vertices); faces = w .fs; part2 = y .second; part3 = y .third; part4 = y .fourth })
+unfolding transfer
+transfer-took w y = whole-took transfer (as-took _ _ _ (pair-took part1 (λ h. tail-layout (h .1 .1 .1 .1)) (w .took) (y .took))) refl
+
+-- AN UPDATE
+pub update-bad : {s : List ℕ} {at : ℕ} {r : UpdateOutline} → r .ok ≡ false → whole update (drop at s) ≡ none → UpdateRead s at r
+update-bad e n = record { no = λ k. n; yes = λ k. absurd (true≢false (sym k ∙ e)) }
+
+no-update : (s : List ℕ) (at : ℕ) → headed-by 2 (at-most 15 ⊕ counted label) .get (drop at s) ≡ none → whole update (drop at s) ≡ none
+unfolding update
+no-update s at e = whole-none update (drop at s) (as-none _ _ _ (drop at s) e)
+
+pub update-no-head : {s : List ℕ} {at : ℕ} {h : Head} → h .ok ≡ false → HeadRead 2 s at h → whole update (drop at s) ≡ none
+update-no-head {s} {at} e w = no-update s at (head-none 2 (at-most 15 ⊕ counted label) (w .no e))
+
+module _ {s : List ℕ} {at from to p : ℕ} (h : Headed 2 s at from to p) where
+  pub no-block : at-most 15 .get (drop p s) ≡ none → whole update (drop at s) ≡ none
+  no-block e = no-update s at (head-half 2 (at-most 15 ⊕ counted label) h (both-none (at-most 15) (counted label) (drop p s) e))
+
+  module _ {block q : ℕ} (b : Took (at-most 15) s p block q) {c : Counted} (w : CountedRead label s q c) where
+    pub no-labels : c .ok ≡ false → whole update (drop at s) ≡ none
+    no-labels e = no-update s at (head-half 2 (at-most 15 ⊕ counted label) h (both-half (at-most 15) (counted label) b (w .no e)))
+
+    module _ (y : c .ok ≡ true) where
+      told : Took update s at (record { from = from; to = to; block = block; labels = w .yes y .items }) (c .next)
+      unfolding update
+      told = as-took _ _ _ (head-took 2 (at-most 15 ⊕ counted label) h (both-took (at-most 15) (counted label) b (entries-took label (w .yes y))))
+
+      pub update-more : c .next ≢ length s → whole update (drop at s) ≡ none
+      update-more e = whole-more update told e
+
+      pub update-good : c .next ≡ length s → UpdateRead s at (record { ok = true; from = from; to = to; block = block; count = c .count; labels = c .first })
+      update-good e = record {
+        no = λ bad. absurd (true≢false bad);
+        yes = λ good. (record { from = from; to = to; block = block; labels = w .yes y .items }, whole-took update told e, record { from-is = refl; to-is = refl; block-is = refl; past = c .next; labels-in = w .yes y .items-read });
+      }

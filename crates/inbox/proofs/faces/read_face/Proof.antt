@@ -1,0 +1,82 @@
+use mathlib.Core.Path.{sym, _∙_}
+use Rattle.model.specs.Layouts.{group}
+use Rattle.groups.proofs.Ends.{bad-at}
+use Rattle.inbox.proofs.Taking.{took-group}
+use Rattle.inbox.proofs.FaceArrays.{face-none, face-large, face-read}
+use native.Mathlib.Omega.{arith}
+use borrow.Author.Needs.{needs}
+use Rattle.inbox.proofs.faces.read_face.Statement.{statement}
+use Rattle.inbox.proofs.faces.read_face.Tie as tie
+use Rattle.inbox.proofs.faces.read_face.Reads as reads
+use Rattle.inbox.proofs.faces.read_face.Lts as lts
+use Rattle.groups.proofs.read_group.Reads as read-group-reads
+use Rattle.inbox.proofs.faces.read_darts.Reads as read-darts-reads
+
+-- src/faces.rt:80:32
+read-group-requires : tie.Need-read-group-requires
+read-group-requires c κs = search needs
+
+-- src/faces.rt:80:21
+enum-known-n : tie.Need-enum-known-n
+enum-known-n c = search needs
+
+-- src/faces.rt:81:9
+enum-told : tie.Need-enum-told
+enum-told c = search needs
+
+-- src/faces.rt:81:9
+returns : tie.Need-returns
+returns c =
+    face-none (c .before .before .before .before .before .before .before .before .args .s .now) (c .before .before .before .before .before .before .before .before .args .at) (bad-at group _ _ (sym (c .enum-told .given .1) ∙ c .before .before .read-group .ensures)) (c .before .before .before .before .before .before .before .before .pre .1)
+
+-- src/faces.rt:83:16
+sub-room : tie.Need-sub-room
+sub-room c = search needs
+
+-- src/faces.rt:85:9
+returns-2 : tie.Need-returns-2
+returns-2 c =
+    face-large _ (took-group (sym (c .before .before .n .given .1) ∙ c .before .before .before .before .read-group .ensures)) (omega (arith, c .if1 .taken)) (c .before .before .before .before .before .before .before .before .before .before .pre .1)
+
+-- src/faces.rt:87:5
+read-darts-requires : tie.Need-read-darts-requires
+read-darts-requires c κs =
+    (took-group (sym (c .before .before .before .before .before .before .n .given .1) ∙ c .before .before .before .before .before .before .before .before .read-group .ensures) .within, omega (arith, c .before .before .before .before .if1 .left), c .before .before .before .before .before .before .before .before .before .before .before .before .before .before .pre .1)
+
+-- src/faces.rt:68:1
+same-length : tie.Need-same-length
+same-length c = search needs
+
+-- src/faces.rt:68:1
+same-length-2 : tie.Need-same-length-2
+same-length-2 c = search needs
+
+-- src/faces.rt:68:1
+same-length-3 : tie.Need-same-length-3
+same-length-3 c = search needs
+
+-- src/faces.rt:68:1
+same-length-4 : tie.Need-same-length-4
+same-length-4 c = search needs
+
+-- src/faces.rt:68:1
+returns-3 : tie.Need-returns-3
+returns-3 c =
+    face-read (c .before .before .before .before .before .before .before .before .before .before .before .before .before .before .before .before .before .before .before .before .before .before .before .args .start) (took-group (sym (c .before .before .before .before .before .before .before .before .before .before .before .before .before .before .before .n .given .1) ∙ c .before .before .before .before .before .before .before .before .before .before .before .before .before .before .before .before .before .read-group .ensures)) (omega (arith, c .before .before .before .before .before .before .before .before .before .before .before .before .before .if1 .left)) (c .before .before .before .before .before .before .before .before .read-darts .ensures)
+
+pub read-face-spec : {M : Type 1} → statement M
+read-face-spec =
+    tie.close
+    (tie.spec
+    read-group-requires
+    enum-known-n
+    enum-told
+    returns
+    sub-room
+    returns-2
+    read-darts-requires
+    same-length
+    same-length-2
+    same-length-3
+    same-length-4
+    returns-3)

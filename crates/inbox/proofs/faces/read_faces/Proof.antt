@@ -1,0 +1,120 @@
+use mathlib.Core.Path.{refl}
+use Rattle.inbox.proofs.FaceArrays.{Reading, reading-start, reading-more, reading-stop, reading-end, face-fits}
+use native.Mathlib.Omega.{arith}
+use borrow.Author.Needs.{needs}
+use Rattle.inbox.proofs.faces.read_faces.Statement.{statement}
+use Rattle.inbox.proofs.faces.read_faces.Tie as tie
+use Rattle.inbox.proofs.faces.read_faces.Reads as reads
+use Rattle.inbox.proofs.faces.read_faces.Lts as lts
+use Rattle.inbox.proofs.faces.read_face.Reads as read-face-reads
+
+abbrev Inv-loop : tie.InvT-loop
+Inv-loop s at count vertex₀ serial₀ starts₀ sizes₀ left₀ hollow₀ darts₀ p₀ vertex serial starts sizes left hollow darts p =
+    Reading s at count left darts p hollow vertex serial starts sizes
+
+abbrev μ-loop : tie.MeasureT-loop
+μ-loop s at count vertex₀ serial₀ starts₀ sizes₀ left₀ hollow₀ darts₀ p₀ vertex serial starts sizes left hollow darts p =
+    left
+
+-- src/faces.rt:116:5
+loop-holds : tie.Need-loop-holds Inv-loop μ-loop
+loop-holds c =
+    reading-start _ _ _ (c .before .before .before .before .before .pre .0) (c .before .before .before .before .before .pre .1)
+
+-- src/faces.rt:117:36
+read-face-requires : tie.Need-read-face-requires Inv-loop μ-loop
+read-face-requires c κs =
+    (c .before .before .before .before .before .loop .inv .few, c .before .before .before .before .before .loop .inv .sides)
+
+-- src/faces.rt:117:25
+enum-known-n : tie.Need-enum-known-n Inv-loop μ-loop
+enum-known-n c = search needs
+
+-- src/faces.rt:118:13
+enum-told : tie.Need-enum-told Inv-loop μ-loop
+enum-told c = search needs
+
+-- src/faces.rt:118:13
+same-length : tie.Need-same-length Inv-loop μ-loop
+same-length c = search needs
+
+-- src/faces.rt:118:13
+same-length-2 : tie.Need-same-length-2 Inv-loop μ-loop
+same-length-2 c = search needs
+
+-- src/faces.rt:118:13
+same-length-3 : tie.Need-same-length-3 Inv-loop μ-loop
+same-length-3 c = search needs
+
+-- src/faces.rt:118:13
+same-length-4 : tie.Need-same-length-4 Inv-loop μ-loop
+same-length-4 c = search needs
+
+-- src/faces.rt:118:13
+returns : tie.Need-returns Inv-loop μ-loop
+returns c =
+    reading-stop _ _ _ (c .before .before .before .before .before .before .before .before .before .before .before .before .before .before .before .before .loop .inv) (c .enum-told .given .1) (omega (arith, c .before .before .before .before .before .before .before .before .before .before .before .before .before .before .before .loop-test .taken)) (c .before .before .before .before .before .before .before .before .before .before .read-face .ensures) _ refl
+
+-- src/faces.rt:126:9
+add-darts : tie.Need-add-darts Inv-loop μ-loop
+add-darts c =
+    omega (arith, face-fits (c .before .n .given .1) (c .before .before .before .before .before .before .before .before .before .before .before .read-face .ensures))
+
+-- src/faces.rt:128:9
+sub-left : tie.Need-sub-left Inv-loop μ-loop
+sub-left c = search needs
+
+-- src/faces.rt:116:5
+loop-less : tie.Need-loop-less Inv-loop μ-loop
+loop-less c = search needs
+
+-- src/faces.rt:116:5
+loop-again : tie.Need-loop-again Inv-loop μ-loop
+loop-again c =
+    reading-more _ _ _ (c .before .before .before .before .before .before .before .before .before .before .before .before .before .before .before .before .before .loop .inv) (c .before .n .given .1) (omega (arith, c .before .before .before .before .before .before .before .before .before .before .before .before .before .before .before .before .loop-test .taken)) (c .before .before .before .before .before .before .before .before .before .before .before .read-face .ensures)
+
+-- src/faces.rt:99:1
+same-length-5 : tie.Need-same-length-5 Inv-loop μ-loop
+same-length-5 c = search needs
+
+-- src/faces.rt:99:1
+same-length-6 : tie.Need-same-length-6 Inv-loop μ-loop
+same-length-6 c = search needs
+
+-- src/faces.rt:99:1
+same-length-7 : tie.Need-same-length-7 Inv-loop μ-loop
+same-length-7 c = search needs
+
+-- src/faces.rt:99:1
+same-length-8 : tie.Need-same-length-8 Inv-loop μ-loop
+same-length-8 c = search needs
+
+-- src/faces.rt:99:1
+returns-2 : tie.Need-returns-2 Inv-loop μ-loop
+returns-2 c =
+    reading-end _ _ _ (c .before .loop .inv) (omega (arith, c .loop-test .left)) _ refl refl refl refl
+
+pub read-faces-spec : {M : Type 1} → statement M
+read-faces-spec =
+    tie.close
+    (tie.spec
+    Inv-loop
+    μ-loop
+    loop-holds
+    read-face-requires
+    enum-known-n
+    enum-told
+    same-length
+    same-length-2
+    same-length-3
+    same-length-4
+    returns
+    add-darts
+    sub-left
+    loop-less
+    loop-again
+    same-length-5
+    same-length-6
+    same-length-7
+    same-length-8
+    returns-2)

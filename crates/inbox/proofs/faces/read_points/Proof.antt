@@ -1,0 +1,50 @@
+use mathlib.Core.Path.{sym, _∙_}
+use Rattle.model.specs.Layouts.{group}
+use Rattle.model.specs.Messages.{point}
+use Rattle.groups.proofs.Ends.{bad-at}
+use Rattle.inbox.proofs.Taking.{took-group, counted-none}
+use Rattle.inbox.proofs.Points.{points-read, points-bad}
+use native.Mathlib.Omega.{arith}
+use borrow.Author.Needs.{needs}
+use Rattle.inbox.proofs.faces.read_points.Statement.{statement}
+use Rattle.inbox.proofs.faces.read_points.Tie as tie
+use Rattle.inbox.proofs.faces.read_points.Reads as reads
+use Rattle.inbox.proofs.faces.read_points.Lts as lts
+use Rattle.groups.proofs.read_group.Reads as read-group-reads
+
+-- src/faces.rt:12:32
+read-group-requires : tie.Need-read-group-requires
+read-group-requires c κs = search needs
+
+-- src/faces.rt:12:21
+enum-known-n : tie.Need-enum-known-n
+enum-known-n c = search needs
+
+-- src/faces.rt:13:9
+enum-told : tie.Need-enum-told
+enum-told c = search needs
+
+-- src/faces.rt:13:9
+returns : tie.Need-returns
+returns c =
+    record { said = counted-none point _ (bad-at group _ _ (sym (c .enum-told .given .1) ∙ c .before .before .read-group .ensures)) }
+
+-- src/faces.rt:15:16
+sub-room : tie.Need-sub-room
+sub-room c =
+    omega (arith, took-group (sym (c .before .n .given .1) ∙ c .before .before .before .read-group .ensures) .within)
+
+-- src/faces.rt:17:9
+returns-2 : tie.Need-returns-2
+returns-2 c =
+    points-bad (took-group (sym (c .before .before .n .given .1) ∙ c .before .before .before .before .read-group .ensures)) (omega (arith, c .if1 .taken, took-group (sym (c .before .before .n .given .1) ∙ c .before .before .before .before .read-group .ensures) .within))
+
+-- src/faces.rt:9:1
+returns-3 : tie.Need-returns-3
+returns-3 c =
+    points-read (took-group (sym (c .before .before .n .given .1) ∙ c .before .before .before .before .read-group .ensures)) (omega (arith, c .if1 .left, took-group (sym (c .before .before .n .given .1) ∙ c .before .before .before .before .read-group .ensures) .within))
+
+pub read-points-spec : {M : Type 1} → statement M
+read-points-spec =
+    tie.close
+    (tie.spec read-group-requires enum-known-n enum-told returns sub-room returns-2 returns-3)

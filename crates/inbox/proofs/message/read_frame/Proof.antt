@@ -1,0 +1,49 @@
+use mathlib.Core.Path.{sym, _∙_}
+use Rattle.model.specs.Layouts.{group}
+use Rattle.groups.proofs.Ends.{bad-at}
+use Rattle.inbox.proofs.Taking.{took-group}
+use Rattle.inbox.proofs.Outlining.{frame-none, frame-wrong, frame-right}
+use native.Mathlib.Omega.{arith}
+use borrow.Author.Needs.{needs}
+use Rattle.inbox.proofs.message.read_frame.Statement.{statement}
+use Rattle.inbox.proofs.message.read_frame.Tie as tie
+use Rattle.inbox.proofs.message.read_frame.Reads as reads
+use Rattle.inbox.proofs.message.read_frame.Lts as lts
+use Rattle.groups.proofs.read_group.Reads as read-group-reads
+
+-- src/message.rt:18:32
+read-group-requires : tie.Need-read-group-requires
+read-group-requires c κs = search needs
+
+-- src/message.rt:18:21
+enum-known-n : tie.Need-enum-known-n
+enum-known-n c = search needs
+
+-- src/message.rt:19:9
+enum-told : tie.Need-enum-told
+enum-told c = search needs
+
+-- src/message.rt:19:9
+returns : tie.Need-returns
+returns c =
+    frame-none (c .before .before .before .before .args .s .now) (bad-at group _ _ (sym (c .enum-told .given .1) ∙ c .before .before .read-group .ensures))
+
+-- src/message.rt:21:16
+sub-rest : tie.Need-sub-rest
+sub-rest c =
+    omega (arith, took-group (sym (c .before .n .given .1) ∙ c .before .before .before .read-group .ensures) .within)
+
+-- src/message.rt:23:9
+returns-2 : tie.Need-returns-2
+returns-2 c =
+    frame-wrong (took-group (sym (c .before .before .n .given .1) ∙ c .before .before .before .before .read-group .ensures)) (c .if1 .taken)
+
+-- src/message.rt:15:1
+returns-3 : tie.Need-returns-3
+returns-3 c =
+    frame-right (took-group (sym (c .before .before .n .given .1) ∙ c .before .before .before .before .read-group .ensures)) (c .if1 .left)
+
+pub read-frame-spec : {M : Type 1} → statement M
+read-frame-spec =
+    tie.close
+    (tie.spec read-group-requires enum-known-n enum-told returns sub-rest returns-2 returns-3)

@@ -1,0 +1,95 @@
+use borrow.Author.Tests.{not-true, not-false}
+use mathlib.Core.Path.{sym, _∙_}
+use Rattle.model.specs.Layouts.{at-most}
+use Rattle.groups.proofs.Ends.{bad-at}
+use Rattle.inbox.proofs.Taking.{took-at-most}
+use Rattle.inbox.proofs.Outlining.{update-bad, update-no-head, no-block, no-labels, update-more, update-good}
+use borrow.Author.Needs.{needs}
+use Rattle.inbox.proofs.message.read_update.Statement.{statement}
+use Rattle.inbox.proofs.message.read_update.Tie as tie
+use Rattle.inbox.proofs.message.read_update.Reads as reads
+use Rattle.inbox.proofs.message.read_update.Lts as lts
+use Rattle.groups.proofs.read_at_most.Reads as read-at-most-reads
+use Rattle.inbox.proofs.message.counted_labels.Reads as counted-labels-reads
+use Rattle.inbox.proofs.message.no_update.Reads as no-update-reads
+use Rattle.inbox.proofs.message.read_head.Reads as read-head-reads
+
+-- src/message.rt:284:9
+read-head-requires : tie.Need-read-head-requires
+read-head-requires c κs = search needs
+
+-- src/message.rt:286:9
+no-update-requires : tie.Need-no-update-requires
+no-update-requires c κs = search needs
+
+-- src/message.rt:286:9
+returns : tie.Need-returns
+returns c =
+    update-bad (c .no-update .ensures) (update-no-head (not-true _ (c .before .if1 .taken)) (c .before .before .before .read-head .ensures))
+
+-- src/message.rt:288:36
+read-at-most-requires : tie.Need-read-at-most-requires
+read-at-most-requires c κs = search needs
+
+-- src/message.rt:288:21
+enum-known-block : tie.Need-enum-known-block
+enum-known-block c = search needs
+
+-- src/message.rt:289:9
+enum-told : tie.Need-enum-told
+enum-told c = search needs
+
+-- src/message.rt:289:9
+no-update-requires-2 : tie.Need-no-update-requires-2
+no-update-requires-2 c κs = search needs
+
+-- src/message.rt:289:9
+returns-2 : tie.Need-returns-2
+returns-2 c =
+    update-bad (c .no-update2 .ensures) (no-block (c .before .before .before .before .before .before .read-head .ensures .yes (not-false _ (c .before .before .before .before .if1 .left))) (bad-at (at-most 15) _ _ (sym (c .before .enum-told .given .1) ∙ c .before .before .before .read-at-most .ensures)))
+
+-- src/message.rt:291:9
+counted-labels-requires : tie.Need-counted-labels-requires
+counted-labels-requires c κs = search needs
+
+-- src/message.rt:293:9
+no-update-requires-3 : tie.Need-no-update-requires-3
+no-update-requires-3 c κs = search needs
+
+-- src/message.rt:293:9
+returns-3 : tie.Need-returns-3
+returns-3 c =
+    update-bad (c .no-update3 .ensures) (no-labels (c .before .before .before .before .before .before .before .before .before .before .read-head .ensures .yes (not-false _ (c .before .before .before .before .before .before .before .before .if1 .left))) (took-at-most 15 (sym (c .before .before .before .before .before .block .given .1) ∙ c .before .before .before .before .before .before .before .read-at-most .ensures)) (c .before .before .before .counted-labels .ensures) (not-true _ (c .before .if2 .taken)))
+
+-- src/message.rt:296:9
+no-update-requires-4 : tie.Need-no-update-requires-4
+no-update-requires-4 c κs = search needs
+
+-- src/message.rt:296:9
+returns-4 : tie.Need-returns-4
+returns-4 c =
+    update-bad (c .no-update4 .ensures) (update-more (c .before .before .before .before .before .before .before .before .before .before .before .before .read-head .ensures .yes (not-false _ (c .before .before .before .before .before .before .before .before .before .before .if1 .left))) (took-at-most 15 (sym (c .before .before .before .before .before .before .before .block .given .1) ∙ c .before .before .before .before .before .before .before .before .before .read-at-most .ensures)) (c .before .before .before .before .before .counted-labels .ensures) (not-false _ (c .before .before .before .if2 .left)) (c .before .if3 .taken))
+
+-- src/message.rt:281:1
+returns-5 : tie.Need-returns-5
+returns-5 c =
+    update-good (c .before .before .before .before .before .before .before .before .before .before .before .read-head .ensures .yes (not-false _ (c .before .before .before .before .before .before .before .before .before .if1 .left))) (took-at-most 15 (sym (c .before .before .before .before .before .before .block .given .1) ∙ c .before .before .before .before .before .before .before .before .read-at-most .ensures)) (c .before .before .before .before .counted-labels .ensures) (not-false _ (c .before .before .if2 .left)) (c .if3 .left)
+
+pub read-update-spec : {M : Type 1} → statement M
+read-update-spec =
+    tie.close
+    (tie.spec
+    read-head-requires
+    no-update-requires
+    returns
+    read-at-most-requires
+    enum-known-block
+    enum-told
+    no-update-requires-2
+    returns-2
+    counted-labels-requires
+    no-update-requires-3
+    returns-3
+    no-update-requires-4
+    returns-4
+    returns-5)

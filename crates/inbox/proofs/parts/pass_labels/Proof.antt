@@ -1,0 +1,73 @@
+use Rattle.model.specs.Messages.{label}
+use Rattle.inbox.proofs.Passing.{label-pass, Passing, passing-start, passing-more, passing-stop, passing-end}
+use native.Mathlib.Omega.{arith}
+use borrow.Author.Needs.{needs}
+use Rattle.inbox.proofs.parts.pass_labels.Statement.{statement}
+use Rattle.inbox.proofs.parts.pass_labels.Tie as tie
+use Rattle.inbox.proofs.parts.pass_labels.Reads as reads
+use Rattle.inbox.proofs.parts.pass_labels.Lts as lts
+use Rattle.groups.proofs.read_label.Reads as read-label-reads
+
+abbrev Inv-loop : tie.InvT-loop
+Inv-loop s at count left₀ p₀ left p =
+    Passing label s at count left p
+
+abbrev μ-loop : tie.MeasureT-loop
+μ-loop s at count left₀ p₀ left p =
+    left
+
+-- src/parts.rt:75:5
+loop-holds : tie.Need-loop-holds Inv-loop μ-loop
+loop-holds c =
+    passing-start label (c .before .pre)
+
+-- src/parts.rt:76:39
+read-label-requires : tie.Need-read-label-requires Inv-loop μ-loop
+read-label-requires c κs = search needs
+
+-- src/parts.rt:76:25
+enum-known-code : tie.Need-enum-known-code Inv-loop μ-loop
+enum-known-code c = search needs
+
+-- src/parts.rt:77:13
+enum-told : tie.Need-enum-told Inv-loop μ-loop
+enum-told c = search needs
+
+-- src/parts.rt:77:13
+returns : tie.Need-returns Inv-loop μ-loop
+returns c =
+    passing-stop label (c .before .before .before .before .loop .inv) (c .enum-told .given .1) (omega (arith, c .before .before .before .loop-test .taken)) (label-pass _ _ (c .before .before .read-label .ensures))
+
+-- src/parts.rt:80:9
+sub-left : tie.Need-sub-left Inv-loop μ-loop
+sub-left c = search needs
+
+-- src/parts.rt:75:5
+loop-less : tie.Need-loop-less Inv-loop μ-loop
+loop-less c = search needs
+
+-- src/parts.rt:75:5
+loop-again : tie.Need-loop-again Inv-loop μ-loop
+loop-again c =
+    passing-more label (c .before .before .before .before .before .loop .inv) (c .before .code .given .1) (omega (arith, c .before .before .before .before .loop-test .taken)) (label-pass _ _ (c .before .before .before .read-label .ensures))
+
+-- src/parts.rt:68:1
+returns-2 : tie.Need-returns-2 Inv-loop μ-loop
+returns-2 c =
+    passing-end label (c .before .loop .inv) (omega (arith, c .loop-test .left))
+
+pub pass-labels-spec : {M : Type 1} → statement M
+pass-labels-spec =
+    tie.close
+    (tie.spec
+    Inv-loop
+    μ-loop
+    loop-holds
+    read-label-requires
+    enum-known-code
+    enum-told
+    returns
+    sub-left
+    loop-less
+    loop-again
+    returns-2)

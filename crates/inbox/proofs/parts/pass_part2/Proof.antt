@@ -1,0 +1,40 @@
+use mathlib.Core.Path.{sym, _∙_}
+use Rattle.inbox.proofs.Passing.{no-label, took-label, group-pass, part2-none, part2-pass}
+use borrow.Author.Needs.{needs}
+use Rattle.inbox.proofs.parts.pass_part2.Statement.{statement}
+use Rattle.inbox.proofs.parts.pass_part2.Tie as tie
+use Rattle.inbox.proofs.parts.pass_part2.Reads as reads
+use Rattle.inbox.proofs.parts.pass_part2.Lts as lts
+use Rattle.groups.proofs.read_group.Reads as read-group-reads
+use Rattle.groups.proofs.read_label.Reads as read-label-reads
+
+-- src/parts.rt:15:35
+read-label-requires : tie.Need-read-label-requires
+read-label-requires c κs = search needs
+
+-- src/parts.rt:15:21
+enum-known-code : tie.Need-enum-known-code
+enum-known-code c = search needs
+
+-- src/parts.rt:16:9
+enum-told : tie.Need-enum-told
+enum-told c = search needs
+
+-- src/parts.rt:16:9
+returns : tie.Need-returns
+returns c =
+    part2-none (c .before .before .before .before .args .s .now) (c .before .before .before .before .args .at) (no-label _ _ (sym (c .enum-told .given .1) ∙ c .before .before .read-label .ensures))
+
+-- src/parts.rt:18:5
+read-group-requires : tie.Need-read-group-requires
+read-group-requires c κs = search needs
+
+-- src/parts.rt:12:1
+returns-2 : tie.Need-returns-2
+returns-2 c =
+    part2-pass (took-label (sym (c .before .before .code .given .1) ∙ c .before .before .before .before .read-label .ensures)) (group-pass _ _ (c .read-group .ensures))
+
+pub pass-part2-spec : {M : Type 1} → statement M
+pass-part2-spec =
+    tie.close
+    (tie.spec read-label-requires enum-known-code enum-told returns read-group-requires returns-2)

@@ -1,0 +1,48 @@
+use mathlib.Core.Path.{sym, _∙_}
+use Rattle.model.specs.Layouts.{group}
+use Rattle.groups.proofs.Ends.{bad-at}
+use Rattle.inbox.proofs.Taking.{took-group}
+use Rattle.inbox.proofs.Passing.{group-pass, part3-none, part3-pass}
+use borrow.Author.Needs.{needs}
+use Rattle.inbox.proofs.parts.pass_part3.Statement.{statement}
+use Rattle.inbox.proofs.parts.pass_part3.Tie as tie
+use Rattle.inbox.proofs.parts.pass_part3.Reads as reads
+use Rattle.inbox.proofs.parts.pass_part3.Lts as lts
+use Rattle.groups.proofs.read_group.Reads as read-group-reads
+
+-- src/parts.rt:25:37
+read-group-requires : tie.Need-read-group-requires
+read-group-requires c κs = search needs
+
+-- src/parts.rt:25:21
+enum-known-number : tie.Need-enum-known-number
+enum-known-number c = search needs
+
+-- src/parts.rt:26:9
+enum-told : tie.Need-enum-told
+enum-told c = search needs
+
+-- src/parts.rt:26:9
+returns : tie.Need-returns
+returns c =
+    part3-none (c .before .before .before .before .args .s .now) (c .before .before .before .before .args .at) (bad-at group _ _ (sym (c .enum-told .given .1) ∙ c .before .before .read-group .ensures))
+
+-- src/parts.rt:28:5
+read-group-requires-2 : tie.Need-read-group-requires-2
+read-group-requires-2 c κs = search needs
+
+-- src/parts.rt:22:1
+returns-2 : tie.Need-returns-2
+returns-2 c =
+    part3-pass (took-group (sym (c .before .before .number .given .1) ∙ c .before .before .before .before .read-group .ensures)) (group-pass _ _ (c .read-group2 .ensures))
+
+pub pass-part3-spec : {M : Type 1} → statement M
+pass-part3-spec =
+    tie.close
+    (tie.spec
+    read-group-requires
+    enum-known-number
+    enum-told
+    returns
+    read-group-requires-2
+    returns-2)

@@ -1,0 +1,89 @@
+use mathlib.Core.Path.{refl, sym, _∙_}
+use Rattle.model.specs.Layouts.{group, at-most}
+use Rattle.groups.proofs.Ends.{bad-at}
+use Rattle.inbox.proofs.Taking.{took-group, took-at-most}
+use Rattle.inbox.proofs.Passing.{part4-none, part4-outside, part4-alone, part4-pass}
+use native.Mathlib.Omega.{arith}
+use borrow.Author.Needs.{needs}
+use Rattle.inbox.proofs.parts.pass_part4.Statement.{statement}
+use Rattle.inbox.proofs.parts.pass_part4.Tie as tie
+use Rattle.inbox.proofs.parts.pass_part4.Reads as reads
+use Rattle.inbox.proofs.parts.pass_part4.Lts as lts
+use Rattle.groups.proofs.read_at_most.Reads as read-at-most-reads
+use Rattle.groups.proofs.read_group.Reads as read-group-reads
+use Rattle.inbox.proofs.parts.pass_labels.Reads as pass-labels-reads
+
+-- src/parts.rt:90:36
+read-group-requires : tie.Need-read-group-requires
+read-group-requires c κs = search needs
+
+-- src/parts.rt:90:21
+enum-known-index : tie.Need-enum-known-index
+enum-known-index c = search needs
+
+-- src/parts.rt:91:9
+enum-told : tie.Need-enum-told
+enum-told c = search needs
+
+-- src/parts.rt:91:9
+returns : tie.Need-returns
+returns c =
+    λ fs z. part4-none fs (c .before .before .before .before .before .args .s .now) (c .before .before .before .before .before .args .at) (bad-at group _ _ (sym (c .enum-told .given .1) ∙ c .before .before .read-group .ensures))
+
+-- src/parts.rt:94:9
+returns-2 : tie.Need-returns-2
+returns-2 c =
+    λ fs z. part4-outside fs (took-group (sym (c .before .before .index .given .1) ∙ c .before .before .before .before .read-group .ensures)) z (omega (arith, c .if1 .taken))
+
+-- src/parts.rt:96:36
+read-at-most-requires : tie.Need-read-at-most-requires
+read-at-most-requires c κs = search needs
+
+-- src/parts.rt:96:21
+enum-known-other : tie.Need-enum-known-other
+enum-known-other c = search needs
+
+-- src/parts.rt:97:9
+enum-told-2 : tie.Need-enum-told-2
+enum-told-2 c = search needs
+
+-- src/parts.rt:97:9
+returns-3 : tie.Need-returns-3
+returns-3 c =
+    λ fs z. part4-alone fs (took-group (sym (c .before .before .before .before .before .index .given .1) ∙ c .before .before .before .before .before .before .before .read-group .ensures)) z (omega (arith, c .before .before .before .if1 .left)) (bad-at (at-most 15) _ _ (sym (c .enum-told2 .given .1) ∙ c .before .before .read-at-most .ensures))
+
+-- src/parts.rt:99:16
+mul-size : tie.Need-mul-size
+mul-size c = search needs
+
+-- src/parts.rt:99:16
+shared-slice-read-size : tie.Need-shared-slice-read-size
+shared-slice-read-size c = search needs
+
+-- src/parts.rt:100:5
+pass-labels-requires : tie.Need-pass-labels-requires
+pass-labels-requires c κs =
+    took-at-most 15 (sym (c .before .before .other .given .1) ∙ c .before .before .before .before .read-at-most .ensures) .within
+
+-- src/parts.rt:86:1
+returns-4 : tie.Need-returns-4
+returns-4 c =
+    λ fs z. part4-pass fs (took-group (sym (c .before .before .before .before .before .before .before .before .index .given .1) ∙ c .before .before .before .before .before .before .before .before .before .before .read-group .ensures)) z (omega (arith, c .before .before .before .before .before .before .if1 .left)) (took-at-most 15 (sym (c .before .before .before .other .given .1) ∙ c .before .before .before .before .before .read-at-most .ensures)) refl (c .pass-labels .ensures)
+
+pub pass-part4-spec : {M : Type 1} → statement M
+pass-part4-spec =
+    tie.close
+    (tie.spec
+    read-group-requires
+    enum-known-index
+    enum-told
+    returns
+    returns-2
+    read-at-most-requires
+    enum-known-other
+    enum-told-2
+    returns-3
+    mul-size
+    shared-slice-read-size
+    pass-labels-requires
+    returns-4)

@@ -1,0 +1,75 @@
+use mathlib.Core.List.{List}
+use Rattle.model.specs.Messages.{FaceDart, part4}
+use Rattle.inbox.specs.Inbox.{Sized}
+use Rattle.inbox.proofs.Passing.{Passing, passing-start, passing-more, passing-stop, passing-end}
+use native.Mathlib.Omega.{arith}
+use borrow.Author.Needs.{needs}
+use Rattle.inbox.proofs.parts.pass_parts4.Statement.{statement}
+use Rattle.inbox.proofs.parts.pass_parts4.Tie as tie
+use Rattle.inbox.proofs.parts.pass_parts4.Reads as reads
+use Rattle.inbox.proofs.parts.pass_parts4.Lts as lts
+use Rattle.inbox.proofs.parts.pass_part4.Reads as pass-part4-reads
+
+abbrev Inv-loop : tie.InvT-loop
+Inv-loop s at count darts sizes left₀ p₀ left p =
+    (fs : List (List FaceDart)) → Sized fs darts sizes → Passing (part4 fs) s at count left p
+
+abbrev μ-loop : tie.MeasureT-loop
+μ-loop s at count darts sizes left₀ p₀ left p =
+    left
+
+-- src/parts.rt:111:5
+loop-holds : tie.Need-loop-holds Inv-loop μ-loop
+loop-holds c =
+    λ fs z. passing-start (part4 fs) (c .before .before .pre .0)
+
+-- src/parts.rt:112:40
+pass-part4-requires : tie.Need-pass-part4-requires Inv-loop μ-loop
+pass-part4-requires c κs = search needs
+
+-- src/parts.rt:112:25
+enum-known-index : tie.Need-enum-known-index Inv-loop μ-loop
+enum-known-index c = search needs
+
+-- src/parts.rt:113:13
+enum-told : tie.Need-enum-told Inv-loop μ-loop
+enum-told c = search needs
+
+-- src/parts.rt:113:13
+returns : tie.Need-returns Inv-loop μ-loop
+returns c =
+    λ fs z. passing-stop (part4 fs) (c .before .before .before .before .loop .inv fs z) (c .enum-told .given .1) (omega (arith, c .before .before .before .loop-test .taken)) (c .before .before .pass-part4 .ensures fs z)
+
+-- src/parts.rt:116:9
+sub-left : tie.Need-sub-left Inv-loop μ-loop
+sub-left c = search needs
+
+-- src/parts.rt:111:5
+loop-less : tie.Need-loop-less Inv-loop μ-loop
+loop-less c = search needs
+
+-- src/parts.rt:111:5
+loop-again : tie.Need-loop-again Inv-loop μ-loop
+loop-again c =
+    λ fs z. passing-more (part4 fs) (c .before .before .before .before .before .loop .inv fs z) (c .before .index .given .1) (omega (arith, c .before .before .before .before .loop-test .taken)) (c .before .before .before .pass-part4 .ensures fs z)
+
+-- src/parts.rt:104:1
+returns-2 : tie.Need-returns-2 Inv-loop μ-loop
+returns-2 c =
+    λ fs z. passing-end (part4 fs) (c .before .loop .inv fs z) (omega (arith, c .loop-test .left))
+
+pub pass-parts4-spec : {M : Type 1} → statement M
+pass-parts4-spec =
+    tie.close
+    (tie.spec
+    Inv-loop
+    μ-loop
+    loop-holds
+    pass-part4-requires
+    enum-known-index
+    enum-told
+    returns
+    sub-left
+    loop-less
+    loop-again
+    returns-2)

@@ -1,0 +1,98 @@
+-- What the readers of whole messages answer: an outline of the message that the layout takes, or that it takes none. Assumes nothing.
+use mathlib.Core.Path.{_≡_}
+use mathlib.Core.Bool.{true, false}
+use mathlib.Core.List.{List}
+use mathlib.Core.Option.{none, some}
+use Prim.Native.Nat.{ℕ, _+_, _*_, _≤_}
+use lib.ListN.{length, drop}
+use Rattle.model.specs.Layouts.{Layout, group, _⊕_, at-most, exactly, times, counted, whole, unframed}
+use Rattle.model.specs.Messages.{FaceDart, Part2, Part3, Part4, Update, transfer, update, label, part1, part2, part3, part4, size-all}
+use Rattle.groups.specs.declared.Read.{Read}
+use Rattle.groups.specs.declared.Read.the-variants.{Value, Bad}
+use Rattle.inbox.specs.declared.message.Head.{Head}
+use Rattle.inbox.specs.declared.message.Counted.{Counted}
+use Rattle.inbox.specs.declared.message.Front.{Front}
+use Rattle.inbox.specs.declared.message.Tail.{Tail}
+use Rattle.inbox.specs.declared.message.Update.{Update as UpdateOutline}
+use Rattle.inbox.specs.Inbox.{Took, Sides, FacesIn, points-in, some-darts, is-hollow}
+
+-- THE FRAME: "Its first number is the length of the rest"
+abbrev pub FrameSaid : List ℕ → Read → Type 0
+FrameSaid s Bad = (unframed transfer s ≡ none) × (unframed update s ≡ none)
+FrameSaid s (Value n p) = (unframed transfer s ≡ whole transfer (drop p s)) × (unframed update s ≡ whole update (drop p s)) × (p ≤ length s)
+
+pub record FrameRead (s : List ℕ) (r : Read) : Type 0 where
+  pub said : FrameSaid s r
+
+-- THE HEAD: kind, sender, receiver
+pub data NoHead (k : ℕ) (s : List ℕ) (at : ℕ) : Type 0 where
+  no-kind : exactly k .get (drop at s) ≡ none → NoHead k s at
+  no-from : (p : ℕ) → Took (exactly k) s at k p → at-most 15 .get (drop p s) ≡ none → NoHead k s at
+  no-to : (p q from : ℕ) → Took (exactly k) s at k p → Took (at-most 15) s p from q → at-most 15 .get (drop q s) ≡ none → NoHead k s at
+
+pub record Headed (k : ℕ) (s : List ℕ) (at from to next : ℕ) : Type 0 where
+  pub past : ℕ
+  pub after : ℕ
+  pub kind-read : Took (exactly k) s at k past
+  pub from-read : Took (at-most 15) s past from after
+  pub to-read : Took (at-most 15) s after to next
+
+pub record HeadRead (k : ℕ) (s : List ℕ) (at : ℕ) (r : Head) : Type 0 where
+  pub no : r .ok ≡ false → NoHead k s at
+  pub yes : r .ok ≡ true → Headed k s at (r .from) (r .to) (r .next)
+
+-- A COUNT and so many entries
+pub record Entries {A : Type 0} (l : Layout A) (s : List ℕ) (at count first next : ℕ) : Type 0 where
+  pub items : List A
+  pub count-read : Took group s at count first
+  pub items-read : Took (times count l) s first items next
+
+pub record CountedRead {A : Type 0} (l : Layout A) (s : List ℕ) (at : ℕ) (r : Counted) : Type 0 where
+  pub no : r .ok ≡ false → counted l .get (drop at s) ≡ none
+  pub yes : r .ok ≡ true → Entries l s at (r .count) (r .first) (r .next)
+
+-- A TRANSFER in two halves: part 1, and parts 2 to 4
+pub record Fronted (s : List ℕ) (at : ℕ) (v x b z : List ℕ) (r : Front) : Type 0 where
+  pub fs : List (List FaceDart)
+  pub took : Took part1 s at (1, (r .from, (r .to, (points-in s (r .points) (r .vertices), fs)))) (r .next)
+  pub points-fit : r .points + 24 * r .vertices ≤ length s
+  pub some-there : some-darts fs ≡ true
+  pub darts-are : r .darts ≡ size-all fs
+  pub hollow-is : r .hollow ≡ is-hollow fs
+  pub inside : FacesIn fs v x b z
+
+pub record FrontRead (s : List ℕ) (at : ℕ) (v x b z : List ℕ) (r : Front) : Type 0 where
+  pub sides : Sides v x b z
+  pub no : r .ok ≡ false → part1 .get (drop at s) ≡ none
+  pub yes : r .ok ≡ true → Fronted s at v x b z r
+
+abbrev pub tail-layout : List (List FaceDart) → Layout (List Part2 × (List Part3 × List Part4))
+tail-layout fs = counted part2 ⊕ counted part3 ⊕ counted (part4 fs)
+
+pub record Tailed (fs : List (List FaceDart)) (s : List ℕ) (at : ℕ) (r : Tail) : Type 0 where
+  pub second : List Part2
+  pub third : List Part3
+  pub fourth : List Part4
+  pub took : Took (tail-layout fs) s at (second, (third, fourth)) (length s)
+  pub past2 : ℕ
+  pub past3 : ℕ
+  pub past4 : ℕ
+  pub part2-in : Took (times (r .count2) part2) s (r .part2) second past2
+  pub part3-in : Took (times (r .count3) part3) s (r .part3) third past3
+  pub part4-in : Took (times (r .count4) (part4 fs)) s (r .part4) fourth past4
+
+pub record TailRead (fs : List (List FaceDart)) (s : List ℕ) (at : ℕ) (r : Tail) : Type 0 where
+  pub no : r .ok ≡ false → whole (tail-layout fs) (drop at s) ≡ none
+  pub yes : r .ok ≡ true → Tailed fs s at r
+
+-- AN UPDATE
+pub record UpdateOutlined (u : Update) (s : List ℕ) (r : UpdateOutline) : Type 0 where
+  pub from-is : r .from ≡ u .from
+  pub to-is : r .to ≡ u .to
+  pub block-is : r .block ≡ u .block
+  pub past : ℕ
+  pub labels-in : Took (times (r .count) label) s (r .labels) (u .labels) past
+
+pub record UpdateRead (s : List ℕ) (at : ℕ) (r : UpdateOutline) : Type 0 where
+  pub no : r .ok ≡ false → whole update (drop at s) ≡ none
+  pub yes : r .ok ≡ true → (u : Update) × (whole update (drop at s) ≡ some u) × UpdateOutlined u s r

@@ -1,0 +1,136 @@
+// The points and the faces of a transfer. Points stay where they stand; a face's darts go into arrays by their index in the message.
+ghost use mathlib.Core.Path.{_≡_};
+ghost use Prim.Native.Nat.{_+_, _≤_, _<_};
+ghost use lib.ListN.{length};
+ghost use Rattle.inbox.specs.Inbox.{most, PointsRead, DartRead, DartsRead, FaceRead, FacesRead, Sides};
+use groups::Read;
+
+// How many points there are, and where the first one stands; each takes 24 bytes.
+pub fn read_points(s: &[u8], at: usize) -> Read
+    ensures { λ r. ⌜ PointsRead (now (s .entry)) at r ⌝ }
+{
+    let Read::Value(n, from) = groups::read_group(s, at) else {
+        return Read::Bad;
+    };
+    let room = s.len() - from;
+    if ((room / 24) as u64) < n {
+        return Read::Bad;
+    }
+    Read::Value(n, from)
+}
+
+// The vertex and the serial of the dart with index i.
+fn read_dart(s: &[u8], at: usize, i: usize, vertex: &mut [u64], serial: &mut [u64]) -> Read
+    requires { ⌜ (i < most) × (length (now vertex) ≡ most) × (length (now serial) ≡ most) ⌝ }
+    ensures { λ r. ⌜ DartRead (now (s .entry)) at i (now (vertex .entry)) (now (vertex .exit)) (now (serial .entry)) (now (serial .exit)) r ⌝ }
+{
+    let Read::Value(v, past) = groups::read_group(s, at) else {
+        return Read::Bad;
+    };
+    let Read::Value(x, next) = groups::read_serial(s, past) else {
+        return Read::Bad;
+    };
+    vertex[i] = v;
+    serial[i] = x;
+    Read::Value(x, next)
+}
+
+// The darts of a face of `size`, whose start has index `start`.
+fn read_darts(
+    s: &[u8],
+    at: usize,
+    start: usize,
+    size: usize,
+    vertex: &mut [u64],
+    serial: &mut [u64],
+    starts: &mut [usize],
+    sizes: &mut [usize],
+) -> Read
+    requires { ⌜ (at ≤ length (now s)) × (start + size ≤ most) × Sides (now vertex) (now serial) (now starts) (now sizes) ⌝ }
+    ensures { λ r. ⌜ DartsRead (now (s .entry)) at start size (now (vertex .entry)) (now (vertex .exit)) (now (serial .entry)) (now (serial .exit)) (now (starts .entry)) (now (starts .exit)) (now (sizes .entry)) (now (sizes .exit)) r ⌝ }
+{
+    // The darts before index i are read.
+    let mut i = start;
+    let mut p = at;
+    while i < start + size {
+        let Read::Value(x, next) = read_dart(s, p, i, vertex, serial) else {
+            return Read::Bad;
+        };
+        starts[i] = start;
+        sizes[i] = size;
+        p = next;
+        i += 1;
+    }
+    Read::Value(size as u64, p)
+}
+
+// A face whose start has index `start`: its size, then its darts. Bad too where the message then has too many.
+fn read_face(
+    s: &[u8],
+    at: usize,
+    start: usize,
+    vertex: &mut [u64],
+    serial: &mut [u64],
+    starts: &mut [usize],
+    sizes: &mut [usize],
+) -> Read
+    requires { ⌜ (start ≤ most) × Sides (now vertex) (now serial) (now starts) (now sizes) ⌝ }
+    ensures { λ r. ⌜ FaceRead (now (s .entry)) at start (now (vertex .entry)) (now (vertex .exit)) (now (serial .entry)) (now (serial .exit)) (now (starts .entry)) (now (starts .exit)) (now (sizes .entry)) (now (sizes .exit)) r ⌝ }
+{
+    let Read::Value(n, past) = groups::read_group(s, at) else {
+        return Read::Bad;
+    };
+    let room = 512 - start;
+    if (room as u64) < n {
+        return Read::Bad;
+    }
+    read_darts(s, past, start, n as usize, vertex, serial, starts, sizes)
+}
+
+// How many darts the faces have, whether one has none, and the place past them; not ok where they are none or too many.
+pub struct Faces {
+    pub ok: bool,
+    pub hollow: bool,
+    pub darts: usize,
+    pub next: usize,
+}
+
+// So many faces, one after the other.
+pub fn read_faces(
+    s: &[u8],
+    at: usize,
+    count: u64,
+    vertex: &mut [u64],
+    serial: &mut [u64],
+    starts: &mut [usize],
+    sizes: &mut [usize],
+) -> Faces
+    requires { ⌜ (at ≤ length (now s)) × Sides (now vertex) (now serial) (now starts) (now sizes) ⌝ }
+    ensures { λ r. ⌜ FacesRead (now (s .entry)) at count (now (vertex .exit)) (now (serial .exit)) (now (starts .exit)) (now (sizes .exit)) r ⌝ }
+{
+    // All but the last `left` faces are read.
+    let mut left = count;
+    let mut hollow = false;
+    let mut darts: usize = 0;
+    let mut p = at;
+    while 0 < left {
+        let Read::Value(n, next) = read_face(s, p, darts, vertex, serial, starts, sizes) else {
+            return Faces {
+                ok: false,
+                hollow,
+                darts,
+                next: p,
+            };
+        };
+        hollow = hollow | (n == 0);
+        darts += n as usize;
+        p = next;
+        left -= 1;
+    }
+    Faces {
+        ok: 0 < darts,
+        hollow,
+        darts,
+        next: p,
+    }
+}

@@ -1,0 +1,119 @@
+// Parts 2 to 4 of a transfer and the labels of an update, passed over entry by entry; they stay where they stand.
+ghost use mathlib.Core.Path.{_≡_};
+ghost use mathlib.Core.List.{List};
+ghost use Prim.Native.Nat.{_≤_};
+ghost use lib.ListN.{length};
+ghost use Rattle.model.specs.Layouts.{times};
+ghost use Rattle.model.specs.Messages.{FaceDart, label, part2, part3, part4};
+ghost use Rattle.inbox.specs.Inbox.{Passes, Sized};
+use groups::Read;
+
+// An entry of part 2: a label, then an index.
+pub fn pass_part2(s: &[u8], at: usize) -> Read
+    ensures { λ r. ⌜ Passes part2 (now (s .entry)) at r ⌝ }
+{
+    let Read::Value(code, past) = groups::read_label(s, at) else {
+        return Read::Bad;
+    };
+    groups::read_group(s, past)
+}
+
+// An entry of part 3: a number, then an index.
+pub fn pass_part3(s: &[u8], at: usize) -> Read
+    ensures { λ r. ⌜ Passes part3 (now (s .entry)) at r ⌝ }
+{
+    let Read::Value(number, past) = groups::read_group(s, at) else {
+        return Read::Bad;
+    };
+    groups::read_group(s, past)
+}
+
+// So many entries of part 2.
+pub fn pass_parts2(s: &[u8], at: usize, count: u64) -> Read
+    requires { ⌜ at ≤ length (now s) ⌝ }
+    ensures { λ r. ⌜ Passes (times count part2) (now (s .entry)) at r ⌝ }
+{
+    // All but the last `left` are passed.
+    let mut left = count;
+    let mut p = at;
+    while 0 < left {
+        let Read::Value(index, next) = pass_part2(s, p) else {
+            return Read::Bad;
+        };
+        p = next;
+        left -= 1;
+    }
+    Read::Value(count, p)
+}
+
+// So many entries of part 3.
+pub fn pass_parts3(s: &[u8], at: usize, count: u64) -> Read
+    requires { ⌜ at ≤ length (now s) ⌝ }
+    ensures { λ r. ⌜ Passes (times count part3) (now (s .entry)) at r ⌝ }
+{
+    // All but the last `left` are passed.
+    let mut left = count;
+    let mut p = at;
+    while 0 < left {
+        let Read::Value(index, next) = pass_part3(s, p) else {
+            return Read::Bad;
+        };
+        p = next;
+        left -= 1;
+    }
+    Read::Value(count, p)
+}
+
+// So many labels.
+pub fn pass_labels(s: &[u8], at: usize, count: u64) -> Read
+    requires { ⌜ at ≤ length (now s) ⌝ }
+    ensures { λ r. ⌜ Passes (times count label) (now (s .entry)) at r ⌝ }
+{
+    // All but the last `left` are passed.
+    let mut left = count;
+    let mut p = at;
+    while 0 < left {
+        let Read::Value(code, next) = groups::read_label(s, p) else {
+            return Read::Bad;
+        };
+        p = next;
+        left -= 1;
+    }
+    Read::Value(count, p)
+}
+
+// An entry of part 4: an index, a block, and as many labels as the face with that dart has darts.
+pub fn pass_part4(s: &[u8], at: usize, darts: usize, sizes: &[usize]) -> Read
+    requires { ⌜ darts ≤ length (now sizes) ⌝ }
+    ensures { λ r. ⌜ ((fs : List (List FaceDart)) → Sized fs darts (now (sizes .entry)) → Passes (part4 fs) (now (s .entry)) at r) ⌝ }
+{
+    let Read::Value(index, past) = groups::read_group(s, at) else {
+        return Read::Bad;
+    };
+    if darts as u64 <= index {
+        return Read::Bad;
+    }
+    let Read::Value(other, from) = groups::read_at_most(s, past, 15) else {
+        return Read::Bad;
+    };
+    let size = sizes[index as usize];
+    pass_labels(s, from, size as u64)
+}
+
+// So many entries of part 4.
+pub fn pass_parts4(s: &[u8], at: usize, count: u64, darts: usize, sizes: &[usize]) -> Read
+    requires { ⌜ (at ≤ length (now s)) × (darts ≤ length (now sizes)) ⌝ }
+    ensures { λ r. ⌜ ((fs : List (List FaceDart)) → Sized fs darts (now (sizes .entry)) → Passes (times count (part4 fs)) (now (s .entry)) at r) ⌝ }
+{
+    // All but the last `left` are passed.
+    let mut left = count;
+    let mut p = at;
+    while 0 < left {
+        let Read::Value(index, next) = pass_part4(s, p, darts, sizes) else {
+            return Read::Bad;
+        };
+        p = next;
+        left -= 1;
+    }
+    Read::Value(count, p)
+}
