@@ -122,14 +122,16 @@ module _ (m : List ℕ) (ok : is-image rack m ≡ true) (j s : ℕ) {right : Boo
               pub departs : not fits ≡ false → Departs m j s (record { darts = darts; faces = count; vertices = vs; sewn = sewn }) marks out starts numbers firsts
               departs h = record {
                 asked = all-yes h;
-                place = at .0;
-                place-below = below;
+                survey = record {
+                  place = at .0;
+                  place-below = below;
+                  volume-marked = mk;
+                  order = o;
+                  numbering = nb;
+                  sewn-is = away;
+                  few = omega (arith, out-count site (at .0) below mk o, ap (λ (x : ℕ). length (volume-in (darts-in m) x)) here, size-is);
+                };
                 serial-is = here;
-                volume-marked = mk;
-                order = o;
-                numbering = nb;
-                sewn-is = away;
-                few = omega (arith, out-count site (at .0) below mk o, ap (λ (x : ℕ). length (volume-in (darts-in m) x)) here, size-is);
                 to-block = leb-true j 15 (and-left (leb j 15) _ is-9);
                 counter-fits = ltb-true (getD m 1 0 + sewn) (2 ^ 32) (sym fourteen ∙ not-false fits h);
               }

@@ -18,17 +18,21 @@ use Rattle.departure.specs.declared.Leaving.the-variants.{Volume, Refuse
 abbrev pub faces-at : List ℕ → List ℕ → List (List ℕ)
 faces-at m marks = faces (column m 1) (marked (getD m 2 0) marks)
 
--- each answer is yes: the volume of the dart with serial s goes to block j
-pub record Departs (m : List ℕ) (j s : ℕ) (c : Counts) (marks out starts numbers firsts : List ℕ) : Type 0 where
-  pub asked : served tt ≡ answered (departure-checks 512 (block-in m) j s)
+-- a volume surveyed: marked by place, its faces in message order, its vertices numbered, and the counts of all these
+pub record Surveyed (m : List ℕ) (c : Counts) (marks out starts numbers firsts : List ℕ) : Type 0 where
   pub place : ℕ
   pub place-below : place < getD m 2 0
-  pub serial-is : column m 0 place ≡ s
   pub volume-marked : Marked (volume-of m place) marks
   pub order : InOrder (faces-at m marks) out starts (c .darts) (c .faces)
   pub numbering : Numbered (column m 1) (column m 2) (take (c .darts) out) numbers firsts (c .vertices)
   pub sewn-is : c .sewn ≡ length (keep (λ f. sewn-out m marks (start-of f)) (faces-at m marks))
   pub few : c .darts ≤ 512
+
+-- each answer is yes: the volume of the dart with serial s may go to block j
+pub record Departs (m : List ℕ) (j s : ℕ) (c : Counts) (marks out starts numbers firsts : List ℕ) : Type 0 where
+  pub asked : served tt ≡ answered (departure-checks 512 (block-in m) j s)
+  pub survey : Surveyed m c marks out starts numbers firsts
+  pub serial-is : column m 0 (survey .place) ≡ s
   pub to-block : j ≤ 15
   pub counter-fits : getD m 1 0 + c .sewn < 2 ^ 32
 
