@@ -14,7 +14,7 @@ use Rattle.memory.specs.Point.{point-of, patterns, FinitePoint, FiniteAt}
 use Rattle.memory.specs.declared.point.Point.{Point}
 use Rattle.memory.proofs.Points.{point-finite, point-patterns}
 use Rattle.outbox.specs.Runs.{run, tally}
-use Rattle.outbox.specs.Bytes.{Listed, Started, Vertexed, dart-put, end-of, face-put, faces-put, label-put, point-put}
+use Rattle.outbox.specs.Bytes.{Listed, Started, Vertexed, beside-put, dart-put, end-of, face-put, faces-put, in-part2, in-part3, in-part4, label-put, part2-put, part3-put, part4-put, point-put, start-at}
 use Rattle.outbox.proofs.EntryLaws.{point-length}
 
 -- POINTS
@@ -85,3 +85,42 @@ module _ {starts : List ℕ} {darts count : ℕ} (s : Started starts darts count
 
   pub some-darts : 0 < e - getD starts f 0
   some-darts = omega (arith, s .ends-after f l)
+
+-- PARTS: what face f adds, by the test of its start
+module _ (m : List ℕ) (j : ℕ) (order starts : List ℕ) (f : ℕ) where
+  pub part2-none : in-part2 m j order starts f ≡ false → part2-put m j order starts f ≡ []
+  unfolding part2-put
+  part2-none e = rw e
+
+  pub part2-one : (w : ℕ) → in-part2 m j order starts f ≡ true → w ≡ column m 4 (start-at order starts f)
+      → part2-put m j order starts f ≡ part2 .put (record { label = label-in w; index = getD starts f 0 })
+  unfolding part2-put
+  part2-one w e h = rw (e, h)
+
+  pub part4-none : (darts count : ℕ) → in-part4 m j order starts f ≡ false → part4-put m j order starts darts count f ≡ []
+  unfolding part4-put
+  part4-none darts count e = rw e
+
+  pub part4-one : (darts count e : ℕ) → in-part4 m j order starts f ≡ true → e ≡ end-of starts count darts f
+      → part4-put m j order starts darts count f ≡ beside-put m order (getD starts f 0) (e - getD starts f 0)
+  unfolding part4-put
+  part4-one darts count e y h = rw y (ap (λ (k : ℕ). beside-put m order (getD starts f 0) (k - getD starts f 0)) (sym h))
+
+module _ (m marks : List ℕ) (c : ℕ) (order starts : List ℕ) (f : ℕ) where
+  pub part3-none : in-part3 m marks order starts f ≡ false → part3-put m marks c order starts f ≡ []
+  unfolding part3-put
+  part3-none e = rw e
+
+  pub part3-one : (n : ℕ) → in-part3 m marks order starts f ≡ true → n ≡ c + tally (in-part3 m marks order starts) f
+      → part3-put m marks c order starts f ≡ part3 .put (record { number = n; index = getD starts f 0 })
+  unfolding part3-put
+  part3-one n e h = rw (e, h)
+
+-- an entry of part 4
+pub beside-of : (m order : List ℕ) (s n o : ℕ) → o ≡ column m 3 (getD order s 0) → beside-put m order s n ≡ (group .put s ++ group .put (o / 4)) ++ run (label-put m order s) n
+unfolding beside-put
+beside-of m order s n o e = rw e
+
+pub beside-length : (m order : List ℕ) (s n o : ℕ) → o ≡ column m 3 (getD order s 0)
+    → length (beside-put m order s n) ≡ length (group .put s ++ group .put (o / 4)) + length (run (label-put m order s) n)
+beside-length m order s n o e = ap length (beside-of m order s n o e) ∙ length-append (group .put s ++ group .put (o / 4)) (run (label-put m order s) n)

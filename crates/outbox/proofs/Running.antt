@@ -114,3 +114,11 @@ module _ (q : ℕ → Bool) where
   pub tally-grows : (k n : ℕ) → k ≤ n → tally q k ≤ tally q n
   tally-grows k zero h = let e : k ≡ 0 = omega arith in rw e (omega arith)
   tally-grows k (suc n) h = ⊎-elim (λ e. rw e (omega arith)) (λ l. omega (arith, tally-grows k n (omega arith), tally-up n)) (eq-or-lt-of-le h)
+
+  pub tally-start : 0 ≡ tally q 0
+  unfolding tally
+  tally-start = refl
+
+  pub tally-from : (c : ℕ) → c ≡ c + tally q 0
+  unfolding tally
+  tally-from c = omega arith
