@@ -38,6 +38,12 @@ module _ (b : ℕ → List ℕ) where
   run-short w zero h = omega arith
   run-short w (suc n) h = omega (arith, longer n, run-short w n (λ k l. h k (omega arith)), h n (omega arith), suc-mul n w)
 
+  -- entries of w bytes each
+  pub run-same : (w n : ℕ) → ((k : ℕ) → k < n → length (b k) ≡ w) → length (run b n) ≡ n * w
+  unfolding run
+  run-same w zero h = omega arith
+  run-same w (suc n) h = omega (arith, longer n, run-same w n (λ k l. h k (omega arith)), h n (omega arith), suc-mul n w)
+
 -- IN A LOOP THAT PUTS: the entries before k stand from `from` up to `at`, and there is room for all n
 pub record Running (b : ℕ → List ℕ) (n : ℕ) (before : List ℕ) (from k : ℕ) (after : List ℕ) (at : ℕ) : Type 0 where
   pub k-le : k ≤ n
