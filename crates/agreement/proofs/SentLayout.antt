@@ -33,7 +33,8 @@ use Rattle.agreement.proofs.Passes.{all-each, order-length, seventeen, 
 use Rattle.agreement.proofs.Rebuilt.{face-dart-of}
 use Rattle.agreement.proofs.Received.{each-weaken, each-keep, placed-keep}
 use Rattle.agreement.proofs.Sent.{placed-each, cell-faces, number-in, IsFace, all-faces, in-face-cell, face-faces, part4-by, is-inner-face, transfer-by}
-use Rattle.agreement.proofs.Written.{counted-short, point-short, at-most-short, exactly-short, face-dart-short, part2-short, part3-short, each-of, part4-short, counted-ok, group-ok, serial-ok, label-layout, label-ok, transfer-back}
+use Rattle.theory.proofs.LayoutLengths.{counted-short, point-short, at-most-short, exactly-short, face-dart-short, part2-short, part3-short, each-of, part4-short}
+use Rattle.agreement.proofs.Written.{counted-ok, group-ok, serial-ok, label-layout, label-ok, transfer-back}
 
 abbrev Passing : {B : Type 0} → (B → Bool) → Option B → Type 0
 Passing q none = Unit {0}

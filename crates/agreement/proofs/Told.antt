@@ -26,7 +26,8 @@ use Rattle.agreement.proofs.NewLabels.{Facing, start-there}
 use Rattle.agreement.proofs.Parts.{distinct-map}
 use Rattle.agreement.proofs.Passes.{distinct-fewer}
 use Rattle.agreement.proofs.Redirected.{labels-map, least-same, block-face-mine, block-face-sym, block-face-trans, face-across, shared, facing-crossing, chosen, told, picked-facing, across-mine, across-labelled, face-told, across-along}
-use Rattle.agreement.proofs.Written.{update-short, counted-ok, group-ok, label-layout, label-ok, update-back, update-addressee}
+use Rattle.theory.proofs.LayoutLengths.{update-short}
+use Rattle.agreement.proofs.Written.{counted-ok, group-ok, label-layout, label-ok, update-back, update-addressee}
 
 -- ONE UPDATE
 module _ (lims : ℕ → Limits) (fit : Fit lims) (k : ℕ) (u : State) (label : ℕ → Label) (I : Inv lims k u label) (r : Request) (S : Served lims k u r)

@@ -116,7 +116,7 @@ module _ (n : ℕ) (nx op : ℕ → ℕ) (few : n ≤ room) (wn : Within n nx) (
   number-one : (x y : ℕ) → In x l → In y l → vertex nx op x ≡ vertex nx op y → getD numbers x 0 ≡ getD numbers y 0
   number-one x y hx hy e = number-is x hx ∙ ap (λ (v : ℕ). index-of v (vertices nx op l)) e ∙ sym (number-is y hy)
 
-  number-below : (x : ℕ) → In x l → getD numbers x 0 < count
+  pub number-below : (x : ℕ) → In x l → getD numbers x 0 < count
   number-below x h = omega (arith, number-is x h, place-back (vertex nx op x) (vertices nx op l) (vertex-there x h) .1, m .count-is)
 
   first-number : (a : ℕ) → a < count → getD numbers (getD first a 0) 0 ≡ a

@@ -44,7 +44,7 @@ module _ (lim : Limits) (m : List ℕ) (ok : is-image lim m ≡ true) where
   back : image (block-in m) ≡ m
   back = image-is lim m ok .0
 
-  parts : Parts lim (block-in m)
+  pub parts : Parts lim (block-in m)
   parts = parts-of lim (block-in m) (image-is lim m ok .1)
 
   count-is : length (darts-in m) ≡ count-in m
@@ -62,10 +62,10 @@ module _ (lim : Limits) (m : List ℕ) (ok : is-image lim m ≡ true) where
   links : Links (darts-in m)
   links = links-from (darts-in m) (ascending-distinct (serials (darts-in m)) in-order) (parts .links)
 
-  dart-is : (p : ℕ) → p < count-in m → dart-at (darts-in m) (column m 0 p) ≡ dart-in m p
+  pub dart-is : (p : ℕ) → p < count-in m → dart-at (darts-in m) (column m 0 p) ≡ dart-in m p
   dart-is p h = dart-place (dart-in m) (count-in m) p ascends′ h
 
-  read : (p : ℕ) → p < count-in m → Readable (darts-in m) (dart-in m p)
+  pub read : (p : ℕ) → p < count-in m → Readable (darts-in m) (dart-in m p)
   unfolding links-right thirds-right
   read p h =
       let h′ : p < length (darts-in m) = omega (arith, count-is) in
@@ -76,7 +76,7 @@ module _ (lim : Limits) (m : List ℕ) (ok : is-image lim m ≡ true) where
       (all-at dart-in-range no-dart (darts-in m) p (ranges-of lim (block-in m) (parts .ranges) .each-dart) h′))
 
   -- word f of the dart at a place
-  word-is : (p f : ℕ) → p < count-in m → f < 8 → column m f p ≡ getD (dart-words (serials (darts-in m)) (dart-in m p)) f 0
+  pub word-is : (p f : ℕ) → p < count-in m → f < 8 → column m f p ≡ getD (dart-words (serials (darts-in m)) (dart-in m p)) f 0
   word-is p f h k =
       let at : getD (darts-in m) p no-dart ≡ dart-in m p = getD-tab (dart-in m) (count-in m) p no-dart h in
       ap (λ (l : List ℕ). column l f p) (sym back) ∙ column-is (block-in m) p f (omega (arith, count-is)) k

@@ -34,7 +34,7 @@ start-at i (f ∷ fs) (suc k) h some =
     let r = start-at (i + length f) fs k (omega arith) some in
     (length f + r .0, r .1 ∙ add-assoc i (length f) (r .0), omega (arith, length-append f (concat fs), r .2), getD-append-add f (concat fs) (r .0) 0 ∙ r .3)
 
-placed-length : (i : ℕ) (fs : List (List ℕ)) → length (placed i fs) ≡ length fs
+pub placed-length : (i : ℕ) (fs : List (List ℕ)) → length (placed i fs) ≡ length fs
 unfolding placed
 placed-length i [] = refl
 placed-length i (f ∷ fs) = ap suc (placed-length (i + length f) fs)
@@ -60,7 +60,7 @@ getD-cycles f (x ∷ l) zero h = refl
 getD-cycles f (x ∷ l) (suc k) h = getD-cycles f l k (omega arith)
 
 module _ (n : ℕ) (f : ℕ → ℕ) (marks : List ℕ) (few : n ≤ room) (wf : Within n f) (af : Apart n f) where
-  face-at : (k : ℕ) → k < length (faces f (marked n marks)) → (0 < length (getD (faces f (marked n marks)) k [])) × (start-of (getD (faces f (marked n marks)) k []) < n)
+  pub face-at : (k : ℕ) → k < length (faces f (marked n marks)) → (0 < length (getD (faces f (marked n marks)) k [])) × (start-of (getD (faces f (marked n marks)) k []) < n)
   unfolding faces
   face-at k h =
       let l = keep (λ x. all (leb x) (cycle f x)) (marked n marks) in

@@ -1,2 +1,3 @@
+pub mod FirstNo
 pub mod LeavingFaces
 pub mod Leaving

@@ -1,1 +1,97 @@
-// What a volume leaves with, by places: definitions and laws stand in specs/ and proofs/.
+// What is asked before a volume leaves a block: questions 9 to 14. Send and release put them.
+ghost use mathlib.Core.Path.{_≡_};
+ghost use mathlib.Core.Bool.{true, not, _&&_};
+ghost use Prim.Native.Nat.{_+_, _≤_, _<_, _^_};
+ghost use lib.Dec.{leb, ltb, eqb};
+ghost use lib.ListN.{length, getD, replicate};
+ghost use Rattle.model.specs.Values.{rack};
+ghost use Rattle.model.specs.Image.{room, words, is-image};
+ghost use Rattle.departure.specs.Asked.{Leaves};
+use answers::Refusal;
+use memory::header::Header;
+use memory::lookup;
+use memory::lookup::Found;
+
+// How many darts, faces and vertices a volume has, and how many of its faces are sewn to another volume.
+pub struct Counts {
+    pub darts: usize,
+    pub faces: usize,
+    pub vertices: usize,
+    pub sewn: usize,
+}
+
+// Whether a volume may leave: what it has, or the first question whose answer is no.
+pub enum Leaving {
+    Volume(Counts),
+    Refused(Refusal),
+}
+
+// 9: is the destination at most 15 and not this block?
+fn destination_right(block: &[u64], to: u64) -> bool
+    requires { ⌜ length (now block) ≡ words ⌝ }
+    ensures { λ r. ⌜ r ≡ (leb to 15 && not (eqb to (getD (now (block .entry)) 0 0))) ⌝ }
+{
+    (to <= 15) & (to != block[0])
+}
+
+// 14: does the counter stay a number below 2^32, with one more for each face sewn to another volume?
+fn counter_fits(block: &[u64], sewn: usize) -> bool
+    requires { ⌜ (length (now block) ≡ words) × (getD (now block) 1 0 < 2 ^ 32) × (sewn ≤ room) ⌝ }
+    ensures { λ r. ⌜ r ≡ ltb (getD (now (block .entry)) 1 0 + sewn) (2 ^ 32) ⌝ }
+{
+    block[1] + (sewn as u64) < 4294967296
+}
+
+// Whether the volume of the dart with this serial may go to another block. On a yes it is marked, by place, in `marks`; its faces
+// stand in `out` in message order, the index of each one's start in `starts`; `numbers` has the number of each dart's vertex, by
+// place, and `firsts` a dart of each vertex.
+pub fn leaves(
+    block: &[u64],
+    to: u64,
+    serial: u64,
+    marks: &mut [u8],
+    out: &mut [usize],
+    starts: &mut [usize],
+    seen: &mut [u8],
+    numbers: &mut [usize],
+    firsts: &mut [usize],
+    stamps: &mut [usize],
+) -> Leaving
+    requires { ⌜ is-image rack (now block) ≡ true ⌝ }
+    requires { ⌜ (now marks ≡ replicate room 0) × (length (now out) ≡ room) × (length (now starts) ≡ room) × (now seen ≡ replicate room 0) ⌝ }
+    requires { ⌜ (now numbers ≡ replicate room room) × (length (now firsts) ≡ room) × (now stamps ≡ replicate room 0) ⌝ }
+    ensures { λ r. ⌜ Leaves (now (block .entry)) to serial r (now (marks .exit)) (now (out .exit)) (now (starts .exit)) (now (numbers .exit)) (now (firsts .exit)) ⌝ }
+{
+    if !destination_right(block, to) {
+        return Leaving::Refused(Refusal::Destination);
+    }
+    let n = block[2] as usize;
+    let Found::At(place) = lookup::place_of(block, n, serial) else {
+        return Leaving::Refused(Refusal::SerialNotHeld);
+    };
+    // `out` is the queue of the walk before it is the order.
+    let size = cells::walk::volume(block, n, place.0, out, marks);
+    if Header::VOLUME < size {
+        return Leaving::Refused(Refusal::VolumeTooLarge);
+    }
+    if cells::sewn::sewn_within(block, n, marks) {
+        return Leaving::Refused(Refusal::SewnWithin);
+    }
+    let order = cells::order::message_order(block, n, marks, out, starts, seen);
+    let darts = order.darts;
+    let faces = order.faces;
+    let vertices = cells::vertex::number_vertices(block, n, out, darts, numbers, firsts);
+    if !cells::pairs::pairs_once(block, n, numbers, firsts, vertices, stamps) {
+        return Leaving::Refused(Refusal::VertexPairs);
+    }
+    let sewn = cells::sewn::count_sewn(block, n, marks, out, starts, darts, faces);
+    if !counter_fits(block, sewn) {
+        return Leaving::Refused(Refusal::CounterFull);
+    }
+    Leaving::Volume(Counts {
+        darts,
+        faces,
+        vertices,
+        sewn,
+    })
+}

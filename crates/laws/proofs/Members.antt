@@ -37,7 +37,7 @@ in-keep q x (y ∷ l) h p = by-cases (eqb x y)
     (λ k. rw k (in-there x y (keep q l) (in-keep q x l (rw e at h) p)))
     (λ k. rw k (in-keep q x l (rw e at h) p)))
 
-pub keep-le : (q : ℕ → Bool) (l : List ℕ) → length (keep q l) ≤ length l
+pub keep-le : {A : Type 0} (q : A → Bool) (l : List A) → length (keep q l) ≤ length l
 keep-le q [] = omega arith
 keep-le q (y ∷ l) = by-cases (q y) (λ k. rw k (omega (arith, keep-le q l))) (λ k. rw k (omega (arith, keep-le q l)))
 

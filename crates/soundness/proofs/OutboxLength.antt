@@ -23,7 +23,7 @@ use Rattle.model.specs.Sound.{sound-block}
 use Rattle.model.specs.Layouts.{Layout, group, _⊗_, _⊕_, as-type, such-that, at-most, exactly, put-all, times, counted, framed}
 use Rattle.model.specs.Messages.{FaceDart, Part4, Transfer, Update, point, face-dart, part1, part2, part3, part4, transfer, update}
 use Rattle.agreement.proofs.SentLayout.{collect-fewer, placed-count, firsts-fewer, faces-fewer}
-use Rattle.agreement.proofs.Written.{group-short, counted-short, point-short, at-most-short, exactly-short, face-dart-short, part2-short, part3-short, each-of, part4-short, update-short}
+use Rattle.theory.proofs.LayoutLengths.{group-short, counted-short, point-short, at-most-short, exactly-short, face-dart-short, part2-short, part3-short, each-of, part4-short, update-short}
 use Rattle.theory.proofs.CallLaws.{asked-number}
 use Rattle.soundness.proofs.ReleaseSound.{asked, closed-next, in-order, v-few, v-one}
 use Rattle.soundness.proofs.Served.{after-memory}

@@ -1,4 +1,5 @@
 pub mod LayoutLaws
+pub mod LayoutLengths
 pub mod GroupLaws
 pub mod MessageLaws
 pub mod FileLaws

@@ -1,0 +1,41 @@
+-- What questions 9 to 14 give on a block's memory: the first no, or the arrays of the volume that leaves. Assumes nothing.
+use mathlib.Core.Path.{_≡_}
+use mathlib.Core.List.{List}
+use Prim.Native.Nat.{ℕ, _+_, _≤_, _<_, _^_}
+use lib.ListN.{length, getD, take}
+use Rattle.model.specs.Lists.{keep}
+use Rattle.model.specs.Cells.{faces, start-of}
+use Rattle.model.specs.Image.{column, block-in}
+use Rattle.model.specs.Departure.{departure-checks}
+use Rattle.model.specs.Calls.{served, refused}
+use Rattle.answers.specs.Answers.{answered, question}
+use Rattle.cells.specs.Places.{InOrder, Marked, Numbered, marked, sewn-out, volume-of}
+use Rattle.departure.specs.declared.Counts.{Counts}
+use Rattle.departure.specs.declared.Leaving.{Leaving}
+use Rattle.departure.specs.declared.Leaving.the-variants.{Volume, Refused}
+
+-- the faces of the marked volume as places, in message order
+abbrev pub faces-at : List ℕ → List ℕ → List (List ℕ)
+faces-at m marks = faces (column m 1) (marked (getD m 2 0) marks)
+
+-- a volume surveyed: marked by place, its faces in message order, its vertices numbered, and the counts of all these
+pub record Surveyed (m : List ℕ) (c : Counts) (marks out starts numbers firsts : List ℕ) : Type 0 where
+  pub place : ℕ
+  pub place-below : place < getD m 2 0
+  pub volume-marked : Marked (volume-of m place) marks
+  pub order : InOrder (faces-at m marks) out starts (c .darts) (c .faces)
+  pub numbering : Numbered (column m 1) (column m 2) (take (c .darts) out) numbers firsts (c .vertices)
+  pub sewn-is : c .sewn ≡ length (keep (λ f. sewn-out m marks (start-of f)) (faces-at m marks))
+  pub few : c .darts ≤ 512
+
+-- each answer is yes: the volume of the dart with serial s may go to block j
+pub record Departs (m : List ℕ) (j s : ℕ) (c : Counts) (marks out starts numbers firsts : List ℕ) : Type 0 where
+  pub asked : served tt ≡ answered (departure-checks 512 (block-in m) j s)
+  pub survey : Surveyed m c marks out starts numbers firsts
+  pub serial-is : column m 0 (survey .place) ≡ s
+  pub to-block : j ≤ 15
+  pub counter-fits : getD m 1 0 + c .sewn < 2 ^ 32
+
+abbrev pub Leaves : List ℕ → ℕ → ℕ → Leaving → List ℕ → List ℕ → List ℕ → List ℕ → List ℕ → Type 0
+Leaves m j s (Volume c) marks out starts numbers firsts = Departs m j s c marks out starts numbers firsts
+Leaves m j s (Refused r) marks out starts numbers firsts = refused (question r) ≡ answered (departure-checks 512 (block-in m) j s)

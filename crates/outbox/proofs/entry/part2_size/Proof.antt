@@ -1,0 +1,31 @@
+-- `outbox::entry::part2_size` meets its contract: the counts of the label and of the index. Assumes nothing.
+use Rattle.model.specs.Image.{label-in}
+use Rattle.groups.proofs.Counts.{group-length, count-most}
+use Rattle.groups.proofs.Labels.{label-most}
+use Rattle.outbox.proofs.EntryLaws.{part2-length}
+use native.Mathlib.Omega.{arith}
+use borrow.Author.Needs.{needs}
+use Rattle.outbox.proofs.entry.part2_size.Statement.{statement}
+use Rattle.outbox.proofs.entry.part2_size.Tie as tie
+
+label-count-requires : tie.Need-label-count-requires
+label-count-requires c κs = search needs
+
+cast-group-count : tie.Need-cast-group-count
+cast-group-count c = search needs
+
+group-count-requires : tie.Need-group-count-requires
+group-count-requires c κs = search needs
+
+add-result : tie.Need-add-result
+add-result c =
+    omega (arith, c .before .label-count .ensures, c .group-count .ensures, label-most (c .before .before .args .code) (omega arith), count-most (c .before .before .args .index .0) (c .before .before .pre))
+
+returns : tie.Need-returns
+returns c =
+    omega (arith, c .before .label-count .ensures, c .group-count .ensures, part2-length (label-in (c .before .before .args .code)) (c .before .before .args .index .0), group-length (c .before .before .args .index .0) (c .before .before .pre))
+
+pub part2-size-spec : {M : Type 1} → statement M
+part2-size-spec =
+    tie.close
+    (tie.spec label-count-requires cast-group-count group-count-requires add-result returns)

@@ -1,0 +1,38 @@
+-- `outbox::entry::part4_size` meets its contract: the counts of the entry's two numbers. Assumes nothing.
+use Rattle.groups.proofs.Counts.{group-length, count-most}
+use Rattle.outbox.proofs.EntryLaws.{pair-length}
+use native.Mathlib.Omega.{arith}
+use borrow.Author.Needs.{needs}
+use Rattle.outbox.proofs.entry.part4_size.Statement.{statement}
+use Rattle.outbox.proofs.entry.part4_size.Tie as tie
+
+cast-group-count : tie.Need-cast-group-count
+cast-group-count c = search needs
+
+group-count-requires : tie.Need-group-count-requires
+group-count-requires c κs = search needs
+
+cast-group-count-2 : tie.Need-cast-group-count-2
+cast-group-count-2 c = search needs
+
+group-count-requires-2 : tie.Need-group-count-requires-2
+group-count-requires-2 c κs = search needs
+
+add-result : tie.Need-add-result
+add-result c =
+    omega (arith, c .before .group-count .ensures, c .group-count2 .ensures, count-most (c .before .before .args .index .0) (c .before .before .pre .0), count-most (c .before .before .args .other) (c .before .before .pre .1))
+
+returns : tie.Need-returns
+returns c =
+    omega (arith, c .before .group-count .ensures, c .group-count2 .ensures, pair-length (c .before .before .args .index .0) (c .before .before .args .other), group-length (c .before .before .args .index .0) (c .before .before .pre .0), group-length (c .before .before .args .other) (c .before .before .pre .1))
+
+pub part4-size-spec : {M : Type 1} → statement M
+part4-size-spec =
+    tie.close
+    (tie.spec
+    cast-group-count
+    group-count-requires
+    cast-group-count-2
+    group-count-requires-2
+    add-result
+    returns)

@@ -1,0 +1,30 @@
+-- `outbox::entry::put_part2` meets its contract: the label and the index, one stored after the other. Assumes nothing.
+use Rattle.model.specs.Image.{label-in}
+use Rattle.groups.proofs.Writing.{stored-then}
+use Rattle.outbox.proofs.EntryLaws.{part2-bytes, part2-length, stored-as, room-after}
+use native.Mathlib.Omega.{arith}
+use borrow.Author.Needs.{needs}
+use Rattle.outbox.proofs.entry.put_part2.Statement.{statement}
+use Rattle.outbox.proofs.entry.put_part2.Tie as tie
+
+put-label-requires : tie.Need-put-label-requires
+put-label-requires c κs =
+    omega (arith, c .before .before .pre .1, part2-length (label-in (c .before .before .args .code)) (c .before .before .args .index .0))
+
+cast-put-group : tie.Need-cast-put-group
+cast-put-group c = search needs
+
+put-group-requires : tie.Need-put-group-requires
+put-group-requires c κs =
+    room-after (c .before .before .before .put-label .ensures) _ (omega (arith, c .before .before .before .before .before .before .pre .1, part2-length (label-in (c .before .before .before .before .before .before .args .code)) (c .before .before .before .before .before .before .args .index .0)))
+
+same-length : tie.Need-same-length
+same-length c = search needs
+
+returns : tie.Need-returns
+returns c =
+    stored-as (part2-bytes (record { label = label-in (c .before .before .before .before .before .before .before .before .before .args .code); index = (c .before .before .before .before .before .before .before .before .before .args .index .0) })) (stored-then (c .before .before .before .before .before .before .put-label .ensures) (c .before .before .put-group .ensures))
+
+pub put-part2-spec : {M : Type 1} → statement M
+put-part2-spec =
+    tie.close (tie.spec put-label-requires cast-put-group put-group-requires same-length returns)

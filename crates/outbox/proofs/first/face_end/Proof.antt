@@ -1,0 +1,30 @@
+-- `outbox::first::face_end` meets its contract: another face follows, or none does. Assumes nothing.
+use Rattle.outbox.proofs.BytesLaws.{ends-next, ends-last}
+use native.Mathlib.Omega.{arith}
+use borrow.Author.Needs.{needs}
+use Rattle.outbox.proofs.first.face_end.Statement.{statement}
+use Rattle.outbox.proofs.first.face_end.Tie as tie
+
+add-if1 : tie.Need-add-if1
+add-if1 c = search needs
+
+add-result : tie.Need-add-result
+add-result c = search needs
+
+mul-result : tie.Need-mul-result
+mul-result c = search needs
+
+shared-slice-read-result : tie.Need-shared-slice-read-result
+shared-slice-read-result c = search needs
+
+returns : tie.Need-returns
+returns c =
+    ends-next (c .before .before .args .starts .now) _ _ _ (c .before .if1 .taken)
+
+returns-2 : tie.Need-returns-2
+returns-2 c =
+    ends-last (c .before .args .starts .now) (c .before .args .count) (c .before .args .darts) (c .before .args .f) (omega (arith, c .if1 .left))
+
+pub face-end-spec : {M : Type 1} → statement M
+face-end-spec =
+    tie.close (tie.spec add-if1 add-result mul-result shared-slice-read-result returns returns-2)

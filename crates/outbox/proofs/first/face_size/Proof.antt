@@ -1,0 +1,30 @@
+-- `outbox::first::face_size` meets its contract: the counts of the size and of the darts. Assumes nothing.
+use Rattle.groups.proofs.Counts.{group-length}
+use Rattle.outbox.proofs.BytesLaws.{face-length}
+use native.Mathlib.Omega.{arith}
+use borrow.Author.Needs.{needs}
+use Rattle.outbox.proofs.first.face_size.Statement.{statement}
+use Rattle.outbox.proofs.first.face_size.Tie as tie
+
+cast-group-count : tie.Need-cast-group-count
+cast-group-count c = search needs
+
+group-count-requires : tie.Need-group-count-requires
+group-count-requires c κs = search needs
+
+darts-size-requires : tie.Need-darts-size-requires
+darts-size-requires c κs =
+    (c .before .before .before .before .pre .0, omega (arith, c .before .before .before .before .pre .1, face-length (c .before .before .before .before .args .block .now) (c .before .before .before .before .args .numbers .now) (c .before .before .before .before .args .order .now) (c .before .before .before .before .args .start) (c .before .before .before .before .args .size)))
+
+add-result : tie.Need-add-result
+add-result c =
+    omega (arith, c .before .group-count .ensures, c .darts-size .ensures, c .before .before .before .before .before .pre .1, face-length (c .before .before .before .before .before .args .block .now) (c .before .before .before .before .before .args .numbers .now) (c .before .before .before .before .before .args .order .now) (c .before .before .before .before .before .args .start) (c .before .before .before .before .before .args .size), group-length (c .before .before .before .before .before .args .size) (omega (arith, c .before .before .before .before .before .pre .0 .0 .few)))
+
+returns : tie.Need-returns
+returns c =
+    omega (arith, c .before .group-count .ensures, c .darts-size .ensures, face-length (c .before .before .before .before .before .args .block .now) (c .before .before .before .before .before .args .numbers .now) (c .before .before .before .before .before .args .order .now) (c .before .before .before .before .before .args .start) (c .before .before .before .before .before .args .size), group-length (c .before .before .before .before .before .args .size) (omega (arith, c .before .before .before .before .before .pre .0 .0 .few)))
+
+pub face-size-spec : {M : Type 1} → statement M
+face-size-spec =
+    tie.close
+    (tie.spec cast-group-count group-count-requires darts-size-requires add-result returns)

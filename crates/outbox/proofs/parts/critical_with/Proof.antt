@@ -1,0 +1,23 @@
+-- `outbox::parts::critical_with` meets its contract: the kind word says it. Assumes nothing.
+use mathlib.Core.Path.{ap}
+use Prim.Native.Nat.{ℕ, _+_, _*_}
+use lib.Dec.{eqb}
+use borrow.Author.Needs.{needs}
+use Rattle.outbox.proofs.parts.critical_with.Statement.{statement}
+use Rattle.outbox.proofs.parts.critical_with.Tie as tie
+
+field-requires : tie.Need-field-requires
+field-requires c κs = search needs
+
+mul-result : tie.Need-mul-result
+mul-result c = search needs
+
+add-result : tie.Need-add-result
+add-result c = search needs
+
+returns : tie.Need-returns
+returns c =
+    ap (λ (k : ℕ). eqb k (2 + 4 * c .before .before .args .to)) (c .field .ensures)
+
+pub critical-with-spec : {M : Type 1} → statement M
+critical-with-spec = tie.close (tie.spec field-requires mul-result add-result returns)

@@ -1,0 +1,108 @@
+-- `outbox::parts::part2_tally` meets its contract. The loop's invariant: the entries of the faces before f, and their bytes.
+-- The measure is what is left of the faces. Assumes nothing.
+use mathlib.Core.Path.{_≡_, sym, ap, _∙_}
+use Prim.Native.Nat.{_-_}
+use lib.ListN.{length}
+use Rattle.answers.proofs.Questions.{said-no, said-yes}
+use Rattle.outbox.specs.Runs.{tally}
+use Rattle.outbox.specs.Bytes.{in-part2, part2-put}
+use Rattle.outbox.proofs.Running.{Counting, counting-start, counting-end, counting-small, counting-step, counting-skip, tally-yes, tally-no, tally-le, tally-start}
+use Rattle.outbox.proofs.BytesLaws.{part2-none, part2-one}
+use native.Mathlib.Omega.{arith}
+use Rattle.outbox.proofs.parts.part2_tally.Statement.{statement}
+use Rattle.outbox.proofs.parts.part2_tally.Tie as tie
+
+abbrev Inv-loop : tie.InvT-loop
+Inv-loop block to order starts count entries₀ bytes₀ f₀ entries bytes f =
+    Counting (part2-put block to order starts) count f bytes × (entries ≡ tally (in-part2 block to order starts) f)
+
+abbrev μ-loop : tie.MeasureT-loop
+μ-loop block to order starts count entries₀ bytes₀ f₀ entries bytes f =
+    count - f
+
+loop-holds : tie.Need-loop-holds Inv-loop μ-loop
+loop-holds c =
+    (counting-start _ _ (c .before .before .before .pre .1), tally-start _)
+
+mul-i : tie.Need-mul-i Inv-loop μ-loop
+mul-i c =
+    omega (arith, c .loop-test .taken, c .before .before .before .before .before .pre .0 .1 .few)
+
+shared-slice-read-i : tie.Need-shared-slice-read-i Inv-loop μ-loop
+shared-slice-read-i c =
+    omega (arith, c .before .loop-test .taken, c .before .before .before .before .before .before .pre .0 .1 .few, c .before .before .before .before .before .before .pre .0 .1 .starts-size)
+
+mul-p : tie.Need-mul-p Inv-loop μ-loop
+mul-p c =
+    omega (arith, c .before .before .before .before .before .before .pre .0 .1 .index-small (c .before .before .loop .f) (c .before .loop-test .taken))
+
+shared-slice-read-p : tie.Need-shared-slice-read-p Inv-loop μ-loop
+shared-slice-read-p c =
+    omega (arith, c .before .before .before .before .before .before .before .pre .0 .1 .index-small (c .before .before .before .loop .f) (c .before .before .loop-test .taken), c .before .before .before .before .before .before .before .pre .0 .1 .order-size)
+
+add-f : tie.Need-add-f Inv-loop μ-loop
+add-f c =
+    omega (arith, c .before .before .loop-test .taken, c .before .before .before .before .before .before .before .pre .0 .1 .few)
+
+critical-with-requires : tie.Need-critical-with-requires Inv-loop μ-loop
+critical-with-requires c κs =
+    (c .before .before .before .before .before .before .before .pre .0 .0, c .before .before .before .before .before .before .before .pre .0 .1 .place-below (c .before .before .before .loop .f) (c .before .before .loop-test .taken), c .before .before .before .before .before .before .before .pre .0 .2)
+
+loop-less : tie.Need-loop-less Inv-loop μ-loop
+loop-less c =
+    omega (arith, c .before .before .before .before .loop-test .taken)
+
+loop-again : tie.Need-loop-again Inv-loop μ-loop
+loop-again c =
+    (counting-skip ((c .before .before .before .before .before .loop .inv) .0) (c .before .before .before .before .loop-test .taken) (part2-none (c .before .before .before .before .before .before .before .before .before .args .block .now) (c .before .before .before .before .before .before .before .before .before .args .to) (c .before .before .before .before .before .before .before .before .before .args .order .now) (c .before .before .before .before .before .before .before .before .before .args .starts .now) (c .before .before .before .before .before .loop .f) (said-no (c .before .critical-with .ensures) (c .if1 .taken))), (c .before .before .before .before .before .loop .inv) .1 ∙ sym (tally-no (in-part2 (c .before .before .before .before .before .before .before .before .before .args .block .now) (c .before .before .before .before .before .before .before .before .before .args .to) (c .before .before .before .before .before .before .before .before .before .args .order .now) (c .before .before .before .before .before .before .before .before .before .args .starts .now)) (c .before .before .before .before .before .loop .f) (said-no (c .before .critical-with .ensures) (c .if1 .taken))))
+
+add-entries : tie.Need-add-entries Inv-loop μ-loop
+add-entries c =
+    omega (arith, (c .before .before .before .before .before .loop .inv) .1, tally-le (in-part2 (c .before .before .before .before .before .before .before .before .before .args .block .now) (c .before .before .before .before .before .before .before .before .before .args .to) (c .before .before .before .before .before .before .before .before .before .args .order .now) (c .before .before .before .before .before .before .before .before .before .args .starts .now)) (c .before .before .before .before .before .loop .f), c .before .before .before .before .loop-test .taken, c .before .before .before .before .before .before .before .before .before .pre .0 .1 .few)
+
+field-requires : tie.Need-field-requires Inv-loop μ-loop
+field-requires c κs =
+    (c .before .before .before .before .before .before .before .before .before .pre .0 .1 .place-below (c .before .before .before .before .before .loop .f) (c .before .before .before .before .loop-test .taken), omega arith, c .before .before .before .before .before .before .before .before .before .pre .0 .0)
+
+part2-size-requires : tie.Need-part2-size-requires Inv-loop μ-loop
+part2-size-requires c κs =
+    omega (arith, c .before .before .before .before .before .before .before .before .before .before .pre .0 .1 .index-small (c .before .before .before .before .before .before .loop .f) (c .before .before .before .before .before .loop-test .taken))
+
+add-bytes : tie.Need-add-bytes Inv-loop μ-loop
+add-bytes c =
+    omega (arith, c .part2-size .ensures, ap length (part2-one (c .before .before .before .before .before .before .before .before .before .before .before .args .block .now) (c .before .before .before .before .before .before .before .before .before .before .before .args .to) (c .before .before .before .before .before .before .before .before .before .before .before .args .order .now) (c .before .before .before .before .before .before .before .before .before .before .before .args .starts .now) (c .before .before .before .before .before .before .before .loop .f) (c .before .field .result) (said-yes (c .before .before .before .critical-with .ensures) (c .before .before .if1 .left)) (c .before .field .ensures)), counting-small ((c .before .before .before .before .before .before .before .loop .inv) .0) (c .before .before .before .before .before .before .loop-test .taken))
+
+loop-less-2 : tie.Need-loop-less-2 Inv-loop μ-loop
+loop-less-2 c =
+    omega (arith, c .before .before .before .before .before .before .loop-test .taken)
+
+loop-again-2 : tie.Need-loop-again-2 Inv-loop μ-loop
+loop-again-2 c =
+    (counting-step ((c .before .before .before .before .before .before .before .loop .inv) .0) (c .before .before .before .before .before .before .loop-test .taken) (c .part2-size .ensures ∙ sym (ap length (part2-one (c .before .before .before .before .before .before .before .before .before .before .before .args .block .now) (c .before .before .before .before .before .before .before .before .before .before .before .args .to) (c .before .before .before .before .before .before .before .before .before .before .before .args .order .now) (c .before .before .before .before .before .before .before .before .before .before .before .args .starts .now) (c .before .before .before .before .before .before .before .loop .f) (c .before .field .result) (said-yes (c .before .before .before .critical-with .ensures) (c .before .before .if1 .left)) (c .before .field .ensures)))), omega (arith, (c .before .before .before .before .before .before .before .loop .inv) .1, tally-yes (in-part2 (c .before .before .before .before .before .before .before .before .before .before .before .args .block .now) (c .before .before .before .before .before .before .before .before .before .before .before .args .to) (c .before .before .before .before .before .before .before .before .before .before .before .args .order .now) (c .before .before .before .before .before .before .before .before .before .before .before .args .starts .now)) (c .before .before .before .before .before .before .before .loop .f) (said-yes (c .before .before .before .critical-with .ensures) (c .before .before .if1 .left))))
+
+returns : tie.Need-returns Inv-loop μ-loop
+returns c =
+    (let e : c .before .loop .f ≡ c .before .before .before .before .before .args .count = omega (arith, c .loop-test .left, (c .before .loop .inv) .0 .k-le) in (c .before .loop .inv) .1 ∙ ap (tally (in-part2 (c .before .before .before .before .before .args .block .now) (c .before .before .before .before .before .args .to) (c .before .before .before .before .before .args .order .now) (c .before .before .before .before .before .args .starts .now))) e, counting-end ((c .before .loop .inv) .0) (omega (arith, c .loop-test .left)))
+
+pub part2-tally-spec : {M : Type 1} → statement M
+part2-tally-spec =
+    tie.close
+    (tie.spec
+    Inv-loop
+    μ-loop
+    loop-holds
+    mul-i
+    shared-slice-read-i
+    mul-p
+    shared-slice-read-p
+    add-f
+    critical-with-requires
+    loop-less
+    loop-again
+    add-entries
+    field-requires
+    part2-size-requires
+    add-bytes
+    loop-less-2
+    loop-again-2
+    returns)

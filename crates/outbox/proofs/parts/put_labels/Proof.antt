@@ -1,0 +1,79 @@
+-- `outbox::parts::put_labels` meets its contract. The loop's invariant: the labels before k are put, and there is room for all.
+-- The measure is what is left of the face. Assumes nothing.
+use mathlib.Core.Path.{ap}
+use Prim.Native.Nat.{_+_, _-_}
+use lib.ListN.{length}
+use Rattle.outbox.specs.Bytes.{label-put}
+use Rattle.outbox.proofs.EntryLaws.{stored-as}
+use Rattle.outbox.proofs.Running.{Running, running-start, running-size, running-end, running-space, running-step}
+use Rattle.outbox.proofs.BytesLaws.{label-is}
+use native.Mathlib.Omega.{arith}
+use borrow.Author.Needs.{needs}
+use Rattle.outbox.proofs.parts.put_labels.Statement.{statement}
+use Rattle.outbox.proofs.parts.put_labels.Tie as tie
+
+abbrev Inv-loop : tie.InvT-loop
+Inv-loop block order start size out₀ from at₀ k₀ out at k =
+    Running (label-put block order start) size out₀ from k out at
+
+abbrev μ-loop : tie.MeasureT-loop
+μ-loop block order start size out₀ from at₀ k₀ out at k =
+    size - k
+
+loop-holds : tie.Need-loop-holds Inv-loop μ-loop
+loop-holds c =
+    running-start _ _ _ _ (c .before .before .before .pre .1)
+
+add-p : tie.Need-add-p Inv-loop μ-loop
+add-p c = search needs
+
+mul-p : tie.Need-mul-p Inv-loop μ-loop
+mul-p c = search needs
+
+shared-slice-read-p : tie.Need-shared-slice-read-p Inv-loop μ-loop
+shared-slice-read-p c = search needs
+
+field-requires : tie.Need-field-requires Inv-loop μ-loop
+field-requires c κs =
+    (c .before .before .before .before .before .before .before .pre .0 .below (c .before .before .before .before .before .before .before .args .start + c .before .before .before .loop .k) (omega (arith, c .before .before .loop-test .taken)), omega arith, c .before .before .before .before .before .before .before .pre .0 .memory)
+
+put-label-requires : tie.Need-put-label-requires Inv-loop μ-loop
+put-label-requires c κs =
+    omega (arith, ap length (label-is (c .before .before .before .before .before .before .before .before .args .block .now) (c .before .before .before .before .before .before .before .before .args .order .now) (c .before .before .before .before .before .before .before .before .args .start) (c .before .before .before .before .loop .k) (c .field .result) (c .field .ensures)), running-space (c .before .before .before .before .loop .inv) (c .before .before .before .loop-test .taken))
+
+add-k : tie.Need-add-k Inv-loop μ-loop
+add-k c = search needs
+
+loop-less : tie.Need-loop-less Inv-loop μ-loop
+loop-less c =
+    omega (arith, c .before .before .before .before .before .before .loop-test .taken)
+
+loop-again : tie.Need-loop-again Inv-loop μ-loop
+loop-again c =
+    running-step (c .before .before .before .before .before .before .before .loop .inv) (c .before .before .before .before .before .before .loop-test .taken) (stored-as (label-is (c .before .before .before .before .before .before .before .before .before .before .before .args .block .now) (c .before .before .before .before .before .before .before .before .before .before .before .args .order .now) (c .before .before .before .before .before .before .before .before .before .before .before .args .start) (c .before .before .before .before .before .before .before .loop .k) (c .before .before .before .field .result) (c .before .before .before .field .ensures)) (c .before .before .put-label .ensures))
+
+same-length : tie.Need-same-length Inv-loop μ-loop
+same-length c =
+    running-size (c .before .loop .inv)
+
+returns : tie.Need-returns Inv-loop μ-loop
+returns c =
+    running-end (c .before .loop .inv) (omega (arith, c .loop-test .left))
+
+pub put-labels-spec : {M : Type 1} → statement M
+put-labels-spec =
+    tie.close
+    (tie.spec
+    Inv-loop
+    μ-loop
+    loop-holds
+    add-p
+    mul-p
+    shared-slice-read-p
+    field-requires
+    put-label-requires
+    add-k
+    loop-less
+    loop-again
+    same-length
+    returns)

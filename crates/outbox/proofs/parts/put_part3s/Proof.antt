@@ -1,0 +1,104 @@
+-- `outbox::parts::put_part3s` meets its contract. The loop's invariant: the entries of the faces before f are put, there is room for all,
+-- and the next number. The measure is what is left of the faces. Assumes nothing.
+use mathlib.Core.Path.{_≡_, ap}
+use Prim.Native.Nat.{_+_, _-_}
+use lib.ListN.{length}
+use Rattle.answers.proofs.Questions.{said-no, said-yes}
+use Rattle.outbox.specs.Runs.{tally}
+use Rattle.outbox.specs.Bytes.{in-part3, part3-put}
+use Rattle.outbox.proofs.EntryLaws.{stored-as}
+use Rattle.outbox.proofs.Running.{Running, running-start, running-size, running-end, running-space, running-step, running-skip, tally-yes, tally-no, tally-grows, tally-from}
+use Rattle.outbox.proofs.BytesLaws.{part3-none, part3-one}
+use native.Mathlib.Omega.{arith}
+use Rattle.outbox.proofs.parts.put_part3s.Statement.{statement}
+use Rattle.outbox.proofs.parts.put_part3s.Tie as tie
+
+abbrev Inv-loop : tie.InvT-loop
+Inv-loop block n marks counter order starts count out₀ from at₀ number₀ f₀ out at number f =
+    Running (part3-put block marks counter order starts) count out₀ from f out at × (number ≡ counter + tally (in-part3 block marks order starts) f)
+
+abbrev μ-loop : tie.MeasureT-loop
+μ-loop block n marks counter order starts count out₀ from at₀ number₀ f₀ out at number f =
+    count - f
+
+loop-holds : tie.Need-loop-holds Inv-loop μ-loop
+loop-holds c =
+    (running-start _ _ _ _ (c .before .before .before .before .before .pre .1 .1), tally-from _ _)
+
+mul-i : tie.Need-mul-i Inv-loop μ-loop
+mul-i c =
+    omega (arith, c .loop-test .taken, c .before .before .before .before .before .before .before .pre .0 .2 .few)
+
+shared-slice-read-i : tie.Need-shared-slice-read-i Inv-loop μ-loop
+shared-slice-read-i c =
+    omega (arith, c .before .loop-test .taken, c .before .before .before .before .before .before .before .before .pre .0 .2 .few, c .before .before .before .before .before .before .before .before .pre .0 .2 .starts-size)
+
+mul-p : tie.Need-mul-p Inv-loop μ-loop
+mul-p c =
+    omega (arith, c .before .before .before .before .before .before .before .before .pre .0 .2 .index-small (c .before .before .loop .f) (c .before .loop-test .taken))
+
+shared-slice-read-p : tie.Need-shared-slice-read-p Inv-loop μ-loop
+shared-slice-read-p c =
+    omega (arith, c .before .before .before .before .before .before .before .before .before .pre .0 .2 .index-small (c .before .before .before .loop .f) (c .before .before .loop-test .taken), c .before .before .before .before .before .before .before .before .before .pre .0 .2 .order-size)
+
+add-f : tie.Need-add-f Inv-loop μ-loop
+add-f c =
+    omega (arith, c .before .before .loop-test .taken, c .before .before .before .before .before .before .before .before .before .pre .0 .2 .few)
+
+sewn-away-requires : tie.Need-sewn-away-requires Inv-loop μ-loop
+sewn-away-requires c κs =
+    (c .before .before .before .before .before .before .before .before .before .pre .0 .0, c .before .before .before .before .before .before .before .before .before .pre .0 .1, c .before .before .before .before .before .before .before .before .before .pre .0 .2 .place-below (c .before .before .before .loop .f) (c .before .before .loop-test .taken))
+
+loop-less : tie.Need-loop-less Inv-loop μ-loop
+loop-less c =
+    omega (arith, c .before .before .before .before .loop-test .taken)
+
+loop-again : tie.Need-loop-again Inv-loop μ-loop
+loop-again c =
+    (running-skip ((c .before .before .before .before .before .loop .inv) .0) (c .before .before .before .before .loop-test .taken) (part3-none (c .before .before .before .before .before .before .before .before .before .before .before .args .block .now) (c .before .before .before .before .before .before .before .before .before .before .before .args .marks .now) (c .before .before .before .before .before .before .before .before .before .before .before .args .counter) (c .before .before .before .before .before .before .before .before .before .before .before .args .order .now) (c .before .before .before .before .before .before .before .before .before .before .before .args .starts .now) (c .before .before .before .before .before .loop .f) (said-no (c .before .sewn-away .ensures) (c .if1 .taken))), omega (arith, (c .before .before .before .before .before .loop .inv) .1, tally-no (in-part3 (c .before .before .before .before .before .before .before .before .before .before .before .args .block .now) (c .before .before .before .before .before .before .before .before .before .before .before .args .marks .now) (c .before .before .before .before .before .before .before .before .before .before .before .args .order .now) (c .before .before .before .before .before .before .before .before .before .before .before .args .starts .now)) (c .before .before .before .before .before .loop .f) (said-no (c .before .sewn-away .ensures) (c .if1 .taken))))
+
+put-part3-requires : tie.Need-put-part3-requires Inv-loop μ-loop
+put-part3-requires c κs =
+    (omega (arith, (c .before .before .before .before .before .before .loop .inv) .1, c .before .before .before .before .before .before .before .before .before .before .before .before .pre .1 .0, tally-grows (in-part3 (c .before .before .before .before .before .before .before .before .before .before .before .before .args .block .now) (c .before .before .before .before .before .before .before .before .before .before .before .before .args .marks .now) (c .before .before .before .before .before .before .before .before .before .before .before .before .args .order .now) (c .before .before .before .before .before .before .before .before .before .before .before .before .args .starts .now)) (c .before .before .before .before .before .before .loop .f) (c .before .before .before .before .before .before .before .before .before .before .before .before .args .count) (omega (arith, c .before .before .before .before .before .loop-test .taken))), omega (arith, c .before .before .before .before .before .before .before .before .before .before .before .before .pre .0 .2 .index-small (c .before .before .before .before .before .before .loop .f) (c .before .before .before .before .before .loop-test .taken)), omega (arith, ap length (part3-one (c .before .before .before .before .before .before .before .before .before .before .before .before .args .block .now) (c .before .before .before .before .before .before .before .before .before .before .before .before .args .marks .now) (c .before .before .before .before .before .before .before .before .before .before .before .before .args .counter) (c .before .before .before .before .before .before .before .before .before .before .before .before .args .order .now) (c .before .before .before .before .before .before .before .before .before .before .before .before .args .starts .now) (c .before .before .before .before .before .before .loop .f) (c .before .before .before .before .before .before .loop .number) (said-yes (c .before .before .sewn-away .ensures) (c .before .if1 .left)) ((c .before .before .before .before .before .before .loop .inv) .1)), running-space ((c .before .before .before .before .before .before .loop .inv) .0) (c .before .before .before .before .before .loop-test .taken)))
+
+add-number : tie.Need-add-number Inv-loop μ-loop
+add-number c =
+    omega (arith, (c .before .before .before .before .before .before .before .before .before .loop .inv) .1, c .before .before .before .before .before .before .before .before .before .before .before .before .before .before .before .pre .1 .0, tally-grows (in-part3 (c .before .before .before .before .before .before .before .before .before .before .before .before .before .before .before .args .block .now) (c .before .before .before .before .before .before .before .before .before .before .before .before .before .before .before .args .marks .now) (c .before .before .before .before .before .before .before .before .before .before .before .before .before .before .before .args .order .now) (c .before .before .before .before .before .before .before .before .before .before .before .before .before .before .before .args .starts .now)) (c .before .before .before .before .before .before .before .before .before .loop .f) (c .before .before .before .before .before .before .before .before .before .before .before .before .before .before .before .args .count) (omega (arith, c .before .before .before .before .before .before .before .before .loop-test .taken)))
+
+loop-less-2 : tie.Need-loop-less-2 Inv-loop μ-loop
+loop-less-2 c =
+    omega (arith, c .before .before .before .before .before .before .before .before .loop-test .taken)
+
+loop-again-2 : tie.Need-loop-again-2 Inv-loop μ-loop
+loop-again-2 c =
+    (running-step ((c .before .before .before .before .before .before .before .before .before .loop .inv) .0) (c .before .before .before .before .before .before .before .before .loop-test .taken) (stored-as (part3-one (c .before .before .before .before .before .before .before .before .before .before .before .before .before .before .before .args .block .now) (c .before .before .before .before .before .before .before .before .before .before .before .before .before .before .before .args .marks .now) (c .before .before .before .before .before .before .before .before .before .before .before .before .before .before .before .args .counter) (c .before .before .before .before .before .before .before .before .before .before .before .before .before .before .before .args .order .now) (c .before .before .before .before .before .before .before .before .before .before .before .before .before .before .before .args .starts .now) (c .before .before .before .before .before .before .before .before .before .loop .f) (c .before .before .before .before .before .before .before .before .before .loop .number) (said-yes (c .before .before .before .before .before .sewn-away .ensures) (c .before .before .before .before .if1 .left)) ((c .before .before .before .before .before .before .before .before .before .loop .inv) .1)) (c .before .before .put-part3 .ensures)), omega (arith, (c .before .before .before .before .before .before .before .before .before .loop .inv) .1, tally-yes (in-part3 (c .before .before .before .before .before .before .before .before .before .before .before .before .before .before .before .args .block .now) (c .before .before .before .before .before .before .before .before .before .before .before .before .before .before .before .args .marks .now) (c .before .before .before .before .before .before .before .before .before .before .before .before .before .before .before .args .order .now) (c .before .before .before .before .before .before .before .before .before .before .before .before .before .before .before .args .starts .now)) (c .before .before .before .before .before .before .before .before .before .loop .f) (said-yes (c .before .before .before .before .before .sewn-away .ensures) (c .before .before .before .before .if1 .left))))
+
+same-length : tie.Need-same-length Inv-loop μ-loop
+same-length c =
+    running-size ((c .before .loop .inv) .0)
+
+returns : tie.Need-returns Inv-loop μ-loop
+returns c =
+    running-end ((c .before .loop .inv) .0) (omega (arith, c .loop-test .left))
+
+pub put-part3s-spec : {M : Type 1} → statement M
+put-part3s-spec =
+    tie.close
+    (tie.spec
+    Inv-loop
+    μ-loop
+    loop-holds
+    mul-i
+    shared-slice-read-i
+    mul-p
+    shared-slice-read-p
+    add-f
+    sewn-away-requires
+    loop-less
+    loop-again
+    put-part3-requires
+    add-number
+    loop-less-2
+    loop-again-2
+    same-length
+    returns)

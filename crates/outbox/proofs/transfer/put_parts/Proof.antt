@@ -1,0 +1,110 @@
+-- `outbox::transfer::put_parts` meets its contract: one part stored after the other, with room left for the rest. Assumes nothing.
+use mathlib.Core.Path.{ap}
+use Prim.Native.Nat.{ℕ}
+use lib.ListN.{length}
+use Rattle.model.specs.Layouts.{group}
+use Rattle.groups.proofs.Writing.{stored-then, stored-length}
+use Rattle.outbox.specs.Bytes.{in-part2, in-part3, in-part4}
+use Rattle.outbox.proofs.EntryLaws.{stored-as}
+use Rattle.outbox.proofs.Running.{tally-le}
+use Rattle.outbox.proofs.Ready.{opened-wide}
+use Rattle.outbox.proofs.WholeLaws.{parts-length, parts-of}
+use native.Mathlib.Omega.{arith}
+use Rattle.outbox.proofs.transfer.put_parts.Statement.{statement}
+use Rattle.outbox.proofs.transfer.put_parts.Tie as tie
+
+shared-slice-read-n : tie.Need-shared-slice-read-n
+shared-slice-read-n c =
+    omega (arith, c .before .before .before .before .before .before .pre .0 .0 .memory)
+
+cast-put-group : tie.Need-cast-put-group
+cast-put-group c =
+    let st = c .before .before .before .before .before .before .before .before in
+    let m = st .args .block .now in
+    omega (arith, st .pre .1 .1 .0 .0, tally-le (in-part2 m (st .args .to) (st .args .order .now) (st .args .starts .now)) (st .args .counts .faces), st .pre .0 .1 .few)
+
+put-group-requires : tie.Need-put-group-requires
+put-group-requires c κs =
+    let st = c .before .before .before .before .before .before .before .before in
+    let m = st .args .block .now in
+    let len = parts-length m (st .args .to) (st .args .counts) (st .args .marks .now) (st .args .order .now) (st .args .starts .now) in
+    omega (arith, st .pre .1 .1 .1 .1, len, ap (λ (n : ℕ). length (group .put n)) (st .pre .1 .1 .0 .0), ap (λ (n : ℕ). length (group .put n)) (st .pre .1 .1 .0 .1), ap (λ (n : ℕ). length (group .put n)) (st .pre .1 .1 .0 .2))
+
+put-part2s-requires : tie.Need-put-part2s-requires
+put-part2s-requires c κs =
+    let st = c .before .before .before .before .before .before .before .before .before .before .before .before in
+    let m = st .args .block .now in
+    let len = parts-length m (st .args .to) (st .args .counts) (st .args .marks .now) (st .args .order .now) (st .args .starts .now) in
+    ((st .pre .0 .0 .memory, opened-wide (st .pre .1 .0 .2) (st .pre .1 .0 .0 .few), omega (arith, st .pre .0 .2)), omega (arith, st .pre .1 .1 .1 .1, len, ap (λ (n : ℕ). length (group .put n)) (st .pre .1 .1 .0 .0), ap (λ (n : ℕ). length (group .put n)) (st .pre .1 .1 .0 .1), ap (λ (n : ℕ). length (group .put n)) (st .pre .1 .1 .0 .2), stored-length (c .before .before .before .put-group .ensures), c .before .before .before .put-group .ensures .past))
+
+cast-put-group-2 : tie.Need-cast-put-group-2
+cast-put-group-2 c =
+    let st = c .before .before .before .before .before .before .before .before .before .before .before .before .before .before .before .before .before in
+    let m = st .args .block .now in
+    omega (arith, st .pre .1 .1 .0 .1, tally-le (in-part3 m (st .args .marks .now) (st .args .order .now) (st .args .starts .now)) (st .args .counts .faces), st .pre .0 .1 .few)
+
+put-group-requires-2 : tie.Need-put-group-requires-2
+put-group-requires-2 c κs =
+    let st = c .before .before .before .before .before .before .before .before .before .before .before .before .before .before .before .before .before in
+    let m = st .args .block .now in
+    let len = parts-length m (st .args .to) (st .args .counts) (st .args .marks .now) (st .args .order .now) (st .args .starts .now) in
+    omega (arith, st .pre .1 .1 .1 .1, len, ap (λ (n : ℕ). length (group .put n)) (st .pre .1 .1 .0 .0), ap (λ (n : ℕ). length (group .put n)) (st .pre .1 .1 .0 .1), ap (λ (n : ℕ). length (group .put n)) (st .pre .1 .1 .0 .2), stored-length (c .before .before .before .before .before .before .before .before .put-group .ensures), c .before .before .before .before .before .before .before .before .put-group .ensures .past, stored-length (c .before .before .before .before .put-part2s .ensures), c .before .before .before .before .put-part2s .ensures .past)
+
+shared-slice-read-put-part3s : tie.Need-shared-slice-read-put-part3s
+shared-slice-read-put-part3s c =
+    omega (arith, c .before .before .before .before .before .before .before .before .before .before .before .before .before .before .before .before .before .before .before .before .before .pre .0 .0 .memory)
+
+put-part3s-requires : tie.Need-put-part3s-requires
+put-part3s-requires c κs =
+    let st = c .before .before .before .before .before .before .before .before .before .before .before .before .before .before .before .before .before .before .before .before .before .before in
+    let m = st .args .block .now in
+    let len = parts-length m (st .args .to) (st .args .counts) (st .args .marks .now) (st .args .order .now) (st .args .starts .now) in
+    (st .pre .1 .0, (omega (arith, st .pre .1 .1 .1 .0, st .pre .1 .1 .0 .1), omega (arith, st .pre .1 .1 .1 .1, len, ap (λ (n : ℕ). length (group .put n)) (st .pre .1 .1 .0 .0), ap (λ (n : ℕ). length (group .put n)) (st .pre .1 .1 .0 .1), ap (λ (n : ℕ). length (group .put n)) (st .pre .1 .1 .0 .2), stored-length (c .before .before .before .before .before .before .before .before .before .before .before .before .before .put-group .ensures), c .before .before .before .before .before .before .before .before .before .before .before .before .before .put-group .ensures .past, stored-length (c .before .before .before .before .before .before .before .before .before .put-part2s .ensures), c .before .before .before .before .before .before .before .before .before .put-part2s .ensures .past, stored-length (c .before .before .before .before .put-group2 .ensures), c .before .before .before .before .put-group2 .ensures .past)))
+
+cast-put-group-3 : tie.Need-cast-put-group-3
+cast-put-group-3 c =
+    let st = c .before .before .before .before .before .before .before .before .before .before .before .before .before .before .before .before .before .before .before .before .before .before .before .before .before .before .before in
+    let m = st .args .block .now in
+    omega (arith, st .pre .1 .1 .0 .2, tally-le (in-part4 m (st .args .to) (st .args .order .now) (st .args .starts .now)) (st .args .counts .faces), st .pre .0 .1 .few)
+
+put-group-requires-3 : tie.Need-put-group-requires-3
+put-group-requires-3 c κs =
+    let st = c .before .before .before .before .before .before .before .before .before .before .before .before .before .before .before .before .before .before .before .before .before .before .before .before .before .before .before in
+    let m = st .args .block .now in
+    let len = parts-length m (st .args .to) (st .args .counts) (st .args .marks .now) (st .args .order .now) (st .args .starts .now) in
+    omega (arith, st .pre .1 .1 .1 .1, len, ap (λ (n : ℕ). length (group .put n)) (st .pre .1 .1 .0 .0), ap (λ (n : ℕ). length (group .put n)) (st .pre .1 .1 .0 .1), ap (λ (n : ℕ). length (group .put n)) (st .pre .1 .1 .0 .2), stored-length (c .before .before .before .before .before .before .before .before .before .before .before .before .before .before .before .before .before .before .put-group .ensures), c .before .before .before .before .before .before .before .before .before .before .before .before .before .before .before .before .before .before .put-group .ensures .past, stored-length (c .before .before .before .before .before .before .before .before .before .before .before .before .before .before .put-part2s .ensures), c .before .before .before .before .before .before .before .before .before .before .before .before .before .before .put-part2s .ensures .past, stored-length (c .before .before .before .before .before .before .before .before .before .put-group2 .ensures), c .before .before .before .before .before .before .before .before .before .put-group2 .ensures .past, stored-length (c .before .before .before .before .put-part3s .ensures), c .before .before .before .before .put-part3s .ensures .past)
+
+put-part4s-requires : tie.Need-put-part4s-requires
+put-part4s-requires c κs =
+    let st = c .before .before .before .before .before .before .before .before .before .before .before .before .before .before .before .before .before .before .before .before .before .before .before .before .before .before .before .before .before .before .before in
+    let m = st .args .block .now in
+    let len = parts-length m (st .args .to) (st .args .counts) (st .args .marks .now) (st .args .order .now) (st .args .starts .now) in
+    ((st .pre .0 .0, st .pre .0 .1, omega (arith, st .pre .0 .2)), omega (arith, st .pre .1 .1 .1 .1, len, ap (λ (n : ℕ). length (group .put n)) (st .pre .1 .1 .0 .0), ap (λ (n : ℕ). length (group .put n)) (st .pre .1 .1 .0 .1), ap (λ (n : ℕ). length (group .put n)) (st .pre .1 .1 .0 .2), stored-length (c .before .before .before .before .before .before .before .before .before .before .before .before .before .before .before .before .before .before .before .before .before .before .put-group .ensures), c .before .before .before .before .before .before .before .before .before .before .before .before .before .before .before .before .before .before .before .before .before .before .put-group .ensures .past, stored-length (c .before .before .before .before .before .before .before .before .before .before .before .before .before .before .before .before .before .before .put-part2s .ensures), c .before .before .before .before .before .before .before .before .before .before .before .before .before .before .before .before .before .before .put-part2s .ensures .past, stored-length (c .before .before .before .before .before .before .before .before .before .before .before .before .before .put-group2 .ensures), c .before .before .before .before .before .before .before .before .before .before .before .before .before .put-group2 .ensures .past, stored-length (c .before .before .before .before .before .before .before .before .put-part3s .ensures), c .before .before .before .before .before .before .before .before .put-part3s .ensures .past, stored-length (c .before .before .before .put-group3 .ensures), c .before .before .before .put-group3 .ensures .past))
+
+same-length : tie.Need-same-length
+same-length c =
+    omega (arith, stored-length (c .before .before .before .before .before .before .before .before .before .before .before .before .before .before .before .before .before .before .before .before .before .before .before .before .before .put-group .ensures), c .before .before .before .before .before .before .before .before .before .before .before .before .before .before .before .before .before .before .before .before .before .before .before .before .before .put-group .ensures .past, stored-length (c .before .before .before .before .before .before .before .before .before .before .before .before .before .before .before .before .before .before .before .before .before .put-part2s .ensures), c .before .before .before .before .before .before .before .before .before .before .before .before .before .before .before .before .before .before .before .before .before .put-part2s .ensures .past, stored-length (c .before .before .before .before .before .before .before .before .before .before .before .before .before .before .before .before .put-group2 .ensures), c .before .before .before .before .before .before .before .before .before .before .before .before .before .before .before .before .put-group2 .ensures .past, stored-length (c .before .before .before .before .before .before .before .before .before .before .before .put-part3s .ensures), c .before .before .before .before .before .before .before .before .before .before .before .put-part3s .ensures .past, stored-length (c .before .before .before .before .before .before .put-group3 .ensures), c .before .before .before .before .before .before .put-group3 .ensures .past, stored-length (c .before .before .put-part4s .ensures), c .before .before .put-part4s .ensures .past)
+
+returns : tie.Need-returns
+returns c =
+    let st = c .before .before .before .before .before .before .before .before .before .before .before .before .before .before .before .before .before .before .before .before .before .before .before .before .before .before .before .before .before .before .before .before .before .before in
+    let m = st .args .block .now in
+    stored-as (parts-of m (st .args .to) (st .args .counts) (st .args .marks .now) (st .args .order .now) (st .args .starts .now) (st .pre .1 .1 .0 .0) (st .pre .1 .1 .0 .1) (st .pre .1 .1 .0 .2)) (stored-then (stored-then (c .before .before .before .before .before .before .before .before .before .before .before .before .before .before .before .before .before .before .before .before .before .before .before .before .before .put-group .ensures) (c .before .before .before .before .before .before .before .before .before .before .before .before .before .before .before .before .before .before .before .before .before .put-part2s .ensures)) (stored-then (stored-then (c .before .before .before .before .before .before .before .before .before .before .before .before .before .before .before .before .put-group2 .ensures) (c .before .before .before .before .before .before .before .before .before .before .before .put-part3s .ensures)) (stored-then (c .before .before .before .before .before .before .put-group3 .ensures) (c .before .before .put-part4s .ensures))))
+
+pub put-parts-spec : {M : Type 1} → statement M
+put-parts-spec =
+    tie.close
+    (tie.spec
+    shared-slice-read-n
+    cast-put-group
+    put-group-requires
+    put-part2s-requires
+    cast-put-group-2
+    put-group-requires-2
+    shared-slice-read-put-part3s
+    put-part3s-requires
+    cast-put-group-3
+    put-group-requires-3
+    put-part4s-requires
+    same-length
+    returns)

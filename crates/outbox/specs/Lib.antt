@@ -1,0 +1,3 @@
+pub mod Runs
+pub mod Bytes
+pub mod Whole

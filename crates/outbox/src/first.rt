@@ -1,0 +1,158 @@
+// Part 1: the points of the vertices, and the faces with vertex and serial of each dart.
+ghost use mathlib.Core.Path.{_≡_};
+ghost use Prim.Native.Nat.{_+_, _≤_, _<_, _^_};
+ghost use lib.ListN.{length, getD};
+ghost use Rattle.model.specs.Image.{room};
+ghost use Rattle.groups.specs.Slices.{Stored};
+ghost use Rattle.outbox.specs.Runs.{run};
+ghost use Rattle.outbox.specs.Bytes.{Listed, Pointed, Started, Vertexed, dart-put, end-of, face-put, faces-put, point-put};
+use crate::entry;
+use cells::walk;
+use memory::point;
+use memory::record::Place;
+
+// The index after face f: where the next face starts, or the number of darts.
+pub fn face_end(starts: &[usize], count: usize, darts: usize, f: usize) -> usize
+    requires { ⌜ (length (now starts) ≡ room) × (count ≤ room) × (f < count) ⌝ }
+    ensures { λ r. ⌜ r ≡ end-of (now (starts .entry)) count darts f ⌝ }
+{
+    if f + 1 < count {
+        return starts[f + 1];
+    }
+    darts
+}
+
+// The points of the first darts of `count` vertices.
+pub fn put_points(block: &[u64], firsts: &[usize], count: usize, out: &mut [u8], from: usize) -> usize
+    requires { ⌜ Pointed (now block) (now firsts) count ⌝ }
+    requires { ⌜ from + length (run (point-put (now block) (now firsts)) count) ≤ length (now out) ⌝ }
+    ensures { λ r. ⌜ Stored (now (out .entry)) from (run (point-put (now (block .entry)) (now (firsts .entry))) count) (now (out .exit)) r ⌝ }
+{
+    // The points before k are put, up to `at`.
+    let mut at = from;
+    let mut k = 0;
+    while k < count {
+        let p = firsts[k];
+        at = entry::put_point(out, at, point::point_at(block, Place(p)));
+        k += 1;
+    }
+    at
+}
+
+// Of the `size` darts of a face from index `start` of the order on.
+fn darts_size(block: &[u64], numbers: &[usize], order: &[usize], start: usize, size: usize) -> usize
+    requires { ⌜ Listed (now block) (now order) (start + size) × Vertexed (now numbers) (now order) (start + size) ⌝ }
+    requires { ⌜ length (run (dart-put (now block) (now numbers) (now order) start) size) < 2 ^ 32 ⌝ }
+    ensures { λ r. ⌜ r ≡ length (run (dart-put (now (block .entry)) (now (numbers .entry)) (now (order .entry)) start) size) ⌝ }
+{
+    // The darts before k take `bytes`.
+    let mut bytes = 0;
+    let mut k = 0;
+    while k < size {
+        let p = order[start + k];
+        bytes += entry::dart_size(numbers[p], walk::field(block, p, 0));
+        k += 1;
+    }
+    bytes
+}
+
+fn put_darts(
+    block: &[u64],
+    numbers: &[usize],
+    order: &[usize],
+    start: usize,
+    size: usize,
+    out: &mut [u8],
+    from: usize,
+) -> usize
+    requires { ⌜ Listed (now block) (now order) (start + size) × Vertexed (now numbers) (now order) (start + size) ⌝ }
+    requires { ⌜ from + length (run (dart-put (now block) (now numbers) (now order) start) size) ≤ length (now out) ⌝ }
+    ensures { λ r. ⌜ Stored (now (out .entry)) from (run (dart-put (now (block .entry)) (now (numbers .entry)) (now (order .entry)) start) size) (now (out .exit)) r ⌝ }
+{
+    // The darts before k are put, up to `at`.
+    let mut at = from;
+    let mut k = 0;
+    while k < size {
+        let p = order[start + k];
+        at = entry::put_dart(out, at, numbers[p], walk::field(block, p, 0));
+        k += 1;
+    }
+    at
+}
+
+// A face: its size, then its darts.
+fn face_size(block: &[u64], numbers: &[usize], order: &[usize], start: usize, size: usize) -> usize
+    requires { ⌜ Listed (now block) (now order) (start + size) × Vertexed (now numbers) (now order) (start + size) ⌝ }
+    requires { ⌜ length (face-put (now block) (now numbers) (now order) start size) < 2 ^ 32 ⌝ }
+    ensures { λ r. ⌜ r ≡ length (face-put (now (block .entry)) (now (numbers .entry)) (now (order .entry)) start size) ⌝ }
+{
+    groups::group_count(size as u32) + darts_size(block, numbers, order, start, size)
+}
+
+fn put_face(
+    block: &[u64],
+    numbers: &[usize],
+    order: &[usize],
+    start: usize,
+    size: usize,
+    out: &mut [u8],
+    at: usize,
+) -> usize
+    requires { ⌜ Listed (now block) (now order) (start + size) × Vertexed (now numbers) (now order) (start + size) ⌝ }
+    requires { ⌜ at + length (face-put (now block) (now numbers) (now order) start size) ≤ length (now out) ⌝ }
+    ensures { λ r. ⌜ Stored (now (out .entry)) at (face-put (now (block .entry)) (now (numbers .entry)) (now (order .entry)) start size) (now (out .exit)) r ⌝ }
+{
+    let past = groups::put_group(out, at, size as u32);
+    put_darts(block, numbers, order, start, size, out, past)
+}
+
+// The faces one after the other.
+pub fn faces_size(
+    block: &[u64],
+    numbers: &[usize],
+    order: &[usize],
+    starts: &[usize],
+    darts: usize,
+    count: usize,
+) -> usize
+    requires { ⌜ Listed (now block) (now order) darts × Vertexed (now numbers) (now order) darts × Started (now starts) darts count ⌝ }
+    requires { ⌜ length (run (faces-put (now block) (now numbers) (now order) (now starts) darts count) count) < 2 ^ 32 ⌝ }
+    ensures { λ r. ⌜ r ≡ length (run (faces-put (now (block .entry)) (now (numbers .entry)) (now (order .entry)) (now (starts .entry)) darts count) count) ⌝ }
+{
+    // The faces before f take `bytes`.
+    let mut bytes = 0;
+    let mut f = 0;
+    while f < count {
+        let start = starts[f];
+        let end = face_end(starts, count, darts, f);
+        bytes += face_size(block, numbers, order, start, end - start);
+        f += 1;
+    }
+    bytes
+}
+
+pub fn put_faces(
+    block: &[u64],
+    numbers: &[usize],
+    order: &[usize],
+    starts: &[usize],
+    darts: usize,
+    count: usize,
+    out: &mut [u8],
+    from: usize,
+) -> usize
+    requires { ⌜ Listed (now block) (now order) darts × Vertexed (now numbers) (now order) darts × Started (now starts) darts count ⌝ }
+    requires { ⌜ from + length (run (faces-put (now block) (now numbers) (now order) (now starts) darts count) count) ≤ length (now out) ⌝ }
+    ensures { λ r. ⌜ Stored (now (out .entry)) from (run (faces-put (now (block .entry)) (now (numbers .entry)) (now (order .entry)) (now (starts .entry)) darts count) count) (now (out .exit)) r ⌝ }
+{
+    // The faces before f are put, up to `at`.
+    let mut at = from;
+    let mut f = 0;
+    while f < count {
+        let start = starts[f];
+        let end = face_end(starts, count, darts, f);
+        at = put_face(block, numbers, order, start, end - start, out, at);
+        f += 1;
+    }
+    at
+}

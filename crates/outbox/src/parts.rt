@@ -1,0 +1,284 @@
+// Parts 2, 3 and 4: the faces critical with the destination, the sewn faces, the other critical faces.
+ghost use mathlib.Core.Path.{_≡_};
+ghost use Prim.Native.Nat.{_+_, _≤_, _<_, _^_};
+ghost use lib.ListN.{length};
+ghost use Rattle.model.specs.Image.{room, words};
+ghost use Rattle.groups.specs.Slices.{Stored};
+ghost use Rattle.cells.specs.Places.{Linked};
+ghost use Rattle.departure.specs.ByPlaces.{critical-with, critical-beside};
+ghost use Rattle.outbox.specs.Runs.{run, tally};
+ghost use Rattle.outbox.specs.Bytes.{Listed, Opened, Started, beside-put, in-part2, in-part3, in-part4, label-put, part2-put, part3-put, part4-put};
+use crate::entry;
+use crate::first;
+use cells::sewn;
+use cells::walk;
+use memory::record::MessageIndex;
+
+// How many entries a part has, and how many bytes they take.
+pub struct Tally {
+    pub entries: usize,
+    pub bytes: usize,
+}
+
+// Whether the dart at place p is critical with block `to`.
+fn critical_with(block: &[u64], to: u64, p: usize) -> bool
+    requires { ⌜ (length (now block) ≡ words) × (p < room) × (to < 2 ^ 32) ⌝ }
+    ensures { λ r. ⌜ r ≡ critical-with (now (block .entry)) to p ⌝ }
+{
+    walk::field(block, p, 3) == 2 + 4 * to
+}
+
+// Whether it is critical with another one.
+fn critical_beside(block: &[u64], to: u64, p: usize) -> bool
+    requires { ⌜ (length (now block) ≡ words) × (p < room) × (to < 2 ^ 32) ⌝ }
+    ensures { λ r. ⌜ r ≡ critical-beside (now (block .entry)) to p ⌝ }
+{
+    let kind = walk::field(block, p, 3);
+    (1 < kind) & (kind != 2 + 4 * to)
+}
+
+// Part 2.
+pub fn part2_tally(block: &[u64], to: u64, order: &[usize], starts: &[usize], count: usize) -> Tally
+    requires { ⌜ (length (now block) ≡ words) × Opened room (now order) (now starts) count × (to < 2 ^ 32) ⌝ }
+    requires { ⌜ length (run (part2-put (now block) to (now order) (now starts)) count) < 2 ^ 32 ⌝ }
+    ensures { λ r. ⌜ (r .entries ≡ tally (in-part2 (now (block .entry)) to (now (order .entry)) (now (starts .entry))) count) × (r .bytes ≡ length (run (part2-put (now (block .entry)) to (now (order .entry)) (now (starts .entry))) count)) ⌝ }
+{
+    // The faces before f have so many entries, which take so many bytes.
+    let mut entries = 0;
+    let mut bytes = 0;
+    let mut f = 0;
+    while f < count {
+        let i = starts[f];
+        let p = order[i];
+        f += 1;
+        if !critical_with(block, to, p) {
+            continue;
+        }
+        entries += 1;
+        bytes += entry::part2_size(walk::field(block, p, 4), MessageIndex(i));
+    }
+    Tally { entries, bytes }
+}
+
+pub fn put_part2s(
+    block: &[u64],
+    to: u64,
+    order: &[usize],
+    starts: &[usize],
+    count: usize,
+    out: &mut [u8],
+    from: usize,
+) -> usize
+    requires { ⌜ (length (now block) ≡ words) × Opened room (now order) (now starts) count × (to < 2 ^ 32) ⌝ }
+    requires { ⌜ from + length (run (part2-put (now block) to (now order) (now starts)) count) ≤ length (now out) ⌝ }
+    ensures { λ r. ⌜ Stored (now (out .entry)) from (run (part2-put (now (block .entry)) to (now (order .entry)) (now (starts .entry))) count) (now (out .exit)) r ⌝ }
+{
+    // The entries of the faces before f are put, up to `at`.
+    let mut at = from;
+    let mut f = 0;
+    while f < count {
+        let i = starts[f];
+        let p = order[i];
+        f += 1;
+        if !critical_with(block, to, p) {
+            continue;
+        }
+        at = entry::put_part2(out, at, walk::field(block, p, 4), MessageIndex(i));
+    }
+    at
+}
+
+// Part 3; `counter` is the first number.
+pub fn part3_size(
+    block: &[u64],
+    n: usize,
+    marks: &[u8],
+    counter: u64,
+    order: &[usize],
+    starts: &[usize],
+    count: usize,
+) -> usize
+    requires { ⌜ Linked (now block) n × (length (now marks) ≡ room) × Opened n (now order) (now starts) count ⌝ }
+    requires { ⌜ counter + tally (in-part3 (now block) (now marks) (now order) (now starts)) count < 2 ^ 32 ⌝ }
+    requires { ⌜ length (run (part3-put (now block) (now marks) counter (now order) (now starts)) count) < 2 ^ 32 ⌝ }
+    ensures { λ r. ⌜ r ≡ length (run (part3-put (now (block .entry)) (now (marks .entry)) counter (now (order .entry)) (now (starts .entry))) count) ⌝ }
+{
+    // The entries of the faces before f take `bytes`; the next has `number`.
+    let mut bytes = 0;
+    let mut number = counter;
+    let mut f = 0;
+    while f < count {
+        let i = starts[f];
+        let p = order[i];
+        f += 1;
+        if !sewn::sewn_away(block, n, marks, p) {
+            continue;
+        }
+        bytes += entry::part3_size(number, MessageIndex(i));
+        number += 1;
+    }
+    bytes
+}
+
+pub fn put_part3s(
+    block: &[u64],
+    n: usize,
+    marks: &[u8],
+    counter: u64,
+    order: &[usize],
+    starts: &[usize],
+    count: usize,
+    out: &mut [u8],
+    from: usize,
+) -> usize
+    requires { ⌜ Linked (now block) n × (length (now marks) ≡ room) × Opened n (now order) (now starts) count ⌝ }
+    requires { ⌜ counter + tally (in-part3 (now block) (now marks) (now order) (now starts)) count < 2 ^ 32 ⌝ }
+    requires { ⌜ from + length (run (part3-put (now block) (now marks) counter (now order) (now starts)) count) ≤ length (now out) ⌝ }
+    ensures { λ r. ⌜ Stored (now (out .entry)) from (run (part3-put (now (block .entry)) (now (marks .entry)) counter (now (order .entry)) (now (starts .entry))) count) (now (out .exit)) r ⌝ }
+{
+    // The entries of the faces before f are put, up to `at`; the next has `number`.
+    let mut at = from;
+    let mut number = counter;
+    let mut f = 0;
+    while f < count {
+        let i = starts[f];
+        let p = order[i];
+        f += 1;
+        if !sewn::sewn_away(block, n, marks, p) {
+            continue;
+        }
+        at = entry::put_part3(out, at, number, MessageIndex(i));
+        number += 1;
+    }
+    at
+}
+
+// The labels of the `size` darts of a face from index `start` of the order on.
+fn labels_size(block: &[u64], order: &[usize], start: usize, size: usize) -> usize
+    requires { ⌜ Listed (now block) (now order) (start + size) ⌝ }
+    requires { ⌜ length (run (label-put (now block) (now order) start) size) < 2 ^ 32 ⌝ }
+    ensures { λ r. ⌜ r ≡ length (run (label-put (now (block .entry)) (now (order .entry)) start) size) ⌝ }
+{
+    // The labels before k take `bytes`.
+    let mut bytes = 0;
+    let mut k = 0;
+    while k < size {
+        let p = order[start + k];
+        bytes += groups::label_count(walk::field(block, p, 4));
+        k += 1;
+    }
+    bytes
+}
+
+fn put_labels(
+    block: &[u64],
+    order: &[usize],
+    start: usize,
+    size: usize,
+    out: &mut [u8],
+    from: usize,
+) -> usize
+    requires { ⌜ Listed (now block) (now order) (start + size) ⌝ }
+    requires { ⌜ from + length (run (label-put (now block) (now order) start) size) ≤ length (now out) ⌝ }
+    ensures { λ r. ⌜ Stored (now (out .entry)) from (run (label-put (now (block .entry)) (now (order .entry)) start) size) (now (out .exit)) r ⌝ }
+{
+    // The labels before k are put, up to `at`.
+    let mut at = from;
+    let mut k = 0;
+    while k < size {
+        let p = order[start + k];
+        at = groups::put_label(out, at, walk::field(block, p, 4));
+        k += 1;
+    }
+    at
+}
+
+// A whole entry of part 4: index, other block and labels of a face.
+fn beside_size(block: &[u64], order: &[usize], start: usize, size: usize) -> usize
+    requires { ⌜ Listed (now block) (now order) (start + size) × (0 < size) ⌝ }
+    requires { ⌜ length (beside-put (now block) (now order) start size) < 2 ^ 32 ⌝ }
+    ensures { λ r. ⌜ r ≡ length (beside-put (now (block .entry)) (now (order .entry)) start size) ⌝ }
+{
+    let p = order[start];
+    let other = walk::field(block, p, 3) / 4;
+    entry::part4_size(MessageIndex(start), other) + labels_size(block, order, start, size)
+}
+
+fn put_beside(
+    block: &[u64],
+    order: &[usize],
+    start: usize,
+    size: usize,
+    out: &mut [u8],
+    at: usize,
+) -> usize
+    requires { ⌜ Listed (now block) (now order) (start + size) × (0 < size) ⌝ }
+    requires { ⌜ at + length (beside-put (now block) (now order) start size) ≤ length (now out) ⌝ }
+    ensures { λ r. ⌜ Stored (now (out .entry)) at (beside-put (now (block .entry)) (now (order .entry)) start size) (now (out .exit)) r ⌝ }
+{
+    let p = order[start];
+    let other = walk::field(block, p, 3) / 4;
+    let past = entry::put_part4(out, at, MessageIndex(start), other);
+    put_labels(block, order, start, size, out, past)
+}
+
+// Part 4.
+pub fn part4_tally(
+    block: &[u64],
+    to: u64,
+    order: &[usize],
+    starts: &[usize],
+    darts: usize,
+    count: usize,
+) -> Tally
+    requires { ⌜ Listed (now block) (now order) darts × Started (now starts) darts count × (to < 2 ^ 32) ⌝ }
+    requires { ⌜ length (run (part4-put (now block) to (now order) (now starts) darts count) count) < 2 ^ 32 ⌝ }
+    ensures { λ r. ⌜ (r .entries ≡ tally (in-part4 (now (block .entry)) to (now (order .entry)) (now (starts .entry))) count) × (r .bytes ≡ length (run (part4-put (now (block .entry)) to (now (order .entry)) (now (starts .entry)) darts count) count)) ⌝ }
+{
+    // The faces before f have so many entries, which take so many bytes.
+    let mut entries = 0;
+    let mut bytes = 0;
+    let mut f = 0;
+    while f < count {
+        let start = starts[f];
+        let end = first::face_end(starts, count, darts, f);
+        let p = order[start];
+        f += 1;
+        if !critical_beside(block, to, p) {
+            continue;
+        }
+        entries += 1;
+        bytes += beside_size(block, order, start, end - start);
+    }
+    Tally { entries, bytes }
+}
+
+pub fn put_part4s(
+    block: &[u64],
+    to: u64,
+    order: &[usize],
+    starts: &[usize],
+    darts: usize,
+    count: usize,
+    out: &mut [u8],
+    from: usize,
+) -> usize
+    requires { ⌜ Listed (now block) (now order) darts × Started (now starts) darts count × (to < 2 ^ 32) ⌝ }
+    requires { ⌜ from + length (run (part4-put (now block) to (now order) (now starts) darts count) count) ≤ length (now out) ⌝ }
+    ensures { λ r. ⌜ Stored (now (out .entry)) from (run (part4-put (now (block .entry)) to (now (order .entry)) (now (starts .entry)) darts count) count) (now (out .exit)) r ⌝ }
+{
+    // The entries of the faces before f are put, up to `at`.
+    let mut at = from;
+    let mut f = 0;
+    while f < count {
+        let start = starts[f];
+        let end = first::face_end(starts, count, darts, f);
+        let p = order[start];
+        f += 1;
+        if !critical_beside(block, to, p) {
+            continue;
+        }
+        at = put_beside(block, order, start, end - start, out, at);
+    }
+    at
+}
