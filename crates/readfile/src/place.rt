@@ -11,7 +11,7 @@ use memory::lookup::Found;
 use memory::record::Place;
 use memory::record::Record;
 
-// Where a serial would stand if serials rose by one from place p on, whose serial is given.
+// Where a serial would stand if serials rose by one from place p on, whose serial is given. Nothing rests on it.
 fn guess(p: usize, own: u64, serial: u64) -> u64 {
     std::num::wrapping_sub_u64(std::num::wrapping_add_u64(serial, p as u64), own)
 }

@@ -157,8 +157,8 @@ fn wide(x: u32) -> u64 {
 }
 
 // Prints the answer's number, how many bytes were given, and the name.
-fn ask(file: &[u8; 131072], n: usize, block: &mut [u64], name: &[u8]) {
-    if n <= 131072 {
+fn ask(file: &[u8], n: usize, block: &mut [u64], name: &[u8]) {
+    if n <= file.len() {
         let answer = readfile::read_file(&file[..n], block);
         io::print_decimal(1, wide(answers::answer_number(answer)));
         io::write_all(1, b" ");
@@ -170,7 +170,7 @@ fn ask(file: &[u8; 131072], n: usize, block: &mut [u64], name: &[u8]) {
 }
 
 // Asks with one byte of P's file changed.
-fn ask_with(file: &mut [u8; 131072], i: usize, b: u8, block: &mut [u64], name: &[u8]) {
+fn ask_with(file: &mut [u8; 131072], i: usize, b: u8, block: &mut [u64; 32776], name: &[u8]) {
     let n = pillow(file);
     put(file, i, b);
     ask(file, n, block, name);
@@ -212,13 +212,15 @@ fn show(block: &[u64]) {
     show_record(block, 48);
 }
 
-// P's file, and what is wrong with each change of it.
-fn damaged(file: &mut [u8; 131072], block: &mut [u64]) {
+// P's file.
+fn right(file: &mut [u8; 131072], block: &mut [u64; 32776]) {
     let n = pillow(file);
     ask(file, n, block, b"P");
     show(block);
-    ask(file, n - n % 2, block, b"the last byte missing");
-    ask(file, n + n % 2, block, b"a byte left over");
+}
+
+// 3: P's file with a byte changed, or of another length.
+fn layouts(file: &mut [u8; 131072], block: &mut [u64; 32776]) {
     ask_with(file, 0, 16, block, b"block 16");
     ask_with(file, 1, 128, block, b"an overlong counter");
     ask_with(file, 2, 7, block, b"a dart missing");
@@ -226,17 +228,16 @@ fn damaged(file: &mut [u8; 131072], block: &mut [u64]) {
     ask_with(file, 3, 0, block, b"serial 0");
     ask_with(file, 31, 1, block, b"a serial twice");
     ask_with(file, 6, 3, block, b"kind 3");
-    ask_with(file, 4, 9, block, b"next not held");
-    ask_with(file, 4, 0, block, b"next 0");
-    ask_with(file, 4, 1, block, b"next twice");
-    ask_with(file, 5, 7, block, b"opposite not held");
-    ask_with(file, 5, 5, block, b"opposite not back");
-    ask_with(file, 5, 1, block, b"opposite itself");
-    ask_with(file, 14, 64, block, b"one point of a ring");
 }
 
-// A coordinate that is not finite is a no to 4, whatever else is wrong.
-fn infinite(file: &mut [u8; 131072], block: &mut [u64]) {
+fn lengths(file: &mut [u8; 131072], block: &mut [u64; 32776]) {
+    pillow(file);
+    ask(file, 170, block, b"the last byte missing");
+    ask(file, 172, block, b"a byte left over");
+}
+
+// 4: whatever else is wrong.
+fn infinite(file: &mut [u8; 131072], block: &mut [u64; 32776]) {
     let n = pillow(file);
     put(file, 4, 9);
     put(file, 13, 240);
@@ -244,25 +245,56 @@ fn infinite(file: &mut [u8; 131072], block: &mut [u64]) {
     ask(file, n, block, b"infinity");
 }
 
-fn thirds(file: &mut [u8; 131072], block: &mut [u64]) {
-    let a = sewn_face(file, 4, 6, 5);
-    ask(file, a, block, b"sewn to a face that is free");
-    let b = sewn_face(file, 9, 8, 7);
-    ask(file, b, block, b"sewn to darts not held");
-    let c = critical_face(file, 0, 1, 2);
-    ask(file, c, block, b"critical with block 1");
-    show(block);
-    let d = critical_face(file, 0, 0, 2);
-    ask(file, d, block, b"critical with itself");
-    let e = critical_face(file, 0, 1, 1);
-    ask(file, e, block, b"a label twice");
-    let f = critical_face(file, 1, 0, 2);
-    ask(file, f, block, b"an own label at the counter");
-    let g = critical_face(file, 0, 16, 2);
-    ask(file, g, block, b"another block 16");
+// 5
+fn linked(file: &mut [u8; 131072], block: &mut [u64; 32776]) {
+    ask_with(file, 4, 9, block, b"next not held");
+    ask_with(file, 4, 0, block, b"next 0");
+    ask_with(file, 4, 1, block, b"next twice");
+    ask_with(file, 5, 7, block, b"opposite not held");
+    ask_with(file, 5, 5, block, b"opposite not back");
+    ask_with(file, 5, 1, block, b"opposite itself");
 }
 
-fn full(file: &mut [u8; 131072], block: &mut [u64]) {
+// 6: P with 1 2 3 sewn to three darts.
+fn ask_sewn(
+    file: &mut [u8; 131072],
+    first: usize,
+    second: usize,
+    third: usize,
+    block: &mut [u64; 32776],
+    name: &[u8],
+) {
+    let n = sewn_face(file, first, second, third);
+    ask(file, n, block, name);
+}
+
+// 7: P with 1 2 3 critical.
+fn ask_critical(
+    file: &mut [u8; 131072],
+    number: u8,
+    other: u8,
+    last: u8,
+    block: &mut [u64; 32776],
+    name: &[u8],
+) {
+    let n = critical_face(file, number, other, last);
+    ask(file, n, block, name);
+}
+
+// 6, 7 and 8
+fn thirds(file: &mut [u8; 131072], block: &mut [u64; 32776]) {
+    ask_sewn(file, 4, 6, 5, block, b"sewn to a face that is free");
+    ask_sewn(file, 9, 8, 7, block, b"sewn to darts not held");
+    ask_critical(file, 0, 0, 2, block, b"critical with itself");
+    ask_critical(file, 0, 1, 1, block, b"a label twice");
+    ask_critical(file, 1, 0, 2, block, b"an own label at the counter");
+    ask_critical(file, 0, 16, 2, block, b"another block 16");
+    ask_with(file, 14, 64, block, b"one point of a ring");
+    ask_critical(file, 0, 1, 2, block, b"critical with block 1");
+    show(block);
+}
+
+fn full(file: &mut [u8; 131072], block: &mut [u64; 32776]) {
     let a = pairs(file, 4096);
     ask(file, a, block, b"4,096 darts");
     show(block);
@@ -270,13 +302,22 @@ fn full(file: &mut [u8; 131072], block: &mut [u64]) {
     ask(file, b, block, b"4,097 darts");
 }
 
+// Memory of a word too few.
+fn short(file: &mut [u8; 131072]) {
+    let mut few = [0u64; 32775];
+    let n = pillow(file);
+    ask(file, n, &mut few, b"a word too few");
+}
+
 fn main() {
     let mut block = [0u64; 32776];
     let mut file = [0u8; 131072];
-    damaged(&mut file, &mut block);
+    right(&mut file, &mut block);
+    layouts(&mut file, &mut block);
+    lengths(&mut file, &mut block);
     infinite(&mut file, &mut block);
+    linked(&mut file, &mut block);
     thirds(&mut file, &mut block);
     full(&mut file, &mut block);
-    let n = pillow(&mut file);
-    ask(&file, n, &mut block[..32775], b"a word too few");
+    short(&mut file);
 }
