@@ -1,3 +1,3 @@
 pub mod FirstNo
 pub mod LeavingFaces
-pub mod Leaving
+pub mod LeavesWith
