@@ -34,12 +34,18 @@ fn digit(s: &[u8], at: usize, n: usize, i: usize) -> u64 {
 
 // The low four bytes of a number of n bytes.
 fn low(s: &[u8], at: usize, n: usize) -> u64 {
-    digit(s, at, n, 0) | digit(s, at, n, 1) << 8 | digit(s, at, n, 2) << 16 | digit(s, at, n, 3) << 24
+    digit(s, at, n, 0)
+        | digit(s, at, n, 1) << 8
+        | digit(s, at, n, 2) << 16
+        | digit(s, at, n, 3) << 24
 }
 
 // The high four bytes of a number of n bytes.
 fn high(s: &[u8], at: usize, n: usize) -> u64 {
-    digit(s, at, n, 4) | digit(s, at, n, 5) << 8 | digit(s, at, n, 6) << 16 | digit(s, at, n, 7) << 24
+    digit(s, at, n, 4)
+        | digit(s, at, n, 5) << 8
+        | digit(s, at, n, 6) << 16
+        | digit(s, at, n, 7) << 24
 }
 
 // A number of n bytes, at most eight.

@@ -31,7 +31,13 @@ fn run(s: &[u8], at: usize, start: usize, count: usize, block: &mut [u64]) -> us
 fn one_run(s: &[u8], at: usize, block: &mut [u64]) -> usize {
     let count = cursor::step(s, at, 4);
     let first = cursor::step(s, at, 8);
-    run(s, first, cursor::short(s, at), cursor::short(s, count), block)
+    run(
+        s,
+        first,
+        cursor::short(s, at),
+        cursor::short(s, count),
+        block,
+    )
 }
 
 // Writes runs over memory; gives the place past them.

@@ -21,7 +21,8 @@ fn name(call: u8) {
         1 => io::write_all(1, b"read_file"),
         2 => io::write_all(1, b"save_file"),
         _ => io::write_all(1, b"no call"),
-    };
+    }
+    ;
 }
 
 // One record of a call.
@@ -77,7 +78,8 @@ fn say(record: u64, call: u8, result: u32) {
         2 => io::write_all(1, b": other content\n"),
         3 => io::write_all(1, b": cannot be read\n"),
         _ => io::write_all(1, b": passed over\n"),
-    };
+    }
+    ;
 }
 
 // Counts a record, and says so if it is not as told.
@@ -91,7 +93,17 @@ fn tell(record: u64, call: u8, answer: u32, result: u32, counts: &mut [u64; 512]
 }
 
 // Plays the record from a place up to another.
-fn play_part(number: u64, call: u8, input: &[u8], from: usize, end: usize, block: &mut [u64], told: &mut [u64], out: &mut [u8], counts: &mut [u64; 512]) {
+fn play_part(
+    number: u64,
+    call: u8,
+    input: &[u8],
+    from: usize,
+    end: usize,
+    block: &mut [u64],
+    told: &mut [u64],
+    out: &mut [u8],
+    counts: &mut [u64; 512],
+) {
     if from <= end {
         if end <= input.len() {
             let record = &input[from..end];
@@ -102,7 +114,13 @@ fn play_part(number: u64, call: u8, input: &[u8], from: usize, end: usize, block
 }
 
 // Plays record after record.
-fn play_all(input: &[u8], block: &mut [u64], told: &mut [u64], out: &mut [u8], counts: &mut [u64; 512]) {
+fn play_all(
+    input: &[u8],
+    block: &mut [u64],
+    told: &mut [u64],
+    out: &mut [u8],
+    counts: &mut [u64; 512],
+) {
     let mut at = 0;
     let mut number = 0;
     // The next record stands at `at`; before it there are `number` others.
@@ -117,7 +135,17 @@ fn play_all(input: &[u8], block: &mut [u64], told: &mut [u64], out: &mut [u8], c
             io::write_all(1, b"the input is cut off\n");
             return;
         }
-        play_part(number, cursor::byte(input, at), input, from, end, block, told, out, counts);
+        play_part(
+            number,
+            cursor::byte(input, at),
+            input,
+            from,
+            end,
+            block,
+            told,
+            out,
+            counts,
+        );
         at = end;
         number += 1;
     }
@@ -163,7 +191,14 @@ fn show(counts: &[u64; 512]) {
 }
 
 // Plays the first n bytes; an input that fills its room may have been longer.
-fn run(input: &[u8], n: usize, block: &mut [u64], told: &mut [u64], out: &mut [u8], counts: &mut [u64; 512]) {
+fn run(
+    input: &[u8],
+    n: usize,
+    block: &mut [u64],
+    told: &mut [u64],
+    out: &mut [u8],
+    counts: &mut [u64; 512],
+) {
     if n < input.len() {
         play_all(&input[..n], block, told, out, counts);
     } else {
