@@ -49,28 +49,13 @@ fn point(file: &mut [u8; 131072], at: usize, top: u8) -> usize {
     coordinate(file, b, 0)
 }
 
-fn free(
-    file: &mut [u8; 131072],
-    at: usize,
-    serial: usize,
-    next: usize,
-    opposite: usize,
-    top: u8,
-) -> usize {
+fn free(file: &mut [u8; 131072], at: usize, serial: usize, next: usize, opposite: usize, top: u8) -> usize {
     let a = links(file, at, serial, next, opposite);
     let b = put(file, a, 0);
     point(file, b, top)
 }
 
-fn sewn(
-    file: &mut [u8; 131072],
-    at: usize,
-    serial: usize,
-    next: usize,
-    opposite: usize,
-    to: usize,
-    top: u8,
-) -> usize {
+fn sewn(file: &mut [u8; 131072], at: usize, serial: usize, next: usize, opposite: usize, to: usize, top: u8) -> usize {
     let a = links(file, at, serial, next, opposite);
     let b = put(file, a, 1);
     let c = group(file, b, to);
@@ -78,16 +63,7 @@ fn sewn(
 }
 
 // Critical with another block, label 1.0 and a position.
-fn critical(
-    file: &mut [u8; 131072],
-    at: usize,
-    serial: usize,
-    next: usize,
-    opposite: usize,
-    other: u8,
-    position: u8,
-    top: u8,
-) -> usize {
+fn critical(file: &mut [u8; 131072], at: usize, serial: usize, next: usize, opposite: usize, other: u8, position: u8, top: u8) -> usize {
     let a = links(file, at, serial, next, opposite);
     let b = put(file, a, 2);
     let c = put(file, b, other);
