@@ -262,25 +262,93 @@ fn with_513_darts(bytes: &[u8]) -> Option<Vec<u8>> {
     Some(encode(&Message::Transfer(transfer)))
 }
 
-/// The file of a call: N drawn cases, then those about limits.
-pub fn vectors(seed: u64, call: Call, wanted: usize) -> Vec<u8> {
-    let mut records = choose(shelf(seed, call, wanted), wanted);
-    records.extend(limits(call).iter().map(|case| record(case).1));
+/// The records of a call: N drawn cases, and those about limits.
+struct Records {
+    drawn: Vec<Vec<u8>>,
+    limits: Vec<Vec<u8>>,
+}
+
+fn records(seed: u64, call: Call, wanted: usize) -> Records {
+    Records {
+        drawn: choose(shelf(seed, call, wanted), wanted),
+        limits: limits(call).iter().map(|case| record(case).1).collect(),
+    }
+}
+
+/// The file of a call: drawn cases, then those about limits.
+fn file_of(records: &Records) -> Vec<u8> {
     let mut out = Vec::new();
-    for bytes in records {
-        put_bytes(&mut out, &bytes);
+    for bytes in records.drawn.iter().chain(&records.limits) {
+        put_bytes(&mut out, bytes);
     }
     out
 }
 
-/// Writes the files of all calls; gives their total length.
+pub fn vectors(seed: u64, call: Call, wanted: usize) -> Vec<u8> {
+    file_of(&records(seed, call, wanted))
+}
+
+/// The calls of the gate's file; a call's place here is its byte there.
+pub const GATE: [Call; 3] = [Call::Empty, Call::ReadFile, Call::SaveFile];
+
+/// Bytes that the gate's file may have.
+pub const GATE_BYTES: usize = 400_000;
+
+/// The gate's file, and what a program that plays it has to print.
+pub struct Gate {
+    pub input: Vec<u8>,
+    pub output: String,
+}
+
+fn gate_of(calls: &[Records]) -> Gate {
+    let mut input = Vec::new();
+    let mut counts = vec![BTreeMap::<u32, usize>::new(); calls.len()];
+    let mut add = |call: usize, bytes: &[u8]| {
+        // The byte of the call and the length.
+        if input.len() + 5 + bytes.len() <= GATE_BYTES {
+            input.push(call as u8);
+            put_bytes(&mut input, bytes);
+            let answer = bytes[..4].iter().rev().fold(0, |high, low| high << 8 | u32::from(*low));
+            *counts[call].entry(answer).or_default() += 1;
+        }
+    };
+    // Those about limits come last: they are left out where they do not fit.
+    for of in [|records: &Records| records.drawn.clone(), |records: &Records| records.limits.clone()] {
+        for (call, records) in calls.iter().enumerate() {
+            of(records).iter().for_each(|bytes| add(call, bytes));
+        }
+    }
+    let mut output = String::new();
+    for (call, answers) in GATE.iter().zip(&counts) {
+        output += &format!("{}\n", call.name());
+        answers.iter().for_each(|(answer, count)| output += &format!("{answer}: {count}\n"));
+    }
+    let all: usize = counts.iter().flat_map(BTreeMap::values).sum();
+    output += &format!("as told: {all}\nanother answer: 0\nother content: 0\ncannot be read: 0\npassed over: 0\n");
+    Gate { input, output }
+}
+
+pub fn gate(seed: u64, wanted: usize) -> Gate {
+    gate_of(&GATE.map(|call| records(seed, call, wanted)))
+}
+
+/// Writes the files of all calls and the gate's; gives the total length of the calls' files.
 pub fn write(seed: u64, wanted: usize, folder: &Path) -> std::io::Result<usize> {
     std::fs::create_dir_all(folder)?;
     let mut total = 0;
+    let mut played = Vec::new();
     for call in CALLS {
-        let bytes = vectors(seed, call, wanted);
+        let records = records(seed, call, wanted);
+        let bytes = file_of(&records);
         total += bytes.len();
         std::fs::write(folder.join(format!("{}.bin", call.name())), bytes)?;
+        if GATE.contains(&call) {
+            played.push(records);
+        }
     }
+    // GATE has its calls in the order of CALLS.
+    let gate = gate_of(&played);
+    std::fs::write(folder.join("gate.bin"), gate.input)?;
+    std::fs::write(folder.join("gate.txt"), gate.output)?;
     Ok(total)
 }

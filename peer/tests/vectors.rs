@@ -4,7 +4,7 @@ use peer::cases::{Call, Case, CALLS};
 use peer::image::WORDS;
 use peer::lent::{OracleNumbers, Peer};
 use peer::vectors;
-use std::collections::BTreeSet;
+use std::collections::{BTreeMap, BTreeSet};
 
 struct Reader<'a> {
     bytes: &'a [u8],
@@ -174,4 +174,30 @@ fn vectors_are_deterministic() {
         assert_ne!(vectors::vectors(3, call, 20), vectors::vectors(4, call, 20));
     }
     assert_eq!(WORDS, 32_776);
+}
+
+/// The gate's file has every answer of its calls, and its counts are those that it tells.
+#[test]
+fn the_gate_has_every_answer() {
+    let gate = vectors::gate(1, 60);
+    assert!(gate.input.len() <= vectors::GATE_BYTES);
+    let mut rest = Reader { bytes: &gate.input };
+    let mut counts = BTreeMap::<(usize, u32), usize>::new();
+    while !rest.bytes.is_empty() {
+        let number = usize::from(rest.take(1)[0]);
+        let record = rest.bytes();
+        let (mut case, answer, after) = parse(vectors::GATE[number], &record);
+        assert_eq!(case.run(&Peer), answer);
+        assert!(case == after);
+        *counts.entry((number, answer)).or_default() += 1;
+    }
+    let mut output = String::new();
+    for (number, call) in vectors::GATE.iter().enumerate() {
+        output += &format!("{}\n", call.name());
+        for answer in call.answers() {
+            output += &format!("{answer}: {}\n", counts[&(number, *answer)]);
+        }
+    }
+    output += &format!("as told: {}\n", counts.values().sum::<usize>());
+    assert!(gate.output.starts_with(&output), "{}", gate.output);
 }

@@ -23,7 +23,13 @@ pub fn face_end(starts: &[usize], count: usize, darts: usize, f: usize) -> usize
 }
 
 // The points of the first darts of `count` vertices.
-pub fn put_points(block: &[u64], firsts: &[usize], count: usize, out: &mut [u8], from: usize) -> usize
+pub fn put_points(
+    block: &[u64],
+    firsts: &[usize],
+    count: usize,
+    out: &mut [u8],
+    from: usize,
+) -> usize
     requires { ⌜ Pointed (now block) (now firsts) count ⌝ }
     requires { ⌜ from + length (run (point-put (now block) (now firsts)) count) ≤ length (now out) ⌝ }
     ensures { λ r. ⌜ Stored (now (out .entry)) from (run (point-put (now (block .entry)) (now (firsts .entry))) count) (now (out .exit)) r ⌝ }

@@ -92,7 +92,16 @@ fn put_part1(
     let past_points = first::put_points(block, firsts, vertices, out, past_count);
     let faces = counts.faces;
     let past_faces = groups::put_group(out, past_points, faces as u32);
-    first::put_faces(block, numbers, order, starts, counts.darts, faces, out, past_faces)
+    first::put_faces(
+        block,
+        numbers,
+        order,
+        starts,
+        counts.darts,
+        faces,
+        out,
+        past_faces,
+    )
 }
 
 // Parts 2, 3 and 4, each after its count.
@@ -130,7 +139,16 @@ fn put_parts(
         past_three,
     );
     let past_four = groups::put_group(out, past_part3, sizes.part4 as u32);
-    parts::put_part4s(block, to, order, starts, counts.darts, faces, out, past_four)
+    parts::put_part4s(
+        block,
+        to,
+        order,
+        starts,
+        counts.darts,
+        faces,
+        out,
+        past_four,
+    )
 }
 
 // The message: its length, then the transfer.
@@ -165,5 +183,15 @@ pub fn put_transfer(
         out,
         past_length,
     );
-    put_parts(block, to, marks, order, starts, counts, sizes, out, past_first)
+    put_parts(
+        block,
+        to,
+        marks,
+        order,
+        starts,
+        counts,
+        sizes,
+        out,
+        past_first,
+    )
 }

@@ -1,0 +1,69 @@
+-- `vectors::save_file_from` meets its contract: the part has as many bytes as the record tells.
+-- Assumes nothing.
+use mathlib.Core.Path.{sym}
+use lib.Seq.{length-take-le}
+use borrow.Author.Needs.{needs}
+use Rattle.vectors.proofs.save_file_from.Statement.{statement}
+use Rattle.vectors.proofs.save_file_from.Tie as tie
+
+words-requires : tie.Need-words-requires
+words-requires c κs = search needs
+
+step-requires : tie.Need-step-requires
+step-requires c κs = search needs
+
+bytes-end-requires : tie.Need-bytes-end-requires
+bytes-end-requires c κs = search needs
+
+same-length : tie.Need-same-length
+same-length c = search needs
+
+returns : tie.Need-returns
+returns c = search needs
+
+short-requires : tie.Need-short-requires
+short-requires c κs = search needs
+
+slice-relend-prefix-save-file-on : tie.Need-slice-relend-prefix-save-file-on
+slice-relend-prefix-save-file-on c = search needs
+
+slice-aggregate-save-file-on : tie.Need-slice-aggregate-save-file-on
+slice-aggregate-save-file-on c =
+    sym (length-take-le (c .before .before .before .short .result) (c .before .before .before .before .before .before .before .before .before .before .before .before .before .before .args .out .now) (c .before .before .if2 .taken))
+
+save-file-on-requires : tie.Need-save-file-on-requires
+save-file-on-requires c κs = search needs
+
+same-length-2 : tie.Need-same-length-2
+same-length-2 c = search needs
+
+same-length-3 : tie.Need-same-length-3
+same-length-3 c = search needs
+
+returns-2 : tie.Need-returns-2
+returns-2 c = search needs
+
+same-length-4 : tie.Need-same-length-4
+same-length-4 c = search needs
+
+returns-3 : tie.Need-returns-3
+returns-3 c = search needs
+
+pub save-file-from-spec : {M : Type 1} → statement M
+save-file-from-spec =
+    tie.close
+    (tie.spec
+    words-requires
+    step-requires
+    bytes-end-requires
+    same-length
+    returns
+    short-requires
+    slice-relend-prefix-save-file-on
+    slice-aggregate-save-file-on
+    save-file-on-requires
+    same-length-2
+    same-length-3
+    returns-2
+    same-length-4
+    returns-3)
