@@ -1,3 +1,4 @@
 pub mod FirstNo
 pub mod LeavingFaces
 pub mod LeavesWith
+pub mod Told
