@@ -13,6 +13,7 @@ pub mod groups;
 pub mod image;
 pub mod lent;
 pub mod listing;
+pub mod listings;
 pub mod mesh;
 pub mod message;
 pub mod plain;

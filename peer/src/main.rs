@@ -1,9 +1,10 @@
-//! The peer's program: simulate, vectors, compare, bench, list.
+//! The peer's program: simulate, vectors, compare, bench, list, listings.
 
 use peer::bench;
 use peer::compare;
 use peer::lent::Peer;
 use peer::listing;
+use peer::listings;
 use peer::plain::Plain;
 use peer::simulate::{self, Failure};
 use peer::vectors;
@@ -12,7 +13,7 @@ use std::path::Path;
 use std::process::ExitCode;
 
 const USAGE: &str =
-    "peer simulate SEED N | peer vectors SEED N DIR | peer compare SEED N | peer bench | peer list < FILE";
+    "peer simulate SEED N | peer vectors SEED N DIR | peer compare SEED N | peer bench | peer list < FILE | peer listings DIR";
 
 fn main() -> ExitCode {
     let words: Vec<String> = std::env::args().skip(1).collect();
@@ -35,6 +36,7 @@ fn main() -> ExitCode {
             Ok(())
         }
         ["list"] => list(),
+        ["listings", folder] => write_listings(folder).map_err(|e| e.to_string()),
         _ => Err(USAGE.to_string()),
     };
     match done {
@@ -53,6 +55,13 @@ fn list() -> Result<(), String> {
     let limit = listing::MAX_INPUT as u64 + 1;
     std::io::stdin().take(limit).read_to_end(&mut input).map_err(|e| e.to_string())?;
     std::io::stdout().write_all(listing::listing(&input).as_bytes()).map_err(|e| e.to_string())
+}
+
+/// Writes the files of the listing program in a row, and what it prints for them.
+fn write_listings(folder: &str) -> std::io::Result<()> {
+    let made = listings::listings();
+    std::fs::write(Path::new(folder).join("stdin"), made.input)?;
+    std::fs::write(Path::new(folder).join("stdout"), made.output)
 }
 
 fn write_vectors(seed: u64, count: usize, folder: &str) -> Result<(), String> {
