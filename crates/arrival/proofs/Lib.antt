@@ -1,1 +1,4 @@
 pub mod SideLaws
+pub mod OrderLaws
+pub mod SegmentLaws
+pub mod PairLaws

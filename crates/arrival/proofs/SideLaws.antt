@@ -53,12 +53,12 @@ round-shift o n j = by-cases (eqb (suc j) n)
     (λ e. rw (e, eq-eqb (suc (o + j)) (o + n) (let q = eqb-true (suc j) n e in omega (arith, q))) (omega arith))
     (λ e. rw (e, ne-eqb (suc (o + j)) (o + n) (λ q. eqb-false (suc j) n e (omega (arith, q)))) (omega arith))
 
-abbrev no-side : FaceDart
+abbrev pub no-side : FaceDart
 no-side = record { vertex = 0; serial = 0 }
 
 module _ (v x b z : List ℕ) where
   -- the arrays have some faces from index o on
-  record From (o : ℕ) (fs : List (List FaceDart)) : Type 0 where
+  pub record From (o : ℕ) (fs : List (List FaceDart)) : Type 0 where
     pub vertex-is : (j : ℕ) → j < size-all fs → getD v (o + j) 0 ≡ getD (concat fs) j no-side .vertex
     pub serial-is : (j : ℕ) → j < size-all fs → getD x (o + j) 0 ≡ getD (concat fs) j no-side .serial
     pub start-is : (j : ℕ) → j < size-all fs → getD b (o + j) 0 ≡ getD (starts-of o fs) j 0
@@ -88,7 +88,7 @@ module _ (v x b z : List ℕ) where
           let r = round-below (length f) j h in
           rw (turned-at no-side f j h, next j h, w .vertex-is j (within h), w .serial-is j (within h), w .vertex-is (round (length f) j) (within r), w .serial-is (round (length f) j) (within r), dart j h, dart (round (length f) j) r) refl
 
-  past-face : (o : ℕ) (f : List FaceDart) (fs : List (List FaceDart)) → From o (f ∷ fs) → From (o + length f) fs
+  pub past-face : (o : ℕ) (f : List FaceDart) (fs : List (List FaceDart)) → From o (f ∷ fs) → From (o + length f) fs
   unfolding concat size-all starts-of sizes-of
   past-face o f fs w = record {
     vertex-is = λ j h. at v j ∙ w .vertex-is (length f + j) (on h) ∙ ap (λ (d : FaceDart). d .vertex) (getD-append-add f (concat fs) j no-side);
@@ -120,7 +120,7 @@ module _ (v x b z : List ℕ) where
   concat-size [] = refl
   concat-size (f ∷ fs) = length-append f (concat fs) ∙ ap (λ (n : ℕ). length f + n) (concat-size fs)
 
-  from-start : (fs : List (List FaceDart)) → FacesIn fs v x b z → From 0 fs
+  pub from-start : (fs : List (List FaceDart)) → FacesIn fs v x b z → From 0 fs
   from-start fs w = record {
     vertex-is = λ j h. at v (map (λ d. d .vertex) (concat fs)) j h (w .vertices) ∙ List·getD-map (λ (d : FaceDart). d .vertex) (concat fs) j no-side;
     serial-is = λ j h. at x (map (λ d. d .serial) (concat fs)) j h (w .serials) ∙ List·getD-map (λ (d : FaceDart). d .serial) (concat fs) j no-side;
