@@ -2,3 +2,5 @@ pub mod SideLaws
 pub mod OrderLaws
 pub mod SegmentLaws
 pub mod PairLaws
+pub mod DraftLaws
+pub mod NewDarts

@@ -1,0 +1,50 @@
+-- The new darts of a transfer as a block's memory of their own, in ascending serial. Assumes nothing.
+-- v, b, z as in Sides; keys, ranks: the serials ranked; q: the index of each dart's opposite; the points stand in s from a place on.
+use mathlib.Core.Path.{_≡_}
+use mathlib.Core.List.{List}
+use Prim.Native.Nat.{ℕ, _+_, _*_, _≤_, _<_}
+use lib.ListN.{length, getD}
+use Rattle.model.specs.Image.{words}
+use Rattle.memory.specs.Record.{record-in}
+use Rattle.memory.specs.declared.record.Record.{Record}
+use Rattle.inbox.specs.Inbox.{word-in}
+use Rattle.ranking.specs.Ranks.{value-at, index-at, Ranked}
+use Rattle.arrival.specs.Sides.{next-index, pair-at, reverse-at, Segments, Small}
+
+-- q has the index of each dart's opposite, whose pair is the reverse
+pub record Opposed (v b z : List ℕ) (k : ℕ) (q : List ℕ) : Type 0 where
+  pub below : (i : ℕ) → i < k → getD q i 0 < k
+  pub reversed : (i : ℕ) → i < k → reverse-at v b z i ≡ pair-at v b z (getD q i 0)
+
+-- the record at place p: all free
+abbrev pub draft-record : List ℕ → List ℕ → List ℕ → List ℕ → List ℕ → List ℕ → List ℕ → ℕ → ℕ → Record
+draft-record v b z keys ranks q s from p =
+    let i = index-at keys p in
+    let point = from + 24 * getD v i 0 in
+    record {
+      serial = value-at keys p;
+      next = getD ranks (next-index b z i) 0;
+      opposite = getD ranks (getD q i 0) 0;
+      kind = 0;
+      link = 0;
+      x = word-in s point;
+      y = word-in s (point + 8);
+      z = word-in s (point + 16);
+    }
+
+-- a block's memory with k such records
+pub record Drafted (f : ℕ → Record) (k : ℕ) (m : List ℕ) : Type 0 where
+  pub size : length m ≡ words
+  pub count-is : getD m 2 0 ≡ k
+  pub rows : (p : ℕ) → p < k → record-in m p ≡ f p
+
+-- all that a draft rests on
+pub record Draft (v x b z keys ranks q s : List ℕ) (from k : ℕ) (m : List ℕ) : Type 0 where
+  pub some-darts : 1 ≤ k
+  pub few : k ≤ 512
+  pub segs : Segments b z k
+  pub small : Small v k
+  pub ranked : Ranked x k keys ranks
+  pub opposed : Opposed v b z k q
+  pub once : (i j : ℕ) → i < k → j < k → pair-at v b z i ≡ pair-at v b z j → i ≡ j
+  pub drafted : Drafted (draft-record v b z keys ranks q s from) k m
