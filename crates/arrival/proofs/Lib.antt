@@ -4,3 +4,4 @@ pub mod SegmentLaws
 pub mod PairLaws
 pub mod DraftLaws
 pub mod NewDarts
+pub mod VolumeLaws

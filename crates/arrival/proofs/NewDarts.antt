@@ -54,7 +54,7 @@ dart-path p q r u w = λ i. record { serial = p i; next = q i; opposite = r i; t
 
 module _ {v x b z keys ranks q s : List ℕ} {from k : ℕ} {m : List ℕ} (w : Draft v x b z keys ranks q s from k m)
     (t : Transfer) (inside : FacesIn (t .faces) v x b z) (darts : k ≡ size-all (t .faces)) {n : ℕ} (points : t .points ≡ points-in s from n) (vertices : (i : ℕ) → i < k → getD v i 0 < n) where
-  all-sides : sides t ≡ tab (side-at v x b z) k
+  pub all-sides : sides t ≡ tab (side-at v x b z) k
   all-sides = rw darts (sides-are v x b z t inside)
 
   -- the opposite of a dart is the one whose pair is the reverse

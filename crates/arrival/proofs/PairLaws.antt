@@ -57,10 +57,10 @@ each-tab P f zero h = tt
 each-tab P f (suc n) h = (h 0 (omega arith), each-tab P (λ k. f (suc k)) n (λ i l. h (suc i) (omega (arith, l))))
 
 -- a test of each value is a test of each index
-all-index : {A : Type 0} (q : A → Bool) (f : ℕ → A) (n : ℕ) → all q (tab f n) ≡ all (λ i. q (f i)) (tab (λ i. i) n)
+pub all-index : {A : Type 0} (q : A → Bool) (f : ℕ → A) (n : ℕ) → all q (tab f n) ≡ all (λ i. q (f i)) (tab (λ i. i) n)
 all-index q f n = ap (all q) (sym (map-tab f (λ i. i) n)) ∙ all-map q f (tab (λ i. i) n)
 
-all-same : (p q : ℕ → Bool) (n : ℕ) → ((i : ℕ) → i < n → p i ≡ q i) → all p (tab (λ i. i) n) ≡ all q (tab (λ i. i) n)
+pub all-same : (p q : ℕ → Bool) (n : ℕ) → ((i : ℕ) → i < n → p i ≡ q i) → all p (tab (λ i. i) n) ≡ all q (tab (λ i. i) n)
 all-same p q n h = same-truth _ _
     (λ t. tab-all q (λ i. i) n (λ i l. sym (h i l) ∙ all-tab p (λ i. i) n t i l))
     (λ t. tab-all p (λ i. i) n (λ i l. h i l ∙ all-tab q (λ i. i) n t i l))
