@@ -5,3 +5,5 @@ pub mod PairLaws
 pub mod DraftLaws
 pub mod NewDarts
 pub mod VolumeLaws
+pub mod Steps
+pub mod Drafting

@@ -3,13 +3,21 @@
 use mathlib.Core.Path.{_≡_}
 use mathlib.Core.List.{List}
 use Prim.Native.Nat.{ℕ, _+_, _*_, _≤_, _<_}
-use lib.ListN.{length, getD}
+use lib.ListN.{length, getD, take}
+use Rattle.model.specs.Lists.{tab}
 use Rattle.model.specs.Image.{words}
 use Rattle.memory.specs.Record.{record-in}
 use Rattle.memory.specs.declared.record.Record.{Record}
 use Rattle.inbox.specs.Inbox.{word-in}
 use Rattle.ranking.specs.Ranks.{value-at, index-at, Ranked}
 use Rattle.arrival.specs.Sides.{next-index, pair-at, reverse-at, Segments, Small}
+
+-- the pairs of the first k darts, ranked
+pub record PairsRanked (v b z : List ℕ) (k : ℕ) (keys : List ℕ) : Type 0 where
+  pub pairs : List ℕ
+  pub ranks : List ℕ
+  pub are : take k pairs ≡ tab (pair-at v b z) k
+  pub ranked : Ranked pairs k keys ranks
 
 -- q has the index of each dart's opposite, whose pair is the reverse
 pub record Opposed (v b z : List ℕ) (k : ℕ) (q : List ℕ) : Type 0 where
@@ -31,6 +39,14 @@ draft-record v b z keys ranks q s from p =
       y = word-in s (point + 8);
       z = word-in s (point + 16);
     }
+
+-- what there must be to draft k darts
+pub record Draftable (v b z keys q s : List ℕ) (from k : ℕ) : Type 0 where
+  pub few : k ≤ 512
+  pub segs : Segments b z k
+  pub index-below : (p : ℕ) → p < k → index-at keys p < k
+  pub opposite-below : (i : ℕ) → i < k → getD q i 0 < k
+  pub point-fits : (i : ℕ) → i < k → from + 24 * getD v i 0 + 24 ≤ length s
 
 -- a block's memory with k such records
 pub record Drafted (f : ℕ → Record) (k : ℕ) (m : List ℕ) : Type 0 where

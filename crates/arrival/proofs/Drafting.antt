@@ -1,0 +1,93 @@
+-- The draft record by record. Assumes nothing.
+use mathlib.Core.Path.{_≡_, refl, sym, _∙_, ap}
+use mathlib.Core.List.{List}
+use mathlib.Core.Logic.{⊎-elim}
+use Prim.Native.Nat.{ℕ, _+_, _*_, _-_, _≤_, _<_}
+use native.Mathlib.Omega.{arith}
+use lib.ListN.{length, getD, drop, set, length-set}
+use lib.Seq.{getD-set-same, getD-set-other}
+use Rattle.model.specs.Image.{room, words, column}
+use Rattle.laws.proofs.Tests.{last-or-below}
+use Rattle.memory.specs.Record.{record-in, record-words, put}
+use Rattle.memory.specs.declared.record.Record.{Record}
+use Rattle.memory.proofs.Records.{length-put, put-here, put-there}
+use Rattle.model.specs.Layouts.{coordinate}
+use Rattle.groups.specs.Slices.{read-at}
+use Rattle.groups.specs.declared.Read.the-variants.{Value, Bad}
+use Rattle.inbox.specs.Inbox.{word-in}
+use Rattle.inbox.proofs.Points.{word-took}
+use Rattle.arrival.specs.Draft.{Drafted}
+
+-- the records below p are put
+pub record Drafting (f : ℕ → Record) (k : ℕ) (m : List ℕ) (p : ℕ) : Type 0 where
+  pub le : p ≤ k
+  pub len : length m ≡ words
+  pub rows : (j : ℕ) → j < p → record-in m j ≡ f j
+
+record-path : (m n : List ℕ) (p q : ℕ) → ((c : ℕ) → c < 8 → column m c p ≡ column n c q) → record-in m p ≡ record-in n q
+record-path m n p q e = λ i. record {
+  serial = e 0 (omega arith) i;
+  next = e 1 (omega arith) i;
+  opposite = e 2 (omega arith) i;
+  kind = e 3 (omega arith) i;
+  link = e 4 (omega arith) i;
+  x = e 5 (omega arith) i;
+  y = e 6 (omega arith) i;
+  z = e 7 (omega arith) i;
+}
+
+pub drafting-none : (f : ℕ → Record) (k : ℕ) {m : List ℕ} → length m ≡ words → Drafting f k m 0
+drafting-none f k e = record { le = omega arith; len = e; rows = λ j h. absurd (omega (arith, h)) }
+
+module _ {f : ℕ → Record} {k : ℕ} {m : List ℕ} {p : ℕ} (w : Drafting f k m p) (few : k ≤ 512) (h : p < k) where
+  more : {r : Record} → r ≡ f p → Drafting f k (put m p (record-words r)) (p + 1)
+  more {r} e =
+      let fit : 16 + p * 8 ≤ length m = omega (arith, w .len, h, few) in
+      record {
+        le = omega arith;
+        len = length-put m (record-words r) p fit refl ∙ w .len;
+        rows = λ j l. ⊎-elim
+            (λ (t : j ≡ p). rw t (here fit ∙ e))
+            (λ (t : j < p). record-path (put m p (record-words r)) m j j (λ c u. put-there m (record-words r) p fit refl j c u (λ q. omega (arith, t, q))) ∙ w .rows j t)
+            (last-or-below l);
+      }
+    where
+      here : 16 + p * 8 ≤ length m → record-in (put m p (record-words r)) p ≡ r
+      here fit =
+          let at = put-here m (record-words r) p fit refl in
+          λ i. record {
+            serial = at 0 (omega arith) i;
+            next = at 1 (omega arith) i;
+            opposite = at 2 (omega arith) i;
+            kind = at 3 (omega arith) i;
+            link = at 4 (omega arith) i;
+            x = at 5 (omega arith) i;
+            y = at 6 (omega arith) i;
+            z = at 7 (omega arith) i;
+          }
+
+  pub drafting-more : {r : Record} {n : List ℕ} → r ≡ f p → n ≡ put m p (record-words r) → Drafting f k n (p + 1)
+  drafting-more e g = rw g (more e)
+
+pub drafting-all : {f : ℕ → Record} {k : ℕ} {m : List ℕ} {p : ℕ} {n : List ℕ} → Drafting f k m p → k ≤ p → n ≡ set m 2 k → Drafted f k n
+drafting-all {f} {k} {m} {p} w h g = rw g (record {
+  size = length-set m 2 k ∙ w .len;
+  count-is = getD-set-same m 2 k 0 (omega (arith, w .len));
+  rows = λ j l. record-path (set m 2 k) m j j (λ c u. getD-set-other m 2 (8 + j * 8 + c) k 0 (λ q. omega (arith, q))) ∙ w .rows j (omega (arith, l, h));
+})
+
+-- A WORD OF A POINT
+word-read : (s : List ℕ) (at : ℕ) → at + 8 ≤ length s → read-at coordinate s at ≡ Value (word-in s at) (length s - length (drop (at + 8) s))
+unfolding read-at
+word-read s at h = rw (word-took s at h .value) refl
+
+pub word-value : (s : List ℕ) (at : ℕ) → at + 8 ≤ length s → {w n : ℕ} → read-at coordinate s at ≡ Value w n → w ≡ word-in s at
+word-value s at h {w} {n} e =
+    let q : Value (word-in s at) (length s - length (drop (at + 8) s)) ≡ Value w n = sym (word-read s at h) ∙ e in
+    cc
+
+pub word-there : (s : List ℕ) (at : ℕ) → at + 8 ≤ length s → read-at coordinate s at ≡ Bad → ⊥
+word-there s at h e =
+    let q : Value (word-in s at) (length s - length (drop (at + 8) s)) ≡ Bad = sym (word-read s at h) ∙ e in
+    let z : _≡_ {A = ℕ} 0 1 = cc in
+    omega arith

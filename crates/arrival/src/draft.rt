@@ -1,0 +1,101 @@
+// The draft: the new darts in ascending serial, linked by place, all free.
+ghost use mathlib.Core.Path.{_≡_};
+ghost use Prim.Native.Nat.{_+_, _≤_, _<_};
+ghost use lib.ListN.{length, set};
+ghost use Rattle.model.specs.Image.{words};
+ghost use Rattle.inbox.specs.Inbox.{word-in};
+ghost use Rattle.arrival.specs.Draft.{draft-record, Draftable, Drafted};
+use crate::pairs;
+use groups::Read;
+use memory::record;
+use memory::record::Place;
+use memory::record::Record;
+
+// A word of a point where it stands in the message.
+pub fn word_at(message: &[u8], at: usize) -> u64
+    requires { ⌜ at + 8 ≤ length (now message) ⌝ }
+    ensures { λ r. ⌜ r ≡ word-in (now (message .entry)) at ⌝ }
+{
+    let Read::Value(w, next) = groups::read_coordinate(message, at) else {
+        return 0;
+    };
+    w
+}
+
+// The record at place p.
+fn record_of(
+    message: &[u8],
+    from: usize,
+    vertex: &[u64],
+    starts: &[usize],
+    sizes: &[usize],
+    k: usize,
+    keys: &[u64],
+    ranks: &[usize],
+    opposite: &[usize],
+    p: usize,
+) -> Record
+    requires { ⌜ (length (now vertex) ≡ 512) × (length (now starts) ≡ 512) × (length (now sizes) ≡ 512) × (length (now keys) ≡ 512) × (length (now ranks) ≡ 512) × (length (now opposite) ≡ 512) × (p < k) ⌝ }
+    requires { ⌜ Draftable (now vertex) (now starts) (now sizes) (now keys) (now opposite) (now message) from k ⌝ }
+    ensures { λ r. ⌜ r ≡ draft-record (now (vertex .entry)) (now (starts .entry)) (now (sizes .entry)) (now (keys .entry)) (now (ranks .entry)) (now (opposite .entry)) (now (message .entry)) from p ⌝ }
+{
+    let i = (keys[p] % 512) as usize;
+    let next = pairs::next_index(starts, sizes, i);
+    let other = opposite[i];
+    let point = from + 24 * (vertex[i] as usize);
+    Record {
+        serial: keys[p] / 512,
+        next: ranks[next] as u64,
+        opposite: ranks[other] as u64,
+        kind: 0,
+        link: 0,
+        x: word_at(message, point),
+        y: word_at(message, point + 8),
+        z: word_at(message, point + 16),
+    }
+}
+
+fn set_count(draft: &mut [u64], k: usize)
+    requires { ⌜ length (now draft) ≡ words ⌝ }
+    ensures { λ _. ⌜ now (draft .exit) ≡ set (now (draft .entry)) 2 k ⌝ }
+{
+    draft[2] = k as u64;
+}
+
+// Drafts k darts.
+pub fn put_draft(
+    message: &[u8],
+    from: usize,
+    vertex: &[u64],
+    starts: &[usize],
+    sizes: &[usize],
+    k: usize,
+    keys: &[u64],
+    ranks: &[usize],
+    opposite: &[usize],
+    draft: &mut [u64],
+)
+    requires { ⌜ (length (now vertex) ≡ 512) × (length (now starts) ≡ 512) × (length (now sizes) ≡ 512) × (length (now keys) ≡ 512) × (length (now ranks) ≡ 512) × (length (now opposite) ≡ 512) × (length (now draft) ≡ words) ⌝ }
+    requires { ⌜ Draftable (now vertex) (now starts) (now sizes) (now keys) (now opposite) (now message) from k ⌝ }
+    ensures { λ _. ⌜ Drafted (draft-record (now (vertex .entry)) (now (starts .entry)) (now (sizes .entry)) (now (keys .entry)) (now (ranks .entry)) (now (opposite .entry)) (now (message .entry)) from) k (now (draft .exit)) ⌝ }
+{
+    // The records below p are put.
+    let mut p = 0;
+    while p < k {
+        let r = record_of(
+            message,
+            from,
+            vertex,
+            starts,
+            sizes,
+            k,
+            keys,
+            ranks,
+            opposite,
+            p,
+        );
+        record::put_record(draft, Place(p), r);
+        p += 1;
+    }
+    set_count(draft, k);
+}
