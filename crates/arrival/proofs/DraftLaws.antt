@@ -1,22 +1,21 @@
 -- A draft is a block's memory whose links stay within it, and its darts are those of the transfer. Assumes nothing.
-use mathlib.Core.Path.{_≡_, refl, sym, _∙_, ap, subst}
+use mathlib.Core.Path.{_≡_, sym, _∙_, ap, subst}
 use mathlib.Core.List.{List}
-use Prim.Native.Nat.{ℕ, _+_, _*_, _%_, _≤_, _<_}
+use Prim.Native.Nat.{ℕ, _<_}
 use native.Mathlib.Omega.{arith}
-use lib.ListN.{length, getD}
-use Rattle.model.specs.Lists.{tab}
+use lib.ListN.{getD}
 use Rattle.model.specs.Values.{Dart}
-use Rattle.model.specs.Cells.{dart-at, next-in, opposite-in, third-at}
-use Rattle.model.specs.Image.{room, words, column, dart-in}
+use Rattle.model.specs.Cells.{dart-at}
+use Rattle.model.specs.Image.{column, dart-in}
 use Rattle.laws.specs.Order.{Ascending}
 use Rattle.laws.proofs.Tables.{dart-place, one-place}
 use Rattle.memory.specs.Record.{record-in}
 use Rattle.memory.specs.declared.record.Record.{Record}
-use Rattle.cells.specs.Places.{Within, Apart, Linked}
+use Rattle.cells.specs.Places.{Linked}
 use Rattle.cells.proofs.Sited.{Sited, darts-in, count-in}
-use Rattle.ranking.specs.Ranks.{value-at, index-at, Ranked}
-use Rattle.arrival.specs.Sides.{next-index, pair-at, reverse-at, Segments, Small}
-use Rattle.arrival.specs.Draft.{Opposed, draft-record, Drafted, Draft}
+use Rattle.ranking.specs.Ranks.{value-at, index-at}
+use Rattle.arrival.specs.Sides.{next-index, pair-at, reverse-at}
+use Rattle.arrival.specs.Draft.{draft-record, Draft}
 use Rattle.arrival.proofs.SegmentLaws.{next-below, next-apart}
 
 module _ {v x b z keys ranks q s : List ℕ} {from k : ℕ} {m : List ℕ} (w : Draft v x b z keys ranks q s from k m) where

@@ -7,3 +7,4 @@ pub mod NewDarts
 pub mod VolumeLaws
 pub mod Steps
 pub mod Drafting
+pub mod Nineteen

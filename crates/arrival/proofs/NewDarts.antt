@@ -1,13 +1,13 @@
 -- The darts of a draft are the new darts of the transfer. Assumes nothing.
 use mathlib.Core.Path.{_≡_, refl, sym, _∙_, ap, subst}
-use mathlib.Core.Bool.{Bool, true, false, true≢false, cond}
+use mathlib.Core.Bool.{Bool, true, false, true≢false}
 use mathlib.Core.List.{List, [], _∷_, map}
-use mathlib.Core.Option.{none, some}
-use Prim.Native.Nat.{ℕ, zero, suc, _+_, _*_, _%_, _≤_, _<_}
+use mathlib.Core.Option.{some}
+use Prim.Native.Nat.{ℕ, zero, suc, _+_, _*_, _<_}
 use native.Mathlib.Omega.{arith}
 use lib.Dec.{eqb}
-use lib.ListN.{length, getD}
-use borrow.Author.Tests.{eqb-true, eqb-false, eq-eqb, ne-eqb}
+use lib.ListN.{getD}
+use borrow.Author.Tests.{eqb-true, eq-eqb}
 use Rattle.model.specs.Lists.{keep, mem, find, tab}
 use Rattle.model.specs.Values.{Point, Third, Dart, free, no-point, or-no-dart}
 use Rattle.model.specs.Cells.{dart-at, next-in, opposite-in}
@@ -15,14 +15,14 @@ use Rattle.model.specs.Image.{column, dart-in, third-in}
 use Rattle.model.specs.Messages.{Transfer, size-all}
 use Rattle.model.specs.Arrival.{Side, sides, reverses, first-serial, opposite-of, new-dart, new-darts}
 use Rattle.laws.proofs.Tests.{by-cases}
-use Rattle.laws.proofs.Tables.{getD-tab, map-tab, find-none, mem-place, place-mem, dart-place, find-place}
+use Rattle.laws.proofs.Tables.{getD-tab, map-tab, find-none, mem-place, place-mem, dart-place}
 use Rattle.memory.specs.Record.{record-in}
 use Rattle.memory.specs.declared.record.Record.{Record}
-use Rattle.cells.proofs.Sited.{Sited, darts-in, count-in}
+use Rattle.cells.proofs.Sited.{darts-in, count-in}
 use Rattle.inbox.specs.Inbox.{FacesIn, word-in, point-in, points-in}
-use Rattle.ranking.specs.Ranks.{value-at, index-at, Ranked}
-use Rattle.arrival.specs.Sides.{next-index, side-at, pair-at, reverse-at, Segments, Small}
-use Rattle.arrival.specs.Draft.{Opposed, draft-record, Drafted, Draft}
+use Rattle.ranking.specs.Ranks.{index-at}
+use Rattle.arrival.specs.Sides.{next-index, side-at, pair-at, reverse-at}
+use Rattle.arrival.specs.Draft.{draft-record, Draft}
 use Rattle.arrival.proofs.SideLaws.{sides-are}
 use Rattle.arrival.proofs.SegmentLaws.{next-below}
 use Rattle.arrival.proofs.PairLaws.{reverses-is}
@@ -63,8 +63,8 @@ module _ {v x b z keys ranks q s : List ℕ} {from k : ℕ} {m : List ℕ} (w : 
   opposite-is i h =
       let o = w .opposed .below i h in
       let alone : keep (reverses (side-at v x b z i)) (tab (side-at v x b z) k) ≡ side-at v x b z (getD q i 0) ∷ [] = keep-single (reverses (side-at v x b z i)) (side-at v x b z) k (getD q i 0) o
-          (reverses-is v x (w .segs) (w .small) i (getD q i 0) h o ∙ eq-eqb _ _ (w .opposed .reversed i h))
-          (λ j l u. w .once j (getD q i 0) l o (sym (eqb-true (reverse-at v b z i) (pair-at v b z j) (sym (reverses-is v x (w .segs) (w .small) i j h l) ∙ u)) ∙ w .opposed .reversed i h)) in
+      (reverses-is v x (w .segs) (w .small) i (getD q i 0) h o ∙ eq-eqb _ _ (w .opposed .reversed i h))
+      (λ j l u. w .once j (getD q i 0) l o (sym (eqb-true (reverse-at v b z i) (pair-at v b z j) (sym (reverses-is v x (w .segs) (w .small) i j h l) ∙ u)) ∙ w .opposed .reversed i h)) in
       ap (λ (l : List Side). first-serial (keep (reverses (side-at v x b z i)) l)) all-sides ∙ ap first-serial alone
 
   row : (p : ℕ) → p < k → record-in m p ≡ draft-record v b z keys ranks q s from p
@@ -78,9 +78,9 @@ module _ {v x b z keys ranks q s : List ℕ} {from k : ℕ} {m : List ℕ} (w : 
       let l : p < k = w .ranked .rank-below i h in
       let e : index-at keys p ≡ i = w .ranked .index-rank i h in
       let nx : column m 0 (column m 1 p) ≡ getD x (next-index b z i) 0 =
-          ap (column m 0) (ap (λ (r : Record). r .next) (row p l) ∙ ap (λ (j : ℕ). getD ranks (next-index b z j) 0) e) ∙ serial-of w (next-index b z i) (next-below (w .segs) i h) in
+      ap (column m 0) (ap (λ (r : Record). r .next) (row p l) ∙ ap (λ (j : ℕ). getD ranks (next-index b z j) 0) e) ∙ serial-of w (next-index b z i) (next-below (w .segs) i h) in
       let op : column m 0 (column m 2 p) ≡ getD x (getD q i 0) 0 =
-          ap (column m 0) (ap (λ (r : Record). r .opposite) (row p l) ∙ ap (λ (j : ℕ). getD ranks (getD q j 0) 0) e) ∙ serial-of w (getD q i 0) (w .opposed .below i h) in
+      ap (column m 0) (ap (λ (r : Record). r .opposite) (row p l) ∙ ap (λ (j : ℕ). getD ranks (getD q j 0) 0) e) ∙ serial-of w (getD q i 0) (w .opposed .below i h) in
       let kind : column m 3 p ≡ 0 = ap (λ (r : Record). r .kind) (row p l) in
       let third : third-in (column m 0) (column m 3 p) (column m 4 p) ≡ free = rw kind refl in
       let pt : getD (t .points) (getD v i 0) no-point ≡ point-in s (from + 24 * getD v i 0) = ap (λ (l : List Point). getD l (getD v i 0) no-point) points ∙ getD-tab (λ j. point-in s (from + 24 * j)) n (getD v i 0) no-point (vertices i h) in

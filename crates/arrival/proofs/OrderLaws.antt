@@ -1,14 +1,14 @@
 -- Faces in message order, by index: the test of each dart tells that of the faces. Assumes nothing.
 use mathlib.Core.Path.{_≡_, refl, sym, _∙_, ap, subst}
-use mathlib.Core.Bool.{Bool, true, false, true≢false, cond, not, _&&_, _||_}
-use mathlib.Core.List.{List, [], _∷_, _++_, map}
+use mathlib.Core.Bool.{Bool, true, false, true≢false, not, _&&_}
+use mathlib.Core.List.{List, [], _∷_, map}
 use mathlib.Core.Logic.{⊎-elim}
-use Prim.Native.Nat.{ℕ, zero, suc, _+_, _-_, _≤_, _<_}
+use Prim.Native.Nat.{ℕ, suc, _+_, _-_, _≤_, _<_}
 use native.Mathlib.Omega.{arith}
 use lib.Dec.{leb, ltb, eqb}
 use lib.ListN.{length, getD, replicate, length-replicate, getD-replicate, length-map, List·getD-append, List·getD-map}
 use borrow.Author.Tests.{eq-eqb, ne-eqb, leb-true, le-leb, ltb-true, lt-ltb, eqb-false, not-true}
-use Rattle.model.specs.Lists.{all, any, concat, tab, ascending}
+use Rattle.model.specs.Lists.{all, concat, tab, ascending}
 use Rattle.model.specs.Cells.{start-of}
 use Rattle.model.specs.Messages.{FaceDart, Transfer, size-all}
 use Rattle.model.specs.Arrival.{face-serials, faces-ordered}
@@ -16,7 +16,7 @@ use Rattle.laws.proofs.Tests.{by-cases, all-at, lt-or-ge, eq-or-ne, and-intro, 
 use Rattle.laws.proofs.Members.{Each, all-map}
 use Rattle.laws.proofs.Maps.{all-weaken}
 use Rattle.laws.proofs.Tables.{all-tab, tab-all}
-use Rattle.inbox.specs.Inbox.{FacesIn, starts-of, sizes-of, is-hollow}
+use Rattle.inbox.specs.Inbox.{FacesIn, starts-of, is-hollow}
 use Rattle.arrival.specs.Sides.{floor-at, order-at}
 use Rattle.arrival.proofs.SideLaws.{no-side, From, past-face, from-start}
 
@@ -114,17 +114,19 @@ unfolding ascending
 chained-ascends p [] c = (refl, refl)
 chained-ascends p (f ∷ fs) c =
     let s = start-of (face-serials f) in
-    let r = chained-ascends (suc s) fs (c .1) in
-    (and-intro (le-leb p s (c .0)) (all-weaken (leb (suc s)) (leb p) (starts fs) (λ y h. le-leb p y (let g = leb-true (suc s) y h in omega (arith, g, c .0))) (r .0)),
-    and-intro (all-weaken (leb (suc s)) (ltb s) (starts fs) (λ y h. lt-ltb s y (let g = leb-true (suc s) y h in omega (arith, g))) (r .0)) (r .1))
+    let r = chained-ascends (suc s) fs (c .1) in (
+      and-intro (le-leb p s (c .0)) (all-weaken (leb (suc s)) (leb p) (starts fs) (λ y h. le-leb p y (let g = leb-true (suc s) y h in omega (arith, g, c .0))) (r .0)),
+      and-intro (all-weaken (leb (suc s)) (ltb s) (starts fs) (λ y h. lt-ltb s y (let g = leb-true (suc s) y h in omega (arith, g))) (r .0)) (r .1),
+    )
 
 ascends-chained : (p : ℕ) (fs : List (List FaceDart)) → all (leb p) (starts fs) ≡ true → ascending (starts fs) ≡ true → Chained p fs
 unfolding ascending
 ascends-chained p [] a u = tt
 ascends-chained p (f ∷ fs) a u =
-    let s = start-of (face-serials f) in
-    (leb-true p s (and-left (leb p s) _ a),
-    ascends-chained (suc s) fs (all-weaken (ltb s) (leb (suc s)) (starts fs) (λ y h. le-leb (suc s) y (let g = ltb-true s y h in omega (arith, g))) (and-left (all (ltb s) (starts fs)) _ u)) (and-right (all (ltb s) (starts fs)) _ u))
+    let s = start-of (face-serials f) in (
+      leb-true p s (and-left (leb p s) _ a),
+      ascends-chained (suc s) fs (all-weaken (ltb s) (leb (suc s)) (starts fs) (λ y h. le-leb (suc s) y (let g = ltb-true s y h in omega (arith, g))) (and-left (all (ltb s) (starts fs)) _ u)) (and-right (all (ltb s) (starts fs)) _ u),
+    )
 
 -- one face: not of size 0, and started at its least
 abbrev face-right : List ℕ → Bool

@@ -1,8 +1,8 @@
 -- Ordered vertex pairs by index: each once, with the reverse of each. Assumes nothing.
 use mathlib.Core.Path.{_≡_, refl, sym, _∙_, ap}
-use mathlib.Core.Bool.{Bool, true, false, not, _&&_, _||_}
+use mathlib.Core.Bool.{Bool, true, false, not, _&&_}
 use mathlib.Core.List.{List, [], _∷_, map}
-use Prim.Native.Nat.{ℕ, zero, suc, _+_, _*_, _≤_, _<_}
+use Prim.Native.Nat.{ℕ, zero, suc, _+_, _*_, _<_}
 use native.Mathlib.Omega.{arith}
 use lib.Dec.{eqb}
 use lib.ListN.{getD}
@@ -10,9 +10,9 @@ use borrow.Author.Tests.{eqb-true, eq-eqb}
 use Rattle.model.specs.Lists.{all, any, mem, tab, distinct}
 use Rattle.model.specs.Departure.{same-pair, pairs-once}
 use Rattle.model.specs.Arrival.{Side, reverses, pairs-right}
-use Rattle.laws.proofs.Tests.{by-cases, and-intro, and-left, and-right}
+use Rattle.laws.proofs.Tests.{and-intro, and-left, and-right}
 use Rattle.laws.proofs.Members.{Each, all-map}
-use Rattle.laws.proofs.Tables.{map-tab, tab-cong, tab-any, any-tab, tab-all, all-tab}
+use Rattle.laws.proofs.Tables.{map-tab, tab-any, any-tab, tab-all, all-tab}
 use Rattle.arrival.specs.Sides.{next-index, side-at, pair-code, pair-at, reverse-at, ends-differ, Segments, Small}
 use Rattle.arrival.proofs.OrderLaws.{same-truth}
 use Rattle.arrival.proofs.SegmentLaws.{next-below}

@@ -1,15 +1,15 @@
 -- The loops over indices, step by step. Assumes nothing.
 use mathlib.Core.Path.{_≡_, refl, sym, _∙_, ap}
-use mathlib.Core.Bool.{Bool, true, false, true≢false, cond, not, _&&_, _||_}
+use mathlib.Core.Bool.{Bool, true, false, true≢false, not, _&&_, _||_}
 use mathlib.Core.List.{List, [], _∷_, _++_}
 use mathlib.Core.Logic.{⊎-elim}
-use Prim.Native.Nat.{ℕ, suc, _+_, _-_, _≤_, _<_}
+use Prim.Native.Nat.{ℕ, suc, _+_, _-_, _≤_, _<_, _^_}
 use native.Mathlib.Omega.{arith}
 use lib.Dec.{leb, ltb, eqb}
 use lib.ListN.{length, getD, take, set, length-set}
 use lib.Seq.{take-suc-set, getD-take, getD-set-same, getD-set-other}
-use borrow.Author.Tests.{lt-leb, le-leb, lt-ltb, le-ltb, eq-eqb, ne-eqb}
-use Rattle.model.specs.Lists.{all, mem, tab}
+use borrow.Author.Tests.{lt-leb, le-leb, eq-eqb, ne-eqb}
+use Rattle.model.specs.Lists.{all, mem, distinct, tab}
 use Rattle.laws.proofs.Tests.{by-cases, last-or-below}
 use Rattle.laws.proofs.Maps.{tab-more}
 use Rattle.laws.proofs.Tables.{getD-tab, tab-all, all-tab, mem-place, mem-none}
@@ -17,9 +17,10 @@ use Rattle.memory.specs.Lookup.{place-in}
 use Rattle.memory.specs.declared.record.Place.{Place}
 use Rattle.memory.specs.declared.lookup.Found.the-variants.{At, Nothing}
 use Rattle.memory.proofs.Lookups.{place-at, place-nothing}
-use Rattle.ranking.specs.Ranks.{value-at, index-at, Ranked}
-use Rattle.arrival.specs.Sides.{next-index, floor-at, order-at, pair-at, reverse-at, ends-differ}
-use Rattle.arrival.specs.Draft.{PairsRanked, Opposed}
+use Rattle.ranking.specs.Ranks.{value-at, index-at}
+use Rattle.arrival.specs.Sides.{next-index, order-at, pair-at, reverse-at, ends-differ, Segments, Small}
+use Rattle.arrival.specs.Draft.{PairsRanked, Opposed, Paired}
+use Rattle.arrival.proofs.SegmentLaws.{next-below}
 
 -- A TEST OF EACH INDEX: those before i pass
 pub record Passing (p : ℕ → Bool) (i : ℕ) : Type 0 where
@@ -153,3 +154,28 @@ opposing-yes {v} {b} {z} {k} {q} {i} o h = sym (tab-all _ (λ j. j) k (λ j l. l
 
 pub opposing-all : {v b z : List ℕ} {k : ℕ} {q : List ℕ} {i : ℕ} → Opposing v b z k q i → k ≤ i → Opposed v b z k q
 opposing-all o h = record { below = λ j l. o .found j (omega (arith, h, l)) .0; reversed = λ j l. o .found j (omega (arith, h, l)) .1 }
+
+and-false : (a : Bool) → (a && false) ≡ false
+and-false true = refl
+and-false false = refl
+
+-- ALL OF THE PAIRS
+module _ (v b z : List ℕ) (k : ℕ) where
+  pub paired-ends : {q : List ℕ} → all (ends-differ v b z) (tab (λ i. i) k) ≡ false → Paired v b z k q false
+  paired-ends e = record { is = rw e refl; opposed = λ y. absurd (true≢false (sym y)) }
+
+  module _ (pairs : List ℕ) (are : take k pairs ≡ tab (pair-at v b z) k) where
+    pub paired-twice : {q : List ℕ} → distinct (take k pairs) ≡ false → Paired v b z k q false
+    paired-twice e = record { is = rw (ap distinct (sym are) ∙ e, and-false (all (ends-differ v b z) (tab (λ i. i) k))) refl; opposed = λ y. absurd (true≢false (sym y)) }
+
+    pub paired-found : {q : List ℕ} {r : Bool} → all (ends-differ v b z) (tab (λ i. i) k) ≡ true → distinct (take k pairs) ≡ true
+        → r ≡ all (λ i. mem (reverse-at v b z i) (tab (pair-at v b z) k)) (tab (λ i. i) k) → (r ≡ true → Opposed v b z k q) → Paired v b z k q r
+    paired-found e d f o = record { is = rw (e, ap distinct (sym are) ∙ d) f; opposed = o }
+
+    -- a pair is a small number
+    pub pair-fits : Segments b z k → Small v k → (i : ℕ) → i < k → getD pairs i 0 < 2 ^ 54
+    pair-fits s small i h =
+        let e : getD pairs i 0 ≡ pair-at v b z i = sym (getD-take k pairs i 0 h) ∙ ap (λ (l : List ℕ). getD l i 0) are ∙ getD-tab (pair-at v b z) k i 0 h in
+        let a = small i h in
+        let c = small (next-index b z i) (next-below s i h) in
+        omega (arith, e, a, c)

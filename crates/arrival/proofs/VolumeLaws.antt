@@ -1,6 +1,6 @@
 -- Question 19 on a draft: one volume, and vertices numbered by first use. Assumes nothing.
 use mathlib.Core.Path.{_≡_, refl, sym, _∙_, ap, subst}
-use mathlib.Core.Bool.{Bool, true, false, true≢false, _&&_}
+use mathlib.Core.Bool.{Bool, true, _&&_}
 use mathlib.Core.List.{List, [], _∷_, map}
 use Prim.Native.Nat.{ℕ, zero, suc, _+_, _*_, _≤_, _<_}
 use native.Mathlib.Omega.{arith}
@@ -8,21 +8,21 @@ use lib.Dec.{eqb}
 use lib.ListN.{length, getD, take, length-map}
 use lib.Seq.{getD-take, length-take-le, ext-getD}
 use borrow.Author.Tests.{eqb-true, eq-eqb}
-use Rattle.model.specs.Lists.{all, keep, mem, tab, same-list, firsts}
-use Rattle.model.specs.Cells.{volume, vertex, vertices, vertex-number, next-in, opposite-in}
+use Rattle.model.specs.Lists.{all, keep, mem, tab, same-list}
+use Rattle.model.specs.Cells.{volume, vertices, vertex-number, next-in, opposite-in}
 use Rattle.model.specs.Image.{column}
 use Rattle.model.specs.Messages.{Transfer, size-all}
 use Rattle.model.specs.Arrival.{Side, sides, first-serial, new-darts, one-volume, vertices-right}
-use Rattle.laws.proofs.Tests.{by-cases, and-intro, and-left, and-right}
-use Rattle.laws.proofs.Members.{In, all-in, all-from, keep-le, keep-less, map-map, map-cong, all-map}
+use Rattle.laws.proofs.Tests.{by-cases, and-left, and-right}
+use Rattle.laws.proofs.Members.{In, all-from, keep-less}
 use Rattle.laws.proofs.Tables.{length-tab, getD-tab, map-tab, tab-cong, tab-all, all-tab, mem-place, place-mem}
 use Rattle.cells.specs.Places.{Numbered, places-in, volume-of}
-use Rattle.cells.proofs.Sited.{Sited, darts-in, count-in}
+use Rattle.cells.proofs.Sited.{darts-in, count-in}
 use Rattle.cells.proofs.Reached.{volume-below}
 use Rattle.cells.proofs.Serials.{mem-map, serials-apart, volume-carried}
 use Rattle.cells.proofs.VertexSerials.{vertices-serials, number-serial}
 use Rattle.inbox.specs.Inbox.{FacesIn, point-in, points-in}
-use Rattle.ranking.specs.Ranks.{value-at, index-at, Ranked}
+use Rattle.ranking.specs.Ranks.{index-at}
 use Rattle.arrival.specs.Sides.{side-at}
 use Rattle.arrival.specs.Draft.{Draft}
 use Rattle.arrival.proofs.OrderLaws.{same-truth}

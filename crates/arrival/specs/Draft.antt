@@ -1,16 +1,20 @@
 -- The new darts of a transfer as a block's memory of their own, in ascending serial. Assumes nothing.
 -- v, b, z as in Sides; keys, ranks: the serials ranked; q: the index of each dart's opposite; the points stand in s from a place on.
 use mathlib.Core.Path.{_≡_}
+use mathlib.Core.Bool.{Bool, true, _&&_}
 use mathlib.Core.List.{List}
 use Prim.Native.Nat.{ℕ, _+_, _*_, _≤_, _<_}
+use lib.Dec.{eqb}
 use lib.ListN.{length, getD, take}
-use Rattle.model.specs.Lists.{tab}
-use Rattle.model.specs.Image.{words}
+use Rattle.model.specs.Lists.{all, mem, distinct, tab}
+use Rattle.model.specs.Image.{words, column}
+use Rattle.model.specs.Messages.{Transfer, size-all}
 use Rattle.memory.specs.Record.{record-in}
 use Rattle.memory.specs.declared.record.Record.{Record}
-use Rattle.inbox.specs.Inbox.{word-in}
+use Rattle.cells.specs.Places.{Numbered}
+use Rattle.inbox.specs.Inbox.{FacesIn, is-hollow, points-in, word-in}
 use Rattle.ranking.specs.Ranks.{value-at, index-at, Ranked}
-use Rattle.arrival.specs.Sides.{next-index, pair-at, reverse-at, Segments, Small}
+use Rattle.arrival.specs.Sides.{next-index, pair-at, reverse-at, ends-differ, Segments, Small}
 
 -- the pairs of the first k darts, ranked
 pub record PairsRanked (v b z : List ℕ) (k : ℕ) (keys : List ℕ) : Type 0 where
@@ -23,6 +27,11 @@ pub record PairsRanked (v b z : List ℕ) (k : ℕ) (keys : List ℕ) : Type 0 w
 pub record Opposed (v b z : List ℕ) (k : ℕ) (q : List ℕ) : Type 0 where
   pub below : (i : ℕ) → i < k → getD q i 0 < k
   pub reversed : (i : ℕ) → i < k → reverse-at v b z i ≡ pair-at v b z (getD q i 0)
+
+-- whether pairs are there once, with different ends and with their reverses; then q has the opposites
+pub record Paired (v b z : List ℕ) (k : ℕ) (q : List ℕ) (r : Bool) : Type 0 where
+  pub is : r ≡ ((all (ends-differ v b z) (tab (λ i. i) k) && distinct (tab (pair-at v b z) k)) && all (λ i. mem (reverse-at v b z i) (tab (pair-at v b z) k)) (tab (λ i. i) k))
+  pub opposed : r ≡ true → Opposed v b z k q
 
 -- the record at place p: all free
 abbrev pub draft-record : List ℕ → List ℕ → List ℕ → List ℕ → List ℕ → List ℕ → List ℕ → ℕ → ℕ → Record
@@ -64,3 +73,21 @@ pub record Draft (v x b z keys ranks q s : List ℕ) (from k : ℕ) (m : List �
   pub opposed : Opposed v b z k q
   pub once : (i j : ℕ) → i < k → j < k → pair-at v b z i ≡ pair-at v b z j → i ≡ j
   pub drafted : Drafted (draft-record v b z keys ranks q s from) k m
+
+-- how the vertices of a draft are numbered by first use, beside what the message says
+pub record Compared (v ranks : List ℕ) (n k : ℕ) (m : List ℕ) (r : Bool) : Type 0 where
+  pub numbers : List ℕ
+  pub firsts : List ℕ
+  pub count : ℕ
+  pub numbered : Numbered (column m 1) (column m 2) (take k ranks) numbers firsts count
+  pub result : r ≡ (all (λ i. eqb (getD v i 0) (getD numbers (getD ranks i 0) 0)) (tab (λ i. i) k) && eqb n count)
+
+-- what was told of part 1 of a transfer: its k darts in arrays, its n points in the message
+pub record Told (t : Transfer) (v x b z s : List ℕ) (from n k : ℕ) (hollow : Bool) : Type 0 where
+  pub inside : FacesIn (t .faces) v x b z
+  pub darts : k ≡ size-all (t .faces)
+  pub some-darts : 1 ≤ k
+  pub few : k ≤ 512
+  pub points : t .points ≡ points-in s from n
+  pub points-fit : from + 24 * n ≤ length s
+  pub hollow-is : hollow ≡ is-hollow (t .faces)

@@ -2,3 +2,4 @@
 pub mod order; // order.rt: faces in message order, vertices that can be
 pub mod pairs; // pairs.rt: ordered vertex pairs, and the opposite of each dart
 pub mod draft; // draft.rt: the draft
+pub mod volume; // volume.rt: question 19

@@ -5,7 +5,7 @@ ghost use Prim.Native.Nat.{ℕ, _≤_, _<_};
 ghost use lib.ListN.{length, getD, take};
 ghost use Rattle.model.specs.Lists.{all, mem, tab};
 ghost use Rattle.arrival.specs.Sides.{next-index, pair-at, reverse-at, ends-differ, Segments, Small};
-ghost use Rattle.arrival.specs.Draft.{PairsRanked, Opposed};
+ghost use Rattle.arrival.specs.Draft.{PairsRanked, Opposed, Paired};
 use memory::lookup::Found;
 
 // The index of the next dart along a face.
@@ -21,7 +21,13 @@ pub fn next_index(starts: &[usize], sizes: &[usize], i: usize) -> usize
 }
 
 // The pairs of the first k darts; whether the ends of each differ.
-pub fn put_pairs(vertex: &[u64], starts: &[usize], sizes: &[usize], k: usize, pairs: &mut [u64]) -> bool
+pub fn put_pairs(
+    vertex: &[u64],
+    starts: &[usize],
+    sizes: &[usize],
+    k: usize,
+    pairs: &mut [u64],
+) -> bool
     requires { ⌜ (length (now vertex) ≡ 512) × (length (now starts) ≡ 512) × (length (now sizes) ≡ 512) × (length (now pairs) ≡ 512) × (k ≤ 512) ⌝ }
     requires { ⌜ Segments (now starts) (now sizes) k × Small (now vertex) k ⌝ }
     ensures { λ r. ⌜ (r ≡ all (ends-differ (now (vertex .entry)) (now (starts .entry)) (now (sizes .entry))) (tab (λ i. i) k)) × (take k (now (pairs .exit)) ≡ tab (pair-at (now (vertex .entry)) (now (starts .entry)) (now (sizes .entry))) k) × (length (now (pairs .exit)) ≡ 512) ⌝ }
@@ -39,7 +45,14 @@ pub fn put_pairs(vertex: &[u64], starts: &[usize], sizes: &[usize], k: usize, pa
 }
 
 // Whether the reverse of each pair is there; then `opposite` has the index of the dart whose pair it is. `keys`: the pairs ranked.
-pub fn find_reverses(vertex: &[u64], starts: &[usize], sizes: &[usize], k: usize, keys: &[u64], opposite: &mut [usize]) -> bool
+pub fn find_reverses(
+    vertex: &[u64],
+    starts: &[usize],
+    sizes: &[usize],
+    k: usize,
+    keys: &[u64],
+    opposite: &mut [usize],
+) -> bool
     requires { ⌜ (length (now vertex) ≡ 512) × (length (now starts) ≡ 512) × (length (now sizes) ≡ 512) × (length (now keys) ≡ 512) × (length (now opposite) ≡ 512) × (k ≤ 512) ⌝ }
     requires { ⌜ Segments (now starts) (now sizes) k × Small (now vertex) k × PairsRanked (now vertex) (now starts) (now sizes) k (now keys) ⌝ }
     ensures { λ r. ⌜ (r ≡ all (λ i. mem (reverse-at (now (vertex .entry)) (now (starts .entry)) (now (sizes .entry)) i) (tab (pair-at (now (vertex .entry)) (now (starts .entry)) (now (sizes .entry))) k)) (tab (λ i. i) k)) × (r ≡ true → Opposed (now (vertex .entry)) (now (starts .entry)) (now (sizes .entry)) k (now (opposite .exit))) × (length (now (opposite .exit)) ≡ 512) ⌝ }
@@ -56,4 +69,30 @@ pub fn find_reverses(vertex: &[u64], starts: &[usize], sizes: &[usize], k: usize
         i += 1;
     }
     true
+}
+
+// Whether every ordered vertex pair is there once, with different ends and with its reverse; then `opposite` has the index of each
+// dart's opposite.
+pub fn paired(
+    vertex: &[u64],
+    starts: &[usize],
+    sizes: &[usize],
+    k: usize,
+    opposite: &mut [usize],
+) -> bool
+    requires { ⌜ (length (now vertex) ≡ 512) × (length (now starts) ≡ 512) × (length (now sizes) ≡ 512) × (length (now opposite) ≡ 512) × (1 ≤ k) × (k ≤ 512) ⌝ }
+    requires { ⌜ Segments (now starts) (now sizes) k × Small (now vertex) k ⌝ }
+    ensures { λ r. ⌜ Paired (now (vertex .entry)) (now (starts .entry)) (now (sizes .entry)) k (now (opposite .exit)) r × (length (now (opposite .exit)) ≡ 512) ⌝ }
+{
+    let mut pairs = [0u64; 512];
+    if !put_pairs(vertex, starts, sizes, k, &mut pairs) {
+        return false;
+    }
+    let mut keys = [0u64; 512];
+    let mut scratch = [0u64; 512];
+    let mut ranks = [0usize; 512];
+    if !ranking::rank(&pairs, k, &mut keys, &mut scratch, &mut ranks) {
+        return false;
+    }
+    find_reverses(vertex, starts, sizes, k, &keys, opposite)
 }

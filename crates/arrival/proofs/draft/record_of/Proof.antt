@@ -1,135 +1,112 @@
+-- `arrival::draft::record_of` meets its contract.
+-- Assumes nothing.
 use Rattle.arrival.proofs.SegmentLaws.{next-below}
 use mathlib.Core.Path.{refl}
 use native.Mathlib.Omega.{arith}
 use borrow.Author.Needs.{needs}
 use Rattle.arrival.proofs.draft.record_of.Statement.{statement}
 use Rattle.arrival.proofs.draft.record_of.Tie as tie
-use Rattle.arrival.proofs.draft.record_of.Reads as reads
-use Rattle.arrival.proofs.draft.record_of.Lts as lts
-use Rattle.arrival.proofs.draft.word_at.Reads as word-at-reads
-use Rattle.arrival.proofs.pairs.next_index.Reads as next-index-reads
 
--- src/draft.rt:42:14
 mul-i : tie.Need-mul-i
 mul-i c =
     let f = c .before .before .before .before .before .before .before .pre .1 .few in omega (arith, f)
 
--- src/draft.rt:42:14
 shared-slice-read-i : tie.Need-shared-slice-read-i
 shared-slice-read-i c =
     let f = c .before .before .before .before .before .before .before .before .pre .1 .few in omega (arith, f)
 
--- src/draft.rt:43:9
 next-index-requires : tie.Need-next-index-requires
 next-index-requires c κs =
     let i = c .before .before .before .before .before .before .before .before .pre .1 .index-below (c .before .before .before .before .before .before .before .before .args .p) (c .before .before .before .before .before .before .before .before .pre .0 .6) in
     let a = c .before .before .before .before .before .before .before .before .pre .1 .segs .start-le _ i in let e = c .before .before .before .before .before .before .before .before .pre .1 .segs .end-within _ i in let f = c .before .before .before .before .before .before .before .before .pre .1 .few in
     (c .before .before .before .before .before .before .before .before .pre .0 .1, c .before .before .before .before .before .before .before .before .pre .0 .2, omega (arith, i, f), omega (arith, a, i, f), omega (arith, e, f))
 
--- src/draft.rt:44:17
 mul-other : tie.Need-mul-other
 mul-other c = search needs
 
--- src/draft.rt:44:17
 shared-slice-read-other : tie.Need-shared-slice-read-other
 shared-slice-read-other c = search needs
 
--- src/draft.rt:45:30
 mul-point : tie.Need-mul-point
 mul-point c = search needs
 
--- src/draft.rt:45:30
 shared-slice-read-point : tie.Need-shared-slice-read-point
 shared-slice-read-point c = search needs
 
--- src/draft.rt:45:24
 mul-point-2 : tie.Need-mul-point-2
 mul-point-2 c =
     let i = c .before .before .before .before .before .before .before .before .before .before .before .pre .1 .index-below (c .before .before .before .before .before .before .before .before .before .before .before .args .p) (c .before .before .before .before .before .before .before .before .before .before .before .pre .0 .6) in
     let f = c .before .before .before .before .before .before .before .before .before .before .before .pre .1 .point-fits _ i in let g = c .before .before .before .before .before .before .before .before .before .before .before .pre .1 .few in
     omega (arith, f)
 
--- src/draft.rt:45:17
 add-point : tie.Need-add-point
 add-point c =
     let i = c .before .before .before .before .before .before .before .before .before .before .before .pre .1 .index-below (c .before .before .before .before .before .before .before .before .before .before .before .args .p) (c .before .before .before .before .before .before .before .before .before .before .before .pre .0 .6) in
     let f = c .before .before .before .before .before .before .before .before .before .before .before .pre .1 .point-fits _ i in let g = c .before .before .before .before .before .before .before .before .before .before .before .pre .1 .few in
     omega (arith, f)
 
--- src/draft.rt:47:17
 mul-t15 : tie.Need-mul-t15
 mul-t15 c =
     let f = c .before .before .before .before .before .before .before .before .before .before .before .pre .1 .few in omega (arith, f)
 
--- src/draft.rt:47:17
 shared-slice-read-t17 : tie.Need-shared-slice-read-t17
 shared-slice-read-t17 c =
     let f = c .before .before .before .before .before .before .before .before .before .before .before .before .pre .1 .few in omega (arith, f)
 
--- src/draft.rt:48:15
 mul-t20 : tie.Need-mul-t20
 mul-t20 c =
     let i = c .before .before .before .before .before .before .before .before .before .before .before .before .pre .1 .index-below (c .before .before .before .before .before .before .before .before .before .before .before .before .args .p) (c .before .before .before .before .before .before .before .before .before .before .before .before .pre .0 .6) in
     let n = next-below (c .before .before .before .before .before .before .before .before .before .before .before .before .pre .1 .segs) _ i in let f = c .before .before .before .before .before .before .before .before .before .before .before .before .pre .1 .few in
     omega (arith, n, f, c .before .before .before .next-index .ensures)
 
--- src/draft.rt:48:15
 shared-slice-read-t22 : tie.Need-shared-slice-read-t22
 shared-slice-read-t22 c =
     let i = c .before .before .before .before .before .before .before .before .before .before .before .before .before .pre .1 .index-below (c .before .before .before .before .before .before .before .before .before .before .before .before .before .args .p) (c .before .before .before .before .before .before .before .before .before .before .before .before .before .pre .0 .6) in
     let n = next-below (c .before .before .before .before .before .before .before .before .before .before .before .before .before .pre .1 .segs) _ i in let f = c .before .before .before .before .before .before .before .before .before .before .before .before .before .pre .1 .few in
     omega (arith, n, f, c .before .before .before .before .next-index .ensures)
 
--- src/draft.rt:49:19
 mul-t26 : tie.Need-mul-t26
 mul-t26 c =
     let i = c .before .before .before .before .before .before .before .before .before .before .before .before .before .pre .1 .index-below (c .before .before .before .before .before .before .before .before .before .before .before .before .before .args .p) (c .before .before .before .before .before .before .before .before .before .before .before .before .before .pre .0 .6) in
     let o = c .before .before .before .before .before .before .before .before .before .before .before .before .before .pre .1 .opposite-below _ i in let f = c .before .before .before .before .before .before .before .before .before .before .before .before .before .pre .1 .few in
     omega (arith, o, f)
 
--- src/draft.rt:49:19
 shared-slice-read-t28 : tie.Need-shared-slice-read-t28
 shared-slice-read-t28 c =
     let i = c .before .before .before .before .before .before .before .before .before .before .before .before .before .before .pre .1 .index-below (c .before .before .before .before .before .before .before .before .before .before .before .before .before .before .args .p) (c .before .before .before .before .before .before .before .before .before .before .before .before .before .before .pre .0 .6) in
     let o = c .before .before .before .before .before .before .before .before .before .before .before .before .before .before .pre .1 .opposite-below _ i in let f = c .before .before .before .before .before .before .before .before .before .before .before .before .before .before .pre .1 .few in
     omega (arith, o, f)
 
--- src/draft.rt:52:12
 word-at-requires : tie.Need-word-at-requires
 word-at-requires c κs =
     let i = c .before .before .before .before .before .before .before .before .before .before .before .before .before .before .pre .1 .index-below (c .before .before .before .before .before .before .before .before .before .before .before .before .before .before .args .p) (c .before .before .before .before .before .before .before .before .before .before .before .before .before .before .pre .0 .6) in
     let f = c .before .before .before .before .before .before .before .before .before .before .before .before .before .before .pre .1 .point-fits _ i in let g = c .before .before .before .before .before .before .before .before .before .before .before .before .before .before .pre .1 .few in
     omega (arith, f)
 
--- src/draft.rt:53:29
 add-word-at : tie.Need-add-word-at
 add-word-at c =
     let i = c .before .before .before .before .before .before .before .before .before .before .before .before .before .before .before .pre .1 .index-below (c .before .before .before .before .before .before .before .before .before .before .before .before .before .before .before .args .p) (c .before .before .before .before .before .before .before .before .before .before .before .before .before .before .before .pre .0 .6) in
     let f = c .before .before .before .before .before .before .before .before .before .before .before .before .before .before .before .pre .1 .point-fits _ i in let g = c .before .before .before .before .before .before .before .before .before .before .before .before .before .before .before .pre .1 .few in
     omega (arith, f)
 
--- src/draft.rt:53:12
 word-at-requires-2 : tie.Need-word-at-requires-2
 word-at-requires-2 c κs =
     let i = c .before .before .before .before .before .before .before .before .before .before .before .before .before .before .before .pre .1 .index-below (c .before .before .before .before .before .before .before .before .before .before .before .before .before .before .before .args .p) (c .before .before .before .before .before .before .before .before .before .before .before .before .before .before .before .pre .0 .6) in
     let f = c .before .before .before .before .before .before .before .before .before .before .before .before .before .before .before .pre .1 .point-fits _ i in let g = c .before .before .before .before .before .before .before .before .before .before .before .before .before .before .before .pre .1 .few in
     omega (arith, f)
 
--- src/draft.rt:54:29
 add-word-at-2 : tie.Need-add-word-at-2
 add-word-at-2 c =
     let i = c .before .before .before .before .before .before .before .before .before .before .before .before .before .before .before .before .pre .1 .index-below (c .before .before .before .before .before .before .before .before .before .before .before .before .before .before .before .before .args .p) (c .before .before .before .before .before .before .before .before .before .before .before .before .before .before .before .before .pre .0 .6) in
     let f = c .before .before .before .before .before .before .before .before .before .before .before .before .before .before .before .before .pre .1 .point-fits _ i in let g = c .before .before .before .before .before .before .before .before .before .before .before .before .before .before .before .before .pre .1 .few in
     omega (arith, f)
 
--- src/draft.rt:54:12
 word-at-requires-3 : tie.Need-word-at-requires-3
 word-at-requires-3 c κs =
     let i = c .before .before .before .before .before .before .before .before .before .before .before .before .before .before .before .before .pre .1 .index-below (c .before .before .before .before .before .before .before .before .before .before .before .before .before .before .before .before .args .p) (c .before .before .before .before .before .before .before .before .before .before .before .before .before .before .before .before .pre .0 .6) in
     let f = c .before .before .before .before .before .before .before .before .before .before .before .before .before .before .before .before .pre .1 .point-fits _ i in let g = c .before .before .before .before .before .before .before .before .before .before .before .before .before .before .before .before .pre .1 .few in
     omega (arith, f)
 
--- src/draft.rt:26:1
 returns : tie.Need-returns
 returns c =
     rw (c .before .before .before .before .before .before .before .before .next-index .ensures, c .before .before .word-at .ensures, c .before .word-at2 .ensures, c .word-at3 .ensures) refl

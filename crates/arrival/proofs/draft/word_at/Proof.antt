@@ -1,31 +1,24 @@
+-- `arrival::draft::word_at` meets its contract.
+-- Assumes nothing.
 use mathlib.Core.Path.{sym, _∙_}
 use Rattle.arrival.proofs.Drafting.{word-value, word-there}
-use native.Mathlib.Omega.{arith}
 use borrow.Author.Needs.{needs}
 use Rattle.arrival.proofs.draft.word_at.Statement.{statement}
 use Rattle.arrival.proofs.draft.word_at.Tie as tie
-use Rattle.arrival.proofs.draft.word_at.Reads as reads
-use Rattle.arrival.proofs.draft.word_at.Lts as lts
-use Rattle.groups.proofs.read_coordinate.Reads as read-coordinate-reads
 
--- src/draft.rt:19:32
 read-coordinate-requires : tie.Need-read-coordinate-requires
 read-coordinate-requires c κs = search needs
 
--- src/draft.rt:19:21
 enum-known-w : tie.Need-enum-known-w
 enum-known-w c = search needs
 
--- src/draft.rt:20:9
 enum-told : tie.Need-enum-told
 enum-told c = search needs
 
--- src/draft.rt:20:9
 returns : tie.Need-returns
 returns c =
     absurd (word-there (c .before .before .before .before .args .message .now) (c .before .before .before .before .args .at) (c .before .before .before .before .pre) (sym (c .before .before .read-coordinate .ensures) ∙ c .enum-told .given .1))
 
--- src/draft.rt:15:1
 returns-2 : tie.Need-returns-2
 returns-2 c =
     word-value (c .before .before .before .before .before .args .message .now) (c .before .before .before .before .before .args .at) (c .before .before .before .before .before .pre) (sym (c .before .before .before .read-coordinate .ensures) ∙ c .before .w .given .1)

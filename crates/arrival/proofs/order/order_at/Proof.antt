@@ -1,83 +1,64 @@
-use mathlib.Core.Path.{_∙_, sym}
-use borrow.Author.Tests.{lt-leb}
+-- `arrival::order::order_at` meets its contract.
+-- Assumes nothing.
 use Rattle.arrival.proofs.Steps.{order-low, order-inner, order-first, order-start}
 use native.Mathlib.Omega.{arith}
 use borrow.Author.Needs.{needs}
 use Rattle.arrival.proofs.order.order_at.Statement.{statement}
 use Rattle.arrival.proofs.order.order_at.Tie as tie
-use Rattle.arrival.proofs.order.order_at.Reads as reads
-use Rattle.arrival.proofs.order.order_at.Lts as lts
 
--- src/order.rt:15:13
 mul-s : tie.Need-mul-s
 mul-s c = search needs
 
--- src/order.rt:15:13
 shared-slice-read-s : tie.Need-shared-slice-read-s
 shared-slice-read-s c = search needs
 
--- src/order.rt:16:8
 mul-if1 : tie.Need-mul-if1
 mul-if1 c = search needs
 
--- src/order.rt:16:8
 shared-slice-read-if1 : tie.Need-shared-slice-read-if1
 shared-slice-read-if1 c = search needs
 
--- src/order.rt:16:20
 mul-if1-2 : tie.Need-mul-if1-2
 mul-if1-2 c = search needs
 
--- src/order.rt:16:20
 shared-slice-read-if1-2 : tie.Need-shared-slice-read-if1-2
 shared-slice-read-if1-2 c = search needs
 
--- src/order.rt:17:9
 returns : tie.Need-returns
 returns c =
     order-low (c .before .before .before .before .args .serial .now) (c .before .before .before .before .args .starts .now) (c .before .before .before .before .args .i) (omega arith)
 
--- src/order.rt:20:9
 returns-2 : tie.Need-returns-2
 returns-2 c =
     order-inner (c .before .before .before .before .before .args .serial .now) (c .before .before .before .before .before .args .starts .now) (c .before .before .before .before .before .args .i) (omega arith) (c .if2 .taken)
 
--- src/order.rt:23:9
 returns-3 : tie.Need-returns-3
 returns-3 c =
     order-first (c .before .before .before .before .before .before .args .serial .now) (c .before .before .before .before .before .before .args .starts .now) (c .before .before .before .before .before .before .args .i) (omega arith) (c .if3 .taken)
 
--- src/order.rt:25:19
 sub-result : tie.Need-sub-result
 sub-result c = search needs
 
--- src/order.rt:25:12
 mul-result : tie.Need-mul-result
 mul-result c = search needs
 
--- src/order.rt:25:12
 shared-slice-read-result : tie.Need-shared-slice-read-result
 shared-slice-read-result c = search needs
 
--- src/order.rt:25:5
 mul-result-2 : tie.Need-mul-result-2
 mul-result-2 c =
     let r = c .before .before .before .before .before .before .before .pre .4 (omega arith) in omega arith
 
--- src/order.rt:25:5
 shared-slice-read-result-2 : tie.Need-shared-slice-read-result-2
 shared-slice-read-result-2 c =
     let r = c .before .before .before .before .before .before .before .before .pre .4 (omega arith) in omega arith
 
--- src/order.rt:25:29
 mul-result-3 : tie.Need-mul-result-3
 mul-result-3 c = search needs
 
--- src/order.rt:25:29
 shared-slice-read-result-3 : tie.Need-shared-slice-read-result-3
 shared-slice-read-result-3 c = search needs
 
--- src/order.rt:11:1
 returns-4 : tie.Need-returns-4
 returns-4 c =
     order-start (c .before .before .before .before .before .before .before .before .before .args .serial .now) (c .before .before .before .before .before .before .before .before .before .args .starts .now) (c .before .before .before .before .before .before .before .before .before .args .i) (omega arith) (omega arith) (c .before .before .before .if3 .left)

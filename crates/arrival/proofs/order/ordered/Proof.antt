@@ -1,3 +1,5 @@
+-- `arrival::order::ordered` meets its contract.
+-- Assumes nothing.
 use Prim.Native.Nat.{_-_}
 use borrow.Author.Tests.{not-true, not-false}
 use mathlib.Core.Path.{sym, _∙_}
@@ -7,9 +9,6 @@ use native.Mathlib.Omega.{arith}
 use borrow.Author.Needs.{needs}
 use Rattle.arrival.proofs.order.ordered.Statement.{statement}
 use Rattle.arrival.proofs.order.ordered.Tie as tie
-use Rattle.arrival.proofs.order.ordered.Reads as reads
-use Rattle.arrival.proofs.order.ordered.Lts as lts
-use Rattle.arrival.proofs.order.order_at.Reads as order-at-reads
 
 abbrev Inv-loop : tie.InvT-loop
 Inv-loop serial starts k i₀ i =
@@ -19,35 +18,28 @@ abbrev μ-loop : tie.MeasureT-loop
 μ-loop serial starts k i₀ i =
     k - i
 
--- src/order.rt:35:5
 loop-holds : tie.Need-loop-holds Inv-loop μ-loop
 loop-holds c =
     passing-none _
 
--- src/order.rt:36:13
 order-at-requires : tie.Need-order-at-requires Inv-loop μ-loop
 order-at-requires c κs =
     (c .before .before .before .before .pre .0, c .before .before .before .before .pre .1, omega arith, c .before .before .before .before .pre .3 (c .before .loop .i) (omega arith), (λ h. let r = c .before .before .before .before .pre .3 (c .before .loop .i - 1) (omega arith) in omega arith))
 
--- src/order.rt:37:13
 returns : tie.Need-returns Inv-loop μ-loop
 returns c =
     passing-not (order-at (c .before .before .before .before .before .before .args .serial .now) (c .before .before .before .before .before .before .args .starts .now)) (c .before .before .before .loop .i) (c .before .before .before .before .before .before .args .k) (omega arith) (sym (c .before .order-at .ensures) ∙ not-true _ (c .if1 .taken))
 
--- src/order.rt:39:9
 add-i : tie.Need-add-i Inv-loop μ-loop
 add-i c = search needs
 
--- src/order.rt:35:5
 loop-less : tie.Need-loop-less Inv-loop μ-loop
 loop-less c = search needs
 
--- src/order.rt:35:5
 loop-again : tie.Need-loop-again Inv-loop μ-loop
 loop-again c =
     passing-more (c .before .before .before .loop .inv) (sym (c .before .order-at .ensures) ∙ not-false _ (c .if1 .left))
 
--- src/order.rt:29:1
 returns-2 : tie.Need-returns-2 Inv-loop μ-loop
 returns-2 c =
     passing-all {k = c .before .before .before .before .args .k} (c .before .loop .inv) (omega arith)

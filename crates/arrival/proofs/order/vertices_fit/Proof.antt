@@ -1,15 +1,14 @@
+-- `arrival::order::vertices_fit` meets its contract.
+-- Assumes nothing.
 use Prim.Native.Nat.{_-_}
 use lib.Dec.{ltb}
 use lib.ListN.{getD}
 use borrow.Author.Tests.{lt-ltb, le-ltb}
-use mathlib.Core.Path.{refl, sym, _∙_}
 use Rattle.arrival.proofs.Steps.{Passing, passing-none, passing-more, passing-all, passing-not, few-not, few-then}
 use native.Mathlib.Omega.{arith}
 use borrow.Author.Needs.{needs}
 use Rattle.arrival.proofs.order.vertices_fit.Statement.{statement}
 use Rattle.arrival.proofs.order.vertices_fit.Tie as tie
-use Rattle.arrival.proofs.order.vertices_fit.Reads as reads
-use Rattle.arrival.proofs.order.vertices_fit.Lts as lts
 
 abbrev Inv-loop : tie.InvT-loop
 Inv-loop vertex k count i₀ i =
@@ -19,43 +18,34 @@ abbrev μ-loop : tie.MeasureT-loop
 μ-loop vertex k count i₀ i =
     k - i
 
--- src/order.rt:50:9
 returns : tie.Need-returns Inv-loop μ-loop
 returns c =
     few-not (c .before .args .count) (c .before .args .k) _ (omega arith)
 
--- src/order.rt:54:5
 loop-holds : tie.Need-loop-holds Inv-loop μ-loop
 loop-holds c =
     passing-none _
 
--- src/order.rt:55:21
 mul-if2 : tie.Need-mul-if2 Inv-loop μ-loop
 mul-if2 c = search needs
 
--- src/order.rt:55:21
 shared-slice-read-if2 : tie.Need-shared-slice-read-if2 Inv-loop μ-loop
 shared-slice-read-if2 c = search needs
 
--- src/order.rt:56:13
 returns-2 : tie.Need-returns-2 Inv-loop μ-loop
 returns-2 c =
     few-then (c .before .before .before .before .before .args .count) (c .before .before .before .before .before .args .k) _ (omega arith) (passing-not (λ j. ltb (getD (c .before .before .before .before .before .args .vertex .now) j 0) (c .before .before .before .before .before .args .count)) (c .before .before .before .loop .i) (c .before .before .before .before .before .args .k) (omega arith) (le-ltb (getD (c .before .before .before .before .before .args .vertex .now) (c .before .before .before .loop .i) 0) (c .before .before .before .before .before .args .count) (omega arith)))
 
--- src/order.rt:58:9
 add-i : tie.Need-add-i Inv-loop μ-loop
 add-i c = search needs
 
--- src/order.rt:54:5
 loop-less : tie.Need-loop-less Inv-loop μ-loop
 loop-less c = search needs
 
--- src/order.rt:54:5
 loop-again : tie.Need-loop-again Inv-loop μ-loop
 loop-again c =
     passing-more (c .before .before .before .loop .inv) (lt-ltb (getD (c .before .before .before .before .before .args .vertex .now) (c .before .before .before .loop .i) 0) (c .before .before .before .before .before .args .count) (omega arith))
 
--- src/order.rt:45:1
 returns-3 : tie.Need-returns-3 Inv-loop μ-loop
 returns-3 c =
     few-then (c .before .before .before .args .count) (c .before .before .before .args .k) _ (omega arith) (passing-all {k = c .before .before .before .args .k} (c .before .loop .inv) (omega arith))

@@ -1,3 +1,5 @@
+-- `arrival::pairs::find_reverses` meets its contract.
+-- Assumes nothing.
 use Prim.Native.Nat.{_+_, _*_, _-_}
 use mathlib.Core.Path.{_≡_, refl, sym, _∙_}
 use mathlib.Core.Bool.{true≢false}
@@ -11,10 +13,6 @@ use native.Mathlib.Omega.{arith}
 use borrow.Author.Needs.{needs}
 use Rattle.arrival.proofs.pairs.find_reverses.Statement.{statement}
 use Rattle.arrival.proofs.pairs.find_reverses.Tie as tie
-use Rattle.arrival.proofs.pairs.find_reverses.Reads as reads
-use Rattle.arrival.proofs.pairs.find_reverses.Lts as lts
-use Rattle.arrival.proofs.pairs.next_index.Reads as next-index-reads
-use Rattle.ranking.proofs.find.Reads as find-reads
 
 abbrev Inv-loop : tie.InvT-loop
 Inv-loop vertex starts sizes k keys opposite₀ i₀ opposite i =
@@ -24,106 +22,84 @@ abbrev μ-loop : tie.MeasureT-loop
 μ-loop vertex starts sizes k keys opposite₀ i₀ opposite i =
     k - i
 
--- src/pairs.rt:51:5
 loop-holds : tie.Need-loop-holds Inv-loop μ-loop
 loop-holds c =
     opposing-none _ _ _ _ (c .before .before .before .before .before .pre .0 .4)
 
--- src/pairs.rt:52:13
 next-index-requires : tie.Need-next-index-requires Inv-loop μ-loop
 next-index-requires c κs =
     (c .before .before .before .before .before .before .before .pre .0 .1, c .before .before .before .before .before .before .before .pre .0 .2, omega arith, (let r = c .before .before .before .before .before .before .before .pre .1 .0 .start-le (c .before .loop .i) (omega arith) in omega arith), (let r = c .before .before .before .before .before .before .before .pre .1 .0 .end-within (c .before .loop .i) (omega arith) in omega arith))
 
--- src/pairs.rt:53:51
 mul-find : tie.Need-mul-find Inv-loop μ-loop
 mul-find c =
     let n = next-below (c .before .before .before .before .before .before .before .before .pre .1 .0) (c .before .before .loop .i) (omega arith) in omega (arith, n, c .next-index .ensures)
 
--- src/pairs.rt:53:51
 shared-slice-read-find : tie.Need-shared-slice-read-find Inv-loop μ-loop
 shared-slice-read-find c =
     let n = next-below (c .before .before .before .before .before .before .before .before .before .pre .1 .0) (c .before .before .before .loop .i) (omega arith) in omega (arith, n, c .before .next-index .ensures)
 
--- src/pairs.rt:53:51
 mul-find-2 : tie.Need-mul-find-2 Inv-loop μ-loop
 mul-find-2 c =
     let n = next-below (c .before .before .before .before .before .before .before .before .before .pre .1 .0) (c .before .before .before .loop .i) (omega arith) in let u = c .before .before .before .before .before .before .before .before .before .pre .1 .1 (c .before .next-index .result) (omega (arith, n, c .before .next-index .ensures)) in omega (arith, u)
 
--- src/pairs.rt:53:70
 mul-find-3 : tie.Need-mul-find-3 Inv-loop μ-loop
 mul-find-3 c = search needs
 
--- src/pairs.rt:53:70
 shared-slice-read-find-2 : tie.Need-shared-slice-read-find-2 Inv-loop μ-loop
 shared-slice-read-find-2 c = search needs
 
--- src/pairs.rt:53:51
 add-find : tie.Need-add-find Inv-loop μ-loop
 add-find c =
     let n = next-below (c .before .before .before .before .before .before .before .before .before .before .pre .1 .0) (c .before .before .before .before .loop .i) (omega arith) in let u = c .before .before .before .before .before .before .before .before .before .before .pre .1 .1 (c .before .before .next-index .result) (omega (arith, n, c .before .before .next-index .ensures)) in
     let r = c .before .before .before .before .before .before .before .before .before .before .pre .1 .1 (c .before .before .before .before .loop .i) (omega arith) in
     omega (arith, r, u)
 
--- src/pairs.rt:53:28
 find-requires : tie.Need-find-requires Inv-loop μ-loop
 find-requires c κs =
     (c .before .before .before .before .before .before .before .before .before .before .pre .0 .5, c .before .before .before .before .before .before .before .before .before .before .pre .0 .3, c .before .before .before .before .before .before .before .before .before .before .pre .1 .2 .ranked .ascends)
 
--- src/pairs.rt:53:23
 enum-known-p : tie.Need-enum-known-p Inv-loop μ-loop
 enum-known-p c = search needs
 
--- src/pairs.rt:54:13
 enum-told : tie.Need-enum-told Inv-loop μ-loop
 enum-told c = search needs
 
--- src/pairs.rt:54:13
 same-length : tie.Need-same-length Inv-loop μ-loop
 same-length c = search needs
 
--- src/pairs.rt:54:13
 returns : tie.Need-returns Inv-loop μ-loop
 returns c =
     let l : getD (c .before .before .before .before .before .before .before .before .before .before .before .before .before .args .vertex .now) (c .before .before .before .before .before .next-index .result) 0 * 1024 + getD (c .before .before .before .before .before .before .before .before .before .before .before .before .before .args .vertex .now) (c .before .before .before .before .before .before .before .loop .i) 0 ≡ reverse-at (c .before .before .before .before .before .before .before .before .before .before .before .before .before .args .vertex .now) (c .before .before .before .before .before .before .before .before .before .before .before .before .before .args .starts .now) (c .before .before .before .before .before .before .before .before .before .before .before .before .before .args .sizes .now) (c .before .before .before .before .before .before .before .loop .i) = rw (c .before .before .before .before .before .next-index .ensures) refl in
     (opposing-not (c .before .before .before .before .before .before .before .before .before .before .before .before .before .pre .1 .2) (c .before .before .before .before .before .before .before .loop .inv) (omega arith) (omega arith) l (sym (c .before .before .find .ensures) ∙ c .enum-told .given .1), (λ e. absurd (true≢false (sym e))), c .before .before .before .before .before .before .before .loop .inv .len)
 
--- src/pairs.rt:57:24
 mul-opposite : tie.Need-mul-opposite Inv-loop μ-loop
 mul-opposite c =
     let a = place-at (value-at (c .before .before .before .before .before .before .before .before .before .before .before .before .before .before .args .keys .now)) (c .before .before .before .before .before .before .before .before .before .before .before .before .before .before .args .k) (getD (c .before .before .before .before .before .before .before .before .before .before .before .before .before .before .args .vertex .now) (c .before .before .before .before .before .before .next-index .result) 0 * 1024 + getD (c .before .before .before .before .before .before .before .before .before .before .before .before .before .before .args .vertex .now) (c .before .before .before .before .before .before .before .before .loop .i) 0) (sym (c .before .before .before .find .ensures) ∙ c .before .p .given .1) in omega (arith, a .0)
 
--- src/pairs.rt:57:24
 shared-slice-read-opposite : tie.Need-shared-slice-read-opposite Inv-loop μ-loop
 shared-slice-read-opposite c =
     let a = place-at (value-at (c .before .before .before .before .before .before .before .before .before .before .before .before .before .before .before .args .keys .now)) (c .before .before .before .before .before .before .before .before .before .before .before .before .before .before .before .args .k) (getD (c .before .before .before .before .before .before .before .before .before .before .before .before .before .before .before .args .vertex .now) (c .before .before .before .before .before .before .before .next-index .result) 0 * 1024 + getD (c .before .before .before .before .before .before .before .before .before .before .before .before .before .before .before .args .vertex .now) (c .before .before .before .before .before .before .before .before .before .loop .i) 0) (sym (c .before .before .before .before .find .ensures) ∙ c .before .before .p .given .1) in omega (arith, a .0)
 
--- src/pairs.rt:57:9
 mul-opposite-2 : tie.Need-mul-opposite-2 Inv-loop μ-loop
 mul-opposite-2 c = search needs
 
--- src/pairs.rt:57:9
 slice-write-opposite : tie.Need-slice-write-opposite Inv-loop μ-loop
 slice-write-opposite c = search needs
 
--- src/pairs.rt:58:9
 add-i : tie.Need-add-i Inv-loop μ-loop
 add-i c = search needs
 
--- src/pairs.rt:51:5
 loop-less : tie.Need-loop-less Inv-loop μ-loop
 loop-less c = search needs
 
--- src/pairs.rt:51:5
 loop-again : tie.Need-loop-again Inv-loop μ-loop
 loop-again c =
     let l : getD (c .before .before .before .before .before .before .before .before .before .before .before .before .before .before .before .args .vertex .now) (c .before .before .before .before .before .before .before .next-index .result) 0 * 1024 + getD (c .before .before .before .before .before .before .before .before .before .before .before .before .before .before .before .args .vertex .now) (c .before .before .before .before .before .before .before .before .before .loop .i) 0 ≡ reverse-at (c .before .before .before .before .before .before .before .before .before .before .before .before .before .before .before .args .vertex .now) (c .before .before .before .before .before .before .before .before .before .before .before .before .before .before .before .args .starts .now) (c .before .before .before .before .before .before .before .before .before .before .before .before .before .before .before .args .sizes .now) (c .before .before .before .before .before .before .before .before .before .loop .i) = rw (c .before .before .before .before .before .before .before .next-index .ensures) refl in
     opposing-more (c .before .before .before .before .before .before .before .before .before .before .before .before .before .before .before .pre .1 .2) (c .before .before .before .before .before .before .before .before .before .loop .inv) (omega arith) (omega arith) l (sym (c .before .before .before .before .find .ensures) ∙ c .before .before .p .given .1) refl
 
--- src/pairs.rt:44:1
 same-length-2 : tie.Need-same-length-2 Inv-loop μ-loop
 same-length-2 c = search needs
 
--- src/pairs.rt:44:1
 returns-2 : tie.Need-returns-2 Inv-loop μ-loop
 returns-2 c =
     (opposing-yes (c .before .loop .inv) (omega arith), (λ e. opposing-all (c .before .loop .inv) (omega arith)), c .before .loop .inv .len)

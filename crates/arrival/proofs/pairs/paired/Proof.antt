@@ -1,0 +1,71 @@
+-- `arrival::pairs::paired` meets its contract.
+-- Assumes nothing.
+use mathlib.Core.Path.{sym, _∙_}
+use borrow.Author.Tests.{not-true, not-false}
+use Rattle.arrival.proofs.Steps.{paired-ends, paired-twice, paired-found, pair-fits}
+use native.Mathlib.Omega.{arith}
+use borrow.Author.Needs.{needs}
+use Rattle.arrival.proofs.pairs.paired.Statement.{statement}
+use Rattle.arrival.proofs.pairs.paired.Tie as tie
+
+slice-aggregate-put-pairs : tie.Need-slice-aggregate-put-pairs
+slice-aggregate-put-pairs c = search needs
+
+put-pairs-requires : tie.Need-put-pairs-requires
+put-pairs-requires c κs = search needs
+
+returns : tie.Need-returns
+returns c =
+    (paired-ends (c .before .before .before .before .before .before .before .before .args .vertex .now) (c .before .before .before .before .before .before .before .before .args .starts .now) (c .before .before .before .before .before .before .before .before .args .sizes .now) (c .before .before .before .before .before .before .before .before .args .k) (sym (c .before .before .put-pairs .ensures .0) ∙ not-true _ (c .if1 .taken)), c .before .before .before .before .before .before .before .before .pre .0 .3)
+
+slice-aggregate-rank : tie.Need-slice-aggregate-rank
+slice-aggregate-rank c = search needs
+
+slice-aggregate-rank-2 : tie.Need-slice-aggregate-rank-2
+slice-aggregate-rank-2 c = search needs
+
+slice-aggregate-rank-3 : tie.Need-slice-aggregate-rank-3
+slice-aggregate-rank-3 c = search needs
+
+slice-aggregate-rank-4 : tie.Need-slice-aggregate-rank-4
+slice-aggregate-rank-4 c = search needs
+
+rank-requires : tie.Need-rank-requires
+rank-requires c κs =
+    ((c .before .before .before .before .before .before .before .before .before .before .before .before .pre .0 .4, c .before .before .before .before .before .before .before .before .before .before .before .before .pre .0 .5, (let l = c .before .before .before .before .before .before .put-pairs .ensures .2 in let f = c .before .before .before .before .before .before .before .before .before .before .before .before .pre .0 .5 in omega (arith, l, f)), pair-fits (c .before .before .before .before .before .before .before .before .before .before .before .before .args .vertex .now) (c .before .before .before .before .before .before .before .before .before .before .before .before .args .starts .now) (c .before .before .before .before .before .before .before .before .before .before .before .before .args .sizes .now) (c .before .before .before .before .before .before .before .before .before .before .before .before .args .k) (c .before .before .before .before .before .before .put-pairs .last .1 .1 .1 .1 .0) (c .before .before .before .before .before .before .put-pairs .ensures .1) (c .before .before .before .before .before .before .before .before .before .before .before .before .pre .1 .0) (c .before .before .before .before .before .before .before .before .before .before .before .before .pre .1 .1)), search needs)
+
+returns-2 : tie.Need-returns-2
+returns-2 c =
+    (paired-twice (c .before .before .before .before .before .before .before .before .before .before .before .before .before .before .before .before .before .args .vertex .now) (c .before .before .before .before .before .before .before .before .before .before .before .before .before .before .before .before .before .args .starts .now) (c .before .before .before .before .before .before .before .before .before .before .before .before .before .before .before .before .before .args .sizes .now) (c .before .before .before .before .before .before .before .before .before .before .before .before .before .before .before .before .before .args .k) (c .before .before .before .before .before .before .before .before .before .before .before .put-pairs .last .1 .1 .1 .1 .0) (c .before .before .before .before .before .before .before .before .before .before .before .put-pairs .ensures .1) (sym (c .before .before .before .before .rank .ensures .0) ∙ not-true _ (c .if2 .taken)), c .before .before .before .before .before .before .before .before .before .before .before .before .before .before .before .before .before .pre .0 .3)
+
+slice-aggregate-find-reverses : tie.Need-slice-aggregate-find-reverses
+slice-aggregate-find-reverses c = search needs
+
+find-reverses-requires : tie.Need-find-reverses-requires
+find-reverses-requires c κs =
+    ((c .before .before .before .before .before .before .before .before .before .before .before .before .before .before .before .before .before .before .before .pre .0 .0, c .before .before .before .before .before .before .before .before .before .before .before .before .before .before .before .before .before .before .before .pre .0 .1, c .before .before .before .before .before .before .before .before .before .before .before .before .before .before .before .before .before .before .before .pre .0 .2, c .before .before .before .before .before .before .rank .ensures .1 .1, c .before .before .before .before .before .before .before .before .before .before .before .before .before .before .before .before .before .before .before .pre .0 .3, c .before .before .before .before .before .before .before .before .before .before .before .before .before .before .before .before .before .before .before .pre .0 .5), (c .before .before .before .before .before .before .before .before .before .before .before .before .before .before .before .before .before .before .before .pre .1 .0, c .before .before .before .before .before .before .before .before .before .before .before .before .before .before .before .before .before .before .before .pre .1 .1, record { pairs = c .before .before .before .before .before .before .before .before .before .before .before .before .before .put-pairs .last .1 .1 .1 .1 .0; ranks = c .before .before .before .before .before .before .rank .last .1 .1 .1 .1 .0; are = c .before .before .before .before .before .before .before .before .before .before .before .before .before .put-pairs .ensures .1; ranked = c .before .before .before .before .before .before .rank .ensures .1 .0 (not-false _ (c .before .before .if2 .left)) }))
+
+same-length : tie.Need-same-length
+same-length c = search needs
+
+returns-3 : tie.Need-returns-3
+returns-3 c =
+    (paired-found (c .before .before .before .before .before .before .before .before .before .before .before .before .before .before .before .before .before .before .before .before .before .before .args .vertex .now) (c .before .before .before .before .before .before .before .before .before .before .before .before .before .before .before .before .before .before .before .before .before .before .args .starts .now) (c .before .before .before .before .before .before .before .before .before .before .before .before .before .before .before .before .before .before .before .before .before .before .args .sizes .now) (c .before .before .before .before .before .before .before .before .before .before .before .before .before .before .before .before .before .before .before .before .before .before .args .k) (c .before .before .before .before .before .before .before .before .before .before .before .before .before .before .before .before .put-pairs .last .1 .1 .1 .1 .0) (c .before .before .before .before .before .before .before .before .before .before .before .before .before .before .before .before .put-pairs .ensures .1) (sym (c .before .before .before .before .before .before .before .before .before .before .before .before .before .before .before .before .put-pairs .ensures .0) ∙ not-false _ (c .before .before .before .before .before .before .before .before .before .before .before .before .before .before .if1 .left)) (sym (c .before .before .before .before .before .before .before .before .before .rank .ensures .0) ∙ not-false _ (c .before .before .before .before .before .if2 .left)) (c .before .before .find-reverses .ensures .0) (c .before .before .find-reverses .ensures .1), c .before .before .find-reverses .ensures .2)
+
+pub paired-spec : {M : Type 1} → statement M
+paired-spec =
+    tie.close
+    (tie.spec
+    slice-aggregate-put-pairs
+    put-pairs-requires
+    returns
+    slice-aggregate-rank
+    slice-aggregate-rank-2
+    slice-aggregate-rank-3
+    slice-aggregate-rank-4
+    rank-requires
+    returns-2
+    slice-aggregate-find-reverses
+    find-reverses-requires
+    same-length
+    returns-3)

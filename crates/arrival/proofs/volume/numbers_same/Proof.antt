@@ -1,0 +1,80 @@
+-- `arrival::volume::numbers_same` meets its contract.
+-- Assumes nothing.
+use Prim.Native.Nat.{_-_}
+use lib.Dec.{eqb}
+use lib.ListN.{getD}
+use borrow.Author.Tests.{eq-eqb, ne-eqb}
+use Rattle.arrival.proofs.Steps.{Passing, passing-none, passing-more, passing-all, passing-not}
+use native.Mathlib.Omega.{arith}
+use borrow.Author.Needs.{needs}
+use Rattle.arrival.proofs.volume.numbers_same.Statement.{statement}
+use Rattle.arrival.proofs.volume.numbers_same.Tie as tie
+
+abbrev Inv-loop : tie.InvT-loop
+Inv-loop vertex ranks k numbers i₀ i =
+    Passing (λ j. eqb (getD vertex j 0) (getD numbers (getD ranks j 0) 0)) i
+
+abbrev μ-loop : tie.MeasureT-loop
+μ-loop vertex ranks k numbers i₀ i =
+    k - i
+
+loop-holds : tie.Need-loop-holds Inv-loop μ-loop
+loop-holds c =
+    passing-none _
+
+mul-if1 : tie.Need-mul-if1 Inv-loop μ-loop
+mul-if1 c = search needs
+
+shared-slice-read-if1 : tie.Need-shared-slice-read-if1 Inv-loop μ-loop
+shared-slice-read-if1 c = search needs
+
+mul-if1-2 : tie.Need-mul-if1-2 Inv-loop μ-loop
+mul-if1-2 c = search needs
+
+shared-slice-read-if1-2 : tie.Need-shared-slice-read-if1-2 Inv-loop μ-loop
+shared-slice-read-if1-2 c = search needs
+
+mul-if1-3 : tie.Need-mul-if1-3 Inv-loop μ-loop
+mul-if1-3 c =
+    let r = c .before .before .before .before .pre .4 (c .before .before .before .loop .i) (omega arith) in omega (arith, r)
+
+shared-slice-read-if1-3 : tie.Need-shared-slice-read-if1-3 Inv-loop μ-loop
+shared-slice-read-if1-3 c =
+    let r = c .before .before .before .before .before .pre .4 (c .before .before .before .before .loop .i) (omega arith) in omega (arith, r)
+
+returns : tie.Need-returns Inv-loop μ-loop
+returns c =
+    passing-not (λ j. eqb (getD (c .before .before .before .before .before .before .args .vertex .now) j 0) (getD (c .before .before .before .before .before .before .args .numbers .now) (getD (c .before .before .before .before .before .before .args .ranks .now) j 0) 0)) (c .before .before .before .before .before .loop .i) (c .before .before .before .before .before .before .args .k) (omega arith) (ne-eqb _ _ (c .if1 .taken))
+
+add-i : tie.Need-add-i Inv-loop μ-loop
+add-i c = search needs
+
+loop-less : tie.Need-loop-less Inv-loop μ-loop
+loop-less c = search needs
+
+loop-again : tie.Need-loop-again Inv-loop μ-loop
+loop-again c =
+    passing-more (c .before .before .before .before .before .loop .inv) (eq-eqb _ _ (c .if1 .left))
+
+returns-2 : tie.Need-returns-2 Inv-loop μ-loop
+returns-2 c =
+    passing-all {k = c .before .before .args .k} (c .before .loop .inv) (omega arith)
+
+pub numbers-same-spec : {M : Type 1} → statement M
+numbers-same-spec =
+    tie.close
+    (tie.spec
+    Inv-loop
+    μ-loop
+    loop-holds
+    mul-if1
+    shared-slice-read-if1
+    mul-if1-2
+    shared-slice-read-if1-2
+    mul-if1-3
+    shared-slice-read-if1-3
+    returns
+    add-i
+    loop-less
+    loop-again
+    returns-2)

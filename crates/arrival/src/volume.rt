@@ -1,0 +1,104 @@
+// Question 19: no face of size 0, one volume, each ordered vertex pair once with its reverse, order and numbering those of send.
+ghost use mathlib.Core.Path.{_≡_};
+ghost use mathlib.Core.Bool.{true};
+ghost use Prim.Native.Nat.{ℕ, _≤_, _<_};
+ghost use lib.Dec.{eqb};
+ghost use lib.ListN.{length, getD};
+ghost use Rattle.model.specs.Lists.{all, tab};
+ghost use Rattle.model.specs.Image.{room, words};
+ghost use Rattle.model.specs.Messages.{Transfer};
+ghost use Rattle.model.specs.Arrival.{volume-right};
+ghost use Rattle.cells.specs.Places.{Linked, places-in, volume-of};
+ghost use Rattle.ranking.specs.Ranks.{Ranked};
+ghost use Rattle.arrival.specs.Draft.{Compared, Told, Draft};
+use crate::draft;
+use crate::order;
+use crate::pairs;
+
+// Whether the k darts of a draft are the volume of the one at place `first`.
+fn one_volume(draft: &[u64], k: usize, first: usize) -> bool
+    requires { ⌜ Linked (now draft) k × (first < k) ⌝ }
+    ensures { λ r. ⌜ r ≡ eqb (length (places-in k (volume-of (now (draft .entry)) first))) k ⌝ }
+{
+    let mut queue = [0usize; 4096];
+    let mut marks = [0u8; 4096];
+    cells::walk::volume(draft, k, first, &mut queue, &mut marks) == k
+}
+
+// Whether each dart has the number of its vertex.
+fn numbers_same(vertex: &[u64], ranks: &[usize], k: usize, numbers: &[usize]) -> bool
+    requires { ⌜ (length (now vertex) ≡ 512) × (length (now ranks) ≡ 512) × (length (now numbers) ≡ room) × (k ≤ 512) × ((i : ℕ) → i < k → getD (now ranks) i 0 < k) ⌝ }
+    ensures { λ r. ⌜ r ≡ all (λ i. eqb (getD (now (vertex .entry)) i 0) (getD (now (numbers .entry)) (getD (now (ranks .entry)) i 0) 0)) (tab (λ i. i) k) ⌝ }
+{
+    // Those before i have.
+    let mut i = 0;
+    while i < k {
+        if vertex[i] != numbers[ranks[i]] as u64 {
+            return false;
+        }
+        i += 1;
+    }
+    true
+}
+
+// Whether the vertices are numbered from 0 by first use, `count` of them.
+fn numbered(draft: &[u64], k: usize, vertex: &[u64], count: u64, ranks: &[usize]) -> bool
+    requires { ⌜ Linked (now draft) k × (length (now vertex) ≡ 512) × (length (now ranks) ≡ 512) × (k ≤ 512) × ((i : ℕ) → i < k → getD (now ranks) i 0 < k) ⌝ }
+    ensures { λ r. ⌜ Compared (now (vertex .entry)) (now (ranks .entry)) count k (now (draft .entry)) r ⌝ }
+{
+    let mut numbers = [4096usize; 4096];
+    let mut firsts = [0usize; 4096];
+    let found = cells::vertex::number_vertices(draft, k, ranks, k, &mut numbers, &mut firsts);
+    numbers_same(vertex, ranks, k, &numbers) & (count == found as u64)
+}
+
+// 19, of a transfer whose serials are ranked; on a yes its darts are drafted.
+pub fn volume_right(
+    message: &[u8],
+    from: usize,
+    count: u64,
+    hollow: bool,
+    vertex: &[u64],
+    serial: &[u64],
+    starts: &[usize],
+    sizes: &[usize],
+    k: usize,
+    keys: &[u64],
+    ranks: &[usize],
+    opposite: &mut [usize],
+    draft: &mut [u64],
+) -> bool
+    requires { ⌜ (length (now vertex) ≡ 512) × (length (now serial) ≡ 512) × (length (now starts) ≡ 512) × (length (now sizes) ≡ 512) × (length (now keys) ≡ 512) × (length (now ranks) ≡ 512) × (length (now opposite) ≡ 512) × (length (now draft) ≡ words) ⌝ }
+    requires { ⌜ Ranked (now serial) k (now keys) (now ranks) × ((t : Transfer) × Told t (now vertex) (now serial) (now starts) (now sizes) (now message) from count k hollow) ⌝ }
+    ensures answer { λ r. ⌜ ((t : Transfer) → Told t (now (vertex .entry)) (now (serial .entry)) (now (starts .entry)) (now (sizes .entry)) (now (message .entry)) from count k hollow → r ≡ volume-right t) ⌝ }
+    ensures drafted { λ r. ⌜ (r ≡ true → Draft (now (vertex .entry)) (now (serial .entry)) (now (starts .entry)) (now (sizes .entry)) (now (keys .entry)) (now (ranks .entry)) (now (opposite .exit)) (now (message .entry)) from k (now (draft .exit))) × (length (now (opposite .exit)) ≡ 512) × (length (now (draft .exit)) ≡ words) ⌝ }
+{
+    if hollow {
+        return false;
+    }
+    if !order::ordered(serial, starts, k) {
+        return false;
+    }
+    if !order::vertices_fit(vertex, k, count) {
+        return false;
+    }
+    if !pairs::paired(vertex, starts, sizes, k, opposite) {
+        return false;
+    }
+    draft::put_draft(
+        message,
+        from,
+        vertex,
+        starts,
+        sizes,
+        k,
+        keys,
+        ranks,
+        opposite,
+        draft,
+    );
+    if !one_volume(draft, k, ranks[0]) {
+        return false;
+    }
+    numbered(draft, k, vertex, count, ranks)
+}
