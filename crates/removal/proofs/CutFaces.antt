@@ -40,7 +40,8 @@ distinct-map f (x ∷ l) d h = and-intro (go (mem (f x) (map f l)) refl) (distin
         let r = map-in f l (f x) e in
         absurd (true≢false (sym (in-eq x (r .0) l (h x (r .0) (in-here x l) (in-there (r .0) x l (r .1)) (r .2)) (r .1)) ∙ not-true (mem x l) (and-left _ _ d)))
 
-kind-one : {k a : ℕ} → Kind k a → k % 4 ≡ 1 → k ≡ 1
+-- a kind word whose rest is 1
+pub kind-one : {k a : ℕ} → Kind k a → k % 4 ≡ 1 → k ≡ 1
 kind-one (kind-free e f) h = absurd (omega arith)
 kind-one (kind-sewn e) h = e
 kind-one (kind-critical e f g) h = absurd (omega arith)

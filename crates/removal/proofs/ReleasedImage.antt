@@ -6,7 +6,8 @@ use mathlib.Core.Option.{Option, none, some, Option·map}
 use Prim.Native.Nat.{ℕ, _+_, _*_, _-_, _%_, _≤_, _<_}
 use native.Mathlib.Omega.{arith}
 use lib.Dec.{eqb}
-use lib.ListN.{length, getD, replicate, length-map}
+use lib.ListN.{length, getD, drop, replicate, length-map, length-drop, length-replicate}
+use lib.Seq.{ext-getD, getD-drop}
 use borrow.Author.Tests.{eq-eqb, ne-eqb, not-true}
 use Rattle.model.specs.Lists.{any, keep, mem, concat, tab, find, index-of}
 use Rattle.model.specs.Values.{Label, Third, critical, Dart, rack, code, partner}
@@ -16,7 +17,8 @@ use Rattle.model.specs.Departure.{Link, third-or, relink, label-faces, sewn-fac
 use Rattle.model.specs.Calls.{served}
 use Rattle.answers.specs.Answers.{answered}
 use Rattle.laws.proofs.Tests.{yes-first}
-use Rattle.laws.proofs.Members.{In, in-eq, in-map, map-in, keep-map, map-map, map-cong, Each, each-found}
+use Rattle.laws.proofs.Lists.{getD-zeros}
+use Rattle.laws.proofs.Members.{In, in-here, in-there, in-eq, in-map, map-in, keep-map, map-map, map-cong, Each, each-found}
 use Rattle.laws.proofs.Tables.{map-tab}
 use Rattle.theory.proofs.CallLaws.{served-value}
 use Rattle.columns.specs.Columns.{Kind, kind-free, kind-sewn, kind-critical}
@@ -31,7 +33,7 @@ use Rattle.cells.proofs.Sited.{Sited, darts-in, count-in, sited}
 use Rattle.departure.specs.Asked.{Departs}
 use Rattle.departure.specs.declared.Counts.{Counts}
 use Rattle.removal.specs.LetGo.{with-links, sewn-at, left-behind, unmarked, rank, moved-link, moved-words, records, without, released-at}
-use Rattle.removal.proofs.PutLinks.{header-stays, column-stays, unnamed-stays, named}
+use Rattle.removal.proofs.PutLinks.{length-links, others-stay, header-stays, column-stays, unnamed-stays, named}
 use Rattle.removal.proofs.NewLinks.{renamed, Critical, darts-are, faces-critical, faces-renamed, find-renamed, find-unnamed}
 use Rattle.removal.proofs.Ranks.{unmarked-in, index-rank}
 use Rattle.removal.proofs.CutFaces.{Cut, sewn, next-stays, opposite-stays, cut-is, in-cut, left-distinct}
@@ -106,6 +108,37 @@ module _ {m : List ℕ} (site : Sited m) (pass : Passed m) (p : ℕ) (h : p < co
       let w = sewn site pass p h mk q k e in
       rw named-are (in-eq q (column m 4 (column m 4 q)) (map (column m 4) (concat (sewn-at m marks))) (sym (w .back))
       (in-map (column m 4) (column m 4 q) (concat (sewn-at m marks)) (in-cut site pass p h mk apart (column m 4 q) (record { below = w .sewn-lt; inside = o; kind = w .kind }))))
+
+  -- THE MEMORY WITH THEM: links lead to darts that it holds, and nothing stands behind the last
+  pub sewn-after : (q : ℕ) → q < n → column x 3 q ≡ 1 → column x 4 q < n
+  sewn-after q k one = go (find (λ k. k .dart) q new) refl
+    where
+      go : (f : Option Link) → find (λ k. k .dart) q new ≡ f → column x 4 q < n
+      go none e =
+          let out = find-unnamed q new e in
+          omega (arith, unnamed-stays m new q 4 (omega arith) out, sewn site pass p h mk q k (sym (unnamed-stays m new q 3 (omega arith) out) ∙ one) .sewn-lt)
+      go (some l) e =
+          let c = each-found (λ k. k .dart) (Critical (column m 4) j (getD m 0 0)) q new l new-critical e in
+          let w = named m new q l (rw named-are (left-distinct site pass p h mk apart)) e (omega (arith, site .linked .few, site .linked .size)) in
+          let three : column x 3 q ≡ 2 + 4 * j = w .0 ∙ ap kind-word (c .1) in
+          absurd (omega arith)
+
+  each-below : (ks : List Link) → ((q : ℕ) → In q (map (λ k. k .dart) ks) → q < n) → Each (λ k. k .dart < n) ks
+  each-below [] a = tt
+  each-below (k ∷ ks) a = (a (k .dart) (in-here (k .dart) (map (λ k. k .dart) ks)), each-below ks (λ q i. a q (in-there q (k .dart) (map (λ k. k .dart) ks) i)))
+
+  word-after : (i : ℕ) → 8 + n * 8 ≤ i → getD x i 0 ≡ 0
+  word-after i a = others-stay m new i (go new (each-below new named-below)) ∙ pass .range .rest i a
+    where
+      go : (ks : List Link) → Each (λ k. k .dart < n) ks → Each (λ k. (i ≡ 8 + k .dart * 8 + 3 → ⊥) × (i ≡ 8 + k .dart * 8 + 4 → ⊥)) ks
+      go [] e = tt
+      go (k ∷ ks) e = let low = e .0 in ((λ q. omega arith, λ q. omega arith), go ks (e .1))
+
+  pub rest-after : drop (8 + n * 8) x ≡ replicate ((room - n) * 8) 0
+  rest-after =
+      let size : length (drop (8 + n * 8) x) ≡ (room - n) * 8 = omega (arith, length-drop (8 + n * 8) x, length-links m new, site .linked .size) in
+      ext-getD 0 (drop (8 + n * 8) x) (replicate ((room - n) * 8) 0) (size ∙ sym (length-replicate {A = ℕ} ((room - n) * 8) 0))
+      (λ i u. getD-drop (8 + n * 8) x i 0 ∙ word-after (8 + n * 8 + i) (omega arith) ∙ sym (getD-zeros ((room - n) * 8) i))
 
   -- THE DARTS THAT STAY
   abbrev after : List Dart
