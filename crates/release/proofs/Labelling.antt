@@ -1,25 +1,24 @@
 -- The faces left behind are labelled: a walk round one face, then face after face. Assumes nothing.
 use mathlib.Core.Path.{_≡_, refl, sym, _∙_, ap}
-use mathlib.Core.Bool.{Bool, true, false, not, _&&_}
-use mathlib.Core.List.{List, [], _∷_, _++_}
-use Prim.Native.Nat.{ℕ, zero, suc, _+_, _*_, _-_, _%_, _≤_, _<_}
+use mathlib.Core.Bool.{true, false}
+use mathlib.Core.List.{List, [], _∷_}
+use Prim.Native.Nat.{ℕ, suc, _+_, _*_, _-_, _%_, _≤_, _<_}
 use native.Mathlib.Omega.{arith}
 use native.Mathlib.Numerals.{add-one}
-use lib.Dec.{leb, eqb}
+use lib.Dec.{leb}
 use lib.ListN.{length, getD, set, drop, length-set, length-map, drop-of-length-le}
 use lib.Seq.{getD-set-other, drop-cons}
-use borrow.Author.Tests.{eqb-true, eqb-false, eq-eqb, ne-eqb}
+use borrow.Author.Tests.{ne-eqb}
 use Rattle.model.specs.Lists.{all, keep}
 use Rattle.model.specs.Values.{Label, critical, code}
 use Rattle.model.specs.Cells.{cycle, faces, start-of}
-use Rattle.model.specs.Image.{room, words, kind-word, link-word, column}
+use Rattle.model.specs.Image.{kind-word, link-word, column}
 use Rattle.model.specs.Departure.{Link, label-links, label-faces}
-use Rattle.laws.proofs.Tests.{by-cases}
 use Rattle.laws.proofs.Maps.{map-at}
 use Rattle.laws.proofs.Members.{In, in-here, in-there, keep-in}
 use Rattle.laws.proofs.Orbits.{path}
 use Rattle.laws.proofs.Faces.{along-face}
-use Rattle.memory.proofs.Records.{set-here, set-there}
+use Rattle.memory.proofs.Records.{set-there}
 use Rattle.cells.specs.Places.{InOrder, marked, sewn-out}
 use Rattle.cells.proofs.Reached.{places, in-places, places-below, within-places}
 use Rattle.cells.proofs.Paths.{Round, round, Going, going-start, going-next, going-end, apart-places, few-places}

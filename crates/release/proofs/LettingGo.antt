@@ -1,18 +1,17 @@
 -- What the questions leave labelling and taking out with, and the call's answers. Assumes nothing.
-use mathlib.Core.Path.{_≡_, refl, sym, _∙_, ap, subst}
-use mathlib.Core.Bool.{Bool, true, false, not}
-use mathlib.Core.List.{List, [], _∷_, _++_}
-use Prim.Native.Nat.{ℕ, _+_, _*_, _-_, _≤_, _<_, _^_}
+use mathlib.Core.Path.{_≡_, refl, sym, _∙_, subst}
+use mathlib.Core.Bool.{Bool, true, not}
+use mathlib.Core.List.{List, [], _++_}
+use Prim.Native.Nat.{ℕ, _+_, _*_, _-_, _<_, _^_}
 use native.Mathlib.Omega.{arith}
-use lib.Dec.{eqb}
 use lib.ListN.{length, getD, drop, replicate}
-use borrow.Author.Tests.{eq-eqb, ne-eqb, not-true, not-false}
+use borrow.Author.Tests.{eq-eqb, ne-eqb}
 use Rattle.model.specs.Values.{rack}
-use Rattle.model.specs.Image.{room, words, image, column, block-in, is-image, memory-checks}
+use Rattle.model.specs.Image.{room, words, image, block-in, is-image, memory-checks}
 use Rattle.model.specs.Departure.{departure-checks, released}
 use Rattle.model.specs.Calls.{Answer, served, refused, storing, release}
 use Rattle.answers.specs.Answers.{Gives, answered}
-use Rattle.answers.proofs.Questions.{Asks, gives, ask-no, ask-yes, ask-end, ask-all, ask-first, said-no, said-yes}
+use Rattle.answers.proofs.Questions.{Asks, gives, ask-no, ask-yes, ask-end, ask-all, ask-first, said-no}
 use Rattle.columns.proofs.ThirdLinks.{same-kind}
 use Rattle.columns.proofs.Question.{Passed, image-passed}
 use Rattle.cells.proofs.FaceSerials.{closed-next}

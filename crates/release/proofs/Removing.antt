@@ -1,17 +1,16 @@
 -- Records taken out: where each goes, the loop that moves them to the front, and the whole memory afterwards. Assumes nothing.
 use mathlib.Core.Path.{_≡_, refl, sym, _∙_, ap}
-use mathlib.Core.Bool.{Bool, true, false}
 use mathlib.Core.List.{List, [], _∷_, _++_, map, append-assoc, append-nil}
 use mathlib.Core.Logic.{⊎-elim}
-use Prim.Native.Nat.{ℕ, zero, suc, _+_, _*_, _-_, _≤_, _<_}
+use Prim.Native.Nat.{ℕ, _+_, _*_, _-_, _≤_, _<_}
 use native.Mathlib.Omega.{arith}
-use lib.ListN.{length, getD, set, take, drop, replicate, length-set, length-append, length-take, length-drop, length-replicate, replicate-append-replicate, take-append-drop}
+use lib.ListN.{length, getD, set, take, drop, replicate, length-set, length-append, length-take, length-drop, replicate-append-replicate}
 use lib.Seq.{getD-set-same, getD-set-other, getD-drop, take-at, drop-at, drop-drop, length-take-le}
 use Rattle.model.specs.Lists.{concat}
 use Rattle.model.specs.Image.{room, words, column}
 use Rattle.laws.proofs.Tests.{eq-or-ne, last-or-below}
 use Rattle.laws.proofs.Members.{map-append}
-use Rattle.memory.specs.Record.{record-in, record-words, put}
+use Rattle.memory.specs.Record.{record-in, put}
 use Rattle.memory.specs.declared.record.Record.{Record}
 use Rattle.memory.proofs.Records.{length-put}
 use Rattle.removal.specs.LetGo.{unmarked, rank, moved-link, moved-words, records, without}

@@ -1,15 +1,15 @@
 -- The faces along which a volume is cut off, as places: sewn as a whole, to darts that stay. Assumes nothing.
-use mathlib.Core.Path.{_≡_, refl, sym, _∙_, ap, subst}
-use mathlib.Core.Bool.{Bool, true, false, true≢false, not, _&&_}
+use mathlib.Core.Path.{_≡_, refl, sym, _∙_, ap}
+use mathlib.Core.Bool.{Bool, true, false, true≢false, not}
 use mathlib.Core.List.{List, [], _∷_, map}
-use Prim.Native.Nat.{ℕ, _+_, _%_, _≤_, _<_}
+use Prim.Native.Nat.{ℕ, _%_, _≤_, _<_}
 use native.Mathlib.Omega.{arith}
 use lib.Dec.{eqb}
 use lib.ListN.{length, getD}
 use borrow.Author.Tests.{eqb-true, eqb-false, eq-eqb, ne-eqb, not-true}
-use Rattle.model.specs.Lists.{any, keep, mem, concat, distinct, ascending}
+use Rattle.model.specs.Lists.{any, mem, concat, distinct, ascending}
 use Rattle.model.specs.Cells.{cycle, start-of}
-use Rattle.model.specs.Image.{room, column}
+use Rattle.model.specs.Image.{column}
 use Rattle.laws.proofs.Tests.{by-cases, and-intro, and-left, and-right}
 use Rattle.laws.proofs.Members.{In, in-here, in-there, in-eq, any-in, map-in, keep-le, keep-ascending}
 use Rattle.laws.proofs.Orbits.{in-cycle}

@@ -1,20 +1,20 @@
 -- The places that are not marked: which they are, one more of them, and the index of a serial among theirs. Assumes nothing.
 use mathlib.Core.Path.{_≡_, refl, sym, _∙_, ap}
-use mathlib.Core.Bool.{Bool, true, false, cond, not}
+use mathlib.Core.Bool.{Bool, true, not}
 use mathlib.Core.List.{List, [], _∷_, _++_, map, append-nil}
 use Prim.Native.Nat.{ℕ, zero, suc, _+_, _≤_, _<_}
 use native.Mathlib.Omega.{arith}
 use native.Mathlib.Numerals.{add-one}
 use lib.Dec.{eqb}
 use lib.ListN.{length, getD, length-append}
-use borrow.Author.Tests.{eqb-true, eqb-false, eq-eqb, ne-eqb, not-true}
-use Rattle.model.specs.Lists.{keep, mem, concat, tab, index-of}
+use borrow.Author.Tests.{eqb-false, eq-eqb, ne-eqb, not-true}
+use Rattle.model.specs.Lists.{keep, tab, index-of}
 use Rattle.laws.specs.Order.{Ascending}
 use Rattle.laws.proofs.Tests.{by-cases}
 use Rattle.laws.proofs.Maps.{tab-more}
-use Rattle.laws.proofs.Members.{In, in-keep, keep-in, keep-le}
+use Rattle.laws.proofs.Members.{In, keep-in, keep-le}
 use Rattle.laws.proofs.Tables.{length-tab, tail-ascends}
-use Rattle.cells.proofs.Reached.{places, in-places, places-below}
+use Rattle.cells.proofs.Reached.{places, places-below}
 use Rattle.cells.proofs.FaceLaws.{keep-append}
 use Rattle.removal.specs.LetGo.{unmarked, rank}
 

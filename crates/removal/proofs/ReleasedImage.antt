@@ -1,20 +1,19 @@
 -- What release leaves in memory, by places, is the image of the block that the model leaves. Assumes nothing.
 use mathlib.Core.Path.{_≡_, refl, sym, _∙_, ap}
-use mathlib.Core.Bool.{Bool, true, false, true≢false, not, _&&_}
+use mathlib.Core.Bool.{true, false, true≢false, not}
 use mathlib.Core.List.{List, [], _∷_, _++_, map}
 use mathlib.Core.Option.{Option, none, some, Option·map}
-use Prim.Native.Nat.{ℕ, _+_, _*_, _-_, _%_, _≤_, _<_}
+use Prim.Native.Nat.{ℕ, _+_, _*_, _-_, _≤_, _<_}
 use native.Mathlib.Omega.{arith}
 use lib.Dec.{eqb}
 use lib.ListN.{length, getD, drop, replicate, length-map, length-drop, length-replicate}
 use lib.Seq.{ext-getD, getD-drop}
 use borrow.Author.Tests.{eq-eqb, ne-eqb, not-true}
-use Rattle.model.specs.Lists.{any, keep, mem, concat, tab, find, index-of}
-use Rattle.model.specs.Values.{Label, Third, critical, Dart, rack, code, partner}
+use Rattle.model.specs.Lists.{any, keep, mem, concat, find, index-of}
+use Rattle.model.specs.Values.{Third, Dart, rack, code, partner}
 use Rattle.model.specs.Cells.{serials, third-at, volume-in}
 use Rattle.model.specs.Image.{room, image, column, block-in, dart-in, dart-words, third-in, kind-word, link-word, is-image}
 use Rattle.model.specs.Departure.{Link, third-or, relink, label-faces, sewn-faces, departure-checks, released}
-use Rattle.model.specs.Calls.{served}
 use Rattle.answers.specs.Answers.{answered}
 use Rattle.laws.proofs.Tests.{yes-first}
 use Rattle.laws.proofs.Lists.{getD-zeros}
@@ -36,7 +35,7 @@ use Rattle.removal.specs.LetGo.{with-links, sewn-at, left-behind, unmark
 use Rattle.removal.proofs.PutLinks.{length-links, others-stay, header-stays, column-stays, unnamed-stays, named}
 use Rattle.removal.proofs.NewLinks.{renamed, Critical, darts-are, faces-critical, faces-renamed, find-renamed, find-unnamed}
 use Rattle.removal.proofs.Ranks.{unmarked-in, index-rank}
-use Rattle.removal.proofs.CutFaces.{Cut, sewn, next-stays, opposite-stays, cut-is, in-cut, left-distinct}
+use Rattle.removal.proofs.CutFaces.{sewn, next-stays, opposite-stays, cut-is, in-cut, left-distinct}
 
 -- LINK WORDS with places moved
 pub link-sewn : (t : ℕ → ℕ) (k a : ℕ) → k ≡ 1 → t a ≡ moved-link t k a

@@ -1,38 +1,29 @@
+-- `release::let_go` meets its contract: what the questions left serves labelling, and what that left taking out. Assumes nothing.
 use Rattle.release.proofs.LettingGo.{sewing, labels-fit, bounded, rest-zero, all-gone}
 use native.Mathlib.Omega.{arith}
 use borrow.Author.Needs.{needs}
 use Rattle.release.proofs.let_go.Statement.{statement}
 use Rattle.release.proofs.let_go.Tie as tie
-use Rattle.release.proofs.let_go.Reads as reads
-use Rattle.release.proofs.let_go.Lts as lts
-use Rattle.release.proofs.label.label_faces.Reads as label-faces-reads
-use Rattle.release.proofs.remove.remove.Reads as remove-reads
 
--- src/lib.rt:37:19
 slice-read-counter : tie.Need-slice-read-counter
 slice-read-counter c =
     omega (arith, sewing _ (c .before .before .before .before .before .before .before .pre .0) (c .before .before .before .before .before .before .before .args .to) (c .before .before .before .before .before .before .before .args .serial) (c .before .before .before .before .before .before .before .pre .1) .size)
 
--- src/lib.rt:37:19
 add-counter : tie.Need-add-counter
 add-counter c =
     omega (arith, c .before .before .before .before .before .before .before .pre .1 .counter-fits)
 
--- src/lib.rt:40:5
 label-faces-requires : tie.Need-label-faces-requires
 label-faces-requires c κs =
     (sewing _ (c .before .before .before .before .before .before .before .before .pre .0) (c .before .before .before .before .before .before .before .before .args .to) (c .before .before .before .before .before .before .before .before .args .serial) (c .before .before .before .before .before .before .before .before .pre .1), c .before .before .before .before .before .before .before .before .pre .1 .survey .order, c .before .before .before .before .before .before .before .before .pre .1 .to-block, labels-fit _ (c .before .before .before .before .before .before .before .before .pre .0) (c .before .before .before .before .before .before .before .before .args .to) (c .before .before .before .before .before .before .before .before .args .serial) (c .before .before .before .before .before .before .before .before .pre .1))
 
--- src/lib.rt:41:5
 remove-requires : tie.Need-remove-requires
 remove-requires c κs =
     ((bounded _ (c .before .before .before .before .before .before .before .before .before .before .before .before .pre .0) (c .before .before .before .before .before .before .before .before .before .before .before .before .args .to) (c .before .before .before .before .before .before .before .before .before .before .before .before .args .serial) (c .before .before .before .before .before .before .before .before .before .before .before .before .pre .1) (c .before .before .before .label-faces .ensures), c .before .before .before .before .before .before .before .before .before .before .before .before .pre .1 .survey .volume-marked .size), rest-zero _ (c .before .before .before .before .before .before .before .before .before .before .before .before .pre .0) (c .before .before .before .before .before .before .before .before .before .before .before .before .args .to) (c .before .before .before .before .before .before .before .before .before .before .before .before .args .serial) (c .before .before .before .before .before .before .before .before .before .before .before .before .pre .1) (c .before .before .before .label-faces .ensures))
 
--- src/lib.rt:22:1
 same-length : tie.Need-same-length
 same-length c = search needs
 
--- src/lib.rt:22:1
 returns : tie.Need-returns
 returns c =
     all-gone _ (c .before .before .before .before .before .before .before .before .before .before .before .before .before .before .before .pre .0) (c .before .before .before .before .before .before .before .before .before .before .before .before .before .before .before .args .to) (c .before .before .before .before .before .before .before .before .before .before .before .before .before .before .before .args .serial) (c .before .before .before .before .before .before .before .before .before .before .before .before .before .before .before .pre .1) (c .before .before .before .before .before .before .label-faces .ensures) (c .before .before .remove .ensures)

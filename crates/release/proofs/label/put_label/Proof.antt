@@ -1,38 +1,27 @@
+-- `release::label::put_label` meets its contract: two stores are a link. Assumes nothing.
 use Rattle.release.proofs.Labelling.{link-stored}
-use native.Mathlib.Omega.{arith}
 use borrow.Author.Needs.{needs}
 use Rattle.release.proofs.label.put_label.Statement.{statement}
 use Rattle.release.proofs.label.put_label.Tie as tie
-use Rattle.release.proofs.label.put_label.Reads as reads
-use Rattle.release.proofs.label.put_label.Lts as lts
-use Rattle.memory.proofs.label.code_of.Reads as code-of-reads
-use Rattle.memory.proofs.record.put_field.Reads as put-field-reads
 
--- src/label.rt:22:9
 code-of-requires : tie.Need-code-of-requires
 code-of-requires c κs = search needs
 
--- src/label.rt:23:47
 mul-put-field : tie.Need-mul-put-field
 mul-put-field c = search needs
 
--- src/label.rt:23:43
 add-put-field : tie.Need-add-put-field
 add-put-field c = search needs
 
--- src/label.rt:23:5
 put-field-requires : tie.Need-put-field-requires
 put-field-requires c κs = search needs
 
--- src/label.rt:24:5
 put-field-requires-2 : tie.Need-put-field-requires-2
 put-field-requires-2 c κs = search needs
 
--- src/label.rt:18:1
 same-length : tie.Need-same-length
 same-length c = search needs
 
--- src/label.rt:18:1
 returns : tie.Need-returns
 returns c =
     link-stored (c .before .before .before .before .before .before .before .before .before .before .args .block .now) (c .before .before .before .before .before .before .before .before .before .before .args .q) (c .before .before .before .before .before .before .before .before .before .before .args .to) _ (c .before .before .before .before .before .before .before .before .code-of .ensures) (c .before .before .before .before .before .before .put-field .ensures) (c .before .before .put-field2 .ensures)

@@ -1,37 +1,27 @@
+-- `release::remove::clear_part` meets its contract: the part that is lent comes back as zeros. Assumes nothing.
 use Rattle.release.proofs.Removing.{part-cleared}
-use native.Mathlib.Omega.{arith}
 use borrow.Author.Needs.{needs}
 use Rattle.release.proofs.remove.clear_part.Statement.{statement}
 use Rattle.release.proofs.remove.clear_part.Tie as tie
-use Rattle.release.proofs.remove.clear_part.Reads as reads
-use Rattle.release.proofs.remove.clear_part.Lts as lts
-use Rattle.memory.proofs.header.clear.Reads as clear-reads
 
--- src/remove.rt:99:19
 mul-clear : tie.Need-mul-clear
 mul-clear c = search needs
 
--- src/remove.rt:99:19
 sub-clear : tie.Need-sub-clear
 sub-clear c = search needs
 
--- src/remove.rt:99:19
 part-clear-start : tie.Need-part-clear-start
 part-clear-start c = search needs
 
--- src/remove.rt:99:19
 part-clear-end : tie.Need-part-clear-end
 part-clear-end c = search needs
 
--- src/remove.rt:99:5
 clear-requires : tie.Need-clear-requires
 clear-requires c κs = search needs
 
--- src/remove.rt:95:1
 same-length : tie.Need-same-length
 same-length c = search needs
 
--- src/remove.rt:95:1
 returns : tie.Need-returns
 returns c =
     part-cleared (c .before .before .before .before .before .args .block .now) (c .before .before .before .before .before .args .a) (c .before .before .before .before .before .args .e) (c .before .before .before .before .before .pre .0) (c .before .before .before .before .before .pre .1) (c .before .before .clear .ensures)

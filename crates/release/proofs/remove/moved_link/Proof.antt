@@ -1,25 +1,18 @@
-use mathlib.Core.Path.{_≡_, refl, sym, ap, _∙_}
+-- `release::remove::moved_link` meets its contract: only a sewn dart's link is a place. Assumes nothing.
+use mathlib.Core.Path.{_∙_}
 use lib.ListN.{getD}
 use Rattle.removal.proofs.ReleasedImage.{link-sewn, link-other}
-use native.Mathlib.Omega.{arith}
-use borrow.Author.Needs.{needs}
 use Rattle.release.proofs.remove.moved_link.Statement.{statement}
 use Rattle.release.proofs.remove.moved_link.Tie as tie
-use Rattle.release.proofs.remove.moved_link.Reads as reads
-use Rattle.release.proofs.remove.moved_link.Lts as lts
-use Rattle.release.proofs.remove.moved.Reads as moved-reads
 
--- src/remove.rt:49:9
 moved-requires : tie.Need-moved-requires
 moved-requires c κs =
     (c .before .before .pre .0, c .before .before .pre .1 (c .if1 .taken))
 
--- src/remove.rt:49:9
 returns : tie.Need-returns
 returns c =
     c .moved .ensures ∙ link-sewn (λ p. getD (c .before .before .before .args .table .now) p 0) _ _ (c .before .if1 .taken)
 
--- src/remove.rt:44:1
 returns-2 : tie.Need-returns-2
 returns-2 c =
     link-other _ _ _ (c .if1 .left)

@@ -1,4 +1,4 @@
-use mathlib.Core.Path.{_≡_, refl, sym, ap, _∙_}
+-- `release::remove::remove` meets its contract: ranks, records moved, the rest cleared, the header stored. Assumes nothing.
 use lib.ListN.{getD}
 use Rattle.release.proofs.Removing.{all-removed}
 use Rattle.removal.proofs.Ranks.{rank-le}
@@ -6,69 +6,49 @@ use native.Mathlib.Omega.{arith}
 use borrow.Author.Needs.{needs}
 use Rattle.release.proofs.remove.remove.Statement.{statement}
 use Rattle.release.proofs.remove.remove.Tie as tie
-use Rattle.release.proofs.remove.remove.Reads as reads
-use Rattle.release.proofs.remove.remove.Lts as lts
-use Rattle.memory.proofs.header.Header.write.Reads as write-reads
-use Rattle.release.proofs.remove.clear_part.Reads as clear-part-reads
-use Rattle.release.proofs.remove.compact.Reads as compact-reads
-use Rattle.release.proofs.remove.ranks.Reads as ranks-reads
 
--- src/remove.rt:108:18
 slice-read-number : tie.Need-slice-read-number
 slice-read-number c = search needs
 
--- src/remove.rt:109:13
 slice-read-n : tie.Need-slice-read-n
 slice-read-n c = search needs
 
--- src/remove.rt:111:21
 slice-aggregate-ranks : tie.Need-slice-aggregate-ranks
 slice-aggregate-ranks c = search needs
 
--- src/remove.rt:111:5
 ranks-requires : tie.Need-ranks-requires
 ranks-requires c κs = search needs
 
--- src/remove.rt:112:41
 slice-aggregate-compact : tie.Need-slice-aggregate-compact
 slice-aggregate-compact c = search needs
 
--- src/remove.rt:112:9
 compact-requires : tie.Need-compact-requires
 compact-requires c κs = search needs
 
--- src/remove.rt:113:27
 mul-clear-part : tie.Need-mul-clear-part
 mul-clear-part c =
     omega (arith, c .before .before .before .compact .ensures .count, rank-le (getD (c .before .before .before .before .before .before .before .before .before .before .before .before .before .args .block .now) 2 0) (c .before .before .before .before .before .before .before .before .before .before .before .before .before .args .marks .now), c .before .before .before .before .before .before .before .before .before .before .before .before .before .pre .0 .0 .few)
 
--- src/remove.rt:113:23
 add-clear-part : tie.Need-add-clear-part
 add-clear-part c =
     omega (arith, c .before .before .before .compact .ensures .count, rank-le (getD (c .before .before .before .before .before .before .before .before .before .before .before .before .before .args .block .now) 2 0) (c .before .before .before .before .before .before .before .before .before .before .before .before .before .args .marks .now), c .before .before .before .before .before .before .before .before .before .before .before .before .before .pre .0 .0 .few)
 
--- src/remove.rt:113:41
 mul-clear-part-2 : tie.Need-mul-clear-part-2
 mul-clear-part-2 c = search needs
 
--- src/remove.rt:113:37
 add-clear-part-2 : tie.Need-add-clear-part-2
 add-clear-part-2 c = search needs
 
--- src/remove.rt:113:5
 clear-part-requires : tie.Need-clear-part-requires
 clear-part-requires c κs =
     (omega (arith, c .before .before .before .compact .ensures .count, rank-le (getD (c .before .before .before .before .before .before .before .before .before .before .before .before .before .args .block .now) 2 0) (c .before .before .before .before .before .before .before .before .before .before .before .before .before .args .marks .now)), omega (arith, c .before .before .before .compact .ensures .len, c .before .before .before .before .before .before .before .before .before .before .before .before .before .pre .0 .0 .size, c .before .before .before .before .before .before .before .before .before .before .before .before .before .pre .0 .0 .few))
 
--- src/remove.rt:119:5
 write-requires : tie.Need-write-requires
 write-requires c κs = search needs
 
--- src/remove.rt:103:1
 same-length : tie.Need-same-length
 same-length c = search needs
 
--- src/remove.rt:103:1
 returns : tie.Need-returns
 returns c =
     all-removed (c .before .before .before .before .before .before .before .before .before .before .before .before .before .before .before .before .before .before .before .before .args .block .now) (c .before .before .before .before .before .before .before .before .before .before .before .before .before .before .before .before .before .before .before .before .args .marks .now) (c .before .before .before .before .before .before .before .before .before .before .before .before .before .before .before .before .before .before .before .before .pre .0 .0 .size) (c .before .before .before .before .before .before .before .before .before .before .before .before .before .before .before .before .before .before .before .before .pre .0 .0 .few) (c .before .before .before .before .before .before .before .before .before .before .before .before .before .before .before .before .before .before .before .before .pre .1) (c .before .before .before .before .before .before .before .before .before .before .compact .ensures) (c .before .before .before .before .before .before .clear-part .ensures) (c .before .before .write .ensures)
