@@ -5,7 +5,16 @@ use Prim.Native.Nat.{ℕ, _+_, _*_, _%_, _≤_, _<_}
 use lib.ListN.{length, getD, take, drop}
 use Rattle.model.specs.Image.{room, words, column}
 use Rattle.cells.specs.Places.{Within, Apart, Closed}
+use Rattle.departure.specs.Asked.{Departs}
+use Rattle.departure.specs.declared.Counts.{Counts}
 use Rattle.removal.specs.LetGo.{rank, records}
+
+-- the marked volume may go to block j, whichever of its darts was asked for
+pub record MayGo (m : List ℕ) (j : ℕ) (c : Counts) (marks order starts : List ℕ) : Type 0 where
+  pub serial : ℕ
+  pub numbers : List ℕ
+  pub firsts : List ℕ
+  pub departs : Departs m j serial c marks order starts numbers firsts
 
 -- LABELLING
 -- what it asks of the first n darts: a marked face is sewn as a whole, to darts that are not marked

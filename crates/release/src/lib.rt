@@ -6,8 +6,8 @@ ghost use Rattle.model.specs.Values.{rack};
 ghost use Rattle.model.specs.Image.{room, is-image};
 ghost use Rattle.model.specs.Calls as calls;
 ghost use Rattle.answers.specs.Answers.{answer-of, Gives};
-ghost use Rattle.departure.specs.Asked.{Departs};
 ghost use Rattle.removal.specs.LetGo.{released-at};
+ghost use Rattle.release.specs.Asks.{MayGo};
 
 mod label; // label.rt: the labels of the faces left behind
 mod remove; // remove.rt: the records taken out, the others renumbered
@@ -22,16 +22,13 @@ use memory::header::Header;
 fn let_go(
     block: &mut [u64],
     to: u64,
-    serial: u64,
     marks: &[u8],
     order: &[usize],
     starts: &[usize],
-    numbers: &[usize],
-    firsts: &[usize],
     counts: Counts,
 )
     requires { ⌜ is-image rack (now block) ≡ true ⌝ }
-    requires { ⌜ Departs (now block) to serial counts (now marks) (now order) (now starts) (now numbers) (now firsts) ⌝ }
+    requires { ⌜ MayGo (now block) to counts (now marks) (now order) (now starts) ⌝ }
     ensures { λ _. ⌜ now (block .exit) ≡ released-at (now (block .entry)) (now (marks .entry)) to ⌝ }
 {
     let counter = block[1] + counts.sewn as u64;
@@ -73,17 +70,7 @@ fn release_asked(
     ) {
         Leaving::Refused(r) => Answer::Refused(r),
         Leaving::Volume(counts) => {
-            let_go(
-                block,
-                to,
-                serial,
-                marks,
-                order,
-                starts,
-                numbers,
-                firsts,
-                counts,
-            );
+            let_go(block, to, marks, order, starts, counts);
             Answer::Served
         }
     }

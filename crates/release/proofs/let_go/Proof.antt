@@ -7,26 +7,26 @@ use Rattle.release.proofs.let_go.Tie as tie
 
 slice-read-counter : tie.Need-slice-read-counter
 slice-read-counter c =
-    omega (arith, sewing _ (c .before .before .before .before .before .before .before .pre .0) (c .before .before .before .before .before .before .before .args .to) (c .before .before .before .before .before .before .before .args .serial) (c .before .before .before .before .before .before .before .pre .1) .size)
+    omega (arith, sewing _ (c .before .before .before .before .before .pre .0) (c .before .before .before .before .before .args .to) (c .before .before .before .before .before .pre .1 .serial) (c .before .before .before .before .before .pre .1 .departs) .size)
 
 add-counter : tie.Need-add-counter
 add-counter c =
-    omega (arith, c .before .before .before .before .before .before .before .pre .1 .counter-fits)
+    omega (arith, c .before .before .before .before .before .pre .1 .departs .counter-fits)
 
 label-faces-requires : tie.Need-label-faces-requires
 label-faces-requires c κs =
-    (sewing _ (c .before .before .before .before .before .before .before .before .pre .0) (c .before .before .before .before .before .before .before .before .args .to) (c .before .before .before .before .before .before .before .before .args .serial) (c .before .before .before .before .before .before .before .before .pre .1), c .before .before .before .before .before .before .before .before .pre .1 .survey .order, c .before .before .before .before .before .before .before .before .pre .1 .to-block, labels-fit _ (c .before .before .before .before .before .before .before .before .pre .0) (c .before .before .before .before .before .before .before .before .args .to) (c .before .before .before .before .before .before .before .before .args .serial) (c .before .before .before .before .before .before .before .before .pre .1))
+    (sewing _ (c .before .before .before .before .before .before .pre .0) (c .before .before .before .before .before .before .args .to) (c .before .before .before .before .before .before .pre .1 .serial) (c .before .before .before .before .before .before .pre .1 .departs), c .before .before .before .before .before .before .pre .1 .departs .survey .order, c .before .before .before .before .before .before .pre .1 .departs .to-block, labels-fit _ (c .before .before .before .before .before .before .pre .0) (c .before .before .before .before .before .before .args .to) (c .before .before .before .before .before .before .pre .1 .serial) (c .before .before .before .before .before .before .pre .1 .departs))
 
 remove-requires : tie.Need-remove-requires
 remove-requires c κs =
-    ((bounded _ (c .before .before .before .before .before .before .before .before .before .before .before .before .pre .0) (c .before .before .before .before .before .before .before .before .before .before .before .before .args .to) (c .before .before .before .before .before .before .before .before .before .before .before .before .args .serial) (c .before .before .before .before .before .before .before .before .before .before .before .before .pre .1) (c .before .before .before .label-faces .ensures), c .before .before .before .before .before .before .before .before .before .before .before .before .pre .1 .survey .volume-marked .size), rest-zero _ (c .before .before .before .before .before .before .before .before .before .before .before .before .pre .0) (c .before .before .before .before .before .before .before .before .before .before .before .before .args .to) (c .before .before .before .before .before .before .before .before .before .before .before .before .args .serial) (c .before .before .before .before .before .before .before .before .before .before .before .before .pre .1) (c .before .before .before .label-faces .ensures))
+    ((bounded _ (c .before .before .before .before .before .before .before .before .before .before .pre .0) (c .before .before .before .before .before .before .before .before .before .before .args .to) (c .before .before .before .before .before .before .before .before .before .before .pre .1 .serial) (c .before .before .before .before .before .before .before .before .before .before .pre .1 .departs) (c .before .before .before .label-faces .ensures), c .before .before .before .before .before .before .before .before .before .before .pre .1 .departs .survey .volume-marked .size), rest-zero _ (c .before .before .before .before .before .before .before .before .before .before .pre .0) (c .before .before .before .before .before .before .before .before .before .before .args .to) (c .before .before .before .before .before .before .before .before .before .before .pre .1 .serial) (c .before .before .before .before .before .before .before .before .before .before .pre .1 .departs) (c .before .before .before .label-faces .ensures))
 
 same-length : tie.Need-same-length
 same-length c = search needs
 
 returns : tie.Need-returns
 returns c =
-    all-gone _ (c .before .before .before .before .before .before .before .before .before .before .before .before .before .before .before .pre .0) (c .before .before .before .before .before .before .before .before .before .before .before .before .before .before .before .args .to) (c .before .before .before .before .before .before .before .before .before .before .before .before .before .before .before .args .serial) (c .before .before .before .before .before .before .before .before .before .before .before .before .before .before .before .pre .1) (c .before .before .before .before .before .before .label-faces .ensures) (c .before .before .remove .ensures)
+    all-gone _ (c .before .before .before .before .before .before .before .before .before .before .before .before .before .pre .0) (c .before .before .before .before .before .before .before .before .before .before .before .before .before .args .to) (c .before .before .before .before .before .before .before .before .before .before .before .before .before .pre .1 .serial) (c .before .before .before .before .before .before .before .before .before .before .before .before .before .pre .1 .departs) (c .before .before .before .before .before .before .label-faces .ensures) (c .before .before .remove .ensures)
 
 pub let-go-spec : {M : Type 1} → statement M
 let-go-spec =
