@@ -10,7 +10,7 @@ use lib.ListN.{length, getD, drop, replicate, length-map, length-drop, length-re
 use lib.Seq.{ext-getD, getD-drop}
 use borrow.Author.Tests.{eq-eqb, ne-eqb, not-true}
 use Rattle.model.specs.Lists.{any, keep, mem, concat, find, index-of}
-use Rattle.model.specs.Values.{Third, Dart, rack, code, partner}
+use Rattle.model.specs.Values.{Label, Third, critical, Dart, rack, code, partner}
 use Rattle.model.specs.Cells.{serials, third-at, volume-in}
 use Rattle.model.specs.Image.{room, image, column, block-in, dart-in, dart-words, third-in, kind-word, link-word, is-image}
 use Rattle.model.specs.Departure.{Link, third-or, relink, label-faces, sewn-faces, departure-checks, released}
@@ -101,6 +101,19 @@ module _ {m : List ℕ} (site : Sited m) (pass : Passed m) (p : ℕ) (h : p < co
   found : (q : ℕ) → q < n → find (λ k. k .dart) (s q) links ≡ Option·map (renamed s) (find (λ k. k .dart) q new)
   found q k = ap (find (λ k. k .dart) (s q)) links-are ∙ find-renamed s q new (λ y i e. serials-apart site q y k (named-below y i) e)
 
+  -- the words of a dart with a new link
+  pub record NewThird (q : ℕ) (l : Link) : Type 0 where
+    pub label : Label
+    pub third-is : l .third ≡ critical j label
+    pub kind-is : column x 3 q ≡ 2 + 4 * j
+    pub link-is : column x 4 q ≡ code label
+
+  new-third : (q : ℕ) → q < n → (l : Link) → find (λ k. k .dart) q new ≡ some l → NewThird q l
+  new-third q k l e =
+      let c = each-found (λ k. k .dart) (Critical (column m 4) j (getD m 0 0)) q new l new-critical e in
+      let w = named m new q l (rw named-are (left-distinct site pass p h mk apart)) e (omega (arith, site .linked .few, site .linked .size)) in
+      record { label = c .0; third-is = c .1; kind-is = w .0 ∙ ap kind-word (c .1); link-is = w .1 ∙ ap (link-word []) (c .1) }
+
   -- a dart sewn to a marked one has a new link
   sewn-named : (q : ℕ) → q < n → column m 3 q ≡ 1 → getD marks (column m 4 q) 0 ≡ 1 → In q (map (λ k. k .dart) new)
   sewn-named q k e o =
@@ -117,9 +130,7 @@ module _ {m : List ℕ} (site : Sited m) (pass : Passed m) (p : ℕ) (h : p < co
           let out = find-unnamed q new e in
           omega (arith, unnamed-stays m new q 4 (omega arith) out, sewn site pass p h mk q k (sym (unnamed-stays m new q 3 (omega arith) out) ∙ one) .sewn-lt)
       go (some l) e =
-          let c = each-found (λ k. k .dart) (Critical (column m 4) j (getD m 0 0)) q new l new-critical e in
-          let w = named m new q l (rw named-are (left-distinct site pass p h mk apart)) e (omega (arith, site .linked .few, site .linked .size)) in
-          let three : column x 3 q ≡ 2 + 4 * j = w .0 ∙ ap kind-word (c .1) in
+          let three = new-third q k l e .kind-is in
           absurd (omega arith)
 
   each-below : (ks : List Link) → ((q : ℕ) → In q (map (λ k. k .dart) ks) → q < n) → Each (λ k. k .dart < n) ks
@@ -191,13 +202,11 @@ module _ {m : List ℕ} (site : Sited m) (pass : Passed m) (p : ℕ) (h : p < co
       new-link : (l : Link) → find (λ k. k .dart) q new ≡ some l → ThirdWords q
       new-link l e =
           let t : third-after q ≡ l .third = ap (third-or (third-in s (column m 3 q) (column m 4 q))) (found q k ∙ ap (Option·map (renamed s)) e) in
-          let c = each-found (λ k. k .dart) (Critical (column m 4) j (getD m 0 0)) q new l new-critical e in
-          let w = named m new q l (rw named-are (left-distinct site pass p h mk apart)) e (omega (arith, site .linked .few, site .linked .size)) in
-          let three : column x 3 q ≡ 2 + 4 * j = w .0 ∙ ap kind-word (c .1) in
-          let four : column x 4 q ≡ code (c .0) = w .1 ∙ ap (link-word []) (c .1) in
+          let w = new-third q k l e in
+          let three = w .kind-is in
           record {
-            kind = ap kind-word t ∙ sym (w .0);
-            link = ap (link-word (serials after)) (t ∙ c .1) ∙ sym four ∙ link-other (rank marks) (column x 3 q) (column x 4 q) (λ z. omega arith);
+            kind = ap kind-word (t ∙ w .third-is) ∙ sym (w .kind-is);
+            link = ap (link-word (serials after)) (t ∙ w .third-is) ∙ sym (w .link-is) ∙ link-other (rank marks) (column x 3 q) (column x 4 q) (λ z. omega arith);
           }
 
       go : (f : Option Link) → find (λ k. k .dart) q new ≡ f → ThirdWords q
