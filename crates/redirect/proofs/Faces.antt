@@ -16,6 +16,7 @@ use Rattle.laws.proofs.Faces.{face-self, face-stays, face-sym, face-trans, alon
 use Rattle.memory.proofs.Labels.{code-label}
 use Rattle.columns.specs.Columns.{third-test}
 use Rattle.columns.proofs.Question.{Passed}
+use Rattle.cells.specs.Places.{Linked}
 use Rattle.cells.proofs.Reached.{places, in-places, places-below, within-places}
 use Rattle.cells.proofs.Paths.{round, apart-places, few-places}
 use Rattle.cells.proofs.StartLaws.{cycle-start}
@@ -30,29 +31,29 @@ least-of [] x k = absurd (true≢false (sym k))
 least-of (y ∷ l) x k = least-in y l
 
 -- A FACE, from any of its darts
-module _ {m : List ℕ} (site : Sited m) where
-  pub self-in : (x : ℕ) → x < count-in m → In x (cycle (column m 1) x)
+module _ {m : List ℕ} {n : ℕ} (l : Linked m n) where
+  pub self-in : (x : ℕ) → x < n → In x (cycle (column m 1) x)
   unfolding cycle
-  self-in x h = let l = site .linked in face-self (column m 1) (places (count-in m)) (within-places (l .next-within)) (apart-places (l .next-apart)) (few-places (l .few)) x (in-places (count-in m) x h)
+  self-in x h = face-self (column m 1) (places n) (within-places (l .next-within)) (apart-places (l .next-apart)) (few-places (l .few)) x (in-places n x h)
 
-  pub stays-in : (x y : ℕ) → x < count-in m → In y (cycle (column m 1) x) → y < count-in m
+  pub stays-in : (x y : ℕ) → x < n → In y (cycle (column m 1) x) → y < n
   unfolding cycle
-  stays-in x y h k = let l = site .linked in places-below (count-in m) y (face-stays (column m 1) (places (count-in m)) (within-places (l .next-within)) (apart-places (l .next-apart)) (few-places (l .few)) x y (in-places (count-in m) x h) k)
+  stays-in x y h k = places-below n y (face-stays (column m 1) (places n) (within-places (l .next-within)) (apart-places (l .next-apart)) (few-places (l .few)) x y (in-places n x h) k)
 
-  pub sym-in : (x y : ℕ) → x < count-in m → In y (cycle (column m 1) x) → In x (cycle (column m 1) y)
+  pub sym-in : (x y : ℕ) → x < n → In y (cycle (column m 1) x) → In x (cycle (column m 1) y)
   unfolding cycle
-  sym-in x y h k = let l = site .linked in face-sym (column m 1) (places (count-in m)) (within-places (l .next-within)) (apart-places (l .next-apart)) (few-places (l .few)) x y (in-places (count-in m) x h) k
+  sym-in x y h k = face-sym (column m 1) (places n) (within-places (l .next-within)) (apart-places (l .next-apart)) (few-places (l .few)) x y (in-places n x h) k
 
-  pub trans-in : (x y z : ℕ) → x < count-in m → In y (cycle (column m 1) x) → In z (cycle (column m 1) y) → In z (cycle (column m 1) x)
+  pub trans-in : (x y z : ℕ) → x < n → In y (cycle (column m 1) x) → In z (cycle (column m 1) y) → In z (cycle (column m 1) x)
   unfolding cycle
-  trans-in x y z h k j = let l = site .linked in face-trans (column m 1) (places (count-in m)) (within-places (l .next-within)) (apart-places (l .next-apart)) (few-places (l .few)) x y z (in-places (count-in m) x h) k j
+  trans-in x y z h k j = face-trans (column m 1) (places n) (within-places (l .next-within)) (apart-places (l .next-apart)) (few-places (l .few)) x y z (in-places n x h) k j
 
-  once-in : (x : ℕ) → x < count-in m → distinct (cycle (column m 1) x) ≡ true
+  once-in : (x : ℕ) → x < n → distinct (cycle (column m 1) x) ≡ true
   unfolding cycle
-  once-in x h = let l = site .linked in face-distinct (column m 1) (places (count-in m)) (within-places (l .next-within)) (apart-places (l .next-apart)) (few-places (l .few)) x (in-places (count-in m) x h)
+  once-in x h = face-distinct (column m 1) (places n) (within-places (l .next-within)) (apart-places (l .next-apart)) (few-places (l .few)) x (in-places n x h)
 
   -- its least label stands at one of its darts, and is that of each
-  pub code-there : (x : ℕ) → x < count-in m → (y : ℕ) × In y (cycle (column m 1) x) × (face-code m x ≡ column m 4 y)
+  pub code-there : (x : ℕ) → x < n → (y : ℕ) × In y (cycle (column m 1) x) × (face-code m x ≡ column m 4 y)
   unfolding face-code
   code-there x h = map-in (column m 4) (cycle (column m 1) x) (face-code m x) (least-of (map (column m 4) (cycle (column m 1) x)) (column m 4 x) (in-map (column m 4) x (cycle (column m 1) x) (self-in x h)))
 
@@ -60,7 +61,7 @@ module _ {m : List ℕ} (site : Sited m) where
   unfolding face-code
   code-least x y k = least-below (map (column m 4) (cycle (column m 1) x)) (column m 4 y) (in-map (column m 4) y (cycle (column m 1) x) k)
 
-  pub one-code : (x y : ℕ) → x < count-in m → In y (cycle (column m 1) x) → face-code m y ≡ face-code m x
+  pub one-code : (x y : ℕ) → x < n → In y (cycle (column m 1) x) → face-code m y ≡ face-code m x
   one-code x y h k =
       let hy = stays-in x y h k in
       let a = code-there x h in
@@ -87,9 +88,9 @@ module _ {m : List ℕ} (site : Sited m) (ok : Passed m) where
       let r = round (l .few) (l .next-within) (l .next-apart) x h in
       record {
         some = r .some;
-        below = λ q k. stays-in site x q h k;
+        below = λ q k. stays-in (site .linked) x q h k;
         one-kind = λ q k. one-kind x q h k ∙ sym (ap (column m 3) (cycle-start r));
-        once = once-in site x h;
+        once = once-in (site .linked) x h;
       }
 
   -- the model's least label of a critical face

@@ -90,8 +90,8 @@ module _ {m : List ℕ} (site : Sited m) (ok : Passed m) where
 
     holder : (z : ℕ) × (z < count-in m) × In z (cycle (column m 1) q) × (1 < column m 3 z) × (column m 4 z ≡ code l)
     holder =
-        let w = code-there site q h in
-        (w .0, stays-in site q (w .0) h (w .1), w .1, omega (arith, one-kind site ok q (w .0) h (w .1), kind-q), sym (w .2) ∙ code-q)
+        let w = code-there (site .linked) q h in
+        (w .0, stays-in (site .linked) q (w .0) h (w .1), w .1, omega (arith, one-kind site ok q (w .0) h (w .1), kind-q), sym (w .2) ∙ code-q)
 
   -- THE MODEL'S TEST of a label
   module _ (from : ℕ) (l : Label) (y : ℕ) (h : y < count-in m) (c : 1 < column m 3 y) (e : labelled l (darts-in m) ≡ dart-in m y) where
@@ -117,7 +117,7 @@ module _ {m : List ℕ} (site : Sited m) (ok : Passed m) where
           let z = holder from l (w .0) (w .1) (w .2) in
           let same : z .0 ≡ y = labels-apart m (count-in m) (z .0) y (ok .differ) (z .1) h (z .3) c (z .4 ∙ sym k) in
           let there : In y (cycle (column m 1) (w .0)) = in-eq y (z .0) (cycle (column m 1) (w .0)) (sym same) (z .2) in
-          and-intro (eq-eqb (column m 3 y) (2 + 4 * from) (one-kind site ok (w .0) y (w .1) there ∙ kind-q from l (w .0) (w .1) (w .2))) (eq-eqb (code l) (face-code m y) (sym (one-code site (w .0) y (w .1) there ∙ code-q from l (w .0) (w .1) (w .2)))))
+          and-intro (eq-eqb (column m 3 y) (2 + 4 * from) (one-kind site ok (w .0) y (w .1) there ∙ kind-q from l (w .0) (w .1) (w .2))) (eq-eqb (code l) (face-code m y) (sym (one-code (site .linked) (w .0) y (w .1) there ∙ code-q from l (w .0) (w .1) (w .2)))))
       go (nowhere never e) = test-none (darts-in m) from l e ∙ by-cases (names-at m from (code l)) (λ t. let w = any-tab test (λ q. q) (count-in m) t in let z = holder from l (w .0) (w .1) (w .2) in absurd (never (z .0) (z .1) (z .3) (z .4))) (λ t. sym t)
 
   -- THE FACE THAT A LABEL NAMES: its darts are those of its least label
@@ -131,10 +131,10 @@ module _ {m : List ℕ} (site : Sited m) (ok : Passed m) where
           let kind = eqb-true (column m 3 y) (2 + 4 * from) (and-left (critical-with m from y) (eqb (code l) (face-code m y)) t) in
           let least = eqb-true (code l) (face-code m y) (and-right (critical-with m from y) (eqb (code l) (face-code m y)) t) in
           ap (mem (column m 0 p)) (face-at from l y h c e)
-          ∙ mem-map (column m 0) p (cycle (column m 1) y) (λ z i. serials-apart site p z hp (stays-in site y z h i))
+          ∙ mem-map (column m 0) p (cycle (column m 1) y) (λ z i. serials-apart site p z hp (stays-in (site .linked) y z h i))
           ∙ same-test (mem p (cycle (column m 1) y)) (critical-with m from p && eqb (face-code m p) (code l))
-          (λ i. and-intro (eq-eqb (column m 3 p) (2 + 4 * from) (one-kind site ok y p h i ∙ kind)) (eq-eqb (face-code m p) (code l) (one-code site y p h i ∙ sym least)))
+          (λ i. and-intro (eq-eqb (column m 3 p) (2 + 4 * from) (one-kind site ok y p h i ∙ kind)) (eq-eqb (face-code m p) (code l) (one-code (site .linked) y p h i ∙ sym least)))
           (λ u. let z = holder from l p hp u in
           let same : z .0 ≡ y = labels-apart m (count-in m) (z .0) y (ok .differ) (z .1) h (z .3) c (z .4 ∙ sym k) in
-          sym-in site p y hp (in-eq y (z .0) (cycle (column m 1) p) (sym same) (z .2)))
+          sym-in (site .linked) p y hp (in-eq y (z .0) (cycle (column m 1) p) (sym same) (z .2)))
       go (nowhere never e) = absurd (true≢false (sym named ∙ test-none (darts-in m) from l e))
