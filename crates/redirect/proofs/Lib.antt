@@ -1,3 +1,5 @@
 pub mod Faces
 pub mod Names
 pub mod Lows
+pub mod ReadCodes
+pub mod Hits
