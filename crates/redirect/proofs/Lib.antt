@@ -3,3 +3,4 @@ pub mod Names
 pub mod Lows
 pub mod ReadCodes
 pub mod Hits
+pub mod NewOwner
