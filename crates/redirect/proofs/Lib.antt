@@ -4,3 +4,5 @@ pub mod Lows
 pub mod ReadCodes
 pub mod Hits
 pub mod NewOwner
+pub mod AllLabels
+pub mod Answered
