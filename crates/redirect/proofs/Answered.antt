@@ -133,7 +133,7 @@ module _ (m : List ℕ) (ok : is-image rack m ≡ true) where
                 let site = sited rack m ok in
                 let said = sym (n .said (u .labels) (w .past) (w .labels-in)) ∙ not-false named k in
                 let names : all (names-face (darts-in m) (u .from)) (u .labels) ≡ true = names-all site (image-passed m ok) (u .from) (u .labels)
-                    ∙ ap (λ (a : ℕ). all (names-at m a) (map code (u .labels))) (sym (w .from-is)) ∙ and-left (all (names-at m (o .from)) (map code (u .labels))) (distinct (map code (u .labels))) said in
+                ∙ ap (λ (a : ℕ). all (names-at m a) (map code (u .labels))) (sym (w .from-is)) ∙ and-left (all (names-at m (o .from)) (map code (u .labels))) (distinct (map code (u .labels))) said in
                 let by-labels = rewritten-by (λ p h. index-named (o .from) (map code (u .labels)) (n .ready (not-false named k)) (n .table-is) (n .codes-are (u .labels) (w .past) (w .labels-in)) p h) r in
                 all-yes u (said-yes (here-is u w) yes-here) (right-by u w ∙ and-intro (not-false ends e) said)
                 (memory-now site (image-passed m ok) u names (let a = w .block-is in let b = w .block-small in omega arith) (by-outline u w by-labels) (size))

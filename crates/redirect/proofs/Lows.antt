@@ -33,8 +33,10 @@ module _ {n : ℕ} {f : ℕ → ℕ} {x c k p : ℕ} (wf : Within n f) (r : Roun
   pub lowest-next : Lowest f v x (k + 1) next
   lowest-next =
       let more : k + 1 ≡ suc k = omega arith in
-      record { low-is = lower ∙ ap (min low) read ∙ ap (λ (a : ℕ). min a (v p)) (w .low-is) ∙ sym (least-more (v x) (map v (path f k x)) (v p))
-          ∙ ap (least-from (v x)) (sym (map-append v (path f k x) (p ∷ [])) ∙ ap (map v) (sym (path-next wf r g) ∙ ap (λ (j : ℕ). path f j x) (sym more))) }
+      record {
+        low-is = lower ∙ ap (min low) read ∙ ap (λ (a : ℕ). min a (v p)) (w .low-is) ∙ sym (least-more (v x) (map v (path f k x)) (v p))
+            ∙ ap (least-from (v x)) (sym (map-append v (path f k x) (p ∷ [])) ∙ ap (map v) (sym (path-next wf r g) ∙ ap (λ (j : ℕ). path f j x) (sym more)));
+      }
 
   pub lowest-end : {q : ℕ} → q ≡ f p → q ≡ x → next ≡ least (map v (cycle f x))
   unfolding least

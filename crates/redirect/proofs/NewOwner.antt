@@ -140,7 +140,7 @@ module _ {m m′ : List ℕ} (site : Sited m) (ok : Passed m) (u : Update) (righ
       let e0 = w .head 0 (omega arith) in
       let e1 = w .head 1 (omega arith) in
       let e2 : tab (dart-in m′) (getD m′ 2 0) ≡ map (relink (update-links (darts-in m) u)) (tab (dart-in m) (getD m 2 0)) = ap (tab (dart-in m′)) (w .head 2 (omega arith)) ∙ tab-cong (dart-in m′) (λ p. relink (update-links (darts-in m) u) (dart-in m p)) (getD m 2 0) dart-told
-          ∙ sym (map-tab (relink (update-links (darts-in m) u)) (dart-in m) (getD m 2 0)) in
+      ∙ sym (map-tab (relink (update-links (darts-in m) u)) (dart-in m) (getD m 2 0)) in
       λ i. record { number = e0 i; counter = e1 i; darts = e2 i }
 
   -- what is past the darts stays

@@ -52,7 +52,14 @@ fn all_hit(hits: &[u8], c: usize) -> bool
 }
 
 // Whether each of the first c codes is the least label of a face critical with block `from`.
-pub fn each_named(block: &[u64], n: usize, from: u64, table: &[u64], codes: &[u64], c: usize) -> bool
+pub fn each_named(
+    block: &[u64],
+    n: usize,
+    from: u64,
+    table: &[u64],
+    codes: &[u64],
+    c: usize,
+) -> bool
     requires { ⌜ (n ≤ room) × (length (now block) ≡ words) × (from ≤ 15) × (n ≡ getD (now block) 2 0) ⌝ }
     requires { ⌜ Ready (now table) (now codes) c × FaceCodes (now block) n (now table) ⌝ }
     ensures { λ r. ⌜ r ≡ all (names-at (now (block .entry)) from) (take c (now (codes .entry))) ⌝ }
@@ -63,7 +70,15 @@ pub fn each_named(block: &[u64], n: usize, from: u64, table: &[u64], codes: &[u6
 }
 
 // Sets the kind word of the darts whose face has one of the codes.
-pub fn rewrite(block: &mut [u64], n: usize, from: u64, word: u64, table: &[u64], codes: &[u64], c: usize)
+pub fn rewrite(
+    block: &mut [u64],
+    n: usize,
+    from: u64,
+    word: u64,
+    table: &[u64],
+    codes: &[u64],
+    c: usize,
+)
     requires { ⌜ (n ≤ room) × (length (now block) ≡ words) × (from ≤ 15) × Ready (now table) (now codes) c ⌝ }
     ensures { λ _. ⌜ Rewritten (now (block .entry)) (now (block .exit)) (λ p. ltb (code-index (now (block .entry)) from (now (table .entry)) (now (codes .entry)) c p) c) word n ⌝ }
 {

@@ -1,3 +1,5 @@
+-- `redirect::codes::index_of` meets its contract. The loop's invariant: the index, if there is one, is one of `left` from `low` on.
+-- Assumes nothing.
 use mathlib.Core.Path.{refl}
 use mathlib.Core.Logic.{⊎-elim}
 use lib.ListN.{getD}
@@ -7,8 +9,6 @@ use native.Mathlib.Omega.{arith}
 use borrow.Author.Needs.{needs}
 use Rattle.redirect.proofs.codes.index_of.Statement.{statement}
 use Rattle.redirect.proofs.codes.index_of.Tie as tie
-use Rattle.redirect.proofs.codes.index_of.Reads as reads
-use Rattle.redirect.proofs.codes.index_of.Lts as lts
 
 abbrev Inv-loop : tie.InvT-loop
 Inv-loop codes c x low₀ left₀ low left =
@@ -18,39 +18,31 @@ abbrev μ-loop : tie.MeasureT-loop
 μ-loop codes c x low₀ left₀ low left =
     left
 
--- src/codes.rt:43:9
 returns : tie.Need-returns Inv-loop μ-loop
 returns c =
     none-among (λ k. getD (c .before .args .codes .now) k 0) (c .before .args .c) (c .before .args .x) (c .if1 .taken)
 
--- src/codes.rt:48:5
 loop-holds : tie.Need-loop-holds Inv-loop μ-loop
 loop-holds c =
     halving-start _ _ _ (omega arith)
 
--- src/codes.rt:50:19
 add-mid : tie.Need-add-mid Inv-loop μ-loop
 add-mid c = search needs
 
--- src/codes.rt:51:12
 mul-if2 : tie.Need-mul-if2 Inv-loop μ-loop
 mul-if2 c =
     omega (arith, c .before .loop .inv .fits, c .loop-test .taken, c .before .before .before .pre .0)
 
--- src/codes.rt:51:12
 shared-slice-read-if2 : tie.Need-shared-slice-read-if2 Inv-loop μ-loop
 shared-slice-read-if2 c =
     omega (arith, c .before .before .loop .inv .fits, c .before .loop-test .taken, c .before .before .before .before .pre .0, c .before .before .before .before .pre .1)
 
--- src/codes.rt:54:9
 sub-left : tie.Need-sub-left Inv-loop μ-loop
 sub-left c = search needs
 
--- src/codes.rt:48:5
 loop-less : tie.Need-loop-less Inv-loop μ-loop
 loop-less c = search needs
 
--- src/codes.rt:48:5
 loop-again : tie.Need-loop-again Inv-loop μ-loop
 loop-again c =
     ⊎-elim
@@ -58,22 +50,18 @@ loop-again c =
     (λ w. rw (w .1) (halving-down (c .before .before .before .before .before .pre .2) (c .before .before .before .loop .inv) (c .before .before .loop-test .taken) refl (omega (arith, w .0 .left))))
     (c .if2 .came)
 
--- src/codes.rt:56:8
 mul-if3 : tie.Need-mul-if3 Inv-loop μ-loop
 mul-if3 c =
     omega (arith, c .before .loop .inv .fits, c .before .loop .inv .some-left, c .before .before .before .pre .0)
 
--- src/codes.rt:56:8
 shared-slice-read-if3 : tie.Need-shared-slice-read-if3 Inv-loop μ-loop
 shared-slice-read-if3 c =
     omega (arith, c .before .before .loop .inv .fits, c .before .before .loop .inv .some-left, c .before .before .before .before .pre .0, c .before .before .before .before .pre .1)
 
--- src/codes.rt:57:9
 returns-2 : tie.Need-returns-2 Inv-loop μ-loop
 returns-2 c =
     halved (c .before .before .before .before .before .pre .2) (c .before .before .before .loop .inv) (omega (arith, c .before .before .loop-test .left)) refl (c .if3 .taken)
 
--- src/codes.rt:38:1
 returns-3 : tie.Need-returns-3 Inv-loop μ-loop
 returns-3 c =
     halved-none (c .before .before .before .loop .inv) (omega (arith, c .before .before .loop-test .left)) refl (c .if3 .left)

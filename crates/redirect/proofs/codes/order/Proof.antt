@@ -1,3 +1,5 @@
+-- `redirect::codes::order` meets its contract: the first c codes are lent to `sort::distinct`.
+-- Assumes nothing.
 use lib.Seq.{length-take-le}
 use mathlib.Core.Path.{sym, _∙_}
 use Rattle.redirect.proofs.ReadCodes.{sorted-front}
@@ -5,44 +7,33 @@ use native.Mathlib.Omega.{arith}
 use borrow.Author.Needs.{needs}
 use Rattle.redirect.proofs.codes.order.Statement.{statement}
 use Rattle.redirect.proofs.codes.order.Tie as tie
-use Rattle.redirect.proofs.codes.order.Reads as reads
-use Rattle.redirect.proofs.codes.order.Lts as lts
-use Rattle.sort.proofs.distinct.Reads as distinct-reads
 
--- src/codes.rt:34:20
 slice-relend-prefix-distinct : tie.Need-slice-relend-prefix-distinct
 slice-relend-prefix-distinct c = search needs
 
--- src/codes.rt:34:20
 slice-aggregate-distinct : tie.Need-slice-aggregate-distinct
 slice-aggregate-distinct c =
     sym (length-take-le _ _ (omega arith))
 
--- src/codes.rt:34:37
 slice-relend-prefix-distinct-2 : tie.Need-slice-relend-prefix-distinct-2
 slice-relend-prefix-distinct-2 c = search needs
 
--- src/codes.rt:34:37
 slice-aggregate-distinct-2 : tie.Need-slice-aggregate-distinct-2
 slice-aggregate-distinct-2 c =
     sym (length-take-le _ _ (omega arith))
 
--- src/codes.rt:34:5
 distinct-requires : tie.Need-distinct-requires
 distinct-requires c κs =
     let a = length-take-le (c .before .before .before .before .args .c) (c .before .before .before .before .args .codes .now) (omega arith) in
     let b = length-take-le (c .before .before .before .before .args .c) (c .before .before .before .before .args .scratch .now) (omega arith) in
     b ∙ sym a
 
--- src/codes.rt:30:1
 same-length : tie.Need-same-length
 same-length c = search needs
 
--- src/codes.rt:30:1
 same-length-2 : tie.Need-same-length-2
 same-length-2 c = search needs
 
--- src/codes.rt:30:1
 returns : tie.Need-returns
 returns c =
     (c .before .before .before .before .distinct .ensures .0, sorted-front (c .before .before .before .before .before .before .before .before .before .args .codes .now) (c .before .before .before .before .before .before .before .before .before .args .c) (omega (arith, c .before .before .before .before .before .before .before .before .before .pre)) (c .before .before .before .before .distinct .ensures .1), search needs)

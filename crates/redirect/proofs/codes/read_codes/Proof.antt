@@ -1,3 +1,5 @@
+-- `redirect::codes::read_codes` meets its contract. The loop's invariant: the codes below i are those of the labels passed.
+-- The measure is what is left of the labels. Assumes nothing.
 use Prim.Native.Nat.{_-_}
 use mathlib.Core.Path.{sym, _∙_}
 use Rattle.redirect.proofs.ReadCodes.{Reading, reading-start, reading-more, reading-bad, reading-end}
@@ -5,9 +7,6 @@ use native.Mathlib.Omega.{arith}
 use borrow.Author.Needs.{needs}
 use Rattle.redirect.proofs.codes.read_codes.Statement.{statement}
 use Rattle.redirect.proofs.codes.read_codes.Tie as tie
-use Rattle.redirect.proofs.codes.read_codes.Reads as reads
-use Rattle.redirect.proofs.codes.read_codes.Lts as lts
-use Rattle.groups.proofs.read_label.Reads as read-label-reads
 
 abbrev Inv-loop : tie.InvT-loop
 Inv-loop s at count codes₀ i₀ p₀ codes i p =
@@ -17,64 +16,51 @@ abbrev μ-loop : tie.MeasureT-loop
 μ-loop s at count codes₀ i₀ p₀ codes i p =
     count - i
 
--- src/codes.rt:19:5
 loop-holds : tie.Need-loop-holds Inv-loop μ-loop
 loop-holds c =
     reading-start _ _ _ (c .before .before .pre .0) (c .before .before .pre .2)
 
--- src/codes.rt:20:39
 read-label-requires : tie.Need-read-label-requires Inv-loop μ-loop
 read-label-requires c κs = search needs
 
--- src/codes.rt:20:25
 enum-known-code : tie.Need-enum-known-code Inv-loop μ-loop
 enum-known-code c = search needs
 
--- src/codes.rt:21:13
 enum-told : tie.Need-enum-told Inv-loop μ-loop
 enum-told c = search needs
 
--- src/codes.rt:21:13
 same-length : tie.Need-same-length Inv-loop μ-loop
 same-length c =
     c .before .before .before .before .loop .inv .size ∙ sym (c .before .before .before .before .before .before .before .pre .2)
 
--- src/codes.rt:21:13
 returns : tie.Need-returns Inv-loop μ-loop
 returns c =
     reading-bad (c .before .before .before .before .loop .inv) (c .before .before .before .loop-test .taken) (sym (c .enum-told .given .1) ∙ c .before .before .read-label .ensures)
 
--- src/codes.rt:23:9
 mul-codes : tie.Need-mul-codes Inv-loop μ-loop
 mul-codes c =
     omega (arith, c .before .before .before .before .loop-test .taken, c .before .before .before .before .before .before .before .before .pre .1)
 
--- src/codes.rt:23:9
 slice-write-codes : tie.Need-slice-write-codes Inv-loop μ-loop
 slice-write-codes c =
     omega (arith, c .before .before .before .before .loop-test .taken, c .before .before .before .before .before .before .before .before .pre .1, c .before .before .before .before .before .loop .inv .size)
 
--- src/codes.rt:25:9
 add-i : tie.Need-add-i Inv-loop μ-loop
 add-i c =
     omega (arith, c .before .before .before .before .loop-test .taken, c .before .before .before .before .before .before .before .before .pre .1)
 
--- src/codes.rt:19:5
 loop-less : tie.Need-loop-less Inv-loop μ-loop
 loop-less c =
     omega (arith, c .before .before .before .before .loop-test .taken)
 
--- src/codes.rt:19:5
 loop-again : tie.Need-loop-again Inv-loop μ-loop
 loop-again c =
     reading-more (c .before .before .before .before .before .loop .inv) (c .before .before .before .before .loop-test .taken) (c .before .before .before .before .before .before .before .before .pre .1) (sym (c .before .code .given .1) ∙ c .before .before .before .read-label .ensures)
 
--- src/codes.rt:12:1
 same-length-2 : tie.Need-same-length-2 Inv-loop μ-loop
 same-length-2 c =
     c .before .loop .inv .size ∙ sym (c .before .before .before .before .pre .2)
 
--- src/codes.rt:12:1
 returns-2 : tie.Need-returns-2 Inv-loop μ-loop
 returns-2 c =
     reading-end (c .before .loop .inv) (c .loop-test .left)

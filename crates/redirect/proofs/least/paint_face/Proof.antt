@@ -1,3 +1,5 @@
+-- `redirect::least::paint_face` meets its contract. The loop's invariant: the darts before p have the code.
+-- The measure is what is left of the face. Assumes nothing.
 use Prim.Native.Nat.{_-_}
 use lib.ListN.{length, length-set}
 use Rattle.model.specs.Cells.{cycle}
@@ -6,12 +8,8 @@ use Rattle.laws.proofs.Orbits.{path}
 use Rattle.cells.specs.Places.{Painted}
 use Rattle.cells.proofs.Paths.{Going, round, going-start, going-next, paint-none, paint-next, paint-last}
 use native.Mathlib.Omega.{arith}
-use borrow.Author.Needs.{needs}
 use Rattle.redirect.proofs.least.paint_face.Statement.{statement}
 use Rattle.redirect.proofs.least.paint_face.Tie as tie
-use Rattle.redirect.proofs.least.paint_face.Reads as reads
-use Rattle.redirect.proofs.least.paint_face.Lts as lts
-use Rattle.cells.proofs.walk.field.Reads as field-reads
 
 abbrev Inv-loop : tie.InvT-loop
 Inv-loop block n start code table₀ steps₀ p₀ table steps p =
@@ -21,50 +19,41 @@ abbrev μ-loop : tie.MeasureT-loop
 μ-loop block n start code table₀ steps₀ p₀ table steps p =
     length (cycle (column block 1) start) - steps
 
--- src/least.rt:47:5
 loop-holds : tie.Need-loop-holds Inv-loop μ-loop
 loop-holds c =
     let l = c .before .before .pre .0 in
     (going-start (round (l .few) (l .next-within) (l .next-apart) _ (c .before .before .pre .1)) (c .before .before .pre .1), paint-none _ _)
 
--- src/least.rt:48:9
 mul-table : tie.Need-mul-table Inv-loop μ-loop
 mul-table c =
     omega (arith, c .loop .inv .0 .below, c .before .before .before .pre .0 .few)
 
--- src/least.rt:48:9
 slice-write-table : tie.Need-slice-write-table Inv-loop μ-loop
 slice-write-table c =
     omega (arith, c .loop .inv .0 .below, c .before .before .before .pre .0 .few, c .loop .inv .1 .size, c .before .before .before .pre .2)
 
--- src/least.rt:49:9
 add-steps : tie.Need-add-steps Inv-loop μ-loop
 add-steps c =
     let l = c .before .before .before .pre .0 in
     omega (arith, c .loop .inv .0 .less, round (l .few) (l .next-within) (l .next-apart) (c .before .before .before .args .start) (c .before .before .before .pre .1) .few)
 
--- src/least.rt:50:13
 field-requires : tie.Need-field-requires Inv-loop μ-loop
 field-requires c κs =
     (omega (arith, c .loop .inv .0 .below, c .before .before .before .pre .0 .few), omega arith, c .before .before .before .pre .0 .size)
 
--- src/least.rt:52:13
 same-length : tie.Need-same-length Inv-loop μ-loop
 same-length c =
     simp length-set (c .before .before .loop .inv .1 .size)
 
--- src/least.rt:52:13
 returns : tie.Need-returns Inv-loop μ-loop
 returns c =
     let l = c .before .before .before .before .before .pre .0 in
     paint-last (l .next-within) (round (l .few) (l .next-within) (l .next-apart) _ (c .before .before .before .before .before .pre .1)) (c .before .before .loop .inv .0) (c .before .before .loop .inv .1) (omega (arith, c .before .before .loop .inv .0 .below, c .before .before .before .before .before .pre .0 .few, c .before .before .before .before .before .pre .2)) (c .before .field .ensures) (c .if1 .taken)
 
--- src/least.rt:47:5
 loop-less : tie.Need-loop-less Inv-loop μ-loop
 loop-less c =
     omega (arith, c .before .before .loop .inv .0 .less)
 
--- src/least.rt:47:5
 loop-again : tie.Need-loop-again Inv-loop μ-loop
 loop-again c =
     let l = c .before .before .before .before .before .pre .0 in

@@ -1,3 +1,5 @@
+-- `redirect::named::all_hit` meets its contract. The loop's invariant: `ok` says whether those below k are marked.
+-- The measure is what is left of them. Assumes nothing.
 use Prim.Native.Nat.{_-_, _≤_}
 use mathlib.Core.Path.{_≡_, refl, ap, _∙_}
 use lib.Dec.{eqb}
@@ -6,11 +8,8 @@ use Rattle.columns.specs.Columns.{all-below}
 use Rattle.columns.proofs.Below.{below-none, below-step}
 use Rattle.redirect.proofs.Hits.{all-below-end}
 use native.Mathlib.Omega.{arith}
-use borrow.Author.Needs.{needs}
 use Rattle.redirect.proofs.named.all_hit.Statement.{statement}
 use Rattle.redirect.proofs.named.all_hit.Tie as tie
-use Rattle.redirect.proofs.named.all_hit.Reads as reads
-use Rattle.redirect.proofs.named.all_hit.Lts as lts
 
 abbrev Inv-loop : tie.InvT-loop
 Inv-loop hits c ok₀ k₀ ok k =
@@ -20,32 +19,26 @@ abbrev μ-loop : tie.MeasureT-loop
 μ-loop hits c ok₀ k₀ ok k =
     c - k
 
--- src/named.rt:47:5
 loop-holds : tie.Need-loop-holds Inv-loop μ-loop
 loop-holds c =
     (omega arith, below-none (λ j. eqb (getD (c .args .hits .now) j 0) 1))
 
--- src/named.rt:48:20
 shared-slice-read-ok : tie.Need-shared-slice-read-ok Inv-loop μ-loop
 shared-slice-read-ok c =
     omega (arith, c .before .loop-test .taken, c .before .before .before .pre)
 
--- src/named.rt:49:9
 add-k : tie.Need-add-k Inv-loop μ-loop
 add-k c =
     omega (arith, c .before .loop-test .taken)
 
--- src/named.rt:47:5
 loop-less : tie.Need-loop-less Inv-loop μ-loop
 loop-less c =
     omega (arith, c .before .loop-test .taken)
 
--- src/named.rt:47:5
 loop-again : tie.Need-loop-again Inv-loop μ-loop
 loop-again c =
     (omega (arith, c .before .loop-test .taken), below-step (λ j. eqb (getD (c .before .before .before .args .hits .now) j 0) 1) (c .before .before .loop .k) (c .before .before .loop .inv .1) refl)
 
--- src/named.rt:40:1
 returns : tie.Need-returns Inv-loop μ-loop
 returns c =
     all-below-end (λ j. eqb (getD (c .before .before .args .hits .now) j 0) 1) (c .before .loop .inv .0) (c .loop-test .left) (c .before .loop .inv .1)

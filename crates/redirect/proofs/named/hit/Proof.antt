@@ -1,3 +1,5 @@
+-- `redirect::named::hit` meets its contract. The loop's invariant: the indices at the places below p are marked.
+-- The measure is what is left of the places. Assumes nothing.
 use Prim.Native.Nat.{ℕ, _-_, _≤_}
 use mathlib.Core.Path.{_∙_, sym, ap}
 use lib.ListN.{length, length-replicate}
@@ -7,9 +9,6 @@ use native.Mathlib.Omega.{arith}
 use borrow.Author.Needs.{needs}
 use Rattle.redirect.proofs.named.hit.Statement.{statement}
 use Rattle.redirect.proofs.named.hit.Tie as tie
-use Rattle.redirect.proofs.named.hit.Reads as reads
-use Rattle.redirect.proofs.named.hit.Lts as lts
-use Rattle.redirect.proofs.named.index_at.Reads as index-at-reads
 
 abbrev Inv-loop : tie.InvT-loop
 Inv-loop block n from table codes c hits₀ p₀ hits p =
@@ -19,41 +18,33 @@ abbrev μ-loop : tie.MeasureT-loop
 μ-loop block n from table codes c hits₀ p₀ hits p =
     n - p
 
--- src/named.rt:32:5
 loop-holds : tie.Need-loop-holds Inv-loop μ-loop
 loop-holds c =
     (omega arith, hits-start _ _ (c .before .before .before .before .pre .4))
 
--- src/named.rt:33:13
 index-at-requires : tie.Need-index-at-requires Inv-loop μ-loop
 index-at-requires c κs =
     (omega (arith, c .loop-test .taken, c .before .before .before .before .before .before .pre .0), c .before .before .before .before .before .before .pre .1, c .before .before .before .before .before .before .pre .2, c .before .before .before .before .before .before .pre .3)
 
--- src/named.rt:34:9
 slice-write-hits : tie.Need-slice-write-hits Inv-loop μ-loop
 slice-write-hits c =
     omega (arith, c .index-at .ensures .1, c .before .before .before .before .before .before .before .pre .3 .few, c .before .before .loop .inv .1 .size)
 
--- src/named.rt:35:9
 add-p : tie.Need-add-p Inv-loop μ-loop
 add-p c = search needs
 
--- src/named.rt:32:5
 loop-less : tie.Need-loop-less Inv-loop μ-loop
 loop-less c =
     omega (arith, c .before .loop-test .taken)
 
--- src/named.rt:32:5
 loop-again : tie.Need-loop-again Inv-loop μ-loop
 loop-again c =
     (omega (arith, c .before .loop-test .taken), hits-more (c .before .before .loop .inv .1) (c .index-at .ensures .0) (omega (arith, c .index-at .ensures .1, c .before .before .before .before .before .before .before .pre .3 .few)))
 
--- src/named.rt:26:1
 same-length : tie.Need-same-length Inv-loop μ-loop
 same-length c =
     c .before .loop .inv .1 .size ∙ sym (ap length (c .before .before .before .before .before .before .pre .4) ∙ length-replicate {A = ℕ} 4097 0)
 
--- src/named.rt:26:1
 returns : tie.Need-returns Inv-loop μ-loop
 returns c =
     hits-end (c .before .loop .inv .0) (c .loop-test .left) (c .before .loop .inv .1)

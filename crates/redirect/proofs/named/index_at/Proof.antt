@@ -1,44 +1,33 @@
+-- `redirect::named::index_at` meets its contract: the face is not critical with the block, or its code is searched for.
+-- Assumes nothing.
 use Rattle.redirect.proofs.Hits.{index-away, index-there}
-use native.Mathlib.Omega.{arith}
 use borrow.Author.Needs.{needs}
 use Rattle.redirect.proofs.named.index_at.Statement.{statement}
 use Rattle.redirect.proofs.named.index_at.Tie as tie
-use Rattle.redirect.proofs.named.index_at.Reads as reads
-use Rattle.redirect.proofs.named.index_at.Lts as lts
-use Rattle.memory.proofs.record.field.Reads as field-reads
-use Rattle.redirect.proofs.codes.index_of.Reads as index-of-reads
 
--- src/named.rt:18:8
 field-requires : tie.Need-field-requires
 field-requires c κs = search needs
 
--- src/named.rt:18:49
 mul-if1 : tie.Need-mul-if1
 mul-if1 c = search needs
 
--- src/named.rt:18:45
 add-if1 : tie.Need-add-if1
 add-if1 c = search needs
 
--- src/named.rt:19:9
 returns : tie.Need-returns
 returns c =
     index-away (c .before .before .before .before .before .args .block .now) (c .before .before .before .before .before .args .from) (c .before .before .before .before .before .args .table .now) (c .before .before .before .before .before .args .codes .now) (c .before .before .before .before .before .args .c) (c .before .before .before .before .before .args .p) (c .before .field .ensures) (c .if1 .taken)
 
--- src/named.rt:21:13
 mul-x : tie.Need-mul-x
 mul-x c = search needs
 
--- src/named.rt:21:13
 shared-slice-read-x : tie.Need-shared-slice-read-x
 shared-slice-read-x c = search needs
 
--- src/named.rt:22:5
 index-of-requires : tie.Need-index-of-requires
 index-of-requires c κs =
     (c .before .before .before .before .before .before .pre .3 .few, c .before .before .before .before .before .before .pre .3 .codes-size, c .before .before .before .before .before .before .pre .3 .ascends)
 
--- src/named.rt:14:1
 returns-2 : tie.Need-returns-2
 returns-2 c =
     index-there (c .before .before .before .before .before .before .before .args .block .now) (c .before .before .before .before .before .before .before .args .from) (c .before .before .before .before .before .before .before .args .table .now) (c .before .before .before .before .before .before .before .args .codes .now) (c .before .before .before .before .before .before .before .args .c) (c .before .before .before .before .before .before .before .args .p) (c .before .before .before .field .ensures) (c .before .before .if1 .left) (c .index-of .ensures)

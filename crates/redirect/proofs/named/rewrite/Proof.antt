@@ -1,3 +1,5 @@
+-- `redirect::named::rewrite` meets its contract. The loop's invariant: the words at the places below p are set.
+-- The measure is what is left of the places. Assumes nothing.
 use Prim.Native.Nat.{ℕ, _-_, _≤_}
 use mathlib.Core.Path.{_∙_, sym, ap}
 use lib.Dec.{ltb}
@@ -8,10 +10,6 @@ use native.Mathlib.Omega.{arith}
 use borrow.Author.Needs.{needs}
 use Rattle.redirect.proofs.named.rewrite.Statement.{statement}
 use Rattle.redirect.proofs.named.rewrite.Tie as tie
-use Rattle.redirect.proofs.named.rewrite.Reads as reads
-use Rattle.redirect.proofs.named.rewrite.Lts as lts
-use Rattle.memory.proofs.record.put_field.Reads as put-field-reads
-use Rattle.redirect.proofs.named.index_at.Reads as index-at-reads
 
 abbrev Inv-loop : tie.InvT-loop
 Inv-loop block₀ n from word table codes c p₀ block p =
@@ -21,55 +19,44 @@ abbrev μ-loop : tie.MeasureT-loop
 μ-loop block₀ n from word table codes c p₀ block p =
     n - p
 
--- src/named.rt:72:5
 loop-holds : tie.Need-loop-holds Inv-loop μ-loop
 loop-holds c =
     (omega arith, rewritten-start _ _ _)
 
--- src/named.rt:73:13
 index-at-requires : tie.Need-index-at-requires Inv-loop μ-loop
 index-at-requires c κs =
     (omega (arith, c .before .loop-test .taken, c .before .before .before .before .before .before .pre .0), c .before .before .loop .inv .1 .size ∙ c .before .before .before .before .before .before .pre .1, c .before .before .before .before .before .before .pre .2, c .before .before .before .before .before .before .pre .3)
 
--- src/named.rt:75:13
 add-p : tie.Need-add-p Inv-loop μ-loop
 add-p c = search needs
 
--- src/named.rt:72:5
 loop-less : tie.Need-loop-less Inv-loop μ-loop
 loop-less c =
     omega (arith, c .before .before .before .loop-test .taken)
 
--- src/named.rt:72:5
 loop-again : tie.Need-loop-again Inv-loop μ-loop
 loop-again c =
     (omega (arith, c .before .before .before .loop-test .taken), rewriting-skip _ _ _ _ (c .before .before .before .before .loop .inv .1) (c .before .index-at .ensures .0) (c .if1 .taken))
 
--- src/named.rt:78:9
 put-field-requires : tie.Need-put-field-requires Inv-loop μ-loop
 put-field-requires c κs =
     (omega (arith, c .before .before .before .before .loop-test .taken, c .before .before .before .before .before .before .before .before .before .pre .0), omega arith, c .before .before .before .before .before .loop .inv .1 .size ∙ c .before .before .before .before .before .before .before .before .before .pre .1)
 
--- src/named.rt:79:9
 add-p-2 : tie.Need-add-p-2 Inv-loop μ-loop
 add-p-2 c = search needs
 
--- src/named.rt:72:5
 loop-less-2 : tie.Need-loop-less-2 Inv-loop μ-loop
 loop-less-2 c =
     omega (arith, c .before .before .before .before .before .before .before .loop-test .taken)
 
--- src/named.rt:72:5
 loop-again-2 : tie.Need-loop-again-2 Inv-loop μ-loop
 loop-again-2 c =
     (omega (arith, c .before .before .before .before .before .before .before .loop-test .taken), rewriting-set _ _ _ _ (c .before .before .before .before .before .before .before .before .loop .inv .1) (c .before .before .before .before .before .index-at .ensures .0) (c .before .before .before .before .before .index-at .ensures .1) (c .before .before .before .before .if1 .left) (omega (arith, c .before .before .before .before .before .before .before .loop-test .taken, c .before .before .before .before .before .before .before .before .before .before .before .before .pre .0, c .before .before .before .before .before .before .before .before .before .before .before .before .pre .1)) (c .before .before .put-field .ensures))
 
--- src/named.rt:66:1
 same-length : tie.Need-same-length Inv-loop μ-loop
 same-length c =
     c .before .loop .inv .1 .size
 
--- src/named.rt:66:1
 returns : tie.Need-returns Inv-loop μ-loop
 returns c =
     rewritten-end (c .before .loop .inv .0) (c .loop-test .left) (c .before .loop .inv .1)
