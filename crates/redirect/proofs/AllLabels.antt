@@ -1,21 +1,21 @@
 -- All labels of an update: each names a face of its own, and the darts of these faces by the index of their codes. Assumes nothing.
 use mathlib.Core.Path.{_≡_, refl, sym, _∙_, ap}
-use mathlib.Core.Bool.{Bool, true, false, true≢false, cond, _&&_, _||_}
+use mathlib.Core.Bool.{Bool, true, false, true≢false, _&&_, _||_}
 use mathlib.Core.List.{List, [], _∷_, map}
-use mathlib.Core.Option.{none, some}
-use Prim.Native.Nat.{ℕ, zero, suc, _+_, _*_, _≤_, _<_, _^_}
+use mathlib.Core.Option.{some}
+use Prim.Native.Nat.{ℕ, zero, suc, _≤_, _<_}
 use native.Mathlib.Omega.{arith}
 use lib.Dec.{ltb, eqb}
 use lib.ListN.{length, getD, take, drop, length-map}
-use borrow.Author.Tests.{eqb-true, lt-ltb, le-ltb, ltb-true, ltb-false, not-true, not-false}
+use borrow.Author.Tests.{eqb-true, lt-ltb, le-ltb, ltb-true, ltb-false}
 use Rattle.model.specs.Lists.{all, any, mem, distinct, ascending, insert, sorted, tab, index-of}
 use Rattle.model.specs.Values.{Label, code}
 use Rattle.model.specs.Image.{room, column}
-use Rattle.model.specs.Layouts.{Layout, Read, then, times, get-all}
+use Rattle.model.specs.Layouts.{Layout, times, get-all}
 use Rattle.model.specs.Messages.{label}
 use Rattle.model.specs.Arrival.{names-face}
 use Rattle.laws.proofs.Tests.{by-cases, and-left, and-right}
-use Rattle.laws.proofs.Members.{In, in-here, in-there, in-map, all-in, pigeonhole}
+use Rattle.laws.proofs.Members.{In, in-map, all-in, pigeonhole}
 use Rattle.laws.proofs.Tables.{length-tab, any-tab}
 use Rattle.groups.proofs.Ends.{then-some}
 use Rattle.groups.proofs.Labels.{same-value}
@@ -25,7 +25,7 @@ use Rattle.columns.proofs.Question.{Passed}
 use Rattle.cells.specs.Places.{Linked}
 use Rattle.cells.proofs.Reached.{places, in-places}
 use Rattle.cells.proofs.FaceLaws.{getD-in, distinct-at}
-use Rattle.cells.proofs.Sited.{Sited, darts-in, count-in}
+use Rattle.cells.proofs.Sited.{Sited, darts-in}
 use Rattle.departure.specs.ByPlaces.{critical-with}
 use Rattle.inbox.specs.Inbox.{Took}
 use Rattle.redirect.specs.ByPlaces.{face-code, names-at, named-at, FaceCodes, CodesRead, Ready, code-index, AllNamed, Rewritten}

@@ -2,7 +2,7 @@
 use mathlib.Core.Path.{_≡_, refl, sym, _∙_, ap, subst}
 use mathlib.Core.Bool.{Bool, true, false, not, _&&_}
 use mathlib.Core.List.{List, map}
-use Prim.Native.Nat.{ℕ, _+_, _*_, _≤_, _<_}
+use Prim.Native.Nat.{ℕ, _+_, _*_, _<_}
 use native.Mathlib.Omega.{arith}
 use lib.Dec.{ltb, eqb}
 use lib.ListN.{length, getD}
@@ -17,8 +17,8 @@ use Rattle.laws.proofs.Tests.{and-intro, and-left}
 use Rattle.answers.specs.Answers.{Gives}
 use Rattle.answers.proofs.Questions.{Asks, gives, ask-no, ask-yes, ask-end, said-no, said-yes}
 use Rattle.columns.proofs.Below.{and-no}
-use Rattle.columns.proofs.Question.{Passed, image-passed}
-use Rattle.cells.proofs.Sited.{Sited, sited, darts-in, count-in}
+use Rattle.columns.proofs.Question.{image-passed}
+use Rattle.cells.proofs.Sited.{sited, darts-in}
 use Rattle.inbox.specs.declared.message.Update.{Update as UpdateOutline}
 use Rattle.inbox.specs.declared.received.Received.{Received}
 use Rattle.inbox.specs.declared.received.Received.the-variants as received

@@ -1,6 +1,6 @@
 -- The faces of a block's memory by places: one kind and one least label each. Assumes nothing.
 use mathlib.Core.Path.{_≡_, refl, sym, _∙_, ap}
-use mathlib.Core.Bool.{Bool, true, true≢false}
+use mathlib.Core.Bool.{true, true≢false}
 use mathlib.Core.List.{List, [], _∷_, map}
 use Prim.Native.Nat.{ℕ, _≤_, _<_}
 use native.Mathlib.Omega.{arith}
@@ -9,9 +9,9 @@ use borrow.Author.Tests.{eqb-true}
 use Rattle.model.specs.Lists.{least, distinct}
 use Rattle.model.specs.Values.{code}
 use Rattle.model.specs.Cells.{cycle, next-in, least-label}
-use Rattle.model.specs.Image.{column, label-in}
+use Rattle.model.specs.Image.{column}
 use Rattle.laws.proofs.Tests.{and-left}
-use Rattle.laws.proofs.Members.{In, in-eq, in-map, map-in, map-map, map-cong, least-in, least-below}
+use Rattle.laws.proofs.Members.{In, in-map, map-in, map-map, map-cong, least-in, least-below}
 use Rattle.laws.proofs.Faces.{face-self, face-stays, face-sym, face-trans, along-face, face-distinct}
 use Rattle.memory.proofs.Labels.{code-label}
 use Rattle.columns.specs.Columns.{third-test}

@@ -2,23 +2,23 @@
 use mathlib.Core.Path.{_≡_, refl, sym, _∙_, ap}
 use mathlib.Core.Bool.{Bool, true, false, cond, _&&_, _||_}
 use mathlib.Core.List.{List, [], _∷_, _++_, map}
-use mathlib.Core.Option.{Option, none, some}
+use mathlib.Core.Option.{none, some}
 use Prim.Native.Nat.{ℕ, zero, suc, _+_, _*_, _-_, _/_, _%_, _≤_, _<_}
 use native.Mathlib.Omega.{arith}
-use lib.Dec.{ltb, eqb}
+use lib.Dec.{eqb}
 use lib.ListN.{length, getD}
-use borrow.Author.Tests.{eqb-true, eq-eqb, lt-ltb, le-ltb}
+use borrow.Author.Tests.{eqb-true, lt-ltb, le-ltb}
 use Rattle.model.specs.Lists.{all, any, mem, find, tab, concat-map}
 use Rattle.model.specs.Values.{Label, Third, Dart, code, with-other, with-third}
 use Rattle.model.specs.Cells.{third-at}
-use Rattle.model.specs.Image.{words, image, column, label-in, third-in, dart-in, block-in}
+use Rattle.model.specs.Image.{words, image, column, third-in, dart-in, block-in}
 use Rattle.model.specs.Departure.{Link, third-or, relink}
 use Rattle.model.specs.Messages.{Update}
 use Rattle.model.specs.Arrival.{face-with, names-face, update-links, redirected}
 use Rattle.laws.proofs.Tests.{by-cases, and-left, and-right}
 use Rattle.laws.proofs.Members.{any-map}
 use Rattle.laws.proofs.Tables.{tab-cong, map-tab}
-use Rattle.columns.specs.Columns.{before, Kind, kind-free, kind-sewn, kind-critical, Ranged, Places, SewnPlaces, count}
+use Rattle.columns.specs.Columns.{before, Kind, kind-free, kind-sewn, kind-critical, Ranged, SewnPlaces}
 use Rattle.columns.proofs.Thirds.{third-critical}
 use Rattle.columns.proofs.Images.{image-back}
 use Rattle.columns.proofs.Question.{Passed}

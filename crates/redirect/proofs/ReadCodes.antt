@@ -11,7 +11,7 @@ use lib.Seq.{take-suc-set, take-at, length-take-le, getD-take}
 use Rattle.laws.specs.Order.{Ascending}
 use Rattle.laws.proofs.Members.{map-append}
 use Rattle.laws.proofs.Tables.{ascending-tab, index-place, index-none}
-use Rattle.model.specs.Lists.{ascending, distinct, sorted, tab, index-of}
+use Rattle.model.specs.Lists.{ascending, sorted, tab, index-of}
 use Rattle.model.specs.Values.{Label, code}
 use Rattle.model.specs.Image.{room, label-in}
 use Rattle.model.specs.Layouts.{times}
@@ -23,7 +23,6 @@ use Rattle.groups.proofs.Labels.{same-value}
 use Rattle.memory.proofs.Labels.{code-label}
 use Rattle.memory.proofs.Lookups.{Halving}
 use Rattle.sort.proofs.Order.{same-length, sorted-keys}
-use Rattle.inbox.specs.Inbox.{Took}
 use Rattle.inbox.proofs.Taking.{SoFar, so-far-start, so-far-more, so-far-stop, so-far-end}
 use Rattle.inbox.proofs.Passing.{no-label, took-label}
 use Rattle.redirect.specs.ByPlaces.{CodesRead}

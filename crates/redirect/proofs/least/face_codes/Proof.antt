@@ -1,8 +1,7 @@
 -- `redirect::least::face_codes` meets its contract. The loop's invariant: faces with a dart below p have their codes.
 -- The measure is what is left of the places. Assumes nothing.
-use Prim.Native.Nat.{_-_}
 use mathlib.Core.Path.{_∙_, sym, ap}
-use Prim.Native.Nat.{ℕ, _^_}
+use Prim.Native.Nat.{ℕ, _-_, _^_}
 use lib.ListN.{length, length-replicate}
 use Rattle.model.specs.Image.{room}
 use Rattle.redirect.proofs.Lows.{Coding, coding-start, coding-skip, coding-face, coding-end}

@@ -1,7 +1,7 @@
 -- `redirect::named::all_hit` meets its contract. The loop's invariant: `ok` says whether those below k are marked.
 -- The measure is what is left of them. Assumes nothing.
 use Prim.Native.Nat.{_-_, _≤_}
-use mathlib.Core.Path.{_≡_, refl, ap, _∙_}
+use mathlib.Core.Path.{_≡_, refl}
 use lib.Dec.{eqb}
 use lib.ListN.{getD}
 use Rattle.columns.specs.Columns.{all-below}

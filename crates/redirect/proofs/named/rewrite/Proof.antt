@@ -1,9 +1,8 @@
 -- `redirect::named::rewrite` meets its contract. The loop's invariant: the words at the places below p are set.
 -- The measure is what is left of the places. Assumes nothing.
-use Prim.Native.Nat.{ℕ, _-_, _≤_}
-use mathlib.Core.Path.{_∙_, sym, ap}
+use Prim.Native.Nat.{_-_, _≤_}
+use mathlib.Core.Path.{_∙_}
 use lib.Dec.{ltb}
-use lib.ListN.{length}
 use Rattle.redirect.specs.ByPlaces.{code-index, Rewritten}
 use Rattle.redirect.proofs.Hits.{rewritten-start, rewriting-skip, rewriting-set, rewritten-end}
 use native.Mathlib.Omega.{arith}
