@@ -28,7 +28,7 @@ use Rattle.cells.proofs.FaceLaws.{getD-in, distinct-at}
 use Rattle.cells.proofs.Sited.{Sited, darts-in}
 use Rattle.departure.specs.ByPlaces.{critical-with}
 use Rattle.inbox.specs.Inbox.{Took}
-use Rattle.redirect.specs.ByPlaces.{face-code, names-at, named-at, FaceCodes, CodesRead, Ready, code-index, AllNamed, Rewritten}
+use Rattle.redirect.specs.ByPlaces.{face-code, names-at, named-at, CodesRead, Ready, code-index, EachNamed, AllNamed, Rewritten}
 use Rattle.redirect.proofs.Faces.{stays-in, code-there}
 use Rattle.redirect.proofs.Names.{names-are}
 use Rattle.redirect.proofs.ReadCodes.{front-tab, front-ascends}
@@ -71,54 +71,47 @@ index-mem x (y ∷ l) = by-cases (eqb x y) (λ e. rw e (lt-ltb 0 (suc (length l)
     more a b = by-cases (ltb a b) (λ e. rw e (lt-ltb (suc a) (suc b) (let h = ltb-true a b e in omega arith))) (λ e. rw e (le-ltb (suc a) (suc b) (let h = ltb-false a b e in omega arith)))
 
 -- the darts whose face has one of the codes
-pub index-named : {m : List ℕ} (from : ℕ) {table codes : List ℕ} {c : ℕ} (l : List ℕ) → Ready table codes c → FaceCodes m (getD m 2 0) table → take c codes ≡ sorted l → (p : ℕ) → p < getD m 2 0
-    → ltb (code-index m from table codes c p) c ≡ named-at m from l p
+index-named : (m : List ℕ) (from : ℕ) {codes : List ℕ} {c : ℕ} (l : List ℕ) → Ready codes c → take c codes ≡ sorted l → (p : ℕ) → ltb (code-index m from codes c p) c ≡ named-at m from l p
 unfolding code-index
-index-named {m} from {table} {codes} {c} l ready faces e p h = by-cases (critical-with m from p) (λ t. rw t there) (λ t. rw t (le-ltb c c (omega arith)))
+index-named m from {codes} {c} l ready e p = by-cases (critical-with m from p) (λ t. rw t there) (λ t. rw t (le-ltb c c (omega arith)))
   where
     list : tab (λ k. getD codes k 0) c ≡ sorted l
-    list = front-tab codes c (let a = ready .few in let b = ready .codes-size in omega arith) ∙ e
+    list = front-tab codes c (let a = ready .few in let b = ready .size in omega arith) ∙ e
 
-    there : ltb (index-of (getD table p 0) (tab (λ k. getD codes k 0) c)) c ≡ mem (face-code m p) l
-    there = ap (ltb (index-of (getD table p 0) (tab (λ k. getD codes k 0) c))) (sym (length-tab (λ k. getD codes k 0) c))
-        ∙ index-mem (getD table p 0) (tab (λ k. getD codes k 0) c) ∙ ap (mem (getD table p 0)) list ∙ any-sorted (eqb (getD table p 0)) l ∙ ap (λ (x : ℕ). mem x l) (faces .code-is p h)
+    there : ltb (index-of (face-code m p) (tab (λ k. getD codes k 0) c)) c ≡ mem (face-code m p) l
+    there = ap (ltb (index-of (face-code m p) (tab (λ k. getD codes k 0) c))) (sym (length-tab (λ k. getD codes k 0) c))
+        ∙ index-mem (face-code m p) (tab (λ k. getD codes k 0) c) ∙ ap (mem (face-code m p)) list ∙ any-sorted (eqb (face-code m p)) l
 
 pub rewritten-by : {m m′ : List ℕ} {test other : ℕ → Bool} {word n : ℕ} → ((p : ℕ) → p < n → test p ≡ other p) → Rewritten m m′ test word n → Rewritten m m′ other word n
 rewritten-by {m} {m′} {test} {other} {word} {n} e w = record { size = w .size; head = w .head; others = w .others; kinds = λ p. w .kinds p ∙ by-cases (ltb p n) (λ t. rw (t, e p (ltb-true p n t))) (λ t. rw t) }
 
 -- WHAT THE ARRAYS SAY
-module _ {m s table read : List ℕ} {n at count : ℕ} (from : ℕ) (codes : List ℕ) {fine : Bool} (same : n ≡ getD m 2 0) (few : count ≤ room) (faces : FaceCodes m n table) (told : CodesRead s at count read)
+module _ (m : List ℕ) (from : ℕ) {s read : List ℕ} {at count : ℕ} (codes : List ℕ) {fine : Bool} (few : count ≤ room) (told : CodesRead s at count read)
     (order : (fine ≡ distinct (take count read)) × (take count codes ≡ sorted (take count read)) × (length codes ≡ room)) where
-  faces-all : FaceCodes m (getD m 2 0) table
-  faces-all = rw same at faces
-
   codes-sorted : (ls : List Label) (past : ℕ) → Took (times count label) s at ls past → take count codes ≡ sorted (map code ls)
   codes-sorted ls past t = order .1 ∙ ap sorted (told .codes-are ls past t)
 
   -- a label twice
-  pub not-apart : fine ≡ false → AllNamed m s from at count table codes false
-  not-apart e = record {
+  pub not-apart : fine ≡ false → {table : List ℕ} → length table ≡ room → AllNamed m s from at count table false
+  not-apart e size = record {
     said = λ ls past t. sym (and-no (all (names-at m from) (map code ls)) (distinct (map code ls)) (ap distinct (sym (told .codes-are ls past t)) ∙ sym (order .0) ∙ e));
-    table-is = faces-all;
-    codes-are = codes-sorted;
-    ready = λ r. absurd (true≢false (sym r));
+    size = size;
+    tells = λ r. absurd (true≢false (sym r));
   }
 
-  pub apart-ready : fine ≡ true → Ready table codes count
+  pub apart-ready : fine ≡ true → Ready codes count
   apart-ready e = record {
     few = few;
-    table-size = faces .size;
-    codes-size = order .2;
+    size = order .2;
     ascends = front-ascends codes count (let a = order .2 in omega arith) (ap ascending (order .1) ∙ ascending-distinct (take count read) ∙ sym (order .0) ∙ e);
   }
 
-  pub all-told : fine ≡ true → {r : Bool} → r ≡ all (names-at m from) (take count codes) → AllNamed m s from at count table codes r
-  all-told e {r} k = record {
-    said = λ ls past t. k ∙ ap (all (names-at m from)) (codes-sorted ls past t) ∙ all-sorted (names-at m from) (map code ls)
+  pub all-told : fine ≡ true → {table : List ℕ} {r : Bool} → EachNamed m from codes count table r → AllNamed m s from at count table r
+  all-told e {table} {r} n = record {
+    said = λ ls past t. n .said ∙ ap (all (names-at m from)) (codes-sorted ls past t) ∙ all-sorted (names-at m from) (map code ls)
         ∙ sym (and-yes (all (names-at m from) (map code ls)) (distinct (map code ls)) (ap distinct (sym (told .codes-are ls past t)) ∙ sym (order .0) ∙ e));
-    table-is = faces-all;
-    codes-are = codes-sorted;
-    ready = λ _. apart-ready e;
+    size = n .indexed .size;
+    tells = λ _ ls past t p h. ap (λ (k : ℕ). ltb k count) (n .indexed .index-is p h) ∙ index-named m from (map code ls) (apart-ready e) (codes-sorted ls past t) p;
   }
     where
       and-yes : (a b : Bool) → b ≡ true → (a && b) ≡ a

@@ -24,9 +24,9 @@ use Rattle.inbox.specs.declared.received.Received.{Received}
 use Rattle.inbox.specs.declared.received.Received.the-variants as received
 use Rattle.inbox.specs.Outlines.{UpdateOutlined}
 use Rattle.inbox.specs.Arrived.{MessageSaid, MessageRead}
-use Rattle.redirect.specs.ByPlaces.{names-at, named-at, code-index, AllNamed, Rewritten}
+use Rattle.redirect.specs.ByPlaces.{names-at, named-at, AllNamed, Rewritten}
 use Rattle.redirect.specs.Told.{KindSaid, KindRead, Follows, redirect-by, Redirects}
-use Rattle.redirect.proofs.AllLabels.{names-all, too-many, index-named, rewritten-by}
+use Rattle.redirect.proofs.AllLabels.{names-all, too-many, rewritten-by}
 use Rattle.redirect.proofs.NewOwner.{memory-now}
 
 -- THE MESSAGE
@@ -121,11 +121,11 @@ module _ (m : List ℕ) (ok : is-image rack m ≡ true) where
       pub redirects-too-many : 4096 < o .count → Redirects m s o (refused 22) m
       redirects-too-many h = labels-no (λ u w. too-many (sited rack m ok .linked) refl (o .from) (u .labels) (w .labels-in) h)
 
-      module _ {table codes : List ℕ} {named : Bool} (n : AllNamed m s (o .from) (o .labels) (o .count) table codes named) where
+      module _ {table : List ℕ} {named : Bool} (n : AllNamed m s (o .from) (o .labels) (o .count) table named) where
         pub redirects-unnamed : not named ≡ true → Redirects m s o (refused 22) m
         redirects-unnamed e = labels-no (λ u w. sym (n .said (u .labels) (w .past) (w .labels-in)) ∙ not-true named e)
 
-        pub redirects-served : not ends ≡ false → not named ≡ false → Follows s o → {m′ : List ℕ} → Rewritten m m′ (λ p. ltb (code-index m (o .from) table codes (o .count) p) (o .count)) (2 + 4 * o .block) (getD m 2 0) → Redirects m s o (served tt) m′
+        pub redirects-served : not ends ≡ false → not named ≡ false → Follows s o → {m′ : List ℕ} → Rewritten m m′ (λ p. ltb (getD table p 0) (o .count)) (2 + 4 * o .block) (getD m 2 0) → Redirects m s o (served tt) m′
         redirects-served e k small {m′} r = record { gives = λ u w. go u w }
           where
             go : (u : Update) → UpdateOutlined u s o → Gives (redirect-by m (an-update u)) (served tt) m′
@@ -134,7 +134,7 @@ module _ (m : List ℕ) (ok : is-image rack m ≡ true) where
                 let said = sym (n .said (u .labels) (w .past) (w .labels-in)) ∙ not-false named k in
                 let names : all (names-face (darts-in m) (u .from)) (u .labels) ≡ true = names-all site (image-passed m ok) (u .from) (u .labels)
                 ∙ ap (λ (a : ℕ). all (names-at m a) (map code (u .labels))) (sym (w .from-is)) ∙ and-left (all (names-at m (o .from)) (map code (u .labels))) (distinct (map code (u .labels))) said in
-                let by-labels = rewritten-by (λ p h. index-named (o .from) (map code (u .labels)) (n .ready (not-false named k)) (n .table-is) (n .codes-are (u .labels) (w .past) (w .labels-in)) p h) r in
+                let by-labels = rewritten-by (λ p h. n .tells (not-false named k) (u .labels) (w .past) (w .labels-in) p h) r in
                 all-yes u (said-yes (here-is u w) yes-here) (right-by u w ∙ and-intro (not-false ends e) said)
                 (memory-now site (image-passed m ok) u names (let a = w .block-is in let b = w .block-small in omega arith) (by-outline u w by-labels) (size))
               where

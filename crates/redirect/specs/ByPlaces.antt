@@ -8,7 +8,7 @@ use Prim.Native.Nat.{ℕ, _≤_, _<_}
 use lib.Dec.{ltb, eqb}
 use lib.ListN.{length, getD, take}
 use Rattle.laws.specs.Order.{Ascending}
-use Rattle.model.specs.Lists.{all, any, mem, distinct, least, sorted, tab, index-of}
+use Rattle.model.specs.Lists.{all, any, mem, distinct, least, tab, index-of}
 use Rattle.model.specs.Values.{Label, code}
 use Rattle.model.specs.Cells.{cycle}
 use Rattle.model.specs.Image.{room, column}
@@ -31,27 +31,26 @@ names-at m from c = any (λ q. critical-with m from q && eqb (face-code m q) c) 
 abbrev pub named-at : List ℕ → ℕ → List ℕ → ℕ → Bool
 named-at m from codes q = critical-with m from q && mem (face-code m q) codes
 
--- the least label of each dart's face, by place
-pub record FaceCodes (m : List ℕ) (n : ℕ) (table : List ℕ) : Type 0 where
-  pub size : length table ≡ room
-  pub code-is : (q : ℕ) → q < n → getD table q 0 ≡ face-code m q
-
 -- LABELS
 -- the codes of the labels that stand from a place on
 pub record CodesRead (s : List ℕ) (at count : ℕ) (codes : List ℕ) : Type 0 where
   pub size : length codes ≡ room
   pub codes-are : (ls : List Label) (past : ℕ) → Took (times count label) s at ls past → take count codes ≡ map code ls
 
--- codes that ascend, to be searched for those of a table by place
-pub record Ready (table codes : List ℕ) (c : ℕ) : Type 0 where
+-- the first c codes ascend, to be searched
+pub record Ready (codes : List ℕ) (c : ℕ) : Type 0 where
   pub few : c ≤ room
-  pub table-size : length table ≡ room
-  pub codes-size : length codes ≡ room
+  pub size : length codes ≡ room
   pub ascends : Ascending c (λ k. getD codes k 0)
 
 -- the index of the code of the face of the dart at place p, where that face is critical with block `from`; c elsewhere
-unfoldable pub code-index : List ℕ → ℕ → List ℕ → List ℕ → ℕ → ℕ → ℕ
-code-index m from table codes c p = cond (critical-with m from p) (index-of (getD table p 0) (tab (λ k. getD codes k 0) c)) c
+unfoldable pub code-index : List ℕ → ℕ → List ℕ → ℕ → ℕ → ℕ
+code-index m from codes c p = cond (critical-with m from p) (index-of (face-code m p) (tab (λ k. getD codes k 0) c)) c
+
+-- a table of these, by place
+pub record Indexed (index : ℕ → ℕ) (n : ℕ) (table : List ℕ) : Type 0 where
+  pub size : length table ≡ room
+  pub index-is : (q : ℕ) → q < n → getD table q 0 ≡ index q
 
 -- the indices at the places below n are marked, and no other
 pub record HitsAre (index : ℕ → ℕ) (n : ℕ) (hits : List ℕ) : Type 0 where
@@ -63,12 +62,16 @@ pub record HitsAre (index : ℕ → ℕ) (n : ℕ) (hits : List ℕ) : Type 0 wh
 abbrev pub all-hit : List ℕ → ℕ → Bool
 all-hit hits c = all-below (λ k. eqb (getD hits k 0) 1) c
 
--- labels that differ and each name a face, and the arrays to find their faces by
-pub record AllNamed (m s : List ℕ) (from at count : ℕ) (table codes : List ℕ) (r : Bool) : Type 0 where
+-- each of the first c codes names a face; the table has the index of each dart's code
+pub record EachNamed (m : List ℕ) (from : ℕ) (codes : List ℕ) (c : ℕ) (table : List ℕ) (r : Bool) : Type 0 where
+  pub said : r ≡ all (names-at m from) (take c codes)
+  pub indexed : Indexed (code-index m from codes c) (getD m 2 0) table
+
+-- labels that differ and each name a face; the table tells the darts of these faces
+pub record AllNamed (m s : List ℕ) (from at count : ℕ) (table : List ℕ) (r : Bool) : Type 0 where
   pub said : (ls : List Label) (past : ℕ) → Took (times count label) s at ls past → r ≡ (all (names-at m from) (map code ls) && distinct (map code ls))
-  pub table-is : FaceCodes m (getD m 2 0) table
-  pub codes-are : (ls : List Label) (past : ℕ) → Took (times count label) s at ls past → take count codes ≡ sorted (map code ls)
-  pub ready : r ≡ true → Ready table codes count
+  pub size : length table ≡ room
+  pub tells : r ≡ true → (ls : List Label) (past : ℕ) → Took (times count label) s at ls past → (p : ℕ) → p < getD m 2 0 → ltb (getD table p 0) count ≡ named-at m from (map code ls) p
 
 -- MEMORY whose darts that pass a test, of the first n, have another kind word
 pub record Rewritten (m m′ : List ℕ) (test : ℕ → Bool) (word n : ℕ) : Type 0 where

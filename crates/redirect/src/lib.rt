@@ -1,11 +1,11 @@
 // Redirect, the paper's tell: an update names critical faces by their least labels, and they get a new other block.
-pub mod least; // least.rt: the least label of each dart's face
-pub mod codes; // codes.rt: the labels of an update
-pub mod named; // named.rt: the faces that they name
+mod least; // least.rt: along a face
+mod codes; // codes.rt: the labels of an update, as codes in order
+mod named; // named.rt: the faces that they name
 
 ghost use mathlib.Core.Path.{_≡_};
 ghost use mathlib.Core.Bool.{true, not, _&&_};
-ghost use Prim.Native.Nat.{_≤_, _^_};
+ghost use Prim.Native.Nat.{_≤_};
 ghost use lib.Dec.{eqb};
 ghost use lib.ListN.{length, getD, replicate};
 ghost use Rattle.model.specs.Values.{rack};
@@ -13,8 +13,7 @@ ghost use Rattle.model.specs.Image.{room, words, block-in, is-image};
 ghost use Rattle.model.specs.Arrival.{addressed};
 ghost use Rattle.model.specs.Calls.{redirect as told};
 ghost use Rattle.answers.specs.Answers.{answer-of, Gives};
-ghost use Rattle.cells.specs.Places.{Linked};
-ghost use Rattle.redirect.specs.ByPlaces.{AllNamed};
+ghost use Rattle.redirect.specs.ByPlaces.{Ready, EachNamed, AllNamed};
 ghost use Rattle.redirect.specs.Told.{KindRead, Follows, Redirects};
 use answers::Answer;
 use answers::Refusal;
@@ -48,8 +47,27 @@ fn neither(new: u64, from: u64, to: u64) -> bool
     (new != from) & (new != to)
 }
 
-// 22: whether the labels differ, and each is the least of a face critical with block `from`. Their codes go into `codes` in order, the
-// least label of each dart's face into `table`.
+// 22: whether each of the first c codes, which ascend, is the least label of a face critical with block `from`. The index of each dart's
+// code goes into `table`.
+fn each_named(
+    block: &[u64],
+    n: usize,
+    from: u64,
+    codes: &[u64],
+    c: usize,
+    table: &mut [usize],
+) -> bool
+    requires { ⌜ (is-image rack (now block) ≡ true) × (n ≡ getD (now block) 2 0) × (from ≤ 15) × Ready (now codes) c × (now table ≡ replicate room 4097) ⌝ }
+    ensures { λ r. ⌜ EachNamed (now (block .entry)) from (now (codes .entry)) c (now (table .exit)) r ⌝ }
+{
+    named::index_faces(block, n, from, codes, c, table);
+    let mut hits = [0u8; 4097];
+    named::hit(table, n, &mut hits);
+    named::all_hit(&hits, c)
+}
+
+// 22: whether the labels differ, and each is the least of a face critical with block `from`. The darts of these faces have a number below
+// `count` in `table`.
 fn all_named(
     block: &[u64],
     n: usize,
@@ -57,20 +75,19 @@ fn all_named(
     s: &[u8],
     at: usize,
     count: usize,
-    table: &mut [u64],
-    codes: &mut [u64],
+    table: &mut [usize],
 ) -> bool
-    requires { ⌜ Linked (now block) n × (n ≡ getD (now block) 2 0) × (from ≤ 15) × (at ≤ length (now s)) × (count ≤ room) ⌝ }
-    requires { ⌜ (now table ≡ replicate room (2 ^ 48)) × (length (now codes) ≡ room) ⌝ }
-    ensures { λ r. ⌜ AllNamed (now (block .entry)) (now (s .entry)) from at count (now (table .exit)) (now (codes .exit)) r ⌝ }
+    requires { ⌜ (is-image rack (now block) ≡ true) × (n ≡ getD (now block) 2 0) × (from ≤ 15) × (at ≤ length (now s)) × (count ≤ room) ⌝ }
+    requires { ⌜ now table ≡ replicate room 4097 ⌝ }
+    ensures { λ r. ⌜ AllNamed (now (block .entry)) (now (s .entry)) from at count (now (table .exit)) r ⌝ }
 {
-    least::face_codes(block, n, table);
-    codes::read_codes(s, at, count, codes);
+    let mut codes = [0u64; 4096];
+    codes::read_codes(s, at, count, &mut codes);
     let mut scratch = [0u64; 4096];
-    if !codes::order(codes, &mut scratch, count) {
+    if !codes::order(&mut codes, &mut scratch, count) {
         return false;
     }
-    named::each_named(block, n, from, table, codes, count)
+    each_named(block, n, from, &codes, count, table)
 }
 
 // 17 and 22 of an update, then its faces get the new block.
@@ -91,12 +108,11 @@ fn redirect_update(block: &mut [u64], s: &[u8], u: Update) -> Answer
     }
     let n = block[2] as usize;
     let count = u.count as usize;
-    let mut table = [281474976710656u64; 4096];
-    let mut codes = [0u64; 4096];
-    if !all_named(block, n, from, s, u.labels, count, &mut table, &mut codes) {
+    let mut table = [4097usize; 4096];
+    if !all_named(block, n, from, s, u.labels, count, &mut table) {
         return Answer::Refused(Refusal::UpdateWrong);
     }
-    named::rewrite(block, n, from, 2 + 4 * u.block, &table, &codes, count);
+    named::rewrite(block, n, 2 + 4 * u.block, &table, count);
     Answer::Served
 }
 

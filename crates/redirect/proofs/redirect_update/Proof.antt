@@ -1,7 +1,6 @@
 -- `redirect::redirect_update` meets its contract: each answer is that of the first question that is answered no.
 -- Assumes nothing.
 use mathlib.Core.Path.{refl}
-use borrow.Author.Tests.{not-false}
 use Rattle.model.specs.Values.{rack}
 use Rattle.cells.proofs.Sited.{sited}
 use Rattle.redirect.proofs.Answered.{redirects-elsewhere, redirects-to-an-end, redirects-too-many, redirects-unnamed, redirects-served}
@@ -45,46 +44,39 @@ slice-read-n c =
 slice-aggregate-all-named : tie.Need-slice-aggregate-all-named
 slice-aggregate-all-named c = search needs
 
-slice-aggregate-all-named-2 : tie.Need-slice-aggregate-all-named-2
-slice-aggregate-all-named-2 c = search needs
-
 all-named-requires : tie.Need-all-named-requires
 all-named-requires c κs =
-    let l = sited rack (c .before .before .before .before .before .before .before .before .before .before .before .before .before .args .block .now) (c .before .before .before .before .before .before .before .before .before .before .before .before .before .pre .0) .linked in
-    ((l, refl, c .before .before .before .before .before .before .before .before .before .before .before .before .before .pre .1 .from-small, c .before .before .before .before .before .before .before .before .before .before .before .before .before .pre .1 .labels-within, omega (arith, c .before .before .before .before .if3 .left)), (refl, refl))
+    ((c .before .before .before .before .before .before .before .before .before .before .before .before .pre .0, refl, c .before .before .before .before .before .before .before .before .before .before .before .before .pre .1 .from-small, c .before .before .before .before .before .before .before .before .before .before .before .before .pre .1 .labels-within, omega (arith, c .before .before .before .if3 .left)), refl)
 
 same-length-4 : tie.Need-same-length-4
 same-length-4 c = search needs
 
 returns-4 : tie.Need-returns-4
 returns-4 c =
-    redirects-unnamed _ (c .before .before .before .before .before .before .before .before .before .before .before .before .before .before .before .before .before .pre .0) (c .before .before .before .before .before .before .before .before .before .before .before .before .before .for-here .ensures) (c .before .before .before .before .before .before .before .before .before .before .before .before .if1 .left) (c .before .before .before .before .before .before .before .before .before .before .before .neither .ensures) (c .before .before .before .all-named .ensures) (c .if4 .taken)
+    redirects-unnamed _ (c .before .before .before .before .before .before .before .before .before .before .before .before .before .before .before .pre .0) (c .before .before .before .before .before .before .before .before .before .before .before .for-here .ensures) (c .before .before .before .before .before .before .before .before .before .before .if1 .left) (c .before .before .before .before .before .before .before .before .before .neither .ensures) (c .before .before .all-named .ensures) (c .if4 .taken)
 
 mul-rewrite : tie.Need-mul-rewrite
 mul-rewrite c =
-    omega (arith, c .before .before .before .before .before .before .before .before .before .before .before .before .before .before .before .before .before .before .before .pre .1 .block-small)
+    omega (arith, c .before .before .before .before .before .before .before .before .before .before .before .before .before .before .before .before .before .pre .1 .block-small)
 
 add-rewrite : tie.Need-add-rewrite
 add-rewrite c =
-    omega (arith, c .before .before .before .before .before .before .before .before .before .before .before .before .before .before .before .before .before .before .before .pre .1 .block-small)
+    omega (arith, c .before .before .before .before .before .before .before .before .before .before .before .before .before .before .before .before .before .pre .1 .block-small)
 
 slice-aggregate-rewrite : tie.Need-slice-aggregate-rewrite
 slice-aggregate-rewrite c = search needs
 
-slice-aggregate-rewrite-2 : tie.Need-slice-aggregate-rewrite-2
-slice-aggregate-rewrite-2 c = search needs
-
 rewrite-requires : tie.Need-rewrite-requires
 rewrite-requires c κs =
-    let l = sited rack (c .before .before .before .before .before .before .before .before .before .before .before .before .before .before .before .before .before .before .before .before .before .args .block .now) (c .before .before .before .before .before .before .before .before .before .before .before .before .before .before .before .before .before .before .before .before .before .pre .0) .linked in
-    (l .few, l .size, c .before .before .before .before .before .before .before .before .before .before .before .before .before .before .before .before .before .before .before .before .before .pre .1 .from-small, c .before .before .before .before .before .before .before .all-named .ensures .ready (not-false _ (c .before .before .before .before .if4 .left)))
+    let l = sited rack (c .before .before .before .before .before .before .before .before .before .before .before .before .before .before .before .before .before .before .args .block .now) (c .before .before .before .before .before .before .before .before .before .before .before .before .before .before .before .before .before .before .pre .0) .linked in
+    (l .few, l .size, c .before .before .before .before .before .all-named .ensures .size)
 
 same-length-5 : tie.Need-same-length-5
 same-length-5 c = search needs
 
 returns-5 : tie.Need-returns-5
 returns-5 c =
-    redirects-served _ (c .before .before .before .before .before .before .before .before .before .before .before .before .before .before .before .before .before .before .before .before .before .before .before .before .pre .0) (c .before .before .before .before .before .before .before .before .before .before .before .before .before .before .before .before .before .before .before .before .for-here .ensures) (c .before .before .before .before .before .before .before .before .before .before .before .before .before .before .before .before .before .before .before .if1 .left) (c .before .before .before .before .before .before .before .before .before .before .before .before .before .before .before .before .before .before .neither .ensures) (c .before .before .before .before .before .before .before .before .before .before .all-named .ensures) (c .before .before .before .before .before .before .before .before .before .before .before .before .before .before .before .before .before .if2 .left) (c .before .before .before .before .before .before .before .if4 .left) (c .before .before .before .before .before .before .before .before .before .before .before .before .before .before .before .before .before .before .before .before .before .before .before .before .pre .1) (c .before .before .rewrite .ensures)
+    redirects-served _ (c .before .before .before .before .before .before .before .before .before .before .before .before .before .before .before .before .before .before .before .before .before .pre .0) (c .before .before .before .before .before .before .before .before .before .before .before .before .before .before .before .before .before .for-here .ensures) (c .before .before .before .before .before .before .before .before .before .before .before .before .before .before .before .before .if1 .left) (c .before .before .before .before .before .before .before .before .before .before .before .before .before .before .before .neither .ensures) (c .before .before .before .before .before .before .before .before .all-named .ensures) (c .before .before .before .before .before .before .before .before .before .before .before .before .before .before .if2 .left) (c .before .before .before .before .before .before .if4 .left) (c .before .before .before .before .before .before .before .before .before .before .before .before .before .before .before .before .before .before .before .before .before .pre .1) (c .before .before .rewrite .ensures)
 
 pub redirect-update-spec : {M : Type 1} → statement M
 redirect-update-spec =
@@ -100,14 +92,12 @@ redirect-update-spec =
     returns-3
     slice-read-n
     slice-aggregate-all-named
-    slice-aggregate-all-named-2
     all-named-requires
     same-length-4
     returns-4
     mul-rewrite
     add-rewrite
     slice-aggregate-rewrite
-    slice-aggregate-rewrite-2
     rewrite-requires
     same-length-5
     returns-5)

@@ -1,4 +1,4 @@
--- `redirect::least::paint_face` meets its contract. The loop's invariant: the darts before p have the code.
+-- `redirect::least::paint_face` meets its contract. The loop's invariant: the darts before p have the number.
 -- The measure is what is left of the face. Assumes nothing.
 use Prim.Native.Nat.{_-_}
 use lib.ListN.{length, length-set}
@@ -12,11 +12,11 @@ use Rattle.redirect.proofs.least.paint_face.Statement.{statement}
 use Rattle.redirect.proofs.least.paint_face.Tie as tie
 
 abbrev Inv-loop : tie.InvT-loop
-Inv-loop block n start code table₀ steps₀ p₀ table steps p =
-    Going n (column block 1) start (length (cycle (column block 1) start)) steps p × Painted code (path (column block 1) steps start) table₀ table
+Inv-loop block n start number table₀ steps₀ p₀ table steps p =
+    Going n (column block 1) start (length (cycle (column block 1) start)) steps p × Painted number (path (column block 1) steps start) table₀ table
 
 abbrev μ-loop : tie.MeasureT-loop
-μ-loop block n start code table₀ steps₀ p₀ table steps p =
+μ-loop block n start number table₀ steps₀ p₀ table steps p =
     length (cycle (column block 1) start) - steps
 
 loop-holds : tie.Need-loop-holds Inv-loop μ-loop

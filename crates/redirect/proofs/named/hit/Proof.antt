@@ -1,9 +1,9 @@
 -- `redirect::named::hit` meets its contract. The loop's invariant: the indices at the places below p are marked.
 -- The measure is what is left of the places. Assumes nothing.
 use Prim.Native.Nat.{ℕ, _-_, _≤_}
-use mathlib.Core.Path.{_∙_, sym, ap}
-use lib.ListN.{length, length-replicate}
-use Rattle.redirect.specs.ByPlaces.{code-index, HitsAre}
+use mathlib.Core.Path.{refl, _∙_, sym, ap}
+use lib.ListN.{length, getD, length-replicate}
+use Rattle.redirect.specs.ByPlaces.{HitsAre}
 use Rattle.redirect.proofs.Hits.{hits-start, hits-more, hits-end}
 use native.Mathlib.Omega.{arith}
 use borrow.Author.Needs.{needs}
@@ -11,24 +11,28 @@ use Rattle.redirect.proofs.named.hit.Statement.{statement}
 use Rattle.redirect.proofs.named.hit.Tie as tie
 
 abbrev Inv-loop : tie.InvT-loop
-Inv-loop block n from table codes c hits₀ p₀ hits p =
-    (p ≤ n) × HitsAre (code-index block from table codes c) p hits
+Inv-loop table n hits₀ p₀ hits p =
+    (p ≤ n) × HitsAre (λ q. getD table q 0) p hits
 
 abbrev μ-loop : tie.MeasureT-loop
-μ-loop block n from table codes c hits₀ p₀ hits p =
+μ-loop table n hits₀ p₀ hits p =
     n - p
 
 loop-holds : tie.Need-loop-holds Inv-loop μ-loop
 loop-holds c =
-    (omega arith, hits-start _ _ (c .before .before .before .before .pre .4))
+    (omega arith, hits-start _ _ (c .pre .3))
 
-index-at-requires : tie.Need-index-at-requires Inv-loop μ-loop
-index-at-requires c κs =
-    (omega (arith, c .loop-test .taken, c .before .before .before .before .before .before .pre .0), c .before .before .before .before .before .before .pre .1, c .before .before .before .before .before .before .pre .2, c .before .before .before .before .before .before .pre .3)
+mul-k : tie.Need-mul-k Inv-loop μ-loop
+mul-k c =
+    omega (arith, c .loop-test .taken, c .before .before .pre .0)
+
+shared-slice-read-k : tie.Need-shared-slice-read-k Inv-loop μ-loop
+shared-slice-read-k c =
+    omega (arith, c .before .loop-test .taken, c .before .before .before .pre .0, c .before .before .before .pre .1)
 
 slice-write-hits : tie.Need-slice-write-hits Inv-loop μ-loop
 slice-write-hits c =
-    omega (arith, c .index-at .ensures .1, c .before .before .before .before .before .before .before .pre .3 .few, c .before .before .loop .inv .1 .size)
+    omega (arith, c .before .before .before .pre .2 _ (c .before .loop-test .taken), c .before .before .loop .inv .1 .size)
 
 add-p : tie.Need-add-p Inv-loop μ-loop
 add-p c = search needs
@@ -39,11 +43,11 @@ loop-less c =
 
 loop-again : tie.Need-loop-again Inv-loop μ-loop
 loop-again c =
-    (omega (arith, c .before .loop-test .taken), hits-more (c .before .before .loop .inv .1) (c .index-at .ensures .0) (omega (arith, c .index-at .ensures .1, c .before .before .before .before .before .before .before .pre .3 .few)))
+    (omega (arith, c .before .loop-test .taken), hits-more (c .before .before .loop .inv .1) refl (c .before .before .before .pre .2 _ (c .before .loop-test .taken)))
 
 same-length : tie.Need-same-length Inv-loop μ-loop
 same-length c =
-    c .before .loop .inv .1 .size ∙ sym (ap length (c .before .before .before .before .before .before .pre .4) ∙ length-replicate {A = ℕ} 4097 0)
+    c .before .loop .inv .1 .size ∙ sym (ap length (c .before .before .pre .3) ∙ length-replicate {A = ℕ} 4097 0)
 
 returns : tie.Need-returns Inv-loop μ-loop
 returns c =
@@ -56,7 +60,8 @@ hit-spec =
     Inv-loop
     μ-loop
     loop-holds
-    index-at-requires
+    mul-k
+    shared-slice-read-k
     slice-write-hits
     add-p
     loop-less
