@@ -4,3 +4,4 @@ pub mod Points
 pub mod FaceArrays
 pub mod Passing
 pub mod Outlining
+pub mod Arriving

@@ -15,7 +15,7 @@ use Rattle.laws.proofs.Lists.{drop-end}
 use Rattle.groups.specs.declared.Read.{Read as Answer}
 use Rattle.groups.specs.declared.Read.the-variants.{Value, Bad}
 use Rattle.groups.proofs.Ends.{then-some}
-use Rattle.groups.proofs.Labels.{same-value}
+use Rattle.groups.proofs.Labels.{same-value, at-most-bound}
 use Rattle.inbox.specs.declared.faces.Faces.{Faces}
 use Rattle.inbox.specs.declared.message.Head.{Head}
 use Rattle.inbox.specs.declared.message.Counted.{Counted}
@@ -271,5 +271,17 @@ module _ {s : List ℕ} {at from to p : ℕ} (h : Headed 2 s at from to p) where
       pub update-good : c .next ≡ length s → UpdateRead s at (record { ok = true; from = from; to = to; block = block; count = c .count; labels = c .first })
       update-good e = record {
         no = λ bad. absurd (true≢false bad);
-        yes = λ good. (record { from = from; to = to; block = block; labels = w .yes y .items }, whole-took update told e, record { from-is = refl; to-is = refl; block-is = refl; past = c .next; labels-in = w .yes y .items-read });
+        yes = λ good. (
+          record { from = from; to = to; block = block; labels = w .yes y .items },
+          whole-took update told e,
+          record {
+            from-is = refl;
+            to-is = refl;
+            block-is = refl;
+            from-small = at-most-bound 15 _ from _ (h .from-read .value);
+            block-small = at-most-bound 15 _ block _ (b .value);
+            past = c .next;
+            labels-in = w .yes y .items-read;
+          },
+        );
       }

@@ -1,2 +1,3 @@
 pub mod Inbox
 pub mod Outlines
+pub mod Arrived

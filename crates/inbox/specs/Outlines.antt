@@ -90,6 +90,8 @@ pub record UpdateOutlined (u : Update) (s : List ℕ) (r : UpdateOutline) : Type
   pub from-is : r .from ≡ u .from
   pub to-is : r .to ≡ u .to
   pub block-is : r .block ≡ u .block
+  pub from-small : r .from ≤ 15
+  pub block-small : r .block ≤ 15
   pub past : ℕ
   pub labels-in : Took (times (r .count) label) s (r .labels) (u .labels) past
 

@@ -187,7 +187,7 @@ fn no_front() -> Front
 }
 
 // Part 1 of a transfer; its darts go into the arrays.
-fn read_front(
+pub fn read_front(
     s: &[u8],
     at: usize,
     vertex: &mut [u64],
@@ -247,7 +247,7 @@ fn no_tail() -> Tail
 }
 
 // Parts 2 to 4 of a transfer of so many darts, to the last byte.
-fn read_tail(s: &[u8], at: usize, darts: usize, sizes: &[usize]) -> Tail
+pub fn read_tail(s: &[u8], at: usize, darts: usize, sizes: &[usize]) -> Tail
     requires { ⌜ darts ≤ length (now sizes) ⌝ }
     ensures { λ r. ⌜ ((fs : List (List FaceDart)) → Sized fs darts (now (sizes .entry)) → TailRead fs (now (s .entry)) at r) ⌝ }
 {

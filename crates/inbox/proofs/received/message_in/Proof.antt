@@ -1,0 +1,114 @@
+-- `inbox::received::message_in` meets its contract: each answer is what the frame and the two layouts say.
+-- Assumes nothing.
+use borrow.Author.Tests.{not-true, not-false}
+use Rattle.inbox.proofs.Arriving.{no-frame, front-missing, front-sized, front-fits, tail-missing, other-read, transfer-read}
+use borrow.Author.Needs.{needs}
+use Rattle.inbox.proofs.received.message_in.Statement.{statement}
+use Rattle.inbox.proofs.received.message_in.Tie as tie
+
+read-frame-requires : tie.Need-read-frame-requires
+read-frame-requires c κs = search needs
+
+enum-known-n : tie.Need-enum-known-n
+enum-known-n c = search needs
+
+enum-told : tie.Need-enum-told
+enum-told c = search needs
+
+returns : tie.Need-returns
+returns c =
+    no-frame (c .before .before .before .before .before .before .before .before .pre) (c .enum-told .given .1) (c .before .before .read-frame .ensures)
+
+read-front-requires : tie.Need-read-front-requires
+read-front-requires c κs = search needs
+
+update-from-requires : tie.Need-update-from-requires
+update-from-requires c κs = search needs
+
+same-length : tie.Need-same-length
+same-length c = search needs
+
+same-length-2 : tie.Need-same-length-2
+same-length-2 c = search needs
+
+same-length-3 : tie.Need-same-length-3
+same-length-3 c = search needs
+
+same-length-4 : tie.Need-same-length-4
+same-length-4 c = search needs
+
+returns-2 : tie.Need-returns-2
+returns-2 c =
+    let front = c .before .before .before .before .before .before .before .before .before .before .before .read-front .ensures in
+    other-read (c .before .before .before .before .before .before .before .before .before .before .before .before .before .before .before .before .before .n .given .1) (c .before .before .before .before .before .before .before .before .before .before .before .before .before .before .before .before .before .before .before .read-frame .ensures) (front .sides) (front-missing front (not-true _ (c .before .if1 .taken))) (c .update-from .ensures)
+
+read-tail-requires : tie.Need-read-tail-requires
+read-tail-requires c κs =
+    front-fits (c .before .before .before .before .before .before .before .before .before .before .before .read-front .ensures) (not-false _ (c .before .if1 .left))
+
+update-from-requires-2 : tie.Need-update-from-requires-2
+update-from-requires-2 c κs = search needs
+
+same-length-5 : tie.Need-same-length-5
+same-length-5 c = search needs
+
+same-length-6 : tie.Need-same-length-6
+same-length-6 c = search needs
+
+same-length-7 : tie.Need-same-length-7
+same-length-7 c = search needs
+
+same-length-8 : tie.Need-same-length-8
+same-length-8 c = search needs
+
+returns-3 : tie.Need-returns-3
+returns-3 c =
+    let front = c .before .before .before .before .before .before .before .before .before .before .before .before .before .before .before .read-front .ensures in
+    let there = not-false _ (c .before .before .before .before .before .if1 .left) in
+    other-read (c .before .before .before .before .before .before .before .before .before .before .before .before .before .before .before .before .before .before .before .before .before .n .given .1) (c .before .before .before .before .before .before .before .before .before .before .before .before .before .before .before .before .before .before .before .before .before .before .before .read-frame .ensures) (front .sides) (tail-missing front there (c .before .before .before .read-tail .ensures (front .yes there .fs) (front-sized front there)) (not-true _ (c .before .if2 .taken))) (c .update-from2 .ensures)
+
+same-length-9 : tie.Need-same-length-9
+same-length-9 c = search needs
+
+same-length-10 : tie.Need-same-length-10
+same-length-10 c = search needs
+
+same-length-11 : tie.Need-same-length-11
+same-length-11 c = search needs
+
+same-length-12 : tie.Need-same-length-12
+same-length-12 c = search needs
+
+returns-4 : tie.Need-returns-4
+returns-4 c =
+    let front = c .before .before .before .before .before .before .before .before .before .before .before .before .before .before .read-front .ensures in
+    let there = not-false _ (c .before .before .before .before .if1 .left) in
+    transfer-read (c .before .before .before .before .before .before .before .before .before .before .before .before .before .before .before .before .before .before .before .before .n .given .1) (c .before .before .before .before .before .before .before .before .before .before .before .before .before .before .before .before .before .before .before .before .before .before .read-frame .ensures) front there (c .before .before .read-tail .ensures (front .yes there .fs) (front-sized front there)) (not-false _ (c .if2 .left))
+
+pub message-in-spec : {M : Type 1} → statement M
+message-in-spec =
+    tie.close
+    (tie.spec
+    read-frame-requires
+    enum-known-n
+    enum-told
+    returns
+    read-front-requires
+    update-from-requires
+    same-length
+    same-length-2
+    same-length-3
+    same-length-4
+    returns-2
+    read-tail-requires
+    update-from-requires-2
+    same-length-5
+    same-length-6
+    same-length-7
+    same-length-8
+    returns-3
+    same-length-9
+    same-length-10
+    same-length-11
+    same-length-12
+    returns-4)

@@ -1,0 +1,95 @@
+-- Marks of the codes that faces have, by their index. Assumes nothing.
+use mathlib.Core.Path.{_≡_, sym, _∙_, ap}
+use mathlib.Core.Bool.{Bool, true, _&&_}
+use mathlib.Core.List.{List}
+use Prim.Native.Nat.{ℕ, _+_, _≤_, _<_}
+use native.Mathlib.Omega.{arith}
+use lib.Dec.{eqb}
+use lib.ListN.{length, getD, set, take, replicate, length-set, length-replicate}
+use lib.Seq.{getD-set-same, getD-set-other}
+use borrow.Author.Tests.{eqb-true, eq-eqb}
+use Rattle.model.specs.Lists.{all, tab, index-of}
+use Rattle.laws.proofs.Tests.{by-cases, and-intro, and-left, and-right}
+use Rattle.laws.proofs.Lists.{getD-zeros}
+use Rattle.laws.proofs.Tables.{tab-any, any-tab, index-place, index-held}
+use Rattle.columns.specs.Columns.{all-below}
+use Rattle.columns.proofs.Below.{same-test, all-tests}
+use Rattle.cells.proofs.Walks.{eq-or-ne, last-or-below}
+use Rattle.departure.specs.ByPlaces.{critical-with}
+use Rattle.redirect.specs.ByPlaces.{face-code, names-at, Ready, code-index, Indexed, HitsAre, all-hit, EachNamed}
+use Rattle.redirect.proofs.ReadCodes.{front-tab}
+use Rattle.redirect.proofs.Indices.{index-few}
+
+-- MARKS
+pub hits-start : (index : ℕ → ℕ) (hits : List ℕ) → hits ≡ replicate 4097 0 → HitsAre index 0 hits
+hits-start index hits e = record {
+  size = ap length e ∙ length-replicate {A = ℕ} 4097 0;
+  only = λ k h. let z : getD hits k 0 ≡ 0 = ap (λ (l : List ℕ). getD l k 0) e ∙ getD-zeros 4097 k in absurd (omega arith);
+  marked = λ p h. absurd (omega arith);
+}
+
+pub hits-more : {index : ℕ → ℕ} {p k : ℕ} {hits : List ℕ} → HitsAre index p hits → k ≡ index p → k < 4097 → HitsAre index (p + 1) (set hits k 1)
+hits-more {index} {p} {k} {hits} w e h = record {
+  size = simp length-set (w .size);
+  only = λ j t. eq-or-ne j k
+      (λ s. (p, omega arith, sym e ∙ sym s))
+      (λ s. let r = w .only j (sym (getD-set-other hits k j 1 0 s) ∙ t) in (r .0, (let b = r .1 in omega arith), r .2));
+  marked = λ q t. last-or-below t
+      (λ s. ap (λ (j : ℕ). getD (set hits k 1) j 0) (ap index s ∙ sym e) ∙ getD-set-same hits k 1 0 (let b = w .size in omega arith))
+      (λ s. eq-or-ne (index q) k
+      (λ i. ap (λ (j : ℕ). getD (set hits k 1) j 0) i ∙ getD-set-same hits k 1 0 (let b = w .size in omega arith))
+      (λ i. getD-set-other hits k (index q) 1 0 i ∙ w .marked q s));
+}
+
+-- marks of the indices in a table
+pub hits-indexed : {index : ℕ → ℕ} {n : ℕ} {table hits : List ℕ} → Indexed index n table → HitsAre (λ p. getD table p 0) n hits → HitsAre index n hits
+hits-indexed {index} {n} {table} {hits} d w = record {
+  size = w .size;
+  only = λ k h. let r = w .only k h in (r .0, r .1, sym (d .index-is (r .0) (r .1)) ∙ r .2);
+  marked = λ p h. ap (λ (j : ℕ). getD hits j 0) (sym (d .index-is p h)) ∙ w .marked p h;
+}
+
+-- each code is marked where a face has it
+module _ (m : List ℕ) (from : ℕ) {codes : List ℕ} {c : ℕ} (ready : Ready codes c) where
+  found : (q k : ℕ) → k < c → code-index m from codes c q ≡ k → (critical-with m from q ≡ true) × (face-code m q ≡ getD codes k 0)
+  unfolding code-index
+  found q k h e = by-cases (critical-with m from q)
+      (λ t. let i : index-of (face-code m q) (tab (λ j. getD codes j 0) c) ≡ k = rw t at e in
+      (t, sym (sym (ap (λ j. getD codes j 0) i) ∙ index-held (λ j. getD codes j 0) c (face-code m q) (omega arith))))
+      (λ t. let i : c ≡ k = rw t at e in absurd (omega arith))
+
+  finds : (q k : ℕ) → k < c → critical-with m from q ≡ true → face-code m q ≡ getD codes k 0 → code-index m from codes c q ≡ k
+  unfolding code-index
+  finds q k h t e = rw t (ap (λ (x : ℕ). index-of x (tab (λ j. getD codes j 0) c)) e ∙ index-place (λ j. getD codes j 0) c k (ready .ascends) h)
+
+  hits-names : {hits : List ℕ} → HitsAre (code-index m from codes c) (getD m 2 0) hits → all-hit hits c ≡ all (names-at m from) (take c codes)
+  hits-names {hits} w =
+      all-tests (names-at m from) (λ k. getD codes k 0) (λ k. eqb (getD hits k 0) 1) c (λ k h. sym (same-test (eqb (getD hits k 0) 1) (names-at m from (getD codes k 0)) (yes-of k h) (hit-of k h)))
+      ∙ ap (all (names-at m from)) (front-tab codes c (let a = ready .few in let b = ready .size in omega arith))
+    where
+      yes-of : (k : ℕ) → k < c → eqb (getD hits k 0) 1 ≡ true → names-at m from (getD codes k 0) ≡ true
+      yes-of k h t =
+          let r = w .only k (eqb-true (getD hits k 0) 1 t) in
+          let f = found (r .0) k h (r .2) in
+          tab-any (λ q. critical-with m from q && eqb (face-code m q) (getD codes k 0)) (λ q. q) (getD m 2 0) (r .0) (r .1) (and-intro (f .0) (eq-eqb (face-code m (r .0)) (getD codes k 0) (f .1)))
+
+      hit-of : (k : ℕ) → k < c → names-at m from (getD codes k 0) ≡ true → eqb (getD hits k 0) 1 ≡ true
+      hit-of k h t =
+          let r = any-tab (λ q. critical-with m from q && eqb (face-code m q) (getD codes k 0)) (λ q. q) (getD m 2 0) t in
+          let i = finds (r .0) k h (and-left (critical-with m from (r .0)) _ (r .2)) (eqb-true (face-code m (r .0)) (getD codes k 0) (and-right (critical-with m from (r .0)) _ (r .2))) in
+          eq-eqb (getD hits k 0) 1 (ap (λ (j : ℕ). getD hits j 0) (sym i) ∙ w .marked (r .0) (r .1))
+
+  -- what table and marks say
+  pub each-named : {table hits : List ℕ} {n : ℕ} {r : Bool} → n ≡ getD m 2 0 → Indexed (code-index m from codes c) n table → HitsAre (λ p. getD table p 0) n hits → r ≡ all-hit hits c → EachNamed m from codes c table r
+  each-named {table} {hits} {n} {r} e d w k = let d′ : Indexed (code-index m from codes c) (getD m 2 0) table = rw e at d in record { said = k ∙ hits-names (hits-indexed d′ (rw e at w)); indexed = d′ }
+
+  -- an index is at most c
+  pub index-fits : {table : List ℕ} {n : ℕ} → Indexed (code-index m from codes c) n table → (p : ℕ) → p < n → getD table p 0 < 4097
+  index-fits d p h = omega (arith, d .index-is p h, index-few m from codes c p, ready .few)
+
+-- ALL PASSED
+pub hits-end : {index : ℕ → ℕ} {p n : ℕ} {hits : List ℕ} → p ≤ n → n ≤ p → HitsAre index p hits → HitsAre index n hits
+hits-end {index} {p} {n} {hits} a b w = let e : p ≡ n = omega arith in rw e at w
+
+pub all-below-end : (t : ℕ → Bool) {k n : ℕ} {ok : Bool} → k ≤ n → n ≤ k → ok ≡ all-below t k → ok ≡ all-below t n
+all-below-end t {k} {n} a b e = let s : k ≡ n = omega arith in e ∙ ap (all-below t) s

@@ -1,0 +1,10 @@
+pub mod Faces
+pub mod Names
+pub mod Lows
+pub mod ReadCodes
+pub mod Indices
+pub mod Hits
+pub mod Rewriting
+pub mod NewOwner
+pub mod AllLabels
+pub mod Answered

@@ -1,0 +1,52 @@
+-- `redirect::codes::order` meets its contract: the first c codes are lent to `sort::distinct`.
+-- Assumes nothing.
+use lib.Seq.{length-take-le}
+use mathlib.Core.Path.{sym, _∙_}
+use Rattle.redirect.proofs.ReadCodes.{sorted-front}
+use native.Mathlib.Omega.{arith}
+use borrow.Author.Needs.{needs}
+use Rattle.redirect.proofs.codes.order.Statement.{statement}
+use Rattle.redirect.proofs.codes.order.Tie as tie
+
+slice-relend-prefix-distinct : tie.Need-slice-relend-prefix-distinct
+slice-relend-prefix-distinct c = search needs
+
+slice-aggregate-distinct : tie.Need-slice-aggregate-distinct
+slice-aggregate-distinct c =
+    sym (length-take-le _ _ (omega arith))
+
+slice-relend-prefix-distinct-2 : tie.Need-slice-relend-prefix-distinct-2
+slice-relend-prefix-distinct-2 c = search needs
+
+slice-aggregate-distinct-2 : tie.Need-slice-aggregate-distinct-2
+slice-aggregate-distinct-2 c =
+    sym (length-take-le _ _ (omega arith))
+
+distinct-requires : tie.Need-distinct-requires
+distinct-requires c κs =
+    let a = length-take-le (c .before .before .before .before .args .c) (c .before .before .before .before .args .codes .now) (omega arith) in
+    let b = length-take-le (c .before .before .before .before .args .c) (c .before .before .before .before .args .scratch .now) (omega arith) in
+    b ∙ sym a
+
+same-length : tie.Need-same-length
+same-length c = search needs
+
+same-length-2 : tie.Need-same-length-2
+same-length-2 c = search needs
+
+returns : tie.Need-returns
+returns c =
+    (c .before .before .before .before .distinct .ensures .0, sorted-front (c .before .before .before .before .before .before .before .before .before .args .codes .now) (c .before .before .before .before .before .before .before .before .before .args .c) (omega (arith, c .before .before .before .before .before .before .before .before .before .pre)) (c .before .before .before .before .distinct .ensures .1), search needs)
+
+pub order-spec : {M : Type 1} → statement M
+order-spec =
+    tie.close
+    (tie.spec
+    slice-relend-prefix-distinct
+    slice-aggregate-distinct
+    slice-relend-prefix-distinct-2
+    slice-aggregate-distinct-2
+    distinct-requires
+    same-length
+    same-length-2
+    returns)

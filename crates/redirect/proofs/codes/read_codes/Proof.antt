@@ -1,0 +1,86 @@
+-- `redirect::codes::read_codes` meets its contract. The loop's invariant: the codes below i are those of the labels passed.
+-- The measure is what is left of the labels. Assumes nothing.
+use Prim.Native.Nat.{_-_}
+use mathlib.Core.Path.{sym, _∙_}
+use Rattle.redirect.proofs.ReadCodes.{Reading, reading-start, reading-more, reading-bad, reading-end}
+use native.Mathlib.Omega.{arith}
+use borrow.Author.Needs.{needs}
+use Rattle.redirect.proofs.codes.read_codes.Statement.{statement}
+use Rattle.redirect.proofs.codes.read_codes.Tie as tie
+
+abbrev Inv-loop : tie.InvT-loop
+Inv-loop s at count codes₀ i₀ p₀ codes i p =
+    Reading s at count codes i p
+
+abbrev μ-loop : tie.MeasureT-loop
+μ-loop s at count codes₀ i₀ p₀ codes i p =
+    count - i
+
+loop-holds : tie.Need-loop-holds Inv-loop μ-loop
+loop-holds c =
+    reading-start _ _ _ (c .before .before .pre .0) (c .before .before .pre .2)
+
+read-label-requires : tie.Need-read-label-requires Inv-loop μ-loop
+read-label-requires c κs = search needs
+
+enum-known-code : tie.Need-enum-known-code Inv-loop μ-loop
+enum-known-code c = search needs
+
+enum-told : tie.Need-enum-told Inv-loop μ-loop
+enum-told c = search needs
+
+same-length : tie.Need-same-length Inv-loop μ-loop
+same-length c =
+    c .before .before .before .before .loop .inv .size ∙ sym (c .before .before .before .before .before .before .before .pre .2)
+
+returns : tie.Need-returns Inv-loop μ-loop
+returns c =
+    reading-bad (c .before .before .before .before .loop .inv) (c .before .before .before .loop-test .taken) (sym (c .enum-told .given .1) ∙ c .before .before .read-label .ensures)
+
+mul-codes : tie.Need-mul-codes Inv-loop μ-loop
+mul-codes c =
+    omega (arith, c .before .before .before .before .loop-test .taken, c .before .before .before .before .before .before .before .before .pre .1)
+
+slice-write-codes : tie.Need-slice-write-codes Inv-loop μ-loop
+slice-write-codes c =
+    omega (arith, c .before .before .before .before .loop-test .taken, c .before .before .before .before .before .before .before .before .pre .1, c .before .before .before .before .before .loop .inv .size)
+
+add-i : tie.Need-add-i Inv-loop μ-loop
+add-i c =
+    omega (arith, c .before .before .before .before .loop-test .taken, c .before .before .before .before .before .before .before .before .pre .1)
+
+loop-less : tie.Need-loop-less Inv-loop μ-loop
+loop-less c =
+    omega (arith, c .before .before .before .before .loop-test .taken)
+
+loop-again : tie.Need-loop-again Inv-loop μ-loop
+loop-again c =
+    reading-more (c .before .before .before .before .before .loop .inv) (c .before .before .before .before .loop-test .taken) (c .before .before .before .before .before .before .before .before .pre .1) (sym (c .before .code .given .1) ∙ c .before .before .before .read-label .ensures)
+
+same-length-2 : tie.Need-same-length-2 Inv-loop μ-loop
+same-length-2 c =
+    c .before .loop .inv .size ∙ sym (c .before .before .before .before .pre .2)
+
+returns-2 : tie.Need-returns-2 Inv-loop μ-loop
+returns-2 c =
+    reading-end (c .before .loop .inv) (c .loop-test .left)
+
+pub read-codes-spec : {M : Type 1} → statement M
+read-codes-spec =
+    tie.close
+    (tie.spec
+    Inv-loop
+    μ-loop
+    loop-holds
+    read-label-requires
+    enum-known-code
+    enum-told
+    same-length
+    returns
+    mul-codes
+    slice-write-codes
+    add-i
+    loop-less
+    loop-again
+    same-length-2
+    returns-2)

@@ -1,0 +1,77 @@
+-- `redirect::least::paint_face` meets its contract. The loop's invariant: the darts before p have the number.
+-- The measure is what is left of the face. Assumes nothing.
+use Prim.Native.Nat.{_-_}
+use lib.ListN.{length, length-set}
+use Rattle.model.specs.Cells.{cycle}
+use Rattle.model.specs.Image.{column}
+use Rattle.laws.proofs.Orbits.{path}
+use Rattle.cells.specs.Places.{Painted}
+use Rattle.cells.proofs.Paths.{Going, round, going-start, going-next, paint-none, paint-next, paint-last}
+use native.Mathlib.Omega.{arith}
+use Rattle.redirect.proofs.least.paint_face.Statement.{statement}
+use Rattle.redirect.proofs.least.paint_face.Tie as tie
+
+abbrev Inv-loop : tie.InvT-loop
+Inv-loop block n start number table₀ steps₀ p₀ table steps p =
+    Going n (column block 1) start (length (cycle (column block 1) start)) steps p × Painted number (path (column block 1) steps start) table₀ table
+
+abbrev μ-loop : tie.MeasureT-loop
+μ-loop block n start number table₀ steps₀ p₀ table steps p =
+    length (cycle (column block 1) start) - steps
+
+loop-holds : tie.Need-loop-holds Inv-loop μ-loop
+loop-holds c =
+    let l = c .before .before .pre .0 in
+    (going-start (round (l .few) (l .next-within) (l .next-apart) _ (c .before .before .pre .1)) (c .before .before .pre .1), paint-none _ _)
+
+mul-table : tie.Need-mul-table Inv-loop μ-loop
+mul-table c =
+    omega (arith, c .loop .inv .0 .below, c .before .before .before .pre .0 .few)
+
+slice-write-table : tie.Need-slice-write-table Inv-loop μ-loop
+slice-write-table c =
+    omega (arith, c .loop .inv .0 .below, c .before .before .before .pre .0 .few, c .loop .inv .1 .size, c .before .before .before .pre .2)
+
+add-steps : tie.Need-add-steps Inv-loop μ-loop
+add-steps c =
+    let l = c .before .before .before .pre .0 in
+    omega (arith, c .loop .inv .0 .less, round (l .few) (l .next-within) (l .next-apart) (c .before .before .before .args .start) (c .before .before .before .pre .1) .few)
+
+field-requires : tie.Need-field-requires Inv-loop μ-loop
+field-requires c κs =
+    (omega (arith, c .loop .inv .0 .below, c .before .before .before .pre .0 .few), omega arith, c .before .before .before .pre .0 .size)
+
+same-length : tie.Need-same-length Inv-loop μ-loop
+same-length c =
+    simp length-set (c .before .before .loop .inv .1 .size)
+
+returns : tie.Need-returns Inv-loop μ-loop
+returns c =
+    let l = c .before .before .before .before .before .pre .0 in
+    paint-last (l .next-within) (round (l .few) (l .next-within) (l .next-apart) _ (c .before .before .before .before .before .pre .1)) (c .before .before .loop .inv .0) (c .before .before .loop .inv .1) (omega (arith, c .before .before .loop .inv .0 .below, c .before .before .before .before .before .pre .0 .few, c .before .before .before .before .before .pre .2)) (c .before .field .ensures) (c .if1 .taken)
+
+loop-less : tie.Need-loop-less Inv-loop μ-loop
+loop-less c =
+    omega (arith, c .before .before .loop .inv .0 .less)
+
+loop-again : tie.Need-loop-again Inv-loop μ-loop
+loop-again c =
+    let l = c .before .before .before .before .before .pre .0 in
+    let r = round (l .few) (l .next-within) (l .next-apart) _ (c .before .before .before .before .before .pre .1) in
+    (going-next (l .next-within) r (c .before .before .loop .inv .0) (c .before .field .ensures) (c .if1 .left), paint-next (l .next-within) r (c .before .before .loop .inv .0) (c .before .before .loop .inv .1) (omega (arith, c .before .before .loop .inv .0 .below, c .before .before .before .before .before .pre .0 .few, c .before .before .before .before .before .pre .2)))
+
+pub paint-face-spec : {M : Type 1} → statement M
+paint-face-spec =
+    tie.close
+    (tie.spec
+    Inv-loop
+    μ-loop
+    loop-holds
+    mul-table
+    slice-write-table
+    add-steps
+    field-requires
+    same-length
+    returns
+    loop-less
+    loop-again)

@@ -1,0 +1,2 @@
+pub mod ByPlaces
+pub mod Told

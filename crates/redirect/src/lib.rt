@@ -1,0 +1,136 @@
+// Redirect, the paper's tell: an update names critical faces by their least labels, and they get a new other block.
+mod least; // least.rt: along a face
+mod codes; // codes.rt: the labels of an update, as codes in order
+mod named; // named.rt: the faces that they name
+
+ghost use mathlib.Core.Path.{_≡_};
+ghost use mathlib.Core.Bool.{true, not, _&&_};
+ghost use Prim.Native.Nat.{_≤_};
+ghost use lib.Dec.{eqb};
+ghost use lib.ListN.{length, getD, replicate};
+ghost use Rattle.model.specs.Values.{rack};
+ghost use Rattle.model.specs.Image.{room, words, block-in, is-image};
+ghost use Rattle.model.specs.Arrival.{addressed};
+ghost use Rattle.model.specs.Calls.{redirect as told};
+ghost use Rattle.answers.specs.Answers.{answer-of, Gives};
+ghost use Rattle.redirect.specs.ByPlaces.{Ready, EachNamed, AllNamed};
+ghost use Rattle.redirect.specs.Told.{KindRead, Follows, Redirects};
+use answers::Answer;
+use answers::Refusal;
+use inbox::message::Update;
+use inbox::received::Received;
+use memory::header::Header;
+
+// 16: the message that a slice is.
+fn received(s: &[u8]) -> Received
+    ensures { λ r. ⌜ KindRead (now (s .entry)) r ⌝ }
+{
+    let mut vertex = [0u64; 512];
+    let mut serial = [0u64; 512];
+    let mut starts = [0usize; 512];
+    let mut sizes = [0usize; 512];
+    inbox::received::message_in(s, &mut vertex, &mut serial, &mut starts, &mut sizes)
+}
+
+// 17: addressed here, from elsewhere.
+fn for_here(block: &[u64], from: u64, to: u64) -> bool
+    requires { ⌜ length (now block) ≡ words ⌝ }
+    ensures { λ r. ⌜ r ≡ addressed from to (block-in (now (block .entry))) ⌝ }
+{
+    (to == block[0]) & (from != block[0])
+}
+
+// 22: the new block is neither end.
+fn neither(new: u64, from: u64, to: u64) -> bool
+    ensures { λ r. ⌜ r ≡ (not (eqb new from) && not (eqb new to)) ⌝ }
+{
+    (new != from) & (new != to)
+}
+
+// 22: whether each of the first c codes, which ascend, is the least label of a face critical with block `from`. The index of each dart's
+// code goes into `table`.
+fn each_named(
+    block: &[u64],
+    n: usize,
+    from: u64,
+    codes: &[u64],
+    c: usize,
+    table: &mut [usize],
+) -> bool
+    requires { ⌜ (is-image rack (now block) ≡ true) × (n ≡ getD (now block) 2 0) × (from ≤ 15) × Ready (now codes) c × (now table ≡ replicate room 4097) ⌝ }
+    ensures { λ r. ⌜ EachNamed (now (block .entry)) from (now (codes .entry)) c (now (table .exit)) r ⌝ }
+{
+    named::index_faces(block, n, from, codes, c, table);
+    let mut hits = [0u8; 4097];
+    named::hit(table, n, &mut hits);
+    named::all_hit(&hits, c)
+}
+
+// 22: whether the labels differ, and each is the least of a face critical with block `from`. The darts of these faces have a number below
+// `count` in `table`.
+fn all_named(
+    block: &[u64],
+    n: usize,
+    from: u64,
+    s: &[u8],
+    at: usize,
+    count: usize,
+    table: &mut [usize],
+) -> bool
+    requires { ⌜ (is-image rack (now block) ≡ true) × (n ≡ getD (now block) 2 0) × (from ≤ 15) × (at ≤ length (now s)) × (count ≤ room) ⌝ }
+    requires { ⌜ now table ≡ replicate room 4097 ⌝ }
+    ensures { λ r. ⌜ AllNamed (now (block .entry)) (now (s .entry)) from at count (now (table .exit)) r ⌝ }
+{
+    let mut codes = [0u64; 4096];
+    codes::read_codes(s, at, count, &mut codes);
+    let mut scratch = [0u64; 4096];
+    if !codes::order(&mut codes, &mut scratch, count) {
+        return false;
+    }
+    each_named(block, n, from, &codes, count, table)
+}
+
+// 17 and 22 of an update, then its faces get the new block.
+fn redirect_update(block: &mut [u64], s: &[u8], u: Update) -> Answer
+    requires { ⌜ (is-image rack (now block) ≡ true) × Follows (now s) u ⌝ }
+    ensures { λ r. ⌜ Redirects (now (block .entry)) (now (s .entry)) u (answer-of r) (now (block .exit)) ⌝ }
+{
+    let from = u.from;
+    if !for_here(block, from, u.to) {
+        return Answer::Refused(Refusal::NotForHere);
+    }
+    if !neither(u.block, from, u.to) {
+        return Answer::Refused(Refusal::UpdateWrong);
+    }
+    // Each label names a face of its own.
+    if 4096 < u.count {
+        return Answer::Refused(Refusal::UpdateWrong);
+    }
+    let n = block[2] as usize;
+    let count = u.count as usize;
+    let mut table = [4097usize; 4096];
+    if !all_named(block, n, from, s, u.labels, count, &mut table) {
+        return Answer::Refused(Refusal::UpdateWrong);
+    }
+    named::rewrite(block, n, 2 + 4 * u.block, &table, count);
+    Answer::Served
+}
+
+// Redirects the faces that an update names. 1: is the memory of a block's size? 2: is it a sound block's image? 16: is the slice a
+// message? 17: an update, addressed here, from elsewhere? 22: is the new block neither end, and does each label name a face of its own?
+// A refused call leaves the memory.
+pub fn redirect(block: &mut [u64], message: &[u8]) -> Answer
+    ensures { λ r. ⌜ Gives (told rack (now (block .entry)) (now (message .entry))) (answer-of r) (now (block .exit)) ⌝ }
+{
+    if block.len() != Header::WORDS {
+        return Answer::Refused(Refusal::MemorySize);
+    }
+    if !sound::is_sound(block) {
+        return Answer::Refused(Refusal::NotAnImage);
+    }
+    match received(message) {
+        Received::Transfer(f, t) => Answer::Refused(Refusal::NotForHere),
+        Received::Update(u) => redirect_update(block, message, u),
+        Received::Nothing => Answer::Refused(Refusal::MessageLayout),
+    }
+}

@@ -1,0 +1,85 @@
+// The faces that the codes of an update name: the index of each dart's code, whether each code names a face, and kind words set.
+ghost use mathlib.Core.Path.{_≡_};
+ghost use mathlib.Core.Bool.{true};
+ghost use Prim.Native.Nat.{ℕ, _≤_, _<_};
+ghost use lib.Dec.{ltb};
+ghost use lib.ListN.{length, getD, replicate};
+ghost use Rattle.model.specs.Values.{rack};
+ghost use Rattle.model.specs.Image.{room, words, is-image};
+ghost use Rattle.redirect.specs.ByPlaces.{code-index, Ready, Indexed, HitsAre, all-hit, Rewritten};
+use crate::codes;
+use crate::least;
+use memory::record;
+use memory::record::Place;
+
+// The index among the first c codes of the least label of each dart's face, by place; c where it is none of them, and where the face is
+// not critical with block `from`. A place that is not passed yet has 4,097.
+pub fn index_faces(block: &[u64], n: usize, from: u64, codes: &[u64], c: usize, table: &mut [usize])
+    requires { ⌜ (is-image rack (now block) ≡ true) × (n ≡ getD (now block) 2 0) × (from ≤ 15) × Ready (now codes) c × (now table ≡ replicate room 4097) ⌝ }
+    ensures { λ _. ⌜ Indexed (code-index (now (block .entry)) from (now (codes .entry)) c) n (now (table .exit)) ⌝ }
+{
+    let kind = 2 + 4 * from;
+    // The places below p have their index, and so has each place whose face has a dart below p.
+    let mut p = 0;
+    while p < n {
+        if table[p] != 4097 {
+            p += 1;
+            continue;
+        }
+        if record::field(block, Place(p), 3) != kind {
+            table[p] = c;
+            p += 1;
+            continue;
+        }
+        let code = least::face_code(block, n, p);
+        let k = codes::index_of(codes, c, code);
+        least::paint_face(block, n, p, k, table);
+        p += 1;
+    }
+}
+
+// Marks each index that a dart has.
+pub fn hit(table: &[usize], n: usize, hits: &mut [u8])
+    requires { ⌜ (n ≤ room) × (length (now table) ≡ room) × ((p : ℕ) → p < n → getD (now table) p 0 < 4097) × (now hits ≡ replicate 4097 0) ⌝ }
+    ensures { λ _. ⌜ HitsAre (λ p. getD (now (table .entry)) p 0) n (now (hits .exit)) ⌝ }
+{
+    // The indices at the places below p are marked.
+    let mut p = 0;
+    while p < n {
+        let k = table[p];
+        hits[k] = 1;
+        p += 1;
+    }
+}
+
+// Whether the first c are marked.
+pub fn all_hit(hits: &[u8], c: usize) -> bool
+    requires { ⌜ c ≤ length (now hits) ⌝ }
+    ensures { λ r. ⌜ r ≡ all-hit (now (hits .entry)) c ⌝ }
+{
+    // Those below k are, if ok.
+    let mut ok = true;
+    let mut k = 0;
+    while k < c {
+        ok = ok & (hits[k] == 1);
+        k += 1;
+    }
+    ok
+}
+
+// Sets the kind word of the darts whose index is below c.
+pub fn rewrite(block: &mut [u64], n: usize, word: u64, table: &[usize], c: usize)
+    requires { ⌜ (n ≤ room) × (length (now block) ≡ words) × (length (now table) ≡ room) ⌝ }
+    ensures { λ _. ⌜ Rewritten (now (block .entry)) (now (block .exit)) (λ p. ltb (getD (now (table .entry)) p 0) c) word n ⌝ }
+{
+    // The words at the places below p are set.
+    let mut p = 0;
+    while p < n {
+        if c <= table[p] {
+            p += 1;
+            continue;
+        }
+        record::put_field(block, Place(p), 3, word);
+        p += 1;
+    }
+}

@@ -1,0 +1,3 @@
+pub mod Labelling
+pub mod Removing
+pub mod LettingGo

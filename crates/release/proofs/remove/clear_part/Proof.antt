@@ -1,0 +1,39 @@
+-- `release::remove::clear_part` meets its contract: the part that is lent comes back as zeros. Assumes nothing.
+use Rattle.release.proofs.Removing.{part-cleared}
+use borrow.Author.Needs.{needs}
+use Rattle.release.proofs.remove.clear_part.Statement.{statement}
+use Rattle.release.proofs.remove.clear_part.Tie as tie
+
+mul-clear : tie.Need-mul-clear
+mul-clear c = search needs
+
+sub-clear : tie.Need-sub-clear
+sub-clear c = search needs
+
+part-clear-start : tie.Need-part-clear-start
+part-clear-start c = search needs
+
+part-clear-end : tie.Need-part-clear-end
+part-clear-end c = search needs
+
+clear-requires : tie.Need-clear-requires
+clear-requires c κs = search needs
+
+same-length : tie.Need-same-length
+same-length c = search needs
+
+returns : tie.Need-returns
+returns c =
+    part-cleared (c .before .before .before .before .before .args .block .now) (c .before .before .before .before .before .args .a) (c .before .before .before .before .before .args .e) (c .before .before .before .before .before .pre .0) (c .before .before .before .before .before .pre .1) (c .before .before .clear .ensures)
+
+pub clear-part-spec : {M : Type 1} → statement M
+clear-part-spec =
+    tie.close
+    (tie.spec
+    mul-clear
+    sub-clear
+    part-clear-start
+    part-clear-end
+    clear-requires
+    same-length
+    returns)

@@ -1,0 +1,75 @@
+-- `release::remove::compact` meets its contract. The loop's invariant: the unmarked records below i stand in front.
+-- The measure is what is left of the places. Assumes nothing.
+use Prim.Native.Nat.{_+_, _*_, _-_, _≤_}
+use mathlib.Core.Path.{_∙_}
+use mathlib.Core.Logic.{⊎-elim}
+use lib.ListN.{length}
+use Rattle.removal.specs.LetGo.{rank, moved-words}
+use Rattle.release.specs.Asks.{Moved}
+use Rattle.release.proofs.Removing.{length-moved, moved-start, count-le, moved-none, moved-one, moved-end, links-fit, one-move}
+use native.Mathlib.Omega.{arith}
+use Rattle.release.proofs.remove.compact.Statement.{statement}
+use Rattle.release.proofs.remove.compact.Tie as tie
+
+abbrev Inv-loop : tie.InvT-loop
+Inv-loop block₀ n marks table w₀ i₀ block w i =
+    (i ≤ n) × Moved (moved-words (rank marks) block₀) block₀ marks i block w
+
+abbrev μ-loop : tie.MeasureT-loop
+μ-loop block₀ n marks table w₀ i₀ block w i =
+    n - i
+
+loop-holds : tie.Need-loop-holds Inv-loop μ-loop
+loop-holds c =
+    (omega arith, moved-start _ _ _)
+
+shared-slice-read-if1 : tie.Need-shared-slice-read-if1 Inv-loop μ-loop
+shared-slice-read-if1 c =
+    omega (arith, c .before .loop-test .taken, c .before .before .before .before .before .before .pre .0 .few, c .before .before .before .before .before .before .pre .1)
+
+move-record-requires : tie.Need-move-record-requires Inv-loop μ-loop
+move-record-requires c κs =
+    ((c .before .before .before .before .loop .inv .1 .len ∙ c .before .before .before .before .before .before .before .before .pre .0 .size, c .before .before .before .before .before .before .before .before .pre .2, omega (arith, c .before .before .before .loop-test .taken, c .before .before .before .before .before .before .before .before .pre .0 .few), count-le (c .before .before .before .before .loop .inv .1) (omega (arith, c .before .before .before .loop-test .taken, c .before .before .before .before .before .before .before .before .pre .0 .few, c .before .before .before .before .before .before .before .before .pre .0 .size))), links-fit (c .before .before .before .before .before .before .before .before .pre .0) (c .before .before .before .before .before .before .before .before .args .table .now) (c .before .before .before .before .before .before .before .before .pre .3) (c .before .before .before .before .loop .inv .1) (c .before .before .before .loop-test .taken))
+
+add-w : tie.Need-add-w Inv-loop μ-loop
+add-w c =
+    omega (arith, count-le (c .before .before .before .before .before .before .before .loop .inv .1) (omega (arith, c .before .before .before .before .before .before .loop-test .taken, c .before .before .before .before .before .before .before .before .before .before .before .pre .0 .few, c .before .before .before .before .before .before .before .before .before .before .before .pre .0 .size)), c .before .before .before .before .before .before .loop-test .taken, c .before .before .before .before .before .before .before .before .before .before .before .pre .0 .few)
+
+add-i : tie.Need-add-i Inv-loop μ-loop
+add-i c =
+    omega (arith, c .before .before .loop-test .taken, c .before .before .before .before .before .before .before .pre .0 .few)
+
+loop-less : tie.Need-loop-less Inv-loop μ-loop
+loop-less c =
+    omega (arith, c .before .before .loop-test .taken)
+
+loop-again : tie.Need-loop-again Inv-loop μ-loop
+loop-again c =
+    let v = c .before .before .before .loop .inv .1 in
+    let l = c .before .before .loop-test .taken in
+    let fits : 8 + (c .before .before .before .loop .i + 1) * 8 ≤ length (c .before .before .before .before .before .before .before .args .block .now) = omega (arith, l, c .before .before .before .before .before .before .before .pre .0 .few, c .before .before .before .before .before .before .before .pre .0 .size) in
+    (omega arith, ⊎-elim (λ a. moved-one v fits (a .0 .taken) (length-moved _ _ _) (one-move (c .before .before .before .before .before .before .before .pre .0) (c .before .before .before .before .before .before .before .args .table .now) (c .before .before .before .before .before .before .before .pre .3) v l) (a .5 ∙ a .2 .ensures) (a .6)) (λ a. moved-none v fits (a .0 .left) (a .1) (a .2)) (c .if1 .came))
+
+same-length : tie.Need-same-length Inv-loop μ-loop
+same-length c =
+    c .before .loop .inv .1 .len
+
+returns : tie.Need-returns Inv-loop μ-loop
+returns c =
+    moved-end (c .before .loop .inv .1) (c .before .loop .inv .0) (c .loop-test .left)
+
+pub compact-spec : {M : Type 1} → statement M
+compact-spec =
+    tie.close
+    (tie.spec
+    Inv-loop
+    μ-loop
+    loop-holds
+    shared-slice-read-if1
+    move-record-requires
+    add-w
+    add-i
+    loop-less
+    loop-again
+    same-length
+    returns)

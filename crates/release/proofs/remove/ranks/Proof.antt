@@ -1,0 +1,74 @@
+-- `release::remove::ranks` meets its contract. The loop's invariant: the places below p have ranks.
+-- The measure is what is left of the places. Assumes nothing.
+use mathlib.Core.Path.{refl, sym, _∙_}
+use mathlib.Core.Logic.{⊎-elim}
+use Prim.Native.Nat.{_-_}
+use Rattle.release.proofs.Removing.{Ranking, ranking-start, kept-le, ranking-one, ranking-none, ranking-end}
+use native.Mathlib.Omega.{arith}
+use Rattle.release.proofs.remove.ranks.Statement.{statement}
+use Rattle.release.proofs.remove.ranks.Tie as tie
+
+abbrev Inv-loop : tie.InvT-loop
+Inv-loop marks n table₀ kept₀ p₀ table kept p =
+    Ranking marks n table kept p
+
+abbrev μ-loop : tie.MeasureT-loop
+μ-loop marks n table₀ kept₀ p₀ table kept p =
+    n - p
+
+loop-holds : tie.Need-loop-holds Inv-loop μ-loop
+loop-holds c =
+    ranking-start _ _ _ (c .pre .2)
+
+mul-table : tie.Need-mul-table Inv-loop μ-loop
+mul-table c =
+    omega (arith, c .loop-test .taken, c .before .before .pre .0)
+
+slice-write-table : tie.Need-slice-write-table Inv-loop μ-loop
+slice-write-table c =
+    omega (arith, c .loop-test .taken, c .before .before .pre .0, c .before .loop .inv .len)
+
+shared-slice-read-if1 : tie.Need-shared-slice-read-if1 Inv-loop μ-loop
+shared-slice-read-if1 c =
+    omega (arith, c .before .loop-test .taken, c .before .before .before .pre .0, c .before .before .before .pre .1)
+
+add-kept : tie.Need-add-kept Inv-loop μ-loop
+add-kept c =
+    omega (arith, kept-le (c .before .before .before .loop .inv) (c .before .before .loop-test .taken) (c .before .before .before .before .pre .0), c .before .before .loop-test .taken, c .before .before .before .before .pre .0)
+
+add-p : tie.Need-add-p Inv-loop μ-loop
+add-p c =
+    omega (arith, c .before .before .loop-test .taken, c .before .before .before .before .pre .0)
+
+loop-less : tie.Need-loop-less Inv-loop μ-loop
+loop-less c =
+    omega (arith, c .before .before .loop-test .taken)
+
+loop-again : tie.Need-loop-again Inv-loop μ-loop
+loop-again c =
+    ⊎-elim (λ a. ranking-one (c .before .before .before .loop .inv) (c .before .before .loop-test .taken) (c .before .before .before .before .pre .0) (a .0 .taken) refl (a .1)) (λ a. ranking-none (c .before .before .before .loop .inv) (c .before .before .loop-test .taken) (c .before .before .before .before .pre .0) (a .0 .left) refl (a .1)) (c .if1 .came)
+
+same-length : tie.Need-same-length Inv-loop μ-loop
+same-length c =
+    c .before .loop .inv .len ∙ sym (c .before .before .pre .2)
+
+returns : tie.Need-returns Inv-loop μ-loop
+returns c =
+    ranking-end (c .before .loop .inv) (c .loop-test .left)
+
+pub ranks-spec : {M : Type 1} → statement M
+ranks-spec =
+    tie.close
+    (tie.spec
+    Inv-loop
+    μ-loop
+    loop-holds
+    mul-table
+    slice-write-table
+    shared-slice-read-if1
+    add-kept
+    add-p
+    loop-less
+    loop-again
+    same-length
+    returns)

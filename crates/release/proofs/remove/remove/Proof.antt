@@ -1,0 +1,73 @@
+-- `release::remove::remove` meets its contract: ranks, records moved, the rest cleared, the header stored. Assumes nothing.
+use lib.ListN.{getD}
+use Rattle.release.proofs.Removing.{all-removed}
+use Rattle.removal.proofs.Ranks.{rank-le}
+use native.Mathlib.Omega.{arith}
+use borrow.Author.Needs.{needs}
+use Rattle.release.proofs.remove.remove.Statement.{statement}
+use Rattle.release.proofs.remove.remove.Tie as tie
+
+slice-read-number : tie.Need-slice-read-number
+slice-read-number c = search needs
+
+slice-read-n : tie.Need-slice-read-n
+slice-read-n c = search needs
+
+slice-aggregate-ranks : tie.Need-slice-aggregate-ranks
+slice-aggregate-ranks c = search needs
+
+ranks-requires : tie.Need-ranks-requires
+ranks-requires c κs = search needs
+
+slice-aggregate-compact : tie.Need-slice-aggregate-compact
+slice-aggregate-compact c = search needs
+
+compact-requires : tie.Need-compact-requires
+compact-requires c κs = search needs
+
+mul-clear-part : tie.Need-mul-clear-part
+mul-clear-part c =
+    omega (arith, c .before .before .before .compact .ensures .count, rank-le (getD (c .before .before .before .before .before .before .before .before .before .before .before .before .before .args .block .now) 2 0) (c .before .before .before .before .before .before .before .before .before .before .before .before .before .args .marks .now), c .before .before .before .before .before .before .before .before .before .before .before .before .before .pre .0 .0 .few)
+
+add-clear-part : tie.Need-add-clear-part
+add-clear-part c =
+    omega (arith, c .before .before .before .compact .ensures .count, rank-le (getD (c .before .before .before .before .before .before .before .before .before .before .before .before .before .args .block .now) 2 0) (c .before .before .before .before .before .before .before .before .before .before .before .before .before .args .marks .now), c .before .before .before .before .before .before .before .before .before .before .before .before .before .pre .0 .0 .few)
+
+mul-clear-part-2 : tie.Need-mul-clear-part-2
+mul-clear-part-2 c = search needs
+
+add-clear-part-2 : tie.Need-add-clear-part-2
+add-clear-part-2 c = search needs
+
+clear-part-requires : tie.Need-clear-part-requires
+clear-part-requires c κs =
+    (omega (arith, c .before .before .before .compact .ensures .count, rank-le (getD (c .before .before .before .before .before .before .before .before .before .before .before .before .before .args .block .now) 2 0) (c .before .before .before .before .before .before .before .before .before .before .before .before .before .args .marks .now)), omega (arith, c .before .before .before .compact .ensures .len, c .before .before .before .before .before .before .before .before .before .before .before .before .before .pre .0 .0 .size, c .before .before .before .before .before .before .before .before .before .before .before .before .before .pre .0 .0 .few))
+
+write-requires : tie.Need-write-requires
+write-requires c κs = search needs
+
+same-length : tie.Need-same-length
+same-length c = search needs
+
+returns : tie.Need-returns
+returns c =
+    all-removed (c .before .before .before .before .before .before .before .before .before .before .before .before .before .before .before .before .before .before .before .before .args .block .now) (c .before .before .before .before .before .before .before .before .before .before .before .before .before .before .before .before .before .before .before .before .args .marks .now) (c .before .before .before .before .before .before .before .before .before .before .before .before .before .before .before .before .before .before .before .before .pre .0 .0 .size) (c .before .before .before .before .before .before .before .before .before .before .before .before .before .before .before .before .before .before .before .before .pre .0 .0 .few) (c .before .before .before .before .before .before .before .before .before .before .before .before .before .before .before .before .before .before .before .before .pre .1) (c .before .before .before .before .before .before .before .before .before .before .compact .ensures) (c .before .before .before .before .before .before .clear-part .ensures) (c .before .before .write .ensures)
+
+pub remove-spec : {M : Type 1} → statement M
+remove-spec =
+    tie.close
+    (tie.spec
+    slice-read-number
+    slice-read-n
+    slice-aggregate-ranks
+    ranks-requires
+    slice-aggregate-compact
+    compact-requires
+    mul-clear-part
+    add-clear-part
+    mul-clear-part-2
+    add-clear-part-2
+    clear-part-requires
+    write-requires
+    same-length
+    returns)

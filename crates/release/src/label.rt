@@ -1,0 +1,75 @@
+// The labels of the faces that a volume leaves behind.
+ghost use mathlib.Core.Path.{_≡_};
+ghost use Prim.Native.Nat.{_+_, _≤_, _<_, _^_};
+ghost use lib.ListN.{length, getD};
+ghost use Rattle.model.specs.Values.{critical};
+ghost use Rattle.model.specs.Cells.{cycle};
+ghost use Rattle.model.specs.Image.{room, words, column};
+ghost use Rattle.model.specs.Departure.{label-links};
+ghost use Rattle.cells.specs.Places.{InOrder};
+ghost use Rattle.departure.specs.Asked.{faces-at};
+ghost use Rattle.removal.specs.LetGo.{with-link, with-links, sewn-at, left-behind};
+ghost use Rattle.release.specs.Asks.{Sewing, Same};
+use cells::walk;
+use memory::record;
+use memory::record::Place;
+
+// The dart at place q becomes critical with block `to`, with a label that block `maker` makes.
+fn put_label(block: &mut [u64], q: usize, to: u64, maker: u64, number: u64, position: usize)
+    requires { ⌜ (length (now block) ≡ words) × (q < room) × (to ≤ 15) × (maker < 16) × (number < 2 ^ 32) × (position < room) ⌝ }
+    ensures { λ _. ⌜ now (block .exit) ≡ with-link (now (block .entry)) (record { dart = q; third = critical to (record { maker = maker; number = number; position = position }) }) ⌝ }
+{
+    let code = memory::label::code_of(maker, number, position as u64);
+    record::put_field(block, Place(q), 3, 2 + 4 * to);
+    record::put_field(block, Place(q), 4, code);
+}
+
+// Labels the darts that the face of the dart at place `start` is sewn to, along that face.
+fn label_face(block: &mut [u64], n: usize, marks: &[u8], start: usize, to: u64, number: u64)
+    requires { ⌜ Sewing (now block) (now marks) n × (start < n) × (getD (now marks) start 0 ≡ 1) × (column (now block) 3 start ≡ 1) × (to ≤ 15) × (number < 2 ^ 32) ⌝ }
+    ensures same { λ _. ⌜ Same (now (block .entry)) (now (marks .entry)) (now (block .exit)) ⌝ }
+    ensures labelled { λ _. ⌜ now (block .exit) ≡ with-links (now (block .entry)) (label-links (column (now (block .entry)) 4) to (getD (now (block .entry)) 0 0) number 0 (cycle (column (now (block .entry)) 1) start)) ⌝ }
+{
+    let maker = block[0];
+    // The darts sewn to those from `start` up to the one before p, i of them, have labels.
+    let mut i = 0;
+    let mut p = start;
+    loop {
+        let q = walk::field(block, p, 4) as usize;
+        put_label(block, q, to, maker, number, i);
+        i += 1;
+        p = walk::field(block, p, 1) as usize;
+        if p == start {
+            return;
+        }
+    }
+}
+
+// Labels the faces that the marked volume leaves behind when it goes to block `to`.
+pub fn label_faces(
+    block: &mut [u64],
+    marks: &[u8],
+    order: &[usize],
+    starts: &[usize],
+    darts: usize,
+    count: usize,
+    to: u64,
+)
+    requires { ⌜ Sewing (now block) (now marks) (getD (now block) 2 0) × InOrder (faces-at (now block) (now marks)) (now order) (now starts) darts count × (to ≤ 15) × (getD (now block) 1 0 + length (sewn-at (now block) (now marks)) < 2 ^ 32) ⌝ }
+    ensures { λ _. ⌜ now (block .exit) ≡ with-links (now (block .entry)) (left-behind (now (block .entry)) (now (marks .entry)) to) ⌝ }
+{
+    let n = block[2] as usize;
+    // The faces before f have labels; the next has `number`.
+    let mut number = block[1];
+    let mut f = 0;
+    while f < count {
+        let i = starts[f];
+        let p = order[i];
+        f += 1;
+        if walk::field(block, p, 3) != 1 {
+            continue;
+        }
+        label_face(block, n, marks, p, to, number);
+        number += 1;
+    }
+}

@@ -1,0 +1,5 @@
+pub mod PutLinks
+pub mod NewLinks
+pub mod Ranks
+pub mod CutFaces
+pub mod ReleasedImage

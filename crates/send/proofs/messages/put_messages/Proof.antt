@@ -1,0 +1,74 @@
+-- `send::messages::put_messages` meets its contract: the sum of both sizes is asked for, and then both are put. Assumes nothing.
+use Rattle.departure.proofs.FirstNo.{ranges-in}
+use Rattle.outbox.proofs.Ready.{listed, started}
+use Rattle.send.proofs.SentLaws.{messages-length, too-short, long-enough}
+use native.Mathlib.Omega.{arith}
+use borrow.Author.Needs.{needs}
+use Rattle.send.proofs.messages.put_messages.Statement.{statement}
+use Rattle.send.proofs.messages.put_messages.Tie as tie
+
+transfer-sizes-requires : tie.Need-transfer-sizes-requires
+transfer-sizes-requires c κs =
+    let st = c .before .before .before .before .before .before .before .before .before in
+    (st .pre .0, ((_, st .pre .1 .0), st .pre .1 .1 .0))
+
+updates-size-requires : tie.Need-updates-size-requires
+updates-size-requires c κs =
+    let st = c .before .before .before .before .before .before .before .before .before .before .before .before in
+    let m = st .args .block .now in
+    let ok = st .pre .0 in
+    ((listed m ok (st .pre .1 .0), started m ok (st .pre .1 .0)), (ranges-in m ok .number-small, st .pre .1 .1 .0 .0, st .pre .1 .1 .1 .0, st .pre .1 .1 .1 .1))
+
+add-if1 : tie.Need-add-if1
+add-if1 c =
+    let st = c .before .before .before .before .before .before .before .before .before .before .before .before .before .before .before .before .before .before in
+    omega (arith, c .before .before .before .before .before .updates-size .ensures .1, c .before .before .before .before .before .before .before .before .transfer-sizes .ensures _ (st .pre .1 .0) .small)
+
+same-length : tie.Need-same-length
+same-length c = search needs
+
+same-length-2 : tie.Need-same-length-2
+same-length-2 c = search needs
+
+returns : tie.Need-returns
+returns c =
+    let st = c .before .before .before .before .before .before .before .before .before .before .before .before .before .before .before .before .before .before .before in
+    let m = st .args .block .now in
+    too-short _ _ (messages-length m (st .pre .0) (st .args .to) (st .pre .1 .1 .0 .0) (st .pre .1 .0) (c .before .before .before .before .before .before .before .before .before .transfer-sizes .ensures _ (st .pre .1 .0)) (c .before .before .before .before .before .before .updates-size .ensures .0)) (c .if1 .taken)
+
+put-both-requires : tie.Need-put-both-requires
+put-both-requires c κs =
+    let st = c .before .before .before .before .before .before .before .before .before .before .before .before .before .before .before .before .before .before .before .before .before .before in
+    let z = c .before .before .before .before .before .before .before .before .before .before .before .before .transfer-sizes .ensures _ (st .pre .1 .0) in
+    (st .pre .0, (st .pre .1 .0, (st .pre .1 .1 .0, ((z, c .before .before .before .before .before .before .before .before .before .updates-size .ensures .2), omega (arith, c .before .before .before .if1 .left, c .before .before .before .before .before .before .before .before .before .updates-size .ensures .0)))))
+
+same-length-3 : tie.Need-same-length-3
+same-length-3 c = search needs
+
+same-length-4 : tie.Need-same-length-4
+same-length-4 c = search needs
+
+same-length-5 : tie.Need-same-length-5
+same-length-5 c = search needs
+
+returns-2 : tie.Need-returns-2
+returns-2 c =
+    let st = c .before .before .before .before .before .before .before .before .before .before .before .before .before .before .before .before .before .before .before .before .before .before .before .before .before in
+    let m = st .args .block .now in
+    long-enough _ _ (messages-length m (st .pre .0) (st .args .to) (st .pre .1 .1 .0 .0) (st .pre .1 .0) (c .before .before .before .before .before .before .before .before .before .before .before .before .before .before .before .transfer-sizes .ensures _ (st .pre .1 .0)) (c .before .before .before .before .before .before .before .before .before .before .before .before .updates-size .ensures .0)) (c .before .before .before .before .before .before .if1 .left) (c .before .before .put-both .ensures)
+
+pub put-messages-spec : {M : Type 1} → statement M
+put-messages-spec =
+    tie.close
+    (tie.spec
+    transfer-sizes-requires
+    updates-size-requires
+    add-if1
+    same-length
+    same-length-2
+    returns
+    put-both-requires
+    same-length-3
+    same-length-4
+    same-length-5
+    returns-2)

@@ -1,0 +1,75 @@
+-- `send::send` meets its contract: each answer is that of the first question that is answered no. Assumes nothing.
+use Rattle.answers.proofs.Questions.{said-no, said-yes}
+use Rattle.send.proofs.SentLaws.{refused-size, refused-image}
+use borrow.Author.Needs.{needs}
+use Rattle.send.proofs.send.Statement.{statement}
+use Rattle.send.proofs.send.Tie as tie
+
+returns : tie.Need-returns
+returns c =
+    refused-size _ _ _ _ (c .if1 .taken)
+
+is-sound-requires : tie.Need-is-sound-requires
+is-sound-requires c κs = search needs
+
+returns-2 : tie.Need-returns-2
+returns-2 c =
+    refused-image _ _ _ _ (c .before .before .if1 .left) (said-no (c .before .is-sound .ensures) (c .if2 .taken))
+
+slice-aggregate-send-volume : tie.Need-slice-aggregate-send-volume
+slice-aggregate-send-volume c = search needs
+
+slice-aggregate-send-volume-2 : tie.Need-slice-aggregate-send-volume-2
+slice-aggregate-send-volume-2 c = search needs
+
+slice-aggregate-send-volume-3 : tie.Need-slice-aggregate-send-volume-3
+slice-aggregate-send-volume-3 c = search needs
+
+slice-aggregate-send-volume-4 : tie.Need-slice-aggregate-send-volume-4
+slice-aggregate-send-volume-4 c = search needs
+
+slice-aggregate-send-volume-5 : tie.Need-slice-aggregate-send-volume-5
+slice-aggregate-send-volume-5 c = search needs
+
+slice-aggregate-send-volume-6 : tie.Need-slice-aggregate-send-volume-6
+slice-aggregate-send-volume-6 c = search needs
+
+slice-aggregate-send-volume-7 : tie.Need-slice-aggregate-send-volume-7
+slice-aggregate-send-volume-7 c = search needs
+
+slice-aggregate-send-volume-8 : tie.Need-slice-aggregate-send-volume-8
+slice-aggregate-send-volume-8 c = search needs
+
+slice-aggregate-send-volume-9 : tie.Need-slice-aggregate-send-volume-9
+slice-aggregate-send-volume-9 c = search needs
+
+send-volume-requires : tie.Need-send-volume-requires
+send-volume-requires c κs =
+    (said-yes (c .before .before .before .before .before .before .before .before .before .before .before .is-sound .ensures) (c .before .before .before .before .before .before .before .before .before .before .if2 .left), (search needs, (search needs, search needs)))
+
+same-length : tie.Need-same-length
+same-length c = search needs
+
+returns-3 : tie.Need-returns-3
+returns-3 c =
+    c .before .before .before .before .before .before .before .before .before .before .before .send-volume .ensures
+
+pub send-spec : {M : Type 1} → statement M
+send-spec =
+    tie.close
+    (tie.spec
+    returns
+    is-sound-requires
+    returns-2
+    slice-aggregate-send-volume
+    slice-aggregate-send-volume-2
+    slice-aggregate-send-volume-3
+    slice-aggregate-send-volume-4
+    slice-aggregate-send-volume-5
+    slice-aggregate-send-volume-6
+    slice-aggregate-send-volume-7
+    slice-aggregate-send-volume-8
+    slice-aggregate-send-volume-9
+    send-volume-requires
+    same-length
+    returns-3)

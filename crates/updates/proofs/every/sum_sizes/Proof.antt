@@ -1,0 +1,78 @@
+-- `updates::every::sum_sizes` meets its contract. The loop's invariant: the messages before block k take so many bytes.
+-- The measure is what is left of the blocks. Assumes nothing.
+use mathlib.Core.Path.{_≡_, ap, _∙_}
+use Prim.Native.Nat.{_*_, _-_, _≤_, _^_}
+use Rattle.updates.specs.ByBlocks.{sizes-for}
+use Rattle.updates.proofs.UpdateLaws.{sizes-start, sizes-more}
+use native.Mathlib.Omega.{arith}
+use borrow.Author.Needs.{needs}
+use Rattle.updates.proofs.every.sum_sizes.Statement.{statement}
+use Rattle.updates.proofs.every.sum_sizes.Tie as tie
+
+abbrev Inv-loop : tie.InvT-loop
+Inv-loop to labels bytes size₀ k₀ size k =
+    (k ≤ 16) × (size ≡ sizes-for to labels bytes k) × (size ≤ k * 2 ^ 18)
+
+abbrev μ-loop : tie.MeasureT-loop
+μ-loop to labels bytes size₀ k₀ size k =
+    16 - k
+
+loop-holds : tie.Need-loop-holds Inv-loop μ-loop
+loop-holds c =
+    (omega arith, sizes-start _ _ _, omega arith)
+
+mul-update-size : tie.Need-mul-update-size Inv-loop μ-loop
+mul-update-size c =
+    omega (arith, c .loop-test .taken)
+
+shared-slice-read-update-size : tie.Need-shared-slice-read-update-size Inv-loop μ-loop
+shared-slice-read-update-size c =
+    omega (arith, c .before .loop-test .taken, c .before .before .before .before .before .pre .labels-size)
+
+mul-update-size-2 : tie.Need-mul-update-size-2 Inv-loop μ-loop
+mul-update-size-2 c =
+    omega (arith, c .before .loop-test .taken)
+
+shared-slice-read-update-size-2 : tie.Need-shared-slice-read-update-size-2 Inv-loop μ-loop
+shared-slice-read-update-size-2 c =
+    omega (arith, c .before .before .loop-test .taken, c .before .before .before .before .before .before .pre .bytes-size)
+
+update-size-requires : tie.Need-update-size-requires Inv-loop μ-loop
+update-size-requires c κs =
+    (c .before .before .before .before .before .before .pre .labels-few (c .before .before .before .loop .k) (c .before .before .loop-test .taken), c .before .before .before .before .before .before .pre .bytes-few (c .before .before .before .loop .k) (c .before .before .loop-test .taken))
+
+add-size : tie.Need-add-size Inv-loop μ-loop
+add-size c =
+    omega (arith, c .before .before .before .loop-test .taken, c .before .before .before .before .loop .inv .2, c .update-size .ensures .1)
+
+add-k : tie.Need-add-k Inv-loop μ-loop
+add-k c = search needs
+
+loop-less : tie.Need-loop-less Inv-loop μ-loop
+loop-less c = search needs
+
+loop-again : tie.Need-loop-again Inv-loop μ-loop
+loop-again c =
+    (omega (arith, c .before .before .before .loop-test .taken), sizes-more (c .before .before .before .before .before .before .before .args .to) (c .before .before .before .before .before .before .before .args .labels .now) (c .before .before .before .before .before .before .before .args .bytes .now) (c .before .before .before .before .loop .k) (c .before .before .before .before .loop .inv .1) (c .update-size .ensures .0), omega (arith, c .before .before .before .before .loop .inv .2, c .update-size .ensures .1))
+
+returns : tie.Need-returns Inv-loop μ-loop
+returns c =
+    let e : c .before .loop .k ≡ 16 = omega (arith, c .loop-test .left, c .before .loop .inv .0) in (c .before .loop .inv .1 ∙ ap (sizes-for (c .before .before .before .before .args .to) (c .before .before .before .before .args .labels .now) (c .before .before .before .before .args .bytes .now)) e, omega (arith, c .before .loop .inv .2, e))
+
+pub sum-sizes-spec : {M : Type 1} → statement M
+sum-sizes-spec =
+    tie.close
+    (tie.spec
+    Inv-loop
+    μ-loop
+    loop-holds
+    mul-update-size
+    shared-slice-read-update-size
+    mul-update-size-2
+    shared-slice-read-update-size-2
+    update-size-requires
+    add-size
+    add-k
+    loop-less
+    loop-again
+    returns)

@@ -1,0 +1,29 @@
+-- `updates::every::updates_size` meets its contract: the sizes that the counted labels give are those of the messages. Assumes nothing.
+use mathlib.Core.Path.{_∙_}
+use Rattle.updates.proofs.SharesLaws.{shares-few}
+use Rattle.updates.proofs.UpdateLaws.{sizes-are}
+use native.Mathlib.Omega.{arith}
+use borrow.Author.Needs.{needs}
+use Rattle.updates.proofs.every.updates_size.Statement.{statement}
+use Rattle.updates.proofs.every.updates_size.Tie as tie
+
+count-labels-requires : tie.Need-count-labels-requires
+count-labels-requires c κs = search needs
+
+sum-sizes-requires : tie.Need-sum-sizes-requires
+sum-sizes-requires c κs =
+    shares-few (c .before .before .before .before .before .before .count-labels .ensures) (c .before .before .before .before .before .before .before .before .before .before .before .before .before .before .pre .0 .1 .few)
+
+same-length : tie.Need-same-length
+same-length c = search needs
+
+same-length-2 : tie.Need-same-length-2
+same-length-2 c = search needs
+
+returns : tie.Need-returns
+returns c =
+    (c .sum-sizes .ensures .0 ∙ sizes-are (c .before .before .before .before .before .before .before .count-labels .ensures) (c .before .before .before .before .before .before .before .before .before .before .before .before .before .before .before .args .to) (c .before .before .before .before .before .before .before .before .before .before .before .before .before .before .before .pre .1 .0) (c .before .before .before .before .before .before .before .before .before .before .before .before .before .before .before .pre .1 .1) 16 (omega arith), c .sum-sizes .ensures .1, c .before .before .before .before .before .before .before .count-labels .ensures)
+
+pub updates-size-spec : {M : Type 1} → statement M
+updates-size-spec =
+    tie.close (tie.spec count-labels-requires sum-sizes-requires same-length same-length-2 returns)

@@ -1,0 +1,89 @@
+-- `updates::labels::least_code` meets its contract. The loop's invariant: the least of the darts before k, at least one.
+-- The measure is what is left of the face. Assumes nothing.
+use mathlib.Core.Path.{_≡_, ap, _∙_}
+use Prim.Native.Nat.{_+_, _-_, _<_, _≤_}
+use Rattle.updates.specs.ByBlocks.{least-code}
+use Rattle.updates.proofs.LeastLaws.{least-start, least-step}
+use native.Mathlib.Omega.{arith}
+use borrow.Author.Needs.{needs}
+use Rattle.updates.proofs.labels.least_code.Statement.{statement}
+use Rattle.updates.proofs.labels.least_code.Tie as tie
+
+abbrev Inv-loop : tie.InvT-loop
+Inv-loop block order start size least₀ k₀ least k =
+    (0 < k) × (k ≤ size) × (least ≡ least-code block order start k)
+
+abbrev μ-loop : tie.MeasureT-loop
+μ-loop block order start size least₀ k₀ least k =
+    size - k
+
+mul-field : tie.Need-mul-field Inv-loop μ-loop
+mul-field c =
+    omega (arith, c .before .before .pre .0 .few, c .before .before .pre .1)
+
+shared-slice-read-field : tie.Need-shared-slice-read-field Inv-loop μ-loop
+shared-slice-read-field c =
+    omega (arith, c .before .before .before .pre .0 .few, c .before .before .before .pre .0 .order-size, c .before .before .before .pre .1)
+
+field-requires : tie.Need-field-requires Inv-loop μ-loop
+field-requires c κs =
+    (c .before .before .before .pre .0 .below (c .before .before .before .args .start) (omega (arith, c .before .before .before .pre .1)), omega arith, c .before .before .before .pre .0 .memory)
+
+loop-holds : tie.Need-loop-holds Inv-loop μ-loop
+loop-holds c =
+    (omega arith, omega (arith, c .before .before .before .before .pre .1), least-start (c .before .before .before .before .args .block .now) (c .before .before .before .before .args .order .now) (c .before .before .before .before .args .start) _ (c .field .ensures))
+
+add-p : tie.Need-add-p Inv-loop μ-loop
+add-p c =
+    omega (arith, c .loop-test .taken, c .before .before .before .before .before .before .pre .0 .few)
+
+mul-p : tie.Need-mul-p Inv-loop μ-loop
+mul-p c =
+    omega (arith, c .loop-test .taken, c .before .before .before .before .before .before .pre .0 .few)
+
+shared-slice-read-p : tie.Need-shared-slice-read-p Inv-loop μ-loop
+shared-slice-read-p c =
+    omega (arith, c .before .loop-test .taken, c .before .before .before .before .before .before .before .pre .0 .few, c .before .before .before .before .before .before .before .pre .0 .order-size)
+
+field-requires-2 : tie.Need-field-requires-2 Inv-loop μ-loop
+field-requires-2 c κs =
+    (c .before .before .before .before .before .before .before .pre .0 .below (c .before .before .before .before .before .before .before .args .start + c .before .before .loop .k) (omega (arith, c .before .loop-test .taken)), omega arith, c .before .before .before .before .before .before .before .pre .0 .memory)
+
+lesser-requires : tie.Need-lesser-requires Inv-loop μ-loop
+lesser-requires c κs = search needs
+
+add-k : tie.Need-add-k Inv-loop μ-loop
+add-k c =
+    omega (arith, c .before .before .before .loop-test .taken, c .before .before .before .before .before .before .before .before .before .pre .0 .few)
+
+loop-less : tie.Need-loop-less Inv-loop μ-loop
+loop-less c =
+    omega (arith, c .before .before .before .loop-test .taken)
+
+loop-again : tie.Need-loop-again Inv-loop μ-loop
+loop-again c =
+    (omega arith, omega (arith, c .before .before .before .loop-test .taken), least-step (c .before .before .before .before .before .before .before .before .before .args .block .now) (c .before .before .before .before .before .before .before .before .before .args .order .now) (c .before .before .before .before .before .before .before .before .before .args .start) (c .before .before .before .before .loop .k) (c .before .before .before .before .loop .inv .0) (c .before .before .before .before .loop .inv .2) (c .before .field2 .ensures) (c .lesser .ensures))
+
+returns : tie.Need-returns Inv-loop μ-loop
+returns c =
+    let e : c .before .loop .k ≡ c .before .before .before .before .before .before .args .size = omega (arith, c .loop-test .left, c .before .loop .inv .1) in c .before .loop .inv .2 ∙ ap (least-code (c .before .before .before .before .before .before .args .block .now) (c .before .before .before .before .before .before .args .order .now) (c .before .before .before .before .before .before .args .start)) e
+
+pub least-code-spec : {M : Type 1} → statement M
+least-code-spec =
+    tie.close
+    (tie.spec
+    Inv-loop
+    μ-loop
+    mul-field
+    shared-slice-read-field
+    field-requires
+    loop-holds
+    add-p
+    mul-p
+    shared-slice-read-p
+    field-requires-2
+    lesser-requires
+    add-k
+    loop-less
+    loop-again
+    returns)

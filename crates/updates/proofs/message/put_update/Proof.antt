@@ -1,0 +1,42 @@
+-- `updates::message::put_update` meets its contract: the head, then the labels. Assumes nothing.
+use Rattle.groups.proofs.Writing.{stored-then, stored-length}
+use Rattle.outbox.proofs.EntryLaws.{stored-as}
+use Rattle.updates.proofs.UpdateLaws.{update-read, read-length}
+use native.Mathlib.Omega.{arith}
+use borrow.Author.Needs.{needs}
+use Rattle.updates.proofs.message.put_update.Statement.{statement}
+use Rattle.updates.proofs.message.put_update.Tie as tie
+
+rest-size-requires : tie.Need-rest-size-requires
+rest-size-requires c κs = search needs
+
+put-head-requires : tie.Need-put-head-requires
+put-head-requires c κs =
+    let st = c .before .before .before .before .before .before in
+    let a = st .args in
+    let r = c .before .rest-size .ensures .0 in
+    let len = read-length (a .block .now) (a .to) (a .order .now) (a .starts .now) (a .darts) (a .count) (a .k) (st .pre .1 .1 .0 .0) (st .pre .1 .1 .0 .1) r in
+    ((omega (arith, st .pre .0 .0 .memory), st .pre .1 .0 .0, st .pre .1 .0 .1, st .pre .1 .0 .2, omega (arith, st .pre .1 .0 .3), omega (arith, c .before .rest-size .ensures .1)), omega (arith, st .pre .1 .1 .1, len))
+
+put-leasts-requires : tie.Need-put-leasts-requires
+put-leasts-requires c κs =
+    let st = c .before .before .before .before .before .before .before .before .before .before in
+    let a = st .args in
+    let r = c .before .before .before .before .before .rest-size .ensures .0 in
+    let len = read-length (a .block .now) (a .to) (a .order .now) (a .starts .now) (a .darts) (a .count) (a .k) (st .pre .1 .1 .0 .0) (st .pre .1 .1 .0 .1) r in
+    ((st .pre .0 .0, st .pre .0 .1, omega (arith, st .pre .1 .0 .2)), omega (arith, st .pre .1 .1 .1, len, stored-length (c .before .before .before .put-head .ensures), c .before .before .before .put-head .ensures .past))
+
+same-length : tie.Need-same-length
+same-length c =
+    omega (arith, stored-length (c .before .before .before .before .before .before .put-head .ensures), stored-length (c .before .before .put-leasts .ensures))
+
+returns : tie.Need-returns
+returns c =
+    let st = c .before .before .before .before .before .before .before .before .before .before .before .before .before in
+    let a = st .args in
+    stored-as (update-read (a .block .now) (a .to) (a .order .now) (a .starts .now) (a .darts) (a .count) (a .k) (st .pre .1 .1 .0 .0) (st .pre .1 .1 .0 .1) (c .before .before .before .before .before .before .before .before .rest-size .ensures .0)) (stored-then (c .before .before .before .before .before .before .put-head .ensures) (c .before .before .put-leasts .ensures))
+
+pub put-update-spec : {M : Type 1} → statement M
+put-update-spec =
+    tie.close
+    (tie.spec rest-size-requires put-head-requires put-leasts-requires same-length returns)

@@ -1,0 +1,30 @@
+-- `updates::message::rest_size` meets its contract: a count takes at most five bytes. Assumes nothing.
+use Rattle.groups.proofs.Counts.{group-length, count-most}
+use Rattle.updates.specs.ByBlocks.{rest-for}
+use native.Mathlib.Omega.{arith}
+use borrow.Author.Needs.{needs}
+use Rattle.updates.proofs.message.rest_size.Statement.{statement}
+use Rattle.updates.proofs.message.rest_size.Tie as tie
+
+cast-group-count : tie.Need-cast-group-count
+cast-group-count c = search needs
+
+group-count-requires : tie.Need-group-count-requires
+group-count-requires c κs = search needs
+
+add-result : tie.Need-add-result
+add-result c =
+    omega (arith, c .group-count .ensures, count-most (c .before .args .n) (omega (arith, c .before .pre .0)))
+
+add-result-2 : tie.Need-add-result-2
+add-result-2 c =
+    omega (arith, c .group-count .ensures, count-most (c .before .args .n) (omega (arith, c .before .pre .0)), c .before .pre .1)
+
+returns : tie.Need-returns
+unfolding rest-for
+returns c =
+    (omega (arith, c .group-count .ensures, group-length (c .before .args .n) (omega (arith, c .before .pre .0))), omega (arith, c .group-count .ensures, count-most (c .before .args .n) (omega (arith, c .before .pre .0)), c .before .pre .1))
+
+pub rest-size-spec : {M : Type 1} → statement M
+rest-size-spec =
+    tie.close (tie.spec cast-group-count group-count-requires add-result add-result-2 returns)

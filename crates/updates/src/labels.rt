@@ -1,0 +1,108 @@
+// The labels of updates: of each critical face the least one, which goes to the block that shares the face.
+ghost use mathlib.Core.Path.{_≡_};
+ghost use Prim.Native.Nat.{_+_, _≤_, _<_, _^_, min};
+ghost use lib.ListN.{length, getD, replicate, set};
+ghost use Rattle.groups.specs.Slices.{Stored};
+ghost use Rattle.outbox.specs.Runs.{run};
+ghost use Rattle.outbox.specs.Bytes.{Listed, Started};
+ghost use Rattle.updates.specs.ByBlocks.{Shares, least-code, least-put};
+use cells::walk;
+use outbox::first;
+
+fn lesser(a: u64, b: u64) -> u64
+    ensures { λ r. ⌜ r ≡ min a b ⌝ }
+{
+    if a < b {
+        return a;
+    }
+    b
+}
+
+// The least label, as a code, of the `size` darts of a face from index `start` of the order on.
+fn least_code(block: &[u64], order: &[usize], start: usize, size: usize) -> u64
+    requires { ⌜ Listed (now block) (now order) (start + size) × (0 < size) ⌝ }
+    ensures { λ r. ⌜ r ≡ least-code (now (block .entry)) (now (order .entry)) start size ⌝ }
+{
+    // The least of the darts before k.
+    let mut least = walk::field(block, order[start], 4);
+    let mut k = 1;
+    while k < size {
+        let p = order[start + k];
+        least = lesser(least, walk::field(block, p, 4));
+        k += 1;
+    }
+    least
+}
+
+// One face more that block k shares, whose least label takes `size` bytes.
+fn add_face(labels: &mut [usize], bytes: &mut [usize], k: usize, size: usize)
+    requires { ⌜ (length (now labels) ≡ 16) × (length (now bytes) ≡ 16) × (k < 16) ⌝ }
+    requires { ⌜ (getD (now labels) k 0 < 2 ^ 32) × (getD (now bytes) k 0 < 2 ^ 32) × (size < 2 ^ 32) ⌝ }
+    ensures { λ _. ⌜ (now (labels .exit) ≡ set (now (labels .entry)) k (getD (now (labels .entry)) k 0 + 1)) × (now (bytes .exit) ≡ set (now (bytes .entry)) k (getD (now (bytes .entry)) k 0 + size)) ⌝ }
+{
+    let n = labels[k];
+    let b = bytes[k];
+    labels[k] = n + 1;
+    bytes[k] = b + size;
+}
+
+// How many faces each block shares, and how many bytes their least labels take: in one pass.
+pub fn count_labels(
+    block: &[u64],
+    order: &[usize],
+    starts: &[usize],
+    darts: usize,
+    count: usize,
+    labels: &mut [usize],
+    bytes: &mut [usize],
+)
+    requires { ⌜ Listed (now block) (now order) darts × Started (now starts) darts count ⌝ }
+    requires { ⌜ (now labels ≡ replicate 16 0) × (now bytes ≡ replicate 16 0) ⌝ }
+    ensures { λ _. ⌜ Shares (now (block .entry)) (now (order .entry)) (now (starts .entry)) darts count count (now (labels .exit)) (now (bytes .exit)) ⌝ }
+{
+    // The faces before f are counted.
+    let mut f = 0;
+    while f < count {
+        let start = starts[f];
+        let end = first::face_end(starts, count, darts, f);
+        let p = order[start];
+        let kind = walk::field(block, p, 3);
+        f += 1;
+        if kind % 4 != 2 {
+            continue;
+        }
+        let size = groups::label_count(least_code(block, order, start, end - start));
+        add_face(labels, bytes, (kind / 4) as usize, size);
+    }
+}
+
+// The least labels of the faces that block k shares.
+pub fn put_leasts(
+    block: &[u64],
+    k: u64,
+    order: &[usize],
+    starts: &[usize],
+    darts: usize,
+    count: usize,
+    out: &mut [u8],
+    from: usize,
+) -> usize
+    requires { ⌜ Listed (now block) (now order) darts × Started (now starts) darts count × (k < 2 ^ 32) ⌝ }
+    requires { ⌜ from + length (run (least-put (now block) k (now order) (now starts) darts count) count) ≤ length (now out) ⌝ }
+    ensures { λ r. ⌜ Stored (now (out .entry)) from (run (least-put (now (block .entry)) k (now (order .entry)) (now (starts .entry)) darts count) count) (now (out .exit)) r ⌝ }
+{
+    // The labels of the faces before f are put, up to `at`.
+    let mut at = from;
+    let mut f = 0;
+    while f < count {
+        let start = starts[f];
+        let end = first::face_end(starts, count, darts, f);
+        let p = order[start];
+        f += 1;
+        if walk::field(block, p, 3) != 2 + 4 * k {
+            continue;
+        }
+        at = groups::put_label(out, at, least_code(block, order, start, end - start));
+    }
+    at
+}
