@@ -8,3 +8,4 @@ pub mod VolumeLaws
 pub mod Steps
 pub mod Drafting
 pub mod Nineteen
+pub mod Eighteen

@@ -1,12 +1,14 @@
 -- The new darts of a transfer as a block's memory of their own, in ascending serial. Assumes nothing.
 -- v, b, z as in Sides; keys, ranks: the serials ranked; q: the index of each dart's opposite; the points stand in s from a place on.
 use mathlib.Core.Path.{_≡_}
-use mathlib.Core.Bool.{Bool, true, _&&_}
+use mathlib.Core.Bool.{Bool, true, not, _&&_}
 use mathlib.Core.List.{List}
 use Prim.Native.Nat.{ℕ, _+_, _*_, _≤_, _<_}
-use lib.Dec.{eqb}
+use lib.Dec.{leb, eqb}
 use lib.ListN.{length, getD, take}
 use Rattle.model.specs.Lists.{all, mem, distinct, tab}
+use Rattle.model.specs.Values.{Dart, finite}
+use Rattle.model.specs.Cells.{held}
 use Rattle.model.specs.Image.{words, column}
 use Rattle.model.specs.Messages.{Transfer, size-all}
 use Rattle.memory.specs.Record.{record-in}
@@ -91,3 +93,8 @@ pub record Told (t : Transfer) (v x b z s : List ℕ) (from n k : ℕ) (hollow :
   pub points : t .points ≡ points-in s from n
   pub points-fit : from + 24 * n ≤ length s
   pub hollow-is : hollow ≡ is-hollow (t .faces)
+
+-- whether points are finite and the first k serials are new to some darts; then they are ranked
+pub record NewSerials (ds : List Dart) (s : List ℕ) (from n : ℕ) (x : List ℕ) (k : ℕ) (keys ranks : List ℕ) (r : Bool) : Type 0 where
+  pub is : r ≡ (all finite (points-in s from n) && all (λ i. leb 1 (getD x i 0) && not (held ds (getD x i 0))) (tab (λ i. i) k) && distinct (take k x))
+  pub ranked : r ≡ true → Ranked x k keys ranks

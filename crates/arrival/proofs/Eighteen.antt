@@ -1,0 +1,71 @@
+-- Question 18 by index. Assumes nothing.
+use mathlib.Core.Path.{_≡_, refl, sym, _∙_, subst}
+use mathlib.Core.Bool.{Bool, true, false, true≢false, not, _&&_}
+use mathlib.Core.List.{List}
+use Prim.Native.Nat.{ℕ, _+_, _*_, _≤_, _<_}
+use native.Mathlib.Omega.{arith}
+use lib.Dec.{leb}
+use lib.ListN.{length, getD, take}
+use lib.Seq.{getD-take, length-take-le, ext-getD}
+use borrow.Author.Tests.{le-leb, lt-leb}
+use Rattle.laws.specs.Order.{Ascending}
+use Rattle.model.specs.Lists.{all, tab, distinct}
+use Rattle.model.specs.Values.{Dart, finite}
+use Rattle.model.specs.Cells.{held}
+use Rattle.model.specs.Image.{column, block-in}
+use Rattle.model.specs.Messages.{Transfer}
+use Rattle.model.specs.Arrival.{Side, sides, serials-new}
+use Rattle.laws.proofs.Tables.{length-tab, getD-tab, map-tab}
+use Rattle.memory.specs.Lookup.{place-in}
+use Rattle.memory.specs.declared.record.Place.{Place}
+use Rattle.memory.specs.declared.lookup.Found.the-variants.{At, Nothing}
+use Rattle.memory.proofs.Lookups.{held-at, held-nothing}
+use Rattle.inbox.specs.Inbox.{word-in, point-in, points-in}
+use Rattle.ranking.specs.Ranks.{Ranked}
+use Rattle.arrival.specs.Sides.{side-at}
+use Rattle.arrival.specs.Draft.{NewSerials, Told}
+use Rattle.arrival.proofs.SideLaws.{sides-are}
+use Rattle.arrival.proofs.PairLaws.{all-index}
+
+-- ONE SERIAL
+module _ (m : List ℕ) (x : ℕ) where
+  pub zero-held : x ≡ 0 → false ≡ (leb 1 x && not (held (block-in m .darts) x))
+  zero-held e = rw (lt-leb 1 x (omega (arith, e))) refl
+
+  module _ (some-serial : x ≡ 0 → ⊥) where
+    positive : leb 1 x ≡ true
+    positive = le-leb 1 x (omega (arith, some-serial))
+
+    pub found-held : {n : ℕ} → n ≡ getD m 2 0 → Ascending n (column m 0) → {p : Place} → place-in (column m 0) n x ≡ At p → false ≡ (leb 1 x && not (held (block-in m .darts) x))
+    found-held q a {p} e = rw (positive, held-at m x (subst (λ (k : ℕ). Ascending k (column m 0)) q a) (subst (λ (k : ℕ). place-in (column m 0) k x ≡ At p) q e)) refl
+
+    pub nothing-held : {n : ℕ} → n ≡ getD m 2 0 → place-in (column m 0) n x ≡ Nothing → true ≡ (leb 1 x && not (held (block-in m .darts) x))
+    nothing-held q e = rw (positive, held-nothing m x (subst (λ (k : ℕ). place-in (column m 0) k x ≡ Nothing) q e)) refl
+
+-- THE POINTS, by their number
+pub points-tested : (s : List ℕ) (from n : ℕ) → all finite (points-in s from n) ≡ all (λ j. finite (point-in s (from + 24 * j))) (tab (λ j. j) n)
+unfolding points-in
+points-tested s from n = all-index finite (λ j. point-in s (from + 24 * j)) n
+
+-- THE WHOLE QUESTION
+module _ {ds : List Dart} {s : List ℕ} {from n : ℕ} {x : List ℕ} {k : ℕ} {keys ranks : List ℕ} where
+  pub not-finite : all finite (points-in s from n) ≡ false → NewSerials ds s from n x k keys ranks false
+  not-finite e = record { is = rw e refl; ranked = λ y. absurd (true≢false (sym y)) }
+
+  pub not-new : all finite (points-in s from n) ≡ true → all (λ i. leb 1 (getD x i 0) && not (held ds (getD x i 0))) (tab (λ i. i) k) ≡ false → NewSerials ds s from n x k keys ranks false
+  not-new e f = record { is = rw (e, f) refl; ranked = λ y. absurd (true≢false (sym y)) }
+
+  pub new-ranked : {r : Bool} → all finite (points-in s from n) ≡ true → all (λ i. leb 1 (getD x i 0) && not (held ds (getD x i 0))) (tab (λ i. i) k) ≡ true → r ≡ distinct (take k x) → (r ≡ true → Ranked x k keys ranks) → NewSerials ds s from n x k keys ranks r
+  new-ranked e f d g = record { is = rw (e, f) d; ranked = g }
+
+-- of a transfer
+pub eighteen-is : {t : Transfer} {v x b z s : List ℕ} {from n k : ℕ} {hollow : Bool} (ds : List Dart) → Told t v x b z s from n k hollow → k ≤ length x
+    → serials-new ds t ≡ (all finite (points-in s from n) && all (λ i. leb 1 (getD x i 0) && not (held ds (getD x i 0))) (tab (λ i. i) k) && distinct (take k x))
+unfolding serials-new points-in word-in finite sides
+eighteen-is {t} {v} {x} {b} {z} {s} {from} {n} {k} {hollow} ds w fit = rw (w .points, all-sides, all-index (λ (a : Side). leb 1 (a .serial) && not (held ds (a .serial))) (side-at v x b z) k, map-tab (λ (a : Side). a .serial) (side-at v x b z) k, taken) refl
+  where
+    all-sides : sides t ≡ tab (side-at v x b z) k
+    all-sides = rw (w .darts) (sides-are v x b z t (w .inside))
+
+    taken : tab (λ i. getD x i 0) k ≡ take k x
+    taken = ext-getD 0 _ _ (length-tab (λ i. getD x i 0) k ∙ sym (length-take-le k x fit)) (λ i h. let l : i < k = omega (arith, h, length-tab (λ i. getD x i 0) k) in getD-tab (λ i. getD x i 0) k i 0 l ∙ sym (getD-take k x i 0 l))
