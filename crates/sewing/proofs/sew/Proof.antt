@@ -1,0 +1,91 @@
+-- `sewing::sew` meets its contract.
+-- Assumes nothing.
+use Prim.Native.Nat.{_-_, _≤_}
+use mathlib.Core.Path.{_∙_}
+use Rattle.sewing.specs.Thirds.{Sewn}
+use Rattle.sewing.proofs.SewLaws.{sewn-none, sewn-more, sewn-all}
+use native.Mathlib.Omega.{arith}
+use borrow.Author.Needs.{needs}
+use Rattle.sewing.proofs.sew.Statement.{statement}
+use Rattle.sewing.proofs.sew.Tie as tie
+
+abbrev Inv-loop : tie.InvT-loop
+Inv-loop block₀ n k kinds links ranks old new i₀ block i =
+    Sewn block₀ kinds links ranks old new i block × (i ≤ k)
+
+abbrev μ-loop : tie.MeasureT-loop
+μ-loop block₀ n k kinds links ranks old new i₀ block i =
+    k - i
+
+loop-holds : tie.Need-loop-holds Inv-loop μ-loop
+loop-holds c =
+    (sewn-none _ _ _ _ _ _, omega arith)
+
+mul-r : tie.Need-mul-r Inv-loop μ-loop
+mul-r c = search needs
+
+shared-slice-read-r : tie.Need-shared-slice-read-r Inv-loop μ-loop
+shared-slice-read-r c = search needs
+
+mul-sew-at : tie.Need-mul-sew-at Inv-loop μ-loop
+mul-sew-at c = search needs
+
+shared-slice-read-sew-at : tie.Need-shared-slice-read-sew-at Inv-loop μ-loop
+shared-slice-read-sew-at c = search needs
+
+mul-sew-at-2 : tie.Need-mul-sew-at-2 Inv-loop μ-loop
+mul-sew-at-2 c = search needs
+
+shared-slice-read-sew-at-2 : tie.Need-shared-slice-read-sew-at-2 Inv-loop μ-loop
+shared-slice-read-sew-at-2 c = search needs
+
+mul-sew-at-3 : tie.Need-mul-sew-at-3 Inv-loop μ-loop
+mul-sew-at-3 c =
+    let r = c .before .before .before .before .before .before .before .before .before .before .before .before .pre .6 .rank-below (c .before .before .before .before .before .loop .i) (omega arith) in let f = c .before .before .before .before .before .before .before .before .before .before .before .before .pre .6 .few in omega (arith, r, f)
+
+shared-slice-read-sew-at-3 : tie.Need-shared-slice-read-sew-at-3 Inv-loop μ-loop
+shared-slice-read-sew-at-3 c =
+    let r = c .before .before .before .before .before .before .before .before .before .before .before .before .before .pre .6 .rank-below (c .before .before .before .before .before .before .loop .i) (omega arith) in let f = c .before .before .before .before .before .before .before .before .before .before .before .before .before .pre .6 .few in let n = c .before .before .before .before .before .before .before .before .before .before .before .before .before .pre .5 in omega (arith, r, f, n)
+
+sew-at-requires : tie.Need-sew-at-requires Inv-loop μ-loop
+sew-at-requires c κs =
+    (c .before .before .before .before .before .before .loop .inv .0 .size ∙ c .before .before .before .before .before .before .before .before .before .before .before .before .before .pre .0, c .before .before .before .before .before .before .before .before .before .before .before .before .before .pre .4, (let a = c .before .before .before .before .before .before .before .before .before .before .before .before .before .pre .6 .new-below (c .before .before .before .before .before .before .loop .i) (omega arith) in let f = c .before .before .before .before .before .before .before .before .before .before .before .before .before .pre .6 .fits in omega (arith, a, f)), (λ e. let a = c .before .before .before .before .before .before .before .before .before .before .before .before .before .pre .6 .link-below (c .before .before .before .before .before .before .loop .i) (omega arith) e in let f = c .before .before .before .before .before .before .before .before .before .before .before .before .before .pre .6 .fits in omega (arith, a, f)), (λ e. let a = c .before .before .before .before .before .before .before .before .before .before .before .before .before .pre .6 .old-below _ (c .before .before .before .before .before .before .before .before .before .before .before .before .before .pre .6 .link-below (c .before .before .before .before .before .before .loop .i) (omega arith) e) in let f = c .before .before .before .before .before .before .before .before .before .before .before .before .before .pre .6 .fits in omega (arith, a, f)))
+
+add-i : tie.Need-add-i Inv-loop μ-loop
+add-i c = search needs
+
+loop-less : tie.Need-loop-less Inv-loop μ-loop
+loop-less c = search needs
+
+loop-again : tie.Need-loop-again Inv-loop μ-loop
+loop-again c =
+    (sewn-more (c .before .before .before .before .before .before .before .before .before .before .before .before .before .before .before .before .pre .6) (c .before .before .before .before .before .before .before .before .before .loop .inv .0 .size ∙ c .before .before .before .before .before .before .before .before .before .before .before .before .before .before .before .before .pre .0) (c .before .before .before .before .before .before .before .before .before .loop .inv .0) (omega arith) (c .before .before .sew-at .ensures), omega arith)
+
+same-length : tie.Need-same-length Inv-loop μ-loop
+same-length c = search needs
+
+returns : tie.Need-returns Inv-loop μ-loop
+returns c =
+    sewn-all (c .before .loop .inv .0) (omega (arith, c .before .loop .inv .1))
+
+pub sew-spec : {M : Type 1} → statement M
+sew-spec =
+    tie.close
+    (tie.spec
+    Inv-loop
+    μ-loop
+    loop-holds
+    mul-r
+    shared-slice-read-r
+    mul-sew-at
+    shared-slice-read-sew-at
+    mul-sew-at-2
+    shared-slice-read-sew-at-2
+    mul-sew-at-3
+    shared-slice-read-sew-at-3
+    sew-at-requires
+    add-i
+    loop-less
+    loop-again
+    same-length
+    returns)

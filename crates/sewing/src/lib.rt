@@ -1,0 +1,57 @@
+// New darts that a block's memory holds already are sewn to its darts, or labelled: words 3 and 4 of both.
+ghost use mathlib.Core.Path.{_≡_};
+ghost use Prim.Native.Nat.{_<_};
+ghost use lib.ListN.{length, getD};
+ghost use Rattle.model.specs.Image.{room, words};
+ghost use Rattle.sewing.specs.Thirds.{with-third, sewn-at, Sewable, Sewn};
+use memory::record;
+use memory::record::Place;
+
+// The kind word and the link word of the dart at place p.
+fn put_third(block: &mut [u64], p: usize, kind: u64, link: u64)
+    requires { ⌜ (p < room) × (length (now block) ≡ words) ⌝ }
+    ensures { λ _. ⌜ now (block .exit) ≡ with-third (now (block .entry)) p kind link ⌝ }
+{
+    record::put_field(block, Place(p), 3, kind);
+    record::put_field(block, Place(p), 4, link);
+}
+
+// A new dart at place p, and the dart that it is sewn to.
+fn sew_at(block: &mut [u64], kind: u64, link: u64, old: &[usize], p: usize)
+    requires { ⌜ (length (now block) ≡ words) × (length (now old) ≡ room) × (p < room) × (kind ≡ 1 → link < room) × (kind ≡ 1 → getD (now old) link 0 < room) ⌝ }
+    ensures { λ _. ⌜ now (block .exit) ≡ sewn-at (now (block .entry)) kind link (now (old .entry)) p ⌝ }
+{
+    if kind == 0 {
+        return;
+    }
+    if kind != 1 {
+        put_third(block, p, kind, link);
+        return;
+    }
+    let q = old[link as usize];
+    put_third(block, p, 1, q as u64);
+    put_third(block, q, 1, p as u64);
+}
+
+// All k new darts among a block's n.
+pub fn sew(
+    block: &mut [u64],
+    n: usize,
+    k: usize,
+    kinds: &[u64],
+    links: &[u64],
+    ranks: &[usize],
+    old: &[usize],
+    new: &[usize],
+)
+    requires { ⌜ (length (now block) ≡ words) × (length (now kinds) ≡ 512) × (length (now links) ≡ 512) × (length (now ranks) ≡ 512) × (length (now old) ≡ room) × (length (now new) ≡ room) × Sewable n k (now kinds) (now links) (now ranks) (now old) (now new) ⌝ }
+    ensures { λ _. ⌜ Sewn (now (block .entry)) (now (kinds .entry)) (now (links .entry)) (now (ranks .entry)) (now (old .entry)) (now (new .entry)) k (now (block .exit)) ⌝ }
+{
+    // Those before i are.
+    let mut i = 0;
+    while i < k {
+        let r = ranks[i];
+        sew_at(block, kinds[i], links[i], old, new[r]);
+        i += 1;
+    }
+}
