@@ -1,0 +1,2 @@
+pub mod JoinedDarts
+pub mod JoinedImage

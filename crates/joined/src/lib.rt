@@ -1,0 +1,1 @@
+// What receive leaves in memory, by places, and that this is the model's block. No code.
