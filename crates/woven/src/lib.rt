@@ -1,0 +1,1 @@
+// Laws of a block with new darts among its own. No code.
