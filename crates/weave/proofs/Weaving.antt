@@ -190,7 +190,7 @@ pub stored-moved : (m : List ℕ) (at : ℕ) (r : Record) (table : List ℕ) {a 
     → y ≡ put m at (r .serial ∷ a ∷ o ∷ r .kind ∷ l ∷ r .x ∷ r .y ∷ r .z ∷ []) → y ≡ put m at (moved-record (λ p. getD table p 0) r)
 stored-moved m at r table e f g q = q ∙ rw (e, f, g)
 
-by-table : (m table : List ℕ) (t : ℕ → ℕ) (n p : ℕ) → Bounded m n → Tabled t n table → p < n → moved-words (λ q. getD table q 0) m p ≡ moved-words t m p
+pub by-table : (m table : List ℕ) (t : ℕ → ℕ) (n p : ℕ) → Bounded m n → Tabled t n table → p < n → moved-words (λ q. getD table q 0) m p ≡ moved-words t m p
 by-table m table t n p b a l = same-words (λ q. getD table q 0) t m p (a _ (b .next-lt p l)) (a _ (b .opposite-lt p l)) (λ e. a _ (b .sewn-lt p l e))
 
 -- what it may ask of a record before it stores it
