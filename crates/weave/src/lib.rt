@@ -128,10 +128,11 @@ pub fn insert(block: &mut [u64], draft: &[u64], old: &mut [usize], new: &mut [us
     let k = draft[2] as usize;
     tables(block, n, draft, k, old, new);
     merge(block, n, draft, k, old, new);
+    let darts = n + k;
     let after = Header {
         number,
         counter,
-        darts: n + k,
+        darts,
     };
     after.write(block);
 }

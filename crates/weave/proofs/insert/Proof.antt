@@ -23,8 +23,8 @@ tables-requires c κs = search needs
 merge-requires : tie.Need-merge-requires
 merge-requires c κs = search needs
 
-add-t28 : tie.Need-add-t28
-add-t28 c = search needs
+add-darts : tie.Need-add-darts
+add-darts c = search needs
 
 write-requires : tie.Need-write-requires
 write-requires c κs = search needs
@@ -52,7 +52,7 @@ insert-spec =
     shared-slice-read-k
     tables-requires
     merge-requires
-    add-t28
+    add-darts
     write-requires
     same-length
     same-length-2
