@@ -26,7 +26,8 @@ use Rattle.cells.proofs.Sited.{count-in, sited}
 use Rattle.removal.specs.LetGo.{moved-words}
 use Rattle.removal.proofs.ReleasedImage.{link-moved}
 use Rattle.removal.proofs.CutFaces.{distinct-map}
-use Rattle.weave.specs.Weave.{up, Between, weave, rows, woven-at, Weaves}
+use Rattle.weave.specs.Weave.{up, Between, weave, rows, woven-at}
+use Rattle.woven.specs.Woven.{Drafted}
 use Rattle.woven.proofs.Positions.{Rows, woven-rows, keys, woven-keys, index-old, index-new, map-weave, keep-weave}
 use Rattle.woven.proofs.Inserted.{inserted, all-there}
 
@@ -39,15 +40,6 @@ words-moved m ss t p kind next opposite link =
     let k = kind-back (column m 0) (column m 3 p) (column m 4 p) kind in
     let l = link-moved (column m 0) t ss (column m 3 p) (column m 4 p) kind link in
     λ i. column m 0 p ∷ next i ∷ opposite i ∷ k i ∷ l i ∷ column m 5 p ∷ column m 6 p ∷ column m 7 p ∷ []
-
--- WHAT THE LAWS ASK: memory of n darts and a draft of k, and zeros behind the n
-pub record Drafted (m c : List ℕ) (n k : ℕ) : Type 0 where
-  pub weaves : Weaves m c n k
-  pub block-linked : Linked m n
-  pub draft-linked : Linked c k
-  pub kinds : (p : ℕ) → p < n → Kind (column m 3 p) (column m 4 p)
-  pub free : (q : ℕ) → q < k → (column c 3 q ≡ 0) × (column c 4 q ≡ 0)
-  pub rest : (i : ℕ) → 8 + n * 8 ≤ i → getD m i 0 ≡ 0
 
 -- a sound block and a draft of free darts, of other serials
 pub drafted : (m c : List ℕ) → is-image rack m ≡ true → Linked c (count-in c) → Ascending (count-in c) (column c 0) → ((q : ℕ) → q < count-in c → (column c 3 q ≡ 0) × (column c 4 q ≡ 0))

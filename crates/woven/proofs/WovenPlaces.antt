@@ -23,26 +23,17 @@ use Rattle.columns.specs.Columns.{Kind, kind-free, kind-sewn, kind-critical}
 use Rattle.columns.proofs.Thirds.{third-free, third-sewn, third-critical}
 use Rattle.cells.specs.Places.{Within, Apart, Linked}
 use Rattle.cells.proofs.Sited.{Sited, count-in, darts-in}
-use Rattle.removal.specs.LetGo.{moved-link, moved-words}
+use Rattle.removal.specs.LetGo.{moved-words}
 use Rattle.removal.proofs.ReleasedImage.{link-sewn, link-other}
 use Rattle.removal.proofs.CutFaces.{kind-one}
 use Rattle.release.specs.Asks.{Tabled}
 use Rattle.weave.specs.Weave.{up, woven-at}
 use Rattle.weave.proofs.Weaving.{by-table}
+use Rattle.woven.specs.Woven.{Drafted, MovedTo, Stands}
 use Rattle.woven.proofs.Inserted.{all-there}
-use Rattle.woven.proofs.WovenImage.{Drafted, all-darts, darts-at, darts-ascend, darts-tab, old-words, new-words, both, image-both, darts-both}
+use Rattle.woven.proofs.WovenImage.{all-darts, darts-at, darts-ascend, darts-tab, old-words, new-words, both, image-both, darts-both}
 
--- ONE RECORD: that at place q of x is that at place p of m, with places moved by t
-pub record MovedTo (m x : List ℕ) (t : ℕ → ℕ) (p q : ℕ) : Type 0 where
-  pub serial : column x 0 q ≡ column m 0 p
-  pub next : column x 1 q ≡ t (column m 1 p)
-  pub opposite : column x 2 q ≡ t (column m 2 p)
-  pub kind : column x 3 q ≡ column m 3 p
-  pub link : column x 4 q ≡ moved-link t (column m 3 p) (column m 4 p)
-  pub on-x : column x 5 q ≡ column m 5 p
-  pub on-y : column x 6 q ≡ column m 6 p
-  pub on-z : column x 7 q ≡ column m 7 p
-
+-- ONE RECORD
 moved-to : (m x : List ℕ) (t : ℕ → ℕ) (p q : ℕ) → ((g : ℕ) → g < 8 → column x g q ≡ getD (moved-words t m p) g 0) → MovedTo m x t p q
 unfolding moved-words
 moved-to m x t p q e = record {
@@ -221,8 +212,8 @@ module _ {m c : List ℕ} {n k : ℕ} (a : Drafted m c n k) where
         sewn-within = sewn-within;
       }
 
-  pub woven-sited : Sited x
-  woven-sited =
+  site : Sited x
+  site =
       let order = subst (λ (z : ℕ). Ascending z (column x 0)) (sym count-is) serials-ascend in
       let at : (p : ℕ) → p < count-in x → dart-at (darts-in x) (column x 0 p) ≡ dart-in x p = λ p h. dart-place (dart-in x) (count-in x) p order h in
       record {
@@ -233,32 +224,27 @@ module _ {m c : List ℕ} {n k : ℕ} (a : Drafted m c n k) where
         third-is = λ p h. ap (λ (d : Dart). d .third) (at p h);
       }
 
-  -- THE TABLES: each dart of the block stands at its place of `old`, each of the draft at its place of `new`
-  pub record Stands (old new : List ℕ) : Type 0 where
-    pub old-lt : (p : ℕ) → p < n → getD old p 0 < n + k
-    pub new-lt : (q : ℕ) → q < k → getD new q 0 < n + k
-    pub old-dart-is : (p : ℕ) → p < n → dart-in x (getD old p 0) ≡ dart-in m p
-    pub new-dart-is : (q : ℕ) → q < k → dart-in x (getD new q 0) ≡ dart-in c q
-    pub old-moved : (p : ℕ) → p < n → MovedTo m x (λ y. getD old y 0) p (getD old p 0)
-    pub new-moved : (q : ℕ) → q < k → MovedTo c x (λ y. getD new y 0) q (getD new q 0)
-    pub old-up : Ascending n (λ p. getD old p 0)
-    pub new-up : Ascending k (λ q. getD new q 0)
-    pub differ : (p q : ℕ) → p < n → q < k → getD old p 0 ≡ getD new q 0 → ⊥
-    pub every : (t : ℕ) → t < n + k → ((p : ℕ) × (p < n) × (t ≡ getD old p 0)) ⊎ ((q : ℕ) × (q < k) × (t ≡ getD new q 0))
+  -- the memory that the code leaves
+  pub woven-sited : {y : List ℕ} → y ≡ x → Sited y
+  woven-sited e = subst Sited (sym e) site
 
-  pub stands : (old new : List ℕ) → Tabled to-old n old → Tabled to-new k new → Stands old new
-  stands old new o w = record {
+  -- THE TABLES
+  standing : (old new : List ℕ) → Tabled to-old n old → Tabled to-new k new → Stands m c x n k old new
+  standing old new o w = record {
     old-lt = λ p h. omega (arith, o p h, darts-at a .old-lt p h);
     new-lt = λ q h. omega (arith, w q h, darts-at a .new-lt q h);
-    old-dart-is = λ p h. ap (dart-in x) (o p h) ∙ old-dart p h;
-    new-dart-is = λ q h. ap (dart-in x) (w q h) ∙ new-dart q h;
+    old-dart = λ p h. ap (dart-in x) (o p h) ∙ old-dart p h;
+    new-dart = λ q h. ap (dart-in x) (w q h) ∙ new-dart q h;
     old-moved = λ p h. moved-to m x (λ y. getD old y 0) p (getD old p 0) (λ g b. ap (column x g) (o p h) ∙ old-word p g h b ∙ ap (λ (l : List ℕ). getD l g 0) (sym (by-table m old to-old n p (a .weaves .block) o h)));
     new-moved = λ q h. moved-to c x (λ y. getD new y 0) q (getD new q 0) (λ g b. ap (column x g) (w q h) ∙ new-word q g h b ∙ ap (λ (l : List ℕ). getD l g 0) (sym (by-table c new to-new k q (a .weaves .draft) w h)));
     old-up = λ p q l h. omega (arith, o p (omega arith), o q h, old-ascend p q l h);
     new-up = λ p q l h. omega (arith, w p (omega arith), w q h, new-ascend p q l h);
-    differ = λ p q h b e. never-meet p q h b (sym (o p h) ∙ e ∙ w q b);
+    apart = λ p q h b e. never-meet p q h b (sym (o p h) ∙ e ∙ w q b);
     every = λ t h. ⊎-elim (λ r. inl (r .0, r .1, r .2 ∙ sym (o (r .0) (r .1)))) (λ r. inr (r .0, r .1, r .2 ∙ sym (w (r .0) (r .1)))) (darts-at a .from t h);
   }
+
+  pub stands : (old new : List ℕ) {y : List ℕ} → y ≡ x → Tabled to-old n old → Tabled to-new k new → Stands m c y n k old new
+  stands old new e o w = subst (λ (y : List ℕ). Stands m c y n k old new) (sym e) (standing old new o w)
 
   -- THE BLOCK that is read from it
   block-both : block-in x ≡ both a
