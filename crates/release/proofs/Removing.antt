@@ -65,7 +65,7 @@ record-moved m i at t e f g h q = q ∙ rw (h, g, f, e)
 same-link : (t u : ℕ → ℕ) (k a : ℕ) → (k ≡ 1 → t a ≡ u a) → moved-link t k a ≡ moved-link u k a
 same-link t u k a h = ⊎-elim (λ e. sym (link-sewn t k a e) ∙ h e ∙ link-sewn u k a e) (λ e. sym (link-other t k a e) ∙ link-other u k a e) (eq-or-ne k 1)
 
-same-words : (t u : ℕ → ℕ) (m : List ℕ) (p : ℕ) → t (column m 1 p) ≡ u (column m 1 p) → t (column m 2 p) ≡ u (column m 2 p) → (column m 3 p ≡ 1 → t (column m 4 p) ≡ u (column m 4 p)) → moved-words t m p ≡ moved-words u m p
+pub same-words : (t u : ℕ → ℕ) (m : List ℕ) (p : ℕ) → t (column m 1 p) ≡ u (column m 1 p) → t (column m 2 p) ≡ u (column m 2 p) → (column m 3 p ≡ 1 → t (column m 4 p) ≡ u (column m 4 p)) → moved-words t m p ≡ moved-words u m p
 unfolding moved-words
 same-words t u m p e f g = rw (e, f, same-link t u (column m 3 p) (column m 4 p) g)
 
@@ -94,7 +94,7 @@ module _ (x r : List ℕ) (t : ℕ) (h : 16 + t * 8 ≤ length x) (l : length r 
       ∙ drop-drop (8 + k * 8 - (16 + t * 8)) (16 + t * 8) x ∙ ap (λ (i : ℕ). drop i x) f
 
 -- THE LOOP THAT MOVES RECORDS
-concat-snoc : (l : List (List ℕ)) (r : List ℕ) → concat (l ++ r ∷ []) ≡ concat l ++ r
+pub concat-snoc : (l : List (List ℕ)) (r : List ℕ) → concat (l ++ r ∷ []) ≡ concat l ++ r
 unfolding concat
 concat-snoc [] r = append-nil r
 concat-snoc (a ∷ l) r = rw (concat-snoc l r, append-assoc)

@@ -47,7 +47,7 @@ unfolding moved-link
 link-other t k a e = rw (ne-eqb k 1 e) refl
 
 -- of a third link where the serial at place a has index t a
-link-moved : (s t : ℕ → ℕ) (ss : List ℕ) (k a : ℕ) → Kind k a → (k ≡ 1 → index-of (s a) ss ≡ t a) → link-word ss (third-in s k a) ≡ moved-link t k a
+pub link-moved : (s t : ℕ → ℕ) (ss : List ℕ) (k a : ℕ) → Kind k a → (k ≡ 1 → index-of (s a) ss ≡ t a) → link-word ss (third-in s k a) ≡ moved-link t k a
 link-moved s t ss k a (kind-free e f) h = ap (link-word ss) (third-free s k a e) ∙ sym f ∙ link-other t k a (λ q. omega arith)
 link-moved s t ss k a (kind-sewn e) h = ap (link-word ss) (third-sewn s k a e) ∙ h e ∙ link-sewn t k a e
 link-moved s t ss k a (kind-critical e f g) h = ap (link-word ss) (third-critical s k a e) ∙ code-in a ∙ link-other t k a (λ q. omega arith)

@@ -1,0 +1,33 @@
+-- `weave::last_is_old` meets its contract: the greater of two serials, or the one that is left. Assumes nothing.
+use Rattle.weave.proofs.Weaving.{last-end, last-none, last-both}
+use borrow.Author.Needs.{needs}
+use Rattle.weave.proofs.last_is_old.Statement.{statement}
+use Rattle.weave.proofs.last_is_old.Tie as tie
+
+returns : tie.Need-returns
+returns c =
+    last-end _ _ _ _ (c .if1 .taken)
+
+returns-2 : tie.Need-returns-2
+returns-2 c =
+    last-none _ _ _ _ (c .before .if1 .left) (c .if2 .taken)
+
+sub-t7 : tie.Need-sub-t7
+sub-t7 c = search needs
+
+field-requires : tie.Need-field-requires
+field-requires c κs = search needs
+
+sub-t10 : tie.Need-sub-t10
+sub-t10 c = search needs
+
+field-requires-2 : tie.Need-field-requires-2
+field-requires-2 c κs = search needs
+
+returns-3 : tie.Need-returns-3
+returns-3 c =
+    last-both _ _ _ _ (c .before .before .before .if1 .left) (c .before .before .if2 .left) (c .before .field .ensures) (c .field2 .ensures)
+
+pub last-is-old-spec : {M : Type 1} → statement M
+last-is-old-spec =
+    tie.close (tie.spec returns returns-2 sub-t7 field-requires sub-t10 field-requires-2 returns-3)

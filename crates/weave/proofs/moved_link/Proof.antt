@@ -1,0 +1,21 @@
+-- `weave::moved_link` meets its contract: only a sewn dart's link is a place. Assumes nothing.
+use mathlib.Core.Path.{_∙_}
+use lib.ListN.{getD}
+use Rattle.removal.proofs.ReleasedImage.{link-sewn, link-other}
+use Rattle.weave.proofs.moved_link.Statement.{statement}
+use Rattle.weave.proofs.moved_link.Tie as tie
+
+moved-requires : tie.Need-moved-requires
+moved-requires c κs =
+    (c .before .before .pre .0, c .before .before .pre .1 (c .if1 .taken))
+
+returns : tie.Need-returns
+returns c =
+    c .moved .ensures ∙ link-sewn (λ p. getD (c .before .before .before .args .table .now) p 0) _ _ (c .before .if1 .taken)
+
+returns-2 : tie.Need-returns-2
+returns-2 c =
+    link-other _ _ _ (c .if1 .left)
+
+pub moved-link-spec : {M : Type 1} → statement M
+moved-link-spec = tie.close (tie.spec moved-requires returns returns-2)

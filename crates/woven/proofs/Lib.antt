@@ -1,0 +1,4 @@
+pub mod Positions
+pub mod Inserted
+pub mod WovenImage
+pub mod WovenPlaces
