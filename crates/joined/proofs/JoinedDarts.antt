@@ -1,23 +1,31 @@
 -- The darts of a block with new ones sewn in: each is the dart before, with the link that it gets. Assumes nothing.
 use mathlib.Core.Path.{_≡_, refl, sym, _∙_, ap, subst}
-use mathlib.Core.Bool.{Bool, true, false, true≢false, cond, _&&_}
-use mathlib.Core.List.{List, [], _∷_, map}
+use mathlib.Core.Bool.{true, false, true≢false, _&&_}
+use mathlib.Core.List.{List}
 use mathlib.Core.Logic.{_⊎_, ⊎-elim}
 use mathlib.Core.Option.{Option, none, some}
-use Prim.Native.Nat.{ℕ, _+_, _*_, _/_, _%_, _≤_, _<_}
+use Prim.Native.Nat.{ℕ, _+_, _≤_, _<_}
 use native.Mathlib.Omega.{arith}
 use lib.Dec.{eqb}
-use lib.ListN.{length, getD}
-use borrow.Author.Tests.{eqb-true, eqb-false, eq-eqb, ne-eqb}
+use lib.ListN.{getD}
+use borrow.Author.Tests.{eqb-true, eq-eqb, ne-eqb}
 use Rattle.model.specs.Lists.{any, find, tab}
-use Rattle.model.specs.Values.{Third, free, sewn, critical, Dart, with-third}
-use Rattle.model.specs.Image.{room, words, column, third-in, dart-in, label-in}
+use Rattle.model.specs.Values.{Third, free, sewn, Dart, with-third}
+use Rattle.model.specs.Image.{room, words, column, third-in, dart-in}
 use Rattle.model.specs.Departure.{Link, third-or, relink}
 use Rattle.laws.proofs.Tests.{by-cases, and-intro, and-left, and-right, eq-or-ne}
-use Rattle.laws.proofs.Tables.{any-tab, tab-any}
+use Rattle.laws.proofs.Tables.{any-tab, tab-any, one-place}
 use Rattle.columns.specs.Columns.{Kind, kind-free, kind-sewn, kind-critical}
-use Rattle.sewing.specs.Thirds.{place-of, link-of, Sewable, Sewn}
-use Rattle.joined.specs.Join.{Woven, Indexed, Linking}
+use Rattle.sewing.specs.Thirds.{place-of, Sewable, Sewn}
+use Rattle.woven.specs.Woven.{Stands}
+use Rattle.joined.specs.Join.{Indexed, Linking}
+
+-- no two darts stand at one place
+pub old-one : {m c w : List ℕ} {n k : ℕ} {old new : List ℕ} → Stands m c w n k old new → (p q : ℕ) → p < n → q < n → getD old p 0 ≡ getD old q 0 → p ≡ q
+old-one at p q hp hq e = one-place (at .old-up) hp hq e
+
+pub new-one : {m c w : List ℕ} {n k : ℕ} {old new : List ℕ} → Stands m c w n k old new → (p q : ℕ) → p < k → q < k → getD new p 0 ≡ getD new q 0 → p ≡ q
+new-one at p q hp hq e = one-place (at .new-up) hp hq e
 
 -- a third link by its words
 third-free : (s : ℕ → ℕ) (k a : ℕ) → k ≡ 0 → third-in s k a ≡ free
@@ -36,7 +44,7 @@ third-other s s′ {k} {a} (kind-sewn e) d = absurd (d e)
 third-other s s′ {k} {a} (kind-critical e f g) d = rw e refl
 
 module _ {m c w kinds links ranks old new x : List ℕ} {n k : ℕ} {ls : List Link} (fits : n + k ≤ room) (few : k ≤ 512)
-    (at : Woven m c w n k old new) (by : Indexed c x ranks k) (ln : Linking m n k x kinds links ls) where
+    (at : Stands m c w n k old new) (by : Indexed c x ranks k) (ln : Linking m n k x kinds links ls) where
   -- what sewing asks
   pub sewable : Sewable n k kinds links ranks old new
   sewable = record {
@@ -44,10 +52,10 @@ module _ {m c w kinds links ranks old new x : List ℕ} {n k : ℕ} {ls : List L
     few = few;
     rank-below = by .rank-below;
     new-below = λ i h. at .new-lt (getD ranks i 0) (by .rank-below i h);
-    new-apart = λ i j hi hj e. by .rank-apart i j hi hj (at .new-apart (getD ranks i 0) (getD ranks j 0) (by .rank-below i hi) (by .rank-below j hj) e);
+    new-apart = λ i j hi hj e. by .rank-apart i j hi hj (new-one at (getD ranks i 0) (getD ranks j 0) (by .rank-below i hi) (by .rank-below j hj) e);
     old-below = at .old-lt;
-    old-apart = at .old-apart;
-    both-apart = λ i q hi hq e. at .never-meet q (getD ranks i 0) hq (by .rank-below i hi) (sym e);
+    old-apart = old-one at;
+    both-apart = λ i q hi hq e. at .apart q (getD ranks i 0) hq (by .rank-below i hi) (sym e);
     link-below = ln .link-below;
     link-apart = ln .link-apart;
   }
@@ -104,8 +112,8 @@ module _ {m c w kinds links ranks old new x : List ℕ} {n k : ℕ} {ls : List L
     unmet-dart p h no-one =
         let t = getD old p 0 in
         let stay : (f : ℕ) → f < 8 → column y f t ≡ column w f t = λ f l. sew .stays f t l
-            (λ j u d e. at .never-meet p (getD ranks j 0) h (by .rank-below j u) e)
-            (λ j u d e. no-one j u d (sym (at .old-apart p (getD links j 0) h (ln .link-below j u d) e))) in
+        (λ j u d e. at .apart p (getD ranks j 0) h (by .rank-below j u) e)
+        (λ j u d e. no-one j u d (sym (old-one at p (getD links j 0) h (ln .link-below j u d) e))) in
         let here : third-in (column w 0) (column y 3 t) (column y 4 t) ≡ dart-in w t .third = rw (stay 3 (omega arith), stay 4 (omega arith)) refl in
         ap (λ (z : Third). with-third z (dart-in w t)) here ∙ linked-none (dart-in w t) (column m 0 p) (old-serial p h) (ln .unmet p h no-one)
 
@@ -125,8 +133,8 @@ module _ {m c w kinds links ranks old new x : List ℕ} {n k : ℕ} {ls : List L
         ⊎-elim
         (λ (e : getD kinds i 0 ≡ 0).
         let stay : (f : ℕ) → f < 8 → column y f t ≡ column w f t = λ f l. sew .stays f t l
-            (λ j u d g. let same = by .rank-apart i j h u (at .new-apart (getD ranks i 0) (getD ranks j 0) (by .rank-below i h) (by .rank-below j u) g) in d (ap (λ (z : ℕ). getD kinds z 0) (sym same) ∙ e))
-            (λ j u d g. at .never-meet (getD links j 0) (getD ranks i 0) (ln .link-below j u d) (by .rank-below i h) (sym g)) in
+        (λ j u d g. let same = by .rank-apart i j h u (new-one at (getD ranks i 0) (getD ranks j 0) (by .rank-below i h) (by .rank-below j u) g) in d (ap (λ (z : ℕ). getD kinds z 0) (sym same) ∙ e))
+        (λ j u d g. at .apart (getD links j 0) (getD ranks i 0) (ln .link-below j u d) (by .rank-below i h) (sym g)) in
         let here : third-in (column w 0) (column y 3 t) (column y 4 t) ≡ dart-in w t .third = rw (stay 3 (omega arith), stay 4 (omega arith)) refl in
         ap (λ (z : Third). with-third z (dart-in w t)) here ∙ linked-none (dart-in w t) (getD x i 0) (new-serial i h) (ln .new-free i h e))
         (λ (d : getD kinds i 0 ≡ 0 → ⊥).
@@ -149,4 +157,4 @@ module _ {m c w kinds links ranks old new x : List ℕ} {n k : ℕ} {ls : List L
         (λ r. let i = by .index-of (r .0) (r .1) in
         let here : place-of ranks new (i .0) ≡ t = ap (λ (z : ℕ). getD new z 0) (i .2) ∙ sym (r .2) in
         subst (λ (z : ℕ). with-third (third-now z) (dart-in w z) ≡ relink ls (dart-in w z)) here (new-joined (i .0) (i .1)))
-        (at .from t h)
+        (at .every t h)

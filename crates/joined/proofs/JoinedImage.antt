@@ -1,5 +1,5 @@
 -- The memory of a block with new darts sewn in is the image of the model's block. Assumes nothing.
-use mathlib.Core.Path.{_≡_, refl, sym, _∙_, ap, subst}
+use mathlib.Core.Path.{_≡_, sym, _∙_, ap, subst}
 use mathlib.Core.Bool.{Bool, true, false, true≢false, cond, _&&_}
 use mathlib.Core.List.{List, map}
 use mathlib.Core.Logic.{_⊎_, ⊎-elim}
@@ -9,19 +9,20 @@ use lib.Dec.{eqb}
 use lib.ListN.{length, getD}
 use borrow.Author.Tests.{eqb-true, eq-eqb, ne-eqb}
 use Rattle.model.specs.Lists.{any, tab}
-use Rattle.model.specs.Values.{Dart, Block}
+use Rattle.model.specs.Values.{Dart}
 use Rattle.model.specs.Image.{room, words, image, column, dart-in, block-in}
 use Rattle.model.specs.Departure.{Link, relink}
 use Rattle.laws.proofs.Tests.{by-cases, and-intro, and-left, and-right, eq-or-ne}
 use Rattle.laws.proofs.Tables.{any-tab, tab-any, map-tab, tab-cong}
-use Rattle.columns.specs.Columns.{Kind, kind-free, kind-sewn, kind-critical, Ranged, Places, before}
+use Rattle.columns.specs.Columns.{Kind, kind-sewn, Ranged, Places, before}
 use Rattle.columns.proofs.Images.{image-back}
-use Rattle.sewing.specs.Thirds.{place-of, link-of, Sewn}
-use Rattle.joined.specs.Join.{Woven, Indexed, Linking}
-use Rattle.joined.proofs.JoinedDarts.{dart-joined}
+use Rattle.sewing.specs.Thirds.{place-of, Sewn}
+use Rattle.woven.specs.Woven.{Stands}
+use Rattle.joined.specs.Join.{Indexed, Linking}
+use Rattle.joined.proofs.JoinedDarts.{old-one, new-one, dart-joined}
 
 module _ {m c w kinds links ranks old new x : List ℕ} {n k : ℕ} {ls : List Link} (fits : n + k ≤ room) (few : k ≤ 512)
-    (at : Woven m c w n k old new) (by : Indexed c x ranks k) (ln : Linking m n k x kinds links ls) {y : List ℕ} (sew : Sewn w kinds links ranks old new k y) where
+    (at : Stands m c w n k old new) (by : Indexed c x ranks k) (ln : Linking m n k x kinds links ls) {y : List ℕ} (sew : Sewn w kinds links ranks old new k y) where
   -- both words of a dart: as before, sewn, or labelled
   data Words (t : ℕ) : Type 0 where
     same : column y 3 t ≡ column w 3 t → column y 4 t ≡ column w 4 t → Words t
@@ -35,16 +36,16 @@ module _ {m c w kinds links ranks old new x : List ℕ} {n k : ℕ} {ls : List L
       let there = eqb-true (getD links (r .0) 0) p (and-right (eqb (getD kinds (r .0) 0) 1) _ (r .2)) in
       subst (λ (z : ℕ). Words (getD old z 0)) there (sewed (sew .met-kind (r .0) (r .1) one) (let b = at .new-lt (getD ranks (r .0) 0) (by .rank-below (r .0) (r .1)) in let l = sew .met-link (r .0) (r .1) one in omega (arith, b, l))))
       (λ e. let stay : (f : ℕ) → f < 8 → column y f (getD old p 0) ≡ column w f (getD old p 0) = λ f l. sew .stays f (getD old p 0) l
-          (λ j u d g. at .never-meet p (getD ranks j 0) h (by .rank-below j u) g)
-          (λ j u d g. true≢false (sym (tab-any (λ i. eqb (getD kinds i 0) 1 && eqb (getD links i 0) p) (λ i. i) k j u (and-intro (eq-eqb (getD kinds j 0) 1 d) (eq-eqb (getD links j 0) p (sym (at .old-apart p (getD links j 0) h (ln .link-below j u d) g))))) ∙ e)) in
+      (λ j u d g. at .apart p (getD ranks j 0) h (by .rank-below j u) g)
+      (λ j u d g. true≢false (sym (tab-any (λ i. eqb (getD kinds i 0) 1 && eqb (getD links i 0) p) (λ i. i) k j u (and-intro (eq-eqb (getD kinds j 0) 1 d) (eq-eqb (getD links j 0) p (sym (old-one at p (getD links j 0) h (ln .link-below j u d) g))))) ∙ e)) in
       same (stay 3 (omega arith)) (stay 4 (omega arith)))
 
   new-words : (i : ℕ) → i < k → Words (place-of ranks new i)
   new-words i h = ⊎-elim
       (λ (e : getD kinds i 0 ≡ 0).
       let stay : (f : ℕ) → f < 8 → column y f (place-of ranks new i) ≡ column w f (place-of ranks new i) = λ f l. sew .stays f (place-of ranks new i) l
-          (λ j u d g. let one = by .rank-apart i j h u (at .new-apart (getD ranks i 0) (getD ranks j 0) (by .rank-below i h) (by .rank-below j u) g) in d (ap (λ (z : ℕ). getD kinds z 0) (sym one) ∙ e))
-          (λ j u d g. at .never-meet (getD links j 0) (getD ranks i 0) (ln .link-below j u d) (by .rank-below i h) (sym g)) in
+      (λ j u d g. let one = by .rank-apart i j h u (new-one at (getD ranks i 0) (getD ranks j 0) (by .rank-below i h) (by .rank-below j u) g) in d (ap (λ (z : ℕ). getD kinds z 0) (sym one) ∙ e))
+      (λ j u d g. at .apart (getD links j 0) (getD ranks i 0) (ln .link-below j u d) (by .rank-below i h) (sym g)) in
       same (stay 3 (omega arith)) (stay 4 (omega arith)))
       (λ (d : getD kinds i 0 ≡ 0 → ⊥). ⊎-elim
       (λ (e : getD kinds i 0 ≡ 1). sewed (sew .new-kind i h d ∙ e) (let l = sew .new-link i h d ∙ ap (λ (b : Bool). cond b (getD old (getD links i 0) 0) (getD links i 0)) (eq-eqb (getD kinds i 0) 1 e) in let b = at .old-lt (getD links i 0) (ln .link-below i h e) in omega (arith, l, b)))
@@ -58,7 +59,7 @@ module _ {m c w kinds links ranks old new x : List ℕ} {n k : ℕ} {ls : List L
   words-at t h = ⊎-elim
       (λ r. subst Words (sym (r .2)) (old-words (r .0) (r .1)))
       (λ r. let i = by .index-of (r .0) (r .1) in subst Words (ap (λ (z : ℕ). getD new z 0) (i .2) ∙ sym (r .2)) (new-words (i .0) (i .1)))
-      (at .from t h)
+      (at .every t h)
 
   -- what is past the darts stays
   past : (t f : ℕ) → n + k ≤ t → f < 8 → column y f t ≡ column w f t

@@ -1,28 +1,16 @@
 -- New darts that stand among those of a block, and the links that they bring. Assumes nothing.
--- m: the block's memory before, with n darts; c: the draft of k new darts; w: both woven; old, new: where each went;
--- x, kinds, links, ranks: serial, kind word, link word and place in the draft, by index in the message.
+-- m: the block's memory before, with n darts; c: the draft of k new darts; x, kinds, links, ranks: serial, kind word, link word and
+-- place in the draft, by index in the message.
 use mathlib.Core.Path.{_≡_}
 use mathlib.Core.List.{List}
-use mathlib.Core.Logic.{_⊎_}
 use mathlib.Core.Option.{none, some}
-use Prim.Native.Nat.{ℕ, _+_, _≤_, _<_}
-use lib.ListN.{length, getD}
+use Prim.Native.Nat.{ℕ, _<_}
+use lib.ListN.{getD}
 use Rattle.model.specs.Lists.{find}
 use Rattle.model.specs.Values.{sewn}
-use Rattle.model.specs.Image.{room, words, column, third-in, dart-in}
+use Rattle.model.specs.Image.{column, third-in}
 use Rattle.model.specs.Departure.{Link}
 use Rattle.columns.specs.Columns.{Kind}
-
--- each dart stands where its table says, and nothing else is there
-pub record Woven (m c w : List ℕ) (n k : ℕ) (old new : List ℕ) : Type 0 where
-  pub old-dart : (p : ℕ) → p < n → dart-in w (getD old p 0) ≡ dart-in m p
-  pub new-dart : (q : ℕ) → q < k → dart-in w (getD new q 0) ≡ dart-in c q
-  pub old-lt : (p : ℕ) → p < n → getD old p 0 < n + k
-  pub new-lt : (q : ℕ) → q < k → getD new q 0 < n + k
-  pub old-apart : (p q : ℕ) → p < n → q < n → getD old p 0 ≡ getD old q 0 → p ≡ q
-  pub new-apart : (p q : ℕ) → p < k → q < k → getD new p 0 ≡ getD new q 0 → p ≡ q
-  pub never-meet : (p q : ℕ) → p < n → q < k → getD old p 0 ≡ getD new q 0 → ⊥
-  pub from : (t : ℕ) → t < n + k → ((p : ℕ) × (p < n) × (t ≡ getD old p 0)) ⊎ ((q : ℕ) × (q < k) × (t ≡ getD new q 0))
 
 -- every place of the draft is that of one index, which has its serial
 pub record Indexed (c x ranks : List ℕ) (k : ℕ) : Type 0 where
