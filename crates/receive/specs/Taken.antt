@@ -1,0 +1,42 @@
+-- What the parts of the call answer: new darts joined to a block, and what a transfer does to its memory. Assumes nothing.
+use mathlib.Core.Path.{_≡_}
+use mathlib.Core.List.{List, _++_}
+use Prim.Native.Nat.{ℕ}
+use lib.ListN.{length, getD}
+use Rattle.model.specs.Values.{rack}
+use Rattle.model.specs.Image.{block-in, memory-checks}
+use Rattle.model.specs.Messages.{Transfer, Message, a-transfer, message-in}
+use Rattle.model.specs.Departure.{Link}
+use Rattle.model.specs.Arrival.{receive-checks, received-from}
+use Rattle.model.specs.Calls.{Answer, Result, storing}
+use Rattle.answers.specs.Answers.{Gives}
+use Rattle.inbox.specs.declared.message.Front.{Front}
+use Rattle.inbox.specs.declared.message.Tail.{Tail}
+use Rattle.inbox.specs.Arrived.{TransferOutlined}
+use Rattle.weave.specs.Weave.{woven-at}
+use Rattle.woven.specs.Woven.{Drafted, Stands}
+use Rattle.sewing.specs.Thirds.{Sewn}
+use Rattle.joined.specs.Join.{Indexed, Linking}
+
+-- a draft that may join a block, with the links that it brings
+pub record MayJoin (m c : List ℕ) (n k : ℕ) (kinds links ranks : List ℕ) : Type 0 where
+  pub drafted : Drafted m c n k
+  pub serials : List ℕ
+  pub brings : List Link
+  pub indexed : Indexed c serials ranks k
+  pub linking : Linking m n k serials kinds links brings
+
+-- it has joined: woven, then sewn
+pub record Joins (m c : List ℕ) (n k : ℕ) (kinds links ranks y : List ℕ) : Type 0 where
+  pub old : List ℕ
+  pub new : List ℕ
+  pub stand : Stands m c (woven-at m n c k) n k old new
+  pub sewn : Sewn (woven-at m n c k) kinds links ranks old new k y
+
+-- the call on a message that was read
+unfoldable pub receive-by : List ℕ → Message → Result (Unit {0})
+receive-by m r = storing (memory-checks rack m ++ receive-checks rack (block-in m) r) m (received-from (block-in m) r)
+
+-- the call on the transfer that an outline tells
+pub record Takes (m s v x b z : List ℕ) (f : Front) (l : Tail) (given : Answer (Unit {0})) (lent : List ℕ) : Type 0 where
+  pub gives : (t : Transfer) → message-in s ≡ a-transfer t → TransferOutlined t s v x b z f l → Gives (receive-by m (a-transfer t)) given lent
