@@ -90,10 +90,10 @@ module _ {v x b z keys ranks q s : List ℕ} {from k : ℕ} {m : List ℕ} (w : 
       let same : point-in s (from + 24 * getD v i 0) ≡ record { x = column m 5 p; y = column m 6 p; z = column m 7 p } = λ j. record { x = sym cx j; y = sym cy j; z = sym cz j } in
       dart-path (sym (serial-of w i h)) (sym nx) (opposite-is i h ∙ sym op) (sym third) (pt ∙ same)
 
-  abbrev new-at : ℕ → Dart
+  abbrev pub new-at : ℕ → Dart
   new-at i = new-dart t (side-at v x b z i)
 
-  all-new : new-darts t ≡ tab new-at k
+  pub all-new : new-darts t ≡ tab new-at k
   unfolding new-darts
   all-new = ap (map (new-dart t)) all-sides ∙ map-tab (new-dart t) (side-at v x b z) k
 

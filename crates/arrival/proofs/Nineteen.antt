@@ -108,7 +108,7 @@ module _ {t : Transfer} {v x b z s : List ℕ} {from n k : ℕ} {hollow : Bool} 
   unfolding volume-right
   is-one y = and-right (faces-ordered t && pairs-right (sides t)) _ (and-left (faces-ordered t && pairs-right (sides t) && one-volume t) _ y)
 
-  is-numbered : volume-right t ≡ true → vertices-right t ≡ true
+  pub is-numbered : volume-right t ≡ true → vertices-right t ≡ true
   unfolding volume-right
   is-numbered y = and-right (faces-ordered t && pairs-right (sides t) && one-volume t) _ y
 

@@ -163,7 +163,7 @@ module _ (lim : Limits) (b : Block) (t : Transfer) (small : lim .block-darts ≤
       (rw (append-nil _) (P .meets-apart)) .good)
 
 -- new darts may be linked before or after they are inserted
-received-is : (b : Block) (t : Transfer)
+pub received-is : (b : Block) (t : Transfer)
     → received b t ≡ record { number = b .number; counter = b .counter; darts = map (relink (transfer-links (b .darts) t)) (insert-all (new-darts t) (b .darts)) }
 unfolding received
 received-is b t = ap (λ (l : List Dart). record { number = b .number; counter = b .counter; darts = l }) (sym (insert-all-map (relink (transfer-links (b .darts) t)) (same-serial (transfer-links (b .darts) t) (b .darts)) (new-darts t) (b .darts)))

@@ -58,7 +58,7 @@ update-is none none u e = let z : _≡_ {A = ℕ} 0 1 = cc in absurd (omega arit
 update-is none (some w) u e = let z : w ≡ u = cc in ap (λ (x : Update). some x) z
 update-is (some s) p u e = let z : _≡_ {A = ℕ} 0 1 = cc in absurd (omega arith)
 
-transfer-read : (message : List ℕ) → Bytes message → (t : Transfer) → message-in message ≡ a-transfer t → transfer .ok t ≡ true
+pub transfer-read : (message : List ℕ) → Bytes message → (t : Transfer) → message-in message ≡ a-transfer t → transfer .ok t ≡ true
 unfolding message-in
 transfer-read message h t e = framed-only transfer transfer-lawful message t h (transfer-is (unframed transfer message) (unframed update message) t e) .1
 

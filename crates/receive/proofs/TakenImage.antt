@@ -1,0 +1,107 @@
+-- The memory that receive leaves is the image of the model's block. Assumes nothing.
+use mathlib.Core.Path.{_≡_, refl, sym, _∙_, ap, subst}
+use mathlib.Core.Bool.{Bool, true}
+use mathlib.Core.List.{List, map}
+use Prim.Native.Nat.{ℕ, _+_, _≤_, _<_}
+use native.Mathlib.Omega.{arith}
+use lib.ListN.{length, getD}
+use Rattle.model.specs.Lists.{first-no, distinct, tab}
+use Rattle.model.specs.Values.{Dart, Block, rack}
+use Rattle.model.specs.Sound.{sound-block}
+use Rattle.model.specs.Image.{room, words, image, column, dart-in, block-in, is-image}
+use Rattle.model.specs.Messages.{Transfer, a-transfer, transfer, size-all}
+use Rattle.model.specs.Departure.{relink}
+use Rattle.model.specs.Arrival.{new-darts, insert-all, received, transfer-links, volume-right, receive-checks}
+use Rattle.laws.specs.Order.{Ascending}
+use Rattle.laws.proofs.Members.{In}
+use Rattle.laws.proofs.Tables.{length-tab, map-tab, tab-cong, place-mem, mem-place}
+use Rattle.theory.proofs.ImageLaws.{image-is, is-image-of}
+use Rattle.columns.specs.Columns.{Ranged, Places}
+use Rattle.columns.proofs.Question.{image-passed}
+use Rattle.columns.proofs.Links.{places}
+use Rattle.columns.proofs.ThirdLinks.{sewn-places}
+use Rattle.cells.proofs.Sited.{Sited, count-in, darts-in}
+use Rattle.memory.specs.declared.record.Record.{Record}
+use Rattle.soundness.proofs.Fits.{fits}
+use Rattle.soundness.proofs.Passed.{passed}
+use Rattle.soundness.proofs.Linking.{unlinked-sound}
+use Rattle.soundness.proofs.ReceiveSound.{received-is}
+use Rattle.weave.specs.Weave.{woven-at}
+use Rattle.woven.specs.Woven.{Drafted, Stands}
+use Rattle.woven.proofs.WovenImage.{drafted, woven-image}
+use Rattle.woven.proofs.WovenPlaces.{woven-block, count-is, size-is, number-is, counter-is}
+use Rattle.joined.specs.Join.{Indexed, Linking}
+use Rattle.joined.proofs.JoinedImage.{image-joined}
+use Rattle.ranking.specs.Ranks.{index-at}
+use Rattle.arrival.specs.Draft.{Draft, Told}
+use Rattle.arrival.proofs.DraftLaws.{sited, serial-of, serials-differ, links}
+use Rattle.arrival.proofs.NewDarts.{all-new, dart-there}
+use Rattle.arrival.proofs.Nineteen.{is-numbered, vertices-fit, each-below}
+use Rattle.ranking.proofs.RankLaws.{tab-distinct}
+use Rattle.receive.specs.Taken.{MayJoin, Joins}
+
+module _ {v x b z keys ranks q s : List ℕ} {from k : ℕ} {c : List ℕ} (d : Draft v x b z keys ranks q s from k c) where
+  -- the draft by index
+  pub indexed : Indexed c x ranks k
+  indexed = record {
+    rank-below = d .ranked .rank-below;
+    rank-apart = λ i j hi hj e. sym (d .ranked .index-rank i hi) ∙ ap (index-at keys) e ∙ d .ranked .index-rank j hj;
+    index-of = λ p h. (index-at keys p, d .ranked .index-below p h, d .ranked .rank-index p h);
+    serial-is = serial-of d;
+    free = λ p h. (ap (λ (r : Record). r .kind) (d .drafted .rows p h), ap (λ (r : Record). r .link) (d .drafted .rows p h));
+  }
+
+  -- beside a block that holds none of its serials
+  module _ (m : List ℕ) (ok : is-image rack m ≡ true) (absent : (p i : ℕ) → p < count-in m → i < k → column m 0 p ≡ getD x i 0 → ⊥) (fit : count-in m + k ≤ room) where
+    pub weaves : Drafted m c (count-in m) (count-in c)
+    weaves = drafted m c ok (sited d .linked) (sited d .ascends)
+        (λ p h. indexed .free p (omega (arith, h, d .drafted .count-is)))
+        (λ p r hp hr e. let l : r < k = omega (arith, hr, d .drafted .count-is) in let i = indexed .index-of r l in absent p (i .0) hp (i .1) (e ∙ ap (column c 0) (sym (i .2)) ∙ serial-of d (i .0) (i .1)))
+        (omega (arith, fit, d .drafted .count-is))
+
+    -- with the links that a transfer brings
+    module _ {n : ℕ} {hollow : Bool} {t : Transfer} (told : Told t v x b z s from n k hollow) (fine : transfer .ok t ≡ true) (yes : first-no (receive-checks rack (block-in m) (a-transfer t)) ≡ 0) (right : volume-right t ≡ true) where
+      below : (i : ℕ) → i < k → getD v i 0 < n
+      below = each-below told (vertices-fit told (is-numbered told right))
+
+      -- the places of the new darts in message order
+      abbrev order : List ℕ
+      order = tab (λ i. getD ranks i 0) k
+
+      new-are : new-darts t ≡ map (dart-in c) order
+      new-are = all-new d t (told .inside) (told .darts) (told .points) below ∙ tab-cong _ (λ i. dart-in c (getD ranks i 0)) k (dart-there d t (told .inside) (told .darts) (told .points) below) ∙ sym (map-tab (dart-in c) (λ i. getD ranks i 0) k)
+
+      order-low : (r : ℕ) → In r order → r < count-in c
+      order-low r h = let i = place-mem (λ i. getD ranks i 0) k r h in let l = d .ranked .rank-below (i .0) (i .1) in omega (arith, l, i .2, d .drafted .count-is)
+
+      order-once : distinct order ≡ true
+      order-once = tab-distinct (λ i. getD ranks i 0) k (indexed .rank-apart)
+
+      order-size : length order ≡ count-in c
+      order-size = length-tab (λ i. getD ranks i 0) k ∙ sym (d .drafted .count-is)
+
+      abbrev all-darts : List Dart
+      all-darts = insert-all (new-darts t) (block-in m .darts)
+
+      abbrev w : List ℕ
+      w = woven-at m (count-in m) c (count-in c)
+
+      woven-is : image (record { number = getD m 0 0; counter = getD m 1 0; darts = all-darts }) ≡ w
+      woven-is = ap (λ (l : List Dart). image (record { number = getD m 0 0; counter = getD m 1 0; darts = insert-all l (block-in m .darts) })) new-are ∙ woven-image weaves order order-once order-size order-low
+
+      woven-sound : is-image rack w ≡ true
+      woven-sound = subst (λ (l : List ℕ). is-image rack l ≡ true) woven-is (is-image-of rack (record { number = getD m 0 0; counter = getD m 1 0; darts = all-darts }) (omega arith)
+          (unlinked-sound rack (block-in m) t (omega arith) (image-is rack m ok .1) (fits t fine) (passed rack (block-in m) t yes)))
+
+      darts-woven : tab (dart-in w) (count-in m + count-in c) ≡ all-darts
+      darts-woven = ap (tab (dart-in w)) (sym (count-is weaves)) ∙ ap (λ (a : Block). a .darts) (woven-block weaves order order-once order-size order-low) ∙ ap (λ (l : List Dart). insert-all l (block-in m .darts)) (sym new-are)
+
+      pub taken-image : {kinds links y : List ℕ} → Linking m (count-in m) (count-in c) x kinds links (transfer-links (block-in m .darts) t) → Joins m c (count-in m) (count-in c) kinds links ranks y → y ≡ image (received (block-in m) t)
+      taken-image {kinds} {links} {y} ln j =
+          let p = image-passed w woven-sound in
+          let count : getD w 2 0 ≡ count-in m + count-in c = count-is weaves in
+          sym (ap image (received-is (block-in m) t)
+          ∙ (λ i. image (record { number = sym (number-is weaves) i; counter = sym (counter-is weaves) i; darts = map (relink (transfer-links (block-in m .darts) t)) all-darts }))
+          ∙ image-joined (weaves .weaves .fits) (omega (arith, d .few, d .drafted .count-is)) (j .stand) (subst (Indexed c x ranks) (sym (d .drafted .count-is)) indexed) ln (j .sewn)
+          (p .range) (size-is weaves) count (subst (Places w) count (places w (count-in w) (p .links))) (λ a h one. subst (λ (e : ℕ). column w 4 a < e) count (sewn-places w (count-in w) (p .thirds) a (omega (arith, h, count)) one))
+          all-darts darts-woven)
