@@ -1,15 +1,14 @@
 -- New darts woven in and sewn have joined. Assumes nothing.
 use mathlib.Core.Path.{_≡_, refl, _∙_, ap, subst}
 use mathlib.Core.List.{List}
-use Prim.Native.Nat.{ℕ, _+_, _≤_, _<_}
-use lib.ListN.{length, getD}
-use Rattle.model.specs.Image.{room, words, column}
+use Prim.Native.Nat.{ℕ, _≤_}
+use lib.ListN.{length}
+use Rattle.model.specs.Image.{words, column}
 use Rattle.release.specs.Asks.{Tabled}
 use Rattle.weave.specs.Weave.{up, woven-at}
-use Rattle.woven.specs.Woven.{Drafted, Stands}
+use Rattle.woven.specs.Woven.{Stands}
 use Rattle.woven.proofs.WovenPlaces.{stands, size-is}
 use Rattle.sewing.specs.Thirds.{Sewable, Sewn}
-use Rattle.joined.specs.Join.{Indexed, Linking}
 use Rattle.joined.proofs.JoinedDarts.{sewable}
 use Rattle.receive.specs.Taken.{MayJoin, Joins}
 

@@ -1,5 +1,5 @@
 -- The memory that receive leaves is the image of the model's block. Assumes nothing.
-use mathlib.Core.Path.{_≡_, refl, sym, _∙_, ap, subst}
+use mathlib.Core.Path.{_≡_, sym, _∙_, ap, subst}
 use mathlib.Core.Bool.{Bool, true}
 use mathlib.Core.List.{List, map}
 use Prim.Native.Nat.{ℕ, _+_, _≤_, _<_}
@@ -7,38 +7,36 @@ use native.Mathlib.Omega.{arith}
 use lib.ListN.{length, getD}
 use Rattle.model.specs.Lists.{first-no, distinct, tab}
 use Rattle.model.specs.Values.{Dart, Block, rack}
-use Rattle.model.specs.Sound.{sound-block}
-use Rattle.model.specs.Image.{room, words, image, column, dart-in, block-in, is-image}
-use Rattle.model.specs.Messages.{Transfer, a-transfer, transfer, size-all}
+use Rattle.model.specs.Image.{room, image, column, dart-in, block-in, is-image}
+use Rattle.model.specs.Messages.{Transfer, a-transfer, transfer}
 use Rattle.model.specs.Departure.{relink}
 use Rattle.model.specs.Arrival.{new-darts, insert-all, received, transfer-links, volume-right, receive-checks}
-use Rattle.laws.specs.Order.{Ascending}
 use Rattle.laws.proofs.Members.{In}
-use Rattle.laws.proofs.Tables.{length-tab, map-tab, tab-cong, place-mem, mem-place}
+use Rattle.laws.proofs.Tables.{length-tab, map-tab, tab-cong, place-mem}
 use Rattle.theory.proofs.ImageLaws.{image-is, is-image-of}
-use Rattle.columns.specs.Columns.{Ranged, Places}
+use Rattle.columns.specs.Columns.{Places}
 use Rattle.columns.proofs.Question.{image-passed}
 use Rattle.columns.proofs.Links.{places}
 use Rattle.columns.proofs.ThirdLinks.{sewn-places}
-use Rattle.cells.proofs.Sited.{Sited, count-in, darts-in}
+use Rattle.cells.proofs.Sited.{count-in}
 use Rattle.memory.specs.declared.record.Record.{Record}
 use Rattle.soundness.proofs.Fits.{fits}
 use Rattle.soundness.proofs.Passed.{passed}
 use Rattle.soundness.proofs.Linking.{unlinked-sound}
 use Rattle.soundness.proofs.ReceiveSound.{received-is}
 use Rattle.weave.specs.Weave.{woven-at}
-use Rattle.woven.specs.Woven.{Drafted, Stands}
+use Rattle.woven.specs.Woven.{Drafted}
 use Rattle.woven.proofs.WovenImage.{drafted, woven-image}
 use Rattle.woven.proofs.WovenPlaces.{woven-block, count-is, size-is, number-is, counter-is}
 use Rattle.joined.specs.Join.{Indexed, Linking}
 use Rattle.joined.proofs.JoinedImage.{image-joined}
 use Rattle.ranking.specs.Ranks.{index-at}
 use Rattle.arrival.specs.Draft.{Draft, Told}
-use Rattle.arrival.proofs.DraftLaws.{sited, serial-of, serials-differ, links}
+use Rattle.arrival.proofs.DraftLaws.{sited, serial-of, links}
 use Rattle.arrival.proofs.NewDarts.{all-new, dart-there}
 use Rattle.arrival.proofs.Nineteen.{is-numbered, vertices-fit, each-below}
 use Rattle.ranking.proofs.RankLaws.{tab-distinct}
-use Rattle.receive.specs.Taken.{MayJoin, Joins}
+use Rattle.receive.specs.Taken.{Joins}
 
 module _ {v x b z keys ranks q s : List ℕ} {from k : ℕ} {c : List ℕ} (d : Draft v x b z keys ranks q s from k c) where
   -- the draft by index

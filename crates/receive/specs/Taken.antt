@@ -1,15 +1,16 @@
 -- What the parts of the call answer: new darts joined to a block, and what a transfer does to its memory. Assumes nothing.
 use mathlib.Core.Path.{_≡_}
 use mathlib.Core.List.{List, _++_}
+use mathlib.Core.Bool.{true}
 use Prim.Native.Nat.{ℕ}
 use lib.ListN.{length, getD}
 use Rattle.model.specs.Values.{rack}
 use Rattle.model.specs.Image.{block-in, memory-checks}
 use Rattle.model.specs.Messages.{Transfer, Message, a-transfer, message-in}
 use Rattle.model.specs.Departure.{Link}
-use Rattle.model.specs.Arrival.{receive-checks, received-from}
-use Rattle.model.specs.Calls.{Answer, Result, storing}
-use Rattle.answers.specs.Answers.{Gives}
+use Rattle.model.specs.Arrival.{addressed, serials-new, volume-right, receive-checks, received-from}
+use Rattle.model.specs.Calls.{Answer, Result, served, refused, storing}
+use Rattle.answers.specs.Answers.{Gives, answered, question}
 use Rattle.inbox.specs.declared.message.Front.{Front}
 use Rattle.inbox.specs.declared.message.Tail.{Tail}
 use Rattle.inbox.specs.Arrived.{TransferOutlined}
@@ -17,6 +18,9 @@ use Rattle.weave.specs.Weave.{woven-at}
 use Rattle.woven.specs.Woven.{Drafted, Stands}
 use Rattle.sewing.specs.Thirds.{Sewn}
 use Rattle.joined.specs.Join.{Indexed, Linking}
+use Rattle.arrival.specs.Draft.{Draft}
+use Rattle.receive.specs.declared.asks.Asked.{Asked}
+use Rattle.receive.specs.declared.asks.Asked.the-variants as asked
 
 -- a draft that may join a block, with the links that it brings
 pub record MayJoin (m c : List ℕ) (n k : ℕ) (kinds links ranks : List ℕ) : Type 0 where
@@ -40,3 +44,13 @@ receive-by m r = storing (memory-checks rack m ++ receive-checks rack (block-in 
 -- the call on the transfer that an outline tells
 pub record Takes (m s v x b z : List ℕ) (f : Front) (l : Tail) (given : Answer (Unit {0})) (lent : List ℕ) : Type 0 where
   pub gives : (t : Transfer) → message-in s ≡ a-transfer t → TransferOutlined t s v x b z f l → Gives (receive-by m (a-transfer t)) given lent
+
+-- QUESTIONS 17 TO 19 of the transfer that an outline tells: the first no, or three yes and the draft
+abbrev pub AskedSaid : List ℕ → List ℕ → List ℕ → List ℕ → List ℕ → List ℕ → Front → Tail → List ℕ → List ℕ → List ℕ → List ℕ → Asked → Type 0
+AskedSaid m s v x b z f l keys ranks q c (asked.No r) = (t : Transfer) → message-in s ≡ a-transfer t → TransferOutlined t s v x b z f l → refused (question r) ≡ answered (receive-checks rack (block-in m) (a-transfer t))
+AskedSaid m s v x b z f l keys ranks q c asked.Yes =
+    ((t : Transfer) → message-in s ≡ a-transfer t → TransferOutlined t s v x b z f l → (addressed (t .from) (t .to) (block-in m) ≡ true) × (serials-new (block-in m .darts) t ≡ true) × (volume-right t ≡ true))
+    × Draft v x b z keys ranks q s (f .points) (f .darts) c × (length ranks ≡ 512)
+
+pub record VolumeAsked (m s v x b z : List ℕ) (f : Front) (l : Tail) (keys ranks q c : List ℕ) (r : Asked) : Type 0 where
+  pub said : AskedSaid m s v x b z f l keys ranks q c r

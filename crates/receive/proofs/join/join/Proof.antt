@@ -1,51 +1,38 @@
+-- `receive::join::join` meets its contract.
+-- Assumes nothing.
 use Rattle.receive.proofs.Joining.{may-sew, joins, woven-size}
-use native.Mathlib.Omega.{arith}
 use borrow.Author.Needs.{needs}
 use Rattle.receive.proofs.join.join.Statement.{statement}
 use Rattle.receive.proofs.join.join.Tie as tie
-use Rattle.receive.proofs.join.join.Reads as reads
-use Rattle.receive.proofs.join.join.Lts as lts
-use Rattle.sewing.proofs.sew.Reads as sew-reads
-use Rattle.weave.proofs.insert.Reads as insert-reads
 
--- src/join.rt:11:13
 slice-read-n : tie.Need-slice-read-n
 slice-read-n c = search needs
 
--- src/join.rt:12:13
 shared-slice-read-k : tie.Need-shared-slice-read-k
 shared-slice-read-k c = search needs
 
--- src/join.rt:15:33
 slice-aggregate-insert : tie.Need-slice-aggregate-insert
 slice-aggregate-insert c = search needs
 
--- src/join.rt:15:43
 slice-aggregate-insert-2 : tie.Need-slice-aggregate-insert-2
 slice-aggregate-insert-2 c = search needs
 
--- src/join.rt:15:5
 insert-requires : tie.Need-insert-requires
 insert-requires c κs = search needs
 
--- src/join.rt:16:51
 slice-aggregate-sew : tie.Need-slice-aggregate-sew
 slice-aggregate-sew c = search needs
 
--- src/join.rt:16:57
 slice-aggregate-sew-2 : tie.Need-slice-aggregate-sew-2
 slice-aggregate-sew-2 c = search needs
 
--- src/join.rt:16:5
 sew-requires : tie.Need-sew-requires
 sew-requires c κs =
     (woven-size (c .before .before .before .before .before .before .before .before .before .before .before .before .before .before .before .before .before .before .pre .3) (c .before .before .before .before .before .before .before .insert .ensures .0), c .before .before .before .before .before .before .before .before .before .before .before .before .before .before .before .before .before .before .pre .0, c .before .before .before .before .before .before .before .before .before .before .before .before .before .before .before .before .before .before .pre .1, c .before .before .before .before .before .before .before .before .before .before .before .before .before .before .before .before .before .before .pre .2, c .before .before .before .before .before .before .before .insert .ensures .1 .0 .1, c .before .before .before .before .before .before .before .insert .ensures .1 .1 .1, may-sew (c .before .before .before .before .before .before .before .before .before .before .before .before .before .before .before .before .before .before .pre .3) _ _ (c .before .before .before .before .before .before .before .insert .ensures .1 .0 .0) (c .before .before .before .before .before .before .before .insert .ensures .1 .1 .0) (c .before .before .before .before .before .before .before .before .before .before .before .before .before .before .before .before .before .before .pre .4))
 
--- src/join.rt:7:1
 same-length : tie.Need-same-length
 same-length c = search needs
 
--- src/join.rt:7:1
 returns : tie.Need-returns
 returns c =
     joins (c .before .before .before .before .before .before .before .before .before .before .before .before .before .before .before .before .before .before .before .before .before .pre .3) _ _ (c .before .before .before .before .before .before .before .before .before .before .insert .ensures .1 .0 .0) (c .before .before .before .before .before .before .before .before .before .before .insert .ensures .1 .1 .0) (c .before .before .before .before .before .before .before .before .before .before .insert .ensures .0) (c .before .before .sew .ensures)

@@ -1,0 +1,84 @@
+// Questions 17 to 19 of a transfer. On a yes to all its darts are drafted.
+ghost use mathlib.Core.Path.{_≡_};
+ghost use mathlib.Core.Bool.{true};
+ghost use lib.ListN.{length};
+ghost use Rattle.model.specs.Values.{rack};
+ghost use Rattle.model.specs.Image.{words, is-image, block-in};
+ghost use Rattle.model.specs.Messages.{Transfer, a-transfer, message-in};
+ghost use Rattle.model.specs.Arrival.{addressed};
+ghost use Rattle.inbox.specs.Inbox.{Sides};
+ghost use Rattle.inbox.specs.Arrived.{TransferOutlined};
+ghost use Rattle.receive.specs.Taken.{VolumeAsked};
+use answers::Refusal;
+use inbox::message::Front;
+use inbox::message::Tail;
+
+pub enum Asked {
+    Yes,
+    No(Refusal),
+}
+
+// 17: addressed here, from elsewhere.
+fn for_here(block: &[u64], from: u64, to: u64) -> bool
+    requires { ⌜ length (now block) ≡ words ⌝ }
+    ensures { λ r. ⌜ r ≡ addressed from to (block-in (now (block .entry))) ⌝ }
+{
+    (to == block[0]) & (from != block[0])
+}
+
+// All three, in their order.
+pub fn volume_asked(
+    block: &[u64],
+    message: &[u8],
+    front: Front,
+    tail: Tail,
+    vertex: &[u64],
+    serial: &[u64],
+    starts: &[usize],
+    sizes: &[usize],
+    keys: &mut [u64],
+    ranks: &mut [usize],
+    opposite: &mut [usize],
+    draft: &mut [u64],
+) -> Asked
+    requires { ⌜ (is-image rack (now block) ≡ true) × Sides (now vertex) (now serial) (now starts) (now sizes) × ((t : Transfer) × (message-in (now message) ≡ a-transfer t) × TransferOutlined t (now message) (now vertex) (now serial) (now starts) (now sizes) front tail) ⌝ }
+    requires { ⌜ (length (now keys) ≡ 512) × (length (now ranks) ≡ 512) × (length (now opposite) ≡ 512) × (length (now draft) ≡ words) ⌝ }
+    ensures { λ r. ⌜ VolumeAsked (now (block .entry)) (now (message .entry)) (now (vertex .entry)) (now (serial .entry)) (now (starts .entry)) (now (sizes .entry)) front tail (now (keys .exit)) (now (ranks .exit)) (now (opposite .exit)) (now (draft .exit)) r ⌝ }
+{
+    if !for_here(block, front.from, front.to) {
+        return Asked::No(Refusal::NotForHere);
+    }
+    let n = block[2] as usize;
+    let k = front.darts;
+    if !arrival::serials::new_serials(
+        message,
+        front.points,
+        front.vertices,
+        block,
+        n,
+        serial,
+        k,
+        keys,
+        ranks,
+    ) {
+        return Asked::No(Refusal::SerialsNotNew);
+    }
+    if !arrival::volume::volume_right(
+        message,
+        front.points,
+        front.vertices,
+        front.hollow,
+        vertex,
+        serial,
+        starts,
+        sizes,
+        k,
+        keys,
+        ranks,
+        opposite,
+        draft,
+    ) {
+        return Asked::No(Refusal::VolumeWrong);
+    }
+    Asked::Yes
+}
