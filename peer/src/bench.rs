@@ -89,13 +89,12 @@ impl Scene {
         order
     }
 
-    fn blocks(&self, count: usize, shuffled: bool) -> Vec<Block> {
-        let mut order: Vec<usize> = (0..self.map.len()).collect();
+    /// Serials shuffled by a seed, or side by side.
+    fn blocks(&self, count: usize, seed: Option<u64>) -> Vec<Block> {
+        let mut order = self.in_the_middle(count);
         let mut serials: Vec<u32> = vec![0; self.map.len()];
-        if shuffled {
-            Rng::new(1).shuffle(&mut order);
-        } else {
-            order = self.in_the_middle(count);
+        if let Some(seed) = seed {
+            Rng::new(seed).shuffle(&mut order);
         }
         for (serial, dart) in (1..).zip(order) {
             serials[dart] = serial;
@@ -196,10 +195,10 @@ pub struct Round {
     pub serial: u64,
 }
 
-/// A volume of 24 darts or of 512; serials of neighbours side by side or shuffled.
-pub fn round(large: bool, shuffled: bool) -> Round {
+/// A volume of 24 darts or of 512; serials shuffled by a seed, or those of neighbours side by side.
+pub fn round(large: bool, seed: Option<u64>) -> Round {
     let (scene, darts) = scene(large);
-    let blocks = scene.blocks(3, shuffled);
+    let blocks = scene.blocks(3, seed);
     let serial = u64::from(
         *crate::cells::volumes(&blocks[0], blocks[0].darts.keys().copied())
             .iter()
@@ -207,13 +206,13 @@ pub fn round(large: bool, shuffled: bool) -> Round {
             .and_then(|cell| cell.first())
             .unwrap_or(&0),
     );
-    let name = format!("{darts}-dart cell, {}", if shuffled { "shuffled" } else { "contiguous" });
+    let name = format!("{darts}-dart cell, {}", if seed.is_some() { "shuffled" } else { "contiguous" });
     Round { name, images: blocks.iter().map(image::encode).collect(), serial }
 }
 
 /// Each call of a round, and the round as a whole.
-fn bench_round(large: bool, shuffled: bool) {
-    let Round { name, images, serial } = round(large, shuffled);
+fn bench_round(large: bool, seed: Option<u64>) {
+    let Round { name, images, serial } = round(large, seed);
     let mut rows: Vec<Vec<f64>> = Vec::new();
     for (core, runs) in [(&Plain as &dyn Core, 2001), (&Peer as &dyn Core, 15)] {
         let mut outbox = vec![0; 65_536];
@@ -272,7 +271,7 @@ fn bench_mesh() {
     let map = shapes::grid([16, 10, 17], Filling::Hexahedra);
     let home = (0..map.len()).map(|dart| dart / 4080).collect();
     let scene = Scene { map, home };
-    let mesh: Vec<u64> = scene.blocks(16, true).iter().flat_map(image::encode).collect();
+    let mesh: Vec<u64> = scene.blocks(16, Some(1)).iter().flat_map(image::encode).collect();
     let mut scratch = vec![0; SCRATCH];
     let every = OracleNumbers { oracle: 0, axis: 0, floats: [0; 6] };
     let upper = OracleNumbers { oracle: 1, floats: [8.5, 0.0, 0.0, 99.0, 99.0, 99.0].map(f64::to_bits), ..every };
@@ -305,8 +304,8 @@ pub fn bench() {
     println!("{:58} {:>10} {:>10}", "median µs", "plain", "value");
     bench_question_2();
     for large in [false, true] {
-        for shuffled in [false, true] {
-            bench_round(large, shuffled);
+        for seed in [None, Some(1)] {
+            bench_round(large, seed);
         }
     }
     bench_mesh();
