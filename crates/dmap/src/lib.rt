@@ -1,5 +1,5 @@
-// The public calls: by their Rattle names with an enum for an answer, and by their C names with a number. No call asks anything of its caller
-// that it does not answer for by a refusal.
+// The public calls: by their Rattle names with an enum for an answer (a crate that calls them lists `dmap answers`), and by their C names with
+// a number, as include/dmap.h declares them. A slice is a pointer and a length there.
 ghost use Rattle.model.specs.Values.{rack};
 ghost use Rattle.model.specs.Calls as calls;
 ghost use Rattle.answers.specs.Answers.{written-of};
