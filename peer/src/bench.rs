@@ -8,6 +8,7 @@ use crate::plain::{self, Plain};
 use crate::rng::Rng;
 use crate::shapes::{self, Filling, Map};
 use crate::value::{Block, Label, Third};
+use std::collections::BTreeSet;
 use std::hint::black_box;
 use std::time::Instant;
 
@@ -26,6 +27,24 @@ fn median(runs: usize, mut prepare: impl FnMut(), mut run: impl FnMut()) -> f64 
         times[runs / 2]
     };
     batch().min(batch()).min(batch())
+}
+
+/// The medians in µs of tasks that take turns, so that what the machine does besides hits all alike; `prepare` comes
+/// before each and is not timed.
+pub fn medians<const N: usize>(turns: usize, mut prepare: impl FnMut(), mut tasks: [&mut dyn FnMut(); N]) -> [f64; N] {
+    let mut times = [(); N].map(|()| Vec::with_capacity(turns));
+    for _ in 0..turns {
+        for (task, times) in tasks.iter_mut().zip(&mut times) {
+            prepare();
+            let start = Instant::now();
+            task();
+            times.push(start.elapsed().as_secs_f64() * 1e6);
+        }
+    }
+    times.map(|mut times| {
+        times.sort_by(f64::total_cmp);
+        times[turns / 2]
+    })
 }
 
 fn line(what: &str, plain: f64, value: Option<f64>) {
@@ -70,13 +89,12 @@ impl Scene {
         order
     }
 
-    fn blocks(&self, count: usize, shuffled: bool) -> Vec<Block> {
-        let mut order: Vec<usize> = (0..self.map.len()).collect();
+    /// Serials shuffled by a seed, or side by side.
+    fn blocks(&self, count: usize, seed: Option<u64>) -> Vec<Block> {
+        let mut order = self.in_the_middle(count);
         let mut serials: Vec<u32> = vec![0; self.map.len()];
-        if shuffled {
-            Rng::new(1).shuffle(&mut order);
-        } else {
-            order = self.in_the_middle(count);
+        if let Some(seed) = seed {
+            Rng::new(seed).shuffle(&mut order);
         }
         for (serial, dart) in (1..).zip(order) {
             serials[dart] = serial;
@@ -116,25 +134,38 @@ fn scene(large: bool) -> (Scene, usize) {
     (scene, darts)
 }
 
-fn bench_question_2() {
-    let few = &Scene { map: shapes::grid([10, 17, 1], Filling::Hexahedra), home: vec![0; 4080] }.blocks(1, false)[0];
-    let mut one = few.clone();
-    let mut all = few.clone();
-    // All faces critical, each with labels of its own; and one such face.
-    for (block, wanted) in [(&mut one, 1), (&mut all, usize::MAX)] {
-        let darts: std::collections::BTreeSet<u32> = block.darts.keys().copied().collect();
-        let free: Vec<Vec<u32>> = crate::cells::faces(block, &darts)
-            .into_iter()
-            .filter(|face| wanted > 1 || block.darts[&face[0]].third == Third::Free)
-            .take(wanted)
-            .collect();
-        for (number, face) in (0..).zip(free) {
-            for (position, serial) in face.iter().enumerate() {
-                let label = Label { maker: 3, number, position: position as u16 };
-                block.darts.entry(*serial).and_modify(|dart| dart.third = Third::Critical { other: 3, label });
-            }
+/// A block of sewn hexahedra, 4,080 darts; serials along the darts or shuffled.
+pub fn hexahedra(shuffled: bool) -> Block {
+    let map = shapes::grid([10, 17, 1], Filling::Hexahedra);
+    let mut serials: Vec<u32> = (1..=map.len() as u32).collect();
+    if shuffled {
+        Rng::new(1).shuffle(&mut serials);
+    }
+    let home = vec![0; map.len()];
+    assemble(&map, &home, &serials, &map.wished_points(), &vec![None; map.len()], &[0]).remove(0)
+}
+
+/// The first faces made critical, the label of each by its number; if only one is wanted, a free one.
+pub fn critical(mut block: Block, wanted: usize, label: impl Fn(u32) -> u32) -> Block {
+    let darts: BTreeSet<u32> = block.darts.keys().copied().collect();
+    let faces: Vec<Vec<u32>> = crate::cells::faces(&block, &darts)
+        .into_iter()
+        .filter(|face| wanted > 1 || block.darts[&face[0]].third == Third::Free)
+        .take(wanted)
+        .collect();
+    for (number, face) in (0..).zip(faces) {
+        for (position, serial) in face.iter().enumerate() {
+            let label = Label { maker: 3, number: label(number), position: position as u16 };
+            block.darts.entry(*serial).and_modify(|dart| dart.third = Third::Critical { other: 3, label });
         }
     }
+    block
+}
+
+fn bench_question_2() {
+    let few = hexahedra(false);
+    let one = critical(few.clone(), 1, |number| number);
+    let all = critical(few, usize::MAX, |number| number);
     for (what, block) in
         [("question 2, 4,080 darts, 4 critical", &one), ("question 2, 4,080 darts, all critical", &all)]
     {
@@ -157,11 +188,17 @@ fn bench_question_2() {
     line("copy of an image", copied, None);
 }
 
-/// Each call of a round, and the round as a whole.
-fn bench_round(large: bool, shuffled: bool) {
+/// Nearly full blocks 0, 1 and 2, and a volume of block 0 that goes to block 1.
+pub struct Round {
+    pub name: String,
+    pub images: Vec<Vec<u64>>,
+    pub serial: u64,
+}
+
+/// A volume of 24 darts or of 512; serials shuffled by a seed, or those of neighbours side by side.
+pub fn round(large: bool, seed: Option<u64>) -> Round {
     let (scene, darts) = scene(large);
-    let blocks = scene.blocks(3, shuffled);
-    let images: Vec<Vec<u64>> = blocks.iter().map(image::encode).collect();
+    let blocks = scene.blocks(3, seed);
     let serial = u64::from(
         *crate::cells::volumes(&blocks[0], blocks[0].darts.keys().copied())
             .iter()
@@ -169,7 +206,13 @@ fn bench_round(large: bool, shuffled: bool) {
             .and_then(|cell| cell.first())
             .unwrap_or(&0),
     );
-    let name = format!("{darts}-dart cell, {}", if shuffled { "shuffled" } else { "contiguous" });
+    let name = format!("{darts}-dart cell, {}", if seed.is_some() { "shuffled" } else { "contiguous" });
+    Round { name, images: blocks.iter().map(image::encode).collect(), serial }
+}
+
+/// Each call of a round, and the round as a whole.
+fn bench_round(large: bool, seed: Option<u64>) {
+    let Round { name, images, serial } = round(large, seed);
     let mut rows: Vec<Vec<f64>> = Vec::new();
     for (core, runs) in [(&Plain as &dyn Core, 2001), (&Peer as &dyn Core, 15)] {
         let mut outbox = vec![0; 65_536];
@@ -228,7 +271,7 @@ fn bench_mesh() {
     let map = shapes::grid([16, 10, 17], Filling::Hexahedra);
     let home = (0..map.len()).map(|dart| dart / 4080).collect();
     let scene = Scene { map, home };
-    let mesh: Vec<u64> = scene.blocks(16, true).iter().flat_map(image::encode).collect();
+    let mesh: Vec<u64> = scene.blocks(16, Some(1)).iter().flat_map(image::encode).collect();
     let mut scratch = vec![0; SCRATCH];
     let every = OracleNumbers { oracle: 0, axis: 0, floats: [0; 6] };
     let upper = OracleNumbers { oracle: 1, floats: [8.5, 0.0, 0.0, 99.0, 99.0, 99.0].map(f64::to_bits), ..every };
@@ -261,8 +304,8 @@ pub fn bench() {
     println!("{:58} {:>10} {:>10}", "median µs", "plain", "value");
     bench_question_2();
     for large in [false, true] {
-        for shuffled in [false, true] {
-            bench_round(large, shuffled);
+        for seed in [None, Some(1)] {
+            bench_round(large, seed);
         }
     }
     bench_mesh();

@@ -1,6 +1,6 @@
 //! Two cores on the same drawn cases: answer and every lent byte.
 
-use crate::cases::{self, CALLS};
+use crate::cases::{self, Call};
 use crate::damage;
 use crate::generate::{self, Size};
 use crate::lent::Core;
@@ -10,8 +10,8 @@ use std::collections::BTreeMap;
 /// How often each call gave each answer.
 pub type Table = BTreeMap<(&'static str, u32), usize>;
 
-/// Compares two cores on at least so many cases; the first difference ends it.
-pub fn compare(one: &dyn Core, two: &dyn Core, seed: u64, wanted: usize) -> Result<Table, String> {
+/// Compares two cores on at least so many cases of these calls; the first difference ends it.
+pub fn compare(one: &dyn Core, two: &dyn Core, calls: &[Call], seed: u64, wanted: usize) -> Result<Table, String> {
     let mut table = Table::new();
     let mut count = 0;
     let mut round = 0;
@@ -27,7 +27,7 @@ pub fn compare(one: &dyn Core, two: &dyn Core, seed: u64, wanted: usize) -> Resu
         };
         let mesh = generate::mesh(&mut rng, size);
         // Calls on one block are many and cheap, calls on a mesh few and dear.
-        for call in CALLS {
+        for &call in calls {
             for (way, case) in damage::batch(&mut rng, call, &mesh) {
                 if matches!(size, Size::Large | Size::Medium) && !rng.one_in(5) {
                     continue;

@@ -1,6 +1,7 @@
 //! The peer's program: simulate, vectors, compare, bench, list, listings.
 
 use peer::bench;
+use peer::cases::CALLS;
 use peer::compare;
 use peer::lent::Peer;
 use peer::listing;
@@ -91,7 +92,7 @@ fn run_simulation(seed: u64, count: usize) -> Result<(), String> {
 
 /// The plain version against the value version.
 fn run_comparison(seed: u64, count: usize) -> Result<(), String> {
-    for ((call, answer), times) in compare::compare(&Plain, &Peer, seed, count)? {
+    for ((call, answer), times) in compare::compare(&Plain, &Peer, &CALLS, seed, count)? {
         println!("{call:10} {answer:2} {times}");
     }
     Ok(())

@@ -268,6 +268,13 @@ struct Records {
     limits: Vec<Vec<u8>>,
 }
 
+impl Records {
+    /// Of those about limits the ones whose answer no drawn case has, or the others.
+    fn limits(&self, needed: bool) -> impl Iterator<Item = &Vec<u8>> {
+        self.limits.iter().filter(move |limit| needed != self.drawn.iter().any(|drawn| drawn[..4] == limit[..4]))
+    }
+}
+
 fn records(seed: u64, call: Call, wanted: usize) -> Records {
     Records {
         drawn: choose(shelf(seed, call, wanted), wanted),
@@ -288,8 +295,8 @@ pub fn vectors(seed: u64, call: Call, wanted: usize) -> Vec<u8> {
     file_of(&records(seed, call, wanted))
 }
 
-/// The calls of the gate's file; a call's place here is its byte there.
-pub const GATE: [Call; 3] = [Call::Empty, Call::ReadFile, Call::SaveFile];
+/// The calls of the gate's file, in the order of CALLS; a call's place there is its byte in the file.
+pub const GATE: &[Call] = &[Call::Empty, Call::ReadFile, Call::SaveFile, Call::Send, Call::Release];
 
 /// Bytes that the gate's file may have.
 pub const GATE_BYTES: usize = 400_000;
@@ -300,36 +307,41 @@ pub struct Gate {
     pub output: String,
 }
 
-fn gate_of(calls: &[Records]) -> Gate {
+fn gate_of(calls: &[(Call, Records)]) -> Gate {
     let mut input = Vec::new();
-    let mut counts = vec![BTreeMap::<u32, usize>::new(); calls.len()];
-    let mut add = |call: usize, bytes: &[u8]| {
+    let mut counts: BTreeMap<Call, BTreeMap<u32, usize>> =
+        calls.iter().map(|(call, _)| (*call, BTreeMap::new())).collect();
+    let mut add = |call: Call, bytes: &[u8]| {
         // The byte of the call and the length.
         if input.len() + 5 + bytes.len() <= GATE_BYTES {
             input.push(call as u8);
             put_bytes(&mut input, bytes);
             let answer = bytes[..4].iter().rev().fold(0, |high, low| high << 8 | u32::from(*low));
-            *counts[call].entry(answer).or_default() += 1;
+            *counts.entry(call).or_default().entry(answer).or_default() += 1;
         }
     };
-    // Those about limits come last: they are left out where they do not fit.
-    for of in [|records: &Records| records.drawn.clone(), |records: &Records| records.limits.clone()] {
-        for (call, records) in calls.iter().enumerate() {
-            of(records).iter().for_each(|bytes| add(call, bytes));
+    for (call, records) in calls {
+        records.drawn.iter().for_each(|bytes| add(*call, bytes));
+    }
+    // Those about limits come last, first those that have to be there: the others are left out where they do not fit.
+    for needed in [true, false] {
+        for (call, records) in calls {
+            records.limits(needed).for_each(|bytes| add(*call, bytes));
         }
     }
     let mut output = String::new();
-    for (call, answers) in GATE.iter().zip(&counts) {
+    for (call, answers) in &counts {
         output += &format!("{}\n", call.name());
         answers.iter().for_each(|(answer, count)| output += &format!("{answer}: {count}\n"));
     }
-    let all: usize = counts.iter().flat_map(BTreeMap::values).sum();
+    let all: usize = counts.values().flat_map(BTreeMap::values).sum();
     output += &format!("as told: {all}\nanother answer: 0\nother content: 0\ncannot be read: 0\npassed over: 0\n");
     Gate { input, output }
 }
 
 pub fn gate(seed: u64, wanted: usize) -> Gate {
-    gate_of(&GATE.map(|call| records(seed, call, wanted)))
+    let calls: Vec<_> = GATE.iter().map(|call| (*call, records(seed, *call, wanted))).collect();
+    gate_of(&calls)
 }
 
 /// Writes the files of all calls and the gate's; gives the total length of the calls' files.
@@ -343,10 +355,9 @@ pub fn write(seed: u64, wanted: usize, folder: &Path) -> std::io::Result<usize> 
         total += bytes.len();
         std::fs::write(folder.join(format!("{}.bin", call.name())), bytes)?;
         if GATE.contains(&call) {
-            played.push(records);
+            played.push((call, records));
         }
     }
-    // GATE has its calls in the order of CALLS.
     let gate = gate_of(&played);
     std::fs::write(folder.join("gate.bin"), gate.input)?;
     std::fs::write(folder.join("gate.txt"), gate.output)?;

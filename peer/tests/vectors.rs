@@ -182,20 +182,20 @@ fn the_gate_has_every_answer() {
     let gate = vectors::gate(1, 60);
     assert!(gate.input.len() <= vectors::GATE_BYTES);
     let mut rest = Reader { bytes: &gate.input };
-    let mut counts = BTreeMap::<(usize, u32), usize>::new();
+    let mut counts = BTreeMap::<(Call, u32), usize>::new();
     while !rest.bytes.is_empty() {
-        let number = usize::from(rest.take(1)[0]);
+        let call = CALLS[usize::from(rest.take(1)[0])];
         let record = rest.bytes();
-        let (mut case, answer, after) = parse(vectors::GATE[number], &record);
+        let (mut case, answer, after) = parse(call, &record);
         assert_eq!(case.run(&Peer), answer);
         assert!(case == after);
-        *counts.entry((number, answer)).or_default() += 1;
+        *counts.entry((call, answer)).or_default() += 1;
     }
     let mut output = String::new();
-    for (number, call) in vectors::GATE.iter().enumerate() {
+    for call in vectors::GATE {
         output += &format!("{}\n", call.name());
         for answer in call.answers() {
-            output += &format!("{answer}: {}\n", counts[&(number, *answer)]);
+            output += &format!("{answer}: {}\n", counts[&(*call, *answer)]);
         }
     }
     output += &format!("as told: {}\n", counts.values().sum::<usize>());

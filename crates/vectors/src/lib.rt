@@ -2,6 +2,9 @@
 pub mod cursor; // cursor.rt: numbers and words of a record
 pub mod lent; // lent.rt: lent memory and bytes, filled and compared
 
+use answers::Answer;
+use answers::Written;
+
 // As the record tells.
 pub const AS_TOLD: u32 = 0;
 
@@ -38,80 +41,157 @@ fn before_and_after(record: &[u8], at: usize, block: &mut [u64], told: &mut [u64
     lent::runs(record, change, told)
 }
 
-// Empty, on memory of the record's size.
-fn empty_on(record: &[u8], block: &mut [u64], told: &mut [u64]) -> u32 {
-    let at = cursor::step(record, 0, 12);
+// A call that changes a block's memory, with its numbers.
+enum Changing {
+    Empty(u64),
+    ReadFile,
+    Release(u64, u64),
+}
+
+fn change(call: Changing, bytes: &[u8], block: &mut [u64]) -> Answer {
+    match call {
+        Changing::Empty(number) => memory::header::empty(number, block),
+        Changing::ReadFile => readfile::read_file(bytes, block),
+        Changing::Release(to, serial) => release::release(block, to, serial),
+    }
+}
+
+// On memory of the record's size, which stands at a place with its change behind it.
+fn change_on(
+    call: Changing,
+    record: &[u8],
+    at: usize,
+    bytes: &[u8],
+    block: &mut [u64],
+    told: &mut [u64],
+) -> u32 {
     if before_and_after(record, at, block, told) != record.len() {
         return UNREADABLE;
     }
-    let number = cursor::number(record, 4, 8);
-    let answer = answers::answer_number(memory::header::empty(number, block));
+    let answer = answers::answer_number(change(call, bytes, block));
     verdict(record, answer, lent::same(block, told))
 }
 
-// Empty: number, memory, change.
-pub fn empty_case(record: &[u8], block: &mut [u64], told: &mut [u64]) -> u32 {
-    let words = cursor::short(record, 12);
+// Memory, change, from a place on.
+fn change_from(
+    call: Changing,
+    record: &[u8],
+    at: usize,
+    bytes: &[u8],
+    block: &mut [u64],
+    told: &mut [u64],
+) -> u32 {
+    let words = cursor::short(record, at);
     if words <= block.len() {
         if words <= told.len() {
-            return empty_on(record, &mut block[..words], &mut told[..words]);
+            return change_on(
+                call,
+                record,
+                at,
+                bytes,
+                &mut block[..words],
+                &mut told[..words],
+            );
         }
     }
     PASSED_OVER
 }
 
-// Read file, on memory of the record's size; the file's bytes lie from 8 up to the memory.
-fn read_file_on(record: &[u8], at: usize, block: &mut [u64], told: &mut [u64]) -> u32 {
-    if before_and_after(record, at, block, told) != record.len() {
-        return UNREADABLE;
-    }
+// Bytes, memory, change.
+fn change_by_bytes(call: Changing, record: &[u8], block: &mut [u64], told: &mut [u64]) -> u32 {
+    let at = cursor::bytes_end(record, 4);
     if 8 <= at {
         if at <= record.len() {
-            let answer = answers::answer_number(readfile::read_file(&record[8..at], block));
-            return verdict(record, answer, lent::same(block, told));
+            return change_from(call, record, at, &record[8..at], block, told);
         }
     }
     UNREADABLE
 }
 
-// Read file: bytes of the file, memory, change.
-pub fn read_file_case(record: &[u8], block: &mut [u64], told: &mut [u64]) -> u32 {
-    let at = cursor::bytes_end(record, 4);
-    let words = cursor::short(record, at);
-    if words <= block.len() {
-        if words <= told.len() {
-            return read_file_on(record, at, &mut block[..words], &mut told[..words]);
-        }
-    }
-    PASSED_OVER
+// Numbers up to a place, memory, change.
+fn change_by_numbers(
+    call: Changing,
+    record: &[u8],
+    at: usize,
+    block: &mut [u64],
+    told: &mut [u64],
+) -> u32 {
+    change_from(call, record, at, b"", block, told)
 }
 
-// Save file, on memory and room of the record's sizes. The memory is lent for reading only.
-fn save_file_on(record: &[u8], room: usize, block: &[u64], out: &mut [u8]) -> u32 {
+// Empty: number, memory, change.
+pub fn empty_case(record: &[u8], block: &mut [u64], told: &mut [u64]) -> u32 {
+    let call = Changing::Empty(cursor::number(record, 4, 8));
+    change_by_numbers(call, record, 12, block, told)
+}
+
+// Read file: bytes of the file, memory, change.
+pub fn read_file_case(record: &[u8], block: &mut [u64], told: &mut [u64]) -> u32 {
+    change_by_bytes(Changing::ReadFile, record, block, told)
+}
+
+// Release: destination, serial, memory, change.
+pub fn release_case(record: &[u8], block: &mut [u64], told: &mut [u64]) -> u32 {
+    let call = Changing::Release(cursor::number(record, 4, 8), cursor::number(record, 12, 8));
+    change_by_numbers(call, record, 20, block, told)
+}
+
+// A call that reads a block's memory and writes bytes, with its numbers.
+enum Writing {
+    SaveFile,
+    Send(u64, u64),
+}
+
+fn write(call: Writing, block: &[u64], out: &mut [u8]) -> Written {
+    match call {
+        Writing::SaveFile => savefile::save_file(block, out),
+        Writing::Send(to, serial) => send::send(block, to, serial, out),
+    }
+}
+
+// On memory and room of the record's sizes. The memory is lent for reading only.
+fn write_on(call: Writing, record: &[u8], room: usize, block: &[u64], out: &mut [u8]) -> u32 {
     lent::fill(out, cursor::byte(record, cursor::step(record, room, 4)));
-    let written = savefile::save_file(block, out);
+    let written = write(call, block, out);
     let same = lent::room_is(record, room, answers::written_bytes(written), out);
     verdict(record, answers::written_number(written), same)
 }
 
-// Save file, on memory of the record's size.
-fn save_file_from(record: &[u8], block: &mut [u64], out: &mut [u8]) -> u32 {
-    let room = lent::words(record, 4, block);
+// On memory of the record's size, which stands at a place with the room behind it.
+fn write_from(call: Writing, record: &[u8], at: usize, block: &mut [u64], out: &mut [u8]) -> u32 {
+    let room = lent::words(record, at, block);
     if cursor::bytes_end(record, cursor::step(record, room, 5)) != record.len() {
         return UNREADABLE;
     }
     let bytes = cursor::short(record, room);
     if bytes <= out.len() {
-        return save_file_on(record, room, block, &mut out[..bytes]);
+        return write_on(call, record, room, block, &mut out[..bytes]);
+    }
+    PASSED_OVER
+}
+
+// Numbers up to a place, memory, room.
+fn write_by_numbers(
+    call: Writing,
+    record: &[u8],
+    at: usize,
+    block: &mut [u64],
+    out: &mut [u8],
+) -> u32 {
+    let words = cursor::short(record, at);
+    if words <= block.len() {
+        return write_from(call, record, at, &mut block[..words], out);
     }
     PASSED_OVER
 }
 
 // Save file: memory, room.
 pub fn save_file_case(record: &[u8], block: &mut [u64], out: &mut [u8]) -> u32 {
-    let words = cursor::short(record, 4);
-    if words <= block.len() {
-        return save_file_from(record, &mut block[..words], out);
-    }
-    PASSED_OVER
+    write_by_numbers(Writing::SaveFile, record, 4, block, out)
+}
+
+// Send: destination, serial, memory, room.
+pub fn send_case(record: &[u8], block: &mut [u64], out: &mut [u8]) -> u32 {
+    let call = Writing::Send(cursor::number(record, 4, 8), cursor::number(record, 12, 8));
+    write_by_numbers(call, record, 20, block, out)
 }

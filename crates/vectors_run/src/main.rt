@@ -20,6 +20,8 @@ fn name(call: u8) {
         0 => io::write_all(1, b"empty"),
         1 => io::write_all(1, b"read_file"),
         2 => io::write_all(1, b"save_file"),
+        3 => io::write_all(1, b"send"),
+        5 => io::write_all(1, b"release"),
         _ => io::write_all(1, b"no call"),
     }
     ;
@@ -31,6 +33,8 @@ fn play(call: u8, record: &[u8], block: &mut [u64], told: &mut [u64], out: &mut 
         0 => vectors::empty_case(record, block, told),
         1 => vectors::read_file_case(record, block, told),
         2 => vectors::save_file_case(record, block, out),
+        3 => vectors::send_case(record, block, out),
+        5 => vectors::release_case(record, block, told),
         _ => vectors::UNREADABLE,
     }
 }
@@ -183,6 +187,8 @@ fn show(counts: &[u64; 512]) {
     show_call(counts, 0);
     show_call(counts, 1);
     show_call(counts, 2);
+    show_call(counts, 3);
+    show_call(counts, 5);
     show_found(counts, b"as told: ", vectors::AS_TOLD);
     show_found(counts, b"another answer: ", vectors::OTHER_ANSWER);
     show_found(counts, b"other content: ", vectors::OTHER_CONTENT);

@@ -1,10 +1,10 @@
--- `vectors::save_file_from` meets its contract: the part has as many bytes as the record tells.
+-- `vectors::write_from` meets its contract: the part has as many bytes as the record tells.
 -- Assumes nothing.
 use mathlib.Core.Path.{sym}
 use lib.Seq.{length-take-le}
 use borrow.Author.Needs.{needs}
-use Rattle.vectors.proofs.save_file_from.Statement.{statement}
-use Rattle.vectors.proofs.save_file_from.Tie as tie
+use Rattle.vectors.proofs.write_from.Statement.{statement}
+use Rattle.vectors.proofs.write_from.Tie as tie
 
 words-requires : tie.Need-words-requires
 words-requires c κs = search needs
@@ -24,15 +24,15 @@ returns c = search needs
 short-requires : tie.Need-short-requires
 short-requires c κs = search needs
 
-slice-relend-prefix-save-file-on : tie.Need-slice-relend-prefix-save-file-on
-slice-relend-prefix-save-file-on c = search needs
+slice-relend-prefix-write-on : tie.Need-slice-relend-prefix-write-on
+slice-relend-prefix-write-on c = search needs
 
-slice-aggregate-save-file-on : tie.Need-slice-aggregate-save-file-on
-slice-aggregate-save-file-on c =
+slice-aggregate-write-on : tie.Need-slice-aggregate-write-on
+slice-aggregate-write-on c =
     sym (length-take-le (c .before .before .before .short .result) (c .before .before .before .before .before .before .before .before .before .before .before .before .before .before .args .out .now) (c .before .before .if2 .taken))
 
-save-file-on-requires : tie.Need-save-file-on-requires
-save-file-on-requires c κs = search needs
+write-on-requires : tie.Need-write-on-requires
+write-on-requires c κs = search needs
 
 same-length-2 : tie.Need-same-length-2
 same-length-2 c = search needs
@@ -49,8 +49,8 @@ same-length-4 c = search needs
 returns-3 : tie.Need-returns-3
 returns-3 c = search needs
 
-pub save-file-from-spec : {M : Type 1} → statement M
-save-file-from-spec =
+pub write-from-spec : {M : Type 1} → statement M
+write-from-spec =
     tie.close
     (tie.spec
     words-requires
@@ -59,9 +59,9 @@ save-file-from-spec =
     same-length
     returns
     short-requires
-    slice-relend-prefix-save-file-on
-    slice-aggregate-save-file-on
-    save-file-on-requires
+    slice-relend-prefix-write-on
+    slice-aggregate-write-on
+    write-on-requires
     same-length-2
     same-length-3
     returns-2

@@ -1,0 +1,64 @@
+//! The archive's calls by their C names, on whole slices that do not overlap: all that they ask of a caller.
+
+use peer::cases::Call;
+use peer::lent::{Core, OracleNumbers};
+
+pub struct Archive;
+
+/// The calls that the archive has.
+pub const CALLS: [Call; 6] = [Call::Empty, Call::ReadFile, Call::SaveFile, Call::Send, Call::Release, Call::Redirect];
+
+extern "C" {
+    fn dmap_empty(number: u64, block: *mut u64, words: usize) -> u32;
+    fn dmap_read_file(file: *const u8, bytes: usize, block: *mut u64, words: usize) -> u32;
+    fn dmap_save_file(block: *const u64, words: usize, out: *mut u8, room: usize, written: *mut u64) -> u32;
+    fn dmap_send(
+        block: *const u64,
+        words: usize,
+        to: u64,
+        serial: u64,
+        outbox: *mut u8,
+        room: usize,
+        written: *mut u64,
+    ) -> u32;
+    fn dmap_release(block: *mut u64, words: usize, to: u64, serial: u64) -> u32;
+    fn dmap_redirect(block: *mut u64, words: usize, message: *const u8, bytes: usize) -> u32;
+}
+
+impl Core for Archive {
+    fn empty(&self, number: u64, block: &mut [u64]) -> u32 {
+        unsafe { dmap_empty(number, block.as_mut_ptr(), block.len()) }
+    }
+
+    fn read_file(&self, file: &[u8], block: &mut [u64]) -> u32 {
+        unsafe { dmap_read_file(file.as_ptr(), file.len(), block.as_mut_ptr(), block.len()) }
+    }
+
+    fn save_file(&self, block: &[u64], out: &mut [u8], written: &mut u64) -> u32 {
+        unsafe { dmap_save_file(block.as_ptr(), block.len(), out.as_mut_ptr(), out.len(), written) }
+    }
+
+    fn send(&self, block: &[u64], to: u64, serial: u64, outbox: &mut [u8], written: &mut u64) -> u32 {
+        unsafe { dmap_send(block.as_ptr(), block.len(), to, serial, outbox.as_mut_ptr(), outbox.len(), written) }
+    }
+
+    fn receive(&self, _: &mut [u64], _: &[u8]) -> u32 {
+        unreachable!("not among CALLS")
+    }
+
+    fn release(&self, block: &mut [u64], to: u64, serial: u64) -> u32 {
+        unsafe { dmap_release(block.as_mut_ptr(), block.len(), to, serial) }
+    }
+
+    fn redirect(&self, block: &mut [u64], message: &[u8]) -> u32 {
+        unsafe { dmap_redirect(block.as_mut_ptr(), block.len(), message.as_ptr(), message.len()) }
+    }
+
+    fn check_mesh(&self, _: &[u64], _: &mut [u64]) -> u32 {
+        unreachable!("not among CALLS")
+    }
+
+    fn next_move(&self, _: &[u64], _: &OracleNumbers, _: &mut [u64], _: &mut [u64]) -> u32 {
+        unreachable!("not among CALLS")
+    }
+}

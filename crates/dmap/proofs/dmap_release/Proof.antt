@@ -1,0 +1,23 @@
+-- `dmap::dmap_release` meets its contract.
+-- Assumes nothing.
+use Rattle.dmap.proofs.Through.{numbered}
+use borrow.Author.Needs.{needs}
+use Rattle.dmap.proofs.dmap_release.Statement.{statement}
+use Rattle.dmap.proofs.dmap_release.Tie as tie
+
+release-requires : tie.Need-release-requires
+release-requires c κs = search needs
+
+answer-number-requires : tie.Need-answer-number-requires
+answer-number-requires c κs = search needs
+
+same-length : tie.Need-same-length
+same-length c = search needs
+
+returns : tie.Need-returns
+returns c =
+    numbered (c .answer-number .ensures) (c .before .before .before .release .ensures)
+
+pub dmap-release-spec : {M : Type 1} → statement M
+dmap-release-spec =
+    tie.close (tie.spec release-requires answer-number-requires same-length returns)

@@ -1,0 +1,22 @@
+-- `dmap::dmap_send` meets its contract.
+-- Assumes nothing.
+use Rattle.dmap.proofs.Through.{counted}
+use borrow.Author.Needs.{needs}
+use Rattle.dmap.proofs.dmap_send.Statement.{statement}
+use Rattle.dmap.proofs.dmap_send.Tie as tie
+
+send-requires : tie.Need-send-requires
+send-requires c κs = search needs
+
+tell-written-requires : tie.Need-tell-written-requires
+tell-written-requires c κs = search needs
+
+same-length : tie.Need-same-length
+same-length c = search needs
+
+returns : tie.Need-returns
+returns c =
+    counted (c .tell-written .ensures) (c .before .before .before .before .send .ensures)
+
+pub dmap-send-spec : {M : Type 1} → statement M
+dmap-send-spec = tie.close (tie.spec send-requires tell-written-requires same-length returns)

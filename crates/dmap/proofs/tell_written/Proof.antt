@@ -1,0 +1,27 @@
+-- `dmap::tell_written` meets its contract.
+-- Assumes nothing.
+use Rattle.dmap.proofs.Through.{told-served, told-refused}
+use borrow.Author.Needs.{needs}
+use Rattle.dmap.proofs.tell_written.Statement.{statement}
+use Rattle.dmap.proofs.tell_written.Tie as tie
+
+enum-known-w : tie.Need-enum-known-w
+enum-known-w c = search needs
+
+enum-known-w-2 : tie.Need-enum-known-w-2
+enum-known-w-2 c = search needs
+
+refusal-number-requires : tie.Need-refusal-number-requires
+refusal-number-requires c κs = search needs
+
+returns : tie.Need-returns
+returns c =
+    told-served (c .before .w .given .1)
+
+returns-2 : tie.Need-returns-2
+returns-2 c =
+    told-refused (c .before .before .w2 .given .1) (c .refusal-number .ensures)
+
+pub tell-written-spec : {M : Type 1} → statement M
+tell-written-spec =
+    tie.close (tie.spec enum-known-w enum-known-w-2 refusal-number-requires returns returns-2)

@@ -1,0 +1,100 @@
+/* The transfer core for volume meshes: blocks of darts, and the messages that move a volume from block to block.
+ *
+ * Every call is served, and returns 0, or refused, and returns the number of the first question whose answer is no. A refused call leaves
+ * everything that was lent to it as it was, the number behind the last pointer too. A call reads and writes nothing but what is lent to it,
+ * keeps no pointer, and takes no memory from the heap; the caller owns all memory before and after. It works on local arrays: leave it half a
+ * megabyte of stack. Calls on different memory may run at the same time.
+ *
+ * What the caller owes: a pointer is not null, is aligned for its type, and leads to as many entries as the length behind it says; memory
+ * that is lent for writing overlaps nothing else that is lent to the same call. Lengths and contents may be any: the questions ask about them.
+ *
+ * A block is lent as DMAP_WORDS words. Words 0 to 7 are the header: number, counter, dart count, five zeros. Each dart has 8 words, by
+ * ascending serial: serial, next, opposite, kind (0 free, 1 sewn, 2 + 4 * the other block critical), what it is sewn to or the code of its
+ * label, then x, y, z as the bits of doubles. Links are places in this order, from 0. All words behind the last dart are zero. A label's code
+ * is (maker * 2^32 + number) * 4096 + position.
+ */
+#ifndef DMAP_H
+#define DMAP_H
+
+#include <stddef.h>
+#include <stdint.h>
+
+#ifdef __cplusplus
+extern "C" {
+#endif
+
+/* Words of a block's memory. */
+#define DMAP_WORDS 32776
+
+/* Bytes of an outbox that is long enough for every send. */
+#define DMAP_OUTBOX 65536
+
+/* Answers: served, or the question that was answered no. */
+enum {
+    DMAP_SERVED = 0,
+    DMAP_MEMORY_SIZE = 1,           /* is lent memory of the stated size? */
+    DMAP_NOT_AN_IMAGE = 2,          /* is memory given as a block a sound block's image? */
+    DMAP_FILE_LAYOUT = 3,           /* is a file right to its last byte? */
+    DMAP_COORDINATE_NOT_FINITE = 4, /* are coordinates finite? */
+    DMAP_LINKS_WRONG = 5,           /* are next and opposite right? */
+    DMAP_THIRD_LINKS_WRONG = 6,     /* are third links right, each face of one kind? */
+    DMAP_LABELS_WRONG = 7,          /* are labels, other blocks and the counter right? */
+    DMAP_POINTS_DISAGREE = 8,       /* do points agree? */
+    DMAP_DESTINATION = 9,           /* is the block number at most 15, and another block's? */
+    DMAP_SERIAL_NOT_HELD = 10,      /* does the block hold the serial? */
+    DMAP_VOLUME_TOO_LARGE = 11,     /* has the volume at most 512 darts? */
+    DMAP_SEWN_WITHIN = 12,          /* is no dart sewn within the volume? */
+    DMAP_VERTEX_PAIRS = 13,         /* is every ordered vertex pair there once, with different ends? */
+    DMAP_COUNTER_FULL = 14,         /* is the counter below 2^32 afterwards? */
+    DMAP_OUTPUT_TOO_SHORT = 15,     /* is the output long enough? */
+    DMAP_MESSAGE_LAYOUT = 16,       /* is a message right to its last byte? */
+    DMAP_NOT_FOR_HERE = 17,         /* is it of the right kind, addressed here, from elsewhere? */
+    DMAP_SERIALS_NOT_NEW = 18,      /* are coordinates finite, and serials distinct and not held? */
+    DMAP_VOLUME_WRONG = 19,         /* is it one volume, in message order? */
+    DMAP_PARTS_WRONG = 20,          /* are the parts of a transfer right? */
+    DMAP_BLOCK_FULL = 21,           /* are there at most 4,096 darts afterwards? */
+    DMAP_UPDATE_WRONG = 22,         /* is the new block neither end, and each label the least of a different face? */
+    DMAP_BLOCK_NUMBERS = 23,        /* are there 1 to 16 blocks, numbered in order? */
+    DMAP_SERIALS_REPEATED = 24,     /* are serials distinct in the mesh? */
+    DMAP_LABELS_UNPAIRED = 25,      /* are labels paired? */
+    DMAP_POINTS_ACROSS = 26,        /* do points agree across blocks? */
+    DMAP_MAKERS_WRONG = 27,         /* are makers and counters right? */
+    DMAP_ORACLE_WRONG = 28          /* are the oracle's numbers right? */
+};
+
+/* Makes an empty block from its number, counter 0, whatever stood in the memory.
+ * Asks 1 (DMAP_WORDS words), 9 (number at most 15). Refused: the block is as it was. */
+uint32_t dmap_empty(uint64_t number, uint64_t *block, size_t words);
+
+/* Reads a block file into memory, whatever stood there.
+ * Asks 1 (DMAP_WORDS words), 3 (layout, ranges, ascending serials), 4 (finite), 5 (next, opposite), 6 (third links), 7 (labels, counter),
+ * 8 (points agree). The file is read only. Refused: the block is as it was. */
+uint32_t dmap_read_file(const uint8_t *file, size_t bytes, uint64_t *block, size_t words);
+
+/* Writes the block's file to the front of out, and its length to written; bytes of out behind it stay.
+ * Asks 1 (DMAP_WORDS words), 2 (a sound block's image), 15 (room). The block is read only. Refused: out and written are as they were. */
+uint32_t dmap_save_file(const uint64_t *block, size_t words, uint8_t *out, size_t room, uint64_t *written);
+
+/* Writes the messages that move the volume which holds the serial to block `to`: the transfer, then an update for each relative, by ascending
+ * number, to the front of the outbox; their length goes to written, bytes behind them stay. Each message starts with the length of its rest.
+ * Asks 1 (DMAP_WORDS words), 2 (a sound block's image), 9 (to at most 15, not this block), 10 (serial held), 11 (at most 512 darts),
+ * 12 (not sewn within), 13 (vertex pairs), 14 (counter), 15 (room). The block is read only: it still holds the volume until
+ * dmap_release. Refused: outbox and written are as they were. */
+uint32_t dmap_send(const uint64_t *block, size_t words, uint64_t to, uint64_t serial, uint8_t *outbox, size_t room, uint64_t *written);
+
+/* Removes the volume that was sent, by the same request, once the destination has taken it; the faces left behind become critical with block
+ * `to`, and the counter advances by their number.
+ * Asks 1 (DMAP_WORDS words), 2 (a sound block's image), 9 (to at most 15, not this block), 10 (serial held), 11 (at most 512 darts),
+ * 12 (not sewn within), 13 (vertex pairs), 14 (counter). Refused: the block is as it was. */
+uint32_t dmap_release(uint64_t *block, size_t words, uint64_t to, uint64_t serial);
+
+/* Takes an update: the faces that it names become critical with their new block. The slice is one message, its length group included.
+ * Asks 1 (DMAP_WORDS words), 2 (a sound block's image), 16 (layout), 17 (an update, to this block, from another), 22 (new block neither end,
+ * each label the least of a different face shared with the sender). The message is read only. Refused: the block is as it was. */
+uint32_t dmap_redirect(uint64_t *block, size_t words, const uint8_t *message, size_t bytes);
+
+#ifdef __cplusplus
+}
+#endif
+
+#endif
