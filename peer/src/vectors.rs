@@ -296,7 +296,7 @@ pub fn vectors(seed: u64, call: Call, wanted: usize) -> Vec<u8> {
 }
 
 /// The calls of the gate's file, in the order of CALLS; a call's place there is its byte in the file.
-pub const GATE: &[Call] = &[Call::Empty, Call::ReadFile, Call::SaveFile, Call::Send, Call::Release];
+pub const GATE: &[Call] = &[Call::Empty, Call::ReadFile, Call::SaveFile, Call::Send, Call::Release, Call::Redirect];
 
 /// Bytes that the gate's file may have.
 pub const GATE_BYTES: usize = 400_000;

@@ -46,6 +46,7 @@ enum Changing {
     Empty(u64),
     ReadFile,
     Release(u64, u64),
+    Redirect,
 }
 
 fn change(call: Changing, bytes: &[u8], block: &mut [u64]) -> Answer {
@@ -53,6 +54,7 @@ fn change(call: Changing, bytes: &[u8], block: &mut [u64]) -> Answer {
         Changing::Empty(number) => memory::header::empty(number, block),
         Changing::ReadFile => readfile::read_file(bytes, block),
         Changing::Release(to, serial) => release::release(block, to, serial),
+        Changing::Redirect => redirect::redirect(block, bytes),
     }
 }
 
@@ -134,6 +136,11 @@ pub fn read_file_case(record: &[u8], block: &mut [u64], told: &mut [u64]) -> u32
 pub fn release_case(record: &[u8], block: &mut [u64], told: &mut [u64]) -> u32 {
     let call = Changing::Release(cursor::number(record, 4, 8), cursor::number(record, 12, 8));
     change_by_numbers(call, record, 20, block, told)
+}
+
+// Redirect: bytes of the message, memory, change.
+pub fn redirect_case(record: &[u8], block: &mut [u64], told: &mut [u64]) -> u32 {
+    change_by_bytes(Changing::Redirect, record, block, told)
 }
 
 // A call that reads a block's memory and writes bytes, with its numbers.

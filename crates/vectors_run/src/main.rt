@@ -22,6 +22,7 @@ fn name(call: u8) {
         2 => io::write_all(1, b"save_file"),
         3 => io::write_all(1, b"send"),
         5 => io::write_all(1, b"release"),
+        6 => io::write_all(1, b"redirect"),
         _ => io::write_all(1, b"no call"),
     }
     ;
@@ -35,6 +36,7 @@ fn play(call: u8, record: &[u8], block: &mut [u64], told: &mut [u64], out: &mut 
         2 => vectors::save_file_case(record, block, out),
         3 => vectors::send_case(record, block, out),
         5 => vectors::release_case(record, block, told),
+        6 => vectors::redirect_case(record, block, told),
         _ => vectors::UNREADABLE,
     }
 }
@@ -189,6 +191,7 @@ fn show(counts: &[u64; 512]) {
     show_call(counts, 2);
     show_call(counts, 3);
     show_call(counts, 5);
+    show_call(counts, 6);
     show_found(counts, b"as told: ", vectors::AS_TOLD);
     show_found(counts, b"another answer: ", vectors::OTHER_ANSWER);
     show_found(counts, b"other content: ", vectors::OTHER_CONTENT);
