@@ -3,7 +3,7 @@ use mathlib.Core.Path.{_≡_, refl, sym, _∙_, ap}
 use mathlib.Core.Logic.{_≢_}
 use mathlib.Core.Bool.{Bool, true, false, true≢false, cond, not, _&&_, _||_}
 use mathlib.Core.List.{List, [], _∷_, _++_, map, append-assoc, append-nil}
-use Prim.Native.Nat.{ℕ, zero, suc, _+_, _≤_, _<_}
+use Prim.Native.Nat.{ℕ, zero, suc, _+_, _-_, _≤_, _<_}
 use native.Mathlib.Omega.{arith}
 use native.Mathlib.Nat.{add-zero, add-assoc, zero-add}
 use native.Mathlib.Numerals.{add-one}
@@ -11,18 +11,18 @@ use lib.Dec.{leb, eqb}
 use lib.ListN.{length, getD, set, replicate, length-append, length-set, length-replicate}
 use lib.Seq.{take-suc-set}
 use borrow.Author.Tests.{eqb-true, eqb-false, eq-eqb, leb-true}
-use Rattle.model.specs.Lists.{all, keep, concat, distinct, mem, tab}
+use Rattle.model.specs.Lists.{all, ascending, keep, concat, distinct, mem, tab}
 use Rattle.model.specs.Cells.{cycle, faces}
 use Rattle.model.specs.Image.{room}
 use Rattle.model.specs.Departure.{placed}
 use Rattle.laws.proofs.Tests.{by-cases, and-left, and-right}
 use Rattle.laws.proofs.Members.{In, in-here, in-there, in-keep, keep-in, all-in, keep-ascending, ascending-distinct, distinct-not, pigeonhole, map-append}
-use Rattle.laws.proofs.Faces.{face-sym, face-stays, face-start, start-in, start-starts, in-faces, faces-only, faces-distinct, along-face}
+use Rattle.laws.proofs.Faces.{face-sym, face-stays, face-start, start-in, start-starts, in-faces, faces-only, faces-distinct, order-has, order-only, along-face}
 use Rattle.laws.proofs.Tables.{length-tab, tab-ascending}
 use Rattle.cells.specs.Places.{Within, Apart, Closed, InOrder, Painted, Put, bit, marked}
 use Rattle.cells.proofs.Walks.{eq-or-ne, getD-zeros}
 use Rattle.cells.proofs.Reached.{places, in-places, places-below, within-places}
-use Rattle.cells.proofs.Paths.{apart-places, few-places, mem-append}
+use Rattle.cells.proofs.Paths.{apart-places, few-places, mem-append, round}
 
 -- LISTS that grow at the end
 tab-more : {A : Type 0} (f : ℕ → A) (n : ℕ) → tab f (suc n) ≡ tab f n ++ f n ∷ []
@@ -52,15 +52,19 @@ getD-in [] k h = absurd (omega arith)
 getD-in (x ∷ l) zero h = in-here x l
 getD-in (x ∷ l) (suc k) h = in-there (getD l k 0) x l (getD-in l k (omega arith))
 
--- a list of different numbers below n has at most n
 pub distinct-at : (l : List ℕ) → distinct l ≡ true → (a b : ℕ) → a < b → b < length l → getD l a 0 ≢ getD l b 0
 distinct-at [] d a b h k e = absurd (omega arith)
 distinct-at (x ∷ l) d a zero h k e = absurd (omega arith)
 distinct-at (x ∷ l) d zero (suc b) h k e = distinct-not x l d (getD l b 0) (getD-in l b (omega arith)) (sym e)
 distinct-at (x ∷ l) d (suc a) (suc b) h k e = distinct-at l (and-right (not (mem x l)) _ d) a b (omega arith) (omega arith) e
 
+-- different elements that are all in another list
+pub distinct-fewer : (l v : List ℕ) → distinct l ≡ true → ((x : ℕ) → In x l → In x v) → length l ≤ length v
+distinct-fewer l v d h = pigeonhole (length l) (λ k. getD l k 0) v (λ k j. h (getD l k 0) (getD-in l k j)) (distinct-at l d)
+
+-- different numbers below n are at most n
 pub distinct-few : (l : List ℕ) (n : ℕ) → distinct l ≡ true → ((x : ℕ) → In x l → x < n) → length l ≤ n
-distinct-few l n d h = omega (arith, pigeonhole (length l) (λ k. getD l k 0) (places n) (λ k j. in-places n (getD l k 0) (h (getD l k 0) (getD-in l k j))) (distinct-at l d), length-tab (λ (p : ℕ). p) n)
+distinct-few l n d h = omega (arith, distinct-fewer l (places n) d (λ x k. in-places n x (h x k)), length-tab (λ (p : ℕ). p) n)
 
 -- one marked place more, or none
 pub marked-more : (n : ℕ) (marks : List ℕ) → marked (n + 1) marks ≡ marked n marks ++ cond (eqb (getD marks n 0) 1) (n ∷ []) []
@@ -79,6 +83,25 @@ marked-in n marks p h = let r = keep-in (λ q. eqb (getD marks q 0) 1) (places n
 pub in-marked : (n : ℕ) (marks : List ℕ) (p : ℕ) → p < n → getD marks p 0 ≡ 1 → In p (marked n marks)
 unfolding marked
 in-marked n marks p h e = in-keep (λ q. eqb (getD marks q 0) 1) p (places n) (in-places n p h) (eq-eqb _ 1 e)
+
+pub marked-ascending : (n : ℕ) (marks : List ℕ) → ascending (marked n marks) ≡ true
+unfolding marked
+marked-ascending n marks = keep-ascending (λ q. eqb (getD marks q 0) 1) (places n) (tab-ascending (λ q. q) n (λ i j l k. l))
+
+-- ONE PLACE MORE: a marked one that starts its face adds it, any other adds none
+module _ (f : ℕ → ℕ) (marks : List ℕ) (p : ℕ) where
+  unmarked-adds-none : eqb (getD marks p 0) 1 ≡ false → faces f (marked (p + 1) marks) ≡ faces f (marked p marks)
+  unmarked-adds-none m = ap (faces f) (marked-more p marks ∙ ap (λ (b : Bool). marked p marks ++ cond b (p ∷ []) []) m ∙ append-nil (marked p marks))
+
+  by-start : {b : Bool} → eqb (getD marks p 0) 1 ≡ true → all (leb p) (cycle f p) ≡ b → faces f (marked (p + 1) marks) ≡ faces f (marked p marks) ++ cond b (cycle f p ∷ []) []
+  by-start m e = ap (faces f) (marked-more p marks ∙ ap (λ (b : Bool). marked p marks ++ cond b (p ∷ []) []) m) ∙ faces-more f (marked p marks) p
+      ∙ ap (λ (b : Bool). faces f (marked p marks) ++ cond b (cycle f p ∷ []) []) e
+
+  no-start-adds-none : eqb (getD marks p 0) 1 ≡ true → all (leb p) (cycle f p) ≡ false → faces f (marked (p + 1) marks) ≡ faces f (marked p marks)
+  no-start-adds-none m e = by-start m e ∙ append-nil (faces f (marked p marks))
+
+  face-longer : faces f (marked (p + 1) marks) ≡ faces f (marked p marks) ++ cycle f p ∷ [] → concat (faces f (marked (p + 1) marks)) ≡ concat (faces f (marked p marks)) ++ cycle f p
+  face-longer e = ap concat e ∙ concat-append (faces f (marked p marks)) (cycle f p ∷ []) ∙ ap (λ (l : List ℕ). concat (faces f (marked p marks)) ++ l) (concat-one (cycle f p))
 
 -- WHAT IS PUT SO FAR: the faces that the marked places below p start
 pub record Ordering (n : ℕ) (f : ℕ → ℕ) (marks : List ℕ) (p : ℕ) (out starts seen : List ℕ) (darts count : ℕ) : Type 0 where
@@ -133,16 +156,44 @@ module _ (n : ℕ) (f : ℕ → ℕ) (marks : List ℕ) (few : n ≤ room) (wf :
       seen less = in-faces f (places n) (within-places wf) (apart-places af) (few-places few) (keep (λ x. all (leb x) (cycle f x)) (marked p marks)) s p
           (in-keep (λ x. all (leb x) (cycle f x)) s (marked p marks) (in-marked p marks s less s-marked) starts) back
 
-  -- the faces of marked places have at most n darts in all
-  pub faces-fit : (p : ℕ) → p ≤ n → length (concat (faces f (marked p marks))) ≤ n
-  unfolding faces cycle marked
-  faces-fit p h = distinct-few (concat (faces f (marked p marks))) n
-      (faces-distinct f (places n) (within-places wf) (apart-places af) (few-places few) (keep (λ x. all (leb x) (cycle f x)) (marked p marks))
-      (λ x k. let r = keep-in (λ x. all (leb x) (cycle f x)) (marked p marks) x k in (in-places n x (omega (arith, marked-in p marks x (r .0) .0)), r .1))
-      (ascending-distinct _ (keep-ascending (λ x. all (leb x) (cycle f x)) (marked p marks) (keep-ascending (λ q. eqb (getD marks q 0) 1) (places p) (tab-ascending (λ q. q) p (λ i j l k. l))))))
-      (λ x k. let r = faces-only f (places n) (within-places wf) (apart-places af) (few-places few) (keep (λ x. all (leb x) (cycle f x)) (marked p marks)) x k in
-      let s = marked-in p marks (r .0) (keep-in (λ x. all (leb x) (cycle f x)) (marked p marks) (r .0) (r .1) .0) in
-      places-below n x (face-stays f (places n) (within-places wf) (apart-places af) (few-places few) (r .0) x (in-places n (r .0) (omega (arith, s .0))) (r .2)))
+  -- MARKED PLACES are closed under f
+  pub stays : (x : ℕ) → In x (marked n marks) → In (f x) (marked n marks)
+  stays x h = let r = marked-in n marks x h in in-marked n marks (f x) (wf x (r .0)) (closed x (r .0) (r .1))
+
+  apart : (x y : ℕ) → In x (marked n marks) → In y (marked n marks) → f x ≡ f y → x ≡ y
+  apart x y i j e = af x y (marked-in n marks x i .0) (marked-in n marks y j .0) e
+
+  pub marked-distinct : distinct (marked n marks) ≡ true
+  marked-distinct = ascending-distinct _ (marked-ascending n marks)
+
+  small : length (marked n marks) ≤ 4096
+  small = omega (arith, distinct-few (marked n marks) n marked-distinct (λ x h. marked-in n marks x h .0), few)
+
+  -- so that message order has each of them once
+  pub has : (x : ℕ) → In x (marked n marks) → In x (concat (faces f (marked n marks)))
+  has = order-has f (marked n marks) stays apart small
+
+  pub only : (x : ℕ) → In x (concat (faces f (marked n marks))) → In x (marked n marks)
+  only = order-only f (marked n marks) stays apart small
+
+  sooner : (p : ℕ) → p ≤ n → (x : ℕ) → In x (marked p marks) → In x (marked n marks)
+  sooner p h x k = let r = marked-in p marks x k in in-marked n marks x (omega (arith, r .0)) (r .1)
+
+  faces-distinct-to : (p : ℕ) → p ≤ n → distinct (concat (faces f (marked p marks))) ≡ true
+  unfolding faces cycle
+  faces-distinct-to p h = faces-distinct f (marked n marks) stays apart small (keep (λ x. all (leb x) (cycle f x)) (marked p marks))
+      (λ x k. let r = keep-in (λ x. all (leb x) (cycle f x)) (marked p marks) x k in (sooner p h x (r .0), r .1))
+      (ascending-distinct _ (keep-ascending (λ x. all (leb x) (cycle f x)) (marked p marks) (marked-ascending p marks)))
+
+  pub order-distinct : distinct (concat (faces f (marked n marks))) ≡ true
+  order-distinct = faces-distinct-to n (omega arith)
+
+  -- the faces of marked places have at most their darts in all
+  faces-fit : (p : ℕ) → p ≤ n → length (concat (faces f (marked p marks))) ≤ length (marked n marks)
+  unfolding faces cycle
+  faces-fit p h = distinct-fewer (concat (faces f (marked p marks))) (marked n marks) (faces-distinct-to p h)
+      (λ x k. let r = faces-only f (marked n marks) stays apart small (keep (λ x. all (leb x) (cycle f x)) (marked p marks)) x k in
+      face-stays f (marked n marks) stays apart small (r .0) x (sooner p h (r .0) (keep-in (λ x. all (leb x) (cycle f x)) (marked p marks) (r .0) (r .1) .0)) (r .2))
 
   -- nothing is put at the start
   pub ordering-start : (out starts seen : List ℕ) → length out ≡ room → length starts ≡ room → seen ≡ replicate room 0 → Ordering n f marks 0 out starts seen 0 0
@@ -172,10 +223,8 @@ module _ (n : ℕ) (f : ℕ → ℕ) (marks : List ℕ) (few : n ≤ room) (wf :
     ordering-skip e = by-cases (eqb (getD marks p 0) 1)
         (λ m. let z : eqb (getD seen p 0) 0 ≡ false = rw m at e in
         let there = seen-bit (mem p (concat (faces f (marked p marks)))) (o .seen-is p) (eqb-false (getD seen p 0) 0 z) in
-        let none = seen-no-start p h there in
-        stay (ap (faces f) (marked-more p marks ∙ ap (λ (b : Bool). marked p marks ++ cond b (p ∷ []) []) m) ∙ faces-more f (marked p marks) p
-        ∙ ap (λ (b : Bool). faces f (marked p marks) ++ cond b (cycle f p ∷ []) []) none ∙ append-nil (faces f (marked p marks))))
-        (λ m. stay (ap (faces f) (marked-more p marks ∙ ap (λ (b : Bool). marked p marks ++ cond b (p ∷ []) []) m ∙ append-nil (marked p marks))))
+        stay (no-start-adds-none f marks p m (seen-no-start p h there)))
+        (λ m. stay (unmarked-adds-none f marks p m))
 
     -- p starts a face
     module _ (e : (eqb (getD marks p 0) 1 && eqb (getD seen p 0) 0) ≡ true) where
@@ -184,15 +233,13 @@ module _ (n : ℕ) (f : ℕ → ℕ) (marks : List ℕ) (few : n ≤ room) (wf :
           let m = and-left (eqb (getD marks p 0) 1) _ e in
           let z = and-right (eqb (getD marks p 0) 1) _ e in
           let absent = unseen-bit (mem p (concat (faces f (marked p marks)))) (o .seen-is p) (eqb-true (getD seen p 0) 0 z) in
-          let some = new-start p h (eqb-true (getD marks p 0) 1 m) absent in
-          ap (faces f) (marked-more p marks ∙ ap (λ (b : Bool). marked p marks ++ cond b (p ∷ []) []) m) ∙ faces-more f (marked p marks) p
-          ∙ ap (λ (b : Bool). faces f (marked p marks) ++ cond b (cycle f p ∷ []) []) some
+          by-start f marks p m (new-start p h (eqb-true (getD marks p 0) 1 m) absent)
 
       longer : concat (faces f (marked (p + 1) marks)) ≡ concat (faces f (marked p marks)) ++ cycle f p
-      longer = ap concat new-face ∙ concat-append (faces f (marked p marks)) (cycle f p ∷ []) ∙ ap (λ (l : List ℕ). concat (faces f (marked p marks)) ++ l) (concat-one (cycle f p))
+      longer = face-longer f marks p new-face
 
       pub face-room : darts + length (cycle f p) ≤ room
-      face-room = omega (arith, faces-fit (p + 1) (omega arith), o .so-far .darts-are, ap length longer, length-append (concat (faces f (marked p marks))) (cycle f p), few)
+      face-room = omega (arith, faces-fit (p + 1) (omega arith), o .so-far .darts-are, ap length longer, length-append (concat (faces f (marked p marks))) (cycle f p), small)
 
       pub ordering-put : {end : ℕ} {out′ seen′ : List ℕ} → Put (cycle f p) darts out out′ end → Painted 1 (cycle f p) seen seen′ → Ordering n f marks (p + 1) out′ (set starts count darts) seen′ end (count + 1)
       ordering-put {end} {out′} {seen′} w s = record {
@@ -216,6 +263,26 @@ module _ (n : ℕ) (f : ℕ → ℕ) (marks : List ℕ) (few : n ≤ room) (wf :
           either false true = refl
           either false false = refl
 
--- all places are passed
-pub ordering-end : {n p darts count : ℕ} {f : ℕ → ℕ} {marks out starts seen : List ℕ} → Ordering n f marks p out starts seen darts count → n ≤ p → InOrder (faces f (marked n marks)) out starts darts count
-ordering-end {n} {p} {f = f} {marks = marks} o h = let same : p ≡ n = omega (arith, o .p-le) in rw same at (o .so-far)
+  -- THE END: as many darts are put as are marked
+  full-stays : (p : ℕ) → p < n → length (marked n marks) ≤ length (concat (faces f (marked p marks))) → faces f (marked (p + 1) marks) ≡ faces f (marked p marks)
+  full-stays p h full = by-cases (eqb (getD marks p 0) 1)
+      (λ m. by-cases (all (leb p) (cycle f p))
+      (λ e. absurd (omega (arith, faces-fit (p + 1) (omega arith), ap length (face-longer f marks p (by-start f marks p m e)), length-append (concat (faces f (marked p marks))) (cycle f p), round few wf af p h .some)))
+      (λ e. no-start-adds-none f marks p m e))
+      (λ m. unmarked-adds-none f marks p m)
+
+  full-end : (k p : ℕ) → p + k ≡ n → length (marked n marks) ≤ length (concat (faces f (marked p marks))) → faces f (marked n marks) ≡ faces f (marked p marks)
+  full-end zero p e full = ap (λ (j : ℕ). faces f (marked j marks)) (sym e ∙ add-zero p)
+  full-end (suc k) p e full =
+      let same = full-stays p (omega arith) full in
+      full-end k (p + 1) (omega arith) (omega (arith, ap (λ (fs : List (List ℕ)). length (concat fs)) same)) ∙ same
+
+  module _ {p darts count : ℕ} {out starts seen : List ℕ} (o : Ordering n f marks p out starts seen darts count) where
+    pub ordering-end : length (marked n marks) ≤ darts → InOrder (faces f (marked n marks)) out starts darts count
+    ordering-end full = rw (full-end (n - p) p (omega (arith, o .p-le)) (omega (arith, o .so-far .darts-are))) (o .so-far)
+
+    -- before that a place is left
+    pub ordering-on : darts < length (marked n marks) → p < n
+    ordering-on less = eq-or-ne p n
+        (λ e. absurd (omega (arith, distinct-fewer (marked n marks) (concat (faces f (marked n marks))) marked-distinct has, o .so-far .darts-are, ap (λ (j : ℕ). length (concat (faces f (marked j marks)))) e)))
+        (λ e. omega (arith, o .p-le))

@@ -6,32 +6,32 @@ use mathlib.Core.Bool.{Bool, true, false, true≢false, not}
 use mathlib.Core.List.{List, [], _∷_, map}
 use Prim.Native.Nat.{ℕ, zero, suc, _<_, _≤_}
 use native.Mathlib.Omega.{arith}
-use lib.Dec.{leb, eqb}
+use lib.Dec.{eqb}
 use lib.ListN.{length, getD, take, length-take}
 use lib.Seq.{getD-take}
 use borrow.Author.Tests.{eq-eqb, ne-eqb}
-use Rattle.model.specs.Lists.{all, any, keep, mem, distinct, index-of, firsts, concat}
+use Rattle.model.specs.Lists.{any, keep, mem, distinct, index-of, firsts, concat}
 use Rattle.model.specs.Cells.{cycle, faces, ring, vertex, vertices, vertex-number, volume-in, next-in, opposite-in}
 use Rattle.model.specs.Image.{room, column}
 use Rattle.model.specs.Departure.{same-pair, pairs-once, vertex-pairs}
 use Rattle.laws.proofs.Tests.{by-cases, and-intro, and-right}
-use Rattle.laws.proofs.Members.{In, in-here, in-there, in-cons, in-map, map-in, map-map, map-cong, keep-in, keep-ascending, ascending-distinct, distinct-not}
-use Rattle.laws.proofs.Faces.{along-face, face-distinct, order-has, order-only, faces-distinct}
-use Rattle.laws.proofs.Tables.{tab-all, all-tab, tab-ascending}
+use Rattle.laws.proofs.Members.{In, in-here, in-there, in-cons, in-map, map-in, map-map, map-cong, keep-in, distinct-not}
+use Rattle.laws.proofs.Faces.{along-face, face-distinct}
+use Rattle.laws.proofs.Tables.{tab-all, all-tab}
 use Rattle.theory.proofs.ImageLaws.{place-back}
 use Rattle.cells.specs.Places.{Within, Apart, Closed, Marked, Numbered, Whole, Ended, ends-of, ends-once, marked, volume-of}
 use Rattle.cells.proofs.Reached.{places, in-places, within-places}
 use Rattle.cells.proofs.Paths.{apart-places, few-places}
 use Rattle.cells.proofs.Sited.{Sited, darts-in, count-in}
 use Rattle.cells.proofs.Serials.{serials-apart}
-use Rattle.cells.proofs.FaceLaws.{marked-in, in-marked, distinct-few}
+use Rattle.cells.proofs.FaceLaws.{marked-in, in-marked, distinct-few, stays, marked-distinct, order-distinct, has, only}
 use Rattle.cells.proofs.FaceSerials.{marked-below, volume-marked}
 use Rattle.cells.proofs.RingLaws.{mem-firsts, step-within, step-apart, one-vertex, one-ring}
 use Rattle.cells.proofs.VertexSerials.{same-eqb, vertex-below, vertex-serial}
 use Rattle.cells.proofs.PairLaws.{Once, once-from, once-to}
 
 -- two tests that follow from each other
-same-test : (a b : Bool) → (a ≡ true → b ≡ true) → (b ≡ true → a ≡ true) → a ≡ b
+pub same-test : (a b : Bool) → (a ≡ true → b ≡ true) → (b ≡ true → a ≡ true) → a ≡ b
 same-test true b f g = sym (f refl)
 same-test false true f g = g refl
 same-test false false f g = refl
@@ -194,45 +194,24 @@ module _ (n : ℕ) (nx op : ℕ → ℕ) (few : n ≤ room) (wn : Within n nx) (
 
 -- MESSAGE ORDER is whole
 module _ (n : ℕ) (nx op : ℕ → ℕ) (marks : List ℕ) (few : n ≤ room) (wn : Within n nx) (an : Apart n nx) (wo : Within n op) (cn : Closed n nx marks) (co : Closed n op marks) where
-  stays : (x : ℕ) → In x (marked n marks) → In (nx x) (marked n marks)
-  stays x h = let r = marked-in n marks x h in in-marked n marks (nx x) (wn x (r .0)) (cn x (r .0) (r .1))
-
   stays-op : (x : ℕ) → In x (marked n marks) → In (op x) (marked n marks)
   stays-op x h = let r = marked-in n marks x h in in-marked n marks (op x) (wo x (r .0)) (co x (r .0) (r .1))
 
-  apart : (x y : ℕ) → In x (marked n marks) → In y (marked n marks) → nx x ≡ nx y → x ≡ y
-  apart x y i j e = an x y (marked-in n marks x i .0) (marked-in n marks y j .0) e
-
-  pub marked-distinct : distinct (marked n marks) ≡ true
-  unfolding marked
-  marked-distinct = ascending-distinct _ (keep-ascending (λ q. eqb (getD marks q 0) 1) (places n) (tab-ascending (λ q. q) n (λ i j a b. a)))
-
-  small : length (marked n marks) ≤ 4096
-  small = omega (arith, distinct-few (marked n marks) n marked-distinct (λ x h. marked-in n marks x h .0), few)
-
-  order-distinct : distinct (concat (faces nx (marked n marks))) ≡ true
-  unfolding faces cycle
-  order-distinct = faces-distinct nx (marked n marks) stays apart small (keep (λ x. all (leb x) (cycle nx x)) (marked n marks))
-      (λ x h. keep-in (λ x. all (leb x) (cycle nx x)) (marked n marks) x h) (keep-distinct (λ x. all (leb x) (cycle nx x)) (marked n marks) marked-distinct)
-
-  pub has : (x : ℕ) → In x (marked n marks) → In x (concat (faces nx (marked n marks)))
-  has = order-has nx (marked n marks) stays apart small
-
-  pub only : (x : ℕ) → In x (concat (faces nx (marked n marks))) → In x (marked n marks)
-  only = order-only nx (marked n marks) stays apart small
-
   pub order-whole : Whole n nx op (concat (faces nx (marked n marks)))
-  order-whole = record {
-    few = omega (arith, distinct-few (concat (faces nx (marked n marks))) n order-distinct (λ x h. marked-in n marks x (only x h) .0), few);
-    once = order-distinct;
-    below = λ x h. marked-in n marks x (only x h) .0;
-    next-in = λ x h. has (nx x) (stays x (only x h));
-    opposite-in = λ x h. has (op x) (stays-op x (only x h));
-  }
+  order-whole =
+      let in-marks = only n nx marks few wn an cn in
+      let in-order = has n nx marks few wn an cn in
+      record {
+        few = omega (arith, distinct-few (concat (faces nx (marked n marks))) n (order-distinct n nx marks few wn an cn) (λ x h. marked-in n marks x (in-marks x h) .0), few);
+        once = order-distinct n nx marks few wn an cn;
+        below = λ x h. marked-in n marks x (in-marks x h) .0;
+        next-in = λ x h. in-order (nx x) (stays n nx marks few wn an cn x (in-marks x h));
+        opposite-in = λ x h. in-order (op x) (stays-op x (in-marks x h));
+      }
 
   -- pairs in message order are pairs in ascending place
   pub pairs-order : pairs-once (vertex-pairs nx op (concat (faces nx (marked n marks)))) ≡ pairs-once (vertex-pairs nx op (marked n marks))
-  pairs-order = pairs-any nx op (marked n marks) (concat (faces nx (marked n marks))) marked-distinct order-distinct has only
+  pairs-order = pairs-any nx op (marked n marks) (concat (faces nx (marked n marks))) (marked-distinct n nx marks few wn an cn) (order-distinct n nx marks few wn an cn) (has n nx marks few wn an cn) (only n nx marks few wn an cn)
 
 -- BY SERIAL
 pairs-map : (h f g : ℕ → ℕ) (v : List ℕ) → ((x y : ℕ) → In x v → In y v → eqb (h (f x)) (h (f y)) ≡ eqb (f x) (f y)) → ((x y : ℕ) → In x v → In y v → eqb (h (g x)) (h (g y)) ≡ eqb (g x) (g y))

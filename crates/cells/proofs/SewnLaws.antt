@@ -2,37 +2,42 @@
 use mathlib.Core.Path.{_≡_, refl, sym, _∙_, ap}
 use mathlib.Core.Bool.{Bool, true, false, true≢false, not, _&&_}
 use mathlib.Core.List.{List, [], _∷_}
-use Prim.Native.Nat.{ℕ, _+_, _%_, _<_}
+use Prim.Native.Nat.{ℕ, zero, suc, _+_, _%_, _≤_, _<_}
 use native.Mathlib.Omega.{arith}
 use lib.Dec.{eqb}
-use lib.ListN.{getD}
+use lib.ListN.{length, getD, take}
 use borrow.Author.Tests.{eqb-true, ne-eqb}
-use Rattle.model.specs.Lists.{all, any, keep, mem}
+use Rattle.model.specs.Lists.{all, any, mem}
 use Rattle.model.specs.Cells.{volume-in, third-at}
 use Rattle.model.specs.Image.{column, third-in}
 use Rattle.model.specs.Departure.{is-sewn-into, is-sewn-out-of}
 use Rattle.laws.proofs.Tests.{by-cases}
-use Rattle.laws.proofs.Members.{all-map, all-cong, mem-keep}
-use Rattle.laws.proofs.Tables.{tab-any, any-tab}
+use Rattle.laws.proofs.Members.{In, in-here, in-there, or-left, or-right, any-in, all-map, all-cong, mem-keep}
 use Rattle.cells.specs.Places.{Marked, bit, marked, places-in, sewn-in, sewn-out, volume-of}
 use Rattle.cells.proofs.Walks.{last-or-below}
 use Rattle.cells.proofs.Reached.{places, in-places, places-in-in}
 use Rattle.cells.proofs.Sited.{Sited, darts-in, count-in}
 use Rattle.cells.proofs.Serials.{keep-cong, mem-map, serials-apart, volume-serials}
 
--- SOME MARKED PLACE
-any-keep : (q g : ℕ → Bool) (l : List ℕ) → any q (keep g l) ≡ any (λ x. g x && q x) l
-any-keep q g [] = refl
-any-keep q g (x ∷ l) = by-cases (g x) (λ e. rw (e, any-keep q g l)) (λ e. rw (e, any-keep q g l))
+-- SOME DART of a list
+any-out : (q : ℕ → Bool) (l : List ℕ) → any q l ≡ true → (x : ℕ) × In x l × (q x ≡ true)
+any-out q [] h = absurd (true≢false (sym h))
+any-out q (y ∷ l) h = by-cases (q y) (λ e. (y, in-here y l, e)) (λ e. let r = any-out q l (rw e at h) in (r .0, in-there (r .0) y l (r .1), r .2))
 
-pub some-marked : (q : ℕ → Bool) (marks : List ℕ) (n p : ℕ) → p < n → (eqb (getD marks p 0) 1 && q p) ≡ true → true ≡ any q (marked n marks)
-unfolding marked
-some-marked q marks n p h e = sym (any-keep q (λ x. eqb (getD marks x 0) 1) (places n) ∙ tab-any (λ x. eqb (getD marks x 0) 1 && q x) (λ x. x) n p h e)
+pub any-within : (q : ℕ → Bool) (l v : List ℕ) → ((x : ℕ) → In x l → In x v) → any q l ≡ true → any q v ≡ true
+any-within q l v h e = let r = any-out q l e in any-in q v (r .0) (h (r .0) (r .1)) (r .2)
 
-pub none-marked : (q : ℕ → Bool) (marks : List ℕ) (n : ℕ) → ((p : ℕ) → p < n → (eqb (getD marks p 0) 1 && q p) ≡ false) → false ≡ any q (marked n marks)
-unfolding marked
-none-marked q marks n h = sym (any-keep q (λ x. eqb (getD marks x 0) 1) (places n) ∙ by-cases (any (λ x. eqb (getD marks x 0) 1 && q x) (places n))
-    (λ e. let w = any-tab (λ x. eqb (getD marks x 0) 1 && q x) (λ x. x) n e in absurd (true≢false (sym (w .2) ∙ h (w .0) (w .1)))) (λ e. e))
+-- of its first d
+pub some-first : (q : ℕ → Bool) (l : List ℕ) (d k : ℕ) → k < d → d ≤ length l → q (getD l k 0) ≡ true → true ≡ any q (take d l)
+some-first q l zero k h few e = absurd (omega arith)
+some-first q [] (suc d) k h few e = absurd (omega arith)
+some-first q (x ∷ l) (suc d) zero h few e = sym (or-left (q x) _ e)
+some-first q (x ∷ l) (suc d) (suc k) h few e = sym (or-right (q x) _ (sym (some-first q l d k (omega arith) (omega arith) e)))
+
+pub none-first : (q : ℕ → Bool) (l : List ℕ) (d : ℕ) → ((k : ℕ) → k < d → q (getD l k 0) ≡ false) → d ≤ length l → false ≡ any q (take d l)
+none-first q l zero h few = refl
+none-first q [] (suc d) h few = refl
+none-first q (x ∷ l) (suc d) h few = rw (h 0 (omega arith)) (none-first q l d (λ k j. h (suc k) (omega arith)) (omega arith))
 
 -- what fails below p and at p fails below p + 1
 pub none-more : (t : ℕ → Bool) (p : ℕ) → ((k : ℕ) → k < p → t k ≡ false) → t p ≡ false → (k : ℕ) → k < p + 1 → t k ≡ false
@@ -100,11 +105,8 @@ module _ {m : List ℕ} (site : Sited m) (p : ℕ) (h : p < count-in m) {marks :
       ∙ ap (λ (l : List ℕ). not (any (sewn-in m marks) l)) (sym (marked-places mk (count-in m)))
 
 -- THE TEST OF ONE PLACE, arm by arm
-pub not-marked : (a : ℕ) (rest : Bool) → (a ≡ 1 → ⊥) → false ≡ (eqb a 1 && rest)
-not-marked a rest h = rw (ne-eqb a 1 h)
+pub not-sewn : (k j : ℕ) (rest : Bool) → j ≡ k → (j % 4 ≡ 1 → ⊥) → false ≡ (eqb (k % 4) 1 && rest)
+not-sewn k j rest e h = rw (← e, ne-eqb (j % 4) 1 h)
 
-pub not-sewn : (a k j : ℕ) (rest : Bool) → a ≡ 1 → j ≡ k → (j % 4 ≡ 1 → ⊥) → false ≡ (eqb a 1 && (eqb (k % 4) 1 && rest))
-not-sewn a k j rest one e h = rw (one, ← e, ne-eqb (j % 4) 1 h)
-
-pub marked-sewn : (marks : List ℕ) (a k j q r : ℕ) → a ≡ 1 → j ≡ k → j % 4 ≡ 1 → q ≡ r → eqb (getD marks q 0) 1 ≡ (eqb a 1 && (eqb (k % 4) 1 && eqb (getD marks r 0) 1))
-marked-sewn marks a k j q r one e h f = rw (one, ← e, h, f)
+pub sewn-to : (marks : List ℕ) (k j q r : ℕ) → j ≡ k → j % 4 ≡ 1 → q ≡ r → eqb (getD marks q 0) 1 ≡ (eqb (k % 4) 1 && eqb (getD marks r 0) 1)
+sewn-to marks k j q r e h f = rw (← e, h, f)

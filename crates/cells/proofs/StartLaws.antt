@@ -9,7 +9,6 @@ use native.Mathlib.Numerals.{add-one}
 use lib.Dec.{leb, eqb}
 use lib.ListN.{length, getD, take, length-append, length-map, length-take, List·getD-append}
 use lib.Seq.{take-suc, take-all, getD-append-add, getD-take}
-use borrow.Author.Tests.{ne-eqb}
 use Rattle.model.specs.Lists.{all, keep, concat}
 use Rattle.model.specs.Cells.{cycle, faces, volume-in, third-at, start-of}
 use Rattle.model.specs.Image.{room, column}
@@ -104,9 +103,6 @@ pub count-all : (q : List ℕ → Bool) (fs : List (List ℕ)) (k count : ℕ) �
 count-all q fs k count e h = e ∙ ap (λ (l : List (List ℕ)). length (keep q l)) (take-all k fs h)
 
 -- THE TEST OF ONE PLACE, arm by arm
-pub not-away : (k j : ℕ) (rest : Bool) → j ≡ k → (j % 4 ≡ 1 → ⊥) → false ≡ (eqb (k % 4) 1 && rest)
-not-away k j rest e h = rw (← e, ne-eqb (j % 4) 1 h)
-
 pub sewn-away : (marks : List ℕ) (k j q r : ℕ) → j ≡ k → j % 4 ≡ 1 → q ≡ r → not (eqb (getD marks q 0) 1) ≡ (eqb (k % 4) 1 && not (eqb (getD marks r 0) 1))
 sewn-away marks k j q r e h f = rw (← e, h, f)
 

@@ -1,26 +1,21 @@
 -- What the arrays of a volume hold, by serial: message order, vertex numbers and the answer to question 13. Assumes nothing.
 use mathlib.Core.Path.{_≡_, sym, _∙_, ap}
-use mathlib.Core.Bool.{true}
 use mathlib.Core.List.{List, map}
-use Prim.Native.Nat.{ℕ, _≤_, _<_}
+use Prim.Native.Nat.{ℕ, _<_}
 use native.Mathlib.Omega.{arith}
 use lib.ListN.{length, getD, take, length-map}
-use Rattle.model.specs.Lists.{concat, distinct}
+use Rattle.model.specs.Lists.{concat}
 use Rattle.model.specs.Cells.{faces, faces-in, vertex, vertices, vertex-number, volume-in, next-in, opposite-in}
 use Rattle.model.specs.Image.{column}
 use Rattle.model.specs.Departure.{pairs-once, vertex-pairs}
-use Rattle.laws.proofs.Members.{In, pigeonhole}
+use Rattle.laws.proofs.Members.{In}
 use Rattle.cells.specs.Places.{InOrder, Marked, Numbered, ends-once, marked, volume-of}
 use Rattle.cells.proofs.Sited.{Sited, darts-in, count-in}
-use Rattle.cells.proofs.FaceLaws.{getD-in, distinct-at}
+use Rattle.cells.proofs.FaceLaws.{distinct-fewer, marked-distinct, only, has}
 use Rattle.cells.proofs.FaceSerials.{closed-next, closed-opposite, order-serials, volume-marked}
 use Rattle.cells.proofs.VertexSerials.{vertices-serials, number-serial}
 use Rattle.cells.proofs.VolumeReady.{whole, out-whole}
-use Rattle.cells.proofs.PairsNumbered.{marked-distinct, only, has, pairs-numbered, pairs-order, question-13}
-
--- different elements that are all in another list
-distinct-fewer : (l v : List ℕ) → distinct l ≡ true → ((x : ℕ) → In x l → In x v) → length l ≤ length v
-distinct-fewer l v d h = pigeonhole (length l) (λ k. getD l k 0) v (λ k j. h (getD l k 0) (getD-in l k j)) (distinct-at l d)
+use Rattle.cells.proofs.PairsNumbered.{pairs-numbered, pairs-order, question-13}
 
 module _ {m : List ℕ} (site : Sited m) (p : ℕ) (h : p < count-in m) {marks : List ℕ} (mk : Marked (volume-of m p) marks) where
   module _ {out starts : List ℕ} {darts count : ℕ} (o : InOrder (faces (column m 1) (marked (count-in m) marks)) out starts darts count) where
@@ -33,9 +28,9 @@ module _ {m : List ℕ} (site : Sited m) (p : ℕ) (h : p < count-in m) {marks :
     out-count = let l = site .linked in
         let fs = concat (faces (column m 1) (marked (count-in m) marks)) in
         let v = marked (count-in m) marks in
-        let a = distinct-fewer fs v (whole l h mk .once) (only (count-in m) (column m 1) (column m 2) marks (l .few) (l .next-within) (l .next-apart) (l .opposite-within) (closed-next l h mk) (closed-opposite l h mk)) in
-        let b = distinct-fewer v fs (marked-distinct (count-in m) (column m 1) (column m 2) marks (l .few) (l .next-within) (l .next-apart) (l .opposite-within) (closed-next l h mk) (closed-opposite l h mk))
-        (has (count-in m) (column m 1) (column m 2) marks (l .few) (l .next-within) (l .next-apart) (l .opposite-within) (closed-next l h mk) (closed-opposite l h mk)) in
+        let a = distinct-fewer fs v (whole l h mk .once) (only (count-in m) (column m 1) marks (l .few) (l .next-within) (l .next-apart) (closed-next l h mk)) in
+        let b = distinct-fewer v fs (marked-distinct (count-in m) (column m 1) marks (l .few) (l .next-within) (l .next-apart) (closed-next l h mk))
+        (has (count-in m) (column m 1) marks (l .few) (l .next-within) (l .next-apart) (closed-next l h mk)) in
         omega (arith, o .darts-are, ap length (volume-marked site p h mk), length-map v (column m 0))
 
     module _ {numbers first : List ℕ} {vs : ℕ} (nb : Numbered (column m 1) (column m 2) (take darts out) numbers first vs) where

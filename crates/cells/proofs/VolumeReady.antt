@@ -1,17 +1,20 @@
 -- The arrays of a volume, one made from the other: what each function asks follows from what those before it ensure. Assumes nothing.
+use mathlib.Core.Path.{_≡_, _∙_, ap}
+use mathlib.Core.Bool.{Bool}
 use mathlib.Core.List.{List}
 use Prim.Native.Nat.{ℕ, _≤_, _<_}
 use native.Mathlib.Omega.{arith}
 use lib.ListN.{length, getD, take}
 use lib.Seq.{getD-take, length-take-le}
-use Rattle.model.specs.Lists.{concat}
+use Rattle.model.specs.Lists.{any, concat}
 use Rattle.model.specs.Cells.{faces}
 use Rattle.model.specs.Image.{column}
 use Rattle.cells.specs.Places.{Ended, InOrder, Linked, Marked, Numbered, Whole, marked, volume-of}
-use Rattle.cells.proofs.FaceLaws.{getD-in}
+use Rattle.cells.proofs.SewnLaws.{any-within}
+use Rattle.cells.proofs.FaceLaws.{getD-in, has, only}
 use Rattle.cells.proofs.FaceSerials.{closed-next, closed-opposite}
 use Rattle.cells.proofs.StartLaws.{in-order-few}
-use Rattle.cells.proofs.PairsNumbered.{ended, order-whole}
+use Rattle.cells.proofs.PairsNumbered.{ended, order-whole, same-test}
 
 module _ {b : List ℕ} {n d : ℕ} (l : Linked b n) (h : d < n) {marks : List ℕ} (mk : Marked (volume-of b d) marks) where
   pub whole : Whole n (column b 1) (column b 2) (concat (faces (column b 1) (marked n marks)))
@@ -30,6 +33,12 @@ module _ {b : List ℕ} {n d : ℕ} (l : Linked b n) (h : d < n) {marks : List �
         let inside : k < length (take darts out) = omega (arith, length-take-le darts out out-long) in
         let r = out-whole .below (getD (take darts out) k 0) (getD-in (take darts out) k inside) in
         omega (arith, getD-take darts out k 0 j)
+
+    -- a test of some dart in message order is one of some marked place
+    pub out-any : (q : ℕ → Bool) → any q (take darts out) ≡ any q (marked n marks)
+    out-any q = ap (any q) (o .order) ∙ same-test _ _
+        (any-within q (concat (faces (column b 1) (marked n marks))) (marked n marks) (only n (column b 1) marks (l .few) (l .next-within) (l .next-apart) (closed-next l h mk)))
+        (any-within q (marked n marks) (concat (faces (column b 1) (marked n marks))) (has n (column b 1) marks (l .few) (l .next-within) (l .next-apart) (closed-next l h mk)))
 
     -- what `pairs_once` asks of the numbers
     pub ends-ready : {numbers first : List ℕ} {vs : ℕ} → Numbered (column b 1) (column b 2) (take darts out) numbers first vs → Ended n (column b 1) (column b 2) numbers first vs

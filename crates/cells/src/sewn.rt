@@ -1,23 +1,18 @@
 // Darts of a marked volume that are sewn to it or to another.
 ghost use mathlib.Core.Path.{_≡_};
-ghost use mathlib.Core.Bool.{_&&_};
-ghost use Prim.Native.Nat.{_<_};
-ghost use lib.Dec.{eqb};
-ghost use lib.ListN.{length, getD};
+ghost use Prim.Native.Nat.{ℕ, _≤_, _<_};
+ghost use lib.ListN.{length, getD, take};
 ghost use Rattle.model.specs.Cells.{faces, start-of};
 ghost use Rattle.model.specs.Image.{room, column};
 ghost use Rattle.model.specs.Lists.{any, keep};
 ghost use Rattle.cells.specs.Places.{InOrder, Linked, marked, sewn-in, sewn-out};
 use crate::walk;
 
-// Whether the dart at place p is marked and sewn to a marked one.
+// Whether the dart at place p is sewn to a marked one.
 fn sewn_at(block: &[u64], n: usize, marks: &[u8], p: usize) -> bool
     requires { ⌜ Linked (now block) n × (length (now marks) ≡ room) × (p < n) ⌝ }
-    ensures { λ r. ⌜ r ≡ (eqb (getD (now (marks .entry)) p 0) 1 && sewn-in (now (block .entry)) (now (marks .entry)) p) ⌝ }
+    ensures { λ r. ⌜ r ≡ sewn-in (now (block .entry)) (now (marks .entry)) p ⌝ }
 {
-    if marks[p] != 1 {
-        return false;
-    }
     if walk::field(block, p, 3) % 4 != 1 {
         return false;
     }
@@ -25,18 +20,20 @@ fn sewn_at(block: &[u64], n: usize, marks: &[u8], p: usize) -> bool
     marks[q] == 1
 }
 
-// Whether some marked dart is sewn to a marked one (a no to question 12).
-pub fn sewn_within(block: &[u64], n: usize, marks: &[u8]) -> bool
+// Whether some of the first `darts` darts of `order` is sewn to a marked one (a no to question 12).
+pub fn sewn_within(block: &[u64], n: usize, marks: &[u8], order: &[usize], darts: usize) -> bool
     requires { ⌜ Linked (now block) n × (length (now marks) ≡ room) ⌝ }
-    ensures { λ r. ⌜ r ≡ any (sewn-in (now (block .entry)) (now (marks .entry))) (marked n (now (marks .entry))) ⌝ }
+    requires { ⌜ (darts ≤ room) × (darts ≤ length (now order)) × ((k : ℕ) → k < darts → getD (now order) k 0 < n) ⌝ }
+    ensures { λ r. ⌜ r ≡ any (sewn-in (now (block .entry)) (now (marks .entry))) (take darts (now (order .entry))) ⌝ }
 {
-    // None of the places below p is one.
-    let mut p = 0;
-    while p < n {
+    // None of the darts before i is.
+    let mut i = 0;
+    while i < darts {
+        let p = order[i];
         if sewn_at(block, n, marks, p) {
             return true;
         }
-        p += 1;
+        i += 1;
     }
     false
 }

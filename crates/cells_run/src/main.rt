@@ -175,10 +175,10 @@ fn cells_of(
     requires { ⌜ Linked (now block) n × (0 < n) × (length (now queue) ≡ room) × (now marks ≡ replicate room 0) × (length (now out) ≡ room) × (length (now starts) ≡ room) × (now seen ≡ replicate room 0) × (now numbers ≡ replicate room room) × (length (now firsts) ≡ room) × (now stamps ≡ replicate room 0) ⌝ }
 {
     let size = cells::walk::volume(block, n, 0, queue, marks);
-    let within = cells::sewn::sewn_within(block, n, marks);
-    let order = cells::order::message_order(block, n, marks, out, starts, seen);
+    let order = cells::order::message_order(block, n, size, marks, out, starts, seen);
     let darts = order.darts;
     let faces = order.faces;
+    let within = cells::sewn::sewn_within(block, n, marks, out, darts);
     let away = cells::sewn::count_sewn(block, n, marks, out, starts, darts, faces);
     let vertices = cells::vertex::number_vertices(block, n, out, darts, numbers, firsts);
     let once = cells::pairs::pairs_once(block, n, numbers, firsts, vertices, stamps);

@@ -1,6 +1,6 @@
 -- Questions 9 to 14 one after the other: what the code read so far, and the first no or the last yes that it gives.
 -- Each section adds the answer to one question. Assumes nothing.
-use mathlib.Core.Path.{_≡_, refl, sym, _∙_, ap, subst}
+use mathlib.Core.Path.{_≡_, refl, sym, _∙_, ap}
 use mathlib.Core.Bool.{Bool, true, false, not, _&&_}
 use mathlib.Core.List.{List}
 use Prim.Native.Nat.{ℕ, _+_, _≤_, _<_, _^_}
@@ -23,15 +23,15 @@ use Rattle.memory.specs.declared.record.Place.{Place}
 use Rattle.memory.specs.declared.lookup.Found.{Found}
 use Rattle.memory.specs.declared.lookup.Found.the-variants.{At, Nothing}
 use Rattle.memory.proofs.Lookups.{place-at, held-at, held-nothing}
-use Rattle.cells.specs.Places.{InOrder, Marked, Numbered, ends-once, marked, places-in, sewn-in, sewn-out, volume-of}
+use Rattle.cells.specs.Places.{InOrder, Marked, Numbered, ends-once, places-in, sewn-in, sewn-out, volume-of}
 use Rattle.cells.proofs.Sited.{Sited, count-in, darts-in, sited}
 use Rattle.cells.proofs.Serials.{volume-size}
 use Rattle.cells.proofs.SewnLaws.{question-12}
 use Rattle.cells.proofs.StartLaws.{in-order-few, question-14}
+use Rattle.cells.proofs.VolumeReady.{out-any}
 use Rattle.cells.proofs.VolumeArrays.{out-count, pairs-answer}
 use Rattle.theory.proofs.ImageLaws.{image-is, parts-of, ranges-of, Ranges}
 use Rattle.departure.specs.Asked.{Departs, faces-at}
-use Rattle.departure.specs.declared.Counts.{Counts}
 
 -- what a sound block's header says
 pub ranges-in : (m : List ℕ) → is-image rack m ≡ true → Ranges rack (block-in m)
@@ -82,20 +82,20 @@ module _ (m : List ℕ) (ok : is-image rack m ≡ true) (j s : ℕ) {right : Boo
         unfolding departure-checks
         first-11 h = alone _ (ask-yes is-9 (ask-yes is-10 (ask-no refl (lt-leb (length (volume-in (darts-in m) s)) 512 (omega (arith, size-is))) refl)))
 
-        module _ (few : size ≤ 512) {inside : Bool} (twelve : inside ≡ any (sewn-in m marks) (marked (count-in m) marks)) where
+        module _ (few : size ≤ 512) {out starts : List ℕ} {darts count : ℕ} (o : InOrder (faces-at m marks) out starts darts count)
+            {inside : Bool} (twelve : inside ≡ any (sewn-in m marks) (take darts out)) where
           is-11 : leb (length (volume-in (darts-in m) s)) 512 ≡ true
           is-11 = le-leb (length (volume-in (darts-in m) s)) 512 (omega (arith, size-is))
 
           is-12 : all (λ x. not (is-sewn-into (volume-in (darts-in m) s) (third-at (darts-in m) x))) (volume-in (darts-in m) s) ≡ not inside
           is-12 = ap (λ (y : ℕ). all (λ x. not (is-sewn-into (volume-in (darts-in m) y) (third-at (darts-in m) x))) (volume-in (darts-in m) y)) (sym here)
-              ∙ question-12 site (at .0) below mk ∙ ap not (sym twelve)
+              ∙ question-12 site (at .0) below mk ∙ ap not (sym (twelve ∙ out-any (site .linked) below mk o (sewn-in m marks)))
 
           pub first-12 : inside ≡ true → FirstNo m j s 12
           unfolding departure-checks
           first-12 h = alone _ (ask-yes is-9 (ask-yes is-10 (ask-yes is-11 (ask-no refl (is-12 ∙ ap not h) refl))))
 
-          module _ (none-inside : inside ≡ false) {out starts : List ℕ} {darts count : ℕ} (o : InOrder (faces-at m marks) out starts darts count)
-              {numbers firsts : List ℕ} {vs : ℕ} (nb : Numbered (column m 1) (column m 2) (take darts out) numbers firsts vs)
+          module _ (none-inside : inside ≡ false) {numbers firsts : List ℕ} {vs : ℕ} (nb : Numbered (column m 1) (column m 2) (take darts out) numbers firsts vs)
               {once : Bool} (thirteen : once ≡ ends-once (column m 1) (column m 2) numbers firsts vs) where
             is-13 : pairs-once (vertex-pairs (next-in (darts-in m)) (opposite-in (darts-in m)) (volume-in (darts-in m) s)) ≡ once
             is-13 = ap (λ (x : ℕ). pairs-once (vertex-pairs (next-in (darts-in m)) (opposite-in (darts-in m)) (volume-in (darts-in m) x))) (sym here)

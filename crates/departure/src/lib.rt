@@ -74,12 +74,12 @@ pub fn leaves(
     if Header::VOLUME < size {
         return Leaving::Refused(Refusal::VolumeTooLarge);
     }
-    if cells::sewn::sewn_within(block, n, marks) {
-        return Leaving::Refused(Refusal::SewnWithin);
-    }
-    let order = cells::order::message_order(block, n, marks, out, starts, seen);
+    let order = cells::order::message_order(block, n, size, marks, out, starts, seen);
     let darts = order.darts;
     let faces = order.faces;
+    if cells::sewn::sewn_within(block, n, marks, out, darts) {
+        return Leaving::Refused(Refusal::SewnWithin);
+    }
     let vertices = cells::vertex::number_vertices(block, n, out, darts, numbers, firsts);
     if !cells::pairs::pairs_once(block, n, numbers, firsts, vertices, stamps) {
         return Leaving::Refused(Refusal::VertexPairs);

@@ -1,7 +1,8 @@
 -- `cells::sewn::sewn_away` meets its contract, arm by arm. Assumes nothing.
 use Prim.Native.Nat.{ℕ, _%_}
 use mathlib.Core.Path.{sym, ap, _∙_}
-use Rattle.cells.proofs.StartLaws.{not-away, sewn-away}
+use Rattle.cells.proofs.SewnLaws.{not-sewn}
+use Rattle.cells.proofs.StartLaws.{sewn-away}
 use native.Mathlib.Omega.{arith}
 use borrow.Author.Needs.{needs}
 use Rattle.cells.proofs.sewn.sewn_away.Statement.{statement}
@@ -12,7 +13,7 @@ field-requires c κs = search needs
 
 returns : tie.Need-returns
 returns c =
-    not-away _ _ _ (c .before .field .ensures) (c .if1 .taken)
+    not-sewn _ _ _ (c .before .field .ensures) (c .if1 .taken)
 
 field-requires-2 : tie.Need-field-requires-2
 field-requires-2 c κs = search needs

@@ -1,50 +1,58 @@
--- `cells::sewn::sewn_within` meets its contract. The loop's invariant: no place below p is marked and sewn to a marked one.
--- The measure is what is left of the places. Assumes nothing.
+-- `cells::sewn::sewn_within` meets its contract. The loop's invariant: no dart before i is sewn to a marked one.
+-- The measure is what is left of the darts. Assumes nothing.
 use Prim.Native.Nat.{ℕ, _-_, _<_, _≤_}
 use mathlib.Core.Path.{_≡_, sym, _∙_}
-use mathlib.Core.Bool.{false, _&&_}
-use lib.Dec.{eqb}
+use mathlib.Core.Bool.{false}
 use lib.ListN.{getD}
 use Rattle.cells.specs.Places.{sewn-in}
-use Rattle.cells.proofs.SewnLaws.{some-marked, none-marked, none-more}
+use Rattle.cells.proofs.SewnLaws.{some-first, none-first, none-more}
 use native.Mathlib.Omega.{arith}
-use borrow.Author.Needs.{needs}
 use Rattle.cells.proofs.sewn.sewn_within.Statement.{statement}
 use Rattle.cells.proofs.sewn.sewn_within.Tie as tie
 
 abbrev Inv-loop : tie.InvT-loop
-Inv-loop block n marks p₀ p =
-    (p ≤ n) × ((k : ℕ) → k < p → (eqb (getD marks k 0) 1 && sewn-in block marks k) ≡ false)
+Inv-loop block n marks order darts i₀ i =
+    (i ≤ darts) × ((k : ℕ) → k < i → sewn-in block marks (getD order k 0) ≡ false)
 
 abbrev μ-loop : tie.MeasureT-loop
-μ-loop block n marks p₀ p =
-    n - p
+μ-loop block n marks order darts i₀ i =
+    darts - i
 
 loop-holds : tie.Need-loop-holds Inv-loop μ-loop
 loop-holds c =
     (omega arith, λ k h. absurd (omega arith))
 
+mul-p : tie.Need-mul-p Inv-loop μ-loop
+mul-p c =
+    omega (arith, c .loop-test .taken, c .before .before .before .before .before .pre .1 .0)
+
+shared-slice-read-p : tie.Need-shared-slice-read-p Inv-loop μ-loop
+shared-slice-read-p c =
+    omega (arith, c .before .loop-test .taken, c .before .before .before .before .before .before .pre .1 .1)
+
 sewn-at-requires : tie.Need-sewn-at-requires Inv-loop μ-loop
-sewn-at-requires c κs = search needs
+sewn-at-requires c κs =
+    (c .before .before .before .before .before .before .pre .0 .0, c .before .before .before .before .before .before .pre .0 .1, c .before .before .before .before .before .before .pre .1 .2 _ (c .before .loop-test .taken))
 
 returns : tie.Need-returns Inv-loop μ-loop
 returns c =
-    some-marked (sewn-in (c .before .before .before .before .before .before .args .block .now) (c .before .before .before .before .before .before .args .marks .now)) (c .before .before .before .before .before .before .args .marks .now) (c .before .before .before .before .before .before .args .n) (c .before .before .before .loop .p) (c .before .before .loop-test .taken) (sym (c .before .sewn-at .ensures) ∙ c .if1 .taken)
+    some-first (sewn-in (c .before .before .before .before .before .before .before .before .args .block .now) (c .before .before .before .before .before .before .before .before .args .marks .now)) (c .before .before .before .before .before .before .before .before .args .order .now) (c .before .before .before .before .before .before .before .before .args .darts) (c .before .before .before .before .loop .i) (c .before .before .before .loop-test .taken) (c .before .before .before .before .before .before .before .before .pre .1 .1) (sym (c .before .sewn-at .ensures) ∙ c .if1 .taken)
 
-add-p : tie.Need-add-p Inv-loop μ-loop
-add-p c = search needs
+add-i : tie.Need-add-i Inv-loop μ-loop
+add-i c =
+    omega (arith, c .before .before .before .loop-test .taken, c .before .before .before .before .before .before .before .before .pre .1 .0)
 
 loop-less : tie.Need-loop-less Inv-loop μ-loop
 loop-less c =
-    omega (arith, c .before .before .loop-test .taken)
+    omega (arith, c .before .before .before .loop-test .taken)
 
 loop-again : tie.Need-loop-again Inv-loop μ-loop
 loop-again c =
-    (omega (arith, c .before .before .loop-test .taken), none-more _ _ (c .before .before .before .loop .inv .1) (sym (c .before .sewn-at .ensures) ∙ c .if1 .left))
+    (omega (arith, c .before .before .before .loop-test .taken), none-more (λ k. sewn-in (c .before .before .before .before .before .before .before .before .args .block .now) (c .before .before .before .before .before .before .before .before .args .marks .now) (getD (c .before .before .before .before .before .before .before .before .args .order .now) k 0)) _ (c .before .before .before .before .loop .inv .1) (sym (c .before .sewn-at .ensures) ∙ c .if1 .left))
 
 returns-2 : tie.Need-returns-2 Inv-loop μ-loop
 returns-2 c =
-    none-marked (sewn-in (c .before .before .before .before .args .block .now) (c .before .before .before .before .args .marks .now)) (c .before .before .before .before .args .marks .now) (c .before .before .before .before .args .n) (λ k h. c .before .loop .inv .1 k (omega (arith, c .loop-test .left)))
+    none-first (sewn-in (c .before .before .before .before .before .args .block .now) (c .before .before .before .before .before .args .marks .now)) (c .before .before .before .before .before .args .order .now) (c .before .before .before .before .before .args .darts) (λ k h. c .before .loop .inv .1 k (omega (arith, c .loop-test .left))) (c .before .before .before .before .before .pre .1 .1)
 
 pub sewn-within-spec : {M : Type 1} → statement M
 sewn-within-spec =
@@ -53,9 +61,11 @@ sewn-within-spec =
     Inv-loop
     μ-loop
     loop-holds
+    mul-p
+    shared-slice-read-p
     sewn-at-requires
     returns
-    add-p
+    add-i
     loop-less
     loop-again
     returns-2)
