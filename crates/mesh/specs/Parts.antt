@@ -1,10 +1,12 @@
 -- A mesh in memory, part by part: the images of its blocks one after the other. Assumes nothing.
 use mathlib.Core.Bool.{Bool}
-use mathlib.Core.List.{List}
-use Prim.Native.Nat.{ℕ, _*_, _/_}
+use mathlib.Core.Path.{_≡_}
+use mathlib.Core.List.{List, [], _++_}
+use Prim.Native.Nat.{ℕ, zero, suc, _*_, _/_, _≤_, _<_}
 use lib.Dec.{eqb}
 use lib.ListN.{length, getD, take, drop}
-use Rattle.model.specs.Image.{words}
+use Rattle.model.specs.Lists.{tab}
+use Rattle.model.specs.Image.{room, words, column}
 
 -- how many blocks
 abbrev pub blocks : List ℕ → ℕ
@@ -17,3 +19,21 @@ part m i = take words (drop (i * words) m)
 -- block i has its place as its number
 abbrev pub number-test : List ℕ → ℕ → Bool
 number-test m i = eqb (getD m (i * words) 0) i
+
+-- no block has more darts than memory has room for
+abbrev pub Roomy : List ℕ → Type 0
+Roomy m = (i : ℕ) → i < blocks m → getD (part m i) 2 0 ≤ room
+
+-- a block's serials, by place
+abbrev pub serials-of : List ℕ → List ℕ
+serials-of b = tab (column b 0) (getD b 2 0)
+
+-- the serials of the blocks below i, one block after the other
+unfoldable pub gathered : List ℕ → ℕ → List ℕ
+gathered m zero = []
+gathered m (suc i) = gathered m i ++ serials-of (part m i)
+
+-- the words from `at` on up to r are new, those before stay
+pub record Put (at : ℕ) (new before after : List ℕ) (r : ℕ) : Type 0 where
+  pub len : length after ≡ length before
+  pub put : take r after ≡ take at before ++ new
