@@ -75,18 +75,18 @@ module _ {block out₀ : List ℕ} {at : ℕ} {out : List ℕ} {i : ℕ} (w : Pu
 
 -- a block that is a part of a mesh
 module _ (m : List ℕ) (i : ℕ) {b : List ℕ} (is : b ≡ part m i) (held : i < blocks m) (roomy : Roomy m) where
-  pub part-asked : (at : ℕ) {n : ℕ} → at + room ≤ n → (length b ≡ words) × (getD b 2 0 ≤ room) × (at + getD b 2 0 ≤ n)
-  part-asked at {n} h = let l : getD b 2 0 ≤ room = few in (ap length is ∙ part-length m i held, l, fits l h)
-    where
-      few : getD b 2 0 ≤ room
-      few = subst (λ (x : List ℕ). getD x 2 0 ≤ room) (sym is) (roomy i held)
+  pub part-small : (length b ≡ words) × (getD b 2 0 ≤ room)
+  part-small = (ap length is ∙ part-length m i held, subst (λ (x : List ℕ). getD x 2 0 ≤ room) (sym is) (roomy i held))
 
+  pub part-asked : (at : ℕ) {n : ℕ} → at + room ≤ n → (length b ≡ words) × (getD b 2 0 ≤ room) × (at + getD b 2 0 ≤ n)
+  part-asked at {n} h = (part-small .0, part-small .1, fits (part-small .1) h)
+    where
       fits : {k : ℕ} → k ≤ 4096 → at + 4096 ≤ n → at + k ≤ n
       fits a c = omega arith
 
   pub part-told : {at r : ℕ} {before after : List ℕ} → r ≡ at + getD b 2 0 → Put at (serials-of b) before after r
       → (r ≤ at + room) × Put at (serials-of (part m i)) before after r
-  part-told {at} {r} {before} {after} e p = (below (subst (λ (x : List ℕ). getD x 2 0 ≤ room) (sym is) (roomy i held)) e, subst (λ (x : List ℕ). Put at (serials-of x) before after r) is p)
+  part-told {at} {r} {before} {after} e p = (below (part-small .1) e, subst (λ (x : List ℕ). Put at (serials-of x) before after r) is p)
     where
       below : {k : ℕ} → k ≤ 4096 → r ≡ at + k → r ≤ at + 4096
       below a c = omega arith

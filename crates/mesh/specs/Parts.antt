@@ -1,11 +1,12 @@
 -- A mesh in memory, part by part: the images of its blocks one after the other. Assumes nothing.
-use mathlib.Core.Bool.{Bool}
+use mathlib.Core.Bool.{Bool, _&&_, _||_}
 use mathlib.Core.Path.{_≡_}
 use mathlib.Core.List.{List, [], _++_}
-use Prim.Native.Nat.{ℕ, zero, suc, _*_, _/_, _≤_, _<_}
-use lib.Dec.{eqb}
+use Prim.Native.Nat.{ℕ, zero, suc, _+_, _*_, _/_, _%_, _^_, _≤_, _<_}
+use lib.Dec.{eqb, ltb}
 use lib.ListN.{length, getD, take, drop}
 use Rattle.model.specs.Lists.{tab}
+use Rattle.columns.specs.Columns.{all-below}
 use Rattle.model.specs.Image.{room, words, column}
 
 -- how many blocks
@@ -37,3 +38,14 @@ gathered m (suc i) = gathered m i ++ serials-of (part m i)
 pub record Put (at : ℕ) (new before after : List ℕ) (r : ℕ) : Type 0 where
   pub len : length after ≡ length before
   pub put : take r after ≡ take at before ++ new
+
+-- 27, of a kind word and a link word: a label's maker is one of the blocks, and its number is below the maker's counter
+unfoldable pub made-test : List ℕ → ℕ → ℕ → Bool
+made-test m k a = ltb (k % 4) 2 || (ltb (a / 4096 / 2 ^ 32) (blocks m) && ltb (a / 4096 % 2 ^ 32) (getD m (a / 4096 / 2 ^ 32 * words + 1) 0))
+
+-- of all darts of a block
+abbrev pub made-darts : List ℕ → List ℕ → ℕ → Bool
+made-darts m b p = made-test m (column b 3 p) (column b 4 p)
+
+abbrev pub made-block : List ℕ → List ℕ → Bool
+made-block m b = all-below (made-darts m b) (getD b 2 0)
