@@ -1,0 +1,57 @@
+-- `mesh::all_sound` meets its contract.
+-- Assumes nothing.
+use Prim.Native.Nat.{_-_}
+use mathlib.Core.Path.{_∙_}
+use borrow.Author.Tests.{not-true, not-false}
+use Rattle.sound.proofs.Passes.{Going, going-none, going-no, going-more, going-end}
+use Rattle.mesh.proofs.Parts.{sound-test, sound-is}
+use borrow.Author.Needs.{needs}
+use Rattle.mesh.proofs.all_sound.Statement.{statement}
+use Rattle.mesh.proofs.all_sound.Tie as tie
+
+abbrev Inv-loop : tie.InvT-loop
+Inv-loop mesh k i₀ i =
+    Going (sound-test mesh) k i
+
+abbrev μ-loop : tie.MeasureT-loop
+μ-loop mesh k i₀ i =
+    k - i
+
+loop-holds : tie.Need-loop-holds Inv-loop μ-loop
+loop-holds c =
+    going-none (sound-test _) _
+
+sound-at-requires : tie.Need-sound-at-requires Inv-loop μ-loop
+sound-at-requires c κs = search needs
+
+returns : tie.Need-returns Inv-loop μ-loop
+returns c =
+    going-no (c .before .before .before .loop .inv) (c .before .before .loop-test .taken) (c .before .sound-at .ensures) (not-true _ (c .if1 .taken)) ∙ sound-is _
+
+add-i : tie.Need-add-i Inv-loop μ-loop
+add-i c = search needs
+
+loop-less : tie.Need-loop-less Inv-loop μ-loop
+loop-less c = search needs
+
+loop-again : tie.Need-loop-again Inv-loop μ-loop
+loop-again c =
+    going-more (c .before .before .before .loop .inv) (c .before .before .loop-test .taken) (c .before .sound-at .ensures) (not-false _ (c .if1 .left))
+
+returns-2 : tie.Need-returns-2 Inv-loop μ-loop
+returns-2 c =
+    going-end (c .before .loop .inv) (c .loop-test .left) ∙ sound-is _
+
+pub all-sound-spec : {M : Type 1} → statement M
+all-sound-spec =
+    tie.close
+    (tie.spec
+    Inv-loop
+    μ-loop
+    loop-holds
+    sound-at-requires
+    returns
+    add-i
+    loop-less
+    loop-again
+    returns-2)

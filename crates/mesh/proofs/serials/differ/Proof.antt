@@ -1,0 +1,50 @@
+-- `mesh::serials::differ` meets its contract.
+-- Assumes nothing.
+use lib.Seq.{length-take-le}
+use mathlib.Core.Path.{sym, _∙_}
+use native.Mathlib.Omega.{arith}
+use borrow.Author.Needs.{needs}
+use Rattle.mesh.proofs.serials.differ.Statement.{statement}
+use Rattle.mesh.proofs.serials.differ.Tie as tie
+
+slice-relend-prefix-distinct : tie.Need-slice-relend-prefix-distinct
+slice-relend-prefix-distinct c = search needs
+
+slice-aggregate-distinct : tie.Need-slice-aggregate-distinct
+slice-aggregate-distinct c =
+    sym (length-take-le _ _ (omega arith))
+
+slice-relend-prefix-distinct-2 : tie.Need-slice-relend-prefix-distinct-2
+slice-relend-prefix-distinct-2 c = search needs
+
+slice-aggregate-distinct-2 : tie.Need-slice-aggregate-distinct-2
+slice-aggregate-distinct-2 c =
+    sym (length-take-le _ _ (omega arith))
+
+distinct-requires : tie.Need-distinct-requires
+distinct-requires c κs =
+    let a = length-take-le (c .before .before .before .before .args .c) (c .before .before .before .before .args .keys .now) (omega arith) in
+    let b = length-take-le (c .before .before .before .before .args .c) (c .before .before .before .before .args .other .now) (omega arith) in
+    b ∙ sym a
+
+same-length : tie.Need-same-length
+same-length c = search needs
+
+same-length-2 : tie.Need-same-length-2
+same-length-2 c = search needs
+
+returns : tie.Need-returns
+returns c = search needs
+
+pub differ-spec : {M : Type 1} → statement M
+differ-spec =
+    tie.close
+    (tie.spec
+    slice-relend-prefix-distinct
+    slice-aggregate-distinct
+    slice-relend-prefix-distinct-2
+    slice-aggregate-distinct-2
+    distinct-requires
+    same-length
+    same-length-2
+    returns)

@@ -1,0 +1,51 @@
+-- `mesh::serials::put_part` meets its contract.
+-- Assumes nothing.
+use mathlib.Core.Path.{refl}
+use Rattle.mesh.proofs.Parts.{part-is}
+use Rattle.mesh.proofs.Gathers.{part-asked, part-told}
+use borrow.Author.Needs.{needs}
+use Rattle.mesh.proofs.serials.put_part.Statement.{statement}
+use Rattle.mesh.proofs.serials.put_part.Tie as tie
+
+mul-from : tie.Need-mul-from
+mul-from c = search needs
+
+add-to : tie.Need-add-to
+add-to c = search needs
+
+mul-put-serials : tie.Need-mul-put-serials
+mul-put-serials c = search needs
+
+sub-put-serials : tie.Need-sub-put-serials
+sub-put-serials c = search needs
+
+part-put-serials-start : tie.Need-part-put-serials-start
+part-put-serials-start c = search needs
+
+part-put-serials-end : tie.Need-part-put-serials-end
+part-put-serials-end c = search needs
+
+put-serials-requires : tie.Need-put-serials-requires
+put-serials-requires c κs =
+    part-asked (c .before .before .before .before .args .mesh .now) (c .before .before .before .before .args .i) (part-is (c .before .before .before .before .args .mesh .now) (c .before .before .before .before .args .i) _ refl) (c .before .before .before .before .pre .0) (c .before .before .before .before .pre .1) (c .before .before .before .before .args .at) (c .before .before .before .before .pre .2)
+
+same-length : tie.Need-same-length
+same-length c = search needs
+
+returns : tie.Need-returns
+returns c =
+    part-told (c .before .before .before .before .before .before .before .args .mesh .now) (c .before .before .before .before .before .before .before .args .i) (part-is (c .before .before .before .before .before .before .before .args .mesh .now) (c .before .before .before .before .before .before .before .args .i) _ refl) (c .before .before .before .before .before .before .before .pre .0) (c .before .before .before .before .before .before .before .pre .1) (c .before .before .put-serials .ensures .0) (c .before .before .put-serials .ensures .1)
+
+pub put-part-spec : {M : Type 1} → statement M
+put-part-spec =
+    tie.close
+    (tie.spec
+    mul-from
+    add-to
+    mul-put-serials
+    sub-put-serials
+    part-put-serials-start
+    part-put-serials-end
+    put-serials-requires
+    same-length
+    returns)

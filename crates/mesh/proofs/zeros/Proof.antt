@@ -1,0 +1,55 @@
+-- `mesh::zeros` meets its contract.
+-- Assumes nothing.
+use mathlib.Core.Path.{_∙_}
+use Prim.Native.Nat.{_-_}
+use lib.ListN.{length}
+use Rattle.mesh.proofs.Parts.{Tested, tested-none, tested-more, tested-end, zero-test, zero-read, zeros-is}
+use borrow.Author.Needs.{needs}
+use Rattle.mesh.proofs.zeros.Statement.{statement}
+use Rattle.mesh.proofs.zeros.Tie as tie
+
+abbrev Inv-loop : tie.InvT-loop
+Inv-loop scratch ok₀ i₀ ok i =
+    Tested (zero-test scratch) (length scratch) ok i
+
+abbrev μ-loop : tie.MeasureT-loop
+μ-loop scratch ok₀ i₀ ok i =
+    length scratch - i
+
+loop-holds : tie.Need-loop-holds Inv-loop μ-loop
+loop-holds c =
+    tested-none
+
+mul-ok : tie.Need-mul-ok Inv-loop μ-loop
+mul-ok c = search needs
+
+shared-slice-read-ok : tie.Need-shared-slice-read-ok Inv-loop μ-loop
+shared-slice-read-ok c = search needs
+
+add-i : tie.Need-add-i Inv-loop μ-loop
+add-i c = search needs
+
+loop-less : tie.Need-loop-less Inv-loop μ-loop
+loop-less c = search needs
+
+loop-again : tie.Need-loop-again Inv-loop μ-loop
+loop-again c =
+    tested-more (c .before .before .loop .inv) (c .before .loop-test .taken) (zero-read (c .before .before .before .args .scratch .now) (c .before .before .loop .i))
+
+returns : tie.Need-returns Inv-loop μ-loop
+returns c =
+    tested-end (c .before .loop .inv) (c .loop-test .left) ∙ zeros-is (c .before .before .args .scratch .now)
+
+pub zeros-spec : {M : Type 1} → statement M
+zeros-spec =
+    tie.close
+    (tie.spec
+    Inv-loop
+    μ-loop
+    loop-holds
+    mul-ok
+    shared-slice-read-ok
+    add-i
+    loop-less
+    loop-again
+    returns)

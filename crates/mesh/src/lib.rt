@@ -1,0 +1,98 @@
+// The questions at the door of a whole mesh: its blocks' images one after the other, and a scratch that is zero before and after.
+pub mod serials; // serials.rt: question 24, the serials of all blocks
+pub mod makers; // makers.rt: question 27, the makers of labels
+
+ghost use mathlib.Core.Path.{_≡_};
+ghost use Prim.Native.Nat.{_<_};
+ghost use lib.Dec.{eqb};
+ghost use lib.ListN.{length};
+ghost use mathlib.Core.List.{map};
+ghost use Rattle.model.specs.Lists.{all};
+ghost use Rattle.model.specs.Values.{rack};
+ghost use Rattle.model.specs.Sound.{blocks-right as right-blocks};
+ghost use Rattle.model.specs.Image.{block-in, is-image};
+ghost use Rattle.model.specs.Calls.{memories, mesh-lent as lent, scratch-entries};
+ghost use Rattle.columns.specs.Columns.{all-below};
+ghost use Rattle.mesh.specs.Parts.{blocks, part, number-test};
+
+// Whether all entries are zero.
+fn zeros(scratch: &[u64]) -> bool
+    ensures { λ r. ⌜ r ≡ all (eqb 0) (now (scratch .entry)) ⌝ }
+{
+    // The entries below i are zero, if ok.
+    let mut ok = true;
+    let mut i = 0;
+    while i < scratch.len() {
+        ok = ok & (scratch[i] == 0);
+        i += 1;
+    }
+    ok
+}
+
+// 1: whole images, and a scratch of 65,536 entries, all zero.
+pub fn mesh_lent(mesh: &[u64], scratch: &[u64]) -> bool
+    ensures { λ r. ⌜ r ≡ lent scratch-entries (now (mesh .entry)) (now (scratch .entry)) ⌝ }
+{
+    if mesh.len() / 32776 * 32776 != mesh.len() {
+        return false;
+    }
+    if scratch.len() != 65536 {
+        return false;
+    }
+    zeros(scratch)
+}
+
+// Whether block i is sound.
+fn sound_at(mesh: &[u64], i: usize) -> bool
+    requires { ⌜ i < blocks (now mesh) ⌝ }
+    ensures { λ r. ⌜ r ≡ is-image rack (part (now (mesh .entry)) i) ⌝ }
+{
+    let from = i * 32776;
+    let to = from + 32776;
+    sound::is_sound(&mesh[from..to])
+}
+
+// 2: is each part a sound block's image?
+pub fn all_sound(mesh: &[u64]) -> bool
+    ensures { λ r. ⌜ r ≡ all (λ b. is-image rack b) (memories (now (mesh .entry))) ⌝ }
+{
+    let k = mesh.len() / 32776;
+    // The blocks below i are sound.
+    let mut i = 0;
+    while i < k {
+        if !sound_at(mesh, i) {
+            return false;
+        }
+        i += 1;
+    }
+    true
+}
+
+// Whether each of k blocks has its place as its number.
+fn numbered(mesh: &[u64], k: usize) -> bool
+    requires { ⌜ k ≡ blocks (now mesh) ⌝ }
+    ensures { λ r. ⌜ r ≡ all-below (number-test (now (mesh .entry))) k ⌝ }
+{
+    // The blocks below i are numbered in order, if ok.
+    let mut ok = true;
+    let mut i = 0;
+    while i < k {
+        ok = ok & (mesh[i * 32776] == i as u64);
+        i += 1;
+    }
+    ok
+}
+
+// 23: one block to 16, numbered in order.
+pub fn blocks_right(mesh: &[u64]) -> bool
+    ensures { λ r. ⌜ r ≡ right-blocks (map block-in (memories (now (mesh .entry)))) ⌝ }
+{
+    let k = mesh.len() / 32776;
+    if k < 1 {
+        return false;
+    }
+    if 16 < k {
+        return false;
+    }
+    numbered(mesh, k)
+}

@@ -1,0 +1,74 @@
+// Question 27: each label's maker is one of the blocks, and its number is below the maker's counter.
+ghost use mathlib.Core.Path.{_≡_};
+ghost use mathlib.Core.Bool.{true};
+ghost use mathlib.Core.List.{map};
+ghost use Prim.Native.Nat.{_≤_, _<_};
+ghost use lib.ListN.{length, getD};
+ghost use Rattle.model.specs.Lists.{all};
+ghost use Rattle.model.specs.Values.{rack};
+ghost use Rattle.model.specs.Sound.{makers-right as right-makers};
+ghost use Rattle.model.specs.Image.{room, words, block-in, is-image};
+ghost use Rattle.model.specs.Calls.{memories};
+ghost use Rattle.mesh.specs.Parts.{blocks, part, Roomy, made-test, made-block};
+use memory::record;
+use memory::record::Place;
+
+// Of a kind word and a link word.
+fn made(mesh: &[u64], kind: u64, link: u64) -> bool
+    ensures { λ r. ⌜ r ≡ made-test (now (mesh .entry)) kind link ⌝ }
+{
+    if kind % 4 < 2 {
+        return true;
+    }
+    let maker = (link / 4096 / 4294967296) as usize;
+    if mesh.len() / 32776 <= maker {
+        return false;
+    }
+    link / 4096 % 4294967296 < mesh[maker * 32776 + 1]
+}
+
+// Of all darts of a block.
+fn made_darts(mesh: &[u64], block: &[u64]) -> bool
+    requires { ⌜ (length (now block) ≡ words) × (getD (now block) 2 0 ≤ room) ⌝ }
+    ensures { λ r. ⌜ r ≡ made-block (now (mesh .entry)) (now (block .entry)) ⌝ }
+{
+    let n = block[2] as usize;
+    // The darts below p pass.
+    let mut p = 0;
+    while p < n {
+        let kind = record::field(block, Place(p), 3);
+        let link = record::field(block, Place(p), 4);
+        if !made(mesh, kind, link) {
+            return false;
+        }
+        p += 1;
+    }
+    true
+}
+
+// Of block i.
+fn made_part(mesh: &[u64], i: usize) -> bool
+    requires { ⌜ (i < blocks (now mesh)) × Roomy (now mesh) ⌝ }
+    ensures { λ r. ⌜ r ≡ made-block (now (mesh .entry)) (part (now (mesh .entry)) i) ⌝ }
+{
+    let from = i * 32776;
+    let to = from + 32776;
+    made_darts(mesh, &mesh[from..to])
+}
+
+// 27: of all blocks; asked after 2.
+pub fn makers_right(mesh: &[u64]) -> bool
+    requires { ⌜ all (λ b. is-image rack b) (memories (now mesh)) ≡ true ⌝ }
+    ensures { λ r. ⌜ r ≡ right-makers (map block-in (memories (now (mesh .entry)))) ⌝ }
+{
+    let k = mesh.len() / 32776;
+    // The blocks below i pass.
+    let mut i = 0;
+    while i < k {
+        if !made_part(mesh, i) {
+            return false;
+        }
+        i += 1;
+    }
+    true
+}

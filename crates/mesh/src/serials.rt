@@ -1,0 +1,96 @@
+// Question 24: the serials of all blocks are gathered into the scratch, put in order and compared, and the scratch is cleared.
+ghost use mathlib.Core.Path.{_≡_};
+ghost use mathlib.Core.Bool.{true};
+ghost use mathlib.Core.List.{map};
+ghost use Prim.Native.Nat.{_+_, _≤_, _<_};
+ghost use lib.Dec.{eqb};
+ghost use lib.ListN.{length, getD, take, replicate};
+ghost use Rattle.model.specs.Lists.{all, distinct};
+ghost use Rattle.model.specs.Values.{rack};
+ghost use Rattle.model.specs.Sound.{blocks-right, serials-distinct as distinct-serials};
+ghost use Rattle.model.specs.Image.{room, words, block-in, is-image};
+ghost use Rattle.model.specs.Calls.{memories, mesh-lent, scratch-entries};
+ghost use Rattle.mesh.specs.Parts.{blocks, part, Roomy, serials-of, gathered, Put};
+use memory::record;
+use memory::record::Place;
+
+// Puts a block's serials from `at` on; where they end.
+fn put_serials(block: &[u64], out: &mut [u64], at: usize) -> usize
+    requires { ⌜ (length (now block) ≡ words) × (getD (now block) 2 0 ≤ room) × (at + getD (now block) 2 0 ≤ length (now out)) ⌝ }
+    ensures { λ r. ⌜ (r ≡ at + getD (now (block .entry)) 2 0) × Put at (serials-of (now (block .entry))) (now (out .entry)) (now (out .exit)) r ⌝ }
+{
+    let n = block[2] as usize;
+    // The serials of the darts below i are put.
+    let mut i = 0;
+    while i < n {
+        out[at + i] = record::field(block, Place(i), 0);
+        i += 1;
+    }
+    at + n
+}
+
+// The same of block i of a mesh.
+fn put_part(mesh: &[u64], i: usize, out: &mut [u64], at: usize) -> usize
+    requires { ⌜ (i < blocks (now mesh)) × Roomy (now mesh) × (at + room ≤ length (now out)) ⌝ }
+    ensures { λ r. ⌜ (r ≤ at + room) × Put at (serials-of (part (now (mesh .entry)) i)) (now (out .entry)) (now (out .exit)) r ⌝ }
+{
+    let from = i * 32776;
+    let to = from + 32776;
+    put_serials(&mesh[from..to], out, at)
+}
+
+// Puts the serials of all blocks, one block after the other; how many there are.
+fn gather(mesh: &[u64], out: &mut [u64]) -> usize
+    requires { ⌜ (blocks (now mesh) ≤ 16) × Roomy (now mesh) × (length (now out) ≡ 65536) ⌝ }
+    ensures { λ r. ⌜ (r ≤ 65536) × (length (now (out .exit)) ≡ 65536) × (take r (now (out .exit)) ≡ gathered (now (mesh .entry)) (blocks (now (mesh .entry)))) ⌝ }
+{
+    let k = mesh.len() / 32776;
+    // The first c entries are the serials of the blocks below i.
+    let mut c = 0;
+    let mut i = 0;
+    while i < k {
+        c = put_part(mesh, i, out, c);
+        i += 1;
+    }
+    c
+}
+
+// Whether no key stands twice among the first c. Sorts them.
+fn differ(keys: &mut [u64], other: &mut [u64], c: usize) -> bool
+    requires { ⌜ (c ≤ length (now keys)) × (c ≤ length (now other)) ⌝ }
+    ensures { λ r. ⌜ (r ≡ distinct (take c (now (keys .entry)))) × (length (now (keys .exit)) ≡ length (now (keys .entry))) ⌝ }
+{
+    sort::distinct(&mut keys[..c], &mut other[..c])
+}
+
+// The same, with room for the sort.
+fn apart(keys: &mut [u64], c: usize) -> bool
+    requires { ⌜ (c ≤ 65536) × (length (now keys) ≡ 65536) ⌝ }
+    ensures { λ r. ⌜ (r ≡ distinct (take c (now (keys .entry)))) × (length (now (keys .exit)) ≡ 65536) ⌝ }
+{
+    let mut other = [0u64; 65536];
+    differ(keys, &mut other, c)
+}
+
+// Sets all entries to zero.
+fn clear(scratch: &mut [u64])
+    ensures { λ _. ⌜ now (scratch .exit) ≡ replicate (length (now (scratch .entry))) 0 ⌝ }
+{
+    // The entries below i are zero.
+    let mut i = 0;
+    while i < scratch.len() {
+        scratch[i] = 0;
+        i += 1;
+    }
+}
+
+// 24: whether no two darts of the mesh have one serial; asked after 1, 2 and 23.
+pub fn serials_distinct(mesh: &[u64], scratch: &mut [u64]) -> bool
+    requires { ⌜ (mesh-lent scratch-entries (now mesh) (now scratch) ≡ true) × (all (λ b. is-image rack b) (memories (now mesh)) ≡ true) × (blocks-right (map block-in (memories (now mesh))) ≡ true) ⌝ }
+    ensures { λ r. ⌜ (r ≡ distinct-serials (map block-in (memories (now (mesh .entry))))) × (now (scratch .exit) ≡ now (scratch .entry)) ⌝ }
+{
+    let c = gather(mesh, scratch);
+    let ok = apart(scratch, c);
+    clear(scratch);
+    ok
+}
