@@ -1,0 +1,3 @@
+pub mod FaceStarts
+pub mod Reading
+pub mod IndexLaws

@@ -1,0 +1,3 @@
+// The parts of a transfer that arrives: question 20, and the third link of each of its darts.
+pub mod entries; // entries.rt: entries of the parts, read into arrays
+pub mod indices; // indices.rt: face starts, ascending, no face in two parts
