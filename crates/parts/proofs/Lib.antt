@@ -1,3 +1,5 @@
 pub mod FaceStarts
 pub mod Reading
 pub mod IndexLaws
+pub mod NumberLaws
+pub mod Writing

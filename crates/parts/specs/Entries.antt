@@ -24,6 +24,9 @@ index3 m = m .index
 abbrev pub index4 : Part4 → ℕ
 index4 m = m .index
 
+abbrev pub other4 : Part4 → ℕ
+other4 m = m .other
+
 -- two numbers of each of the entries that stand from a place on
 pub record EntriesRead {A : Type 0} (l : Layout A) (f g : A → ℕ) (s : List ℕ) (at count : ℕ) (a b : List ℕ) : Type 0 where
   pub first-size : length a ≡ most

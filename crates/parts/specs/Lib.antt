@@ -1,2 +1,4 @@
 pub mod Entries
 pub mod Indices
+pub mod Numbers
+pub mod Faces
