@@ -16,10 +16,11 @@ use Rattle.laws.proofs.Members.{map-append}
 use Rattle.groups.specs.Slices.{read-at, label-code}
 use Rattle.groups.specs.declared.Read.the-variants.{Value, Bad}
 use Rattle.memory.proofs.Labels.{code-label}
-use Rattle.inbox.specs.Inbox.{Took}
 use Rattle.inbox.proofs.Taking.{SoFar, so-far-start, so-far-more, so-far-stop, so-far-end}
 use Rattle.inbox.proofs.Passing.{no-label, took-label}
-use Rattle.parts.specs.Faces.{Over, Spans, Faced, labels-at, code-at, LabelsThere}
+use Rattle.parts.specs.Faces.{Over, Spans, Faced, code-at}
+use Rattle.parts.specs.Entries.{LabelsThere}
+use Rattle.parts.proofs.Reading.{labels-are}
 
 -- ONE FACE
 pub over-none : (at : ℕ) (f : ℕ → ℕ) (a : List ℕ) → length a ≡ 512 → Over at 0 f a a
@@ -59,10 +60,6 @@ pub faced-all : {z indices : List ℕ} {c e : ℕ} {f : ℕ → ℕ → ℕ} {a 
 faced-all {z} {indices} {c} {e} {f} {a} {a′} w h k = let q : e ≡ c = omega arith in rw q at w
 
 -- LABELS from the message
-pub labels-are : (n : ℕ) {s : List ℕ} {at past : ℕ} {ls : List Label} → Took (times n label) s at ls past → labels-at s at n ≡ ls
-unfolding times labels-at
-labels-are n t = rw (t .value) refl
-
 pub record Coding (s : List ℕ) (from n at : ℕ) (a a′ : List ℕ) (j p : ℕ) : Type 0 where
   pub le : j ≤ n
   pub items : List Label

@@ -1,14 +1,11 @@
 -- The third links of faces in arrays by message index. Assumes nothing.
 use mathlib.Core.Path.{_≡_}
 use mathlib.Core.Logic.{_⊎_}
-use mathlib.Core.List.{List, [], map}
-use mathlib.Core.Option.{Option, none, some}
+use mathlib.Core.List.{List, map}
 use Prim.Native.Nat.{ℕ, _+_, _*_, _≤_, _<_, _^_}
-use lib.ListN.{length, getD, drop}
-use Rattle.model.specs.Values.{Label, code}
-use Rattle.model.specs.Layouts.{Read, get-all, times}
-use Rattle.model.specs.Messages.{label}
-use Rattle.inbox.specs.Inbox.{Took}
+use lib.ListN.{length, getD}
+use Rattle.model.specs.Values.{code}
+use Rattle.parts.specs.Entries.{labels-at}
 
 -- n words written from index `at` on
 pub record Over (at n : ℕ) (f : ℕ → ℕ) (a a′ : List ℕ) : Type 0 where
@@ -32,19 +29,6 @@ pub record Faced (z indices : List ℕ) (c : ℕ) (f : ℕ → ℕ → ℕ) (a a
 abbrev pub numbered-code : ℕ → List ℕ → ℕ → ℕ → ℕ
 numbered-code from numbers e j = (from * 2 ^ 32 + getD numbers e 0) * 4096 + j
 
--- the labels that stand from a place on
-abbrev pub labels-or : Read (List Label) → List Label
-labels-or none = []
-labels-or (some r) = r .0
-
-unfoldable pub labels-at : List ℕ → ℕ → ℕ → List Label
-labels-at s at n = labels-or (get-all label n (drop at s))
-
--- the code of one of them
+-- the code of a label that stands from a place on
 abbrev pub code-at : List ℕ → ℕ → ℕ → ℕ → ℕ
 code-at s at n j = getD (map code (labels-at s at n)) j 0
-
--- there are n
-pub record LabelsThere (s : List ℕ) (at n : ℕ) : Type 0 where
-  pub past : ℕ
-  pub took : Took (times n label) s at (labels-at s at n) past

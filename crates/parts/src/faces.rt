@@ -1,13 +1,9 @@
 // The third links of the faces of parts 3 and 4, by message index.
 ghost use mathlib.Core.Path.{_≡_};
-ghost use mathlib.Core.List.{List};
 ghost use Prim.Native.Nat.{ℕ, _+_, _*_, _≤_, _<_, _^_};
 ghost use lib.ListN.{length, getD};
-ghost use Rattle.model.specs.Values.{Label};
-ghost use Rattle.model.specs.Layouts.{times};
-ghost use Rattle.model.specs.Messages.{label};
-ghost use Rattle.inbox.specs.Inbox.{Took};
-ghost use Rattle.parts.specs.Faces.{Over, Spans, Faced, numbered-code, code-at, LabelsThere};
+ghost use Rattle.parts.specs.Faces.{Over, Spans, Faced, numbered-code, code-at};
+ghost use Rattle.parts.specs.Entries.{LabelsThere};
 use groups::Read;
 
 // The same word from index `at` on, n times.
