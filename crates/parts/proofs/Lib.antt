@@ -3,3 +3,4 @@ pub mod Reading
 pub mod IndexLaws
 pub mod NumberLaws
 pub mod Writing
+pub mod FreshSteps

@@ -2,3 +2,4 @@ pub mod Entries
 pub mod Indices
 pub mod Numbers
 pub mod Faces
+pub mod Fresh
