@@ -4,3 +4,6 @@ pub mod IndexLaws
 pub mod NumberLaws
 pub mod Writing
 pub mod FreshSteps
+pub mod Ranges
+pub mod FaceLinks
+pub mod FreshLabels

@@ -3,3 +3,4 @@ pub mod Indices
 pub mod Numbers
 pub mod Faces
 pub mod Fresh
+pub mod Segments
