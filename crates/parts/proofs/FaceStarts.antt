@@ -19,11 +19,11 @@ use Rattle.inbox.specs.Inbox.{FacesIn, starts-of, sizes-of, is-hollow}
 use Rattle.arrival.proofs.SideLaws.{From, past-face, from-start, no-side}
 use Rattle.parts.specs.Indices.{starts-at}
 
-or-first : (a b : Bool) → (a || b) ≡ false → a ≡ false
+pub or-first : (a b : Bool) → (a || b) ≡ false → a ≡ false
 or-first true b e = e
 or-first false b e = refl
 
-or-second : (a b : Bool) → (a || b) ≡ false → b ≡ false
+pub or-second : (a b : Bool) → (a || b) ≡ false → b ≡ false
 or-second true b e = absurd (true≢false e)
 or-second false b e = e
 

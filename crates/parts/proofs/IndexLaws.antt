@@ -89,7 +89,7 @@ pub record Marks (marks l : List ℕ) : Type 0 where
 pub marks-none : (marks : List ℕ) → marks ≡ replicate 512 0 → Marks marks []
 marks-none marks e = record { tells = λ q. eq-eqb (getD marks q 0) 0 (ap (λ (l : List ℕ). getD l q 0) e ∙ getD-zeros 512 q) }
 
-mem-append : (x : ℕ) (l r : List ℕ) → mem x (l ++ r) ≡ (mem x l || mem x r)
+pub mem-append : (x : ℕ) (l r : List ℕ) → mem x (l ++ r) ≡ (mem x l || mem x r)
 mem-append x [] r = refl
 mem-append x (y ∷ l) r = ap (λ (c : Bool). eqb x y || c) (mem-append x l r) ∙ assoc (eqb x y) (mem x l) (mem x r)
   where

@@ -7,3 +7,5 @@ pub mod FreshSteps
 pub mod Ranges
 pub mod FaceLinks
 pub mod FreshLabels
+pub mod Assembled
+pub mod CriticalLaws

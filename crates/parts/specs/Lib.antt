@@ -4,3 +4,4 @@ pub mod Numbers
 pub mod Faces
 pub mod Fresh
 pub mod Segments
+pub mod Critical

@@ -4,3 +4,4 @@ pub mod indices; // indices.rt: face starts, ascending, no face in two parts
 pub mod numbers; // numbers.rt: part 3 numbers, part 4 blocks
 pub mod faces; // faces.rt: the third links of the faces of parts 3 and 4
 pub mod fresh; // fresh.rt: the labels of parts 3 and 4 are new
+pub mod critical; // critical.rt: question 20 but for the faces of part 2
