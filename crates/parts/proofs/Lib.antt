@@ -9,3 +9,4 @@ pub mod FaceLinks
 pub mod FreshLabels
 pub mod Assembled
 pub mod CriticalLaws
+pub mod Locating

@@ -5,3 +5,4 @@ pub mod Faces
 pub mod Fresh
 pub mod Segments
 pub mod Critical
+pub mod Locate
