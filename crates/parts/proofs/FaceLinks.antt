@@ -35,7 +35,7 @@ module _ {A : Type 0} (key : A → ℕ) where
       (λ t. absurd (Option·none-ne-some _ (sym e ∙ ap (λ (c : Bool). cond c (some a) (find key y l)) t)))
       (λ t. rw t (find-right y l r (sym (ap (λ (c : Bool). cond c (some a) (find key y l)) t) ∙ e)))
 
-  find-first : (f : ℕ → A) (n p y : ℕ) → p < n → key (f p) ≡ y → ((i : ℕ) → i < p → key (f i) ≡ y → ⊥) → find key y (tab f n) ≡ some (f p)
+  pub find-first : (f : ℕ → A) (n p y : ℕ) → p < n → key (f p) ≡ y → ((i : ℕ) → i < p → key (f i) ≡ y → ⊥) → find key y (tab f n) ≡ some (f p)
   find-first f zero p y h e u = absurd (omega arith)
   find-first f (suc n) zero y h e u = rw (eq-eqb y (key (f 0)) (sym e)) refl
   find-first f (suc n) (suc p) y h e u = rw (ne-eqb y (key (f 0)) (λ q. u 0 (omega arith) (sym q))) (find-first (λ i. f (suc i)) n p y (omega arith) e (λ i l. u (suc i) (omega arith)))

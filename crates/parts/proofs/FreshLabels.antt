@@ -17,7 +17,7 @@ use Rattle.model.specs.Messages.{Transfer}
 use Rattle.model.specs.Departure.{Link}
 use Rattle.model.specs.Arrival.{critical-links, label-new, labels-new}
 use Rattle.laws.proofs.Tests.{by-cases, and-left, and-right, and-intro, lt-or-ge, eq-or-ne}
-use Rattle.laws.proofs.Members.{In, all-in, all-from, all-cong, all-map, map-append, map-map, map-cong, append-in, in-append-left, in-append-right, distinct-append, distinct-left, distinct-right, distinct-apart}
+use Rattle.laws.proofs.Members.{In, in-there, all-in, all-from, all-cong, all-map, map-append, map-map, map-cong, append-in, in-append-left, in-append-right, distinct-append, distinct-left, distinct-right, distinct-apart}
 use Rattle.laws.proofs.Maps.{map-self}
 use Rattle.laws.proofs.Tables.{tab-all, all-tab, map-tab, mem-place, place-mem, mem-none}
 use Rattle.memory.proofs.Labels.{code-label}
@@ -112,12 +112,8 @@ module _ {b z : List ℕ} (links : List ℕ) {k : ℕ} (segs : Segments b z k) w
   faces-in [] t v h = absurd (true≢false (sym h))
   faces-in (a ∷ l) t v h = ⊎-elim
       (λ (i : In v (face-codes a)). let w = face-in v a (and-left (starts-at b k a) _ t) i in (w .0, w .1, ap (λ (c : Bool). c || mem (getD b (w .0) 0) l) (eq-eqb (getD b (w .0) 0) a (w .2)), w .3))
-      (λ (i : In v (concat-map face-codes l)). let w = faces-in l (and-right (starts-at b k a) _ t) v i in (w .0, w .1, or-true (eqb (getD b (w .0) 0) a) (w .2), w .3))
+      (λ (i : In v (concat-map face-codes l)). let w = faces-in l (and-right (starts-at b k a) _ t) v i in (w .0, w .1, in-there (getD b (w .0) 0) a l (w .2), w .3))
       (append-in v (face-codes a) (concat-map face-codes l) h)
-    where
-      or-true : (c : Bool) {d : Bool} → d ≡ true → (c || d) ≡ true
-      or-true true e = refl
-      or-true false e = e
 
   abbrev Apart : List ℕ → Type 0
   Apart l = (q r : ℕ) → q < k → r < k → In (getD b q 0) l → In (getD b r 0) l → getD links q 0 ≡ getD links r 0 → q ≡ r
@@ -153,11 +149,7 @@ module _ {b z : List ℕ} (links : List ℕ) {k : ℕ} (segs : Segments b z k) w
       start = eqb-true (getD b a 0) a (and-right (ltb a k) _ (and-left (starts-at b k a) _ t))
 
       later : (y : ℕ) → In y l → In y (a ∷ l)
-      later y i = or-true (eqb y a) i
-        where
-          or-true : (c : Bool) {d : Bool} → d ≡ true → (c || d) ≡ true
-          or-true true e = refl
-          or-true false e = e
+      later y i = in-there y a l i
 
       first : (y : ℕ) → y ≡ a → In y (a ∷ l)
       first y e = ap (λ (c : Bool). c || mem y l) (eq-eqb y a e)
@@ -205,13 +197,9 @@ module _ (s : ℕ → ℕ) (x : List ℕ) {b z kinds links : List ℕ} {k : ℕ}
   labels-told (i ∷ m) t h =
       collect-append (face-links s x z kinds links i) (concat-map (face-links s x z kinds links) m)
       ∙ two (collect-tab (λ j. link-of s x kinds links (i + j)) (λ j. label-in (getD links (i + j) 0)) (getD z i 0) lab ∙ sym (map-tab label-in (λ j. getD links (i + j) 0) (getD z i 0)))
-      (labels-told m (and-right (starts-at b k i) _ t) (λ j u. h j (or-true (eqb j i) u)))
+      (labels-told m (and-right (starts-at b k i) _ t) (λ j u. h j (in-there j i m u)))
       ∙ sym (map-append label-in (face-codes links (w .segs) i) (concat-map (face-codes links (w .segs)) m))
     where
-      or-true : (c : Bool) {d : Bool} → d ≡ true → (c || d) ≡ true
-      or-true true e = refl
-      or-true false e = e
-
       two : {p q r u : List Label} → p ≡ q → r ≡ u → p ++ r ≡ q ++ u
       two p q = rw (p, q) refl
 

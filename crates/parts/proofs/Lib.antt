@@ -10,3 +10,4 @@ pub mod FreshLabels
 pub mod Assembled
 pub mod CriticalLaws
 pub mod Locating
+pub mod LabelledDarts
