@@ -25,6 +25,7 @@ use Rattle.groups.proofs.Ends.{then-some}
 use Rattle.groups.proofs.Labels.{same-value}
 use Rattle.inbox.specs.Inbox.{Took}
 use Rattle.inbox.specs.declared.message.Tail.{Tail}
+use Rattle.cells.proofs.Paths.{mem-append}
 use Rattle.arrival.specs.Sides.{Segments}
 use Rattle.arrival.proofs.SegmentLaws.{segments}
 use Rattle.parts.specs.Entries.{EntriesRead, Part4Read, entry-at, labels-at, LabelsThere, code2, index2, number3, index3, index4, other4}
@@ -34,7 +35,7 @@ use Rattle.parts.specs.Faces.{Spans, Faced, numbered-code, code-at}
 use Rattle.parts.specs.Segments.{face-links}
 use Rattle.parts.specs.Critical.{few-entries, entries-fit, Arrives, rest-right}
 use Rattle.parts.proofs.FaceStarts.{or-first, or-second, face-is}
-use Rattle.parts.proofs.IndexLaws.{mem-append, front-tab, indices-are, indices-few}
+use Rattle.parts.proofs.IndexLaws.{front-tab, indices-are, indices-few}
 use Rattle.parts.proofs.NumberLaws.{consecutive-is, neither-is}
 use Rattle.parts.proofs.Ranges.{took-back, took-small, took-count, took-numbers}
 use Rattle.parts.proofs.FaceLinks.{part3-is, part4-is, critical-are}

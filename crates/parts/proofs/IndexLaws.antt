@@ -17,6 +17,7 @@ use Rattle.laws.proofs.Lists.{getD-zeros}
 use Rattle.laws.proofs.Tests.{by-cases, and-left, and-right, and-intro, lt-or-ge, eq-or-ne, last-or-below}
 use Rattle.laws.proofs.Members.{In, all-in, all-from, all-cong, append-in, in-append-left, in-append-right, distinct-append, distinct-left, distinct-apart, ascending-distinct}
 use Rattle.laws.proofs.Tables.{tab-all, all-tab, mem-place, place-mem, tab-ascending, ascending-tab}
+use Rattle.cells.proofs.Paths.{mem-append}
 use Rattle.cells.proofs.FaceLaws.{distinct-few}
 use Rattle.columns.proofs.Below.{same-test}
 use Rattle.theory.proofs.ImageLaws.{tab-list}
@@ -88,14 +89,6 @@ pub record Marks (marks l : List ℕ) : Type 0 where
 
 pub marks-none : (marks : List ℕ) → marks ≡ replicate 512 0 → Marks marks []
 marks-none marks e = record { tells = λ q. eq-eqb (getD marks q 0) 0 (ap (λ (l : List ℕ). getD l q 0) e ∙ getD-zeros 512 q) }
-
-pub mem-append : (x : ℕ) (l r : List ℕ) → mem x (l ++ r) ≡ (mem x l || mem x r)
-mem-append x [] r = refl
-mem-append x (y ∷ l) r = ap (λ (c : Bool). eqb x y || c) (mem-append x l r) ∙ assoc (eqb x y) (mem x l) (mem x r)
-  where
-    assoc : (a b c : Bool) → (a || (b || c)) ≡ ((a || b) || c)
-    assoc true b c = refl
-    assoc false b c = refl
 
 pub marks-more : {marks marks′ l m : List ℕ} → Marks marks l → MarkedBy m marks marks′ → Marks marks′ (l ++ m)
 marks-more {marks} {marks′} {l} {m} w d = record { tells = λ q. ap (λ (c : ℕ). eqb c 0) (d .each q) ∙ go (mem q m) (mem q l) (getD marks q 0) (w .tells q) ∙ ap not (sym (mem-append q l m)) }

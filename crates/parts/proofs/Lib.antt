@@ -11,3 +11,4 @@ pub mod Assembled
 pub mod CriticalLaws
 pub mod Locating
 pub mod LabelledDarts
+pub mod Backwards
