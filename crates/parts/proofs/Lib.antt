@@ -12,3 +12,4 @@ pub mod CriticalLaws
 pub mod Locating
 pub mod LabelledDarts
 pub mod Backwards
+pub mod Meeting

@@ -6,3 +6,4 @@ pub mod Fresh
 pub mod Segments
 pub mod Critical
 pub mod Locate
+pub mod Meets
