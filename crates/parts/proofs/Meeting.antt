@@ -1,4 +1,7 @@
 -- The model's test of an entry of part 2, by places. Assumes nothing.
+use Rattle.memory.proofs.Points.{point-patterns, point-finite}
+use Rattle.memory.specs.Point.{point-of, patterns, FinitePoint, FiniteAt}
+use Rattle.memory.specs.declared.point.Point.{Point}
 use mathlib.Core.Path.{_≡_, refl, sym, _∙_, ap}
 use mathlib.Core.Bool.{Bool, true, false, _&&_}
 use mathlib.Core.List.{List, _∷_}
@@ -70,3 +73,17 @@ module _ (m d : List ℕ) (t : Transfer) (ok : is-image rack m ≡ true) (new-at
           ∙ ap (all (λ p. points-meet (darts-in m) t (p .0) (p .1))) (zip-tab (λ j. column d 0 (at j)) (λ j. column m 0 (iter (column m 1) (size - j) y)) n)
           ∙ all-index (λ (p : ℕ × ℕ). points-meet (darts-in m) t (p .0) (p .1)) (λ j. (column d 0 (at j), column m 0 (iter (column m 1) (size - j) y))) n
           ∙ all-same _ _ n (λ j h. meet-is (at j) (iter (column m 1) (size - j) y) (below j h) (steps-below (size - j) y hy))
+
+-- points by value
+pub points-told : (a b : List ℕ) (p q : ℕ) → FiniteAt a p → FiniteAt b q → {x y : Point} {r : Bool} → x ≡ point-of (column a 5 p) (column a 6 p) (column a 7 p) → y ≡ point-of (column b 5 q) (column b 6 q) (column b 7 q)
+    → r ≡ same-point (patterns x) (patterns y) → r ≡ same-point (dart-in a p .point) (dart-in b q .point)
+points-told a b p q fp fq ex ey er = er ∙ rw (ex, ey, point-patterns (column a 5 p) (column a 6 p) (column a 7 p) (fp .on-x) (fp .on-y) (fp .on-z), point-patterns (column b 5 q) (column b 6 q) (column b 7 q) (fq .on-x) (fq .on-y) (fq .on-z)) refl
+
+pub finite-told : (a : List ℕ) (p : ℕ) → FiniteAt a p → {x : Point} → x ≡ point-of (column a 5 p) (column a 6 p) (column a 7 p) → FinitePoint x
+finite-told a p f e = rw e (point-finite (column a 5 p) (column a 6 p) (column a 7 p) (f .on-x) (f .on-y) (f .on-z))
+
+pub meet-told : (m d : List ℕ) (p w : ℕ) {v q : ℕ} {a b : Bool} → v ≡ column m 1 w → q ≡ column d 1 p → a ≡ same-point (dart-in d p .point) (dart-in m v .point) → b ≡ same-point (dart-in m w .point) (dart-in d q .point) → (a && b) ≡ meet-at m d p w
+meet-told m d p w {v} {q} {a} {b} ev eq ea eb = two (ea ∙ ap (λ (y : ℕ). same-point (dart-in d p .point) (dart-in m y .point)) ev) (eb ∙ ap (λ (y : ℕ). same-point (dart-in m w .point) (dart-in d y .point)) eq)
+  where
+    two : {a b c e : Bool} → a ≡ c → b ≡ e → (a && b) ≡ (c && e)
+    two p q = rw (p, q) refl
