@@ -1,0 +1,15 @@
+pub mod FaceStarts
+pub mod Reading
+pub mod IndexLaws
+pub mod NumberLaws
+pub mod Writing
+pub mod FreshSteps
+pub mod Ranges
+pub mod FaceLinks
+pub mod FreshLabels
+pub mod Assembled
+pub mod CriticalLaws
+pub mod Locating
+pub mod LabelledDarts
+pub mod Backwards
+pub mod Meeting

@@ -1,0 +1,79 @@
+-- The labels of part 2 found in the block, dart by dart. Assumes nothing.
+use mathlib.Core.Path.{_≡_, refl, sym, _∙_, ap, subst}
+use mathlib.Core.List.{List}
+use mathlib.Core.Logic.{⊎-elim, inl, inr}
+use Prim.Native.Nat.{ℕ, _+_, _≤_, _<_}
+use native.Mathlib.Omega.{arith}
+use lib.ListN.{length, getD, set, replicate, length-set, length-replicate, getD-replicate}
+use lib.Seq.{getD-set-same, getD-set-other}
+use Rattle.model.specs.Image.{column}
+use Rattle.laws.specs.Order.{Ascending}
+use Rattle.laws.proofs.Tests.{lt-or-ge, eq-or-ne, last-or-below}
+use Rattle.laws.proofs.Tables.{one-place}
+use Rattle.memory.specs.Lookup.{place-in}
+use Rattle.memory.specs.declared.record.Place.{Place}
+use Rattle.memory.specs.declared.lookup.Found.the-variants.{At, Nothing}
+use Rattle.memory.proofs.Lookups.{place-at, place-nothing}
+use Rattle.ranking.specs.Ranks.{value-at, index-at, Ranked}
+use Rattle.parts.specs.Locate.{none-there, Noted, LocatedAt, Located}
+
+-- ONE DART
+module _ (m keys : List ℕ) (c p : ℕ) (a : List ℕ) (len : length a ≡ 512) where
+  pub noted-free : column m 3 p < 2 → Noted m keys c p a a
+  noted-free h = record { size = len; hit = λ k. absurd (omega arith); other = λ e k. refl }
+
+  pub noted-none : place-in (value-at keys) c (column m 4 p) ≡ Nothing → Noted m keys c p a a
+  noted-none e = record { size = len; hit = λ k r h q. absurd (place-nothing (value-at keys) c (column m 4 p) e r h q); other = λ d k. refl }
+
+  pub noted-found : {r : Place} → 2 ≤ column m 3 p → Ascending c (value-at keys) → c ≤ 512 → ((r : ℕ) → r < c → index-at keys r < c) → place-in (value-at keys) c (column m 4 p) ≡ At r → Noted m keys c p a (set a (index-at keys (r .0)) p)
+  noted-found {r} h up few below e =
+      let w = place-at (value-at keys) c (column m 4 p) e in
+      record {
+        size = simp length-set len;
+        hit = λ k s l q. let same : s ≡ r .0 = one-place up l (w .0) (q ∙ sym (w .1)) in
+            ap (λ (i : ℕ). getD (set a (index-at keys (r .0)) p) (index-at keys i) 0) same ∙ getD-set-same a (index-at keys (r .0)) p 0 (let b = below (r .0) (w .0) in omega arith);
+        other = λ d k. getD-set-other a (index-at keys (r .0)) d p 0 (λ q. k (omega arith) (r .0) (w .0) (w .1) (sym q));
+      }
+
+pub found-below : (keys : List ℕ) (c x : ℕ) {r : Place} → place-in (value-at keys) c x ≡ At r → r .0 < c
+found-below keys c x e = place-at (value-at keys) c x e .0
+
+-- ALL
+pub located-none : (m codes : List ℕ) (c : ℕ) {a : List ℕ} → c ≤ 512 → a ≡ replicate 512 none-there → Located m codes c 0 a
+located-none m codes c {a} few e = record {
+  size = ap length e ∙ length-replicate 512 none-there;
+  each = λ d h. inr (ap (λ (l : List ℕ). getD l d 0) e ∙ getD-replicate 512 d none-there 0 (omega arith), λ p l. absurd (omega arith));
+}
+
+pub located-more : {m codes keys ranks : List ℕ} {c p : ℕ} {a a′ : List ℕ} → Ranked codes c keys ranks → Located m codes c p a → Noted m keys c p a a′ → Located m codes c (p + 1) a′
+located-more {m} {codes} {keys} {ranks} {c} {p} {a} {a′} w l n = record { size = n .size; each = λ e h. go e h }
+  where
+    value-of : (e : ℕ) → e < c → value-at keys (getD ranks e 0) ≡ getD codes e 0
+    value-of e h = w .value-is (getD ranks e 0) (w .rank-below e h) ∙ ap (λ (i : ℕ). getD codes i 0) (w .index-rank e h)
+
+    miss : (e : ℕ) → e < c → (1 < column m 3 p → column m 4 p ≡ getD codes e 0 → ⊥) → LocatedAt m (getD codes e 0) (p + 1) (getD a′ e 0)
+    miss e h never = subst (LocatedAt m (getD codes e 0) (p + 1)) (sym (n .other e (λ k r u q d. never k (sym q ∙ w .value-is r u ∙ ap (λ (i : ℕ). getD codes i 0) d))))
+        (⊎-elim
+        (λ (o : (getD a e 0 < p) × (1 < column m 3 (getD a e 0)) × (column m 4 (getD a e 0) ≡ getD codes e 0)). inl (let b = o .0 in omega arith, o .1, o .2))
+        (λ (o : (getD a e 0 ≡ none-there) × ((q : ℕ) → q < p → 1 < column m 3 q → column m 4 q ≡ getD codes e 0 → ⊥)). inr (
+          o .0,
+          λ q u k d. ⊎-elim
+              (λ (s : q ≡ p). never (subst (λ (i : ℕ). 1 < column m 3 i) s k) (sym (ap (column m 4) s) ∙ d))
+              (λ (s : q < p). o .1 q s k d)
+              (last-or-below u),
+        ))
+        (l .each e h))
+
+    go : (e : ℕ) → e < c → LocatedAt m (getD codes e 0) (p + 1) (getD a′ e 0)
+    go e h = ⊎-elim
+        (λ (k : 1 < column m 3 p). ⊎-elim
+        (λ (d : column m 4 p ≡ getD codes e 0).
+        let at : getD a′ e 0 ≡ p = ap (λ (i : ℕ). getD a′ i 0) (sym (w .index-rank e h)) ∙ n .hit k (getD ranks e 0) (w .rank-below e h) (value-of e h ∙ sym d) in
+        subst (LocatedAt m (getD codes e 0) (p + 1)) (sym at) (inl (omega arith, k, d)))
+        (λ (d : column m 4 p ≡ getD codes e 0 → ⊥). miss e h (λ k q. d q))
+        (eq-or-ne (column m 4 p) (getD codes e 0)))
+        (λ (k : column m 3 p ≤ 1). miss e h (λ u q. omega arith))
+        (lt-or-ge 1 (column m 3 p))
+
+pub located-all : {m codes : List ℕ} {c p n : ℕ} {a : List ℕ} → Located m codes c p a → p ≤ n → n ≤ p → Located m codes c n a
+located-all {m} {codes} {c} {p} {n} {a} w h k = let e : p ≡ n = omega arith in rw e at w

@@ -1,0 +1,135 @@
+-- `parts::entries::read_part3` meets its contract.
+-- Assumes nothing.
+use Prim.Native.Nat.{_-_}
+use mathlib.Core.Path.{refl, sym, _∙_}
+use Rattle.model.specs.Messages.{part3}
+use Rattle.parts.specs.Entries.{number3, index3}
+use Rattle.parts.proofs.Reading.{Reading, reading-start, reading-more, reading-bad, reading-end, no-part3, half-part3, took-part3}
+use native.Mathlib.Omega.{arith}
+use borrow.Author.Needs.{needs}
+use Rattle.parts.proofs.entries.read_part3.Statement.{statement}
+use Rattle.parts.proofs.entries.read_part3.Tie as tie
+
+abbrev Inv-loop : tie.InvT-loop
+Inv-loop s at count numbers₀ indices₀ i₀ p₀ numbers indices i p =
+    Reading part3 number3 index3 s at count numbers indices i p
+
+abbrev μ-loop : tie.MeasureT-loop
+μ-loop s at count numbers₀ indices₀ i₀ p₀ numbers indices i p =
+    count - i
+
+loop-holds : tie.Need-loop-holds Inv-loop μ-loop
+loop-holds c =
+    reading-start part3 number3 index3 _ _ _ _ (c .before .before .before .pre .0) (c .before .before .before .pre .2) (c .before .before .before .pre .3)
+
+read-group-requires : tie.Need-read-group-requires Inv-loop μ-loop
+read-group-requires c κs = search needs
+
+enum-known-number : tie.Need-enum-known-number Inv-loop μ-loop
+enum-known-number c = search needs
+
+enum-told : tie.Need-enum-told Inv-loop μ-loop
+enum-told c = search needs
+
+same-length : tie.Need-same-length Inv-loop μ-loop
+same-length c =
+    c .before .before .before .before .loop .inv .first-size ∙ sym (c .before .before .before .before .before .before .before .before .pre .2)
+
+same-length-2 : tie.Need-same-length-2 Inv-loop μ-loop
+same-length-2 c =
+    c .before .before .before .before .loop .inv .second-size ∙ sym (c .before .before .before .before .before .before .before .before .pre .3)
+
+returns : tie.Need-returns Inv-loop μ-loop
+returns c =
+    reading-bad part3 number3 index3 (c .before .before .before .before .loop .inv) (c .before .before .before .loop-test .taken) (no-part3 _ _ (sym (c .enum-told .given .1) ∙ c .before .before .read-group .ensures))
+
+read-group-requires-2 : tie.Need-read-group-requires-2 Inv-loop μ-loop
+read-group-requires-2 c κs = search needs
+
+enum-known-index : tie.Need-enum-known-index Inv-loop μ-loop
+enum-known-index c = search needs
+
+enum-told-2 : tie.Need-enum-told-2 Inv-loop μ-loop
+enum-told-2 c = search needs
+
+same-length-3 : tie.Need-same-length-3 Inv-loop μ-loop
+same-length-3 c =
+    c .before .before .before .before .before .before .before .before .loop .inv .first-size ∙ sym (c .before .before .before .before .before .before .before .before .before .before .before .before .pre .2)
+
+same-length-4 : tie.Need-same-length-4 Inv-loop μ-loop
+same-length-4 c =
+    c .before .before .before .before .before .before .before .before .loop .inv .second-size ∙ sym (c .before .before .before .before .before .before .before .before .before .before .before .before .pre .3)
+
+returns-2 : tie.Need-returns-2 Inv-loop μ-loop
+returns-2 c =
+    reading-bad part3 number3 index3 (c .before .before .before .before .before .before .before .before .loop .inv) (c .before .before .before .before .before .before .before .loop-test .taken) (half-part3 _ _ _ _ (sym (c .before .before .before .before .number .given .1) ∙ c .before .before .before .before .before .before .read-group .ensures) (sym (c .enum-told2 .given .1) ∙ c .before .before .read-group2 .ensures))
+
+mul-numbers : tie.Need-mul-numbers Inv-loop μ-loop
+mul-numbers c =
+    omega (arith, c .before .before .before .before .before .before .before .before .loop-test .taken, c .before .before .before .before .before .before .before .before .before .before .before .before .before .pre .1)
+
+slice-write-numbers : tie.Need-slice-write-numbers Inv-loop μ-loop
+slice-write-numbers c =
+    omega (arith, c .before .before .before .before .before .before .before .before .loop-test .taken, c .before .before .before .before .before .before .before .before .before .before .before .before .before .pre .1, c .before .before .before .before .before .before .before .before .before .loop .inv .first-size)
+
+mul-indices : tie.Need-mul-indices Inv-loop μ-loop
+mul-indices c =
+    omega (arith, c .before .before .before .before .before .before .before .before .loop-test .taken, c .before .before .before .before .before .before .before .before .before .before .before .before .before .pre .1)
+
+slice-write-indices : tie.Need-slice-write-indices Inv-loop μ-loop
+slice-write-indices c =
+    omega (arith, c .before .before .before .before .before .before .before .before .loop-test .taken, c .before .before .before .before .before .before .before .before .before .before .before .before .before .pre .1, c .before .before .before .before .before .before .before .before .before .loop .inv .second-size)
+
+add-i : tie.Need-add-i Inv-loop μ-loop
+add-i c =
+    omega (arith, c .before .before .before .before .before .before .before .before .loop-test .taken, c .before .before .before .before .before .before .before .before .before .before .before .before .before .pre .1)
+
+loop-less : tie.Need-loop-less Inv-loop μ-loop
+loop-less c =
+    omega (arith, c .before .before .before .before .before .before .before .before .loop-test .taken)
+
+loop-again : tie.Need-loop-again Inv-loop μ-loop
+loop-again c =
+    reading-more part3 number3 index3 (c .before .before .before .before .before .before .before .before .before .loop .inv) (c .before .before .before .before .before .before .before .before .loop-test .taken) (c .before .before .before .before .before .before .before .before .before .before .before .before .before .pre .1) (took-part3 (sym (c .before .before .before .before .before .number .given .1) ∙ c .before .before .before .before .before .before .before .read-group .ensures) (sym (c .before .index .given .1) ∙ c .before .before .before .read-group2 .ensures)) refl refl
+
+same-length-5 : tie.Need-same-length-5 Inv-loop μ-loop
+same-length-5 c =
+    c .before .loop .inv .first-size ∙ sym (c .before .before .before .before .before .pre .2)
+
+same-length-6 : tie.Need-same-length-6 Inv-loop μ-loop
+same-length-6 c =
+    c .before .loop .inv .second-size ∙ sym (c .before .before .before .before .before .pre .3)
+
+returns-3 : tie.Need-returns-3 Inv-loop μ-loop
+returns-3 c =
+    reading-end part3 number3 index3 (c .before .loop .inv) (c .loop-test .left)
+
+pub read-part3-spec : {M : Type 1} → statement M
+read-part3-spec =
+    tie.close
+    (tie.spec
+    Inv-loop
+    μ-loop
+    loop-holds
+    read-group-requires
+    enum-known-number
+    enum-told
+    same-length
+    same-length-2
+    returns
+    read-group-requires-2
+    enum-known-index
+    enum-told-2
+    same-length-3
+    same-length-4
+    returns-2
+    mul-numbers
+    slice-write-numbers
+    mul-indices
+    slice-write-indices
+    add-i
+    loop-less
+    loop-again
+    same-length-5
+    same-length-6
+    returns-3)

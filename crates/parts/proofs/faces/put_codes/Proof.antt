@@ -1,0 +1,88 @@
+-- `parts::faces::put_codes` meets its contract.
+-- Assumes nothing.
+use Prim.Native.Nat.{_-_}
+use mathlib.Core.Path.{sym, _∙_}
+use Rattle.parts.proofs.Writing.{Coding, coding-none, coding-bad, coding-more, coding-end}
+use native.Mathlib.Omega.{arith}
+use borrow.Author.Needs.{needs}
+use Rattle.parts.proofs.faces.put_codes.Statement.{statement}
+use Rattle.parts.proofs.faces.put_codes.Tie as tie
+
+abbrev Inv-loop : tie.InvT-loop
+Inv-loop message from array₀ at n j₀ p₀ array j p =
+    Coding message from n at array₀ array j p
+
+abbrev μ-loop : tie.MeasureT-loop
+μ-loop message from array₀ at n j₀ p₀ array j p =
+    n - j
+
+loop-holds : tie.Need-loop-holds Inv-loop μ-loop
+loop-holds c =
+    coding-none _ _ _ _ (let t = c .before .before .pre .2 .took in let a = t .onward in let b = t .within in omega arith) (c .before .before .pre .0)
+
+read-label-requires : tie.Need-read-label-requires Inv-loop μ-loop
+read-label-requires c κs = search needs
+
+enum-known-code : tie.Need-enum-known-code Inv-loop μ-loop
+enum-known-code c = search needs
+
+enum-told : tie.Need-enum-told Inv-loop μ-loop
+enum-told c = search needs
+
+same-length : tie.Need-same-length Inv-loop μ-loop
+same-length c =
+    c .before .before .before .before .loop .inv .put .size ∙ sym (c .before .before .before .before .before .before .before .pre .0)
+
+returns : tie.Need-returns Inv-loop μ-loop
+returns c =
+    absurd (coding-bad (c .before .before .before .before .loop .inv) (c .before .before .before .before .before .before .before .pre .2) (c .before .before .before .loop-test .taken) (sym (c .enum-told .given .1) ∙ c .before .before .read-label .ensures))
+
+add-array : tie.Need-add-array Inv-loop μ-loop
+add-array c = search needs
+
+mul-array : tie.Need-mul-array Inv-loop μ-loop
+mul-array c =
+    omega (arith, c .before .before .before .before .loop-test .taken, c .before .before .before .before .before .before .before .before .pre .1)
+
+slice-write-array : tie.Need-slice-write-array Inv-loop μ-loop
+slice-write-array c =
+    omega (arith, c .before .before .before .before .loop-test .taken, c .before .before .before .before .before .before .before .before .pre .1, c .before .before .before .before .before .loop .inv .put .size)
+
+add-j : tie.Need-add-j Inv-loop μ-loop
+add-j c = search needs
+
+loop-less : tie.Need-loop-less Inv-loop μ-loop
+loop-less c = search needs
+
+loop-again : tie.Need-loop-again Inv-loop μ-loop
+loop-again c =
+    coding-more (c .before .before .before .before .before .loop .inv) (c .before .before .before .before .before .before .before .before .pre .1) (c .before .before .before .before .loop-test .taken) (sym (c .before .code .given .1) ∙ c .before .before .before .read-label .ensures)
+
+same-length-2 : tie.Need-same-length-2 Inv-loop μ-loop
+same-length-2 c =
+    c .before .loop .inv .put .size ∙ sym (c .before .before .before .before .pre .0)
+
+returns-2 : tie.Need-returns-2 Inv-loop μ-loop
+returns-2 c =
+    coding-end (c .before .loop .inv) (c .loop-test .left)
+
+pub put-codes-spec : {M : Type 1} → statement M
+put-codes-spec =
+    tie.close
+    (tie.spec
+    Inv-loop
+    μ-loop
+    loop-holds
+    read-label-requires
+    enum-known-code
+    enum-told
+    same-length
+    returns
+    add-array
+    mul-array
+    slice-write-array
+    add-j
+    loop-less
+    loop-again
+    same-length-2
+    returns-2)

@@ -1,0 +1,116 @@
+-- `parts::faces::put_part3` meets its contract.
+-- Assumes nothing.
+use Prim.Native.Nat.{_+_, _*_, _-_, _≤_}
+use mathlib.Core.Path.{sym, _∙_}
+use Rattle.parts.specs.Faces.{Faced, numbered-code}
+use Rattle.parts.proofs.Writing.{faced-none, faced-more, faced-all}
+use native.Mathlib.Omega.{arith}
+use borrow.Author.Needs.{needs}
+use Rattle.parts.proofs.faces.put_part3.Statement.{statement}
+use Rattle.parts.proofs.faces.put_part3.Tie as tie
+
+abbrev Inv-loop : tie.InvT-loop
+Inv-loop indices numbers c sizes from kinds₀ links₀ e₀ kinds links e =
+    Faced sizes indices e (λ d j. 2 + 4 * from) kinds₀ kinds × Faced sizes indices e (numbered-code from numbers) links₀ links × (e ≤ c)
+
+abbrev μ-loop : tie.MeasureT-loop
+μ-loop indices numbers c sizes from kinds₀ links₀ e₀ kinds links e =
+    c - e
+
+loop-holds : tie.Need-loop-holds Inv-loop μ-loop
+loop-holds c =
+    (faced-none _ _ _ _ (c .before .before .before .before .before .pre .0 .3), faced-none _ _ _ _ (c .before .before .before .before .before .pre .0 .4), omega arith)
+
+mul-i : tie.Need-mul-i Inv-loop μ-loop
+mul-i c = search needs
+
+shared-slice-read-i : tie.Need-shared-slice-read-i Inv-loop μ-loop
+shared-slice-read-i c = search needs
+
+mul-n : tie.Need-mul-n Inv-loop μ-loop
+mul-n c =
+    let h = c .before .before .before .before .before .before .before .before .pre .1 .0 .below (c .before .before .loop .e) (omega arith) in omega arith
+
+shared-slice-read-n : tie.Need-shared-slice-read-n Inv-loop μ-loop
+shared-slice-read-n c =
+    let h = c .before .before .before .before .before .before .before .before .before .pre .1 .0 .below (c .before .before .before .loop .e) (omega arith) in omega arith
+
+mul-fill : tie.Need-mul-fill Inv-loop μ-loop
+mul-fill c = search needs
+
+add-fill : tie.Need-add-fill Inv-loop μ-loop
+add-fill c = search needs
+
+fill-requires : tie.Need-fill-requires Inv-loop μ-loop
+fill-requires c κs =
+    (c .before .before .before .before .loop .inv .0 .size, c .before .before .before .before .before .before .before .before .before .before .pre .1 .0 .within (c .before .before .before .before .loop .e) (omega arith))
+
+mul-count-up : tie.Need-mul-count-up Inv-loop μ-loop
+mul-count-up c = search needs
+
+mul-count-up-2 : tie.Need-mul-count-up-2 Inv-loop μ-loop
+mul-count-up-2 c = search needs
+
+shared-slice-read-count-up : tie.Need-shared-slice-read-count-up Inv-loop μ-loop
+shared-slice-read-count-up c = search needs
+
+add-count-up : tie.Need-add-count-up Inv-loop μ-loop
+add-count-up c =
+    let h = c .before .before .before .before .before .before .before .before .before .before .before .before .before .before .before .pre .1 .3 (c .before .before .before .before .before .before .before .before .before .loop .e) (omega arith) in omega arith
+
+mul-count-up-3 : tie.Need-mul-count-up-3 Inv-loop μ-loop
+mul-count-up-3 c =
+    let h = c .before .before .before .before .before .before .before .before .before .before .before .before .before .before .before .pre .1 .3 (c .before .before .before .before .before .before .before .before .before .loop .e) (omega arith) in omega arith
+
+count-up-requires : tie.Need-count-up-requires Inv-loop μ-loop
+count-up-requires c κs =
+    (c .before .before .before .before .before .before .before .before .before .loop .inv .1 .size, c .before .before .before .before .before .before .before .before .before .before .before .before .before .before .before .pre .1 .0 .within (c .before .before .before .before .before .before .before .before .before .loop .e) (omega arith), (let h = c .before .before .before .before .before .before .before .before .before .before .before .before .before .before .before .pre .1 .3 (c .before .before .before .before .before .before .before .before .before .loop .e) (omega arith) in omega arith))
+
+add-e : tie.Need-add-e Inv-loop μ-loop
+add-e c = search needs
+
+loop-less : tie.Need-loop-less Inv-loop μ-loop
+loop-less c = search needs
+
+loop-again : tie.Need-loop-again Inv-loop μ-loop
+loop-again c =
+    (faced-more (c .before .before .before .before .before .before .before .before .before .before .before .before .before .before .before .before .before .before .pre .1 .0) (c .before .before .before .before .before .before .before .before .before .before .before .before .loop .inv .0) (omega arith) (c .before .before .before .before .before .before .before .fill .ensures), faced-more (c .before .before .before .before .before .before .before .before .before .before .before .before .before .before .before .before .before .before .pre .1 .0) (c .before .before .before .before .before .before .before .before .before .before .before .before .loop .inv .1) (omega arith) (c .before .before .count-up .ensures), omega arith)
+
+same-length : tie.Need-same-length Inv-loop μ-loop
+same-length c =
+    c .before .loop .inv .0 .size ∙ sym (c .before .before .before .before .before .before .before .pre .0 .3)
+
+same-length-2 : tie.Need-same-length-2 Inv-loop μ-loop
+same-length-2 c =
+    c .before .loop .inv .1 .size ∙ sym (c .before .before .before .before .before .before .before .pre .0 .4)
+
+returns : tie.Need-returns Inv-loop μ-loop
+returns c =
+    (faced-all (c .before .loop .inv .0) (c .before .loop .inv .2) (omega arith), faced-all (c .before .loop .inv .1) (c .before .loop .inv .2) (omega arith))
+
+pub put-part3-spec : {M : Type 1} → statement M
+put-part3-spec =
+    tie.close
+    (tie.spec
+    Inv-loop
+    μ-loop
+    loop-holds
+    mul-i
+    shared-slice-read-i
+    mul-n
+    shared-slice-read-n
+    mul-fill
+    add-fill
+    fill-requires
+    mul-count-up
+    mul-count-up-2
+    shared-slice-read-count-up
+    add-count-up
+    mul-count-up-3
+    count-up-requires
+    add-e
+    loop-less
+    loop-again
+    same-length
+    same-length-2
+    returns)

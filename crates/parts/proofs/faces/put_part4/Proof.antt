@@ -1,0 +1,113 @@
+-- `parts::faces::put_part4` meets its contract.
+-- Assumes nothing.
+use Prim.Native.Nat.{_+_, _*_, _-_, _≤_}
+use mathlib.Core.Path.{sym, _∙_}
+use lib.ListN.{getD}
+use Rattle.parts.specs.Faces.{Faced, code-at}
+use Rattle.parts.proofs.Writing.{faced-none, faced-more, faced-all}
+use native.Mathlib.Omega.{arith}
+use borrow.Author.Needs.{needs}
+use Rattle.parts.proofs.faces.put_part4.Statement.{statement}
+use Rattle.parts.proofs.faces.put_part4.Tie as tie
+
+abbrev Inv-loop : tie.InvT-loop
+Inv-loop message indices others places c sizes kinds₀ links₀ e₀ kinds links e =
+    Faced sizes indices e (λ d j. 2 + 4 * getD others d 0) kinds₀ kinds × Faced sizes indices e (λ d. code-at message (getD places d 0) (getD sizes (getD indices d 0) 0)) links₀ links × (e ≤ c)
+
+abbrev μ-loop : tie.MeasureT-loop
+μ-loop message indices others places c sizes kinds₀ links₀ e₀ kinds links e =
+    c - e
+
+loop-holds : tie.Need-loop-holds Inv-loop μ-loop
+loop-holds c =
+    (faced-none _ _ _ _ (c .before .before .before .before .before .before .before .pre .0 .4), faced-none _ _ _ _ (c .before .before .before .before .before .before .before .pre .0 .5), omega arith)
+
+mul-i : tie.Need-mul-i Inv-loop μ-loop
+mul-i c = search needs
+
+shared-slice-read-i : tie.Need-shared-slice-read-i Inv-loop μ-loop
+shared-slice-read-i c = search needs
+
+mul-n : tie.Need-mul-n Inv-loop μ-loop
+mul-n c =
+    let h = c .before .before .before .before .before .before .before .before .before .before .pre .1 .0 .below (c .before .before .loop .e) (omega arith) in omega arith
+
+shared-slice-read-n : tie.Need-shared-slice-read-n Inv-loop μ-loop
+shared-slice-read-n c =
+    let h = c .before .before .before .before .before .before .before .before .before .before .before .pre .1 .0 .below (c .before .before .before .loop .e) (omega arith) in omega arith
+
+mul-fill : tie.Need-mul-fill Inv-loop μ-loop
+mul-fill c = search needs
+
+shared-slice-read-fill : tie.Need-shared-slice-read-fill Inv-loop μ-loop
+shared-slice-read-fill c = search needs
+
+mul-fill-2 : tie.Need-mul-fill-2 Inv-loop μ-loop
+mul-fill-2 c =
+    let h = c .before .before .before .before .before .before .before .before .before .before .before .before .before .pre .1 .2 (c .before .before .before .before .before .loop .e) (omega arith) in omega arith
+
+add-fill : tie.Need-add-fill Inv-loop μ-loop
+add-fill c =
+    let h = c .before .before .before .before .before .before .before .before .before .before .before .before .before .pre .1 .2 (c .before .before .before .before .before .loop .e) (omega arith) in omega arith
+
+fill-requires : tie.Need-fill-requires Inv-loop μ-loop
+fill-requires c κs =
+    (c .before .before .before .before .before .loop .inv .0 .size, c .before .before .before .before .before .before .before .before .before .before .before .before .before .pre .1 .0 .within (c .before .before .before .before .before .loop .e) (omega arith))
+
+mul-put-codes : tie.Need-mul-put-codes Inv-loop μ-loop
+mul-put-codes c = search needs
+
+shared-slice-read-put-codes : tie.Need-shared-slice-read-put-codes Inv-loop μ-loop
+shared-slice-read-put-codes c = search needs
+
+put-codes-requires : tie.Need-put-codes-requires Inv-loop μ-loop
+put-codes-requires c κs =
+    (c .before .before .before .before .before .before .before .before .before .before .loop .inv .1 .size, c .before .before .before .before .before .before .before .before .before .before .before .before .before .before .before .before .before .before .pre .1 .0 .within (c .before .before .before .before .before .before .before .before .before .before .loop .e) (omega arith), c .before .before .before .before .before .before .before .before .before .before .before .before .before .before .before .before .before .before .pre .1 .3 (c .before .before .before .before .before .before .before .before .before .before .loop .e) (omega arith))
+
+add-e : tie.Need-add-e Inv-loop μ-loop
+add-e c = search needs
+
+loop-less : tie.Need-loop-less Inv-loop μ-loop
+loop-less c = search needs
+
+loop-again : tie.Need-loop-again Inv-loop μ-loop
+loop-again c =
+    (faced-more (c .before .before .before .before .before .before .before .before .before .before .before .before .before .before .before .before .before .before .before .before .before .pre .1 .0) (c .before .before .before .before .before .before .before .before .before .before .before .before .before .loop .inv .0) (omega arith) (c .before .before .before .before .before .before .before .fill .ensures), faced-more (c .before .before .before .before .before .before .before .before .before .before .before .before .before .before .before .before .before .before .before .before .before .pre .1 .0) (c .before .before .before .before .before .before .before .before .before .before .before .before .before .loop .inv .1) (omega arith) (c .before .before .put-codes .ensures), omega arith)
+
+same-length : tie.Need-same-length Inv-loop μ-loop
+same-length c =
+    c .before .loop .inv .0 .size ∙ sym (c .before .before .before .before .before .before .before .before .before .pre .0 .4)
+
+same-length-2 : tie.Need-same-length-2 Inv-loop μ-loop
+same-length-2 c =
+    c .before .loop .inv .1 .size ∙ sym (c .before .before .before .before .before .before .before .before .before .pre .0 .5)
+
+returns : tie.Need-returns Inv-loop μ-loop
+returns c =
+    (faced-all (c .before .loop .inv .0) (c .before .loop .inv .2) (omega arith), faced-all (c .before .loop .inv .1) (c .before .loop .inv .2) (omega arith))
+
+pub put-part4-spec : {M : Type 1} → statement M
+put-part4-spec =
+    tie.close
+    (tie.spec
+    Inv-loop
+    μ-loop
+    loop-holds
+    mul-i
+    shared-slice-read-i
+    mul-n
+    shared-slice-read-n
+    mul-fill
+    shared-slice-read-fill
+    mul-fill-2
+    add-fill
+    fill-requires
+    mul-put-codes
+    shared-slice-read-put-codes
+    put-codes-requires
+    add-e
+    loop-less
+    loop-again
+    same-length
+    same-length-2
+    returns)

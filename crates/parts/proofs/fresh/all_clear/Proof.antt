@@ -1,0 +1,61 @@
+-- `parts::fresh::all_clear` meets its contract.
+-- Assumes nothing.
+use Prim.Native.Nat.{_-_}
+use borrow.Author.Tests.{not-true, not-false}
+use mathlib.Core.Path.{sym, _∙_}
+use Rattle.model.specs.Lists.{tab}
+use Rattle.ranking.specs.Ranks.{value-at}
+use Rattle.parts.specs.Fresh.{clear-at}
+use Rattle.arrival.proofs.Steps.{Passing, passing-none, passing-more, passing-all, passing-not}
+use native.Mathlib.Omega.{arith}
+use borrow.Author.Needs.{needs}
+use Rattle.parts.proofs.fresh.all_clear.Statement.{statement}
+use Rattle.parts.proofs.fresh.all_clear.Tie as tie
+
+abbrev Inv-loop : tie.InvT-loop
+Inv-loop block n keys k p₀ p =
+    Passing (clear-at block (tab (value-at keys) k)) p
+
+abbrev μ-loop : tie.MeasureT-loop
+μ-loop block n keys k p₀ p =
+    n - p
+
+loop-holds : tie.Need-loop-holds Inv-loop μ-loop
+loop-holds c =
+    passing-none _
+
+clear-at-requires : tie.Need-clear-at-requires Inv-loop μ-loop
+clear-at-requires c κs =
+    (c .before .before .before .before .pre .0, omega arith, c .before .before .before .before .pre .2, c .before .before .before .before .pre .3, c .before .before .before .before .pre .4)
+
+returns : tie.Need-returns Inv-loop μ-loop
+returns c =
+    passing-not (clear-at (c .before .before .before .before .before .before .args .block .now) (tab (value-at (c .before .before .before .before .before .before .args .keys .now)) (c .before .before .before .before .before .before .args .k))) (c .before .before .before .loop .p) (c .before .before .before .before .before .before .args .n) (omega arith) (sym (c .before .clear-at .ensures) ∙ not-true _ (c .if1 .taken))
+
+add-p : tie.Need-add-p Inv-loop μ-loop
+add-p c = search needs
+
+loop-less : tie.Need-loop-less Inv-loop μ-loop
+loop-less c = search needs
+
+loop-again : tie.Need-loop-again Inv-loop μ-loop
+loop-again c =
+    passing-more (c .before .before .before .loop .inv) (sym (c .before .clear-at .ensures) ∙ not-false _ (c .if1 .left))
+
+returns-2 : tie.Need-returns-2 Inv-loop μ-loop
+returns-2 c =
+    passing-all {k = c .before .before .before .before .args .n} (c .before .loop .inv) (omega arith)
+
+pub all-clear-spec : {M : Type 1} → statement M
+all-clear-spec =
+    tie.close
+    (tie.spec
+    Inv-loop
+    μ-loop
+    loop-holds
+    clear-at-requires
+    returns
+    add-p
+    loop-less
+    loop-again
+    returns-2)

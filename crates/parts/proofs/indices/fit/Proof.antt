@@ -1,0 +1,58 @@
+-- `parts::indices::fit` meets its contract.
+-- Assumes nothing.
+use Prim.Native.Nat.{_-_}
+use borrow.Author.Tests.{not-true, not-false}
+use mathlib.Core.Path.{sym, _∙_}
+use Rattle.parts.specs.Indices.{fits-at}
+use Rattle.arrival.proofs.Steps.{Passing, passing-none, passing-more, passing-all, passing-not}
+use native.Mathlib.Omega.{arith}
+use borrow.Author.Needs.{needs}
+use Rattle.parts.proofs.indices.fit.Statement.{statement}
+use Rattle.parts.proofs.indices.fit.Tie as tie
+
+abbrev Inv-loop : tie.InvT-loop
+Inv-loop indices c starts k marks e₀ e =
+    Passing (fits-at indices starts marks k) e
+
+abbrev μ-loop : tie.MeasureT-loop
+μ-loop indices c starts k marks e₀ e =
+    c - e
+
+loop-holds : tie.Need-loop-holds Inv-loop μ-loop
+loop-holds c =
+    passing-none _
+
+fits-at-requires : tie.Need-fits-at-requires Inv-loop μ-loop
+fits-at-requires c κs = search needs
+
+returns : tie.Need-returns Inv-loop μ-loop
+returns c =
+    record { said = passing-not (fits-at (c .before .before .before .before .before .before .before .args .indices .now) (c .before .before .before .before .before .before .before .args .starts .now) (c .before .before .before .before .before .before .before .args .marks .now) (c .before .before .before .before .before .before .before .args .k)) (c .before .before .before .loop .e) (c .before .before .before .before .before .before .before .args .c) (omega arith) (sym (c .before .fits-at .ensures) ∙ not-true _ (c .if1 .taken)) }
+
+add-e : tie.Need-add-e Inv-loop μ-loop
+add-e c = search needs
+
+loop-less : tie.Need-loop-less Inv-loop μ-loop
+loop-less c = search needs
+
+loop-again : tie.Need-loop-again Inv-loop μ-loop
+loop-again c =
+    passing-more (c .before .before .before .loop .inv) (sym (c .before .fits-at .ensures) ∙ not-false _ (c .if1 .left))
+
+returns-2 : tie.Need-returns-2 Inv-loop μ-loop
+returns-2 c =
+    record { said = passing-all {k = c .before .before .before .before .before .args .c} (c .before .loop .inv) (omega arith) }
+
+pub fit-spec : {M : Type 1} → statement M
+fit-spec =
+    tie.close
+    (tie.spec
+    Inv-loop
+    μ-loop
+    loop-holds
+    fits-at-requires
+    returns
+    add-e
+    loop-less
+    loop-again
+    returns-2)

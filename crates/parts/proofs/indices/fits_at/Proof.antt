@@ -1,0 +1,53 @@
+-- `parts::indices::fits_at` meets its contract.
+-- Assumes nothing.
+use mathlib.Core.Path.{refl, sym, _∙_}
+use borrow.Author.Tests.{not-true, not-false}
+use Rattle.parts.proofs.IndexLaws.{fits-past, fits-low, fits-rest}
+use native.Mathlib.Omega.{arith}
+use borrow.Author.Needs.{needs}
+use Rattle.parts.proofs.indices.fits_at.Statement.{statement}
+use Rattle.parts.proofs.indices.fits_at.Tie as tie
+
+mul-i : tie.Need-mul-i
+mul-i c = search needs
+
+shared-slice-read-i : tie.Need-shared-slice-read-i
+shared-slice-read-i c = search needs
+
+returns : tie.Need-returns
+returns c =
+    fits-past (c .before .before .before .before .before .args .indices .now) (c .before .before .before .before .before .args .starts .now) (c .before .before .before .before .before .args .marks .now) (c .before .before .before .before .before .args .k) (c .before .before .before .before .before .args .e) (c .if1 .taken)
+
+above-requires : tie.Need-above-requires
+above-requires c κs = search needs
+
+returns-2 : tie.Need-returns-2
+returns-2 c =
+    fits-low (c .before .before .before .before .before .before .before .args .indices .now) (c .before .before .before .before .before .before .before .args .starts .now) (c .before .before .before .before .before .before .before .args .marks .now) (c .before .before .before .before .before .before .before .args .k) (c .before .before .before .before .before .before .before .args .e) (sym (c .before .above .ensures) ∙ not-true _ (c .if2 .taken))
+
+mul-result : tie.Need-mul-result
+mul-result c = search needs
+
+shared-slice-read-result : tie.Need-shared-slice-read-result
+shared-slice-read-result c = search needs
+
+shared-slice-read-result-2 : tie.Need-shared-slice-read-result-2
+shared-slice-read-result-2 c = search needs
+
+returns-3 : tie.Need-returns-3
+returns-3 c =
+    fits-rest (c .before .before .before .before .before .before .before .before .before .args .indices .now) (c .before .before .before .before .before .before .before .before .before .args .starts .now) (c .before .before .before .before .before .before .before .before .before .args .marks .now) (c .before .before .before .before .before .before .before .before .before .args .k) (c .before .before .before .before .before .before .before .before .before .args .e) (omega arith) (sym (c .before .before .before .above .ensures) ∙ not-false _ (c .before .before .if2 .left)) refl
+
+pub fits-at-spec : {M : Type 1} → statement M
+fits-at-spec =
+    tie.close
+    (tie.spec
+    mul-i
+    shared-slice-read-i
+    returns
+    above-requires
+    returns-2
+    mul-result
+    shared-slice-read-result
+    shared-slice-read-result-2
+    returns-3)

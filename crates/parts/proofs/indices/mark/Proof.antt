@@ -1,0 +1,65 @@
+-- `parts::indices::mark` meets its contract.
+-- Assumes nothing.
+use Prim.Native.Nat.{_-_, _≤_}
+use mathlib.Core.Path.{refl, sym, _∙_}
+use Rattle.parts.proofs.IndexLaws.{Marking, marking-none, marking-more, marking-end}
+use native.Mathlib.Omega.{arith}
+use borrow.Author.Needs.{needs}
+use Rattle.parts.proofs.indices.mark.Statement.{statement}
+use Rattle.parts.proofs.indices.mark.Tie as tie
+
+abbrev Inv-loop : tie.InvT-loop
+Inv-loop indices c marks₀ e₀ marks e =
+    Marking indices marks₀ marks e × (e ≤ c)
+
+abbrev μ-loop : tie.MeasureT-loop
+μ-loop indices c marks₀ e₀ marks e =
+    c - e
+
+loop-holds : tie.Need-loop-holds Inv-loop μ-loop
+loop-holds c =
+    (marking-none _ _ (c .pre .1), omega arith)
+
+mul-at : tie.Need-mul-at Inv-loop μ-loop
+mul-at c = search needs
+
+shared-slice-read-at : tie.Need-shared-slice-read-at Inv-loop μ-loop
+shared-slice-read-at c = search needs
+
+slice-write-marks : tie.Need-slice-write-marks Inv-loop μ-loop
+slice-write-marks c =
+    let s = c .before .before .loop .inv .0 .size in let h = c .before .before .before .pre .3 (c .before .before .loop .e) (omega arith) in omega arith
+
+add-e : tie.Need-add-e Inv-loop μ-loop
+add-e c = search needs
+
+loop-less : tie.Need-loop-less Inv-loop μ-loop
+loop-less c = search needs
+
+loop-again : tie.Need-loop-again Inv-loop μ-loop
+loop-again c =
+    (marking-more (c .before .before .loop .inv .0) refl (c .before .before .before .pre .3 (c .before .before .loop .e) (omega arith)), omega arith)
+
+same-length : tie.Need-same-length Inv-loop μ-loop
+same-length c =
+    c .before .loop .inv .0 .size ∙ sym (c .before .before .pre .1)
+
+returns : tie.Need-returns Inv-loop μ-loop
+returns c =
+    marking-end (c .before .loop .inv .0) (c .before .loop .inv .1) (omega arith) (omega arith)
+
+pub mark-spec : {M : Type 1} → statement M
+mark-spec =
+    tie.close
+    (tie.spec
+    Inv-loop
+    μ-loop
+    loop-holds
+    mul-at
+    shared-slice-read-at
+    slice-write-marks
+    add-e
+    loop-less
+    loop-again
+    same-length
+    returns)

@@ -1,0 +1,131 @@
+// The entries of the parts as they stand in a message, read into arrays by their number in the part.
+ghost use mathlib.Core.Path.{_≡_};
+ghost use mathlib.Core.Bool.{false};
+ghost use mathlib.Core.List.{List};
+ghost use Prim.Native.Nat.{_≤_};
+ghost use lib.ListN.{length};
+ghost use Rattle.model.specs.Messages.{FaceDart, part2, part3};
+ghost use Rattle.inbox.specs.Inbox.{most, Sized};
+ghost use Rattle.parts.specs.Entries.{EntriesRead, EntryRead, Part4Read, code2, index2, number3, index3};
+use groups::Read;
+
+// The codes of the labels of part 2, and its indices.
+pub fn read_part2(s: &[u8], at: usize, count: usize, codes: &mut [u64], indices: &mut [u64])
+    requires { ⌜ (at ≤ length (now s)) × (count ≤ most) × (length (now codes) ≡ most) × (length (now indices) ≡ most) ⌝ }
+    ensures { λ _. ⌜ EntriesRead part2 code2 index2 (now (s .entry)) at count (now (codes .exit)) (now (indices .exit)) ⌝ }
+{
+    // The entries below i are read.
+    let mut i = 0;
+    let mut p = at;
+    while i < count {
+        let Read::Value(code, past) = groups::read_label(s, p) else {
+            return;
+        };
+        let Read::Value(index, next) = groups::read_group(s, past) else {
+            return;
+        };
+        codes[i] = code;
+        indices[i] = index;
+        p = next;
+        i += 1;
+    }
+}
+
+// The numbers of part 3, and its indices.
+pub fn read_part3(s: &[u8], at: usize, count: usize, numbers: &mut [u64], indices: &mut [u64])
+    requires { ⌜ (at ≤ length (now s)) × (count ≤ most) × (length (now numbers) ≡ most) × (length (now indices) ≡ most) ⌝ }
+    ensures { λ _. ⌜ EntriesRead part3 number3 index3 (now (s .entry)) at count (now (numbers .exit)) (now (indices .exit)) ⌝ }
+{
+    // The entries below i are read.
+    let mut i = 0;
+    let mut p = at;
+    while i < count {
+        let Read::Value(number, past) = groups::read_group(s, p) else {
+            return;
+        };
+        let Read::Value(index, next) = groups::read_group(s, past) else {
+            return;
+        };
+        numbers[i] = number;
+        indices[i] = index;
+        p = next;
+        i += 1;
+    }
+}
+
+// An entry of part 4: the index, the block, where the labels stand, and the place past them.
+pub struct Entry {
+    pub ok: bool,
+    pub index: u64,
+    pub other: u64,
+    pub labels: usize,
+    pub next: usize,
+}
+
+fn no_entry() -> Entry
+    ensures { λ r. ⌜ r .ok ≡ false ⌝ }
+{
+    Entry {
+        ok: false,
+        index: 0,
+        other: 0,
+        labels: 0,
+        next: 0,
+    }
+}
+
+fn read_entry(s: &[u8], at: usize, darts: usize, sizes: &[usize]) -> Entry
+    requires { ⌜ darts ≤ length (now sizes) ⌝ }
+    ensures { λ r. ⌜ ((fs : List (List FaceDart)) → Sized fs darts (now (sizes .entry)) → EntryRead fs (now (sizes .entry)) (now (s .entry)) at r) ⌝ }
+{
+    let Read::Value(index, past) = groups::read_group(s, at) else {
+        return no_entry();
+    };
+    if darts as u64 <= index {
+        return no_entry();
+    }
+    let Read::Value(other, labels) = groups::read_at_most(s, past, 15) else {
+        return no_entry();
+    };
+    let size = sizes[index as usize];
+    let Read::Value(n, next) = inbox::parts::pass_labels(s, labels, size as u64) else {
+        return no_entry();
+    };
+    Entry {
+        ok: true,
+        index,
+        other,
+        labels,
+        next,
+    }
+}
+
+// The indices and blocks of part 4, and where the labels of each entry stand.
+pub fn read_part4(
+    s: &[u8],
+    at: usize,
+    count: usize,
+    darts: usize,
+    sizes: &[usize],
+    indices: &mut [u64],
+    others: &mut [u64],
+    places: &mut [usize],
+)
+    requires { ⌜ (at ≤ length (now s)) × (count ≤ most) × (darts ≤ length (now sizes)) × (length (now indices) ≡ most) × (length (now others) ≡ most) × (length (now places) ≡ most) ⌝ }
+    ensures { λ _. ⌜ (length (now (indices .exit)) ≡ most) × (length (now (others .exit)) ≡ most) × (length (now (places .exit)) ≡ most) × ((fs : List (List FaceDart)) → Sized fs darts (now (sizes .entry)) → Part4Read fs (now (sizes .entry)) (now (s .entry)) at count (now (indices .exit)) (now (others .exit)) (now (places .exit))) ⌝ }
+{
+    // The entries below i are read.
+    let mut i = 0;
+    let mut p = at;
+    while i < count {
+        let entry = read_entry(s, p, darts, sizes);
+        if !entry.ok {
+            return;
+        }
+        indices[i] = entry.index;
+        others[i] = entry.other;
+        places[i] = entry.labels;
+        p = entry.next;
+        i += 1;
+    }
+}

@@ -1,0 +1,102 @@
+// The third links of the faces of parts 3 and 4, by message index.
+ghost use mathlib.Core.Path.{_≡_};
+ghost use Prim.Native.Nat.{ℕ, _+_, _*_, _≤_, _<_, _^_};
+ghost use lib.ListN.{length, getD};
+ghost use Rattle.parts.specs.Faces.{Over, Spans, Faced, numbered-code, code-at};
+ghost use Rattle.parts.specs.Entries.{LabelsThere};
+use groups::Read;
+
+// The same word from index `at` on, n times.
+fn fill(array: &mut [u64], at: usize, n: usize, word: u64)
+    requires { ⌜ (length (now array) ≡ 512) × (at + n ≤ 512) ⌝ }
+    ensures { λ _. ⌜ Over at n (λ j. word) (now (array .entry)) (now (array .exit)) ⌝ }
+{
+    // The first j are put.
+    let mut j = 0;
+    while j < n {
+        array[at + j] = word;
+        j += 1;
+    }
+}
+
+// Numbers that count up from index `at` on, n of them.
+fn count_up(array: &mut [u64], at: usize, n: usize, first: u64)
+    requires { ⌜ (length (now array) ≡ 512) × (at + n ≤ 512) × (first < 2 ^ 63) ⌝ }
+    ensures { λ _. ⌜ Over at n (λ j. first + j) (now (array .entry)) (now (array .exit)) ⌝ }
+{
+    // The first j are put.
+    let mut j = 0;
+    while j < n {
+        array[at + j] = first + j as u64;
+        j += 1;
+    }
+}
+
+// The codes of n labels that stand from a place of the message on, from index `at` on.
+fn put_codes(message: &[u8], from: usize, array: &mut [u64], at: usize, n: usize)
+    requires { ⌜ (length (now array) ≡ 512) × (at + n ≤ 512) × LabelsThere (now message) from n ⌝ }
+    ensures { λ _. ⌜ Over at n (code-at (now (message .entry)) from n) (now (array .entry)) (now (array .exit)) ⌝ }
+{
+    // The first j are put.
+    let mut j = 0;
+    let mut p = from;
+    while j < n {
+        let Read::Value(code, next) = groups::read_label(message, p) else {
+            return;
+        };
+        array[at + j] = code;
+        p = next;
+        j += 1;
+    }
+}
+
+// The faces of part 3: critical with block `from`, which made the labels.
+pub fn put_part3(
+    indices: &[u64],
+    numbers: &[u64],
+    c: usize,
+    sizes: &[usize],
+    from: u64,
+    kinds: &mut [u64],
+    links: &mut [u64],
+)
+    requires { ⌜ (length (now indices) ≡ 512) × (length (now numbers) ≡ 512) × (length (now sizes) ≡ 512) × (length (now kinds) ≡ 512) × (length (now links) ≡ 512) ⌝ }
+    requires { ⌜ Spans (now sizes) (now indices) c × (c ≤ 512) × (from ≤ 15) × ((e : ℕ) → e < c → getD (now numbers) e 0 < 2 ^ 32) ⌝ }
+    ensures { λ _. ⌜ Faced (now (sizes .entry)) (now (indices .entry)) c (λ e j. 2 + 4 * from) (now (kinds .entry)) (now (kinds .exit)) × Faced (now (sizes .entry)) (now (indices .entry)) c (numbered-code from (now (numbers .entry))) (now (links .entry)) (now (links .exit)) ⌝ }
+{
+    // The faces before e have their links.
+    let mut e = 0;
+    while e < c {
+        let i = indices[e] as usize;
+        let n = sizes[i];
+        fill(kinds, i, n, 2 + 4 * from);
+        count_up(links, i, n, (from * 4294967296 + numbers[e]) * 4096);
+        e += 1;
+    }
+}
+
+// The faces of part 4: critical with the block of each, by the labels that stand in the message.
+pub fn put_part4(
+    message: &[u8],
+    indices: &[u64],
+    others: &[u64],
+    places: &[usize],
+    c: usize,
+    sizes: &[usize],
+    kinds: &mut [u64],
+    links: &mut [u64],
+)
+    requires { ⌜ (length (now indices) ≡ 512) × (length (now others) ≡ 512) × (length (now places) ≡ 512) × (length (now sizes) ≡ 512) × (length (now kinds) ≡ 512) × (length (now links) ≡ 512) ⌝ }
+    requires { ⌜ Spans (now sizes) (now indices) c × (c ≤ 512) × ((e : ℕ) → e < c → getD (now others) e 0 ≤ 15) × ((e : ℕ) → e < c → LabelsThere (now message) (getD (now places) e 0) (getD (now sizes) (getD (now indices) e 0) 0)) ⌝ }
+    ensures { λ _. ⌜ Faced (now (sizes .entry)) (now (indices .entry)) c (λ e j. 2 + 4 * getD (now (others .entry)) e 0) (now (kinds .entry)) (now (kinds .exit)) × Faced (now (sizes .entry)) (now (indices .entry)) c (λ e. code-at (now (message .entry)) (getD (now (places .entry)) e 0) (getD (now (sizes .entry)) (getD (now (indices .entry)) e 0) 0)) (now (links .entry)) (now (links .exit)) ⌝ }
+{
+    // The faces before e have their links.
+    let mut e = 0;
+    while e < c {
+        let i = indices[e] as usize;
+        let n = sizes[i];
+        fill(kinds, i, n, 2 + 4 * others[e]);
+        put_codes(message, places[e], links, i, n);
+        e += 1;
+    }
+}

@@ -1,0 +1,112 @@
+// The labels of the critical new darts, from their kind and link words: none is held, no two are one, own-made ones lie below the
+// counter.
+ghost use mathlib.Core.Path.{_≡_};
+ghost use mathlib.Core.Bool.{_&&_};
+ghost use Prim.Native.Nat.{ℕ, _≤_, _<_, _^_};
+ghost use lib.ListN.{length, getD};
+ghost use Rattle.laws.specs.Order.{Ascending};
+ghost use Rattle.model.specs.Lists.{all, tab};
+ghost use Rattle.model.specs.Image.{room, words};
+ghost use Rattle.ranking.specs.Ranks.{value-at};
+ghost use Rattle.parts.specs.Fresh.{own-right, own-at, fresh-value, ValuesPut, clear-at, labels-fit};
+use memory::lookup::Found;
+
+// Whether a kind and a link word are not of an own-made label from the counter on.
+fn own_right(number: u64, counter: u64, kind: u64, link: u64) -> bool
+    ensures { λ r. ⌜ r ≡ own-right number counter kind link ⌝ }
+{
+    if kind < 2 {
+        return true;
+    }
+    (link / 4096 / 4294967296 != number) | (link / 4096 % 4294967296 < counter)
+}
+
+// Whether the words of the first k darts are not.
+fn all_own(number: u64, counter: u64, kinds: &[u64], links: &[u64], k: usize) -> bool
+    requires { ⌜ (length (now kinds) ≡ 512) × (length (now links) ≡ 512) × (k ≤ 512) ⌝ }
+    ensures { λ r. ⌜ r ≡ all (own-at number counter (now (kinds .entry)) (now (links .entry))) (tab (λ q. q) k) ⌝ }
+{
+    // Those before q are not.
+    let mut q = 0;
+    while q < k {
+        if !own_right(number, counter, kinds[q], links[q]) {
+            return false;
+        }
+        q += 1;
+    }
+    true
+}
+
+// The label's code of a critical dart; above all codes, and its own, of any other.
+fn fresh_value(kind: u64, link: u64, q: usize) -> u64
+    requires { ⌜ q < 512 ⌝ }
+    ensures { λ r. ⌜ r ≡ fresh-value kind link q ⌝ }
+{
+    if kind < 2 {
+        return 281474976710656 + q as u64;
+    }
+    link
+}
+
+// The values of the first k darts.
+fn put_values(kinds: &[u64], links: &[u64], k: usize, values: &mut [u64])
+    requires { ⌜ (length (now kinds) ≡ 512) × (length (now links) ≡ 512) × (length (now values) ≡ 512) × (k ≤ 512) ⌝ }
+    ensures { λ _. ⌜ ValuesPut (now (kinds .entry)) (now (links .entry)) k (now (values .exit)) ⌝ }
+{
+    // Those before q are put.
+    let mut q = 0;
+    while q < k {
+        values[q] = fresh_value(kinds[q], links[q], q);
+        q += 1;
+    }
+}
+
+// Whether the dart at place p of the block has none of k values for a label.
+fn clear_at(block: &[u64], p: usize, keys: &[u64], k: usize) -> bool
+    requires { ⌜ (length (now block) ≡ words) × (p < room) × (length (now keys) ≡ 512) × (k ≤ 512) × Ascending k (value-at (now keys)) ⌝ }
+    ensures { λ r. ⌜ r ≡ clear-at (now (block .entry)) (tab (value-at (now (keys .entry))) k) p ⌝ }
+{
+    if cells::walk::field(block, p, 3) < 2 {
+        return true;
+    }
+    let Found::At(r) = ranking::find(keys, k, cells::walk::field(block, p, 4)) else {
+        return true;
+    };
+    false
+}
+
+// Whether the first n darts have none.
+fn all_clear(block: &[u64], n: usize, keys: &[u64], k: usize) -> bool
+    requires { ⌜ (length (now block) ≡ words) × (n ≤ room) × (length (now keys) ≡ 512) × (k ≤ 512) × Ascending k (value-at (now keys)) ⌝ }
+    ensures { λ r. ⌜ r ≡ all (clear-at (now (block .entry)) (tab (value-at (now (keys .entry))) k)) (tab (λ p. p) n) ⌝ }
+{
+    // Those before p have none.
+    let mut p = 0;
+    while p < n {
+        if !clear_at(block, p, keys, k) {
+            return false;
+        }
+        p += 1;
+    }
+    true
+}
+
+// 20, of the labels of parts 3 and 4, on a block of n darts.
+pub fn labels_fit(block: &[u64], n: usize, kinds: &[u64], links: &[u64], k: usize) -> bool
+    requires { ⌜ (length (now block) ≡ words) × (n ≤ room) × (length (now kinds) ≡ 512) × (length (now links) ≡ 512) × (1 ≤ k) × (k ≤ 512) ⌝ }
+    requires { ⌜ ((q : ℕ) → q < k → getD (now links) q 0 < 2 ^ 48) ⌝ }
+    ensures { λ r. ⌜ r ≡ labels-fit (now (block .entry)) n (now (kinds .entry)) (now (links .entry)) k ⌝ }
+{
+    if !all_own(block[0], block[1], kinds, links, k) {
+        return false;
+    }
+    let mut values = [0u64; 512];
+    put_values(kinds, links, k, &mut values);
+    let mut keys = [0u64; 512];
+    let mut scratch = [0u64; 512];
+    let mut ranks = [0usize; 512];
+    if !ranking::rank(&values, k, &mut keys, &mut scratch, &mut ranks) {
+        return false;
+    }
+    all_clear(block, n, &keys, k)
+}

@@ -1,0 +1,46 @@
+// The places of the block where the labels of part 2 stand, by one pass over its darts.
+ghost use mathlib.Core.Path.{_≡_};
+ghost use Prim.Native.Nat.{ℕ, _≤_, _<_};
+ghost use lib.ListN.{length, replicate};
+ghost use Rattle.laws.specs.Order.{Ascending};
+ghost use Rattle.model.specs.Image.{room, words};
+ghost use Rattle.ranking.specs.Ranks.{value-at, index-at, Ranked};
+ghost use Rattle.parts.specs.Locate.{Noted, Located, none-there};
+use memory::lookup::Found;
+
+// Notes place p for the entry whose label the dart at p has.
+fn note(block: &[u64], p: usize, keys: &[u64], c: usize, places: &mut [usize])
+    requires { ⌜ (length (now block) ≡ words) × (p < room) × (length (now keys) ≡ 512) × (c ≤ 512) × (length (now places) ≡ 512) × Ascending c (value-at (now keys)) × ((r : ℕ) → r < c → index-at (now keys) r < c) ⌝ }
+    ensures { λ _. ⌜ Noted (now (block .entry)) (now (keys .entry)) c p (now (places .entry)) (now (places .exit)) ⌝ }
+{
+    if cells::walk::field(block, p, 3) < 2 {
+        return;
+    }
+    let Found::At(r) = ranking::find(keys, c, cells::walk::field(block, p, 4)) else {
+        return;
+    };
+    let rank = r.0;
+    let e = (keys[rank] % 512) as usize;
+    places[e] = p;
+}
+
+// The place of the dart that has each of the first c codes, which are ranked; 4,096 where none of the n darts has it.
+pub fn locate(
+    block: &[u64],
+    n: usize,
+    codes: &[u64],
+    c: usize,
+    keys: &[u64],
+    ranks: &[usize],
+    places: &mut [usize],
+)
+    requires { ⌜ (length (now block) ≡ words) × (n ≤ room) × (length (now keys) ≡ 512) × (c ≤ 512) × (now places ≡ replicate 512 none-there) × Ranked (now codes) c (now keys) (now ranks) ⌝ }
+    ensures { λ _. ⌜ Located (now (block .entry)) (now (codes .entry)) c n (now (places .exit)) ⌝ }
+{
+    // The darts before p are noted.
+    let mut p = 0;
+    while p < n {
+        note(block, p, keys, c, places);
+        p += 1;
+    }
+}
