@@ -13,3 +13,4 @@ pub mod Locating
 pub mod LabelledDarts
 pub mod Backwards
 pub mod Meeting
+pub mod Trails
