@@ -14,3 +14,4 @@ pub mod LabelledDarts
 pub mod Backwards
 pub mod Meeting
 pub mod Trails
+pub mod SewnFaces

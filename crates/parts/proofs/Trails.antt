@@ -7,7 +7,7 @@ use Prim.Native.Nat.{ℕ, zero, suc, _+_, _*_, _-_, _≤_, _<_}
 use native.Mathlib.Omega.{arith}
 use lib.Dec.{eqb}
 use lib.ListN.{length, getD, take}
-use lib.Seq.{getD-take}
+use lib.Seq.{getD-take, length-take-le}
 use borrow.Author.Tests.{eqb-true, eq-eqb, ne-eqb}
 use Rattle.model.specs.Lists.{all, tab}
 use Rattle.model.specs.Cells.{cycle}
@@ -84,14 +84,17 @@ module _ {m : List ℕ} {n : ℕ} (l : Linked m n) {y : ℕ} (hy : y < n) where
       less : (j ≡ 0 → ⊥) → length (cycle (column m 1) y) - j < length (cycle (column m 1) y)
       less z = omega (arith, z, h)
 
-  pub trailed : {size : ℕ} {trail : List ℕ} → Walked m y size trail true → Trailed n size trail
-  trailed {size} {trail} w = record {
-    len = w .len;
+  pub trailed-front : {size : ℕ} {trail : List ℕ} → length trail ≡ 512 → size ≤ 512 → take size trail ≡ cycle (column m 1) y → Trailed n size trail
+  trailed-front {size} {trail} len few front = record {
+    len = len;
     below = λ j h.
-        let e : size ≡ length (cycle (column m 1) y) = eqb-true size _ (sym (w .said)) in
-        let s : getD trail j 0 ≡ iter (column m 1) j y = sym (getD-take size trail j 0 h) ∙ ap (λ (c : List ℕ). getD c j 0) (w .front refl) ∙ face-at j (omega (arith, e, h)) in
+        let e : length (take size trail) ≡ size = length-take-le size trail (omega (arith, len, few)) in
+        let s : getD trail j 0 ≡ iter (column m 1) j y = sym (getD-take size trail j 0 h) ∙ ap (λ (c : List ℕ). getD c j 0) front ∙ face-at j (let g = ap length front in omega (arith, e, g, h)) in
         let b = iter-below (l .next-within) j y hy in omega (arith, s, b);
   }
+
+  pub trailed : {size : ℕ} {trail : List ℕ} → size ≤ 512 → Walked m y size trail true → Trailed n size trail
+  trailed few w = trailed-front (w .len) few (w .front refl)
 
 met-below : {n size : ℕ} {trail : List ℕ} (j : ℕ) → j < size → Trailed n size trail → met-at trail size j < n
 met-below {n} {size} {trail} j l t = ⊎-elim

@@ -36,7 +36,7 @@ returns-2 c =
 
 all-meet-requires : tie.Need-all-meet-requires
 all-meet-requires c κs =
-    (c .before .before .before .before .before .before .before .before .before .before .before .before .pre .0, c .before .before .before .before .before .before .before .before .before .before .before .before .pre .3, trailed (c .before .before .before .before .before .before .before .before .before .before .before .before .pre .0 .linked) (c .before .before .before .before .before .before .before .before .before .before .before .before .pre .2) (subst (Walked (c .before .before .before .before .before .before .before .before .before .before .before .before .args .block .now) (c .before .before .before .before .before .before .before .before .before .before .before .before .args .y) (c .before .before .before .before .before .before .before .before .before .before .before .before .args .size) _) (not-false _ (c .before .if2 .left)) (c .before .before .before .before .walk-face .ensures)))
+    (c .before .before .before .before .before .before .before .before .before .before .before .before .pre .0, c .before .before .before .before .before .before .before .before .before .before .before .before .pre .3, trailed (c .before .before .before .before .before .before .before .before .before .before .before .before .pre .0 .linked) (c .before .before .before .before .before .before .before .before .before .before .before .before .pre .2) (let f = c .before .before .before .before .before .before .before .before .before .before .before .before .pre .0 .few in omega (arith, f)) (subst (Walked (c .before .before .before .before .before .before .before .before .before .before .before .before .args .block .now) (c .before .before .before .before .before .before .before .before .before .before .before .before .args .y) (c .before .before .before .before .before .before .before .before .before .before .before .before .args .size) _) (not-false _ (c .before .if2 .left)) (c .before .before .before .before .walk-face .ensures)))
 
 same-length-2 : tie.Need-same-length-2
 same-length-2 c = search needs
