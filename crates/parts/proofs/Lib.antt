@@ -15,3 +15,4 @@ pub mod Backwards
 pub mod Meeting
 pub mod Trails
 pub mod SewnFaces
+pub mod PartTwo
