@@ -16,3 +16,4 @@ pub mod Meeting
 pub mod Trails
 pub mod SewnFaces
 pub mod PartTwo
+pub mod PartTwoTold
