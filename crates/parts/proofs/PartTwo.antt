@@ -129,7 +129,7 @@ module _ {m : List ℕ} (site : Sited m) where
   low-below x h = stays x _ h (lowest x h)
 
 -- ALL, by what one entry says
-three-yes : (a b c : Bool) → (a && b && c) ≡ true → (a ≡ true) × (b ≡ true) × (c ≡ true)
+pub three-yes : (a b c : Bool) → (a && b && c) ≡ true → (a ≡ true) × (b ≡ true) × (c ≡ true)
 three-yes true true true e = (refl, refl, refl)
 three-yes true true false e = absurd (true≢false (sym e))
 three-yes true false c e = absurd (true≢false (sym e))
@@ -169,13 +169,13 @@ entries-tab t = sym (tab-list no-entry (t .part2) (entry t) (λ p h. refl))
 module _ (m d ranks z codes places indices : List ℕ) (t : Transfer) (ok : is-image rack m ≡ true)
     (codes-are : take (length (t .part2)) codes ≡ map code2 (t .part2)) (located : Located m codes (length (t .part2)) (count-in m) places)
     (each : (e y : ℕ) → e < length (t .part2) → y < count-in m → labelled (entry t e .label) (darts-in m) ≡ dart-in m y → part2-right (darts-in m) t (entry t e) ≡ entry-right m d ranks (t .from) y (getD indices e 0) (face-size z indices e)) where
-  abbrev right : ℕ → Bool
+  abbrev pub right : ℕ → Bool
   right e = part2-right (darts-in m) t (entry t e)
 
-  abbrev key : ℕ → ℕ
+  abbrev pub key : ℕ → ℕ
   key e = least (cycle (next-in (darts-in m)) (labelled (entry t e .label) (darts-in m) .serial))
 
-  abbrev passes : ℕ → Bool
+  abbrev pub passes : ℕ → Bool
   passes = passes-at m d ranks z places indices (count-in m) (t .from)
 
   code-of : (e : ℕ) → e < length (t .part2) → getD codes e 0 ≡ code (entry t e .label)
@@ -183,7 +183,7 @@ module _ (m d ranks z codes places indices : List ℕ) (t : Transfer) (ok : is-i
       sym (getD-take (length (t .part2)) codes e 0 h) ∙ ap (λ (l : List ℕ). getD l e 0) (codes-are ∙ ap (map code2) (entries-tab t) ∙ map-tab code2 (entry t) (length (t .part2)))
       ∙ getD-tab (λ e. code2 (entry t e)) (length (t .part2)) e 0 h
 
-  abbrev Found : ℕ → Type 0
+  abbrev pub Found : ℕ → Type 0
   Found e = (getD places e 0 < count-in m) × (labelled (entry t e .label) (darts-in m) ≡ dart-in m (getD places e 0))
 
   found-or : (e : ℕ) → e < length (t .part2) → Found e ⊎ ((count-in m ≤ getD places e 0) × (right e ≡ false))
@@ -196,11 +196,11 @@ module _ (m d ranks z codes places indices : List ℕ) (t : Transfer) (ok : is-i
   key-is : (e : ℕ) → Found e → key e ≡ column m 0 (least (cycle (column m 1) (getD places e 0)))
   key-is e f = ap (λ (h : Dart). least (cycle (next-in (darts-in m)) (h .serial))) (f .1) ∙ least-serial (sited rack m ok) (getD places e 0) (f .0)
 
-  parts-of : (e : ℕ) → passes e ≡ true
+  pub parts-of : (e : ℕ) → passes e ≡ true
       → (ltb (getD places e 0) (count-in m) ≡ true) × (clear-of m places e (getD places e 0) ≡ true) × (entry-right m d ranks (t .from) (getD places e 0) (getD indices e 0) (face-size z indices e) ≡ true)
   parts-of e q = three-yes (ltb (getD places e 0) (count-in m)) (clear-of m places e (getD places e 0)) (entry-right m d ranks (t .from) (getD places e 0) (getD indices e 0) (face-size z indices e)) q
 
-  passes-found : (e : ℕ) → e < length (t .part2) → passes e ≡ true → Found e
+  pub passes-found : (e : ℕ) → e < length (t .part2) → passes e ≡ true → Found e
   passes-found e h q = go (found-or e h)
     where
       go : Found e ⊎ ((count-in m ≤ getD places e 0) × (right e ≡ false)) → Found e
