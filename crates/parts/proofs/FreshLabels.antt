@@ -31,11 +31,11 @@ use Rattle.parts.specs.Segments.{link-of, face-links}
 use Rattle.parts.specs.Fresh.{own-at, fresh-at, clear-at, labels-fit}
 
 -- VALUES THAT DIFFER
-tab-once : (f : ℕ → ℕ) (n : ℕ) → ((i j : ℕ) → i < n → j < n → f i ≡ f j → i ≡ j) → distinct (tab f n) ≡ true
+pub tab-once : (f : ℕ → ℕ) (n : ℕ) → ((i j : ℕ) → i < n → j < n → f i ≡ f j → i ≡ j) → distinct (tab f n) ≡ true
 tab-once f zero h = refl
 tab-once f (suc n) h = and-intro (ap not (mem-none (λ i. f (suc i)) n (f 0) (λ p l e. let r = h (suc p) 0 (omega arith) (omega arith) e in omega (arith, r)))) (tab-once (λ i. f (suc i)) n (λ i j a b e. let r = h (suc i) (suc j) (omega arith) (omega arith) e in omega (arith, r)))
 
-once-tab : (f : ℕ → ℕ) (n : ℕ) → distinct (tab f n) ≡ true → (i j : ℕ) → i < n → j < n → f i ≡ f j → i ≡ j
+pub once-tab : (f : ℕ → ℕ) (n : ℕ) → distinct (tab f n) ≡ true → (i j : ℕ) → i < n → j < n → f i ≡ f j → i ≡ j
 once-tab f zero d i j a b e = absurd (omega arith)
 once-tab f (suc n) d zero zero a b e = refl
 once-tab f (suc n) d zero (suc j) a b e = absurd (true≢false (sym (mem-place (λ i. f (suc i)) n j (f 0) (omega arith) (sym e)) ∙ not-true _ (and-left (not (mem (f 0) (tab (λ i. f (suc i)) n))) _ d)))

@@ -13,3 +13,7 @@ pub mod Locating
 pub mod LabelledDarts
 pub mod Backwards
 pub mod Meeting
+pub mod Trails
+pub mod SewnFaces
+pub mod PartTwo
+pub mod PartTwoTold

@@ -24,7 +24,7 @@ use Rattle.departure.proofs.LeavingFaces.{critical-is}
 use Rattle.parts.specs.Meets.{meet-at}
 use Rattle.parts.proofs.Backwards.{met-face}
 
-zip-tab : (f g : ℕ → ℕ) (n : ℕ) → zip (tab f n) (tab g n) ≡ tab (λ j. (f j, g j)) n
+pub zip-tab : (f g : ℕ → ℕ) (n : ℕ) → zip (tab f n) (tab g n) ≡ tab (λ j. (f j, g j)) n
 zip-tab f g zero = refl
 zip-tab f g (suc n) = ap (λ (l : List (ℕ × ℕ)). (f 0, g 0) ∷ l) (zip-tab (λ j. f (suc j)) (λ j. g (suc j)) n)
 

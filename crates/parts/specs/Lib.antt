@@ -7,3 +7,4 @@ pub mod Segments
 pub mod Critical
 pub mod Locate
 pub mod Meets
+pub mod Sewing

@@ -7,7 +7,7 @@ ghost use Rattle.parts.specs.Entries.{LabelsThere};
 use groups::Read;
 
 // The same word from index `at` on, n times.
-fn fill(array: &mut [u64], at: usize, n: usize, word: u64)
+pub fn fill(array: &mut [u64], at: usize, n: usize, word: u64)
     requires { ⌜ (length (now array) ≡ 512) × (at + n ≤ 512) ⌝ }
     ensures { λ _. ⌜ Over at n (λ j. word) (now (array .entry)) (now (array .exit)) ⌝ }
 {

@@ -7,3 +7,4 @@ pub mod fresh; // fresh.rt: the labels of parts 3 and 4 are new
 pub mod critical; // critical.rt: question 20 but for the faces of part 2
 pub mod locate; // locate.rt: where the labels of part 2 stand in the block
 pub mod meet; // meet.rt: whether points of a new dart and of the dart that it meets agree
+pub mod meets; // meets.rt: the faces of part 2 beside the faces that they meet

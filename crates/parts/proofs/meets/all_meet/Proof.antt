@@ -1,0 +1,46 @@
+-- `parts::meets::all_meet` meets its contract.
+-- Assumes nothing.
+use Prim.Native.Nat.{_-_, _≤_}
+use mathlib.Core.Path.{_≡_}
+use Rattle.model.specs.Lists.{all, tab}
+use Rattle.parts.specs.Meets.{meets-at}
+use Rattle.parts.proofs.NumberLaws.{every-none, every-more, every-all}
+use native.Mathlib.Omega.{arith}
+use borrow.Author.Needs.{needs}
+use Rattle.parts.proofs.meets.all_meet.Statement.{statement}
+use Rattle.parts.proofs.meets.all_meet.Tie as tie
+
+abbrev Inv-loop : tie.InvT-loop
+Inv-loop block n draft k ranks at size trail ok₀ j₀ ok j =
+    (ok ≡ all (meets-at block draft ranks at size trail) (tab (λ i. i) j)) × (j ≤ size)
+
+abbrev μ-loop : tie.MeasureT-loop
+μ-loop block n draft k ranks at size trail ok₀ j₀ ok j =
+    size - j
+
+loop-holds : tie.Need-loop-holds Inv-loop μ-loop
+loop-holds c =
+    (every-none (meets-at (c .before .before .before .before .args .block .now) (c .before .before .before .before .args .draft .now) (c .before .before .before .before .args .ranks .now) (c .before .before .before .before .args .at) (c .before .before .before .before .args .size) (c .before .before .before .before .args .trail .now)), omega arith)
+
+meets-requires : tie.Need-meets-requires Inv-loop μ-loop
+meets-requires c κs =
+    (c .before .before .before .before .before .before .pre .0, c .before .before .before .before .before .before .pre .1, omega arith, c .before .before .before .before .before .before .pre .2)
+
+add-j : tie.Need-add-j Inv-loop μ-loop
+add-j c = search needs
+
+loop-less : tie.Need-loop-less Inv-loop μ-loop
+loop-less c = search needs
+
+loop-again : tie.Need-loop-again Inv-loop μ-loop
+loop-again c =
+    (every-more (meets-at (c .before .before .before .before .before .before .before .args .block .now) (c .before .before .before .before .before .before .before .args .draft .now) (c .before .before .before .before .before .before .before .args .ranks .now) (c .before .before .before .before .before .before .before .args .at) (c .before .before .before .before .before .before .before .args .size) (c .before .before .before .before .before .before .before .args .trail .now)) (c .before .before .loop .j) (c .before .before .loop .inv .0) (c .meets .ensures), omega arith)
+
+returns : tie.Need-returns Inv-loop μ-loop
+returns c =
+    every-all (meets-at (c .before .before .before .before .before .before .args .block .now) (c .before .before .before .before .before .before .args .draft .now) (c .before .before .before .before .before .before .args .ranks .now) (c .before .before .before .before .before .before .args .at) (c .before .before .before .before .before .before .args .size) (c .before .before .before .before .before .before .args .trail .now)) (c .before .loop .inv .0) (c .before .loop .inv .1) (omega arith)
+
+pub all-meet-spec : {M : Type 1} → statement M
+all-meet-spec =
+    tie.close
+    (tie.spec Inv-loop μ-loop loop-holds meets-requires add-j loop-less loop-again returns)
