@@ -13,29 +13,30 @@ use Rattle.model.specs.Arrival.{sew-both}
 use Rattle.laws.proofs.Tests.{by-cases}
 
 -- the first of two that is there
-abbrev pub first : {A : Type 0} → Option A → Option A → Option A
+abbrev first : {A : Type 0} → Option A → Option A → Option A
 first none o = o
 first (some d) o = some d
 
-pub found-append : {A : Type 0} (key : A → ℕ) (y : ℕ) (l r : List A) → find key y (l ++ r) ≡ first (find key y l) (find key y r)
+found-append : {A : Type 0} (key : A → ℕ) (y : ℕ) (l r : List A) → find key y (l ++ r) ≡ first (find key y l) (find key y r)
 found-append key y [] r = refl
 found-append key y (a ∷ l) r = by-cases (eqb y (key a)) (λ t. rw t refl) (λ t. rw t (found-append key y l r))
+
+pub found-left : {A : Type 0} (key : A → ℕ) (y : ℕ) (l r : List A) {d : A} → find key y l ≡ some d → find key y (l ++ r) ≡ some d
+found-left {A} key y l r e = found-append key y l r ∙ ap (λ (o : Option A). first o (find key y r)) e
+
+pub found-right : {A : Type 0} (key : A → ℕ) (y : ℕ) (l r : List A) {o : Option A} → find key y l ≡ none → find key y r ≡ o → find key y (l ++ r) ≡ o
+found-right {A} key y l r e f = found-append key y l r ∙ ap (λ (o : Option A). first o (find key y r)) e ∙ f
 
 -- AMONG LISTS BY INDEX
 module _ {A B : Type 0} (key : A → ℕ) (of : B → List A) (y : ℕ) where
   pub never-found : (g : ℕ → B) (n : ℕ) → ((i : ℕ) → i < n → find key y (of (g i)) ≡ none) → find key y (concat-map of (tab g n)) ≡ none
   never-found g zero h = refl
-  never-found g (suc n) h = found-append key y (of (g 0)) (concat-map of (tab (λ i. g (suc i)) n))
-      ∙ ap (λ (o : Option A). first o (find key y (concat-map of (tab (λ i. g (suc i)) n)))) (h 0 (omega arith))
-      ∙ never-found (λ i. g (suc i)) n (λ i l. h (suc i) (omega arith))
+  never-found g (suc n) h = found-right key y (of (g 0)) (concat-map of (tab (λ i. g (suc i)) n)) (h 0 (omega arith)) (never-found (λ i. g (suc i)) n (λ i l. h (suc i) (omega arith)))
 
   pub found-at : (g : ℕ → B) (n p : ℕ) {d : A} → p < n → find key y (of (g p)) ≡ some d → ((i : ℕ) → i < p → find key y (of (g i)) ≡ none) → find key y (concat-map of (tab g n)) ≡ some d
   found-at g zero p l e h = absurd (omega arith)
-  found-at g (suc n) zero l e h = found-append key y (of (g 0)) (concat-map of (tab (λ i. g (suc i)) n))
-      ∙ ap (λ (o : Option A). first o (find key y (concat-map of (tab (λ i. g (suc i)) n)))) e
-  found-at g (suc n) (suc p) l e h = found-append key y (of (g 0)) (concat-map of (tab (λ i. g (suc i)) n))
-      ∙ ap (λ (o : Option A). first o (find key y (concat-map of (tab (λ i. g (suc i)) n)))) (h 0 (omega arith))
-      ∙ found-at (λ i. g (suc i)) n p (omega arith) e (λ i u. h (suc i) (omega arith))
+  found-at g (suc n) zero l e h = found-left key y (of (g 0)) (concat-map of (tab (λ i. g (suc i)) n)) e
+  found-at g (suc n) (suc p) l e h = found-right key y (of (g 0)) (concat-map of (tab (λ i. g (suc i)) n)) (h 0 (omega arith)) (found-at (λ i. g (suc i)) n p (omega arith) e (λ i u. h (suc i) (omega arith)))
 
 -- AMONG THE LINKS THAT SEW f TO g
 abbrev both : ℕ × ℕ → List Link
