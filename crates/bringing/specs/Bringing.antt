@@ -4,9 +4,10 @@
 use mathlib.Core.Path.{_≡_}
 use mathlib.Core.Bool.{true, false}
 use mathlib.Core.List.{List}
-use Prim.Native.Nat.{ℕ, _+_, _%_, _<_}
-use lib.ListN.{getD}
+use Prim.Native.Nat.{ℕ, zero, suc, _+_, _-_, _%_, _<_}
+use lib.ListN.{length, getD}
 use Rattle.model.specs.Lists.{all, mem, tab}
+use Rattle.model.specs.Cells.{cycle}
 use Rattle.model.specs.Image.{column}
 use Rattle.model.specs.Departure.{Link}
 use Rattle.model.specs.Arrival.{sew-both}
@@ -46,6 +47,19 @@ pub record Sewing2 (s : ℕ → ℕ) (x b z indices starts kinds links kinds′ 
   pub serials : Apart s x n k
   pub meets : Meets b z indices n k c w
   pub before : Before b kinds links starts k
-  pub other-face : (e : ℕ) → e < c → mem (getD indices e 0) starts ≡ false
   pub kinds-put : Faced z indices c (λ e j. 1) kinds kinds′
   pub links-put : Faced z indices c w links links′
+
+-- k steps along a link
+abbrev pub steps : (ℕ → ℕ) → ℕ → ℕ → ℕ
+steps f zero y = y
+steps f (suc k) y = steps f k (f y)
+
+-- the places where the labels of part 2 stand, and the faces met from there against next, of equal size and all different
+pub record Places2 (m codes indices places z : List ℕ) (c : ℕ) (w : ℕ → ℕ → ℕ) : Type 0 where
+  pub place-below : (e : ℕ) → e < c → getD places e 0 < getD m 2 0
+  pub is-critical : (e : ℕ) → e < c → 1 < column m 3 (getD places e 0)
+  pub code-is : (e : ℕ) → e < c → column m 4 (getD places e 0) ≡ getD codes e 0
+  pub size-is : (e : ℕ) → e < c → getD z (getD indices e 0) 0 ≡ length (cycle (column m 1) (getD places e 0))
+  pub met-is : (e j : ℕ) → e < c → j < getD z (getD indices e 0) 0 → w e j ≡ steps (column m 1) (getD z (getD indices e 0) 0 - j) (getD places e 0)
+  pub met-differ : (d i e j : ℕ) → d < c → i < getD z (getD indices d 0) 0 → e < c → j < getD z (getD indices e 0) 0 → w d i ≡ w e j → (d ≡ e) × (i ≡ j)
