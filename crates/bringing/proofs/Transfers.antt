@@ -7,7 +7,7 @@ use Prim.Native.Nat.{ℕ, zero, suc, _+_, _-_, _≤_, _<_}
 use native.Mathlib.Omega.{arith}
 use lib.ListN.{length, getD, take, length-map}
 use lib.Seq.{getD-take, length-take-le}
-use Rattle.model.specs.Lists.{all, tab, zip, concat-map}
+use Rattle.model.specs.Lists.{all, ascending, tab, zip, concat-map}
 use Rattle.model.specs.Values.{rack, Dart, code}
 use Rattle.model.specs.Cells.{cycle, held, labelled, previous-in}
 use Rattle.model.specs.Image.{column, dart-in, block-in, is-image}
@@ -77,3 +77,87 @@ front-count f ms l c n eq = sym (length-map ms f) ∙ ap length (sym eq) ∙ len
 
 both-start : (p : ℕ → Bool) (l r : List ℕ) → all p l ≡ true → all p r ≡ true → all p (l ++ r) ≡ true
 both-start p l r a b = all-from p (l ++ r) (λ x h. ⊎-elim (λ (u : In x l). all-in p l a x u) (λ (u : In x r). all-in p r b x u) (append-in x l r h))
+
+-- THE WHOLE TRANSFER
+abbrev no-entry : Part2
+no-entry = record { label = record { maker = 0; number = 0; position = 0 }; index = 0 }
+
+module _ (m : List ℕ) (ok : is-image rack m ≡ true) {t : Transfer} {v x b z s : List ℕ} {k from to : ℕ} {l : Tail} {codes indices kinds links : List ℕ} (a : Arrives t v x b z s k from to l)
+    (told : CriticalTold t x b z k l codes indices kinds links) (right : indices-right t ≡ true) (few : k ≤ 512) (room2 : l .count2 ≤ length indices) where
+  abbrev entry : ℕ → Part2
+  entry e = getD (t .part2) e no-entry
+
+  count-is : length (t .part2) ≡ l .count2
+  count-is = front-count index2 (t .part2) indices (l .count2) room2 (told .indices-are)
+
+  index-is : (e : ℕ) → e < l .count2 → getD indices e 0 ≡ entry e .index
+  index-is = front-at index2 no-entry (t .part2) indices (l .count2) count-is (told .indices-are)
+
+  code-is : (e : ℕ) → e < l .count2 → getD codes e 0 ≡ code (entry e .label)
+  code-is = front-at code2 no-entry (t .part2) codes (l .count2) count-is (told .codes-are)
+
+  segs : Segments b z k
+  segs = subst (Segments b z) (sym (a .darts)) (segments v x b z (t .faces) (a .inside))
+
+  fit : indices-fit b k (map index2 (t .part2)) (map index3 (t .part3)) (map index4 (t .part4)) ≡ true
+  fit = ap (λ (d : ℕ). indices-fit b d (map index2 (t .part2)) (map index3 (t .part3)) (map index4 (t .part4))) (a .darts) ∙ sym (indices-are t (a .inside) (a .full)) ∙ right
+
+  fits2 : part-fits b k [] (take (l .count2) indices) ≡ true
+  fits2 = ap (part-fits b k []) (told .indices-are) ∙ and-left (part-fits b k [] (map index2 (t .part2))) _ (and-left (part-fits b k [] (map index2 (t .part2)) && part-fits b k (map index2 (t .part2)) (map index3 (t .part3))) _ fit)
+
+  starts-in : (others r : List ℕ) → part-fits b k others r ≡ true → all (starts-at b k) r ≡ true
+  starts-in others r h = and-left (all (starts-at b k) r) _ (and-left (all (starts-at b k) r && ascending r) _ h)
+
+  all-start : all (starts-at b k) (told .starts) ≡ true
+  all-start = ap (all (starts-at b k)) (told .starts-are) ∙ both-start (starts-at b k) (map index3 (t .part3)) (map index4 (t .part4))
+      (starts-in (map index2 (t .part2)) (map index3 (t .part3)) (and-right (part-fits b k [] (map index2 (t .part2))) _ (and-left (part-fits b k [] (map index2 (t .part2)) && part-fits b k (map index2 (t .part2)) (map index3 (t .part3))) _ fit)))
+      (starts-in (map index2 (t .part2) ++ map index3 (t .part3)) (map index4 (t .part4)) (and-right (part-fits b k [] (map index2 (t .part2)) && part-fits b k (map index2 (t .part2)) (map index3 (t .part3))) _ fit))
+
+  abbrev at : ℕ → ℕ
+  at e = getD indices e 0
+
+  at-below : (e : ℕ) → e < l .count2 → at e < k
+  at-below = below segs few [] indices (l .count2) room2 fits2
+
+  at-start : (e : ℕ) → e < l .count2 → getD b (at e) 0 ≡ at e
+  at-start = start segs few [] indices (l .count2) room2 fits2
+
+  face : (e : ℕ) → e < l .count2 → face-from t (entry e .index) ≡ tab (λ j. getD x (at e + j) 0) (getD z (at e) 0)
+  face e h = ap (face-from t) (sym (index-is e h)) ∙ face-is v x b z t (a .inside) (a .full) (at e) (let u = at-below e h in let d = a .darts in omega (arith, u, d)) (at-start e h)
+
+  module _ {places : List ℕ} {w : ℕ → ℕ → ℕ} (met : Places2 m codes indices places z (l .count2) w) where
+    entry-is : (e : ℕ) → e < l .count2 → part2-links (block-in m .darts) t (entry e) ≡ met-links (column m 0) x (at e) (getD z (at e) 0) (w e)
+    entry-is e h = part2-is m ok t x (entry e) (at e) (getD z (at e) 0) (getD places e 0) (w e) (face e h)
+        (labelled-at (image-passed m ok) (entry e .label) (getD places e 0) (met .place-below e h) (met .is-critical e h) (met .code-is e h ∙ code-is e h))
+        (met .place-below e h) (met .size-is e h) (λ j u. met .met-is e j h u)
+
+    meets : Meets b z indices (getD m 2 0) k (l .count2) w
+    meets = record {
+      segs = segs;
+      index-below = at-below;
+      starts-face = at-start;
+      faces-differ = λ d e hd he q. one-place (ascending-tab at (l .count2) (up segs few [] indices (l .count2) room2 fits2)) hd he q;
+      met-below = λ e j he hj. subst (λ (p : ℕ). p < getD m 2 0) (sym (met .met-is e j he hj)) (steps-below m ok (getD z (at e) 0 - j) (getD places e 0) (met .place-below e he));
+      met-differ = met .met-differ;
+    }
+
+    links-are : transfer-links (block-in m .darts) t ≡ concat-map (part2-links (block-in m .darts) t) (tab entry (l .count2)) ++ concat-map (face-links (column m 0) x z kinds links) (told .starts)
+    unfolding transfer-links
+    links-are = two (ap (concat-map (part2-links (block-in m .darts) t)) (sym (tab-list no-entry (t .part2) entry (λ p h. refl)) ∙ ap (tab entry) count-is)) (told .links-are (column m 0))
+      where
+        two : {c d e f : List Link} → c ≡ d → e ≡ f → c ++ e ≡ d ++ f
+        two p q = rw (p, q) refl
+
+    -- the words with part 2's put over those of parts 3 and 4 are the links of the transfer
+    pub brought : {kinds′ links′ : List ℕ} → Apart (column m 0) x (getD m 2 0) k → ((q : ℕ) → q < k → Kind (getD kinds q 0) (getD links q 0))
+        → Faced z indices (l .count2) (λ e j. 1) kinds kinds′ → Faced z indices (l .count2) w links links′ → Linking m (getD m 2 0) k x kinds′ links′ (transfer-links (block-in m .darts) t)
+    brought {kinds′} {links′} serials kind-right kinds-put links-put = subst (Linking m (getD m 2 0) k x kinds′ links′) (sym links-are) (linking (part2-links (block-in m .darts) t) entry m sewing entry-is)
+      where
+        sewing : Sewing2 (column m 0) x b z indices (told .starts) kinds links kinds′ links′ (getD m 2 0) k (l .count2) w
+        sewing = record {
+          serials = serials;
+          meets = meets;
+          before = record { kind-right = kind-right; all-start = all-start; kind-in = told .kind-in; kind-out = told .kind-out };
+          kinds-put = kinds-put;
+          links-put = links-put;
+        }
