@@ -1,3 +1,4 @@
 pub mod Found
 pub mod Brought
 pub mod Transfers
+pub mod MetFaces
