@@ -22,7 +22,7 @@ use Rattle.parts.specs.Indices.{starts-at}
 use Rattle.parts.specs.Segments.{link-of, face-links}
 use Rattle.parts.proofs.FaceLinks.{link-found}
 use Rattle.joined.specs.Join.{Linking}
-use Rattle.bringing.specs.Bringing.{met-links, Apart, Meets, Before, Sewing2}
+use Rattle.bringing.specs.Bringing.{met-links, Apart, Meets, Sewing2}
 use Rattle.bringing.proofs.Found.{found-left, found-right, never-found, found-at, sewn-none, sewn-new, sewn-old}
 
 -- the index of a dart on the face of entry e of part 2

@@ -1,4 +1,4 @@
 pub mod Found
 pub mod Brought
-pub mod Transfers
 pub mod MetFaces
+pub mod Transfers

@@ -8,12 +8,11 @@ use native.Mathlib.Omega.{arith}
 use lib.ListN.{length}
 use borrow.Author.Tests.{not-true}
 use Rattle.model.specs.Lists.{mem, distinct, least, tab}
-use Rattle.model.specs.Values.{Dart}
 use Rattle.model.specs.Cells.{cycle, labelled, next-in}
 use Rattle.model.specs.Image.{column}
 use Rattle.model.specs.Messages.{Part2}
 use Rattle.model.specs.Arrival.{part2-apart}
-use Rattle.laws.proofs.Tests.{lt-or-ge, eq-or-ne, and-left, and-right}
+use Rattle.laws.proofs.Tests.{lt-or-ge, and-left, and-right}
 use Rattle.laws.proofs.Members.{In, in-eq, least-in, least-below}
 use Rattle.laws.proofs.Orbits.{iter, iter-add, iter-stays, iter-inj, path, path-in, around-path, in-cycle}
 use Rattle.laws.proofs.Faces.{face-self, face-stays, face-sym, face-trans}

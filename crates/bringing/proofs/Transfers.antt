@@ -11,18 +11,18 @@ use Rattle.model.specs.Lists.{all, ascending, tab, zip, concat-map}
 use Rattle.model.specs.Values.{rack, Dart, code}
 use Rattle.model.specs.Cells.{cycle, held, labelled, previous-in}
 use Rattle.model.specs.Image.{column, dart-in, block-in, is-image}
-use Rattle.model.specs.Messages.{Part2, Transfer, size-all}
+use Rattle.model.specs.Messages.{Part2, Transfer}
 use Rattle.model.specs.Departure.{Link}
-use Rattle.model.specs.Arrival.{sew-both, face-from, part2-links, critical-links, transfer-links, indices-right}
+use Rattle.model.specs.Arrival.{sew-both, face-from, part2-links, transfer-links, indices-right, part2-apart}
 use Rattle.laws.proofs.Tests.{and-left, and-right}
 use Rattle.laws.proofs.Maps.{map-at}
 use Rattle.laws.proofs.Members.{In, all-in, all-from, append-in}
 use Rattle.laws.proofs.Orbits.{iter}
-use Rattle.laws.proofs.Tables.{length-tab, tab-cong, one-place, ascending-tab, held-place}
+use Rattle.laws.proofs.Tables.{tab-cong, one-place, ascending-tab, held-place}
 use Rattle.theory.proofs.ImageLaws.{tab-list}
 use Rattle.columns.specs.Columns.{Kind}
 use Rattle.columns.proofs.Question.{image-passed}
-use Rattle.cells.proofs.Sited.{Sited, sited, darts-in, count-in}
+use Rattle.cells.proofs.Sited.{Sited, sited, darts-in}
 use Rattle.inbox.specs.declared.message.Tail.{Tail}
 use Rattle.arrival.specs.Sides.{Segments}
 use Rattle.arrival.proofs.SegmentLaws.{segments}
@@ -37,9 +37,10 @@ use Rattle.parts.proofs.Assembled.{up, below, start}
 use Rattle.parts.proofs.LabelledDarts.{labelled-at}
 use Rattle.parts.proofs.Backwards.{met-face}
 use Rattle.joined.specs.Join.{Linking}
-use Rattle.bringing.specs.Bringing.{met-links, Apart, Meets, Before, Sewing2, steps, Places2}
+use Rattle.bringing.specs.Bringing.{met-links, Apart, Meets, Sewing2, steps, Placing2, MetOnce}
 use Rattle.bringing.proofs.Found.{sew-tab}
 use Rattle.bringing.proofs.Brought.{linking}
+use Rattle.bringing.proofs.MetFaces.{apart-differ, differ-apart}
 
 steps-iter : (f : ℕ → ℕ) (k y : ℕ) → steps f k y ≡ iter f k y
 steps-iter f zero y = refl
@@ -90,6 +91,9 @@ module _ (m : List ℕ) (ok : is-image rack m ≡ true) {t : Transfer} {v x b z 
   count-is : length (t .part2) ≡ l .count2
   count-is = front-count index2 (t .part2) indices (l .count2) room2 (told .indices-are)
 
+  entries-are : t .part2 ≡ tab entry (l .count2)
+  entries-are = sym (tab-list no-entry (t .part2) entry (λ p h. refl)) ∙ ap (tab entry) count-is
+
   index-is : (e : ℕ) → e < l .count2 → getD indices e 0 ≡ entry e .index
   index-is = front-at index2 no-entry (t .part2) indices (l .count2) count-is (told .indices-are)
 
@@ -125,38 +129,53 @@ module _ (m : List ℕ) (ok : is-image rack m ≡ true) {t : Transfer} {v x b z 
   face : (e : ℕ) → e < l .count2 → face-from t (entry e .index) ≡ tab (λ j. getD x (at e + j) 0) (getD z (at e) 0)
   face e h = ap (face-from t) (sym (index-is e h)) ∙ face-is v x b z t (a .inside) (a .full) (at e) (let u = at-below e h in let d = a .darts in omega (arith, u, d)) (at-start e h)
 
-  module _ {places : List ℕ} {w : ℕ → ℕ → ℕ} (met : Places2 m codes indices places z (l .count2) w) where
-    entry-is : (e : ℕ) → e < l .count2 → part2-links (block-in m .darts) t (entry e) ≡ met-links (column m 0) x (at e) (getD z (at e) 0) (w e)
-    entry-is e h = part2-is m ok t x (entry e) (at e) (getD z (at e) 0) (getD places e 0) (w e) (face e h)
-        (labelled-at (image-passed m ok) (entry e .label) (getD places e 0) (met .place-below e h) (met .is-critical e h) (met .code-is e h ∙ code-is e h))
-        (met .place-below e h) (met .size-is e h) (λ j u. met .met-is e j h u)
+  module _ {places : List ℕ} {w : ℕ → ℕ → ℕ} (met : Placing2 m codes indices places z (l .count2) w) where
+    labelled-there : (e : ℕ) → e < l .count2 → labelled (entry e .label) (darts-in m) ≡ dart-in m (getD places e 0)
+    labelled-there e h = labelled-at (image-passed m ok) (entry e .label) (getD places e 0) (met .place-below e h) (met .is-critical e h) (met .code-is e h ∙ code-is e h)
 
-    meets : Meets b z indices (getD m 2 0) k (l .count2) w
-    meets = record {
+    entry-is : (e : ℕ) → e < l .count2 → part2-links (block-in m .darts) t (entry e) ≡ met-links (column m 0) x (at e) (getD z (at e) 0) (w e)
+    entry-is e h = part2-is m ok t x (entry e) (at e) (getD z (at e) 0) (getD places e 0) (w e) (face e h) (labelled-there e h) (met .place-below e h) (met .size-is e h) (λ j u. met .met-is e j h u)
+
+    met-there : (e j : ℕ) → e < l .count2 → j < getD z (at e) 0 → w e j ≡ iter (column m 1) (length (cycle (column m 1) (getD places e 0)) - j) (getD places e 0)
+    met-there e j h u = met .met-is e j h u ∙ steps-iter (column m 1) (getD z (at e) 0 - j) (getD places e 0) ∙ ap (λ (c : ℕ). iter (column m 1) (c - j) (getD places e 0)) (met .size-is e h)
+
+    -- "on different faces": a yes exactly where no place is met twice
+    pub met-once : part2-apart (block-in m .darts) (t .part2) ≡ true → MetOnce z indices (l .count2) w
+    met-once apart = record {
+      once = λ d i e j hd hi he hj q. apart-differ (sited rack m ok) (t .part2) entry (λ e. getD places e 0) (l .count2) entries-are (met .place-below) (λ e h. ap (λ (r : Dart). r .serial) (labelled-there e h)) apart d i e j
+          hd (subst (λ (c : ℕ). i < c) (met .size-is d hd) hi) he (subst (λ (c : ℕ). j < c) (met .size-is e he) hj) (sym (met-there d i hd hi) ∙ q ∙ met-there e j he hj);
+    }
+
+    pub once-apart : MetOnce z indices (l .count2) w → part2-apart (block-in m .darts) (t .part2) ≡ true
+    once-apart r = differ-apart (sited rack m ok) (t .part2) entry (λ e. getD places e 0) (l .count2) entries-are (met .place-below) (λ e h. ap (λ (r : Dart). r .serial) (labelled-there e h))
+        (λ d i e j hd hi he hj q. let ui = subst (λ (c : ℕ). i < c) (sym (met .size-is d hd)) hi in let uj = subst (λ (c : ℕ). j < c) (sym (met .size-is e he)) hj in r .once d i e j hd ui he uj (met-there d i hd ui ∙ q ∙ sym (met-there e j he uj)) .0)
+
+    meets : MetOnce z indices (l .count2) w → Meets b z indices (getD m 2 0) k (l .count2) w
+    meets o = record {
       segs = segs;
       index-below = at-below;
       starts-face = at-start;
       faces-differ = λ d e hd he q. one-place (ascending-tab at (l .count2) (up segs few [] indices (l .count2) room2 fits2)) hd he q;
       met-below = λ e j he hj. subst (λ (p : ℕ). p < getD m 2 0) (sym (met .met-is e j he hj)) (steps-below m ok (getD z (at e) 0 - j) (getD places e 0) (met .place-below e he));
-      met-differ = met .met-differ;
+      met-differ = o .once;
     }
 
     links-are : transfer-links (block-in m .darts) t ≡ concat-map (part2-links (block-in m .darts) t) (tab entry (l .count2)) ++ concat-map (face-links (column m 0) x z kinds links) (told .starts)
     unfolding transfer-links
-    links-are = two (ap (concat-map (part2-links (block-in m .darts) t)) (sym (tab-list no-entry (t .part2) entry (λ p h. refl)) ∙ ap (tab entry) count-is)) (told .links-are (column m 0))
+    links-are = two (ap (concat-map (part2-links (block-in m .darts) t)) entries-are) (told .links-are (column m 0))
       where
         two : {c d e f : List Link} → c ≡ d → e ≡ f → c ++ e ≡ d ++ f
         two p q = rw (p, q) refl
 
     -- the words with part 2's put over those of parts 3 and 4 are the links of the transfer
-    pub brought : {kinds′ links′ : List ℕ} → Apart (column m 0) x (getD m 2 0) k → ((q : ℕ) → q < k → Kind (getD kinds q 0) (getD links q 0))
+    pub brought : {kinds′ links′ : List ℕ} → MetOnce z indices (l .count2) w → Apart (column m 0) x (getD m 2 0) k → ((q : ℕ) → q < k → Kind (getD kinds q 0) (getD links q 0))
         → Faced z indices (l .count2) (λ e j. 1) kinds kinds′ → Faced z indices (l .count2) w links links′ → Linking m (getD m 2 0) k x kinds′ links′ (transfer-links (block-in m .darts) t)
-    brought {kinds′} {links′} serials kind-right kinds-put links-put = subst (Linking m (getD m 2 0) k x kinds′ links′) (sym links-are) (linking (part2-links (block-in m .darts) t) entry m sewing entry-is)
+    brought {kinds′} {links′} o serials kind-right kinds-put links-put = subst (Linking m (getD m 2 0) k x kinds′ links′) (sym links-are) (linking (part2-links (block-in m .darts) t) entry m sewing entry-is)
       where
         sewing : Sewing2 (column m 0) x b z indices (told .starts) kinds links kinds′ links′ (getD m 2 0) k (l .count2) w
         sewing = record {
           serials = serials;
-          meets = meets;
+          meets = meets o;
           before = record { kind-right = kind-right; all-start = all-start; kind-in = told .kind-in; kind-out = told .kind-out };
           kinds-put = kinds-put;
           links-put = links-put;

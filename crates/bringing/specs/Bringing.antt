@@ -55,11 +55,14 @@ abbrev pub steps : (ℕ → ℕ) → ℕ → ℕ → ℕ
 steps f zero y = y
 steps f (suc k) y = steps f k (f y)
 
--- the places where the labels of part 2 stand, and the faces met from there against next, of equal size and all different
-pub record Places2 (m codes indices places z : List ℕ) (c : ℕ) (w : ℕ → ℕ → ℕ) : Type 0 where
+-- the places where the labels of part 2 stand, and the faces of equal size that are met from there, against next
+pub record Placing2 (m codes indices places z : List ℕ) (c : ℕ) (w : ℕ → ℕ → ℕ) : Type 0 where
   pub place-below : (e : ℕ) → e < c → getD places e 0 < getD m 2 0
   pub is-critical : (e : ℕ) → e < c → 1 < column m 3 (getD places e 0)
   pub code-is : (e : ℕ) → e < c → column m 4 (getD places e 0) ≡ getD codes e 0
   pub size-is : (e : ℕ) → e < c → getD z (getD indices e 0) 0 ≡ length (cycle (column m 1) (getD places e 0))
   pub met-is : (e j : ℕ) → e < c → j < getD z (getD indices e 0) 0 → w e j ≡ steps (column m 1) (getD z (getD indices e 0) 0 - j) (getD places e 0)
-  pub met-differ : (d i e j : ℕ) → d < c → i < getD z (getD indices d 0) 0 → e < c → j < getD z (getD indices e 0) 0 → w d i ≡ w e j → (d ≡ e) × (i ≡ j)
+
+-- no place is met twice
+pub record MetOnce (z indices : List ℕ) (c : ℕ) (w : ℕ → ℕ → ℕ) : Type 0 where
+  pub once : (d i e j : ℕ) → d < c → i < getD z (getD indices d 0) 0 → e < c → j < getD z (getD indices e 0) 0 → w d i ≡ w e j → (d ≡ e) × (i ≡ j)
