@@ -1,14 +1,16 @@
 -- The links of a transfer, by the places that the faces of part 2 meet. Assumes nothing.
 use mathlib.Core.Path.{_≡_, refl, sym, _∙_, ap, subst}
-use mathlib.Core.Bool.{Bool, true, false, true≢false, _&&_}
+use mathlib.Core.Bool.{Bool, true, false, true≢false, not, _&&_}
 use mathlib.Core.List.{List, [], _++_, map}
 use mathlib.Core.Logic.{⊎-elim}
 use Prim.Native.Nat.{ℕ, zero, suc, _+_, _-_, _≤_, _<_}
 use native.Mathlib.Omega.{arith}
+use lib.Dec.{leb}
 use lib.ListN.{length, getD, take, length-map}
 use lib.Seq.{getD-take, length-take-le}
-use Rattle.model.specs.Lists.{all, ascending, tab, zip, concat-map}
-use Rattle.model.specs.Values.{rack, Dart, code}
+use borrow.Author.Tests.{not-true}
+use Rattle.model.specs.Lists.{all, ascending, distinct, tab, zip, concat-map}
+use Rattle.model.specs.Values.{rack, Dart, code, finite}
 use Rattle.model.specs.Cells.{cycle, held, labelled, previous-in}
 use Rattle.model.specs.Image.{column, dart-in, block-in, is-image}
 use Rattle.model.specs.Messages.{Part2, Transfer}
@@ -18,13 +20,16 @@ use Rattle.laws.proofs.Tests.{and-left, and-right}
 use Rattle.laws.proofs.Maps.{map-at}
 use Rattle.laws.proofs.Members.{In, all-in, all-from, append-in}
 use Rattle.laws.proofs.Orbits.{iter}
-use Rattle.laws.proofs.Tables.{tab-cong, one-place, ascending-tab, held-place}
+use Rattle.laws.proofs.Tables.{all-tab, tab-cong, one-place, ascending-tab, held-place}
 use Rattle.theory.proofs.ImageLaws.{tab-list}
 use Rattle.columns.specs.Columns.{Kind}
 use Rattle.columns.proofs.Question.{image-passed}
 use Rattle.cells.proofs.Sited.{Sited, sited, darts-in}
+use Rattle.inbox.specs.Inbox.{points-in}
 use Rattle.inbox.specs.declared.message.Tail.{Tail}
 use Rattle.arrival.specs.Sides.{Segments}
+use Rattle.arrival.specs.Draft.{Draft, NewSerials}
+use Rattle.arrival.proofs.DraftLaws.{serials-differ}
 use Rattle.arrival.proofs.SegmentLaws.{segments}
 use Rattle.parts.specs.Entries.{code2, index2, index3, index4}
 use Rattle.parts.specs.Indices.{starts-at, part-fits, indices-fit}
@@ -42,7 +47,7 @@ use Rattle.bringing.proofs.Found.{sew-tab}
 use Rattle.bringing.proofs.Brought.{linking}
 use Rattle.bringing.proofs.MetFaces.{apart-differ, differ-apart}
 
-steps-iter : (f : ℕ → ℕ) (k y : ℕ) → steps f k y ≡ iter f k y
+pub steps-iter : (f : ℕ → ℕ) (k y : ℕ) → steps f k y ≡ iter f k y
 steps-iter f zero y = refl
 steps-iter f (suc k) y = steps-iter f k (f y)
 
@@ -53,6 +58,13 @@ serials-apart m x k site differ free = record {
   old-differ = λ p q hp hq e. one-place (site .ascends) hp hq e;
   not-held = λ i p hi hp e. true≢false (sym (held-place (dart-in m) (getD m 2 0) p (getD x i 0) hp e) ∙ free i hi);
 }
+
+-- those that question 18 finds new, in a draft
+pub drafted-apart : (m : List ℕ) {v x b z keys ranks q s d : List ℕ} {from from′ n k : ℕ} {r : Bool} → Sited m → Draft v x b z keys ranks q s from k d → NewSerials (darts-in m) s from′ n x k keys ranks r → r ≡ true → Apart (column m 0) x (getD m 2 0) k
+drafted-apart m {x = x} {s = s} {from′ = from′} {n = n} {k = k} site draft new e = serials-apart m x k site (serials-differ draft) (λ i h. not-true _ (and-right (leb 1 (getD x i 0)) _ (all-tab (λ i. leb 1 (getD x i 0) && not (held (darts-in m) (getD x i 0))) (λ i. i) k tests i h)))
+  where
+    tests : all (λ i. leb 1 (getD x i 0) && not (held (darts-in m) (getD x i 0))) (tab (λ i. i) k) ≡ true
+    tests = and-right (all finite (points-in s from′ n)) (all (λ i. leb 1 (getD x i 0) && not (held (darts-in m) (getD x i 0))) (tab (λ i. i) k)) (and-left (all finite (points-in s from′ n) && all (λ i. leb 1 (getD x i 0) && not (held (darts-in m) (getD x i 0))) (tab (λ i. i) k)) (distinct (take k x)) (sym (new .is) ∙ e))
 
 module _ (m : List ℕ) (ok : is-image rack m ≡ true) where
   steps-below : (k y : ℕ) → y < getD m 2 0 → steps (column m 1) k y < getD m 2 0
