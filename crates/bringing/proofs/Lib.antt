@@ -1,0 +1,4 @@
+pub mod Found
+pub mod Brought
+pub mod MetFaces
+pub mod Transfers

@@ -1,0 +1,1 @@
+// That the words of question 20 are the links of a transfer. No code.
