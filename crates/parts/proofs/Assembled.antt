@@ -4,7 +4,7 @@ use mathlib.Core.Bool.{Bool, true, false, true≢false, not, _&&_}
 use mathlib.Core.List.{List, [], _++_, map}
 use mathlib.Core.Logic.{_⊎_, ⊎-elim, inl, inr}
 use mathlib.Core.Option.{some}
-use Prim.Native.Nat.{ℕ, zero, suc, _+_, _*_, _-_, _≤_, _<_, _%_, _^_}
+use Prim.Native.Nat.{ℕ, _/_, zero, suc, _+_, _*_, _-_, _≤_, _<_, _%_, _^_}
 use native.Mathlib.Omega.{arith}
 use lib.Dec.{eqb, ltb}
 use lib.ListN.{length, getD, take, drop, length-map, replicate}
@@ -26,6 +26,7 @@ use Rattle.groups.proofs.Labels.{same-value}
 use Rattle.inbox.specs.Inbox.{Took}
 use Rattle.inbox.specs.declared.message.Tail.{Tail}
 use Rattle.cells.proofs.Paths.{mem-append}
+use Rattle.columns.specs.Columns.{Kind, kind-free, kind-critical}
 use Rattle.arrival.specs.Sides.{Segments}
 use Rattle.arrival.proofs.SegmentLaws.{segments}
 use Rattle.parts.specs.Entries.{EntriesRead, Part4Read, entry-at, labels-at, LabelsThere, code2, index2, number3, index3, index4, other4}
@@ -271,6 +272,15 @@ module _ {t : Transfer} {v x b z s : List ℕ} {k from to : ℕ} {l : Tail} (w :
           kind-out = λ q h m. rw (off-faces k3 k4 q h m ∙ ap (λ (y : List ℕ). getD y q 0) zero-kinds ∙ getD-zeros 512 q) (omega arith);
           small = links-small;
         }
+
+        kinds-small : (q : ℕ) → q < k → In (getD b q 0) (starts3 ++ starts4) → getD kinds″ q 0 / 4 < 16
+        kinds-small = on-faces k3 k4 (λ y. y / 4 < 16) (λ e j c d. omega (arith, from-small)) (λ e j c d. let r = others-small e c in omega (arith, r))
+
+        -- every dart has words that it may have
+        pub words-right : (q : ℕ) → q < k → Kind (getD kinds″ q 0) (getD links″ q 0)
+        words-right q h = by-cases (mem (getD b q 0) (starts3 ++ starts4))
+            (λ u. kind-critical (words .kind-in q h u) (kinds-small q h u) (links-small q h))
+            (λ u. kind-free (off-faces k3 k4 q h u ∙ ap (λ (y : List ℕ). getD y q 0) zero-kinds ∙ getD-zeros 512 q) (off-faces l3 l4 q h u ∙ ap (λ (y : List ℕ). getD y q 0) zero-links ∙ getD-zeros 512 q))
 
         third-tab : t .part3 ≡ tab (λ e. record { number = getD numbers e 0; index = getD i3 e 0 }) (l .count3)
         third-tab =

@@ -27,7 +27,7 @@ use Rattle.parts.specs.Fresh.{labels-fit}
 use Rattle.parts.specs.Critical.{few-entries, entries-fit, Arrives, CriticalRight}
 use Rattle.parts.proofs.IndexLaws.{front-tab}
 use Rattle.parts.proofs.FreshLabels.{Words, labels-are}
-use Rattle.parts.proofs.Assembled.{too-many, entries-told, indices4, spans3, spans4, numbers-small, others-small, labels-there, links-small, words, links-told, off-faces}
+use Rattle.parts.proofs.Assembled.{too-many, entries-told, indices4, spans3, spans4, numbers-small, others-small, labels-there, links-small, words, links-told, off-faces, words-right}
 
 pub sized : {t : Transfer} {v x b z s : List ℕ} {k from to : ℕ} {l : Tail} → Arrives t v x b z s k from to l → Sized (t .faces) k z
 sized w = record { count = w .darts; front = w .inside .sizes }
@@ -95,6 +95,7 @@ module _ (m b : List ℕ) (from to : ℕ) (l : Tail) {s z : List ℕ} {k : ℕ} 
           links-are = the-links w;
           kind-in = the-words w .kind-in;
           kind-out = λ p h u. off-faces w read2 read3 (read4 .3 (t .faces) (sized w)) (read4 .0) (read4 .1) (few4 l small) few (few3 l small) ok-indices k3 k4 p h u ∙ ap (λ (y : List ℕ). getD y p 0) zero-kinds ∙ getD-zeros 512 p;
+          words-right = words-right w read2 read3 (read4 .3 (t .faces) (sized w)) (read4 .0) (read4 .1) (few4 l small) few (few3 l small) ok-indices from-small zero-kinds zero-links k3 k4 l3 l4;
         };
       }
         where

@@ -11,6 +11,7 @@ use Rattle.model.specs.Image.{block-in}
 use Rattle.model.specs.Layouts.{times}
 use Rattle.model.specs.Messages.{Transfer, size-all, part2, part3, part4}
 use Rattle.model.specs.Arrival.{indices-right, consecutive, labels-new, critical-links}
+use Rattle.columns.specs.Columns.{Kind}
 use Rattle.inbox.specs.Inbox.{Took, FacesIn, is-hollow}
 use Rattle.inbox.specs.declared.message.Tail.{Tail}
 use Rattle.parts.specs.Entries.{code2, index2, index3, index4}
@@ -53,6 +54,7 @@ pub record CriticalTold (t : Transfer) (x b z : List ℕ) (k : ℕ) (l : Tail) (
   pub links-are : (serials : ℕ → ℕ) → critical-links t ≡ concat-map (face-links serials x z kinds links) starts
   pub kind-in : (q : ℕ) → q < k → mem (getD b q 0) starts ≡ true → getD kinds q 0 % 4 ≡ 2
   pub kind-out : (q : ℕ) → q < k → mem (getD b q 0) starts ≡ false → getD kinds q 0 ≡ 0
+  pub words-right : (q : ℕ) → q < k → Kind (getD kinds q 0) (getD links q 0)
 
 pub record CriticalRight (m s b z : List ℕ) (k from to : ℕ) (l : Tail) (codes indices kinds links : List ℕ) (r : Bool) : Type 0 where
   pub answer : (t : Transfer) (v x : List ℕ) → Arrives t v x b z s k from to l → r ≡ rest-right (block-in m) t
