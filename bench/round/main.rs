@@ -3,6 +3,7 @@
 //! both versions on drawn cases: answers and every lent byte.
 
 use peer::bench::{medians, round, Round};
+use peer::cases::Call;
 use peer::compare::compare;
 use peer::lent::{Core, OracleNumbers};
 use peer::plain::{self, Plain};
@@ -122,9 +123,9 @@ fn main() {
         // A prime, so that each call has each block.
         times(&(1..=31).map(|seed| round(large, Some(seed))).collect::<Vec<_>>());
     }
-    match compare(&Plain, &Proved, 1, 100_000) {
+    match compare(&Plain, &Proved, &[Call::Send, Call::Release], 1, 30_000) {
         Ok(table) => {
-            for ((call, answer), count) in table.iter().filter(|((call, _), _)| ["send", "release"].contains(call)) {
+            for ((call, answer), count) in &table {
                 println!("{call}, answer {answer}: {count} as the plain version");
             }
         }
