@@ -8,12 +8,12 @@ use lib.ListN.{length, getD}
 use Rattle.model.specs.Values.{Label, code}
 use Rattle.model.specs.Image.{label-in}
 use Rattle.model.specs.Layouts.{group, at-most, as-type, _⊗_, _⊕_, get-all, times}
-use Rattle.model.specs.Messages.{Part3, label, part3}
+use Rattle.model.specs.Messages.{Part2, Part3, label, part2, part3}
 use Rattle.groups.proofs.Ends.{then-some}
 use Rattle.groups.proofs.Labels.{same-value, group-bound, at-most-bound}
 use Rattle.memory.proofs.Labels.{label-code}
 use Rattle.inbox.specs.Inbox.{Took}
-use Rattle.parts.specs.Entries.{number3}
+use Rattle.parts.specs.Entries.{code2, number3}
 
 record InRange (l : Label) : Type 0 where
   maker-small : l .maker ≤ 15
@@ -121,3 +121,30 @@ numbers-small (suc n) bs ms rest e j =
 pub took-numbers : (n : ℕ) {s : List ℕ} {at past : ℕ} {ms : List Part3} → Took (times n part3) s at ms past → (j : ℕ) → getD (map number3 ms) j 0 < 2 ^ 32
 unfolding times
 took-numbers n {ms = ms} t = numbers-small n _ ms _ (t .value)
+
+-- codes of part 2 that were read
+code-range : (bs : List ℕ) (m : Part2) (rest : List ℕ) → part2 .get bs ≡ some (m, rest) → code2 m < 2 ^ 48
+unfolding part2 as-type _⊕_ _⊗_
+code-range bs m rest h =
+    let whole = then-some ((label ⊕ group) .get bs) _ _ h in
+    let name = then-some (label .get bs) _ _ (whole .2) in
+    let index = then-some (group .get (name .1)) _ _ (name .3) in
+    let e : name .0 ≡ m .label = ap (λ (x : Label × ℕ). x .0) (same-value (index .3)) ∙ ap (λ (x : Part2). x .label) (same-value (whole .3)) in
+    rw e at (code-small (name .0) (label-ranges bs (name .0) (name .1) (name .2)))
+
+codes-small : (n : ℕ) (bs : List ℕ) (ms : List Part2) (rest : List ℕ) → get-all part2 n bs ≡ some (ms, rest) → (j : ℕ) → getD (map code2 ms) j 0 < 2 ^ 48
+unfolding get-all
+codes-small zero bs ms rest e j = let q : ms ≡ [] = sym (same-value e) in rw q (omega arith)
+codes-small (suc n) bs ms rest e j =
+    let t = then-some (part2 .get bs) _ _ e in
+    let u = then-some (get-all part2 n (t .1)) _ _ (t .3) in
+    let q : ms ≡ t .0 ∷ u .0 = sym (same-value (u .3)) in
+    rw q (go (t .0) (u .0) j (code-range bs (t .0) (t .1) (t .2)) (codes-small n (t .1) (u .0) (u .1) (u .2)))
+  where
+    go : (m : Part2) (l : List Part2) (j : ℕ) → code2 m < 2 ^ 48 → ((i : ℕ) → getD (map code2 l) i 0 < 2 ^ 48) → getD (map code2 (m ∷ l)) j 0 < 2 ^ 48
+    go m l zero a b = a
+    go m l (suc i) a b = b i
+
+pub took-codes : (n : ℕ) {s : List ℕ} {at past : ℕ} {ms : List Part2} → Took (times n part2) s at ms past → (j : ℕ) → getD (map code2 ms) j 0 < 2 ^ 48
+unfolding times
+took-codes n {ms = ms} t = codes-small n _ ms _ (t .value)
