@@ -3,8 +3,7 @@ use mathlib.Core.Path.{_≡_, refl, sym, _∙_, ap}
 use mathlib.Core.Bool.{Bool, true, false, true≢false, not, _&&_}
 use mathlib.Core.List.{List, [], _∷_, map}
 use Prim.Native.Nat.{ℕ, suc, _≤_}
-use native.Mathlib.Omega.{arith}
-use lib.ListN.{length, getD, take, replicate}
+use lib.ListN.{getD, replicate}
 use Rattle.model.specs.Lists.{all, mem, distinct, find, least}
 use Rattle.model.specs.Values.{Dart, Block, label-key, or-no-dart}
 use Rattle.model.specs.Cells.{cycle, labelled, next-in}
@@ -12,7 +11,6 @@ use Rattle.model.specs.Messages.{Part2, Transfer}
 use Rattle.model.specs.Arrival.{indices-right, part2-right, part2-apart, consecutive, labels-new, parts-right}
 use Rattle.laws.proofs.Tests.{by-cases, and-intro, and-right}
 use Rattle.laws.proofs.Members.{in-map, distinct-not, map-map}
-use Rattle.ranking.specs.Ranks.{Ranked}
 use Rattle.parts.specs.Entries.{code2}
 use Rattle.parts.specs.Critical.{rest-right}
 use Rattle.parts.specs.Locate.{Located}
@@ -52,20 +50,6 @@ codes-differ ds ms e = distinct-map face (map code2 ms) (ap distinct (map-map co
   where
     face : ℕ → ℕ
     face c = least (cycle (next-in ds) (or-no-dart (find (λ d. label-key (d .third)) (suc c) ds) .serial))
-
--- NO CODES
-pub none-ranked : (codes keys ranks : List ℕ) {c : ℕ} → c ≡ 0 → length keys ≡ 512 → CodesRanked codes c keys ranks true
-none-ranked codes keys ranks {c} e n = record { is = ap (λ (i : ℕ). distinct (take i codes)) (sym e); ranked = λ y. empty; keys-size = n }
-  where
-    empty : Ranked codes c keys ranks
-    empty = record {
-      ascends = λ i j h l. absurd (omega (arith, e, l));
-      value-is = λ p h. absurd (omega (arith, e, h));
-      index-below = λ p h. absurd (omega (arith, e, h));
-      rank-below = λ i h. absurd (omega (arith, e, h));
-      rank-index = λ p h. absurd (omega (arith, e, h));
-      index-rank = λ i h. absurd (omega (arith, e, h));
-    }
 
 -- PART 2, from what was asked of it
 module _ {m d ranks z codes indices : List ℕ} {k from c : ℕ} (ready : Part2Ready m d ranks z codes indices k from c) where

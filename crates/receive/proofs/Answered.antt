@@ -1,25 +1,31 @@
--- Questions 17 to 19 in their order. Assumes nothing.
+-- The call's answers: questions 17 to 21 in their order. Assumes nothing.
 use mathlib.Core.Path.{_≡_, refl, sym, _∙_, ap, subst}
 use mathlib.Core.Bool.{Bool, true, false, not}
-use mathlib.Core.List.{List, [], _∷_}
+use mathlib.Core.List.{List, [], _∷_, append-nil}
 use mathlib.Core.Logic.{inl, inr}
-use Prim.Native.Nat.{ℕ, zero, suc, _≤_, _<_}
+use Prim.Native.Nat.{ℕ, zero, suc, _+_, _≤_, _<_}
 use native.Mathlib.Omega.{arith}
-use lib.Dec.{leb}
 use lib.ListN.{length, getD}
-use borrow.Author.Tests.{leb-true, lt-ltb}
-use Rattle.model.specs.Lists.{tab}
-use Rattle.model.specs.Values.{serial-bound}
-use Rattle.model.specs.Image.{block-in}
-use Rattle.model.specs.Messages.{Transfer, a-transfer, message-in, size-all}
-use Rattle.model.specs.Arrival.{addressed, serials-new, volume-right, receive-checks}
-use Rattle.laws.proofs.Tests.{and-intro, and-left, and-right}
+use borrow.Author.Tests.{le-leb, lt-leb, lt-ltb, eq-eqb, ne-eqb}
+use Rattle.model.specs.Lists.{tab, Check, first-no}
+use Rattle.model.specs.Values.{rack, serial-bound}
+use Rattle.model.specs.Image.{words, image, dart-in, block-in, is-image, memory-checks}
+use Rattle.model.specs.Messages.{Transfer, Message, a-transfer, an-update, no-message, message-in, size-all}
+use Rattle.model.specs.Arrival.{addressed, serials-new, volume-right, receive-checks, received, received-from}
+use Rattle.model.specs.Calls.{Answer, served, refused, storing, receive}
+use Rattle.laws.proofs.Tests.{and-intro, yes-then, no-more}
+use Rattle.laws.proofs.Tables.{length-tab}
+use Rattle.answers.specs.Answers.{Gives, answered}
+use Rattle.answers.specs.declared.Refusal.{Refusal}
 use Rattle.answers.specs.declared.Refusal.the-variants as refusal
-use Rattle.answers.proofs.Questions.{alone, ask-no, ask-yes, said-no, said-yes}
+use Rattle.answers.proofs.Questions.{Asks, gives, alone, ask-no, ask-yes, ask-end, ask-first, said-no, said-yes}
 use Rattle.inbox.specs.declared.message.Front.{Front}
 use Rattle.inbox.specs.declared.message.Tail.{Tail}
-use Rattle.inbox.specs.Inbox.{some-darts}
-use Rattle.inbox.specs.Arrived.{TransferOutlined}
+use Rattle.inbox.specs.declared.message.Update.{Update as UpdateOutline}
+use Rattle.inbox.specs.declared.received.Received.{Received}
+use Rattle.inbox.specs.declared.received.Received.the-variants as received
+use Rattle.inbox.specs.Arrived.{TransferOutlined, MessageSaid, MessageRead}
+use Rattle.cells.proofs.Sited.{sited}
 use Rattle.model.specs.Demands.{Bytes}
 use Rattle.soundness.proofs.Rows.{Elem}
 use Rattle.soundness.proofs.Fits.{fits}
@@ -29,32 +35,22 @@ use Rattle.arrival.specs.Sides.{side-at}
 use Rattle.arrival.proofs.SideLaws.{sides-are}
 use Rattle.arrival.specs.Draft.{NewSerials, Told, Draft}
 use Rattle.arrival.proofs.Eighteen.{eighteen-is}
-use Rattle.receive.specs.Taken.{VolumeAsked}
+use Rattle.fitting.specs.Fitting.{NewVolume, Parted}
+use Rattle.fitting.proofs.Outlined.{told-of}
+use Rattle.receive.specs.Taken.{AllYes, AskedSaid, AskedAll, Takes, receive-by}
+use Rattle.receive.specs.declared.asks.Asked.{Asked}
 use Rattle.receive.specs.declared.asks.Asked.the-variants as asked
 
-module _ {s v x b z : List ℕ} {f : Front} {l : Tail} where
-  -- what is told of part 1
-  pub told-of : {t : Transfer} → TransferOutlined t s v x b z f l → Told t v x b z s (f .points) (f .vertices) (f .darts) (f .hollow)
-  told-of {t} w =
-      let low = leb-true 1 (size-all (t .faces)) (and-left (leb 1 (size-all (t .faces))) _ (w .some-there)) in
-      let high = leb-true (size-all (t .faces)) 512 (and-right (leb 1 (size-all (t .faces))) _ (w .some-there)) in
-      record {
-        inside = w .inside;
-        darts = w .darts-are;
-        some-darts = omega (arith, low, w .darts-are);
-        few = omega (arith, high, w .darts-are);
-        points = sym (w .points-are);
-        points-fit = w .points-fit;
-        hollow-is = w .hollow-is;
-      }
-
 module _ (m : List ℕ) {s v x b z : List ℕ} {f : Front} {l : Tail} where
+  count-is : (t : Transfer) → TransferOutlined t s v x b z f l → length (block-in m .darts) + size-all (t .faces) ≡ getD m 2 0 + f .darts
+  count-is t w = let e = length-tab (dart-in m) (getD m 2 0) in omega (arith, e, w .darts-are)
+
   -- 17
   module _ {here : Bool} (seventeen : here ≡ addressed (f .from) (f .to) (block-in m)) where
     here-is : (t : Transfer) → TransferOutlined t s v x b z f l → here ≡ addressed (t .from) (t .to) (block-in m)
     here-is t w = seventeen ∙ ap (λ (a : ℕ). addressed a (f .to) (block-in m)) (w .from-is) ∙ ap (λ (a : ℕ). addressed (t .from) a (block-in m)) (w .to-is)
 
-    pub no-17 : {keys ranks q c : List ℕ} → not here ≡ true → VolumeAsked m s v x b z f l keys ranks q c (asked.No refusal.NotForHere)
+    pub no-17 : {keys ranks q c kinds links : List ℕ} → not here ≡ true → AskedAll m s v x b z f l keys ranks q c kinds links (asked.No refusal.NotForHere)
     unfolding receive-checks
     no-17 h = record { said = λ t e w. alone _ (ask-no refl (said-no (here-is t w) h) refl) }
 
@@ -63,18 +59,55 @@ module _ (m : List ℕ) {s v x b z : List ℕ} {f : Front} {l : Tail} where
       new-is : (t : Transfer) → TransferOutlined t s v x b z f l → fresh ≡ serials-new (block-in m .darts) t
       new-is t w = eighteen .is ∙ sym (eighteen-is (block-in m .darts) (told-of w) fit)
 
-      pub no-18 : {q c : List ℕ} → not fresh ≡ true → VolumeAsked m s v x b z f l keys ranks q c (asked.No refusal.SerialsNotNew)
+      pub no-18 : {q c kinds links : List ℕ} → not fresh ≡ true → AskedAll m s v x b z f l keys ranks q c kinds links (asked.No refusal.SerialsNotNew)
       unfolding receive-checks
       no-18 h = record { said = λ t e w. alone _ (ask-yes (said-yes (here-is t w) yes-17) (ask-no refl (said-no (new-is t w) h) refl)) }
 
       -- 19
       module _ (yes-18 : not fresh ≡ false) {right : Bool} (nineteen : (t : Transfer) → Told t v x b z s (f .points) (f .vertices) (f .darts) (f .hollow) → right ≡ volume-right t) where
-        pub no-19 : {q c : List ℕ} → not right ≡ true → VolumeAsked m s v x b z f l keys ranks q c (asked.No refusal.VolumeWrong)
+        pub no-19 : {q c kinds links : List ℕ} → not right ≡ true → AskedAll m s v x b z f l keys ranks q c kinds links (asked.No refusal.VolumeWrong)
         unfolding receive-checks
         no-19 h = record { said = λ t e w. alone _ (ask-yes (said-yes (here-is t w) yes-17) (ask-yes (said-yes (new-is t w) yes-18) (ask-no refl (said-no (nineteen t (told-of w)) h) refl))) }
 
-        pub yes-19 : {q c : List ℕ} → not right ≡ false → Draft v x b z keys ranks q s (f .points) (f .darts) c → length ranks ≡ 512 → VolumeAsked m s v x b z f l keys ranks q c asked.Yes
-        yes-19 h d lr = record { said = ((λ t e w. (said-yes (here-is t w) yes-17, said-yes (new-is t w) yes-18, said-yes (nineteen t (told-of w)) h)), d, lr) }
+        -- 20
+        module _ (yes-19 : not right ≡ false) {kinds links : List ℕ} {parted : Bool} (twenty : Parted m s v x b z f l kinds links parted) where
+          pub no-20 : {q c : List ℕ} → not parted ≡ true → AskedAll m s v x b z f l keys ranks q c kinds links (asked.No refusal.PartsWrong)
+          unfolding receive-checks
+          no-20 h = record {
+            said = λ t e w. alone _ (ask-yes (said-yes (here-is t w) yes-17) (ask-yes (said-yes (new-is t w) yes-18) (ask-yes (said-yes (nineteen t (told-of w)) yes-19)
+                (ask-no refl (said-no (twenty .is t w) h) refl))));
+          }
+
+          -- 21
+          module _ (yes-20 : not parted ≡ false) where
+            pub no-21 : {q c : List ℕ} → 4096 < getD m 2 0 + f .darts → AskedAll m s v x b z f l keys ranks q c kinds links (asked.No refusal.BlockFull)
+            unfolding receive-checks
+            no-21 h = record {
+              said = λ t e w. alone _ (ask-yes (said-yes (here-is t w) yes-17) (ask-yes (said-yes (new-is t w) yes-18) (ask-yes (said-yes (nineteen t (told-of w)) yes-19)
+                  (ask-yes (said-yes (twenty .is t w) yes-20) (ask-no refl (lt-leb (length (block-in m .darts) + size-all (t .faces)) 4096 (omega (arith, h, count-is t w))) refl)))));
+            }
+
+            pub yes-all : {q c : List ℕ} → getD m 2 0 + f .darts ≤ 4096 → Draft v x b z keys ranks q s (f .points) (f .darts) c → length kinds ≡ 512 → length links ≡ 512 → length ranks ≡ 512 → AskedAll m s v x b z f l keys ranks q c kinds links asked.Yes
+            unfolding receive-checks
+            yes-all h d lk ll lr = record {
+              said = (
+                (λ t e w. (
+                  record {
+                    for-here = said-yes (here-is t w) yes-17;
+                    serials = said-yes (new-is t w) yes-18;
+                    volume = said-yes (nineteen t (told-of w)) yes-19;
+                    parts = said-yes (twenty .is t w) yes-20;
+                    fits = le-leb (length (block-in m .darts) + size-all (t .faces)) 4096 (omega (arith, h, count-is t w));
+                  },
+                  twenty .linking (said-yes refl yes-20) t w,
+                )),
+                d,
+                h,
+                lk,
+                ll,
+                lr,
+              );
+            }
 
 -- serials of a message are small
 elem-tab : {A : Type 0} (g : ℕ → A) (n i : ℕ) → i < n → Elem (g i) (tab g n)
@@ -87,7 +120,87 @@ serials-small {s} {v} {x} {b} {z} {f} {l} {t} bytes e w i h =
     high t (fits t (transfer-read s bytes t e)) (side-at v x b z i)
     (subst (Elem (side-at v x b z i)) (sym (sides-are v x b z t (w .inside))) (elem-tab (side-at v x b z) (size-all (t .faces)) i (omega (arith, h, w .darts-are))))
 
+-- and so is the sender
+pub sender-small : {s v x b z : List ℕ} {f : Front} {l : Tail} {t : Transfer} → Bytes s → message-in s ≡ a-transfer t → TransferOutlined t s v x b z f l → f .from ≤ 15
+sender-small {s} {t = t} bytes e w = let a = fits t (transfer-read s bytes t e) .from-small in let b = w .from-is in omega (arith, a, b)
+
+-- what question 20 asks of a transfer
+pub new-volume : {m s v x b z : List ℕ} {f : Front} {l : Tail} {keys ranks q c : List ℕ} {fresh right : Bool} → NewSerials (block-in m .darts) s (f .points) (f .vertices) x (f .darts) keys ranks fresh → not fresh ≡ false
+    → ((t : Transfer) → Told t v x b z s (f .points) (f .vertices) (f .darts) (f .hollow) → right ≡ volume-right t) → not right ≡ false → Draft v x b z keys ranks q s (f .points) (f .darts) c
+    → {t : Transfer} → TransferOutlined t s v x b z f l → NewVolume m s v x b z f l ranks c
+new-volume {m} {s} {v} {x} {b} {z} {f} {l} {keys} {ranks} {q} {c} eighteen yes-18 nineteen yes-19 d {t} w = record {
+  keys = keys;
+  opposite = q;
+  draft = d;
+  fresh = subst (NewSerials (block-in m .darts) s (f .points) (f .vertices) x (f .darts) keys ranks) (said-yes refl yes-18) eighteen;
+  brought = t;
+  outlined = w;
+  right = λ t w. said-yes (nineteen t (told-of w)) yes-19;
+}
+
 -- a slice of bytes
 pub bytes-in : (l : List ℕ) → ((i : ℕ) → getD l i 0 < 256) → Bytes l
 bytes-in [] h = refl
 bytes-in (b ∷ l) h = and-intro (lt-ltb b 256 (h 0)) (bytes-in l (λ i. h (suc i)))
+
+-- THE CALL
+module _ (m s : List ℕ) where
+  pub size-refused : (length m ≡ words → ⊥) → Gives (receive rack m s) (refused 1) m
+  unfolding receive storing memory-checks
+  size-refused h = gives _ _ _ _ (ask-no refl (ne-eqb (length m) words h) refl)
+
+  pub image-refused : length m ≡ words → is-image rack m ≡ false → Gives (receive rack m s) (refused 2) m
+  unfolding receive storing memory-checks
+  image-refused len h = gives _ _ _ _ (ask-yes (eq-eqb (length m) words len) (ask-no refl h refl))
+
+  pub by-message : (r : Message) {given : Answer (Unit {0})} {lent : List ℕ} → message-in s ≡ r → Gives (receive-by m r) given lent → Gives (receive rack m s) given lent
+  unfolding receive receive-by
+  by-message r e g = rw e g
+
+module _ (m : List ℕ) (ok : is-image rack m ≡ true) where
+  size : length m ≡ words
+  size = sited rack m ok .linked .size
+
+  asked-by : (r : Message) {given : Answer (Unit {0})} {lent : List ℕ} → Asks (receive-checks rack (block-in m) r) m tt (image (received-from (block-in m) r)) given lent → Gives (receive-by m r) given lent
+  unfolding receive-by storing memory-checks
+  asked-by r a = gives _ _ _ _ (ask-yes (eq-eqb (length m) words size) (ask-yes ok a))
+
+  -- 16, and 17 of an update
+  pub layout-refused : {s v x b z : List ℕ} {r : Received} → r ≡ received.Nothing → MessageRead s v x b z r → Gives (receive rack m s) (refused 16) m
+  unfolding receive-checks
+  layout-refused {s} {v} {x} {b} {z} e k = by-message m s no-message (subst (MessageSaid s v x b z) e (k .said)) (asked-by no-message (ask-no refl refl refl))
+
+  pub update-refused : {s v x b z : List ℕ} {r : Received} {o : UpdateOutline} → r ≡ received.Update o → MessageRead s v x b z r → Gives (receive rack m s) (refused 17) m
+  unfolding receive-checks
+  update-refused {s} {v} {x} {b} {z} {r} {o} e k = go (subst (MessageSaid s v x b z) e (k .said))
+    where
+      go : MessageSaid s v x b z (received.Update o) → Gives (receive rack m s) (refused 17) m
+      go u = by-message m s (an-update (u .0)) (u .1) (asked-by (an-update (u .0)) (ask-no refl refl refl))
+
+  -- a transfer: the first no, or the memory that is left
+  pub transfer-refused : (t : Transfer) {n : ℕ} → refused n ≡ answered (receive-checks rack (block-in m) (a-transfer t)) → Gives (receive-by m (a-transfer t)) (refused n) m
+  transfer-refused t {n} e = asked-by (a-transfer t) (subst (λ (qs : List Check). Asks qs m tt (image (received-from (block-in m) (a-transfer t))) (refused n) m) (append-nil (receive-checks rack (block-in m) (a-transfer t))) (ask-first (receive-checks rack (block-in m) (a-transfer t)) [] e refl))
+
+  pub transfer-served : (t : Transfer) {y : List ℕ} → AllYes m t → y ≡ image (received (block-in m) t) → Gives (receive-by m (a-transfer t)) (served tt) y
+  unfolding receive-checks
+  transfer-served t a q = asked-by (a-transfer t) (ask-yes (a .for-here) (ask-yes (a .serials) (ask-yes (a .volume) (ask-yes (a .parts) (ask-yes (a .fits) (ask-end q))))))
+
+pub none-no : (m : List ℕ) (t : Transfer) → AllYes m t → first-no (receive-checks rack (block-in m) (a-transfer t)) ≡ 0
+unfolding receive-checks
+none-no m t a = yes-then 17 _ _ (a .for-here) ∙ yes-then 18 _ _ (a .serials) ∙ yes-then 19 _ _ (a .volume) ∙ yes-then 20 _ _ (a .parts) ∙ yes-then 21 _ _ (a .fits) ∙ no-more
+
+-- WHAT `questions` TELLS, where a caller has looked which it is
+module _ {m s v x b z : List ℕ} {f : Front} {l : Tail} {keys ranks q c kinds links : List ℕ} {r : Asked} (h : AskedAll m s v x b z f l keys ranks q c kinds links r) where
+  pub asked-no : {n : Refusal} → r ≡ asked.No n → AskedSaid m s v x b z f l keys ranks q c kinds links (asked.No n)
+  asked-no e = subst (AskedSaid m s v x b z f l keys ranks q c kinds links) e (h .said)
+
+  pub asked-yes : r ≡ asked.Yes → AskedSaid m s v x b z f l keys ranks q c kinds links asked.Yes
+  asked-yes e = subst (AskedSaid m s v x b z f l keys ranks q c kinds links) e (h .said)
+
+-- the transfer that was read
+module _ {s v x b z : List ℕ} {r : Received} {f : Front} {l : Tail} (e : r ≡ received.Transfer f l) (k : MessageRead s v x b z r) where
+  pub outline-of : (t : Transfer) × (message-in s ≡ a-transfer t) × TransferOutlined t s v x b z f l
+  outline-of = subst (MessageSaid s v x b z) e (k .said)
+
+pub taken : (m s : List ℕ) {v x b z : List ℕ} {r : Received} {f : Front} {l : Tail} → r ≡ received.Transfer f l → MessageRead s v x b z r → {given : Answer (Unit {0})} {lent : List ℕ} → Takes m s v x b z f l given lent → Gives (receive rack m s) given lent
+taken m s e k w = let o = outline-of e k in by-message m s (a-transfer (o .0)) (o .1) (w .gives (o .0) (o .1) (o .2))

@@ -1,3 +1,4 @@
 pub mod Joining
 pub mod TakenImage
 pub mod Answered
+pub mod Served

@@ -2,14 +2,15 @@
 use mathlib.Core.Path.{_≡_}
 use mathlib.Core.List.{List, _++_}
 use mathlib.Core.Bool.{true}
-use Prim.Native.Nat.{ℕ}
+use Prim.Native.Nat.{ℕ, _+_, _≤_}
+use lib.Dec.{leb}
 use lib.ListN.{length, getD}
 use Rattle.model.specs.Values.{rack}
-use Rattle.model.specs.Image.{block-in, memory-checks}
-use Rattle.model.specs.Messages.{Transfer, Message, a-transfer, message-in}
+use Rattle.model.specs.Image.{room, block-in, memory-checks}
+use Rattle.model.specs.Messages.{Transfer, Message, a-transfer, message-in, size-all}
 use Rattle.model.specs.Departure.{Link}
-use Rattle.model.specs.Arrival.{addressed, serials-new, volume-right, receive-checks, received-from}
-use Rattle.model.specs.Calls.{Answer, Result, served, refused, storing}
+use Rattle.model.specs.Arrival.{addressed, transfer-links, serials-new, volume-right, parts-right, receive-checks, received-from}
+use Rattle.model.specs.Calls.{Answer, Result, refused, storing}
 use Rattle.answers.specs.Answers.{Gives, answered, question}
 use Rattle.inbox.specs.declared.message.Front.{Front}
 use Rattle.inbox.specs.declared.message.Tail.{Tail}
@@ -45,12 +46,20 @@ receive-by m r = storing (memory-checks rack m ++ receive-checks rack (block-in 
 pub record Takes (m s v x b z : List ℕ) (f : Front) (l : Tail) (given : Answer (Unit {0})) (lent : List ℕ) : Type 0 where
   pub gives : (t : Transfer) → message-in s ≡ a-transfer t → TransferOutlined t s v x b z f l → Gives (receive-by m (a-transfer t)) given lent
 
--- QUESTIONS 17 TO 19 of the transfer that an outline tells: the first no, or three yes and the draft
-abbrev pub AskedSaid : List ℕ → List ℕ → List ℕ → List ℕ → List ℕ → List ℕ → Front → Tail → List ℕ → List ℕ → List ℕ → List ℕ → Asked → Type 0
-AskedSaid m s v x b z f l keys ranks q c (asked.No r) = (t : Transfer) → message-in s ≡ a-transfer t → TransferOutlined t s v x b z f l → refused (question r) ≡ answered (receive-checks rack (block-in m) (a-transfer t))
-AskedSaid m s v x b z f l keys ranks q c asked.Yes =
-    ((t : Transfer) → message-in s ≡ a-transfer t → TransferOutlined t s v x b z f l → (addressed (t .from) (t .to) (block-in m) ≡ true) × (serials-new (block-in m .darts) t ≡ true) × (volume-right t ≡ true))
-    × Draft v x b z keys ranks q s (f .points) (f .darts) c × (length ranks ≡ 512)
+-- each answer is yes
+pub record AllYes (m : List ℕ) (t : Transfer) : Type 0 where
+  pub for-here : addressed (t .from) (t .to) (block-in m) ≡ true
+  pub serials : serials-new (block-in m .darts) t ≡ true
+  pub volume : volume-right t ≡ true
+  pub parts : parts-right (block-in m) t ≡ true
+  pub fits : leb (length (block-in m .darts) + size-all (t .faces)) 4096 ≡ true
 
-pub record VolumeAsked (m s v x b z : List ℕ) (f : Front) (l : Tail) (keys ranks q c : List ℕ) (r : Asked) : Type 0 where
-  pub said : AskedSaid m s v x b z f l keys ranks q c r
+-- QUESTIONS 17 TO 21 of the transfer that an outline tells: the first no, or what a yes to all leads to
+abbrev pub AskedSaid : List ℕ → List ℕ → List ℕ → List ℕ → List ℕ → List ℕ → Front → Tail → List ℕ → List ℕ → List ℕ → List ℕ → List ℕ → List ℕ → Asked → Type 0
+AskedSaid m s v x b z f l keys ranks q c kinds links (asked.No r) = (t : Transfer) → message-in s ≡ a-transfer t → TransferOutlined t s v x b z f l → refused (question r) ≡ answered (receive-checks rack (block-in m) (a-transfer t))
+AskedSaid m s v x b z f l keys ranks q c kinds links asked.Yes =
+    ((t : Transfer) → message-in s ≡ a-transfer t → TransferOutlined t s v x b z f l → AllYes m t × Linking m (getD m 2 0) (f .darts) x kinds links (transfer-links (block-in m .darts) t))
+    × Draft v x b z keys ranks q s (f .points) (f .darts) c × (getD m 2 0 + f .darts ≤ room) × (length kinds ≡ 512) × (length links ≡ 512) × (length ranks ≡ 512)
+
+pub record AskedAll (m s v x b z : List ℕ) (f : Front) (l : Tail) (keys ranks q c kinds links : List ℕ) (r : Asked) : Type 0 where
+  pub said : AskedSaid m s v x b z f l keys ranks q c kinds links r

@@ -1,14 +1,15 @@
-// Questions 17 to 19 of a transfer. On a yes to all its darts are drafted.
+// Questions 17 to 21 of a transfer. On a yes to all its darts are drafted, and their third links known.
 ghost use mathlib.Core.Path.{_≡_};
 ghost use mathlib.Core.Bool.{true};
-ghost use lib.ListN.{length};
+ghost use Prim.Native.Nat.{_≤_};
+ghost use lib.ListN.{length, replicate};
 ghost use Rattle.model.specs.Values.{rack};
 ghost use Rattle.model.specs.Image.{words, is-image, block-in};
 ghost use Rattle.model.specs.Messages.{Transfer, a-transfer, message-in};
 ghost use Rattle.model.specs.Arrival.{addressed};
 ghost use Rattle.inbox.specs.Inbox.{Sides};
 ghost use Rattle.inbox.specs.Arrived.{TransferOutlined};
-ghost use Rattle.receive.specs.Taken.{VolumeAsked};
+ghost use Rattle.receive.specs.Taken.{AskedAll};
 use answers::Refusal;
 use inbox::message::Front;
 use inbox::message::Tail;
@@ -26,8 +27,8 @@ fn for_here(block: &[u64], from: u64, to: u64) -> bool
     (to == block[0]) & (from != block[0])
 }
 
-// All three, in their order.
-pub fn volume_asked(
+// All of them, in their order.
+pub fn questions(
     block: &[u64],
     message: &[u8],
     front: Front,
@@ -40,10 +41,12 @@ pub fn volume_asked(
     ranks: &mut [usize],
     opposite: &mut [usize],
     draft: &mut [u64],
+    kinds: &mut [u64],
+    links: &mut [u64],
 ) -> Asked
     requires { ⌜ (is-image rack (now block) ≡ true) × Sides (now vertex) (now serial) (now starts) (now sizes) × ((t : Transfer) × (message-in (now message) ≡ a-transfer t) × TransferOutlined t (now message) (now vertex) (now serial) (now starts) (now sizes) front tail) ⌝ }
-    requires { ⌜ (length (now keys) ≡ 512) × (length (now ranks) ≡ 512) × (length (now opposite) ≡ 512) × (length (now draft) ≡ words) ⌝ }
-    ensures { λ r. ⌜ VolumeAsked (now (block .entry)) (now (message .entry)) (now (vertex .entry)) (now (serial .entry)) (now (starts .entry)) (now (sizes .entry)) front tail (now (keys .exit)) (now (ranks .exit)) (now (opposite .exit)) (now (draft .exit)) r ⌝ }
+    requires { ⌜ (length (now keys) ≡ 512) × (length (now ranks) ≡ 512) × (length (now opposite) ≡ 512) × (length (now draft) ≡ words) × (now kinds ≡ replicate 512 0) × (now links ≡ replicate 512 0) ⌝ }
+    ensures { λ r. ⌜ AskedAll (now (block .entry)) (now (message .entry)) (now (vertex .entry)) (now (serial .entry)) (now (starts .entry)) (now (sizes .entry)) front tail (now (keys .exit)) (now (ranks .exit)) (now (opposite .exit)) (now (draft .exit)) (now (kinds .exit)) (now (links .exit)) r ⌝ }
 {
     if !for_here(block, front.from, front.to) {
         return Asked::No(Refusal::NotForHere);
@@ -79,6 +82,23 @@ pub fn volume_asked(
         draft,
     ) {
         return Asked::No(Refusal::VolumeWrong);
+    }
+    if !fitting::parts_right(
+        block,
+        message,
+        front,
+        tail,
+        starts,
+        sizes,
+        ranks,
+        draft,
+        kinds,
+        links,
+    ) {
+        return Asked::No(Refusal::PartsWrong);
+    }
+    if 4096 < n + k {
+        return Asked::No(Refusal::BlockFull);
     }
     Asked::Yes
 }
