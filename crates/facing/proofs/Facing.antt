@@ -160,14 +160,16 @@ module _ {m : List ℕ} (a : Asked m) (i p : ℕ) (hi : i < blocks m) (hp : p < 
     facing =
         let w = passed a other known in
         let e = subst (λ (x : List Dart). is-critical-with (getD (part m i) 0 0) (labelled label x .third) ≡ true) there-is names-back in
-        let r = labelled-there w (getD (part m i) 0 0) (column (part m i) 4 p) e in
-        (r .0, record {
-          block-lt = known;
-          place-lt = r .1;
-          critical-there = r .2;
-          same = r .3;
-          names = refl;
-          named = sym (sym (number-is a i hi) ∙ eqb-true (getD (part m i) 0 0) (column (part m other) 3 (r .0) / 4)
-              (sym (ap (λ (d : Dart). is-critical-with (getD (part m i) 0 0) (d .third)) (labelled-is w (r .0) (column (part m i) 4 p) (r .1) (r .2) (r .3))
-              ∙ ap (is-critical-with (getD (part m i) 0 0)) (critical-third w (r .0) (r .1) (r .2))) ∙ e));
-        })
+        let r = labelled-there w (getD (part m i) 0 0) (column (part m i) 4 p) e in (
+          r .0,
+          record {
+            block-lt = known;
+            place-lt = r .1;
+            critical-there = r .2;
+            same = r .3;
+            names = refl;
+            named = sym (sym (number-is a i hi) ∙ eqb-true (getD (part m i) 0 0) (column (part m other) 3 (r .0) / 4)
+                (sym (ap (λ (d : Dart). is-critical-with (getD (part m i) 0 0) (d .third)) (labelled-is w (r .0) (column (part m i) 4 p) (r .1) (r .2) (r .3))
+                ∙ ap (is-critical-with (getD (part m i) 0 0)) (critical-third w (r .0) (r .1) (r .2))) ∙ e));
+          },
+        )
