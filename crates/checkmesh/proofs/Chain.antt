@@ -1,5 +1,5 @@
 -- The questions of a whole mesh in a row: what each no answers, and what the last yes says. Assumes nothing.
-use mathlib.Core.Path.{_≡_, refl, sym, ap, _∙_}
+use mathlib.Core.Path.{_≡_, refl, sym, _∙_}
 use mathlib.Core.Bool.{Bool, true, false, cond, not}
 use mathlib.Core.List.{List, [], map}
 use Prim.Native.Nat.{ℕ}
@@ -11,7 +11,7 @@ use Rattle.model.specs.Values.{rack}
 use Rattle.model.specs.Sound.{blocks-right, serials-distinct, labels-paired, points-across, makers-right, mesh-checks}
 use Rattle.model.specs.Image.{block-in, is-image}
 use Rattle.model.specs.Calls.{Answer, served, refused, Result, asked, memories, mesh-lent, scratch-entries, whole-mesh-checks, check-mesh}
-use Rattle.laws.proofs.Tests.{by-cases, yes-first}
+use Rattle.laws.proofs.Tests.{yes-first}
 use Rattle.answers.specs.Answers.{Gives, answered}
 use Rattle.answers.proofs.Questions.{alone, ask-no, ask-yes, ask-end, said-no, said-yes}
 use Rattle.pairing.specs.Told.{pairing-of}

@@ -1,31 +1,29 @@
 -- Questions 25 and 26 of a mesh are the tests of its keys in order, two by two. Assumes nothing.
-use mathlib.Core.Path.{_≡_, refl, sym, ap, subst, _∙_}
+use mathlib.Core.Path.{_≡_, refl, sym, ap, _∙_}
 use mathlib.Core.Bool.{Bool, true, false, _&&_}
 use mathlib.Core.List.{List}
-use mathlib.Core.Logic.{⊎-elim}
-use Prim.Native.Nat.{ℕ, suc, _+_, _*_, _/_, _%_, _≤_, _<_}
+use Prim.Native.Nat.{ℕ, _+_, _*_, _/_, _%_, _<_}
 use native.Mathlib.Omega.{arith}
 use lib.Dec.{eqb, ltb}
-use lib.ListN.{length, getD}
-use borrow.Author.Tests.{eqb-true, eq-eqb, ltb-true, lt-ltb, ltb-false}
-use Rattle.model.specs.Lists.{all, tab, mem, sorted}
+use lib.ListN.{getD}
+use borrow.Author.Tests.{eqb-true, eq-eqb, ltb-true, ltb-false}
+use Rattle.model.specs.Lists.{all, sorted}
 use Rattle.model.specs.Values.{Dart, Block, same-point}
 use Rattle.model.specs.Sound.{paired, labels-paired, same-across, points-across}
 use Rattle.model.specs.Image.{column, third-in, dart-in, block-in}
-use Rattle.laws.proofs.Tests.{by-cases, lt-or-ge, and-intro, and-left, and-right}
-use Rattle.laws.proofs.Members.{In, in-eq}
+use Rattle.laws.proofs.Tests.{by-cases, and-intro, and-left, and-right}
+use Rattle.laws.proofs.Members.{In}
 use Rattle.laws.proofs.Tables.{all-tab, tab-all}
 use Rattle.columns.specs.Columns.{count, Kind, kind-free, kind-sewn, kind-critical}
 use Rattle.columns.proofs.Below.{same-test}
 use Rattle.columns.proofs.Thirds.{third-free, third-sewn}
-use Rattle.columns.proofs.Question.{Passed}
-use Rattle.sort.specs.Order.{total, SameKeys, Sorted}
+use Rattle.sort.specs.Order.{Sorted}
 use Rattle.sort.proofs.Order.{sorted-in-order, sorted-keys}
 use Rattle.mesh.specs.Parts.{blocks, part}
 use Rattle.mesh.proofs.Parts.{mesh-tab}
 use Rattle.facing.specs.Numbers.{Asked, word, next-of, before-of, Before, side-test, meet-test}
 use Rattle.facing.specs.Keys.{key, all-keys, in-pairs, each-pair, label-pair, point-pair}
-use Rattle.facing.proofs.InPairs.{times, Twin, twins, Mate, mates, both-tests, same-members, same-back}
+use Rattle.facing.proofs.InPairs.{times, twins, Mate, mates, both-tests, same-members, same-back}
 use Rattle.facing.proofs.Members.{Origin, all-in, in-all, key-code}
 use Rattle.facing.proofs.InBlocks.{third-of, kind-at, before-at, next-lt, names-other, mesh-of, few, passed, number-is}
 use Rattle.facing.proofs.Facing.{Facing, paired-is, across-is, stands-twice, facing}

@@ -1,15 +1,15 @@
 -- Two darts that share a label across blocks, and what the model tests of such a dart. Assumes nothing.
 use mathlib.Core.Path.{_≡_, refl, sym, ap, subst, _∙_}
 use mathlib.Core.Bool.{Bool, true, false, true≢false, _&&_}
-use mathlib.Core.List.{List, []}
+use mathlib.Core.List.{List}
 use mathlib.Core.Logic.{⊎-elim}
-use Prim.Native.Nat.{ℕ, suc, _+_, _/_, _≤_, _<_}
+use Prim.Native.Nat.{ℕ, suc, _/_, _<_}
 use native.Mathlib.Omega.{arith}
 use lib.Dec.{eqb, ltb}
 use lib.ListN.{length, getD}
 use borrow.Author.Tests.{eqb-true, eq-eqb, lt-ltb}
 use Rattle.model.specs.Lists.{keep}
-use Rattle.model.specs.Values.{Label, Third, critical, Point, Dart, Block, no-dart, no-block, code, label-key, has-label, is-critical-with, same-point}
+use Rattle.model.specs.Values.{Label, Third, critical, Dart, Block, no-dart, no-block, label-key, has-label, is-critical-with, same-point}
 use Rattle.model.specs.Cells.{dart-at, third-at, previous-in, labelled}
 use Rattle.model.specs.Sound.{block-at, all-darts, share-label, paired, same-across}
 use Rattle.model.specs.Image.{column, label-in, dart-in, block-in}

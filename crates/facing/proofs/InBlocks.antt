@@ -1,23 +1,22 @@
 -- Darts of a block by place: the one with a label, the one before, and what a mesh's blocks are. Assumes nothing.
-use mathlib.Core.Path.{_≡_, refl, sym, ap, subst, _∙_}
+use mathlib.Core.Path.{_≡_, refl, sym, ap, _∙_}
 use mathlib.Core.Bool.{Bool, true, false, true≢false, cond, not, _&&_, _||_}
-use mathlib.Core.List.{List, [], map}
-use mathlib.Core.Logic.{_⊎_, inl, inr, ⊎-elim}
+use mathlib.Core.List.{List, map}
 use mathlib.Core.Option.{Option, none, some, Option·none-ne-some}
 use Prim.Native.Nat.{ℕ, zero, suc, _+_, _/_, _%_, _≤_, _<_, _^_}
 use native.Mathlib.Omega.{arith}
 use lib.Dec.{leb, eqb, ltb}
 use lib.ListN.{length, getD, List·getD-eq-default}
-use borrow.Author.Tests.{eqb-true, eqb-false, eq-eqb, ne-eqb, lt-ltb, le-ltb, ltb-true, not-true}
-use Rattle.model.specs.Lists.{all, tab, find}
+use borrow.Author.Tests.{eqb-true, eqb-false, eq-eqb, lt-ltb, le-ltb, ltb-true, not-true}
+use Rattle.model.specs.Lists.{tab, find}
 use Rattle.model.specs.Values.{Third, critical, Dart, Block, no-dart, no-block, or-no-dart, rack, code, label-key, is-critical-with}
-use Rattle.model.specs.Cells.{dart-at, third-at, previous-in, labelled}
+use Rattle.model.specs.Cells.{third-at, previous-in, labelled}
 use Rattle.model.specs.Sound.{block-at, blocks-right, numbered-from}
-use Rattle.model.specs.Image.{room, words, column, label-in, third-in, dart-in, block-in, is-image}
+use Rattle.model.specs.Image.{words, column, label-in, third-in, dart-in, block-in, is-image}
 use Rattle.model.specs.Calls.{memories}
-use Rattle.laws.proofs.Tests.{by-cases, lt-or-ge, and-left, and-right}
-use Rattle.laws.proofs.Tables.{all-tab, length-tab, getD-tab, find-none}
-use Rattle.columns.specs.Columns.{count, Kind, kind-free, kind-sewn, kind-critical, Ranged, OneToOne, label-test, own-test}
+use Rattle.laws.proofs.Tests.{by-cases, and-left, and-right}
+use Rattle.laws.proofs.Tables.{all-tab, length-tab, getD-tab}
+use Rattle.columns.specs.Columns.{count, Kind, kind-free, kind-sewn, kind-critical, label-test}
 use Rattle.columns.proofs.Thirds.{third-critical, code-in}
 use Rattle.columns.proofs.Held.{darts, dart-is, one-serial, onto}
 use Rattle.columns.proofs.Links.{linked}

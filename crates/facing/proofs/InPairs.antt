@@ -1,13 +1,12 @@
 -- Keys in order, two by two: each code stands exactly twice, and those two keys pass the test. Assumes nothing.
 use mathlib.Core.Path.{_≡_, refl, sym, ap, subst, _∙_}
-use mathlib.Core.Bool.{Bool, true, true≢false, not, _&&_}
+use mathlib.Core.Bool.{Bool, true, true≢false, _&&_}
 use mathlib.Core.List.{List, [], _∷_}
 use mathlib.Core.Logic.{⊎-elim}
-use Prim.Native.Nat.{ℕ, suc, _+_, _/_, _≤_, _<_}
+use Prim.Native.Nat.{ℕ, _/_, _≤_, _<_}
 use native.Mathlib.Omega.{arith}
 use lib.Dec.{eqb}
 use borrow.Author.Tests.{eqb-true, eqb-false, eq-eqb, ne-eqb, not-true}
-use Rattle.model.specs.Lists.{mem}
 use Rattle.laws.proofs.Tests.{by-cases, eq-or-ne, and-intro, and-left, and-right}
 use Rattle.laws.proofs.Members.{In, in-here, in-there, in-cons}
 use Rattle.sort.specs.Order.{weight, total, SameKeys, Each, Sorted}

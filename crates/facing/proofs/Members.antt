@@ -1,26 +1,26 @@
 -- The keys of a mesh: which there are, and how often a code stands among them. Assumes nothing.
 use mathlib.Core.Path.{_≡_, refl, sym, ap, subst, _∙_}
 use mathlib.Core.Bool.{Bool, true, false, true≢false, cond}
-use mathlib.Core.List.{List, [], _∷_, _++_, append-nil}
+use mathlib.Core.List.{List, [], _∷_, _++_}
 use mathlib.Core.Logic.{_⊎_, inl, inr, ⊎-elim}
 use Prim.Native.Nat.{ℕ, zero, suc, _+_, _*_, _/_, _≤_, _<_}
 use native.Mathlib.Omega.{arith}
 use native.Mathlib.Nat.{eq-or-lt-of-le, le-of-suc-le-suc}
 use lib.Dec.{eqb, ltb}
-use lib.ListN.{length, length-append}
-use borrow.Author.Tests.{eqb-true, eqb-false, eq-eqb, ne-eqb, lt-ltb, le-ltb, ltb-true}
+use lib.ListN.{length}
+use borrow.Author.Tests.{eqb-true, eqb-false, eq-eqb, ne-eqb, lt-ltb, ltb-true}
 use Rattle.model.specs.Lists.{keep, tab}
-use Rattle.model.specs.Values.{Label, Third, Dart, Block, code, label-key, has-label}
+use Rattle.model.specs.Values.{Label, Dart, Block, code, label-key, has-label}
 use Rattle.model.specs.Sound.{all-darts}
-use Rattle.model.specs.Image.{room, column, third-in, dart-in, block-in}
+use Rattle.model.specs.Image.{column, third-in, dart-in, block-in}
 use Rattle.laws.proofs.Tests.{by-cases}
-use Rattle.laws.proofs.Members.{In, in-here, in-cons, in-eq, in-append-left, in-append-right, append-in}
+use Rattle.laws.proofs.Members.{In, in-here, in-cons, in-append-left, in-append-right, append-in}
 use Rattle.laws.proofs.Maps.{tab-more}
 use Rattle.columns.specs.Columns.{count, Kind, kind-free, kind-sewn, kind-critical}
 use Rattle.columns.proofs.Thirds.{third-free, third-sewn, third-critical, code-in}
-use Rattle.sort.specs.Order.{weight, total}
+use Rattle.sort.specs.Order.{weight}
 use Rattle.sort.proofs.Order.{total-append}
-use Rattle.mesh.specs.Parts.{blocks, part}
+use Rattle.mesh.specs.Parts.{part}
 use Rattle.mesh.proofs.Gathers.{concat-append, one-block}
 use Rattle.facing.specs.Keys.{key, key-of, keys-of, all-keys}
 use Rattle.facing.proofs.InPairs.{times}

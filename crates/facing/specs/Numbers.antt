@@ -6,9 +6,9 @@ use Prim.Native.Nat.{ℕ, _+_, _*_, _/_, _%_, _<_}
 use lib.Dec.{eqb}
 use lib.ListN.{length, getD}
 use Rattle.model.specs.Lists.{all}
-use Rattle.model.specs.Values.{rack, same-point}
+use Rattle.model.specs.Values.{rack}
 use Rattle.model.specs.Sound.{blocks-right}
-use Rattle.model.specs.Image.{column, block-in, is-image, dart-in}
+use Rattle.model.specs.Image.{column, block-in, is-image}
 use Rattle.model.specs.Calls.{memories}
 use Rattle.columns.specs.Columns.{count}
 use Rattle.mesh.specs.Parts.{blocks, part}

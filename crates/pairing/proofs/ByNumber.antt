@@ -1,14 +1,13 @@
 -- Reading the darts of a mesh by number: what each number needs, and the table of those before. Assumes nothing.
 use mathlib.Core.Path.{_≡_, refl, sym, ap, subst, _∙_}
 use mathlib.Core.List.{List, [], _∷_}
-use mathlib.Core.Bool.{true}
 use mathlib.Core.Logic.{⊎-elim}
 use Prim.Native.Nat.{ℕ, zero, suc, _+_, _*_, _/_, _%_, _≤_, _<_, _^_}
 use native.Mathlib.Omega.{arith}
 use lib.ListN.{length, getD, drop, set, length-set}
 use lib.Seq.{getD-take, getD-drop, getD-set-same, getD-set-other}
 use Rattle.model.specs.Lists.{sorted}
-use Rattle.model.specs.Image.{room, words, column}
+use Rattle.model.specs.Image.{words, column}
 use Rattle.laws.proofs.Tests.{last-or-below}
 use Rattle.laws.proofs.Members.{In, in-here, in-there}
 use Rattle.columns.specs.Columns.{count, Kind, kind-free, kind-sewn, kind-critical}
@@ -17,7 +16,7 @@ use Rattle.mesh.specs.Parts.{blocks, part}
 use Rattle.facing.specs.Numbers.{Asked, word, Held, next-of, before-of, Before, BeforeBelow}
 use Rattle.facing.specs.Keys.{Short, HeldKeys, all-keys}
 use Rattle.facing.proofs.InBlocks.{kind-at, before-at, next-lt, few, passed}
-use Rattle.facing.proofs.BothWays.{Sits, word-at, sits-next, sits-before, origin, sits}
+use Rattle.facing.proofs.BothWays.{Sits, sits-next, sits-before, origin, sits}
 
 -- a word of a part is the mesh's word there
 pub word-in : (m : List ℕ) (i x : ℕ) → x < 32776 → getD m (i * 32776 + x) 0 ≡ getD (part m i) x 0

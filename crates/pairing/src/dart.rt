@@ -1,7 +1,6 @@
 // The darts of a mesh by number, a block's number × 4,096 + a place; and tests of two that have one label.
 ghost use mathlib.Core.Path.{_≡_};
 ghost use Prim.Native.Nat.{_/_, _%_, _<_};
-ghost use lib.ListN.{getD};
 ghost use Rattle.mesh.specs.Parts.{blocks};
 ghost use Rattle.facing.specs.Numbers.{Asked, Held, Before, word as word-of, next-of, before-of, side-test, meet-test};
 ghost use Rattle.facing.specs.Keys.{label-pair, point-pair};

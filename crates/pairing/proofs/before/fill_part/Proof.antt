@@ -1,10 +1,7 @@
 -- `pairing::before::fill_part` meets its contract.
 -- Assumes nothing.
-use Prim.Native.Nat.{ℕ, _-_, _<_}
-use mathlib.Core.Path.{_≡_, _∙_, sym, subst}
-use Rattle.columns.specs.Columns.{count}
-use Rattle.mesh.specs.Parts.{part}
-use Rattle.facing.specs.Numbers.{BeforeBelow}
+use Prim.Native.Nat.{_-_}
+use mathlib.Core.Path.{_∙_, sym}
 use Rattle.facing.proofs.InBlocks.{few}
 use Rattle.pairing.proofs.ToldBy.{place-in}
 use Rattle.pairing.proofs.ByNumber.{word-in, table-first, table-more, write-lt, Filling, filling-lt, filling-end}
