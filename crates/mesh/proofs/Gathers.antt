@@ -169,12 +169,12 @@ zero-again s h = ext-getD 0 (replicate (length s) 0) s (length-replicate (length
     below i l e = omega arith
 
 -- THE MODEL'S LIST
-concat-append : (xs ys : List Block) → all-darts (xs ++ ys) ≡ all-darts xs ++ all-darts ys
+pub concat-append : (xs ys : List Block) → all-darts (xs ++ ys) ≡ all-darts xs ++ all-darts ys
 unfolding all-darts
 concat-append [] ys = refl
 concat-append (x ∷ xs) ys = ap (λ (l : List Dart). x .darts ++ l) (concat-append xs ys) ∙ sym (append-assoc (x .darts) (all-darts xs) (all-darts ys))
 
-one-block : (b : Block) → all-darts (b ∷ []) ≡ b .darts
+pub one-block : (b : Block) → all-darts (b ∷ []) ≡ b .darts
 unfolding all-darts
 one-block b = append-nil (b .darts)
 

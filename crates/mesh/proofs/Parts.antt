@@ -89,7 +89,7 @@ unfolding memories
 sound-is m = all-is (λ b. is-image rack b) (part m) (length m / words)
 
 -- 23
-numbered-at : (g : ℕ → Block) (n i : ℕ) → numbered-from i (tab g n) ≡ true → (p : ℕ) → p < n → eqb (g p .number) (i + p) ≡ true
+pub numbered-at : (g : ℕ → Block) (n i : ℕ) → numbered-from i (tab g n) ≡ true → (p : ℕ) → p < n → eqb (g p .number) (i + p) ≡ true
 unfolding numbered-from
 numbered-at g zero i e p h = absurd (omega arith)
 numbered-at g (suc n) i e zero h = let q : i + 0 ≡ i = omega arith in rw q (and-left _ _ e)

@@ -73,7 +73,7 @@ fn apart(keys: &mut [u64], c: usize) -> bool
 }
 
 // Sets all entries to zero.
-fn clear(scratch: &mut [u64])
+pub fn clear(scratch: &mut [u64])
     ensures { λ _. ⌜ now (scratch .exit) ≡ replicate (length (now (scratch .entry))) 0 ⌝ }
 {
     // The entries below i are zero.

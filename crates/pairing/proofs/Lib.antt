@@ -1,0 +1,4 @@
+pub mod ByNumber
+pub mod Steps
+pub mod ToldBy
+pub mod Decides

@@ -1,0 +1,94 @@
+-- What the functions read and answer, from what their callees ensure. Assumes nothing.
+use mathlib.Core.Path.{_≡_, sym, ap, subst, _∙_}
+use mathlib.Core.Bool.{Bool, _&&_}
+use mathlib.Core.List.{List, _++_}
+use Prim.Native.Nat.{ℕ, _+_, _*_, _/_, _%_, _≤_, _<_}
+use native.Mathlib.Omega.{arith}
+use lib.Dec.{eqb}
+use lib.ListN.{length, getD, take, drop}
+use lib.Seq.{length-take-le, take-at}
+use Rattle.model.specs.Lists.{sorted}
+use Rattle.model.specs.Image.{room, words, column}
+use Rattle.columns.specs.Columns.{count}
+use Rattle.sort.proofs.Order.{same-length, sorted-keys}
+use Rattle.mesh.specs.Parts.{blocks, part, Put}
+use Rattle.mesh.proofs.Gathers.{part-length}
+use Rattle.facing.specs.Numbers.{Asked, Held, word, next-of, before-of, Before, side-test, meet-test}
+use Rattle.facing.specs.Keys.{Short, keys-of, label-pair, point-pair}
+use Rattle.facing.proofs.InBlocks.{next-lt, few, passed}
+use Rattle.facing.proofs.BothWays.{Sits, word-at}
+use Rattle.pairing.proofs.ByNumber.{short, roomy, held-next, held-before}
+
+-- A WORD of the next dart, and of the one before
+module _ {m : List ℕ} {g : ℕ} (a : Asked m) (h : Held m g) where
+  pub read-next : {r : ℕ} → r ≡ next-of m g → (f : ℕ) → f < 8 → (r / 4096 < blocks m) × (f < 8)
+  read-next e f l = (subst (λ (x : ℕ). x / 4096 < blocks m) (sym e) (held-next a h .block-lt), l)
+
+  pub read-before : {t : List ℕ} {r : ℕ} → Before m t → r ≡ before-of t g → (f : ℕ) → f < 8 → (r / 4096 < blocks m) × (f < 8)
+  read-before b e f l = (subst (λ (x : ℕ). x / 4096 < blocks m) (sym e) (held-before a h b .block-lt), l)
+
+-- TESTS
+pub side-told : (m t : List ℕ) (g h : ℕ) {a b c n q : ℕ} → a ≡ word m 3 g → n ≡ next-of m g → b ≡ word m 4 n → q ≡ before-of t h → c ≡ word m 4 q
+    → (eqb (a / 4) (h / 4096) && eqb b c) ≡ side-test m t g h
+unfolding side-test
+side-told m t g h ea en eb eq ec = λ i. eqb (ea i / 4) (h / 4096) && eqb ((eb ∙ ap (word m 4) en) i) ((ec ∙ ap (word m 4) eq) i)
+
+pub labels-told : (m t : List ℕ) (x y : ℕ) {a b : Bool} → a ≡ side-test m t (x % 65536) (y % 65536) → b ≡ side-test m t (y % 65536) (x % 65536) → (a && b) ≡ label-pair m t x y
+unfolding label-pair
+labels-told m t x y e f = λ i. e i && f i
+
+pub meet-told : (m : List ℕ) (g h : ℕ) {a b c d e f n : ℕ} → n ≡ next-of m h → a ≡ word m 5 g → b ≡ word m 5 n → c ≡ word m 6 g → d ≡ word m 6 n → e ≡ word m 7 g → f ≡ word m 7 n
+    → (eqb a b && eqb c d && eqb e f) ≡ meet-test m g h
+unfolding meet-test
+meet-told m g h en ea eb ec ed ee ef = λ i. eqb (ea i) ((eb ∙ ap (word m 5) en) i) && eqb (ec i) ((ed ∙ ap (word m 6) en) i) && eqb (ee i) ((ef ∙ ap (word m 7) en) i)
+
+pub points-told : (m : List ℕ) (x y : ℕ) {a b : Bool} → a ≡ meet-test m (x % 65536) (y % 65536) → b ≡ meet-test m (y % 65536) (x % 65536) → (a && b) ≡ point-pair m x y
+unfolding point-pair
+points-told m x y e f = λ i. e i && f i
+
+-- KEYS
+pub code-fits : (b : List ℕ) (p : ℕ) {k a : ℕ} → Short b → p < count b → k ≡ column b 3 p → 1 < k → a ≡ column b 4 p → a < 281474976710656
+code-fits b p {k} {a} s h e l f = subst (λ (x : ℕ). x < 281474976710656) (sym f) (s p h (more e l))
+  where
+    more : {x y : ℕ} → x ≡ y → 1 < x → 1 < y
+    more u v = omega arith
+
+-- a block that is a part of a mesh
+module _ (m : List ℕ) (i : ℕ) {b : List ℕ} (is : b ≡ part m i) (a : Asked m) (held : i < blocks m) where
+  pub part-asked : (at n : ℕ) → at + 4096 ≤ n → (length b ≡ words) × (getD b 2 0 ≤ room) × Short b × (i < 16) × (at + 4096 ≤ n)
+  part-asked at n h = (
+    ap length is ∙ part-length m i held,
+    subst (λ (x : List ℕ). getD x 2 0 ≤ room) (sym is) (roomy a i held),
+    subst Short (sym is) (short a i held),
+    small held (few a),
+    h,
+  )
+    where
+      small : {n : ℕ} → i < n → n ≤ 16 → i < 16
+      small u v = omega arith
+
+  pub part-told : {at r : ℕ} {before after : List ℕ} → (r ≤ at + 4096) × Put at (keys-of b i (getD b 2 0)) before after r
+      → (r ≤ at + 4096) × Put at (keys-of (part m i) i (getD (part m i) 2 0)) before after r
+  part-told {at} {r} {before} {after} p = (p .0, subst (λ (x : List ℕ). Put at (keys-of x i (getD x 2 0)) before after r) is (p .1))
+
+-- the first keys in order, and the rest
+pub sorted-front : (l : List ℕ) (c : ℕ) {x : List ℕ} → c ≤ length l → x ≡ sorted (take c l) → take c (x ++ drop c l) ≡ sorted (take c l)
+sorted-front l c {x} h e = take-at x (drop c l) c (ap length e ∙ same-length (take c l) (sorted (take c l)) (sorted-keys (take c l)) ∙ length-take-le c l h) ∙ e
+
+-- THE NUMBER of the dart at place p of block i
+pub number-sits : (i p : ℕ) → p < 4096 → Sits (i * 4096 + p) i p
+number-sits i p h = record { in-block = omega arith; at-place = omega arith }
+
+pub place-in : {m : List ℕ} → Asked m → (i p : ℕ) → i < blocks m → p < count (part m i) → p < 4096
+place-in a i p hi hp = go (roomy a i hi) hp
+  where
+    go : {k : ℕ} → k ≤ 4096 → p < k → p < 4096
+    go u v = omega arith
+
+pub number-held : (m : List ℕ) (i p : ℕ) → i < blocks m → p < 4096 → ((i * 4096 + p) / 4096 < blocks m) × (1 < 8)
+number-held m i p h l = (subst (λ (x : ℕ). x < blocks m) (sym (number-sits i p l .in-block)) h, omega arith)
+
+pub next-told : {m : List ℕ} → Asked m → (i p : ℕ) {x : ℕ} → i < blocks m → p < count (part m i) → x ≡ word m 1 (i * 4096 + p) → (x ≡ column (part m i) 1 p) × (x < 4096)
+next-told {m} a i p hi hp e =
+    let w = e ∙ word-at m 1 (number-sits i p (place-in a i p hi hp)) in
+    (w, subst (λ (y : ℕ). y < 4096) (sym w) (place-in a i (column (part m i) 1 p) hi (next-lt (passed a i hi) p hp)))

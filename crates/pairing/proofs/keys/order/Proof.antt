@@ -1,0 +1,52 @@
+-- `pairing::keys::order` meets its contract.
+-- Assumes nothing.
+use lib.Seq.{length-take-le}
+use mathlib.Core.Path.{sym, _∙_}
+use Rattle.pairing.proofs.ToldBy.{sorted-front}
+use native.Mathlib.Omega.{arith}
+use borrow.Author.Needs.{needs}
+use Rattle.pairing.proofs.keys.order.Statement.{statement}
+use Rattle.pairing.proofs.keys.order.Tie as tie
+
+slice-relend-prefix-sort : tie.Need-slice-relend-prefix-sort
+slice-relend-prefix-sort c = search needs
+
+slice-aggregate-sort : tie.Need-slice-aggregate-sort
+slice-aggregate-sort c =
+    sym (length-take-le _ _ (omega arith))
+
+slice-relend-prefix-sort-2 : tie.Need-slice-relend-prefix-sort-2
+slice-relend-prefix-sort-2 c = search needs
+
+slice-aggregate-sort-2 : tie.Need-slice-aggregate-sort-2
+slice-aggregate-sort-2 c =
+    sym (length-take-le _ _ (omega arith))
+
+sort-requires : tie.Need-sort-requires
+sort-requires c κs =
+    let a = length-take-le (c .before .before .before .before .args .c) (c .before .before .before .before .args .keys .now) (omega arith) in
+    let b = length-take-le (c .before .before .before .before .args .c) (c .before .before .before .before .args .other .now) (omega arith) in
+    b ∙ sym a
+
+same-length : tie.Need-same-length
+same-length c = search needs
+
+same-length-2 : tie.Need-same-length-2
+same-length-2 c = search needs
+
+returns : tie.Need-returns
+returns c =
+    (sorted-front (c .before .before .before .before .before .before .before .before .before .args .keys .now) (c .before .before .before .before .before .before .before .before .before .args .c) (c .before .before .before .before .before .before .before .before .before .pre .0) (c .before .before .before .before .sort .ensures), search needs, search needs)
+
+pub order-spec : {M : Type 1} → statement M
+order-spec =
+    tie.close
+    (tie.spec
+    slice-relend-prefix-sort
+    slice-aggregate-sort
+    slice-relend-prefix-sort-2
+    slice-aggregate-sort-2
+    sort-requires
+    same-length
+    same-length-2
+    returns)

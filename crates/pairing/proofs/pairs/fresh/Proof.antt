@@ -1,0 +1,30 @@
+-- `pairing::pairs::fresh` meets its contract.
+-- Assumes nothing.
+use Prim.Native.Nat.{_/_}
+use Rattle.pairing.proofs.Steps.{fresh-end, fresh-there}
+use borrow.Author.Needs.{needs}
+use Rattle.pairing.proofs.pairs.fresh.Statement.{statement}
+use Rattle.pairing.proofs.pairs.fresh.Tie as tie
+
+returns : tie.Need-returns
+returns c =
+    fresh-end (c .before .args .x / 65536) (c .before .args .keys .now) (c .before .args .t) (c .if1 .taken)
+
+mul-result : tie.Need-mul-result
+mul-result c = search needs
+
+shared-slice-read-result : tie.Need-shared-slice-read-result
+shared-slice-read-result c = search needs
+
+returns-2 : tie.Need-returns-2
+returns-2 c =
+    fresh-there (c .before .before .args .x / 65536) (c .before .before .args .keys .now) (c .before .before .args .t) (c .before .if1 .left)
+
+pub fresh-spec : {M : Type 1} → statement M
+fresh-spec =
+    tie.close
+    (tie.spec
+    returns
+    mul-result
+    shared-slice-read-result
+    returns-2)

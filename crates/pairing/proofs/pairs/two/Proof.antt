@@ -1,0 +1,52 @@
+-- `pairing::pairs::two` meets its contract.
+-- Assumes nothing.
+use lib.ListN.{length, getD, drop}
+use Rattle.facing.specs.Keys.{label-pair}
+use Prim.Native.Nat.{_+_}
+use Rattle.pairing.proofs.Steps.{two-told, first-of}
+use borrow.Author.Needs.{needs}
+use Rattle.pairing.proofs.pairs.two.Statement.{statement}
+use Rattle.pairing.proofs.pairs.two.Tie as tie
+
+mul-x : tie.Need-mul-x
+mul-x c = search needs
+
+shared-slice-read-x : tie.Need-shared-slice-read-x
+shared-slice-read-x c = search needs
+
+add-y : tie.Need-add-y
+add-y c = search needs
+
+mul-y : tie.Need-mul-y
+mul-y c = search needs
+
+shared-slice-read-y : tie.Need-shared-slice-read-y
+shared-slice-read-y c = search needs
+
+add-fresh : tie.Need-add-fresh
+add-fresh c = search needs
+
+fresh-requires : tie.Need-fresh-requires
+fresh-requires c κs = search needs
+
+labels-pair-requires : tie.Need-labels-pair-requires
+labels-pair-requires c κs =
+    (c .before .before .before .before .before .before .pre .0, c .before .before .before .before .before .before .pre .1, c .before .before .before .before .before .before .pre .2 (c .before .before .before .before .before .before .args .t) (first-of (length (c .before .before .before .before .before .before .args .keys .now)) (c .before .before .before .before .before .before .args .t) (c .before .before .before .before .before .before .pre .3)), c .before .before .before .before .before .before .pre .2 (c .before .before .before .before .before .before .args .t + 1) (c .before .before .before .before .before .before .pre .3))
+
+returns : tie.Need-returns
+returns c =
+    two-told (label-pair (c .before .before .before .before .before .before .before .args .mesh .now) (c .before .before .before .before .before .before .before .args .table .now)) (getD (c .before .before .before .before .before .before .before .args .keys .now) (c .before .before .before .before .before .before .before .args .t) 0) (getD (c .before .before .before .before .before .before .before .args .keys .now) (c .before .before .before .before .before .before .before .args .t + 1) 0) (drop (c .before .before .before .before .before .before .before .args .t + 2) (c .before .before .before .before .before .before .before .args .keys .now)) (c .before .fresh .ensures) (c .labels-pair .ensures)
+
+pub two-spec : {M : Type 1} → statement M
+two-spec =
+    tie.close
+    (tie.spec
+    mul-x
+    shared-slice-read-x
+    add-y
+    mul-y
+    shared-slice-read-y
+    add-fresh
+    fresh-requires
+    labels-pair-requires
+    returns)

@@ -1,0 +1,45 @@
+// Where each dart's previous one stands, by the dart's number.
+ghost use mathlib.Core.Path.{_≡_};
+ghost use Prim.Native.Nat.{_+_, _<_};
+ghost use lib.ListN.{length, getD};
+ghost use Rattle.model.specs.Image.{column};
+ghost use Rattle.mesh.specs.Parts.{blocks, part};
+ghost use Rattle.facing.specs.Numbers.{Asked, Before, BeforeBelow};
+use crate::dart;
+
+// The place of the dart next to the one at place p of block i.
+fn next_place(mesh: &[u64], i: usize, p: usize) -> usize
+    requires { ⌜ Asked (now mesh) × (i < blocks (now mesh)) × (p < getD (part (now mesh) i) 2 0) ⌝ }
+    ensures { λ r. ⌜ (r ≡ column (part (now (mesh .entry)) i) 1 p) × (r < 4096) ⌝ }
+{
+    dart::word(mesh, i * 4096 + p, 1) as usize
+}
+
+// Of block i; the blocks below it are done.
+fn fill_part(mesh: &[u64], i: usize, table: &mut [u64])
+    requires { ⌜ Asked (now mesh) × (i < blocks (now mesh)) × BeforeBelow (now mesh) (now table) i 0 ⌝ }
+    ensures { λ _. ⌜ BeforeBelow (now (mesh .entry)) (now (table .exit)) (i + 1) 0 ⌝ }
+{
+    let n = mesh[i * 32776 + 2] as usize;
+    // The darts below p are done.
+    let mut p = 0;
+    while p < n {
+        let next = next_place(mesh, i, p);
+        table[i * 4096 + next] = p as u64;
+        p += 1;
+    }
+}
+
+// Of all blocks.
+pub fn fill(mesh: &[u64], table: &mut [u64])
+    requires { ⌜ Asked (now mesh) × (length (now table) ≡ 65536) ⌝ }
+    ensures { λ _. ⌜ Before (now (mesh .entry)) (now (table .exit)) ⌝ }
+{
+    let k = mesh.len() / 32776;
+    // The blocks below i are done.
+    let mut i = 0;
+    while i < k {
+        fill_part(mesh, i, table);
+        i += 1;
+    }
+}

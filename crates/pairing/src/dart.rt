@@ -1,0 +1,77 @@
+// The darts of a mesh by number, a block's number × 4,096 + a place; and tests of two that have one label.
+ghost use mathlib.Core.Path.{_≡_};
+ghost use Prim.Native.Nat.{_/_, _%_, _<_};
+ghost use Rattle.mesh.specs.Parts.{blocks};
+ghost use Rattle.facing.specs.Numbers.{Asked, Held, Before, word as word-of, next-of, before-of, side-test, meet-test};
+ghost use Rattle.facing.specs.Keys.{label-pair, point-pair};
+
+// Word f of dart g.
+pub fn word(mesh: &[u64], g: usize, f: usize) -> u64
+    requires { ⌜ (g / 4096 < blocks (now mesh)) × (f < 8) ⌝ }
+    ensures { λ r. ⌜ r ≡ word-of (now (mesh .entry)) f g ⌝ }
+{
+    mesh[g / 4096 * 32776 + (8 + g % 4096 * 8 + f)]
+}
+
+// The next dart.
+pub fn next(mesh: &[u64], g: usize) -> usize
+    requires { ⌜ Asked (now mesh) × Held (now mesh) g ⌝ }
+    ensures { λ r. ⌜ r ≡ next-of (now (mesh .entry)) g ⌝ }
+{
+    g / 4096 * 4096 + word(mesh, g, 1) as usize
+}
+
+// The one before, by the table of places.
+pub fn previous(mesh: &[u64], table: &[u64], g: usize) -> usize
+    requires { ⌜ Asked (now mesh) × Before (now mesh) (now table) × Held (now mesh) g ⌝ }
+    ensures { λ r. ⌜ r ≡ before-of (now (table .entry)) g ⌝ }
+{
+    g / 4096 * 4096 + table[g] as usize
+}
+
+// 25: g names the block of h, and next of g has the label of the dart before h.
+fn side(mesh: &[u64], table: &[u64], g: usize, h: usize) -> bool
+    requires { ⌜ Asked (now mesh) × Before (now mesh) (now table) × Held (now mesh) g × Held (now mesh) h ⌝ }
+    ensures { λ r. ⌜ r ≡ side-test (now (mesh .entry)) (now (table .entry)) g h ⌝ }
+{
+    let named = word(mesh, g, 3) / 4;
+    let after = word(mesh, next(mesh, g), 4);
+    let last = word(mesh, previous(mesh, table, h), 4);
+    (named == (h / 4096) as u64) & (after == last)
+}
+
+// 25, of the darts of two keys.
+pub fn labels_pair(mesh: &[u64], table: &[u64], x: u64, y: u64) -> bool
+    requires { ⌜ Asked (now mesh) × Before (now mesh) (now table) × Held (now mesh) (x % 65536) × Held (now mesh) (y % 65536) ⌝ }
+    ensures { λ r. ⌜ r ≡ label-pair (now (mesh .entry)) (now (table .entry)) x y ⌝ }
+{
+    let g = (x % 65536) as usize;
+    let h = (y % 65536) as usize;
+    let there = side(mesh, table, g, h);
+    let back = side(mesh, table, h, g);
+    there & back
+}
+
+// 26: g and next of h have one point.
+fn meet(mesh: &[u64], g: usize, h: usize) -> bool
+    requires { ⌜ Asked (now mesh) × Held (now mesh) g × Held (now mesh) h ⌝ }
+    ensures { λ r. ⌜ r ≡ meet-test (now (mesh .entry)) g h ⌝ }
+{
+    let n = next(mesh, h);
+    let x = word(mesh, g, 5) == word(mesh, n, 5);
+    let y = word(mesh, g, 6) == word(mesh, n, 6);
+    let z = word(mesh, g, 7) == word(mesh, n, 7);
+    x & y & z
+}
+
+// 26, of the darts of two keys.
+pub fn points_pair(mesh: &[u64], x: u64, y: u64) -> bool
+    requires { ⌜ Asked (now mesh) × Held (now mesh) (x % 65536) × Held (now mesh) (y % 65536) ⌝ }
+    ensures { λ r. ⌜ r ≡ point-pair (now (mesh .entry)) x y ⌝ }
+{
+    let g = (x % 65536) as usize;
+    let h = (y % 65536) as usize;
+    let there = meet(mesh, g, h);
+    let back = meet(mesh, h, g);
+    there & back
+}

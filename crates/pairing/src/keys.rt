@@ -1,0 +1,75 @@
+// The keys of all critical darts, label and number, gathered into the scratch and put in order.
+ghost use mathlib.Core.Path.{_≡_};
+ghost use Prim.Native.Nat.{_+_, _≤_, _<_};
+ghost use lib.ListN.{length, getD, take};
+ghost use Rattle.model.specs.Lists.{sorted};
+ghost use Rattle.model.specs.Image.{room, words};
+ghost use Rattle.mesh.specs.Parts.{blocks, part, Put};
+ghost use Rattle.facing.specs.Numbers.{Asked};
+ghost use Rattle.facing.specs.Keys.{Short, key-of, keys-of, all-keys};
+use memory::record;
+use memory::record::Place;
+
+// Puts the key of the dart at place p of block i, if it is critical; where the keys end.
+fn put_key(block: &[u64], i: usize, p: usize, out: &mut [u64], at: usize) -> usize
+    requires { ⌜ (length (now block) ≡ words) × (getD (now block) 2 0 ≤ room) × Short (now block) × (i < 16) × (p < getD (now block) 2 0) × (at < length (now out)) ⌝ }
+    ensures { λ r. ⌜ (r ≤ at + 1) × Put at (key-of (now (block .entry)) i p) (now (out .entry)) (now (out .exit)) r ⌝ }
+{
+    let kind = record::field(block, Place(p), 3);
+    if kind <= 1 {
+        return at;
+    }
+    let link = record::field(block, Place(p), 4);
+    out[at] = link * 65536 + (i * 4096 + p) as u64;
+    at + 1
+}
+
+// Puts a block's keys from `at` on; where they end.
+fn put_keys(block: &[u64], i: usize, out: &mut [u64], at: usize) -> usize
+    requires { ⌜ (length (now block) ≡ words) × (getD (now block) 2 0 ≤ room) × Short (now block) × (i < 16) × (at + room ≤ length (now out)) ⌝ }
+    ensures { λ r. ⌜ (r ≤ at + room) × Put at (keys-of (now (block .entry)) i (getD (now (block .entry)) 2 0)) (now (out .entry)) (now (out .exit)) r ⌝ }
+{
+    let n = block[2] as usize;
+    // The keys of the darts below p stand from `at` up to the end.
+    let mut end = at;
+    let mut p = 0;
+    while p < n {
+        end = put_key(block, i, p, out, end);
+        p += 1;
+    }
+    end
+}
+
+// The same of block i of a mesh.
+fn put_part(mesh: &[u64], i: usize, out: &mut [u64], at: usize) -> usize
+    requires { ⌜ Asked (now mesh) × (i < blocks (now mesh)) × (at + room ≤ length (now out)) ⌝ }
+    ensures { λ r. ⌜ (r ≤ at + room) × Put at (keys-of (part (now (mesh .entry)) i) i (getD (part (now (mesh .entry)) i) 2 0)) (now (out .entry)) (now (out .exit)) r ⌝ }
+{
+    let from = i * 32776;
+    let to = from + 32776;
+    put_keys(&mesh[from..to], i, out, at)
+}
+
+// Puts the keys of all blocks; how many there are.
+pub fn gather(mesh: &[u64], out: &mut [u64]) -> usize
+    requires { ⌜ Asked (now mesh) × (length (now out) ≡ 65536) ⌝ }
+    ensures { λ r. ⌜ (r ≤ 65536) × (length (now (out .exit)) ≡ 65536) × (take r (now (out .exit)) ≡ all-keys (now (mesh .entry)) (blocks (now (mesh .entry)))) ⌝ }
+{
+    let k = mesh.len() / 32776;
+    // The first c entries are the keys of the blocks below i.
+    let mut c = 0;
+    let mut i = 0;
+    while i < k {
+        c = put_part(mesh, i, out, c);
+        i += 1;
+    }
+    c
+}
+
+// Puts the first c keys in order.
+pub fn order(keys: &mut [u64], other: &mut [u64], c: usize)
+    requires { ⌜ (c ≤ length (now keys)) × (c ≤ length (now other)) ⌝ }
+    ensures { λ _. ⌜ (take c (now (keys .exit)) ≡ sorted (take c (now (keys .entry)))) × (length (now (keys .exit)) ≡ length (now (keys .entry))) × (length (now (other .exit)) ≡ length (now (other .entry))) ⌝ }
+{
+    sort::sort(&mut keys[..c], &mut other[..c]);
+}
