@@ -2,14 +2,14 @@
 -- Assumes nothing.
 use mathlib.Core.Path.{_≡_, refl, sym, _∙_, ap}
 use mathlib.Core.Bool.{Bool, true, false, cond, _&&_}
-use Prim.Native.Nat.{ℕ, zero, suc, _%_, _/_, _<_, _≤_, _^_}
+use Prim.Native.Nat.{ℕ, zero, suc, _%_, _/_, _<_, _^_}
 use native.Mathlib.Omega.{arith}
-use lib.Dec.{T, ltb, leb, eqb}
+use lib.Dec.{T, leb, eqb}
 use lib.IntN.{ℤ}
 use lib.Ieee.{Float, nan, inf, fin, binary64, lt, le, neg, fits, toBits, ofBits, ofFields}
 use lib.Ieee.Bits.{ofBits-toBits, toBits-lt}
-use borrow.Author.Tests.{lt-ltb, ltb-true, eq-eqb}
-use Rattle.laws.proofs.Tests.{by-cases, and-intro}
+use borrow.Author.Tests.{lt-ltb}
+use Rattle.laws.proofs.Tests.{and-intro}
 use Rattle.model.specs.Values.{Point, finite-bits}
 use Rattle.model.specs.Balance.{lt-bits, le-bits, coordinate-of}
 

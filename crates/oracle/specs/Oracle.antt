@@ -1,6 +1,5 @@
 -- The oracle by value, and what it tests of one point. Assumes nothing.
 use mathlib.Core.Bool.{Bool, true, false, _&&_}
-use Prim.Native.Nat.{ℕ}
 use lib.Ieee.{binary64, toBits}
 use Rattle.model.specs.Values.{Point}
 use Rattle.model.specs.Balance as balance
