@@ -1,0 +1,4 @@
+pub mod Strikes
+pub mod Searches
+pub mod MovesLaws
+pub mod SurplusLaws
