@@ -2,3 +2,4 @@ pub mod Strikes
 pub mod Searches
 pub mod MovesLaws
 pub mod SurplusLaws
+pub mod Door

@@ -22,7 +22,7 @@ use Rattle.balance.specs.Moves.{can-leave, fits, Untried, leaves-at, Unt
 abbrev outcome : Bool → ℕ → Result (Unit {0})
 outcome b n = cond {A = Result (Unit {0})} b (record { answer = served tt; lent = [] }) (record { answer = refused n; lent = [] })
 
-none-refused : (qs : List Check) → served (tt {0}) ≡ answered qs → true ≡ eqb (first-no qs) 0
+pub none-refused : (qs : List Check) → served (tt {0}) ≡ answered qs → true ≡ eqb (first-no qs) 0
 unfolding answered asked
 none-refused qs h = go (eqb (first-no qs) 0) h
   where
