@@ -1,0 +1,5 @@
+pub mod Strikes
+pub mod Searches
+pub mod MovesLaws
+pub mod SurplusLaws
+pub mod Door

@@ -1,0 +1,117 @@
+-- `balance::first_move` meets its contract. Assumes nothing.
+use Prim.Native.Nat.{_-_}
+use mathlib.Core.Path.{_≡_, sym, ap, _∙_}
+use lib.IntN.{pos}
+use lib.ListN.{length, getD}
+use mir.ValLaws.{toZ-ofZ}
+use mir.Val.{toZ, ofZ}
+use mir.Syntax.{w32}
+use borrow.Author.Tests.{not-true, not-false}
+use Rattle.model.specs.Balance.{is-above}
+use Rattle.model.specs.Image.{room}
+use Rattle.oracle.specs.Oracle.{oracle-of}
+use Rattle.mesh.specs.Parts.{blocks}
+use Rattle.balance.specs.Moves.{moves-from}
+use Rattle.balance.proofs.Searches.{Searching, searching-start, searching-skip, searching-none}
+use Rattle.balance.proofs.MovesLaws.{surplus-at, above-told, donor-found, donor-end}
+use native.Mathlib.Omega.{arith}
+use borrow.Author.Needs.{needs}
+use Rattle.balance.proofs.first_move.Statement.{statement}
+use Rattle.balance.proofs.first_move.Tie as tie
+
+abbrev Inv-loop : tie.InvT-loop
+Inv-loop mesh o sizes₀ surplus k d₀ sizes d =
+    (length sizes ≡ room) × Searching (λ b. is-above (surplus-at (oracle-of o) mesh b)) (moves-from (oracle-of o) mesh) (blocks mesh) d
+
+abbrev μ-loop : tie.MeasureT-loop
+μ-loop mesh o sizes₀ surplus k d₀ sizes d =
+    k - d
+
+loop-holds : tie.Need-loop-holds Inv-loop μ-loop
+loop-holds c =
+    (c .before .before .pre .2, searching-start _ _ _)
+
+add-d : tie.Need-add-d Inv-loop μ-loop
+add-d c =
+    omega (arith, c .loop-test .taken, c .before .before .before .before .pre .0 .few)
+
+mul-s : tie.Need-mul-s Inv-loop μ-loop
+mul-s c =
+    omega (arith, c .loop-test .taken, c .before .before .before .before .pre .0 .few)
+
+array-copy-out-s : tie.Need-array-copy-out-s Inv-loop μ-loop
+array-copy-out-s c =
+    omega (arith, c .loop-test .taken, c .before .before .before .before .pre .0 .few, c .before .before .before .before .pre .1 .size)
+
+is-above-requires : tie.Need-is-above-requires Inv-loop μ-loop
+is-above-requires c κs = search needs
+
+loop-less : tie.Need-loop-less Inv-loop μ-loop
+loop-less c =
+    omega (arith, c .before .before .before .loop-test .taken)
+
+loop-again : tie.Need-loop-again Inv-loop μ-loop
+loop-again c =
+    let e : toZ w32 (ofZ w32 (getD (c .before .before .before .before .before .before .before .args .t3) (c .before .before .before .before .loop .d) (pos 0))) ≡ getD (c .before .before .before .before .before .before .before .args .t3) (c .before .before .before .before .loop .d) (pos 0) = toZ-ofZ w32 (getD (c .before .before .before .before .before .before .before .args .t3) (c .before .before .before .before .loop .d) (pos 0)) (search needs) in
+    (c .before .before .before .before .loop .inv .0, searching-skip (c .before .before .before .before .loop .inv .1) (c .before .before .before .loop-test .taken) (sym (above-told (c .before .before .before .before .before .before .before .pre .1) (c .before .before .before .before .loop .d) (c .before .before .before .loop-test .taken) e (c .before .is-above .ensures)) ∙ not-true _ (c .if1 .taken)))
+
+from-donor-requires : tie.Need-from-donor-requires Inv-loop μ-loop
+from-donor-requires c κs =
+    let e : toZ w32 (ofZ w32 (getD (c .before .before .before .before .before .before .before .before .args .t3) (c .before .before .before .before .before .loop .d) (pos 0))) ≡ getD (c .before .before .before .before .before .before .before .before .args .t3) (c .before .before .before .before .before .loop .d) (pos 0) = toZ-ofZ w32 (getD (c .before .before .before .before .before .before .before .before .args .t3) (c .before .before .before .before .before .loop .d) (pos 0)) (search needs) in
+    ((c .before .before .before .before .before .before .before .before .pre .0, c .before .before .before .before .loop-test .taken, c .before .before .before .before .before .loop .inv .0), (c .before .before .before .before .before .before .before .before .pre .1, ap is-above (sym e) ∙ sym (c .before .before .is-above .ensures) ∙ not-false _ (c .before .if1 .left)))
+
+loop-less-2 : tie.Need-loop-less-2 Inv-loop μ-loop
+loop-less-2 c =
+    omega (arith, c .before .before .before .before .before .before .before .before .before .loop-test .taken)
+
+loop-again-2 : tie.Need-loop-again-2 Inv-loop μ-loop
+loop-again-2 c =
+    (c .before .before .before .before .from-donor .ensures .2, searching-none (c .before .before .before .before .before .before .before .before .before .before .loop .inv .1) (c .before .before .before .before .before .before .before .before .before .loop-test .taken) (c .before .before .before .before .from-donor .ensures .0 .nothing (c .if2 .taken)))
+
+cast-t21 : tie.Need-cast-t21 Inv-loop μ-loop
+cast-t21 c =
+    omega (arith, c .before .before .before .before .before .before .before .before .before .loop-test .taken, c .before .before .before .before .before .before .before .before .before .before .before .before .before .pre .0 .few)
+
+cast-t22 : tie.Need-cast-t22 Inv-loop μ-loop
+cast-t22 c =
+    omega (arith, c .before .before .before .before .before .from-donor .ensures .1)
+
+same-length : tie.Need-same-length Inv-loop μ-loop
+same-length c =
+    c .before .before .before .before .before .from-donor .ensures .2 ∙ sym (c .before .before .before .before .before .before .before .before .before .before .before .before .before .before .pre .2)
+
+returns : tie.Need-returns Inv-loop μ-loop
+returns c =
+    let e : toZ w32 (ofZ w32 (getD (c .before .before .before .before .before .before .before .before .before .before .before .before .before .before .args .t3) (c .before .before .before .before .before .before .before .before .before .before .before .loop .d) (pos 0))) ≡ getD (c .before .before .before .before .before .before .before .before .before .before .before .before .before .before .args .t3) (c .before .before .before .before .before .before .before .before .before .before .before .loop .d) (pos 0) = toZ-ofZ w32 (getD (c .before .before .before .before .before .before .before .before .before .before .before .before .before .before .args .t3) (c .before .before .before .before .before .before .before .before .before .before .before .loop .d) (pos 0)) (search needs) in
+    donor-found (oracle-of (c .before .before .before .before .before .before .before .before .before .before .before .before .before .before .args .o)) (c .before .before .before .before .before .before .before .before .before .before .before .before .before .before .args .mesh .now) (c .before .before .before .before .before .before .before .before .before .before .before .loop .inv .1) (c .before .before .before .before .before .before .before .before .before .before .loop-test .taken) (sym (above-told (c .before .before .before .before .before .before .before .before .before .before .before .before .before .before .pre .1) (c .before .before .before .before .before .before .before .before .before .before .before .loop .d) (c .before .before .before .before .before .before .before .before .before .before .loop-test .taken) e (c .before .before .before .before .before .before .before .before .is-above .ensures)) ∙ not-false _ (c .before .before .before .before .before .before .before .if1 .left)) (c .before .before .before .before .before .from-donor .ensures .0) (c .before .if2 .left)
+
+same-length-2 : tie.Need-same-length-2 Inv-loop μ-loop
+same-length-2 c =
+    c .before .loop .inv .0 ∙ sym (c .before .before .before .before .pre .2)
+
+returns-2 : tie.Need-returns-2 Inv-loop μ-loop
+returns-2 c =
+    donor-end (oracle-of (c .before .before .before .before .args .o)) (c .before .before .before .before .args .mesh .now) (c .before .loop .inv .1) (c .loop-test .left)
+
+pub first-move-spec : {M : Type 1} → statement M
+first-move-spec =
+    tie.close
+    (tie.spec
+    Inv-loop
+    μ-loop
+    loop-holds
+    add-d
+    mul-s
+    array-copy-out-s
+    is-above-requires
+    loop-less
+    loop-again
+    from-donor-requires
+    loop-less-2
+    loop-again-2
+    cast-t21
+    cast-t22
+    same-length
+    returns
+    same-length-2
+    returns-2)

@@ -1,0 +1,120 @@
+-- `balance::leaving::first_leaving` meets its contract. Assumes nothing.
+use Prim.Native.Nat.{_-_}
+use mathlib.Core.Path.{refl, sym, ap, _∙_}
+use Rattle.model.specs.Values.{rack}
+use Rattle.cells.proofs.Sited.{sited}
+use Rattle.balance.specs.Moves.{can-leave, at}
+use Rattle.balance.proofs.Strikes.{Trying, trying-start, trying-none, trying-large, trying-strike, tried-found, tried-all}
+use native.Mathlib.Omega.{arith}
+use Rattle.balance.proofs.leaving.first_leaving.Statement.{statement}
+use Rattle.balance.proofs.leaving.first_leaving.Tie as tie
+
+abbrev Inv-loop : tie.InvT-loop
+Inv-loop block to left sizes₀ n i₀ sizes i =
+    Trying (at sizes₀) block left sizes i
+
+abbrev μ-loop : tie.MeasureT-loop
+μ-loop block to left sizes₀ n i₀ sizes i =
+    n - i
+
+shared-slice-read-n : tie.Need-shared-slice-read-n Inv-loop μ-loop
+shared-slice-read-n c =
+    omega (arith, sited rack (c .before .before .before .args .block .now) (c .before .before .before .pre .0) .linked .size)
+
+loop-holds : tie.Need-loop-holds Inv-loop μ-loop
+loop-holds c =
+    trying-start _ _ _ (c .before .before .before .pre .3)
+
+add-i : tie.Need-add-i Inv-loop μ-loop
+add-i c =
+    omega (arith, c .loop-test .taken, sited rack (c .before .before .before .before .before .args .block .now) (c .before .before .before .before .before .pre .0) .linked .few)
+
+mul-s : tie.Need-mul-s Inv-loop μ-loop
+mul-s c =
+    omega (arith, c .loop-test .taken, sited rack (c .before .before .before .before .before .args .block .now) (c .before .before .before .before .before .pre .0) .linked .few)
+
+slice-read-s : tie.Need-slice-read-s Inv-loop μ-loop
+slice-read-s c =
+    omega (arith, c .before .loop-test .taken, sited rack (c .before .before .before .before .before .before .args .block .now) (c .before .before .before .before .before .before .pre .0) .linked .few, c .before .before .loop .inv .untried .len)
+
+loop-less : tie.Need-loop-less Inv-loop μ-loop
+loop-less c =
+    omega (arith, c .before .before .loop-test .taken)
+
+loop-again : tie.Need-loop-again Inv-loop μ-loop
+loop-again c =
+    trying-none (c .before .before .before .loop .inv) (c .before .before .loop-test .taken) refl (c .if1 .taken)
+
+loop-less-2 : tie.Need-loop-less-2 Inv-loop μ-loop
+loop-less-2 c =
+    omega (arith, c .before .before .before .loop-test .taken)
+
+loop-again-2 : tie.Need-loop-again-2 Inv-loop μ-loop
+loop-again-2 c =
+    trying-large (c .before .before .before .before .loop .inv) (c .before .before .before .loop-test .taken) refl (c .if2 .taken)
+
+field-requires : tie.Need-field-requires Inv-loop μ-loop
+field-requires c κs =
+    (omega (arith, c .before .before .before .loop-test .taken, sited rack (c .before .before .before .before .before .before .before .before .args .block .now) (c .before .before .before .before .before .before .before .before .pre .0) .linked .few), omega arith, sited rack (c .before .before .before .before .before .before .before .before .args .block .now) (c .before .before .before .before .before .before .before .before .pre .0) .linked .size)
+
+may-leave-requires : tie.Need-may-leave-requires Inv-loop μ-loop
+may-leave-requires c κs =
+    (c .before .before .before .before .before .before .before .before .before .pre .0, c .before .before .before .before .before .before .before .before .before .pre .1, c .before .before .before .before .before .before .before .before .before .pre .2)
+
+same-length : tie.Need-same-length Inv-loop μ-loop
+same-length c =
+    c .before .before .before .before .before .before .before .loop .inv .untried .len ∙ sym (c .before .before .before .before .before .before .before .before .before .before .before .pre .3)
+
+returns : tie.Need-returns Inv-loop μ-loop
+returns c =
+    (c .before .before .field .ensures ∙ tried-found (c .before .before .before .before .before .before .before .loop .inv) (c .before .before .before .before .before .before .loop-test .taken) refl (c .before .before .before .before .if1 .left) (c .before .before .before .if2 .left) (ap (can-leave (c .before .before .before .before .before .before .before .before .before .before .before .args .block .now)) (sym (c .before .before .field .ensures)) ∙ sym (c .before .may-leave .ensures) ∙ c .if3 .taken), c .before .before .before .before .before .before .before .loop .inv .untried)
+
+mul-sizes : tie.Need-mul-sizes Inv-loop μ-loop
+mul-sizes c =
+    omega (arith, c .before .before .before .before .before .before .loop-test .taken, sited rack (c .before .before .before .before .before .before .before .before .before .before .before .args .block .now) (c .before .before .before .before .before .before .before .before .before .before .before .pre .0) .linked .few)
+
+slice-write-sizes : tie.Need-slice-write-sizes Inv-loop μ-loop
+slice-write-sizes c =
+    omega (arith, c .before .before .before .before .before .before .loop-test .taken, sited rack (c .before .before .before .before .before .before .before .before .before .before .before .args .block .now) (c .before .before .before .before .before .before .before .before .before .before .before .pre .0) .linked .few, c .before .before .before .before .before .before .before .loop .inv .untried .len)
+
+loop-less-3 : tie.Need-loop-less-3 Inv-loop μ-loop
+loop-less-3 c =
+    omega (arith, c .before .before .before .before .before .before .loop-test .taken)
+
+loop-again-3 : tie.Need-loop-again-3 Inv-loop μ-loop
+loop-again-3 c =
+    trying-strike (c .before .before .before .before .before .before .before .loop .inv) (sited rack (c .before .before .before .before .before .before .before .before .before .before .before .args .block .now) (c .before .before .before .before .before .before .before .before .before .before .before .pre .0) .linked .few) (c .before .before .before .before .before .before .loop-test .taken) (ap (can-leave (c .before .before .before .before .before .before .before .before .before .before .before .args .block .now)) (sym (c .before .before .field .ensures)) ∙ sym (c .before .may-leave .ensures) ∙ c .if3 .left)
+
+same-length-2 : tie.Need-same-length-2 Inv-loop μ-loop
+same-length-2 c =
+    c .before .loop .inv .untried .len ∙ sym (c .before .before .before .before .before .pre .3)
+
+returns-2 : tie.Need-returns-2 Inv-loop μ-loop
+returns-2 c =
+    (tried-all (c .before .loop .inv) (c .loop-test .left), c .before .loop .inv .untried)
+
+pub first-leaving-spec : {M : Type 1} → statement M
+first-leaving-spec =
+    tie.close
+    (tie.spec
+    Inv-loop
+    μ-loop
+    shared-slice-read-n
+    loop-holds
+    add-i
+    mul-s
+    slice-read-s
+    loop-less
+    loop-again
+    loop-less-2
+    loop-again-2
+    field-requires
+    may-leave-requires
+    same-length
+    returns
+    mul-sizes
+    slice-write-sizes
+    loop-less-3
+    loop-again-3
+    same-length-2
+    returns-2)

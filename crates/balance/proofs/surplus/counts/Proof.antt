@@ -1,0 +1,64 @@
+-- `balance::surplus::counts` meets its contract. Assumes nothing.
+use Prim.Native.Nat.{_-_}
+use mathlib.Core.Path.{refl}
+use Rattle.oracle.specs.Oracle.{oracle-of}
+use Rattle.balance.specs.Moves.{count-at}
+use Rattle.balance.proofs.SurplusLaws.{Filling, filling-start, filling-next, filled}
+use native.Mathlib.Omega.{arith}
+use Rattle.balance.proofs.surplus.counts.Statement.{statement}
+use Rattle.balance.proofs.surplus.counts.Tie as tie
+
+abbrev Inv-loop : tie.InvT-loop
+Inv-loop mesh o k c₀ i₀ c i =
+    Filling 0 (count-at (oracle-of o) mesh) k c i
+
+abbrev μ-loop : tie.MeasureT-loop
+μ-loop mesh o k c₀ i₀ c i =
+    k - i
+
+loop-holds : tie.Need-loop-holds Inv-loop μ-loop
+loop-holds c =
+    filling-start _ _ _ _ refl
+
+count-part-requires : tie.Need-count-part-requires Inv-loop μ-loop
+count-part-requires c κs =
+    (c .before .before .before .pre, c .loop-test .taken)
+
+mul-c : tie.Need-mul-c Inv-loop μ-loop
+mul-c c =
+    omega (arith, c .before .loop-test .taken, c .before .before .before .before .pre .few)
+
+array-write-c : tie.Need-array-write-c Inv-loop μ-loop
+array-write-c c =
+    omega (arith, c .before .loop-test .taken, c .before .before .before .before .pre .few, c .before .before .loop .inv .size)
+
+add-i : tie.Need-add-i Inv-loop μ-loop
+add-i c =
+    omega (arith, c .before .loop-test .taken, c .before .before .before .before .pre .few)
+
+loop-less : tie.Need-loop-less Inv-loop μ-loop
+loop-less c =
+    omega (arith, c .before .loop-test .taken)
+
+loop-again : tie.Need-loop-again Inv-loop μ-loop
+loop-again c =
+    filling-next (c .before .before .loop .inv) (c .before .before .before .before .pre .few) (c .before .loop-test .taken) (c .count-part .ensures .0)
+
+returns : tie.Need-returns Inv-loop μ-loop
+returns c =
+    record { size = c .before .loop .inv .size; entry = filled (c .before .loop .inv) (c .loop-test .left) }
+
+pub counts-spec : {M : Type 1} → statement M
+counts-spec =
+    tie.close
+    (tie.spec
+    Inv-loop
+    μ-loop
+    loop-holds
+    count-part-requires
+    mul-c
+    array-write-c
+    add-i
+    loop-less
+    loop-again
+    returns)

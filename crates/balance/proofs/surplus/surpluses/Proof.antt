@@ -1,0 +1,34 @@
+-- `balance::surplus::surpluses` meets its contract. Assumes nothing.
+use mathlib.Core.Path.{refl}
+use Rattle.oracle.specs.Oracle.{oracle-of}
+use Rattle.balance.proofs.MovesLaws.{counted-small}
+use Rattle.balance.proofs.SurplusLaws.{mean-small, surpluses-told}
+use borrow.Author.Needs.{needs}
+use Rattle.balance.proofs.surplus.surpluses.Statement.{statement}
+use Rattle.balance.proofs.surplus.surpluses.Tie as tie
+
+counts-requires : tie.Need-counts-requires
+counts-requires c κs = search needs
+
+total-requires : tie.Need-total-requires
+total-requires c κs =
+    (c .before .before .pre .few, counted-small (c .before .before .pre) (c .counts .ensures))
+
+cast-mean : tie.Need-cast-mean
+cast-mean c = search needs
+
+div-mean : tie.Need-div-mean
+div-mean c = search needs
+
+less-mean-requires : tie.Need-less-mean-requires
+less-mean-requires c κs =
+    (c .before .before .before .pre .few, mean-small (c .total .result) _ (c .total .ensures .1), counted-small (c .before .before .before .pre) (c .before .counts .ensures))
+
+returns : tie.Need-returns
+returns c =
+    surpluses-told (oracle-of (c .before .before .before .before .args .o)) (c .before .before .before .before .args .mesh .now) (c .before .before .counts .ensures) (c .before .total .ensures .0) refl (c .less-mean .ensures .0) (c .less-mean .ensures .1)
+
+pub surpluses-spec : {M : Type 1} → statement M
+surpluses-spec =
+    tie.close
+    (tie.spec counts-requires total-requires cast-mean div-mean less-mean-requires returns)

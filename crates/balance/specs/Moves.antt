@@ -1,0 +1,86 @@
+-- The next move by places: which volumes may go, the surpluses of a mesh in memory, and the moves of one donor. Assumes nothing.
+use mathlib.Core.Path.{_≡_}
+use mathlib.Core.Bool.{Bool, true, false, _&&_}
+use mathlib.Core.List.{List, [], _∷_, map}
+use mathlib.Core.Logic.{_⊎_}
+use Prim.Native.Nat.{ℕ, _-_, _≤_, _<_}
+use lib.Dec.{leb, ltb, eqb}
+use lib.ListN.{length, getD, drop}
+use lib.IntN.{ℤ, pos}
+use Rattle.model.specs.Lists.{keep, tab, concat-map, first-no}
+use Rattle.model.specs.Values.{Block, rack, all-rack}
+use Rattle.model.specs.Sound.{block-at}
+use Rattle.model.specs.Image.{room, column, block-in, is-image}
+use Rattle.model.specs.Departure.{departure-checks}
+use Rattle.model.specs.Balance.{Oracle, Move, picked, counts, surpluses, is-above, is-below, can-move, blocks-with}
+use Rattle.mesh.specs.Parts.{blocks, part}
+
+-- 10 to 14 of the volume of the dart with this serial: they do not depend on the destination
+unfoldable pub can-leave : List ℕ → ℕ → Bool
+can-leave m s = eqb (first-no (drop 1 (departure-checks 512 (block-in m) 0 s))) 0
+
+-- of a place, by the size of the picked volume that it starts: there is one, it is at most `left`, and it may leave
+abbrev pub fits : (ℕ → ℕ) → (ℕ → Bool) → ℕ → ℕ → Bool
+fits size leaves left p = ltb 0 (size p) && leb (size p) left && leaves p
+
+-- sizes of which some are struck off, of volumes that may not leave
+pub record Untried (size : ℕ → ℕ) (leaves : ℕ → Bool) (n : ℕ) (sizes : List ℕ) : Type 0 where
+  pub len : length sizes ≡ room
+  pub entry : (p : ℕ) → p < n → (getD sizes p 0 ≡ size p) ⊎ ((getD sizes p 0 ≡ 0) × (leaves p ≡ false))
+
+-- of a block
+abbrev pub leaves-at : List ℕ → ℕ → Bool
+leaves-at m p = can-leave m (column m 0 p)
+
+abbrev pub Untried-in : (ℕ → ℕ) → List ℕ → List ℕ → Type 0
+Untried-in size m sizes = Untried size (leaves-at m) (getD m 2 0) sizes
+
+-- the serials of a block's volumes of these sizes that may go where there is room for `left` darts, ascending
+unfoldable pub going : (ℕ → ℕ) → List ℕ → ℕ → List ℕ
+going size m left = map (column m 0) (keep (fits size (leaves-at m) left) (tab (λ p. p) (getD m 2 0)))
+
+-- a table as a function
+abbrev pub at : List ℕ → ℕ → ℕ
+at sizes p = getD sizes p 0
+
+-- one to 16 sound blocks in memory, numbered in order
+pub record SoundParts (mesh : List ℕ) : Type 0 where
+  pub some : 1 ≤ blocks mesh
+  pub few : blocks mesh ≤ 16
+  pub image : (i : ℕ) → i < blocks mesh → is-image rack (part mesh i) ≡ true
+  pub number : (i : ℕ) → i < blocks mesh → getD (part mesh i) 0 0 ≡ i
+
+-- the model's blocks
+abbrev pub mesh-in : List ℕ → List Block
+mesh-in mesh = tab (λ i. block-in (part mesh i)) (blocks mesh)
+
+-- how many volumes of block i are picked
+abbrev pub count-at : Oracle → List ℕ → ℕ → ℕ
+count-at o mesh i = length (picked o (block-in (part mesh i) .darts))
+
+-- these counts in a table
+pub record Counted (o : Oracle) (mesh cs : List ℕ) : Type 0 where
+  pub size : length cs ≡ 16
+  pub entry : (i : ℕ) → i < blocks mesh → getD cs i 0 ≡ count-at o mesh i
+
+-- the surpluses in a table
+pub record Surpluses (o : Oracle) (mesh : List ℕ) (ss : List ℤ) : Type 0 where
+  pub size : length ss ≡ 16
+  pub entry : (i : ℕ) → i < blocks mesh → getD ss i (pos 0) ≡ getD (surpluses (counts o (mesh-in mesh))) i (pos 0)
+
+-- the moves from block d to block r
+abbrev pub moves-between : Oracle → List ℕ → ℕ → ℕ → List Move
+moves-between o mesh d r = keep (can-move all-rack (mesh-in mesh)) (map (λ s. record { donor = d; recipient = r; serial = s }) (picked o (block-at (mesh-in mesh) d .darts)))
+
+-- from block d to any that is below
+abbrev pub moves-from : Oracle → List ℕ → ℕ → List Move
+moves-from o mesh d = concat-map (moves-between o mesh d) (blocks-with is-below (surpluses (counts o (mesh-in mesh))))
+
+-- from any that is above
+abbrev pub all-moves : Oracle → List ℕ → List Move
+all-moves o mesh = concat-map (moves-from o mesh) (blocks-with is-above (surpluses (counts o (mesh-in mesh))))
+
+-- the first of some moves of block d; serial 0 where there is none
+pub record First (l : List Move) (d to serial : ℕ) : Type 0 where
+  pub nothing : serial ≡ 0 → l ≡ []
+  pub something : (serial ≡ 0 → ⊥) → (ts : List Move) × (l ≡ record { donor = d; recipient = to; serial = serial } ∷ ts)

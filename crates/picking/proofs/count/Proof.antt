@@ -1,0 +1,41 @@
+-- `picking::count` meets its contract. Assumes nothing.
+use Rattle.model.specs.Values.{rack}
+use Rattle.oracle.specs.Oracle.{oracle-of}
+use Rattle.cells.proofs.Sited.{sited}
+use Rattle.picking.proofs.Loops.{picked-count}
+use native.Mathlib.Omega.{arith}
+use borrow.Author.Needs.{needs}
+use Rattle.picking.proofs.count.Statement.{statement}
+use Rattle.picking.proofs.count.Tie as tie
+
+slice-aggregate-sizes-of : tie.Need-slice-aggregate-sizes-of
+slice-aggregate-sizes-of c = search needs
+
+sizes-of-requires : tie.Need-sizes-of-requires
+sizes-of-requires c κs = search needs
+
+shared-slice-read-n : tie.Need-shared-slice-read-n
+shared-slice-read-n c =
+    omega (arith, sited rack (c .before .before .before .before .before .args .block .now) (c .before .before .before .before .before .pre) .linked .size)
+
+slice-aggregate-count-of : tie.Need-slice-aggregate-count-of
+slice-aggregate-count-of c = search needs
+
+count-of-requires : tie.Need-count-of-requires
+count-of-requires c κs =
+    (sited rack (c .before .before .before .before .before .before .args .block .now) (c .before .before .before .before .before .before .pre) .linked .few, c .before .before .before .sizes-of .ensures .len)
+
+returns : tie.Need-returns
+returns c =
+    picked-count (oracle-of (c .before .before .before .before .before .before .before .args .o)) (c .before .before .before .before .before .before .before .args .block .now) _ (c .before .before .before .before .before .before .before .pre) (c .before .before .before .before .sizes-of .ensures) (c .count-of .ensures)
+
+pub count-spec : {M : Type 1} → statement M
+count-spec =
+    tie.close
+    (tie.spec
+    slice-aggregate-sizes-of
+    sizes-of-requires
+    shared-slice-read-n
+    slice-aggregate-count-of
+    count-of-requires
+    returns)

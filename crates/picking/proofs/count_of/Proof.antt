@@ -1,0 +1,73 @@
+-- `picking::count_of` meets its contract. Assumes nothing.
+use Prim.Native.Nat.{_-_, _≤_}
+use mathlib.Core.Path.{_≡_, refl, ap, _∙_}
+use lib.Dec.{ltb}
+use lib.ListN.{getD}
+use Rattle.picking.proofs.Loops.{count-below, count-few, count-yes, count-no, not-zero, is-zero}
+use native.Mathlib.Omega.{arith}
+use borrow.Author.Needs.{needs}
+use Rattle.picking.proofs.count_of.Statement.{statement}
+use Rattle.picking.proofs.count_of.Tie as tie
+
+abbrev Inv-loop : tie.InvT-loop
+Inv-loop sizes n c₀ p₀ c p =
+    (p ≤ n) × (c ≡ count-below (λ x. ltb 0 (getD sizes x 0)) p)
+
+abbrev μ-loop : tie.MeasureT-loop
+μ-loop sizes n c₀ p₀ c p =
+    n - p
+
+loop-holds : tie.Need-loop-holds Inv-loop μ-loop
+loop-holds c =
+    (omega arith, refl)
+
+mul-s : tie.Need-mul-s Inv-loop μ-loop
+mul-s c = search needs
+
+shared-slice-read-s : tie.Need-shared-slice-read-s Inv-loop μ-loop
+shared-slice-read-s c = search needs
+
+add-p : tie.Need-add-p Inv-loop μ-loop
+add-p c = search needs
+
+loop-less : tie.Need-loop-less Inv-loop μ-loop
+loop-less c =
+    omega (arith, c .before .before .loop-test .taken)
+
+loop-again : tie.Need-loop-again Inv-loop μ-loop
+loop-again c =
+    (omega (arith, c .before .before .loop-test .taken), count-no (λ x. ltb 0 (getD (c .before .before .before .before .args .sizes .now) x 0)) (c .before .before .before .loop .p) (c .before .before .before .loop .c) (c .before .before .before .loop .inv .1) (is-zero (c .before .before .before .before .args .sizes .now) (c .before .before .before .loop .p) _ refl (c .if1 .taken)))
+
+add-c : tie.Need-add-c Inv-loop μ-loop
+add-c c =
+    omega (arith, c .before .before .before .loop .inv .0, c .before .before .before .loop .inv .1, count-few (λ x. ltb 0 (getD (c .before .before .before .before .args .sizes .now) x 0)) (c .before .before .before .loop .p), c .before .before .before .before .pre .0)
+
+loop-less-2 : tie.Need-loop-less-2 Inv-loop μ-loop
+loop-less-2 c =
+    omega (arith, c .before .before .loop-test .taken)
+
+loop-again-2 : tie.Need-loop-again-2 Inv-loop μ-loop
+loop-again-2 c =
+    (omega (arith, c .before .before .loop-test .taken), count-yes (λ x. ltb 0 (getD (c .before .before .before .before .args .sizes .now) x 0)) (c .before .before .before .loop .p) (c .before .before .before .loop .c) (c .before .before .before .loop .inv .1) (not-zero (c .before .before .before .before .args .sizes .now) (c .before .before .before .loop .p) _ refl (c .if1 .left)))
+
+returns : tie.Need-returns Inv-loop μ-loop
+returns c =
+    let e : c .before .loop .p ≡ c .before .before .args .n = omega (arith, c .before .loop .inv .0, c .loop-test .left) in
+    c .before .loop .inv .1 ∙ ap (count-below (λ x. ltb 0 (getD (c .before .before .args .sizes .now) x 0))) e
+
+pub count-of-spec : {M : Type 1} → statement M
+count-of-spec =
+    tie.close
+    (tie.spec
+    Inv-loop
+    μ-loop
+    loop-holds
+    mul-s
+    shared-slice-read-s
+    add-p
+    loop-less
+    loop-again
+    add-c
+    loop-less-2
+    loop-again-2
+    returns)

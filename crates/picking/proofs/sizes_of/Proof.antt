@@ -1,0 +1,32 @@
+-- `picking::sizes_of` meets its contract. Assumes nothing.
+use mathlib.Core.Path.{refl}
+use Rattle.picking.proofs.Loops.{walkable}
+use borrow.Author.Needs.{needs}
+use Rattle.picking.proofs.sizes_of.Statement.{statement}
+use Rattle.picking.proofs.sizes_of.Tie as tie
+
+slice-aggregate-measure-all : tie.Need-slice-aggregate-measure-all
+slice-aggregate-measure-all c = search needs
+
+slice-aggregate-measure-all-2 : tie.Need-slice-aggregate-measure-all-2
+slice-aggregate-measure-all-2 c = search needs
+
+measure-all-requires : tie.Need-measure-all-requires
+measure-all-requires c κs =
+    (walkable (c .before .before .before .before .before .args .block .now) (c .before .before .before .before .before .pre .0), c .before .before .before .before .before .pre .1, refl, refl)
+
+same-length : tie.Need-same-length
+same-length c = search needs
+
+returns : tie.Need-returns
+returns c = search needs
+
+pub sizes-of-spec : {M : Type 1} → statement M
+sizes-of-spec =
+    tie.close
+    (tie.spec
+    slice-aggregate-measure-all
+    slice-aggregate-measure-all-2
+    measure-all-requires
+    same-length
+    returns)

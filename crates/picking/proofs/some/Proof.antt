@@ -1,0 +1,72 @@
+-- `picking::some` meets its contract. Assumes nothing.
+use Prim.Native.Nat.{_-_}
+use Rattle.oracle.specs.Oracle.{oracle-of}
+use Rattle.picking.specs.Picked.{holds-at}
+use Rattle.picking.proofs.Loops.{held, Looking, looking-start, looking-next, looked-found, looked-all}
+use native.Mathlib.Omega.{arith}
+use borrow.Author.Needs.{needs}
+use Rattle.picking.proofs.some.Statement.{statement}
+use Rattle.picking.proofs.some.Tie as tie
+
+abbrev Inv-loop : tie.InvT-loop
+Inv-loop block o second order from to i₀ i =
+    Looking (holds-at (oracle-of o) second block) order from i
+
+abbrev μ-loop : tie.MeasureT-loop
+μ-loop block o second order from to i₀ i =
+    to - i
+
+loop-holds : tie.Need-loop-holds Inv-loop μ-loop
+loop-holds c =
+    looking-start _ _ _
+
+mul-p : tie.Need-mul-p Inv-loop μ-loop
+mul-p c =
+    omega (arith, c .loop-test .taken, c .before .before .before .before .pre .2)
+
+shared-slice-read-p : tie.Need-shared-slice-read-p Inv-loop μ-loop
+shared-slice-read-p c = search needs
+
+point-at-requires : tie.Need-point-at-requires Inv-loop μ-loop
+point-at-requires c κs =
+    let h = c .before .before .before .before .before .pre .3 _ (c .before .loop-test .taken) in
+    (omega (arith, h, c .before .before .before .before .before .pre .0 .linked .few), c .before .before .before .before .before .pre .0 .linked .size, c .before .before .before .before .before .pre .0 .finite-at _ h)
+
+holds-requires : tie.Need-holds-requires Inv-loop μ-loop
+holds-requires c κs = search needs
+
+returns : tie.Need-returns Inv-loop μ-loop
+returns c =
+    looked-found (c .before .before .before .before .before .loop .inv) (c .before .before .before .before .before .before .before .before .args .to) (c .before .before .before .before .loop-test .taken) (held (oracle-of (c .before .before .before .before .before .before .before .before .args .o)) (c .before .before .before .before .before .before .before .before .args .second) (c .before .before .before .before .before .before .before .before .args .block .now) _ (c .before .before .before .before .before .before .before .before .pre .0 .finite-at _ (c .before .before .before .before .before .before .before .before .pre .3 _ (c .before .before .before .before .loop-test .taken))) (c .before .before .point-at .ensures) (c .before .holds .ensures)) (c .if1 .taken)
+
+add-i : tie.Need-add-i Inv-loop μ-loop
+add-i c = search needs
+
+loop-less : tie.Need-loop-less Inv-loop μ-loop
+loop-less c =
+    omega (arith, c .before .before .before .before .loop-test .taken)
+
+loop-again : tie.Need-loop-again Inv-loop μ-loop
+loop-again c =
+    looking-next (c .before .before .before .before .before .loop .inv) (held (oracle-of (c .before .before .before .before .before .before .before .before .args .o)) (c .before .before .before .before .before .before .before .before .args .second) (c .before .before .before .before .before .before .before .before .args .block .now) _ (c .before .before .before .before .before .before .before .before .pre .0 .finite-at _ (c .before .before .before .before .before .before .before .before .pre .3 _ (c .before .before .before .before .loop-test .taken))) (c .before .before .point-at .ensures) (c .before .holds .ensures)) (c .if1 .left)
+
+returns-2 : tie.Need-returns-2 Inv-loop μ-loop
+returns-2 c =
+    looked-all (c .before .loop .inv) (c .before .before .before .before .args .to) (c .loop-test .left)
+
+pub some-spec : {M : Type 1} → statement M
+some-spec =
+    tie.close
+    (tie.spec
+    Inv-loop
+    μ-loop
+    loop-holds
+    mul-p
+    shared-slice-read-p
+    point-at-requires
+    holds-requires
+    returns
+    add-i
+    loop-less
+    loop-again
+    returns-2)
