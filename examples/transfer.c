@@ -1,9 +1,9 @@
-/* Half a round from C: P is read from its file, sent to block 1, and released; what is left is saved. The argument is P's file. */
+/* A round from C: P moves from block 0 to block 1, and the mesh is sound before and after. The argument is P's file. */
 #include "dmap.h"
 
 #include <stdio.h>
 
-static uint64_t block[DMAP_WORDS];
+static uint64_t mesh[2 * DMAP_WORDS], scratch[DMAP_SCRATCH];
 static uint8_t file[65536], outbox[DMAP_OUTBOX];
 
 /* Prints a call's answer and gives it on. */
@@ -29,29 +29,33 @@ int main(int argc, char **argv) {
     size_t bytes = fread(file, 1, sizeof file, in);
     fclose(in);
 
+    uint64_t *from = mesh, *to = mesh + DMAP_WORDS;
     uint64_t written = 0;
-    told("empty block 16", dmap_empty(16, block, DMAP_WORDS));
-    told("empty block 0", dmap_empty(0, block, DMAP_WORDS));
-    told("a file with a byte missing", dmap_read_file(file, bytes - 1, block, DMAP_WORDS));
-    told("P's file", dmap_read_file(file, bytes, block, DMAP_WORDS));
-    printf("block %u has %u darts\n", (unsigned)block[0], (unsigned)block[2]);
+    told("a file with a byte missing", dmap_read_file(file, bytes - 1, from, DMAP_WORDS));
+    told("P's file", dmap_read_file(file, bytes, from, DMAP_WORDS));
+    told("empty block 16", dmap_empty(16, to, DMAP_WORDS));
+    told("empty block 1", dmap_empty(1, to, DMAP_WORDS));
+    told("check mesh", dmap_check_mesh(mesh, 2 * DMAP_WORDS, scratch, DMAP_SCRATCH));
 
-    told("send P to its own block", dmap_send(block, DMAP_WORDS, 0, 1, outbox, sizeof outbox, &written));
-    told("send dart 7", dmap_send(block, DMAP_WORDS, 1, 7, outbox, sizeof outbox, &written));
-    told("send P, 94 bytes of room", dmap_send(block, DMAP_WORDS, 1, 1, outbox, 94, &written));
+    told("send P, 94 bytes of room", dmap_send(from, DMAP_WORDS, 1, 1, outbox, 94, &written));
     printf("nothing was written: %u bytes\n", (unsigned)written);
-    if (told("send P to block 1", dmap_send(block, DMAP_WORDS, 1, 1, outbox, sizeof outbox, &written)) != DMAP_SERVED)
+    if (told("send P to block 1", dmap_send(from, DMAP_WORDS, 1, 1, outbox, sizeof outbox, &written)) != DMAP_SERVED)
         return 1;
     printf("%u bytes for block 1:\n", (unsigned)written);
     print_bytes(outbox, written);
 
-    /* Block 1 takes the transfer before block 0 lets the volume go. */
-    told("a transfer for an update", dmap_redirect(block, DMAP_WORDS, outbox, written));
-    told("release P", dmap_release(block, DMAP_WORDS, 1, 1));
-    told("release P again", dmap_release(block, DMAP_WORDS, 1, 1));
-    if (told("save block 0", dmap_save_file(block, DMAP_WORDS, file, sizeof file, &written)) != DMAP_SERVED)
+    /* P has no relatives: what was sent is the transfer alone. Block 1 takes it before block 0 lets the volume go. */
+    told("receive half of it", dmap_receive(to, DMAP_WORDS, outbox, written / 2));
+    if (told("receive P", dmap_receive(to, DMAP_WORDS, outbox, written)) != DMAP_SERVED)
         return 1;
-    printf("%u bytes are left:\n", (unsigned)written);
+    told("receive P again", dmap_receive(to, DMAP_WORDS, outbox, written));
+    told("check mesh, P in both", dmap_check_mesh(mesh, 2 * DMAP_WORDS, scratch, DMAP_SCRATCH));
+    told("release P", dmap_release(from, DMAP_WORDS, 1, 1));
+    told("check mesh", dmap_check_mesh(mesh, 2 * DMAP_WORDS, scratch, DMAP_SCRATCH));
+    printf("block 0 has %u darts, block 1 has %u\n", (unsigned)from[2], (unsigned)to[2]);
+    if (told("save block 1", dmap_save_file(to, DMAP_WORDS, file, sizeof file, &written)) != DMAP_SERVED)
+        return 1;
+    printf("%u bytes:\n", (unsigned)written);
     print_bytes(file, written);
     return 0;
 }

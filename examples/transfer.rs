@@ -1,4 +1,4 @@
-//! Half a round from Rust: P is read from its file, sent to block 1, and released; what is left is saved. The argument is P's file.
+//! A round from Rust: P moves from block 0 to block 1, and the mesh is sound before and after. The argument is P's file.
 
 const WORDS: usize = 32776;
 
@@ -9,63 +9,76 @@ extern "C" {
     fn dmap_read_file(file: *const u8, bytes: usize, block: *mut u64, words: usize) -> u32;
     fn dmap_save_file(block: *const u64, words: usize, out: *mut u8, room: usize, written: *mut u64) -> u32;
     fn dmap_send(block: *const u64, words: usize, to: u64, serial: u64, outbox: *mut u8, room: usize, written: *mut u64) -> u32;
+    fn dmap_receive(block: *mut u64, words: usize, message: *const u8, bytes: usize) -> u32;
     fn dmap_release(block: *mut u64, words: usize, to: u64, serial: u64) -> u32;
-    fn dmap_redirect(block: *mut u64, words: usize, message: *const u8, bytes: usize) -> u32;
+    fn dmap_check_mesh(mesh: *const u64, words: usize, scratch: *mut u64, entries: usize) -> u32;
 }
 
-/// A block's memory. The pointers below lead to whole slices and never overlap: all that the calls ask of their caller.
-struct Block(Vec<u64>);
+/// Blocks in a row. The pointers below lead to whole slices and never overlap: all that the calls ask of their caller.
+struct Mesh(Vec<u64>);
 
-impl Block {
-    fn empty(&mut self, number: u64) -> u32 {
-        unsafe { dmap_empty(number, self.0.as_mut_ptr(), self.0.len()) }
+impl Mesh {
+    fn block(&mut self, number: usize) -> &mut [u64] {
+        &mut self.0[number * WORDS..(number + 1) * WORDS]
     }
 
-    fn read_file(&mut self, file: &[u8]) -> u32 {
-        unsafe { dmap_read_file(file.as_ptr(), file.len(), self.0.as_mut_ptr(), self.0.len()) }
+    fn check(&self) -> u32 {
+        let mut scratch = vec![0; 65536];
+        unsafe { dmap_check_mesh(self.0.as_ptr(), self.0.len(), scratch.as_mut_ptr(), scratch.len()) }
     }
 
-    fn save_file(&self, out: &mut [u8]) -> Result<usize, u32> {
+    fn empty(&mut self, number: usize) -> u32 {
+        unsafe { dmap_empty(number as u64, self.block(number).as_mut_ptr(), WORDS) }
+    }
+
+    fn read_file(&mut self, number: usize, file: &[u8]) -> u32 {
+        unsafe { dmap_read_file(file.as_ptr(), file.len(), self.block(number).as_mut_ptr(), WORDS) }
+    }
+
+    fn save_file(&mut self, number: usize, out: &mut [u8]) -> Result<usize, u32> {
         let mut written = 0;
-        let answer = unsafe { dmap_save_file(self.0.as_ptr(), self.0.len(), out.as_mut_ptr(), out.len(), &mut written) };
+        let answer = unsafe { dmap_save_file(self.block(number).as_ptr(), WORDS, out.as_mut_ptr(), out.len(), &mut written) };
         if answer == 0 { Ok(written as usize) } else { Err(answer) }
     }
 
-    fn send(&self, to: u64, serial: u64, outbox: &mut [u8]) -> Result<usize, u32> {
+    fn send(&mut self, from: usize, to: u64, serial: u64, outbox: &mut [u8]) -> Result<usize, u32> {
         let mut written = 0;
-        let answer = unsafe { dmap_send(self.0.as_ptr(), self.0.len(), to, serial, outbox.as_mut_ptr(), outbox.len(), &mut written) };
+        let block = self.block(from);
+        let answer = unsafe { dmap_send(block.as_ptr(), WORDS, to, serial, outbox.as_mut_ptr(), outbox.len(), &mut written) };
         if answer == 0 { Ok(written as usize) } else { Err(answer) }
     }
 
-    fn release(&mut self, to: u64, serial: u64) -> u32 {
-        unsafe { dmap_release(self.0.as_mut_ptr(), self.0.len(), to, serial) }
+    fn receive(&mut self, to: usize, message: &[u8]) -> u32 {
+        unsafe { dmap_receive(self.block(to).as_mut_ptr(), WORDS, message.as_ptr(), message.len()) }
     }
 
-    fn redirect(&mut self, message: &[u8]) -> u32 {
-        unsafe { dmap_redirect(self.0.as_mut_ptr(), self.0.len(), message.as_ptr(), message.len()) }
+    fn release(&mut self, from: usize, to: u64, serial: u64) -> u32 {
+        unsafe { dmap_release(self.block(from).as_mut_ptr(), WORDS, to, serial) }
     }
 }
 
 fn main() {
     let file = std::env::args().nth(1).and_then(|path| std::fs::read(path).ok()).expect("usage: transfer FILE");
-    let mut block = Block(vec![0; WORDS]);
+    let mut mesh = Mesh(vec![0; 2 * WORDS]);
     let mut outbox = vec![0u8; 65536];
 
-    println!("empty block 16: {}", block.empty(16));
-    println!("empty block 0: {}", block.empty(0));
-    println!("a file with a byte missing: {}", block.read_file(&file[..file.len() - 1]));
-    println!("P's file: {}", block.read_file(&file));
-    println!("block {} has {} darts", block.0[0], block.0[2]);
+    println!("a file with a byte missing: {}", mesh.read_file(0, &file[..file.len() - 1]));
+    println!("P's file: {}", mesh.read_file(0, &file));
+    println!("empty block 1: {}", mesh.empty(1));
+    println!("check mesh: {}", mesh.check());
 
-    println!("send P to its own block: {:?}", block.send(0, 1, &mut outbox));
-    println!("send P, 94 bytes of room: {:?}", block.send(1, 1, &mut outbox[..94]));
-    let sent = block.send(1, 1, &mut outbox).expect("P may go");
+    println!("send P to its own block: {:?}", mesh.send(0, 0, 1, &mut outbox));
+    println!("send P, 94 bytes of room: {:?}", mesh.send(0, 1, 1, &mut outbox[..94]));
+    let sent = mesh.send(0, 1, 1, &mut outbox).expect("P may go");
     println!("send P to block 1: {sent} bytes");
-    println!("a transfer for an update: {}", block.redirect(&outbox[..sent]));
 
-    // Block 1 takes the transfer before block 0 lets the volume go.
-    println!("release P: {}", block.release(1, 1));
-    println!("release P again: {}", block.release(1, 1));
-    let left = block.save_file(&mut outbox).expect("a sound block has a file");
-    println!("the file of what is left: {:?}", &outbox[..left]);
+    // P has no relatives: what was sent is the transfer alone. Block 1 takes it before block 0 lets the volume go.
+    println!("receive P at block 0: {}", mesh.receive(0, &outbox[..sent]));
+    println!("receive P: {}", mesh.receive(1, &outbox[..sent]));
+    println!("check mesh, P in both: {}", mesh.check());
+    println!("release P: {}", mesh.release(0, 1, 1));
+    println!("check mesh: {}", mesh.check());
+    println!("block 0 has {} darts, block 1 has {}", mesh.block(0)[2], mesh.block(1)[2]);
+    let length = mesh.save_file(1, &mut outbox).expect("a sound block has a file");
+    println!("the file of block 1: {length} bytes");
 }

@@ -2,8 +2,8 @@
  *
  * Every call is served, and returns 0, or refused, and returns the number of the first question whose answer is no. A refused call leaves
  * everything that was lent to it as it was, the number behind the last pointer too. A call reads and writes nothing but what is lent to it,
- * keeps no pointer, and takes no memory from the heap; the caller owns all memory before and after. It works on local arrays: leave it half a
- * megabyte of stack. Calls on different memory may run at the same time.
+ * keeps no pointer, and takes no memory from the heap; the caller owns all memory before and after. It works on local arrays: leave it two
+ * megabytes of stack. Calls on different memory may run at the same time.
  *
  * What the caller owes: a pointer is not null, is aligned for its type, and leads to as many entries as the length behind it says; memory
  * that is lent for writing overlaps nothing else that is lent to the same call. Lengths and contents may be any: the questions ask about them.
@@ -28,6 +28,9 @@ extern "C" {
 
 /* Bytes of an outbox that is long enough for every send. */
 #define DMAP_OUTBOX 65536
+
+/* Entries of the scratch of a mesh check. */
+#define DMAP_SCRATCH 65536
 
 /* Answers: served, or the question that was answered no. */
 enum {
@@ -82,6 +85,13 @@ uint32_t dmap_save_file(const uint64_t *block, size_t words, uint8_t *out, size_
  * dmap_release. Refused: outbox and written are as they were. */
 uint32_t dmap_send(const uint64_t *block, size_t words, uint64_t to, uint64_t serial, uint8_t *outbox, size_t room, uint64_t *written);
 
+/* Takes the volume that a transfer brings: its darts join the block by serial; faces that it shares with this block are sewn, and their labels go.
+ * The slice is one message, its length group included: the first of what dmap_send wrote.
+ * Asks 1 (DMAP_WORDS words), 2 (a sound block's image), 16 (layout), 17 (a transfer, to this block, from another), 18 (finite, serials new),
+ * 19 (one volume, in message order), 20 (parts), 21 (at most 4,096 darts afterwards). The message is read only. Refused: the block is as it
+ * was. */
+uint32_t dmap_receive(uint64_t *block, size_t words, const uint8_t *message, size_t bytes);
+
 /* Removes the volume that was sent, by the same request, once the destination has taken it; the faces left behind become critical with block
  * `to`, and the counter advances by their number.
  * Asks 1 (DMAP_WORDS words), 2 (a sound block's image), 9 (to at most 15, not this block), 10 (serial held), 11 (at most 512 darts),
@@ -92,6 +102,12 @@ uint32_t dmap_release(uint64_t *block, size_t words, uint64_t to, uint64_t seria
  * Asks 1 (DMAP_WORDS words), 2 (a sound block's image), 16 (layout), 17 (an update, to this block, from another), 22 (new block neither end,
  * each label the least of a different face shared with the sender). The message is read only. Refused: the block is as it was. */
 uint32_t dmap_redirect(uint64_t *block, size_t words, const uint8_t *message, size_t bytes);
+
+/* Checks a whole mesh: the memories of its blocks one after the other, block 0 first. The mesh is read only; the scratch is zero before and after,
+ * whatever the answer.
+ * Asks 1 (whole blocks; DMAP_SCRATCH entries of scratch, all zero), 2 (each a sound block's image), 23 (1 to 16 blocks, numbered in order),
+ * 24 (serials distinct), 25 (labels paired), 26 (points agree across), 27 (makers and counters). */
+uint32_t dmap_check_mesh(const uint64_t *mesh, size_t words, uint64_t *scratch, size_t entries);
 
 #ifdef __cplusplus
 }

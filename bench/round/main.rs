@@ -1,11 +1,12 @@
-//! Send and release on nearly full blocks: the proved versions beside the plain ones, medians in µs, turn by turn; question 2, with which each
-//! call begins, is measured alone too. Shuffled blocks change with each call: one alone the processor's branch prediction learns by heart. Then
-//! both versions on drawn cases: answers and every lent byte.
+//! The calls of a round and whole rounds on nearly full blocks: the proved versions beside the plain ones, medians in µs, turn by turn;
+//! question 2, with which each call begins, is measured alone too. Shuffled blocks change with each call: one alone the processor's branch
+//! prediction learns by heart. Then both versions on drawn cases: answers and every lent byte.
 
 use peer::bench::{medians, round, Round};
 use peer::cases::Call;
 use peer::compare::compare;
 use peer::lent::{Core, OracleNumbers};
+use peer::message;
 use peer::plain::{self, Plain};
 use std::cell::{Cell, RefCell};
 use std::hint::black_box;
@@ -21,7 +22,9 @@ extern "C" {
         bytes: usize,
         written: *mut u64,
     ) -> u32;
+    fn x_receive(block: *mut u64, words: usize, message: *const u8, bytes: usize) -> u32;
     fn x_release(block: *mut u64, words: usize, to: u64, serial: u64) -> u32;
+    fn x_redirect(block: *mut u64, words: usize, message: *const u8, bytes: usize) -> u32;
 }
 
 fn proved_is_sound(words: &[u64]) -> bool {
@@ -55,7 +58,7 @@ impl Core for Proved {
     }
 
     fn receive(&self, block: &mut [u64], message: &[u8]) -> u32 {
-        Plain.receive(block, message)
+        unsafe { x_receive(block.as_mut_ptr(), block.len(), message.as_ptr(), message.len()) }
     }
 
     fn release(&self, block: &mut [u64], to: u64, serial: u64) -> u32 {
@@ -63,7 +66,7 @@ impl Core for Proved {
     }
 
     fn redirect(&self, block: &mut [u64], message: &[u8]) -> u32 {
-        Plain.redirect(block, message)
+        unsafe { x_redirect(block.as_mut_ptr(), block.len(), message.as_ptr(), message.len()) }
     }
 
     fn check_mesh(&self, mesh: &[u64], scratch: &mut [u64]) -> u32 {
@@ -75,55 +78,100 @@ impl Core for Proved {
     }
 }
 
-/// A call on a block's memory, which stands as it was before each turn.
-fn turn<'a>(memory: &'a RefCell<Vec<u64>>, mut call: impl FnMut(&mut [u64]) -> u32 + 'a) -> impl FnMut() + 'a {
-    move || assert_eq!(call(black_box(&mut memory.borrow_mut())), 0)
+/// Blocks 0, 1 and 2 as they are before each turn, and the messages of the round from 0 to 1.
+struct Table {
+    scenes: Vec<(Round, Vec<Vec<u8>>)>,
+    at: Cell<usize>,
+    blocks: RefCell<Vec<Vec<u64>>>,
 }
 
-fn times(scenes: &[Round]) {
-    let memory = RefCell::new(scenes[0].images[0].clone());
-    let serial = &Cell::new(0);
-    let mut next = scenes.iter().cycle();
+impl Table {
+    fn new(rounds: Vec<Round>) -> Table {
+        let blocks = RefCell::new(rounds[0].images.clone());
+        let scenes = rounds.into_iter().map(|round| {
+            let mut outbox = vec![0; 65_536];
+            let mut written = 0;
+            assert_eq!(Plain.send(&round.images[0], 1, round.serial, &mut outbox, &mut written), 0);
+            let messages = message::split(&outbox[..written as usize]).unwrap_or_default();
+            assert_eq!(messages.len(), 2);
+            let messages = messages.into_iter().map(<[u8]>::to_vec).collect();
+            (round, messages)
+        });
+        Table { scenes: scenes.collect(), at: Cell::new(0), blocks }
+    }
+
+    fn scene(&self) -> &(Round, Vec<Vec<u8>>) {
+        &self.scenes[self.at.get()]
+    }
+
+    /// The next scene, with its blocks as they were.
+    fn reset(&self) {
+        self.at.set((self.at.get() + 1) % self.scenes.len());
+        for (words, image) in self.blocks.borrow_mut().iter_mut().zip(&self.scene().0.images) {
+            words.copy_from_slice(image);
+        }
+    }
+
+    /// A call on the blocks and messages of the scene.
+    fn turn<'a>(&'a self, mut call: impl FnMut(&mut [Vec<u64>], u64, &[Vec<u8>]) -> u32 + 'a) -> impl FnMut() + 'a {
+        move || {
+            let (round, messages) = self.scene();
+            assert_eq!(call(black_box(&mut self.blocks.borrow_mut()), round.serial, messages), 0);
+        }
+    }
+
+    /// The medians of a call in both versions.
+    fn both<A: FnMut(), B: FnMut()>(&self, what: &str, mut plain: A, mut proved: B) -> [f64; 2] {
+        let [plain, proved] = medians(2001, || self.reset(), [&mut plain, &mut proved]);
+        println!("{:26} {what:28} {plain:8.2} {proved:8.2} {:6.2}", self.scenes[0].0.name, proved / plain);
+        [plain, proved]
+    }
+}
+
+/// A whole round: send, receive, release, redirect.
+fn play(core: &dyn Core, blocks: &mut [Vec<u64>], serial: u64, outbox: &mut [u8]) -> u32 {
+    let mut written = 0;
+    let sent = core.send(&blocks[0], 1, serial, outbox, &mut written);
+    let messages = message::split(&outbox[..written as usize]).unwrap_or_default();
+    let taken = core.receive(&mut blocks[1], messages[0]);
+    let released = core.release(&mut blocks[0], 1, serial);
+    sent + taken + released + core.redirect(&mut blocks[2], messages[1])
+}
+
+fn times(rounds: Vec<Round>) {
+    let table = Table::new(rounds);
+    let sound = |is: fn(&[u64]) -> bool| table.turn(move |blocks, _, _| u32::from(!is(&blocks[0])));
+    table.both("question 2", sound(plain::is_sound), sound(proved_is_sound));
     let send = |core: &'static dyn Core| {
         let mut outbox = vec![0; 65_536];
         let mut written = 0;
-        turn(&memory, move |block| core.send(block, 1, serial.get(), &mut outbox, &mut written))
+        table.turn(move |blocks, serial, _| core.send(&blocks[0], 1, serial, &mut outbox, &mut written))
     };
-    let release = |core: &'static dyn Core| turn(&memory, move |block| core.release(block, 1, serial.get()));
-    let [plain_2, proved_2, plain_send, proved_send, plain_release, proved_release] = medians(
-        4001,
-        || {
-            let scene = next.next().unwrap_or(&scenes[0]);
-            memory.borrow_mut().copy_from_slice(&scene.images[0]);
-            serial.set(scene.serial);
-        },
-        [
-            &mut turn(&memory, |block| u32::from(!plain::is_sound(block))),
-            &mut turn(&memory, |block| u32::from(!proved_is_sound(block))),
-            &mut send(&Plain),
-            &mut send(&Proved),
-            &mut release(&Plain),
-            &mut release(&Proved),
-        ],
-    );
-    let line = |what: &str, plain: f64, proved: f64| {
-        println!("{:26} {what:28} {plain:8.2} {proved:8.2} {:6.2}", scenes[0].name, proved / plain);
+    table.both("send", send(&Plain), send(&Proved));
+    let receive =
+        |core: &'static dyn Core| table.turn(move |blocks, _, messages| core.receive(&mut blocks[1], &messages[0]));
+    table.both("receive", receive(&Plain), receive(&Proved));
+    let release =
+        |core: &'static dyn Core| table.turn(move |blocks, serial, _| core.release(&mut blocks[0], 1, serial));
+    table.both("release", release(&Plain), release(&Proved));
+    let redirect =
+        |core: &'static dyn Core| table.turn(move |blocks, _, messages| core.redirect(&mut blocks[2], &messages[1]));
+    table.both("redirect", redirect(&Plain), redirect(&Proved));
+    let whole = |core: &'static dyn Core| {
+        let mut outbox = vec![0; 65_536];
+        table.turn(move |blocks, serial, _| play(core, blocks, serial, &mut outbox))
     };
-    line("question 2", plain_2, proved_2);
-    line("send", plain_send, proved_send);
-    line("send less question 2", plain_send - plain_2, proved_send - proved_2);
-    line("release", plain_release, proved_release);
-    line("release less question 2", plain_release - plain_2, proved_release - proved_2);
+    table.both("whole round", whole(&Plain), whole(&Proved));
 }
 
 fn main() {
     println!("{:55} {:>8} {:>8} {:>6}", "median µs", "plain", "proved", "ratio");
     for large in [false, true] {
-        times(&[round(large, None)]);
+        times(vec![round(large, None)]);
         // A prime, so that each call has each block.
-        times(&(1..=31).map(|seed| round(large, Some(seed))).collect::<Vec<_>>());
+        times((1..=31).map(|seed| round(large, Some(seed))).collect());
     }
-    match compare(&Plain, &Proved, &[Call::Send, Call::Release], 1, 30_000) {
+    match compare(&Plain, &Proved, &[Call::Send, Call::Receive, Call::Release, Call::Redirect], 1, 60_000) {
         Ok(table) => {
             for ((call, answer), count) in &table {
                 println!("{call}, answer {answer}: {count} as the plain version");

@@ -18,6 +18,7 @@ pub mod mesh;
 pub mod message;
 pub mod plain;
 pub mod rng;
+pub mod rounds;
 pub mod runs;
 pub mod shapes;
 pub mod simulate;

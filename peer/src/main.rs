@@ -1,4 +1,4 @@
-//! The peer's program: simulate, vectors, compare, bench, list, listings.
+//! The peer's program: simulate, vectors, compare, bench, list, listings, rounds.
 
 use peer::bench;
 use peer::cases::CALLS;
@@ -7,6 +7,7 @@ use peer::lent::Peer;
 use peer::listing;
 use peer::listings;
 use peer::plain::Plain;
+use peer::rounds;
 use peer::simulate::{self, Failure};
 use peer::vectors;
 use std::io::{Read, Write};
@@ -14,7 +15,7 @@ use std::path::Path;
 use std::process::ExitCode;
 
 const USAGE: &str =
-    "peer simulate SEED N | peer vectors SEED N DIR | peer compare SEED N | peer bench | peer list < FILE | peer listings DIR";
+    "peer simulate SEED N | peer vectors SEED N DIR | peer compare SEED N | peer bench | peer list < FILE | peer listings DIR | peer rounds SEED N DIR";
 
 fn main() -> ExitCode {
     let words: Vec<String> = std::env::args().skip(1).collect();
@@ -38,6 +39,10 @@ fn main() -> ExitCode {
         }
         ["list"] => list(),
         ["listings", folder] => write_listings(folder).map_err(|e| e.to_string()),
+        ["rounds", seed, count, folder] => match (seed.parse(), count.parse()) {
+            (Ok(seed), Ok(count)) => write_rounds(seed, count, folder),
+            _ => Err(USAGE.to_string()),
+        },
         _ => Err(USAGE.to_string()),
     };
     match done {
@@ -63,6 +68,14 @@ fn write_listings(folder: &str) -> std::io::Result<()> {
     let made = listings::listings();
     std::fs::write(Path::new(folder).join("stdin"), made.input)?;
     std::fs::write(Path::new(folder).join("stdout"), made.output)
+}
+
+/// Writes meshes with requests, and what a program that plays them has to print.
+fn write_rounds(seed: u64, count: usize, folder: &str) -> Result<(), String> {
+    let made = rounds::rounds(seed, count)?;
+    let put = |name: &str, bytes: &[u8]| std::fs::write(Path::new(folder).join(name), bytes).map_err(|e| e.to_string());
+    put("stdin", &made.input)?;
+    put("stdout", made.output.as_bytes())
 }
 
 fn write_vectors(seed: u64, count: usize, folder: &str) -> Result<(), String> {

@@ -296,10 +296,35 @@ pub fn vectors(seed: u64, call: Call, wanted: usize) -> Vec<u8> {
 }
 
 /// The calls of the gate's file, in the order of CALLS; a call's place there is its byte in the file.
-pub const GATE: &[Call] = &[Call::Empty, Call::ReadFile, Call::SaveFile, Call::Send, Call::Release, Call::Redirect];
+pub const GATE: &[Call] = &[
+    Call::Empty,
+    Call::ReadFile,
+    Call::SaveFile,
+    Call::Send,
+    Call::Receive,
+    Call::Release,
+    Call::Redirect,
+    Call::CheckMesh,
+];
 
 /// Bytes that the gate's file may have.
 pub const GATE_BYTES: usize = 400_000;
+
+/// Words of a mesh that the gate's program has room for: six blocks.
+const GATE_MESH: u32 = 6 * image::WORDS as u32;
+
+fn u32_at(bytes: &[u8], at: usize) -> u32 {
+    bytes[at..at + 4].iter().rev().fold(0, |high, low| high << 8 | u32::from(*low))
+}
+
+/// Whether the gate's program has room for what a record lends.
+fn has_room(call: Call, record: &[u8]) -> bool {
+    match call {
+        Call::CheckMesh => u32_at(record, 4) <= GATE_MESH,
+        Call::NextMove => u32_at(record, 60) <= GATE_MESH,
+        _ => true,
+    }
+}
 
 /// The gate's file, and what a program that plays it has to print.
 pub struct Gate {
@@ -313,11 +338,10 @@ fn gate_of(calls: &[(Call, Records)]) -> Gate {
         calls.iter().map(|(call, _)| (*call, BTreeMap::new())).collect();
     let mut add = |call: Call, bytes: &[u8]| {
         // The byte of the call and the length.
-        if input.len() + 5 + bytes.len() <= GATE_BYTES {
+        if input.len() + 5 + bytes.len() <= GATE_BYTES && has_room(call, bytes) {
             input.push(call as u8);
             put_bytes(&mut input, bytes);
-            let answer = bytes[..4].iter().rev().fold(0, |high, low| high << 8 | u32::from(*low));
-            *counts.entry(call).or_default().entry(answer).or_default() += 1;
+            *counts.entry(call).or_default().entry(u32_at(bytes, 0)).or_default() += 1;
         }
     };
     for (call, records) in calls {

@@ -6,7 +6,16 @@ use peer::lent::{Core, OracleNumbers};
 pub struct Archive;
 
 /// The calls that the archive has.
-pub const CALLS: [Call; 6] = [Call::Empty, Call::ReadFile, Call::SaveFile, Call::Send, Call::Release, Call::Redirect];
+pub const CALLS: [Call; 8] = [
+    Call::Empty,
+    Call::ReadFile,
+    Call::SaveFile,
+    Call::Send,
+    Call::Receive,
+    Call::Release,
+    Call::Redirect,
+    Call::CheckMesh,
+];
 
 extern "C" {
     fn dmap_empty(number: u64, block: *mut u64, words: usize) -> u32;
@@ -21,8 +30,10 @@ extern "C" {
         room: usize,
         written: *mut u64,
     ) -> u32;
+    fn dmap_receive(block: *mut u64, words: usize, message: *const u8, bytes: usize) -> u32;
     fn dmap_release(block: *mut u64, words: usize, to: u64, serial: u64) -> u32;
     fn dmap_redirect(block: *mut u64, words: usize, message: *const u8, bytes: usize) -> u32;
+    fn dmap_check_mesh(mesh: *const u64, words: usize, scratch: *mut u64, entries: usize) -> u32;
 }
 
 impl Core for Archive {
@@ -42,8 +53,8 @@ impl Core for Archive {
         unsafe { dmap_send(block.as_ptr(), block.len(), to, serial, outbox.as_mut_ptr(), outbox.len(), written) }
     }
 
-    fn receive(&self, _: &mut [u64], _: &[u8]) -> u32 {
-        unreachable!("not among CALLS")
+    fn receive(&self, block: &mut [u64], message: &[u8]) -> u32 {
+        unsafe { dmap_receive(block.as_mut_ptr(), block.len(), message.as_ptr(), message.len()) }
     }
 
     fn release(&self, block: &mut [u64], to: u64, serial: u64) -> u32 {
@@ -54,8 +65,8 @@ impl Core for Archive {
         unsafe { dmap_redirect(block.as_mut_ptr(), block.len(), message.as_ptr(), message.len()) }
     }
 
-    fn check_mesh(&self, _: &[u64], _: &mut [u64]) -> u32 {
-        unreachable!("not among CALLS")
+    fn check_mesh(&self, mesh: &[u64], scratch: &mut [u64]) -> u32 {
+        unsafe { dmap_check_mesh(mesh.as_ptr(), mesh.len(), scratch.as_mut_ptr(), scratch.len()) }
     }
 
     fn next_move(&self, _: &[u64], _: &OracleNumbers, _: &mut [u64], _: &mut [u64]) -> u32 {

@@ -7,8 +7,10 @@ ghost use Rattle.dmap.specs.Door.{Numbered, Told, Counted};
 pub use answers::Answer;
 pub use answers::Refusal;
 pub use answers::Written;
+pub use checkmesh::check_mesh;
 pub use memory::header::empty;
 pub use readfile::read_file;
+pub use receive::receive;
 pub use redirect::redirect;
 pub use release::release;
 pub use savefile::save_file;
@@ -49,6 +51,13 @@ pub extern "C" fn dmap_send(
 }
 
 #[no_mangle]
+pub extern "C" fn dmap_receive(block: &mut [u64], message: &[u8]) -> u32
+    ensures { λ r. ⌜ Numbered (calls.receive rack (now (block .entry)) (now (message .entry))) r (now (block .exit)) ⌝ }
+{
+    answers::answer_number(receive::receive(block, message))
+}
+
+#[no_mangle]
 pub extern "C" fn dmap_release(block: &mut [u64], to: u64, serial: u64) -> u32
     ensures { λ r. ⌜ Numbered (calls.release rack (now (block .entry)) to serial) r (now (block .exit)) ⌝ }
 {
@@ -60,6 +69,13 @@ pub extern "C" fn dmap_redirect(block: &mut [u64], message: &[u8]) -> u32
     ensures { λ r. ⌜ Numbered (calls.redirect rack (now (block .entry)) (now (message .entry))) r (now (block .exit)) ⌝ }
 {
     answers::answer_number(redirect::redirect(block, message))
+}
+
+#[no_mangle]
+pub extern "C" fn dmap_check_mesh(mesh: &[u64], scratch: &mut [u64]) -> u32
+    ensures { λ r. ⌜ Numbered (calls.check-mesh (λ _. rack) (now (mesh .entry)) (now (scratch .entry))) r (now (scratch .exit)) ⌝ }
+{
+    answers::answer_number(checkmesh::check_mesh(mesh, scratch))
 }
 
 // The number of an answer; the bytes written go out only where the call was served.

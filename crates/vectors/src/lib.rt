@@ -45,6 +45,7 @@ fn before_and_after(record: &[u8], at: usize, block: &mut [u64], told: &mut [u64
 enum Changing {
     Empty(u64),
     ReadFile,
+    Receive,
     Release(u64, u64),
     Redirect,
 }
@@ -53,6 +54,7 @@ fn change(call: Changing, bytes: &[u8], block: &mut [u64]) -> Answer {
     match call {
         Changing::Empty(number) => memory::header::empty(number, block),
         Changing::ReadFile => readfile::read_file(bytes, block),
+        Changing::Receive => receive::receive(block, bytes),
         Changing::Release(to, serial) => release::release(block, to, serial),
         Changing::Redirect => redirect::redirect(block, bytes),
     }
@@ -132,6 +134,11 @@ pub fn read_file_case(record: &[u8], block: &mut [u64], told: &mut [u64]) -> u32
     change_by_bytes(Changing::ReadFile, record, block, told)
 }
 
+// Receive: bytes of the message, memory, change.
+pub fn receive_case(record: &[u8], block: &mut [u64], told: &mut [u64]) -> u32 {
+    change_by_bytes(Changing::Receive, record, block, told)
+}
+
 // Release: destination, serial, memory, change.
 pub fn release_case(record: &[u8], block: &mut [u64], told: &mut [u64]) -> u32 {
     let call = Changing::Release(cursor::number(record, 4, 8), cursor::number(record, 12, 8));
@@ -201,4 +208,52 @@ pub fn save_file_case(record: &[u8], block: &mut [u64], out: &mut [u8]) -> u32 {
 pub fn send_case(record: &[u8], block: &mut [u64], out: &mut [u8]) -> u32 {
     let call = Writing::Send(cursor::number(record, 4, 8), cursor::number(record, 12, 8));
     write_by_numbers(call, record, 20, block, out)
+}
+
+// On a mesh and a scratch of the record's sizes; the scratch stands at a place, twice filled from it.
+fn check_with(
+    record: &[u8],
+    at: usize,
+    mesh: &[u64],
+    scratch: &mut [u64],
+    told: &mut [u64],
+) -> u32 {
+    lent::words(record, at, told);
+    if lent::words(record, at, scratch) != record.len() {
+        return UNREADABLE;
+    }
+    let answer = answers::answer_number(checkmesh::check_mesh(mesh, scratch));
+    verdict(record, answer, lent::same(scratch, told))
+}
+
+// On a mesh of the record's size.
+fn check_on(record: &[u8], mesh: &mut [u64], scratch: &mut [u64], told: &mut [u64]) -> u32 {
+    let at = lent::words(record, 4, mesh);
+    let entries = cursor::short(record, at);
+    if entries <= scratch.len() {
+        if entries <= told.len() {
+            return check_with(
+                record,
+                at,
+                mesh,
+                &mut scratch[..entries],
+                &mut told[..entries],
+            );
+        }
+    }
+    PASSED_OVER
+}
+
+// Check mesh: memory of the mesh, scratch, which stays.
+pub fn check_mesh_case(
+    record: &[u8],
+    mesh: &mut [u64],
+    scratch: &mut [u64],
+    told: &mut [u64],
+) -> u32 {
+    let words = cursor::short(record, 4);
+    if words <= mesh.len() {
+        return check_on(record, &mut mesh[..words], scratch, told);
+    }
+    PASSED_OVER
 }

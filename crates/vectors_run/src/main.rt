@@ -21,22 +21,33 @@ fn name(call: u8) {
         1 => io::write_all(1, b"read_file"),
         2 => io::write_all(1, b"save_file"),
         3 => io::write_all(1, b"send"),
+        4 => io::write_all(1, b"receive"),
         5 => io::write_all(1, b"release"),
         6 => io::write_all(1, b"redirect"),
+        7 => io::write_all(1, b"check_mesh"),
         _ => io::write_all(1, b"no call"),
     }
     ;
 }
 
 // One record of a call.
-fn play(call: u8, record: &[u8], block: &mut [u64], told: &mut [u64], out: &mut [u8]) -> u32 {
+fn play(
+    call: u8,
+    record: &[u8],
+    mesh: &mut [u64],
+    block: &mut [u64],
+    told: &mut [u64],
+    out: &mut [u8],
+) -> u32 {
     match call {
         0 => vectors::empty_case(record, block, told),
         1 => vectors::read_file_case(record, block, told),
         2 => vectors::save_file_case(record, block, out),
         3 => vectors::send_case(record, block, out),
+        4 => vectors::receive_case(record, block, told),
         5 => vectors::release_case(record, block, told),
         6 => vectors::redirect_case(record, block, told),
+        7 => vectors::check_mesh_case(record, mesh, block, told),
         _ => vectors::UNREADABLE,
     }
 }
@@ -105,6 +116,7 @@ fn play_part(
     input: &[u8],
     from: usize,
     end: usize,
+    mesh: &mut [u64],
     block: &mut [u64],
     told: &mut [u64],
     out: &mut [u8],
@@ -113,7 +125,7 @@ fn play_part(
     if from <= end {
         if end <= input.len() {
             let record = &input[from..end];
-            let result = play(call, record, block, told, out);
+            let result = play(call, record, mesh, block, told, out);
             tell(number, call, vectors::told_answer(record), result, counts);
         }
     }
@@ -122,6 +134,7 @@ fn play_part(
 // Plays record after record.
 fn play_all(
     input: &[u8],
+    mesh: &mut [u64],
     block: &mut [u64],
     told: &mut [u64],
     out: &mut [u8],
@@ -147,6 +160,7 @@ fn play_all(
             input,
             from,
             end,
+            mesh,
             block,
             told,
             out,
@@ -190,8 +204,10 @@ fn show(counts: &[u64; 512]) {
     show_call(counts, 1);
     show_call(counts, 2);
     show_call(counts, 3);
+    show_call(counts, 4);
     show_call(counts, 5);
     show_call(counts, 6);
+    show_call(counts, 7);
     show_found(counts, b"as told: ", vectors::AS_TOLD);
     show_found(counts, b"another answer: ", vectors::OTHER_ANSWER);
     show_found(counts, b"other content: ", vectors::OTHER_CONTENT);
@@ -203,13 +219,14 @@ fn show(counts: &[u64; 512]) {
 fn run(
     input: &[u8],
     n: usize,
+    mesh: &mut [u64],
     block: &mut [u64],
     told: &mut [u64],
     out: &mut [u8],
     counts: &mut [u64; 512],
 ) {
     if n < input.len() {
-        play_all(&input[..n], block, told, out, counts);
+        play_all(&input[..n], mesh, block, told, out, counts);
     } else {
         io::write_all(1, b"the input is too long\n");
     }
@@ -217,11 +234,20 @@ fn run(
 
 fn main() {
     let mut input = [0u8; 524288];
+    let mut mesh = [0u64; 196656];
     let mut block = [0u64; 65552];
     let mut told = [0u64; 65552];
     let mut out = [0u8; 262144];
     let mut counts = [0u64; 512];
     let n = io::read_full(0, &mut input);
-    run(&input, n, &mut block, &mut told, &mut out, &mut counts);
+    run(
+        &input,
+        n,
+        &mut mesh,
+        &mut block,
+        &mut told,
+        &mut out,
+        &mut counts,
+    );
     show(&counts);
 }

@@ -8,16 +8,16 @@ use Rattle.vectors_run.proofs.play_all.Statement.{statement}
 use Rattle.vectors_run.proofs.play_all.Tie as tie
 
 abbrev Inv-loop : tie.InvT-loop
-Inv-loop input block₀ told₀ out₀ counts₀ at₀ number₀ t11 block told out counts at number =
-    (length block ≡ length block₀) × (length told ≡ length told₀) × (length out ≡ length out₀)
+Inv-loop input mesh₀ block₀ told₀ out₀ counts₀ at₀ number₀ t12 mesh block told out counts at number =
+    (length mesh ≡ length mesh₀) × (length block ≡ length block₀) × (length told ≡ length told₀) × (length out ≡ length out₀)
 
 abbrev μ-loop : tie.MeasureT-loop
-μ-loop input block₀ told₀ out₀ counts₀ at₀ number₀ t11 block told out counts at number =
+μ-loop input mesh₀ block₀ told₀ out₀ counts₀ at₀ number₀ t12 mesh block told out counts at number =
     1000000 - number
 
 loop-holds : tie.Need-loop-holds Inv-loop μ-loop
 loop-holds c =
-    (refl, refl, refl)
+    (refl, refl, refl, refl)
 
 same-length : tie.Need-same-length Inv-loop μ-loop
 same-length c = search needs
@@ -27,6 +27,9 @@ same-length-2 c = search needs
 
 same-length-3 : tie.Need-same-length-3 Inv-loop μ-loop
 same-length-3 c = search needs
+
+same-length-4 : tie.Need-same-length-4 Inv-loop μ-loop
+same-length-4 c = search needs
 
 returns : tie.Need-returns Inv-loop μ-loop
 returns c = search needs
@@ -46,14 +49,17 @@ slice-aggregate-write-all c = search needs
 write-all-requires : tie.Need-write-all-requires Inv-loop μ-loop
 write-all-requires c κs = search needs
 
-same-length-4 : tie.Need-same-length-4 Inv-loop μ-loop
-same-length-4 c = search needs
-
 same-length-5 : tie.Need-same-length-5 Inv-loop μ-loop
 same-length-5 c = search needs
 
 same-length-6 : tie.Need-same-length-6 Inv-loop μ-loop
 same-length-6 c = search needs
+
+same-length-7 : tie.Need-same-length-7 Inv-loop μ-loop
+same-length-7 c = search needs
+
+same-length-8 : tie.Need-same-length-8 Inv-loop μ-loop
+same-length-8 c = search needs
 
 returns-2 : tie.Need-returns-2 Inv-loop μ-loop
 returns-2 c = search needs
@@ -72,16 +78,19 @@ loop-less c = search needs
 
 loop-again : tie.Need-loop-again Inv-loop μ-loop
 loop-again c =
-    (search needs, search needs, search needs)
-
-same-length-7 : tie.Need-same-length-7 Inv-loop μ-loop
-same-length-7 c = search needs
-
-same-length-8 : tie.Need-same-length-8 Inv-loop μ-loop
-same-length-8 c = search needs
+    (search needs, search needs, search needs, search needs)
 
 same-length-9 : tie.Need-same-length-9 Inv-loop μ-loop
 same-length-9 c = search needs
+
+same-length-10 : tie.Need-same-length-10 Inv-loop μ-loop
+same-length-10 c = search needs
+
+same-length-11 : tie.Need-same-length-11 Inv-loop μ-loop
+same-length-11 c = search needs
+
+same-length-12 : tie.Need-same-length-12 Inv-loop μ-loop
+same-length-12 c = search needs
 
 returns-3 : tie.Need-returns-3 Inv-loop μ-loop
 returns-3 c = search needs
@@ -96,22 +105,25 @@ play-all-spec =
     same-length
     same-length-2
     same-length-3
+    same-length-4
     returns
     step-requires
     step-requires-2
     bytes-end-requires
     slice-aggregate-write-all
     write-all-requires
-    same-length-4
     same-length-5
     same-length-6
+    same-length-7
+    same-length-8
     returns-2
     byte-requires
     play-part-requires
     add-number
     loop-less
     loop-again
-    same-length-7
-    same-length-8
     same-length-9
+    same-length-10
+    same-length-11
+    same-length-12
     returns-3)

@@ -9,7 +9,7 @@ use Rattle.vectors_run.proofs.run.Tie as tie
 
 slice-aggregate-play-all : tie.Need-slice-aggregate-play-all
 slice-aggregate-play-all c =
-    sym (length-take-le (c .before .before .before .before .before .before .args .n) (c .before .before .before .before .before .before .args .input .now) (omega (arith, c .before .if1 .taken)))
+    sym (length-take-le (c .before .before .before .before .before .before .before .args .n) (c .before .before .before .before .before .before .before .args .input .now) (omega (arith, c .before .if1 .taken)))
 
 play-all-requires : tie.Need-play-all-requires
 play-all-requires c κs = search needs
@@ -29,6 +29,9 @@ same-length-2 c = search needs
 same-length-3 : tie.Need-same-length-3
 same-length-3 c = search needs
 
+same-length-4 : tie.Need-same-length-4
+same-length-4 c = search needs
+
 returns : tie.Need-returns
 returns c = search needs
 
@@ -46,5 +49,6 @@ run-spec =
     same-length
     same-length-2
     same-length-3
+    same-length-4
     returns
     returns-2)

@@ -1,0 +1,23 @@
+-- `dmap::dmap_receive` meets its contract.
+-- Assumes nothing.
+use Rattle.dmap.proofs.Through.{numbered}
+use borrow.Author.Needs.{needs}
+use Rattle.dmap.proofs.dmap_receive.Statement.{statement}
+use Rattle.dmap.proofs.dmap_receive.Tie as tie
+
+receive-requires : tie.Need-receive-requires
+receive-requires c κs = search needs
+
+answer-number-requires : tie.Need-answer-number-requires
+answer-number-requires c κs = search needs
+
+same-length : tie.Need-same-length
+same-length c = search needs
+
+returns : tie.Need-returns
+returns c =
+    numbered (c .answer-number .ensures) (c .before .before .before .receive .ensures)
+
+pub dmap-receive-spec : {M : Type 1} → statement M
+dmap-receive-spec =
+    tie.close (tie.spec receive-requires answer-number-requires same-length returns)
