@@ -9,7 +9,7 @@ use groups::Read;
 pub fn read_points(s: &[u8], at: usize) -> Read
     ensures { λ r. ⌜ PointsRead (now (s .entry)) at r ⌝ }
 {
-    let Read::Value(n, from) = groups::read_group(s, at) else {
+    let Read::Value(n, from) = reader::read_group(s, at) else {
         return Read::Bad;
     };
     let room = s.len() - from;
@@ -24,10 +24,10 @@ fn read_dart(s: &[u8], at: usize, i: usize, vertex: &mut [u64], serial: &mut [u6
     requires { ⌜ (i < most) × (length (now vertex) ≡ most) × (length (now serial) ≡ most) ⌝ }
     ensures { λ r. ⌜ DartRead (now (s .entry)) at i (now (vertex .entry)) (now (vertex .exit)) (now (serial .entry)) (now (serial .exit)) r ⌝ }
 {
-    let Read::Value(v, past) = groups::read_group(s, at) else {
+    let Read::Value(v, past) = reader::read_group(s, at) else {
         return Read::Bad;
     };
-    let Read::Value(x, next) = groups::read_serial(s, past) else {
+    let Read::Value(x, next) = reader::read_serial(s, past) else {
         return Read::Bad;
     };
     vertex[i] = v;
@@ -77,7 +77,7 @@ fn read_face(
     requires { ⌜ (start ≤ most) × Sides (now vertex) (now serial) (now starts) (now sizes) ⌝ }
     ensures { λ r. ⌜ FaceRead (now (s .entry)) at start (now (vertex .entry)) (now (vertex .exit)) (now (serial .entry)) (now (serial .exit)) (now (starts .entry)) (now (starts .exit)) (now (sizes .entry)) (now (sizes .exit)) r ⌝ }
 {
-    let Read::Value(n, past) = groups::read_group(s, at) else {
+    let Read::Value(n, past) = reader::read_group(s, at) else {
         return Read::Bad;
     };
     let room = 512 - start;

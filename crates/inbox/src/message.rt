@@ -15,7 +15,7 @@ use groups::Read;
 pub fn read_frame(s: &[u8]) -> Read
     ensures { λ r. ⌜ FrameRead (now (s .entry)) r ⌝ }
 {
-    let Read::Value(n, past) = groups::read_group(s, 0) else {
+    let Read::Value(n, past) = reader::read_group(s, 0) else {
         return Read::Bad;
     };
     let rest = s.len() - past;
@@ -47,16 +47,16 @@ fn no_head() -> Head
 fn read_head(s: &[u8], at: usize, kind: u64) -> Head
     ensures { λ r. ⌜ HeadRead kind (now (s .entry)) at r ⌝ }
 {
-    let Read::Value(k, past) = groups::read_group(s, at) else {
+    let Read::Value(k, past) = reader::read_group(s, at) else {
         return no_head();
     };
     if k != kind {
         return no_head();
     }
-    let Read::Value(from, after) = groups::read_at_most(s, past, 15) else {
+    let Read::Value(from, after) = reader::read_at_most(s, past, 15) else {
         return no_head();
     };
-    let Read::Value(to, next) = groups::read_at_most(s, after, 15) else {
+    let Read::Value(to, next) = reader::read_at_most(s, after, 15) else {
         return no_head();
     };
     Head {
@@ -90,7 +90,7 @@ fn no_counted() -> Counted
 fn counted2(s: &[u8], at: usize) -> Counted
     ensures { λ r. ⌜ CountedRead part2 (now (s .entry)) at r ⌝ }
 {
-    let Read::Value(count, first) = groups::read_group(s, at) else {
+    let Read::Value(count, first) = reader::read_group(s, at) else {
         return no_counted();
     };
     let Read::Value(n, next) = parts::pass_parts2(s, first, count) else {
@@ -108,7 +108,7 @@ fn counted2(s: &[u8], at: usize) -> Counted
 fn counted3(s: &[u8], at: usize) -> Counted
     ensures { λ r. ⌜ CountedRead part3 (now (s .entry)) at r ⌝ }
 {
-    let Read::Value(count, first) = groups::read_group(s, at) else {
+    let Read::Value(count, first) = reader::read_group(s, at) else {
         return no_counted();
     };
     let Read::Value(n, next) = parts::pass_parts3(s, first, count) else {
@@ -127,7 +127,7 @@ fn counted4(s: &[u8], at: usize, darts: usize, sizes: &[usize]) -> Counted
     requires { ⌜ darts ≤ length (now sizes) ⌝ }
     ensures { λ r. ⌜ ((fs : List (List FaceDart)) → Sized fs darts (now (sizes .entry)) → CountedRead (part4 fs) (now (s .entry)) at r) ⌝ }
 {
-    let Read::Value(count, first) = groups::read_group(s, at) else {
+    let Read::Value(count, first) = reader::read_group(s, at) else {
         return no_counted();
     };
     let Read::Value(n, next) = parts::pass_parts4(s, first, count, darts, sizes) else {
@@ -145,7 +145,7 @@ fn counted4(s: &[u8], at: usize, darts: usize, sizes: &[usize]) -> Counted
 fn counted_labels(s: &[u8], at: usize) -> Counted
     ensures { λ r. ⌜ CountedRead label (now (s .entry)) at r ⌝ }
 {
-    let Read::Value(count, first) = groups::read_group(s, at) else {
+    let Read::Value(count, first) = reader::read_group(s, at) else {
         return no_counted();
     };
     let Read::Value(n, next) = parts::pass_labels(s, first, count) else {
@@ -205,7 +205,7 @@ pub fn read_front(
     let Read::Value(vertices, points) = faces::read_points(s, head.next) else {
         return no_front();
     };
-    let Read::Value(count, first) = groups::read_group(s, points + 24 * (vertices as usize)) else {
+    let Read::Value(count, first) = reader::read_group(s, points + 24 * (vertices as usize)) else {
         return no_front();
     };
     let faces = faces::read_faces(s, first, count, vertex, serial, starts, sizes);
@@ -305,7 +305,7 @@ pub fn read_update(s: &[u8], at: usize) -> Update
     if !head.ok {
         return no_update();
     }
-    let Read::Value(block, past) = groups::read_at_most(s, head.next, 15) else {
+    let Read::Value(block, past) = reader::read_at_most(s, head.next, 15) else {
         return no_update();
     };
     let labels = counted_labels(s, past);

@@ -12,20 +12,20 @@ use groups::Read;
 pub fn pass_part2(s: &[u8], at: usize) -> Read
     ensures { λ r. ⌜ Passes part2 (now (s .entry)) at r ⌝ }
 {
-    let Read::Value(code, past) = groups::read_label(s, at) else {
+    let Read::Value(code, past) = reader::read_label(s, at) else {
         return Read::Bad;
     };
-    groups::read_group(s, past)
+    reader::read_group(s, past)
 }
 
 // An entry of part 3: a number, then an index.
 pub fn pass_part3(s: &[u8], at: usize) -> Read
     ensures { λ r. ⌜ Passes part3 (now (s .entry)) at r ⌝ }
 {
-    let Read::Value(number, past) = groups::read_group(s, at) else {
+    let Read::Value(number, past) = reader::read_group(s, at) else {
         return Read::Bad;
     };
-    groups::read_group(s, past)
+    reader::read_group(s, past)
 }
 
 // So many entries of part 2.
@@ -73,7 +73,7 @@ pub fn pass_labels(s: &[u8], at: usize, count: u64) -> Read
     let mut left = count;
     let mut p = at;
     while 0 < left {
-        let Read::Value(code, next) = groups::read_label(s, p) else {
+        let Read::Value(code, next) = reader::read_label(s, p) else {
             return Read::Bad;
         };
         p = next;
@@ -87,13 +87,13 @@ pub fn pass_part4(s: &[u8], at: usize, darts: usize, sizes: &[usize]) -> Read
     requires { ⌜ darts ≤ length (now sizes) ⌝ }
     ensures { λ r. ⌜ ((fs : List (List FaceDart)) → Sized fs darts (now (sizes .entry)) → Passes (part4 fs) (now (s .entry)) at r) ⌝ }
 {
-    let Read::Value(index, past) = groups::read_group(s, at) else {
+    let Read::Value(index, past) = reader::read_group(s, at) else {
         return Read::Bad;
     };
     if darts as u64 <= index {
         return Read::Bad;
     }
-    let Read::Value(other, from) = groups::read_at_most(s, past, 15) else {
+    let Read::Value(other, from) = reader::read_at_most(s, past, 15) else {
         return Read::Bad;
     };
     let size = sizes[index as usize];

@@ -7,8 +7,8 @@ use Rattle.inbox.proofs.faces.read_dart.Statement.{statement}
 use Rattle.inbox.proofs.faces.read_dart.Tie as tie
 use Rattle.inbox.proofs.faces.read_dart.Reads as reads
 use Rattle.inbox.proofs.faces.read_dart.Lts as lts
-use Rattle.groups.proofs.read_group.Reads as read-group-reads
-use Rattle.groups.proofs.read_serial.Reads as read-serial-reads
+use Rattle.reader.proofs.read_group.Reads as read-group-reads
+use Rattle.reader.proofs.read_serial.Reads as read-serial-reads
 
 -- src/faces.rt:27:32
 read-group-requires : tie.Need-read-group-requires

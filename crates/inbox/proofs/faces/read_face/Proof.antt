@@ -9,7 +9,7 @@ use Rattle.inbox.proofs.faces.read_face.Statement.{statement}
 use Rattle.inbox.proofs.faces.read_face.Tie as tie
 use Rattle.inbox.proofs.faces.read_face.Reads as reads
 use Rattle.inbox.proofs.faces.read_face.Lts as lts
-use Rattle.groups.proofs.read_group.Reads as read-group-reads
+use Rattle.reader.proofs.read_group.Reads as read-group-reads
 use Rattle.inbox.proofs.faces.read_darts.Reads as read-darts-reads
 
 -- src/faces.rt:80:32

@@ -10,7 +10,7 @@ use Rattle.inbox.proofs.faces.read_points.Statement.{statement}
 use Rattle.inbox.proofs.faces.read_points.Tie as tie
 use Rattle.inbox.proofs.faces.read_points.Reads as reads
 use Rattle.inbox.proofs.faces.read_points.Lts as lts
-use Rattle.groups.proofs.read_group.Reads as read-group-reads
+use Rattle.reader.proofs.read_group.Reads as read-group-reads
 
 -- src/faces.rt:12:32
 read-group-requires : tie.Need-read-group-requires

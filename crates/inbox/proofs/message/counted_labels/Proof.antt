@@ -9,7 +9,7 @@ use Rattle.inbox.proofs.message.counted_labels.Statement.{statement}
 use Rattle.inbox.proofs.message.counted_labels.Tie as tie
 use Rattle.inbox.proofs.message.counted_labels.Reads as reads
 use Rattle.inbox.proofs.message.counted_labels.Lts as lts
-use Rattle.groups.proofs.read_group.Reads as read-group-reads
+use Rattle.reader.proofs.read_group.Reads as read-group-reads
 use Rattle.inbox.proofs.message.no_counted.Reads as no-counted-reads
 use Rattle.inbox.proofs.parts.pass_labels.Reads as pass-labels-reads
 

@@ -9,7 +9,7 @@ use Rattle.inbox.proofs.message.read_frame.Statement.{statement}
 use Rattle.inbox.proofs.message.read_frame.Tie as tie
 use Rattle.inbox.proofs.message.read_frame.Reads as reads
 use Rattle.inbox.proofs.message.read_frame.Lts as lts
-use Rattle.groups.proofs.read_group.Reads as read-group-reads
+use Rattle.reader.proofs.read_group.Reads as read-group-reads
 
 -- src/message.rt:18:32
 read-group-requires : tie.Need-read-group-requires

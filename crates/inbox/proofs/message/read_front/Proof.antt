@@ -10,7 +10,7 @@ use Rattle.inbox.proofs.message.read_front.Statement.{statement}
 use Rattle.inbox.proofs.message.read_front.Tie as tie
 use Rattle.inbox.proofs.message.read_front.Reads as reads
 use Rattle.inbox.proofs.message.read_front.Lts as lts
-use Rattle.groups.proofs.read_group.Reads as read-group-reads
+use Rattle.reader.proofs.read_group.Reads as read-group-reads
 use Rattle.inbox.proofs.faces.read_faces.Reads as read-faces-reads
 use Rattle.inbox.proofs.faces.read_points.Reads as read-points-reads
 use Rattle.inbox.proofs.message.no_front.Reads as no-front-reads

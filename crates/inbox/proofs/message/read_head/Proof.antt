@@ -9,8 +9,8 @@ use Rattle.inbox.proofs.message.read_head.Statement.{statement}
 use Rattle.inbox.proofs.message.read_head.Tie as tie
 use Rattle.inbox.proofs.message.read_head.Reads as reads
 use Rattle.inbox.proofs.message.read_head.Lts as lts
-use Rattle.groups.proofs.read_at_most.Reads as read-at-most-reads
-use Rattle.groups.proofs.read_group.Reads as read-group-reads
+use Rattle.reader.proofs.read_at_most.Reads as read-at-most-reads
+use Rattle.reader.proofs.read_group.Reads as read-group-reads
 use Rattle.inbox.proofs.message.no_head.Reads as no-head-reads
 
 -- src/message.rt:50:32

@@ -9,7 +9,7 @@ use Rattle.inbox.proofs.message.read_update.Statement.{statement}
 use Rattle.inbox.proofs.message.read_update.Tie as tie
 use Rattle.inbox.proofs.message.read_update.Reads as reads
 use Rattle.inbox.proofs.message.read_update.Lts as lts
-use Rattle.groups.proofs.read_at_most.Reads as read-at-most-reads
+use Rattle.reader.proofs.read_at_most.Reads as read-at-most-reads
 use Rattle.inbox.proofs.message.counted_labels.Reads as counted-labels-reads
 use Rattle.inbox.proofs.message.no_update.Reads as no-update-reads
 use Rattle.inbox.proofs.message.read_head.Reads as read-head-reads

@@ -6,7 +6,7 @@ use Rattle.inbox.proofs.parts.pass_labels.Statement.{statement}
 use Rattle.inbox.proofs.parts.pass_labels.Tie as tie
 use Rattle.inbox.proofs.parts.pass_labels.Reads as reads
 use Rattle.inbox.proofs.parts.pass_labels.Lts as lts
-use Rattle.groups.proofs.read_label.Reads as read-label-reads
+use Rattle.reader.proofs.read_label.Reads as read-label-reads
 
 abbrev Inv-loop : tie.InvT-loop
 Inv-loop s at count left₀ p₀ left p =

@@ -5,8 +5,8 @@ use Rattle.inbox.proofs.parts.pass_part2.Statement.{statement}
 use Rattle.inbox.proofs.parts.pass_part2.Tie as tie
 use Rattle.inbox.proofs.parts.pass_part2.Reads as reads
 use Rattle.inbox.proofs.parts.pass_part2.Lts as lts
-use Rattle.groups.proofs.read_group.Reads as read-group-reads
-use Rattle.groups.proofs.read_label.Reads as read-label-reads
+use Rattle.reader.proofs.read_group.Reads as read-group-reads
+use Rattle.reader.proofs.read_label.Reads as read-label-reads
 
 -- src/parts.rt:15:35
 read-label-requires : tie.Need-read-label-requires

@@ -8,7 +8,7 @@ use Rattle.inbox.proofs.parts.pass_part3.Statement.{statement}
 use Rattle.inbox.proofs.parts.pass_part3.Tie as tie
 use Rattle.inbox.proofs.parts.pass_part3.Reads as reads
 use Rattle.inbox.proofs.parts.pass_part3.Lts as lts
-use Rattle.groups.proofs.read_group.Reads as read-group-reads
+use Rattle.reader.proofs.read_group.Reads as read-group-reads
 
 -- src/parts.rt:25:37
 read-group-requires : tie.Need-read-group-requires

@@ -9,8 +9,8 @@ use Rattle.inbox.proofs.parts.pass_part4.Statement.{statement}
 use Rattle.inbox.proofs.parts.pass_part4.Tie as tie
 use Rattle.inbox.proofs.parts.pass_part4.Reads as reads
 use Rattle.inbox.proofs.parts.pass_part4.Lts as lts
-use Rattle.groups.proofs.read_at_most.Reads as read-at-most-reads
-use Rattle.groups.proofs.read_group.Reads as read-group-reads
+use Rattle.reader.proofs.read_at_most.Reads as read-at-most-reads
+use Rattle.reader.proofs.read_group.Reads as read-group-reads
 use Rattle.inbox.proofs.parts.pass_labels.Reads as pass-labels-reads
 
 -- src/parts.rt:90:36
