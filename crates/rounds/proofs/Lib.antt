@@ -1,0 +1,5 @@
+pub mod Cuts
+pub mod Placed
+pub mod Stepping
+pub mod Running
+pub mod Delivering

@@ -1,0 +1,25 @@
+-- `rounds::steps::receive_at` meets its contract.
+-- Assumes nothing.
+use Rattle.model.specs.Runs.{receiving}
+use Rattle.receive.proofs.Answered.{size-refused}
+use Rattle.rounds.proofs.Stepping.{nowhere, receive-does}
+use native.Mathlib.Omega.{arith}
+use borrow.Author.Needs.{needs}
+use Rattle.rounds.proofs.steps.receive_at.Statement.{statement}
+use Rattle.rounds.proofs.steps.receive_at.Tie as tie
+
+returns : tie.Need-returns
+returns c =
+    nowhere (c .before .before .before .args .mesh .now) (c .before .before .before .args .b) (receiving (c .before .before .before .args .message .now)) _ (c .if1 .taken) (receive-does _ _) (size-refused _ _ (λ e. absurd (omega (arith, e))))
+
+receive-part-requires : tie.Need-receive-part-requires
+receive-part-requires c κs = search needs
+
+same-length : tie.Need-same-length
+same-length c = search needs
+
+returns-2 : tie.Need-returns-2
+returns-2 c = search needs
+
+pub receive-at-spec : {M : Type 1} → statement M
+receive-at-spec = tie.close (tie.spec returns receive-part-requires same-length returns-2)

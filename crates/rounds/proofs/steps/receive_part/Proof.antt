@@ -1,0 +1,51 @@
+-- `rounds::steps::receive_part` meets its contract.
+-- Assumes nothing.
+use mathlib.Core.Path.{refl}
+use Rattle.model.specs.Runs.{receiving}
+use Rattle.rounds.proofs.Stepping.{stepped, receive-does}
+use borrow.Author.Needs.{needs}
+use Rattle.rounds.proofs.steps.receive_part.Statement.{statement}
+use Rattle.rounds.proofs.steps.receive_part.Tie as tie
+
+mul-from : tie.Need-mul-from
+mul-from c = search needs
+
+add-end : tie.Need-add-end
+add-end c = search needs
+
+mul-receive : tie.Need-mul-receive
+mul-receive c = search needs
+
+sub-receive : tie.Need-sub-receive
+sub-receive c = search needs
+
+part-receive-start : tie.Need-part-receive-start
+part-receive-start c = search needs
+
+part-receive-end : tie.Need-part-receive-end
+part-receive-end c = search needs
+
+receive-requires : tie.Need-receive-requires
+receive-requires c κs = search needs
+
+same-length : tie.Need-same-length
+same-length c = search needs
+
+returns : tie.Need-returns
+returns c =
+    let m = c .before .before .before .before .before .before .args .mesh .now in
+    stepped m (c .before .before .receive .last .0) (c .before .before .before .before .before .before .args .b) _ (receiving (c .before .before .before .before .before .before .args .message .now)) _ _ refl (c .before .before .before .before .before .before .pre) (c .before .mesh .given .0) (receive-does _ _) (c .before .before .receive .ensures)
+
+pub receive-part-spec : {M : Type 1} → statement M
+receive-part-spec =
+    tie.close
+    (tie.spec
+    mul-from
+    add-end
+    mul-receive
+    sub-receive
+    part-receive-start
+    part-receive-end
+    receive-requires
+    same-length
+    returns)

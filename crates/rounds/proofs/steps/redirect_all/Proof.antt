@@ -1,0 +1,103 @@
+-- `rounds::steps::redirect_all` meets its contract.
+-- Assumes nothing.
+use mathlib.Core.Path.{ap}
+use Rattle.rounds.proofs.Cuts.{first-there, first-fits, first-some, first-part}
+use Rattle.rounds.proofs.Running.{Telling, none-told, one-more, all-told, same-message}
+use Prim.Native.Nat.{_+_, _-_}
+use lib.ListN.{length, drop, length-drop}
+use native.Mathlib.Omega.{arith}
+use borrow.Author.Needs.{needs}
+use Rattle.rounds.proofs.steps.redirect_all.Statement.{statement}
+use Rattle.rounds.proofs.steps.redirect_all.Tie as tie
+
+abbrev Inv-loop : tie.InvT-loop
+Inv-loop mesh₀ updates ok₀ at₀ mesh ok at =
+    Telling mesh₀ updates at ok mesh
+
+abbrev μ-loop : tie.MeasureT-loop
+μ-loop mesh₀ updates ok₀ at₀ mesh ok at =
+    length updates - at
+
+loop-holds : tie.Need-loop-holds Inv-loop μ-loop
+loop-holds c =
+    none-told _ _
+
+sub-first-message : tie.Need-sub-first-message Inv-loop μ-loop
+sub-first-message c = search needs
+
+part-first-message-start : tie.Need-part-first-message-start Inv-loop μ-loop
+part-first-message-start c = search needs
+
+part-first-message-end : tie.Need-part-first-message-end Inv-loop μ-loop
+part-first-message-end c = search needs
+
+first-message-requires : tie.Need-first-message-requires Inv-loop μ-loop
+first-message-requires c κs = search needs
+
+add-end : tie.Need-add-end Inv-loop μ-loop
+add-end c =
+    let u = c .before .before .before .before .before .before .args .updates .now in
+    let e = first-there u (c .before .before .before .loop .at) (c .first-message .ensures) in
+    let l = first-fits (drop (c .before .before .before .loop .at) u) in
+    let d = length-drop (c .before .before .before .loop .at) u in
+    let g = c .before .before .before .before .shared-slice-known .given in
+    omega (arith, e, l, d, c .before .before .loop-test .taken)
+
+sub-redirect-message : tie.Need-sub-redirect-message Inv-loop μ-loop
+sub-redirect-message c = search needs
+
+part-redirect-message-start : tie.Need-part-redirect-message-start Inv-loop μ-loop
+part-redirect-message-start c = search needs
+
+part-redirect-message-end : tie.Need-part-redirect-message-end Inv-loop μ-loop
+part-redirect-message-end c =
+    let u = c .before .before .before .before .before .before .before .args .updates .now in
+    let e = first-there u (c .before .before .before .before .loop .at) (c .before .first-message .ensures) in
+    let l = first-fits (drop (c .before .before .before .before .loop .at) u) in
+    let d = length-drop (c .before .before .before .before .loop .at) u in
+    omega (arith, e, l, d, c .before .before .before .loop-test .taken)
+
+redirect-message-requires : tie.Need-redirect-message-requires Inv-loop μ-loop
+redirect-message-requires c κs = search needs
+
+loop-less : tie.Need-loop-less Inv-loop μ-loop
+loop-less c =
+    let u = c .before .before .before .before .before .before .before .before .before .before .before .args .updates .now in
+    let e = first-there u (c .before .before .before .before .before .before .before .before .loop .at) (c .before .before .before .before .before .first-message .ensures) in
+    let d = length-drop (c .before .before .before .before .before .before .before .before .loop .at) u in
+    let s = first-some (drop (c .before .before .before .before .before .before .before .before .loop .at) u) (omega (arith, d, c .before .before .before .before .before .before .before .loop-test .taken)) in
+    omega (arith, e, s, c .before .before .before .before .before .before .before .loop-test .taken)
+
+loop-again : tie.Need-loop-again Inv-loop μ-loop
+loop-again c =
+    let u = c .before .before .before .before .before .before .before .before .before .before .before .args .updates .now in
+    let e = ap (λ n. c .before .before .before .before .before .before .before .before .loop .at + n) (first-there u (c .before .before .before .before .before .before .before .before .loop .at) (c .before .before .before .before .before .first-message .ensures)) in
+    one-more (c .before .before .before .before .before .before .before .before .loop .inv) (c .before .before .before .before .before .before .before .loop-test .taken) _ e (same-message (first-part u (c .before .before .before .before .before .before .before .before .loop .at) _ e) (c .before .before .redirect-message .ensures))
+
+same-length : tie.Need-same-length Inv-loop μ-loop
+same-length c = search needs
+
+returns : tie.Need-returns Inv-loop μ-loop
+returns c =
+    all-told (c .before .loop .inv) (c .loop-test .left)
+
+pub redirect-all-spec : {M : Type 1} → statement M
+redirect-all-spec =
+    tie.close
+    (tie.spec
+    Inv-loop
+    μ-loop
+    loop-holds
+    sub-first-message
+    part-first-message-start
+    part-first-message-end
+    first-message-requires
+    add-end
+    sub-redirect-message
+    part-redirect-message-start
+    part-redirect-message-end
+    redirect-message-requires
+    loop-less
+    loop-again
+    same-length
+    returns)

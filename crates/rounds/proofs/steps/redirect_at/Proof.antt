@@ -1,0 +1,25 @@
+-- `rounds::steps::redirect_at` meets its contract.
+-- Assumes nothing.
+use Rattle.model.specs.Runs.{redirecting}
+use Rattle.redirect.proofs.Answered.{size-refused}
+use Rattle.rounds.proofs.Stepping.{nowhere, redirect-does}
+use native.Mathlib.Omega.{arith}
+use borrow.Author.Needs.{needs}
+use Rattle.rounds.proofs.steps.redirect_at.Statement.{statement}
+use Rattle.rounds.proofs.steps.redirect_at.Tie as tie
+
+returns : tie.Need-returns
+returns c =
+    nowhere (c .before .before .before .args .mesh .now) (c .before .before .before .args .b) (redirecting (c .before .before .before .args .message .now)) _ (c .if1 .taken) (redirect-does _ _) (size-refused _ _ (λ e. absurd (omega (arith, e))))
+
+redirect-part-requires : tie.Need-redirect-part-requires
+redirect-part-requires c κs = search needs
+
+same-length : tie.Need-same-length
+same-length c = search needs
+
+returns-2 : tie.Need-returns-2
+returns-2 c = search needs
+
+pub redirect-at-spec : {M : Type 1} → statement M
+redirect-at-spec = tie.close (tie.spec returns redirect-part-requires same-length returns-2)
