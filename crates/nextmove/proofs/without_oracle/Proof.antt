@@ -1,0 +1,40 @@
+-- `nextmove::without_oracle` meets its contract. Assumes nothing.
+use Rattle.nextmove.proofs.Turns.{mesh-no, mesh-yes, other-mesh, other-number}
+use borrow.Author.Needs.{needs}
+use Rattle.nextmove.proofs.without_oracle.Statement.{statement}
+use Rattle.nextmove.proofs.without_oracle.Tie as tie
+
+mesh-asked-requires : tie.Need-mesh-asked-requires
+mesh-asked-requires c κs = search needs
+
+enum-known-q : tie.Need-enum-known-q
+enum-known-q c = search needs
+
+enum-told : tie.Need-enum-told
+enum-told c = search needs
+
+same-length : tie.Need-same-length
+same-length c = search needs
+
+returns : tie.Need-returns
+returns c =
+    other-mesh (c .before .before .before .before .before .before .before .before .before .args .mesh .now) (c .before .before .before .before .before .before .before .before .before .args .scratch .now) (mesh-no (c .before .before .before .before .before .before .before .before .before .args .mesh .now) (c .before .before .before .before .before .before .before .before .before .args .scratch .now) (c .before .q .given .1) (c .before .before .before .before .before .mesh-asked .ensures .0)) (c .before .before .before .before .before .mesh-asked .ensures .1)
+
+same-length-2 : tie.Need-same-length-2
+same-length-2 c = search needs
+
+returns-2 : tie.Need-returns-2
+returns-2 c =
+    other-number (c .before .before .before .before .before .before .before .before .args .mesh .now) (c .before .before .before .before .before .before .before .before .args .scratch .now) (mesh-yes (c .before .before .before .before .before .before .before .before .args .mesh .now) (c .before .before .before .before .before .before .before .before .args .scratch .now) (c .enum-told .given .1) (c .before .before .before .before .mesh-asked .ensures .0)) (c .before .before .before .before .mesh-asked .ensures .1)
+
+pub without-oracle-spec : {M : Type 1} → statement M
+without-oracle-spec =
+    tie.close
+    (tie.spec
+    mesh-asked-requires
+    enum-known-q
+    enum-told
+    same-length
+    returns
+    same-length-2
+    returns-2)
