@@ -1,7 +1,7 @@
 /* The transfer core for volume meshes: blocks of darts, and the messages that move a volume from block to block.
  *
  * Every call is served, and returns 0, or refused, and returns the number of the first question whose answer is no. A refused call leaves
- * everything that was lent to it as it was, the number behind the last pointer too. A call reads and writes nothing but what is lent to it,
+ * everything that was lent to it as it was, what stands behind the last pointer too. A call reads and writes nothing but what is lent to it,
  * keeps no pointer, and takes no memory from the heap; the caller owns all memory before and after. It works on local arrays: leave it two
  * megabytes of stack. Calls on different memory may run at the same time.
  *
@@ -29,7 +29,7 @@ extern "C" {
 /* Bytes of an outbox that is long enough for every send. */
 #define DMAP_OUTBOX 65536
 
-/* Entries of the scratch of a mesh check. */
+/* Entries of the scratch of a mesh check and of a next move. */
 #define DMAP_SCRATCH 65536
 
 /* Answers: served, or the question that was answered no. */
@@ -108,6 +108,16 @@ uint32_t dmap_redirect(uint64_t *block, size_t words, const uint8_t *message, si
  * Asks 1 (whole blocks; DMAP_SCRATCH entries of scratch, all zero), 2 (each a sound block's image), 23 (1 to 16 blocks, numbered in order),
  * 24 (serials distinct), 25 (labels paired), 26 (points agree across), 27 (makers and counters). */
 uint32_t dmap_check_mesh(const uint64_t *mesh, size_t words, uint64_t *scratch, size_t entries);
+
+/* Finds the next move of a whole mesh by an oracle: 0 picks every volume, 1 those with a point in the box from (x0, y0, z0) to (x1, y1, z1),
+ * 2 those with points on both sides of the plane on `axis` (0 x, 1 y, 2 z) at x0. What an oracle does not use may be any. The answer has four
+ * words: 0 level, 1 blocked or 2 a move, then donor, recipient and serial, 0 where there is none; the move is made by dmap_send. The mesh is
+ * read only; the scratch is zero before and after.
+ * Asks 1 (four words of answer, before all else), then what dmap_check_mesh asks, then 28 (oracle 0 to 2; floats used are finite, low not above
+ * high, axis 0 to 2). Refused: scratch and answer are as they were. */
+uint32_t dmap_next_move(const uint64_t *mesh, size_t words, uint32_t oracle, uint32_t axis,
+                        double x0, double y0, double z0, double x1, double y1, double z1,
+                        uint64_t *scratch, size_t entries, uint64_t *answer, size_t four);
 
 #ifdef __cplusplus
 }

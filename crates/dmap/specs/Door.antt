@@ -1,9 +1,14 @@
--- What a call gives through the C door: its number, what was lent, and the bytes written. Assumes nothing.
+-- What a call gives through the C door: its number, what was lent, and the bytes written or the next move. Assumes nothing.
 use mathlib.Core.Path.{_≡_}
+use mathlib.Core.Bool.{cond}
 use mathlib.Core.List.{List}
 use Prim.Native.Nat.{ℕ}
-use lib.ListN.{getD}
-use Rattle.model.specs.Calls.{Answer, Result, number-of, values-of, written-values}
+use lib.Dec.{eqb}
+use lib.ListN.{length, getD}
+use lib.Ieee.{Float, binary64, toBits}
+use Rattle.model.specs.Values.{Point, all-rack}
+use Rattle.model.specs.Balance.{NextMove}
+use Rattle.model.specs.Calls.{Answer, served, refused, Result, number-of, values-of, written-values, move-values, next-move-by-number}
 
 -- of a call that adds nothing: the number, and afterwards what was lent to be written
 pub record Numbered (result : Result (Unit {0})) (number : ℕ) (lent : List ℕ) : Type 0 where
@@ -22,4 +27,32 @@ pub record Told (a : Answer ℕ) (before number written : ℕ) : Type 0 where
 -- of a call that adds the bytes written: the same, and what was lent to be written
 pub record Counted (result : Result ℕ) (before number : ℕ) (lent : List ℕ) (written : ℕ) : Type 0 where
   pub told : Told (result .answer) before number written
+  pub left : lent ≡ result .lent
+
+-- NEXT MOVE
+-- three floats as the words of a point
+abbrev pub point-words : Float → Float → Float → Point
+point-words x y z = record { x = toBits binary64 x; y = toBits binary64 y; z = toBits binary64 z }
+
+-- 1, before every other question: the answer has four words
+unfoldable pub four-first : List ℕ → List ℕ → Result NextMove → Result NextMove
+four-first words scratch result = cond (eqb (length words) 4) result (record { answer = refused 1; lent = scratch })
+
+-- the call: mesh, the oracle's number, axis, low, high, scratch, answer
+abbrev pub next-move-told : List ℕ → ℕ → ℕ → Point → Point → List ℕ → List ℕ → Result NextMove
+next-move-told mesh n axis low high scratch words = four-first words scratch (next-move-by-number all-rack mesh n axis low high scratch)
+
+-- the words of the answer: the next move, or what stood there before
+abbrev pub moved-over : List ℕ → Answer NextMove → List ℕ
+moved-over before (served v) = move-values v
+moved-over before (refused n) = before
+
+-- the number of an answer, and the words of a move
+pub record ToldMove (a : Answer NextMove) (before : List ℕ) (number : ℕ) (words : List ℕ) : Type 0 where
+  pub number-is : number ≡ number-of a
+  pub words-are : words ≡ moved-over before a
+
+-- the same, and afterwards the scratch
+pub record Moved (result : Result NextMove) (before : List ℕ) (number : ℕ) (lent words : List ℕ) : Type 0 where
+  pub told : ToldMove (result .answer) before number words
   pub left : lent ≡ result .lent

@@ -1,14 +1,21 @@
 // The public calls: by their Rattle names with an enum for an answer (a crate that calls them lists `dmap answers`), and by their C names with
 // a number, as include/dmap.h declares them. A slice is a pointer and a length there.
+ghost use mathlib.Core.Path.{_≡_};
+ghost use mathlib.Core.List.{[], _∷_};
+ghost use lib.ListN.{length};
 ghost use Rattle.model.specs.Values.{rack};
 ghost use Rattle.model.specs.Calls as calls;
-ghost use Rattle.answers.specs.Answers.{written-of};
-ghost use Rattle.dmap.specs.Door.{Numbered, Told, Counted};
+ghost use Rattle.answers.specs.Answers.{written-of, move-of};
+ghost use Rattle.dmap.specs.Door.{Numbered, Told, Counted, point-words, next-move-told, ToldMove, Moved};
 pub use answers::Answer;
+pub use answers::NextMove;
 pub use answers::Refusal;
 pub use answers::Written;
 pub use checkmesh::check_mesh;
 pub use memory::header::empty;
+pub use memory::point::Point;
+pub use nextmove::next_move;
+pub use oracle::Oracle;
 pub use readfile::read_file;
 pub use receive::receive;
 pub use redirect::redirect;
@@ -78,6 +85,42 @@ pub extern "C" fn dmap_check_mesh(mesh: &[u64], scratch: &mut [u64]) -> u32
     answers::answer_number(checkmesh::check_mesh(mesh, scratch))
 }
 
+// Oracle 0 is every volume, 1 the box of two points, 2 the plane on an axis at x0.
+#[no_mangle]
+pub extern "C" fn dmap_next_move(
+    mesh: &[u64],
+    oracle: u32,
+    axis: u32,
+    x0: f64,
+    y0: f64,
+    z0: f64,
+    x1: f64,
+    y1: f64,
+    z1: f64,
+    scratch: &mut [u64],
+    answer: &mut [u64],
+) -> u32
+    ensures { λ r. ⌜ Moved (next-move-told (now (mesh .entry)) oracle axis (point-words x0 y0 z0) (point-words x1 y1 z1) (now (scratch .entry)) (now (answer .entry))) (now (answer .entry)) r (now (scratch .exit)) (now (answer .exit)) ⌝ }
+{
+    if answer.len() != 4 {
+        return 1;
+    }
+    let low = Point {
+        x: x0,
+        y: y0,
+        z: z0,
+    };
+    let high = Point {
+        x: x1,
+        y: y1,
+        z: z1,
+    };
+    tell_move(
+        nextmove::next_move_by_number(mesh, oracle, axis, low, high, scratch),
+        answer,
+    )
+}
+
 // The number of an answer; the bytes written go out only where the call was served.
 fn tell_written(w: Written, written: &mut u64) -> u32
     ensures { λ r. ⌜ Told (written-of w) (now (written .entry)) r (now (written .exit)) ⌝ }
@@ -88,5 +131,38 @@ fn tell_written(w: Written, written: &mut u64) -> u32
             0
         }
         Written::Refused(r) => answers::refusal_number(r),
+    }
+}
+
+// The four words of an answer.
+fn put_words(answer: &mut [u64], kind: u64, donor: u64, recipient: u64, serial: u64)
+    requires { ⌜ length (now answer) ≡ 4 ⌝ }
+    ensures { λ _. ⌜ now (answer .exit) ≡ kind ∷ donor ∷ recipient ∷ serial ∷ [] ⌝ }
+{
+    answer[0] = kind;
+    answer[1] = donor;
+    answer[2] = recipient;
+    answer[3] = serial;
+}
+
+// The number of an answer; the next move goes out only where the call was served.
+fn tell_move(m: NextMove, answer: &mut [u64]) -> u32
+    requires { ⌜ length (now answer) ≡ 4 ⌝ }
+    ensures { λ r. ⌜ ToldMove (move-of m) (now (answer .entry)) r (now (answer .exit)) ⌝ }
+{
+    match m {
+        NextMove::Level => {
+            put_words(answer, 0, 0, 0, 0);
+            0
+        }
+        NextMove::Blocked => {
+            put_words(answer, 1, 0, 0, 0);
+            0
+        }
+        NextMove::Move(donor, recipient, serial) => {
+            put_words(answer, 2, donor as u64, recipient as u64, serial);
+            0
+        }
+        NextMove::Refused(r) => answers::refusal_number(r),
     }
 }
