@@ -2,7 +2,7 @@
 //! question 2, with which each call begins, is measured alone too. Shuffled blocks change with each call: one alone the processor's branch
 //! prediction learns by heart. Then both versions on drawn cases: answers and every lent byte.
 
-use peer::bench::{medians, round, Round};
+use peer::bench::{medians, round, round_of, Round};
 use peer::cases::Call;
 use peer::compare::compare;
 use peer::lent::{Core, OracleNumbers};
@@ -138,6 +138,16 @@ fn play(core: &dyn Core, blocks: &mut [Vec<u64>], serial: u64, outbox: &mut [u8]
     sent + taken + released + core.redirect(&mut blocks[2], messages[1])
 }
 
+/// A whole round on blocks of so many darts, in both versions.
+fn growth(large: bool, darts: usize) {
+    let table = Table::new((1..=31).map(|seed| round_of(large, Some(seed), darts)).collect());
+    let whole = |core: &'static dyn Core| {
+        let mut outbox = vec![0; 65_536];
+        table.turn(move |blocks, serial, _| play(core, blocks, serial, &mut outbox))
+    };
+    table.both(&format!("blocks of {darts}"), whole(&Plain), whole(&Proved));
+}
+
 fn times(rounds: Vec<Round>) {
     let table = Table::new(rounds);
     let sound = |is: fn(&[u64]) -> bool| table.turn(move |blocks, _, _| u32::from(!is(&blocks[0])));
@@ -170,6 +180,9 @@ fn main() {
         times(vec![round(large, None)]);
         // A prime, so that each call has each block.
         times((1..=31).map(|seed| round(large, Some(seed))).collect());
+    }
+    for (large, sizes) in [(false, &[255, 510, 1020, 2040, 4080][..]), (true, &[1020, 2040, 4080])] {
+        sizes.iter().for_each(|darts| growth(large, *darts));
     }
     match compare(&Plain, &Proved, &[Call::Send, Call::Receive, Call::Release, Call::Redirect], 1, 60_000) {
         Ok(table) => {

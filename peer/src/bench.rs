@@ -111,8 +111,8 @@ impl Scene {
     }
 }
 
-/// A cell in block 0 whose faces lead to blocks 0, 1, 2 or nowhere in turn; blocks nearly full.
-fn scene(large: bool) -> (Scene, usize) {
+/// A cell in block 0 whose faces lead to blocks 0, 1, 2 or nowhere in turn; blocks of about so many darts.
+fn scene(large: bool, goal: usize) -> (Scene, usize) {
     let mut scene = Scene { map: Map::default(), home: Vec::new() };
     if large {
         shapes::torus(&mut scene.map, 8, 16);
@@ -128,9 +128,9 @@ fn scene(large: bool) -> (Scene, usize) {
             scene.map.sew(face, partner);
         }
     }
-    scene.fill(0, 4080);
-    scene.fill(1, 4090 - darts);
-    scene.fill(2, 4080);
+    scene.fill(0, goal);
+    scene.fill(1, goal + 10 - darts);
+    scene.fill(2, goal);
     (scene, darts)
 }
 
@@ -197,7 +197,12 @@ pub struct Round {
 
 /// A volume of 24 darts or of 512; serials shuffled by a seed, or those of neighbours side by side.
 pub fn round(large: bool, seed: Option<u64>) -> Round {
-    let (scene, darts) = scene(large);
+    round_of(large, seed, 4080)
+}
+
+/// The same with blocks of about so many darts.
+pub fn round_of(large: bool, seed: Option<u64>, goal: usize) -> Round {
+    let (scene, darts) = scene(large, goal);
     let blocks = scene.blocks(3, seed);
     let serial = u64::from(
         *crate::cells::volumes(&blocks[0], blocks[0].darts.keys().copied())

@@ -308,7 +308,7 @@ pub const GATE: &[Call] = &[
 ];
 
 /// Bytes that the gate's file may have.
-pub const GATE_BYTES: usize = 400_000;
+pub const GATE_BYTES: usize = 520_000;
 
 /// Words of a mesh that the gate's program has room for: six blocks.
 const GATE_MESH: u32 = 6 * image::WORDS as u32;

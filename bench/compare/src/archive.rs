@@ -6,7 +6,7 @@ use peer::lent::{Core, OracleNumbers};
 pub struct Archive;
 
 /// The calls that the archive has.
-pub const CALLS: [Call; 8] = [
+pub const CALLS: [Call; 9] = [
     Call::Empty,
     Call::ReadFile,
     Call::SaveFile,
@@ -15,6 +15,7 @@ pub const CALLS: [Call; 8] = [
     Call::Release,
     Call::Redirect,
     Call::CheckMesh,
+    Call::NextMove,
 ];
 
 extern "C" {
@@ -34,6 +35,22 @@ extern "C" {
     fn dmap_release(block: *mut u64, words: usize, to: u64, serial: u64) -> u32;
     fn dmap_redirect(block: *mut u64, words: usize, message: *const u8, bytes: usize) -> u32;
     fn dmap_check_mesh(mesh: *const u64, words: usize, scratch: *mut u64, entries: usize) -> u32;
+    fn dmap_next_move(
+        mesh: *const u64,
+        words: usize,
+        oracle: u32,
+        axis: u32,
+        x0: f64,
+        y0: f64,
+        z0: f64,
+        x1: f64,
+        y1: f64,
+        z1: f64,
+        scratch: *mut u64,
+        entries: usize,
+        answer: *mut u64,
+        four: usize,
+    ) -> u32;
 }
 
 impl Core for Archive {
@@ -69,7 +86,27 @@ impl Core for Archive {
         unsafe { dmap_check_mesh(mesh.as_ptr(), mesh.len(), scratch.as_mut_ptr(), scratch.len()) }
     }
 
-    fn next_move(&self, _: &[u64], _: &OracleNumbers, _: &mut [u64], _: &mut [u64]) -> u32 {
-        unreachable!("not among CALLS")
+    fn next_move(&self, mesh: &[u64], oracle: &OracleNumbers, scratch: &mut [u64], answer: &mut [u64]) -> u32 {
+        let [x0, y0, z0, x1, y1, z1] = oracle.floats.map(f64::from_bits);
+        let (at, entries) = (scratch.as_mut_ptr(), scratch.len());
+        let (words, four) = (answer.as_mut_ptr(), answer.len());
+        unsafe {
+            dmap_next_move(
+                mesh.as_ptr(),
+                mesh.len(),
+                oracle.oracle,
+                oracle.axis,
+                x0,
+                y0,
+                z0,
+                x1,
+                y1,
+                z1,
+                at,
+                entries,
+                words,
+                four,
+            )
+        }
     }
 }
