@@ -78,7 +78,7 @@ fn main() {
     println!("check mesh, P in both: {}", mesh.check());
     println!("release P: {}", mesh.release(0, 1, 1));
     println!("check mesh: {}", mesh.check());
-    println!("block 0 has {} darts, block 1 has {}", mesh.block(0)[2], mesh.block(1)[2]);
+    println!("block 0 has {} darts, block 1 has {}", mesh.0[2], mesh.0[WORDS + 2]);
     let length = mesh.save_file(1, &mut outbox).expect("a sound block has a file");
     println!("the file of block 1: {length} bytes");
 }
