@@ -295,17 +295,8 @@ pub fn vectors(seed: u64, call: Call, wanted: usize) -> Vec<u8> {
     file_of(&records(seed, call, wanted))
 }
 
-/// The calls of the gate's file, in the order of CALLS; a call's place there is its byte in the file.
-pub const GATE: &[Call] = &[
-    Call::Empty,
-    Call::ReadFile,
-    Call::SaveFile,
-    Call::Send,
-    Call::Receive,
-    Call::Release,
-    Call::Redirect,
-    Call::CheckMesh,
-];
+/// The calls of the gate's file: all but the next move. A call's place in CALLS is its byte in the file.
+pub const GATE: &[Call] = CALLS.split_at(8).0;
 
 /// Bytes that the gate's file may have.
 pub const GATE_BYTES: usize = 520_000;

@@ -1,22 +1,8 @@
 //! The archive's calls by their C names, on whole slices that do not overlap: all that they ask of a caller.
 
-use peer::cases::Call;
 use peer::lent::{Core, OracleNumbers};
 
 pub struct Archive;
-
-/// The calls that the archive has.
-pub const CALLS: [Call; 9] = [
-    Call::Empty,
-    Call::ReadFile,
-    Call::SaveFile,
-    Call::Send,
-    Call::Receive,
-    Call::Release,
-    Call::Redirect,
-    Call::CheckMesh,
-    Call::NextMove,
-];
 
 extern "C" {
     fn dmap_empty(number: u64, block: *mut u64, words: usize) -> u32;

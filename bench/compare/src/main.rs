@@ -2,7 +2,8 @@
 
 mod archive;
 
-use archive::{Archive, CALLS};
+use archive::Archive;
+use peer::cases::CALLS;
 use peer::compare::{self, Table};
 use peer::lent::Peer;
 use std::process::ExitCode;
