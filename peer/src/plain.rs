@@ -1,14 +1,15 @@
-//! A plain, fast version of the calls that move cells, directly on the memory image: the baseline
-//! for speed. It answers and writes exactly what the value version does.
+//! A plain, fast version of the calls, directly on the memory image: the baseline for speed. It answers
+//! and writes exactly what the value version does.
 
 mod cell;
+mod file;
 mod inbox;
 mod mesh;
 mod outbox;
 mod sound;
 
 use crate::image::WORDS;
-use crate::lent::{Core, OracleNumbers, Peer};
+use crate::lent::{Core, OracleNumbers};
 use cell::Cell;
 use inbox::Inbox;
 use sound::Work;
@@ -23,6 +24,7 @@ pub struct Room {
     inbox: Inbox,
     out: outbox::Out,
     tables: mesh::Tables,
+    files: file::Files,
 }
 
 thread_local! {
@@ -32,6 +34,7 @@ thread_local! {
         inbox: Inbox::new(),
         out: outbox::Out::new(),
         tables: mesh::Tables::default(),
+        files: file::Files::new(),
     }));
 }
 
@@ -40,20 +43,34 @@ pub fn is_sound(words: &[u64]) -> bool {
     ROOM.with_borrow_mut(|room| sound::is_sound(words, &mut room.work))
 }
 
-/// The plain implementation; files and empty blocks are the value version's.
+/// The plain implementation.
 pub struct Plain;
 
 impl Core for Plain {
     fn empty(&self, number: u64, block: &mut [u64]) -> u32 {
-        Peer.empty(number, block)
+        if block.len() != WORDS {
+            return 1;
+        }
+        file::empty(number, block)
     }
 
     fn read_file(&self, file: &[u8], block: &mut [u64]) -> u32 {
-        Peer.read_file(file, block)
+        if block.len() != WORDS {
+            return 1;
+        }
+        ROOM.with_borrow_mut(|room| file::read(file, block, &mut room.work, &mut room.files))
     }
 
     fn save_file(&self, block: &[u64], out: &mut [u8], written: &mut u64) -> u32 {
-        Peer.save_file(block, out, written)
+        if block.len() != WORDS {
+            return 1;
+        }
+        ROOM.with_borrow_mut(|room| {
+            if !sound::is_sound(block, &mut room.work) {
+                return 2;
+            }
+            file::save(block, &mut room.out, out, written)
+        })
     }
 
     fn send(&self, block: &[u64], to: u64, serial: u64, outbox: &mut [u8], written: &mut u64) -> u32 {

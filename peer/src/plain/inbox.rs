@@ -8,14 +8,14 @@ const EXPONENT: u64 = 0x7ff0_0000_0000_0000;
 const PAIRS: usize = 4 * MAX_CELL;
 
 /// Reads groups from a cursor on.
-struct Cursor<'a> {
-    bytes: &'a [u8],
-    at: usize,
+pub struct Cursor<'a> {
+    pub bytes: &'a [u8],
+    pub at: usize,
 }
 
 impl Cursor<'_> {
     #[inline]
-    fn number(&mut self) -> Option<u64> {
+    pub fn number(&mut self) -> Option<u64> {
         let first = *self.bytes.get(self.at)?;
         self.at += 1;
         if first < 0x80 {
@@ -33,15 +33,21 @@ impl Cursor<'_> {
         None
     }
 
-    fn at_most(&mut self, limit: u64) -> Option<u64> {
+    pub fn at_most(&mut self, limit: u64) -> Option<u64> {
         self.number().filter(|number| *number <= limit)
     }
 
-    fn label(&mut self) -> Option<u64> {
+    pub fn label(&mut self) -> Option<u64> {
         let maker = self.at_most(15)?;
         let number = self.number()?;
         let position = self.at_most(4095)?;
         Some((maker << 32 | number) << 12 | position)
+    }
+
+    pub fn coordinate(&mut self) -> Option<u64> {
+        let eight = self.bytes.get(self.at..)?.first_chunk()?;
+        self.at += 8;
+        Some(u64::from_le_bytes(*eight))
     }
 }
 

@@ -1,15 +1,15 @@
-//! Writing the messages of a departing volume.
+//! Bytes put one after the other, and the messages of a departing volume.
 
 use super::cell::{Cell, Face};
 use super::sound::records;
 use crate::value::MAX_DARTS;
 
-/// Longer than all messages of 512 darts: points, corners, labels and headers.
-const LONGEST: usize = 48 * 1024;
+/// Longer than the file of 4,096 darts, 49 bytes each, and than all messages of 512.
+const LONGEST: usize = 49 * MAX_DARTS + 16;
 
 pub struct Out {
     bytes: [u8; LONGEST],
-    at: usize,
+    pub at: usize,
 }
 
 impl Out {
@@ -18,7 +18,7 @@ impl Out {
     }
 
     #[inline]
-    fn number(&mut self, number: u64) {
+    pub fn number(&mut self, number: u64) {
         let mut rest = number;
         while rest >= 0x80 {
             self.bytes[self.at] = rest as u8 | 0x80;
@@ -29,12 +29,12 @@ impl Out {
         self.at += 1;
     }
 
-    fn coordinate(&mut self, bits: u64) {
+    pub fn coordinate(&mut self, bits: u64) {
         self.bytes[self.at..self.at + 8].copy_from_slice(&bits.to_le_bytes());
         self.at += 8;
     }
 
-    fn label(&mut self, code: u64) {
+    pub fn label(&mut self, code: u64) {
         self.number(code >> 44);
         self.number(code >> 12 & 0xffff_ffff);
         self.number(code & 0xfff);
@@ -53,6 +53,14 @@ impl Out {
         self.at = start;
         self.number(length as u64);
         self.at = end;
+    }
+
+    /// Question 15, then the bytes to the front of what is lent.
+    pub fn give(&self, lent: &mut [u8], written: &mut u64) -> u32 {
+        let Some(front) = lent.get_mut(..self.at) else { return 15 };
+        front.copy_from_slice(&self.bytes[..self.at]);
+        *written = self.at as u64;
+        0
     }
 }
 
@@ -119,14 +127,7 @@ pub fn send(words: &[u64], to: u64, cell: &Cell, out: &mut Out, outbox: &mut [u8
         }
         out.close(start);
     }
-    match outbox.get_mut(..out.at) {
-        Some(front) => {
-            front.copy_from_slice(&out.bytes[..out.at]);
-            *written = out.at as u64;
-            0
-        }
-        None => 15,
-    }
+    out.give(outbox, written)
 }
 
 fn range(face: &Face) -> std::ops::Range<usize> {
