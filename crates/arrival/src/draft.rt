@@ -16,7 +16,7 @@ pub fn word_at(message: &[u8], at: usize) -> u64
     requires { ⌜ at + 8 ≤ length (now message) ⌝ }
     ensures { λ r. ⌜ r ≡ word-in (now (message .entry)) at ⌝ }
 {
-    let Read::Value(w, next) = groups::read_coordinate(message, at) else {
+    let Read::Value(w, next) = reader::read_coordinate(message, at) else {
         return 0;
     };
     w

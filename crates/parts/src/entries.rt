@@ -18,10 +18,10 @@ pub fn read_part2(s: &[u8], at: usize, count: usize, codes: &mut [u64], indices:
     let mut i = 0;
     let mut p = at;
     while i < count {
-        let Read::Value(code, past) = groups::read_label(s, p) else {
+        let Read::Value(code, past) = reader::read_label(s, p) else {
             return;
         };
-        let Read::Value(index, next) = groups::read_group(s, past) else {
+        let Read::Value(index, next) = reader::read_group(s, past) else {
             return;
         };
         codes[i] = code;
@@ -40,10 +40,10 @@ pub fn read_part3(s: &[u8], at: usize, count: usize, numbers: &mut [u64], indice
     let mut i = 0;
     let mut p = at;
     while i < count {
-        let Read::Value(number, past) = groups::read_group(s, p) else {
+        let Read::Value(number, past) = reader::read_group(s, p) else {
             return;
         };
-        let Read::Value(index, next) = groups::read_group(s, past) else {
+        let Read::Value(index, next) = reader::read_group(s, past) else {
             return;
         };
         numbers[i] = number;
@@ -78,13 +78,13 @@ fn read_entry(s: &[u8], at: usize, darts: usize, sizes: &[usize]) -> Entry
     requires { ⌜ darts ≤ length (now sizes) ⌝ }
     ensures { λ r. ⌜ ((fs : List (List FaceDart)) → Sized fs darts (now (sizes .entry)) → EntryRead fs (now (sizes .entry)) (now (s .entry)) at r) ⌝ }
 {
-    let Read::Value(index, past) = groups::read_group(s, at) else {
+    let Read::Value(index, past) = reader::read_group(s, at) else {
         return no_entry();
     };
     if darts as u64 <= index {
         return no_entry();
     }
-    let Read::Value(other, labels) = groups::read_at_most(s, past, 15) else {
+    let Read::Value(other, labels) = reader::read_at_most(s, past, 15) else {
         return no_entry();
     };
     let size = sizes[index as usize];

@@ -41,7 +41,7 @@ fn put_codes(message: &[u8], from: usize, array: &mut [u64], at: usize, n: usize
     let mut j = 0;
     let mut p = from;
     while j < n {
-        let Read::Value(code, next) = groups::read_label(message, p) else {
+        let Read::Value(code, next) = reader::read_label(message, p) else {
             return;
         };
         array[at + j] = code;

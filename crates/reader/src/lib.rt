@@ -1,7 +1,7 @@
 // A thin reader over a message: it holds the slice and the place in it, and leaves the work to the functions of groups on a slice and a place.
 // Each function over it is proved by hand, so they are few and have no branch; callers use those on a slice and a place.
 ghost use mathlib.Core.Path.{_≡_};
-ghost use Rattle.model.specs.Layouts.{group, serial, at-most};
+ghost use Rattle.model.specs.Layouts.{group, serial, at-most, coordinate};
 ghost use Rattle.groups.specs.Slices.{read-at, label-code};
 use groups::Read;
 
@@ -46,6 +46,13 @@ pub fn label<'a>(r: Reader<'a>) -> Read
     groups::read_label(r.src, r.at)
 }
 
+// The coordinate that stands next, as its word.
+pub fn coordinate<'a>(r: Reader<'a>) -> Read
+    ensures { λ g. ⌜ g ≡ read-at coordinate (now (r .entry .src)) (r .entry .at) ⌝ }
+{
+    groups::read_coordinate(r.src, r.at)
+}
+
 // The number at a place of a message.
 pub fn read_group(s: &[u8], at: usize) -> Read
     ensures { λ r. ⌜ r ≡ read-at group (now (s .entry)) at ⌝ }
@@ -72,4 +79,11 @@ pub fn read_label(s: &[u8], at: usize) -> Read
     ensures { λ r. ⌜ r ≡ read-at label-code (now (s .entry)) at ⌝ }
 {
     label(open(s, at))
+}
+
+// The coordinate at a place of a message, as its word.
+pub fn read_coordinate(s: &[u8], at: usize) -> Read
+    ensures { λ r. ⌜ r ≡ read-at coordinate (now (s .entry)) at ⌝ }
+{
+    coordinate(open(s, at))
 }

@@ -17,7 +17,7 @@ pub fn read_codes(s: &[u8], at: usize, count: usize, codes: &mut [u64])
     let mut i = 0;
     let mut p = at;
     while i < count {
-        let Read::Value(code, next) = groups::read_label(s, p) else {
+        let Read::Value(code, next) = reader::read_label(s, p) else {
             return;
         };
         codes[i] = code;

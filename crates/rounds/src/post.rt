@@ -9,7 +9,7 @@ use groups::Read;
 pub fn first_message(bytes: &[u8]) -> usize
     ensures { λ r. ⌜ r ≡ length (first-in (now (bytes .entry))) ⌝ }
 {
-    let Read::Value(n, next) = groups::read_group(bytes, 0) else {
+    let Read::Value(n, next) = reader::read_group(bytes, 0) else {
         return bytes.len();
     };
     if n <= (bytes.len() - next) as u64 {
@@ -22,16 +22,16 @@ pub fn first_message(bytes: &[u8]) -> usize
 pub fn addressee(message: &[u8]) -> u64
     ensures { λ r. ⌜ r ≡ to-block (now (message .entry)) ⌝ }
 {
-    let Read::Value(size, kind_at) = groups::read_group(message, 0) else {
+    let Read::Value(size, kind_at) = reader::read_group(message, 0) else {
         return 0;
     };
-    let Read::Value(kind, from_at) = groups::read_group(message, kind_at) else {
+    let Read::Value(kind, from_at) = reader::read_group(message, kind_at) else {
         return 0;
     };
-    let Read::Value(from, to_at) = groups::read_group(message, from_at) else {
+    let Read::Value(from, to_at) = reader::read_group(message, from_at) else {
         return 0;
     };
-    let Read::Value(to, end) = groups::read_group(message, to_at) else {
+    let Read::Value(to, end) = reader::read_group(message, to_at) else {
         return 0;
     };
     to
