@@ -1,7 +1,6 @@
 //! A second implementation of the transfer core for volume meshes, written from the papers.
 
 pub mod balance;
-pub mod bench;
 pub mod calls;
 pub mod cases;
 pub mod cells;
@@ -20,6 +19,7 @@ pub mod plain;
 pub mod rng;
 pub mod rounds;
 pub mod runs;
+pub mod scenes;
 pub mod shapes;
 pub mod simulate;
 pub mod sound;

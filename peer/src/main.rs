@@ -1,6 +1,5 @@
-//! The peer's program: simulate, vectors, compare, bench, list, listings, rounds.
+//! The peer's program: simulate, vectors, compare, list, listings, rounds.
 
-use peer::bench;
 use peer::cases::CALLS;
 use peer::compare;
 use peer::lent::Peer;
@@ -15,7 +14,7 @@ use std::path::Path;
 use std::process::ExitCode;
 
 const USAGE: &str =
-    "peer simulate SEED N | peer vectors SEED N DIR | peer compare SEED N | peer bench | peer list < FILE | peer listings DIR | peer rounds SEED N DIR";
+    "peer simulate SEED N | peer vectors SEED N DIR | peer compare SEED N | peer list < FILE | peer listings DIR | peer rounds SEED N DIR";
 
 fn main() -> ExitCode {
     let words: Vec<String> = std::env::args().skip(1).collect();
@@ -33,10 +32,6 @@ fn main() -> ExitCode {
             (Ok(seed), Ok(count)) => run_comparison(seed, count),
             _ => Err(USAGE.to_string()),
         },
-        ["bench"] => {
-            bench::bench();
-            Ok(())
-        }
         ["list"] => list(),
         ["listings", folder] => write_listings(folder).map_err(|e| e.to_string()),
         ["rounds", seed, count, folder] => match (seed.parse(), count.parse()) {

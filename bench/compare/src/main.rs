@@ -1,10 +1,8 @@
 //! The archive against the second implementation on drawn cases: answer and every lent byte. Prints how often each call gave each answer.
 
-mod archive;
-
-use archive::Archive;
+use compare::archive::Archive;
 use peer::cases::CALLS;
-use peer::compare::{self, Table};
+use peer::compare::{self as cores, Table};
 use peer::lent::Peer;
 use std::process::ExitCode;
 
@@ -14,7 +12,7 @@ fn main() -> ExitCode {
         eprintln!("compare SEED N");
         return ExitCode::FAILURE;
     };
-    match compare::compare(&Archive, &Peer, &CALLS, seed, count as usize) {
+    match cores::compare(&Archive, &Peer, &CALLS, seed, count as usize) {
         Ok(table) => report(&table),
         Err(what) => {
             eprintln!("{what}");

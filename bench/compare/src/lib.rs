@@ -1,0 +1,3 @@
+//! The proved archive as a core that others can be compared with.
+
+pub mod archive;

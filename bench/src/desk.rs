@@ -1,0 +1,195 @@
+//! The calls on one block, and whole rounds over three.
+
+use crate::table::Times;
+use crate::SHUFFLES;
+use compare::archive::Archive;
+use peer::image::{self, WORDS};
+use peer::lent::Core;
+use peer::message;
+use peer::plain::Plain;
+use peer::scenes::{self, Round};
+use std::hint::black_box;
+use std::time::Instant;
+
+/// Blocks before a call, what is sent in the round from 0 to 1, and the file of block 0.
+struct Setting {
+    round: Round,
+    messages: Vec<Vec<u8>>,
+    file: Vec<u8>,
+}
+
+/// What a call works on: blocks 0, 1 and 2, and room for bytes.
+struct Lent {
+    blocks: Vec<Vec<u64>>,
+    bytes: Vec<u8>,
+    written: u64,
+}
+
+/// A call, and the answer that it gives.
+pub struct Call {
+    pub name: &'static str,
+    pub of_a_cell: bool,
+    answer: u32,
+    /// The blocks that it works on.
+    blocks: &'static [usize],
+    make: fn(&dyn Core, &mut Lent, &Setting) -> u32,
+}
+
+pub const ROUND: &str = "whole round";
+
+/// A destination that is none: a send is refused by 9, after question 2 and before all else.
+const NOWHERE: u64 = 16;
+
+pub const CALLS: [Call; 9] = [
+    Call { name: "question 2", of_a_cell: false, answer: 9, blocks: &[0], make: question_2 },
+    Call {
+        name: "empty",
+        of_a_cell: false,
+        answer: 0,
+        blocks: &[0],
+        make: |core, lent, _| core.empty(7, &mut lent.blocks[0]),
+    },
+    Call {
+        name: "read file",
+        of_a_cell: false,
+        answer: 0,
+        blocks: &[0],
+        make: |core, lent, setting| core.read_file(&setting.file, &mut lent.blocks[0]),
+    },
+    Call {
+        name: "save file",
+        of_a_cell: false,
+        answer: 0,
+        blocks: &[0],
+        make: |core, lent, _| core.save_file(&lent.blocks[0], &mut lent.bytes, &mut lent.written),
+    },
+    Call { name: "send", of_a_cell: true, answer: 0, blocks: &[0], make: send },
+    Call {
+        name: "receive",
+        of_a_cell: true,
+        answer: 0,
+        blocks: &[1],
+        make: |core, lent, setting| core.receive(&mut lent.blocks[1], &setting.messages[0]),
+    },
+    Call {
+        name: "release",
+        of_a_cell: true,
+        answer: 0,
+        blocks: &[0],
+        make: |core, lent, setting| core.release(&mut lent.blocks[0], 1, setting.round.serial),
+    },
+    Call {
+        name: "redirect",
+        of_a_cell: true,
+        answer: 0,
+        blocks: &[2],
+        make: |core, lent, setting| core.redirect(&mut lent.blocks[2], &setting.messages[1]),
+    },
+    Call { name: ROUND, of_a_cell: true, answer: 0, blocks: &[0, 1, 2], make: round },
+];
+
+fn question_2(core: &dyn Core, lent: &mut Lent, _: &Setting) -> u32 {
+    core.send(&lent.blocks[0], NOWHERE, 0, &mut lent.bytes, &mut lent.written)
+}
+
+fn send(core: &dyn Core, lent: &mut Lent, setting: &Setting) -> u32 {
+    core.send(&lent.blocks[0], 1, setting.round.serial, &mut lent.bytes, &mut lent.written)
+}
+
+fn round(core: &dyn Core, lent: &mut Lent, setting: &Setting) -> u32 {
+    let sent = send(core, lent, setting);
+    let messages = message::split(&lent.bytes[..lent.written as usize]).unwrap_or_default();
+    let taken = core.receive(&mut lent.blocks[1], messages[0]);
+    let released = core.release(&mut lent.blocks[0], 1, setting.round.serial);
+    sent + taken + released + core.redirect(&mut lent.blocks[2], messages[1])
+}
+
+/// How the number of a face gives that of its labels, where all faces are critical.
+type Labels = fn(u32) -> u32;
+
+pub const LABELS: &[(&str, Labels)] = &[
+    ("all darts critical", |number| number),
+    ("all critical, numbers of 32 bits", |number| number.wrapping_mul(2_654_435_761)),
+    ("all critical, labels chosen to crowd one slot", crowded),
+];
+
+/// The n-th number whose labels' search in the proved version starts in slot 0, so that it gives up and a sort decides.
+fn crowded(wanted: u32) -> u32 {
+    thread_local! {
+        static FOUND: Vec<u32> = {
+            let slot = |key: u64| (key % (1 << 32) * 2246822519 / 524288 % 8192 + (key >> 32) * 2654435769 / 524288 % 8192) % 8192;
+            (0u32..).filter(|number| slot(((3 << 32) + u64::from(*number)) << 12) == 0).take(1024).collect()
+        };
+    }
+    FOUND.with(|found| found[wanted as usize])
+}
+
+/// Settings that are lent in turn.
+pub struct Desk {
+    settings: Vec<Setting>,
+}
+
+impl Desk {
+    /// A cell of 24 or of 512 darts that moves between blocks of about so many.
+    pub fn rounds(large: bool, shuffled: bool, darts: usize) -> Desk {
+        let seeds: Vec<Option<u64>> = if shuffled { (1..=SHUFFLES).map(Some).collect() } else { vec![None] };
+        let settings = seeds.iter().map(|seed| Setting::of(scenes::round(large, *seed, darts)));
+        Desk { settings: settings.collect() }
+    }
+
+    /// A block all of whose darts are critical; for question 2.
+    pub fn critical(labels: Labels, shuffled: bool) -> Desk {
+        let block = scenes::critical(scenes::hexahedra(shuffled), usize::MAX, labels);
+        let round = Round { images: vec![image::encode(&block)], serial: 0 };
+        Desk { settings: vec![Setting { round, messages: Vec::new(), file: Vec::new() }] }
+    }
+
+    /// The medians of a call over so many turns. What it works on is as it was before each call.
+    pub fn times(&self, call: &Call, turns: usize) -> Times {
+        let mut lent = Lent { blocks: self.settings[0].round.images.clone(), bytes: vec![0; 262_144], written: 0 };
+        let mut copy = vec![0; WORDS * call.blocks.len()];
+        let mut times = [(); 3].map(|()| Vec::with_capacity(turns));
+        let mut at = 0;
+        for _ in 0..turns {
+            for (version, times) in times.iter_mut().enumerate() {
+                at = (at + 1) % self.settings.len();
+                let setting = &self.settings[at];
+                for (words, image) in lent.blocks.iter_mut().zip(&setting.round.images) {
+                    words.copy_from_slice(image);
+                }
+                let start = Instant::now();
+                match version {
+                    0 => assert_eq!((call.make)(&Plain, black_box(&mut lent), setting), call.answer, "{}", call.name),
+                    1 => assert_eq!((call.make)(&Archive, black_box(&mut lent), setting), call.answer, "{}", call.name),
+                    _ => {
+                        for (words, block) in copy.chunks_exact_mut(WORDS).zip(call.blocks) {
+                            words.copy_from_slice(black_box(&lent.blocks[*block]));
+                        }
+                        black_box(&copy);
+                    }
+                }
+                times.push(start.elapsed().as_secs_f64() * 1e6);
+            }
+        }
+        times.map(median)
+    }
+}
+
+impl Setting {
+    fn of(round: Round) -> Setting {
+        let mut bytes = vec![0; 262_144];
+        let mut written = 0;
+        assert_eq!(Plain.send(&round.images[0], 1, round.serial, &mut bytes, &mut written), 0);
+        let messages = message::split(&bytes[..written as usize]).unwrap_or_default();
+        assert_eq!(messages.len(), 2);
+        let messages = messages.into_iter().map(<[u8]>::to_vec).collect();
+        assert_eq!(Plain.save_file(&round.images[0], &mut bytes, &mut written), 0);
+        bytes.truncate(written as usize);
+        Setting { round, messages, file: bytes }
+    }
+}
+
+pub fn median(mut times: Vec<f64>) -> f64 {
+    times.sort_by(f64::total_cmp);
+    times[times.len() / 2]
+}

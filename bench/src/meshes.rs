@@ -1,0 +1,90 @@
+//! The calls on a whole mesh.
+
+use crate::desk::median;
+use crate::table::{Limit, Times};
+use compare::archive::Archive;
+use peer::image::SCRATCH;
+use peer::lent::{Core, OracleNumbers};
+use peer::plain::Plain;
+use peer::scenes;
+use std::hint::black_box;
+use std::rc::Rc;
+use std::time::Instant;
+
+const EVERY: OracleNumbers = OracleNumbers { oracle: 0, axis: 0, floats: [0; 6] };
+
+/// A mesh, and a call on it.
+pub struct Hall {
+    pub name: String,
+    mesh: Rc<Vec<u64>>,
+    /// The oracle of a next move, and the kind of its answer.
+    next_move: Option<(OracleNumbers, u64)>,
+}
+
+impl Hall {
+    /// Sixteen blocks of 4,080 darts.
+    pub fn full(shuffled: bool) -> Vec<Hall> {
+        let seed = shuffled.then_some(1);
+        let mut halls = Hall::of_slabs([10, 17], seed);
+        let room = Rc::new(scenes::mesh_with_room(170, 10, seed));
+        halls.push(Hall { name: "next move, a move".into(), mesh: room, next_move: Some((EVERY, 2)) });
+        let stays = Rc::new(scenes::mesh_that_stays(1020, seed));
+        let name = "next move, blocked: 15,300 volumes asked, none may leave".into();
+        halls.push(Hall { name, mesh: stays, next_move: Some((EVERY, 1)) });
+        halls
+    }
+
+    /// Sixteen slabs of so many cells; serials shuffled.
+    pub fn growing(slab: [usize; 2]) -> Vec<Hall> {
+        Hall::of_slabs(slab, Some(1))
+    }
+
+    /// The mesh check; a next move of a mesh that is level; one that a box picks cells for, all blocks being full.
+    fn of_slabs(slab: [usize; 2], seed: Option<u64>) -> Vec<Hall> {
+        let mesh = Rc::new(scenes::mesh(slab, seed));
+        let upper = OracleNumbers { oracle: 1, floats: [8.5, 0.0, 0.0, 99.0, 99.0, 99.0].map(f64::to_bits), ..EVERY };
+        // In blocks that are not full the picked cells have room.
+        let found = if slab == [10, 17] { 1 } else { 2 };
+        [("check mesh", None), ("next move, level", Some((EVERY, 0))), ("next move, a box", Some((upper, found)))]
+            .map(|(name, next_move)| Hall { name: name.into(), mesh: mesh.clone(), next_move })
+            .into()
+    }
+
+    pub fn limit(&self) -> Limit {
+        Limit::plain(2.0).milliseconds(if self.next_move.is_none() { 40.0 } else { 60.0 })
+    }
+
+    fn make(&self, core: &dyn Core, scratch: &mut [u64]) {
+        let mesh = black_box(&self.mesh[..]);
+        match &self.next_move {
+            None => assert_eq!(core.check_mesh(mesh, scratch), 0),
+            Some((oracle, wanted)) => {
+                let mut answer = [9; 4];
+                assert_eq!(core.next_move(mesh, oracle, scratch, &mut answer), 0);
+                assert_eq!(answer[0], *wanted, "{}", self.name);
+            }
+        }
+    }
+
+    /// The medians of the call over so many turns.
+    pub fn times(&self, turns: usize) -> Times {
+        let mut scratch = vec![0; SCRATCH];
+        let mut copy = self.mesh.to_vec();
+        let mut times = [(); 3].map(|()| Vec::with_capacity(turns));
+        for _ in 0..turns {
+            for (version, times) in times.iter_mut().enumerate() {
+                let start = Instant::now();
+                match version {
+                    0 => self.make(&Plain, &mut scratch),
+                    1 => self.make(&Archive, &mut scratch),
+                    _ => {
+                        copy.copy_from_slice(black_box(&self.mesh));
+                        black_box(&copy);
+                    }
+                }
+                times.push(start.elapsed().as_secs_f64() * 1e6);
+            }
+        }
+        times.map(median)
+    }
+}
