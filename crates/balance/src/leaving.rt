@@ -10,28 +10,35 @@ use departure::Leaving;
 use memory::record;
 use memory::record::Place;
 
-// Whether the volume of the dart with this serial may go to another block: 9 to 14.
-fn may_leave(block: &[u64], to: u64, serial: u64) -> bool
+// Whether the volume of the dart with this serial may go to another block: 9 to 14. What need not be zero before is lent, so that it is
+// cleared once and not for each volume.
+fn may_leave(
+    block: &[u64],
+    to: u64,
+    serial: u64,
+    order: &mut [usize],
+    starts: &mut [usize],
+    firsts: &mut [usize],
+) -> bool
     requires { ⌜ (is-image rack (now block) ≡ true) × (to ≤ 15) × (to ≡ getD (now block) 0 0 → ⊥) ⌝ }
-    ensures { λ r. ⌜ r ≡ can-leave (now (block .entry)) serial ⌝ }
+    requires { ⌜ (length (now order) ≡ room) × (length (now starts) ≡ room) × (length (now firsts) ≡ room) ⌝ }
+    ensures leaving { λ r. ⌜ r ≡ can-leave (now (block .entry)) serial ⌝ }
+    ensures lengths { λ r. ⌜ (length (now (order .exit)) ≡ room) × (length (now (starts .exit)) ≡ room) × (length (now (firsts .exit)) ≡ room) ⌝ }
 {
     let mut marks = [0u8; 4096];
-    let mut order = [0usize; 4096];
-    let mut starts = [0usize; 4096];
     let mut seen = [0u8; 4096];
     let mut numbers = [4096usize; 4096];
-    let mut firsts = [0usize; 4096];
     let mut stamps = [0usize; 4096];
     match departure::leaves(
         block,
         to,
         serial,
         &mut marks,
-        &mut order,
-        &mut starts,
+        order,
+        starts,
         &mut seen,
         &mut numbers,
-        &mut firsts,
+        firsts,
         &mut stamps,
     ) {
         Leaving::Volume(_) => true,
@@ -47,6 +54,9 @@ pub fn first_leaving(block: &[u64], to: u64, left: usize, sizes: &mut [usize]) -
     ensures untried { λ r. ⌜ Untried-in (at (now (sizes .entry))) (now (block .entry)) (now (sizes .exit)) ⌝ }
 {
     let n = block[2] as usize;
+    let mut order = [0usize; 4096];
+    let mut starts = [0usize; 4096];
+    let mut firsts = [0usize; 4096];
     // None of the volumes that start before i may go.
     let mut i = 0;
     while i < n {
@@ -60,7 +70,7 @@ pub fn first_leaving(block: &[u64], to: u64, left: usize, sizes: &mut [usize]) -
             continue;
         }
         let serial = record::field(block, Place(p), 0);
-        if may_leave(block, to, serial) {
+        if may_leave(block, to, serial, &mut order, &mut starts, &mut firsts) {
             return serial;
         }
         sizes[p] = 0;
