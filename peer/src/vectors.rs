@@ -135,15 +135,64 @@ pub fn record(case: &Case) -> (u32, Vec<u8>) {
     (answer, out)
 }
 
-/// Records by answer and way.
-type Shelf = BTreeMap<u32, BTreeMap<&'static str, Vec<Vec<u8>>>>;
+/// An answer, and of a next move which oracle was asked and what it came to.
+pub type Sort = (u32, u32);
 
-/// Draws cases of a call until every answer has some and there are enough in all.
+/// Level, blocked and a move by each of the three oracles; a box, a plane and no oracle refused, the first two also for a NaN.
+const MOVES: [Sort; 14] = [
+    (0, 0),
+    (0, 1),
+    (0, 2),
+    (0, 3),
+    (0, 4),
+    (0, 5),
+    (0, 6),
+    (0, 7),
+    (0, 8),
+    (28, 1),
+    (28, 2),
+    (28, 3),
+    (28, 5),
+    (28, 6),
+];
+
+/// The sort of a record.
+pub fn sort(call: Call, record: &[u8]) -> Sort {
+    let answer = u32_at(record, 0);
+    match (call, answer) {
+        (Call::NextMove, 0) => (0, 3 * u32_at(record, 4) + u32_at(record, record.len() - 32)),
+        (Call::NextMove, 28) => {
+            let oracle = u32_at(record, 4).min(3);
+            // A box has six floats, a plane one.
+            let floats = [0, 6, 1, 0][oracle as usize];
+            let nan = record[12..].chunks_exact(8).take(floats).any(|float| {
+                let pattern = u64::from(u32_at(float, 4)) << 32 | u64::from(u32_at(float, 0));
+                f64::from_bits(pattern).is_nan()
+            });
+            (28, oracle + 4 * u32::from(nan))
+        }
+        _ => (answer, 0),
+    }
+}
+
+/// The sorts that a call's records have to have.
+pub fn sorts(call: Call) -> Vec<Sort> {
+    let plain = call.answers().iter().map(|answer| (*answer, 0));
+    match call {
+        Call::NextMove => plain.filter(|sort| ![0, 28].contains(&sort.0)).chain(MOVES).collect(),
+        _ => plain.collect(),
+    }
+}
+
+/// Records by sort and way.
+type Shelf = BTreeMap<Sort, BTreeMap<&'static str, Vec<Vec<u8>>>>;
+
+/// Draws cases of a call until every sort has some and there are enough in all.
 fn shelf(seed: u64, call: Call, wanted: usize) -> Shelf {
     let mut shelf = Shelf::new();
     let mut taken = BTreeSet::new();
     for round in 0..400 {
-        let complete = call.answers().iter().all(|answer| shelf.contains_key(answer));
+        let complete = sorts(call).iter().all(|sort| shelf.contains_key(sort));
         if round >= 12 && complete && taken.len() >= 2 * wanted {
             break;
         }
@@ -152,16 +201,16 @@ fn shelf(seed: u64, call: Call, wanted: usize) -> Shelf {
         let size = if rng.one_in(3) { Size::Small } else { Size::Tiny };
         let mesh = generate::mesh_of(&mut rng, size, count);
         for (way, case) in damage::batch(&mut rng, call, &mesh) {
-            let (answer, bytes) = record(&case);
+            let (_, bytes) = record(&case);
             if bytes.len() <= MAX_RECORD && taken.insert(bytes.clone()) {
-                shelf.entry(answer).or_default().entry(way).or_default().push(bytes);
+                shelf.entry(sort(call, &bytes)).or_default().entry(way).or_default().push(bytes);
             }
         }
     }
     shelf
 }
 
-/// Takes records in turn: answers, within an answer ways, within a way in order.
+/// Takes records in turn: sorts, within a sort ways, within a way in order.
 fn choose(shelf: Shelf, wanted: usize) -> Vec<Vec<u8>> {
     let mut queues: Vec<Vec<Vec<u8>>> = Vec::new();
     for mut ways in shelf.into_values() {
@@ -295,11 +344,8 @@ pub fn vectors(seed: u64, call: Call, wanted: usize) -> Vec<u8> {
     file_of(&records(seed, call, wanted))
 }
 
-/// The calls of the gate's file: all but the next move. A call's place in CALLS is its byte in the file.
-pub const GATE: &[Call] = CALLS.split_at(8).0;
-
 /// Bytes that the gate's file may have.
-pub const GATE_BYTES: usize = 520_000;
+pub const GATE_BYTES: usize = 570_000;
 
 /// Words of a mesh that the gate's program has room for: six blocks.
 const GATE_MESH: u32 = 6 * image::WORDS as u32;
@@ -308,11 +354,11 @@ fn u32_at(bytes: &[u8], at: usize) -> u32 {
     bytes[at..at + 4].iter().rev().fold(0, |high, low| high << 8 | u32::from(*low))
 }
 
-/// Whether the gate's program has room for what a record lends.
+/// Whether the gate's program has room for what a record lends. A next move there has an answer of its own, so none is lent.
 fn has_room(call: Call, record: &[u8]) -> bool {
     match call {
         Call::CheckMesh => u32_at(record, 4) <= GATE_MESH,
-        Call::NextMove => u32_at(record, 60) <= GATE_MESH,
+        Call::NextMove => u32_at(record, 60) <= GATE_MESH && u32_at(record, record.len() - 36) == 4,
         _ => true,
     }
 }
@@ -355,8 +401,7 @@ fn gate_of(calls: &[(Call, Records)]) -> Gate {
 }
 
 pub fn gate(seed: u64, wanted: usize) -> Gate {
-    let calls: Vec<_> = GATE.iter().map(|call| (*call, records(seed, *call, wanted))).collect();
-    gate_of(&calls)
+    gate_of(&CALLS.map(|call| (call, records(seed, call, wanted))))
 }
 
 /// Writes the files of all calls and the gate's; gives the total length of the calls' files.
@@ -369,9 +414,7 @@ pub fn write(seed: u64, wanted: usize, folder: &Path) -> std::io::Result<usize> 
         let bytes = file_of(&records);
         total += bytes.len();
         std::fs::write(folder.join(format!("{}.bin", call.name())), bytes)?;
-        if GATE.contains(&call) {
-            played.push((call, records));
-        }
+        played.push((call, records));
     }
     let gate = gate_of(&played);
     std::fs::write(folder.join("gate.bin"), gate.input)?;

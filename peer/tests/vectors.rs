@@ -176,13 +176,14 @@ fn vectors_are_deterministic() {
     assert_eq!(WORDS, 32_776);
 }
 
-/// The gate's file has every answer of its calls, and its counts are those that it tells.
+/// The gate's file has every answer of the calls, and its counts are those that it tells.
 #[test]
 fn the_gate_has_every_answer() {
     let gate = vectors::gate(1, 60);
     assert!(gate.input.len() <= vectors::GATE_BYTES);
     let mut rest = Reader { bytes: &gate.input };
     let mut counts = BTreeMap::<(Call, u32), usize>::new();
+    let mut sorts = BTreeSet::new();
     while !rest.bytes.is_empty() {
         let call = CALLS[usize::from(rest.take(1)[0])];
         let record = rest.bytes();
@@ -190,12 +191,15 @@ fn the_gate_has_every_answer() {
         assert_eq!(case.run(&Peer), answer);
         assert!(case == after);
         *counts.entry((call, answer)).or_default() += 1;
+        sorts.insert((call, vectors::sort(call, &record)));
     }
+    let all = CALLS.iter().flat_map(|call| vectors::sorts(*call).into_iter().map(|sort| (*call, sort)));
+    assert_eq!(sorts, all.collect());
     let mut output = String::new();
-    for call in vectors::GATE {
+    for call in CALLS {
         output += &format!("{}\n", call.name());
         for answer in call.answers() {
-            output += &format!("{answer}: {}\n", counts[&(*call, *answer)]);
+            output += &format!("{answer}: {}\n", counts[&(call, *answer)]);
         }
     }
     output += &format!("as told: {}\n", counts.values().sum::<usize>());

@@ -10,8 +10,8 @@ use departure::Leaving;
 use memory::record;
 use memory::record::Place;
 
-// Whether the volume of the dart with this serial may go to another block: 9 to 14. What need not be zero before is lent, so that it is
-// cleared once and not for each volume.
+// Whether the volume of the dart with this serial may go to another block: 9 to 14. What stands in `order`, `starts` and `firsts` is
+// written before it is read, so no asking clears them.
 fn may_leave(
     block: &[u64],
     to: u64,
@@ -22,8 +22,7 @@ fn may_leave(
 ) -> bool
     requires { ⌜ (is-image rack (now block) ≡ true) × (to ≤ 15) × (to ≡ getD (now block) 0 0 → ⊥) ⌝ }
     requires { ⌜ (length (now order) ≡ room) × (length (now starts) ≡ room) × (length (now firsts) ≡ room) ⌝ }
-    ensures leaving { λ r. ⌜ r ≡ can-leave (now (block .entry)) serial ⌝ }
-    ensures lengths { λ r. ⌜ (length (now (order .exit)) ≡ room) × (length (now (starts .exit)) ≡ room) × (length (now (firsts .exit)) ≡ room) ⌝ }
+    ensures { λ r. ⌜ r ≡ can-leave (now (block .entry)) serial ⌝ }
 {
     let mut marks = [0u8; 4096];
     let mut seen = [0u8; 4096];
@@ -46,17 +45,22 @@ fn may_leave(
     }
 }
 
-// The least serial of a volume of at most `left` darts that may go, 0 where there is none. `sizes` has the size of each volume at its
-// least place. One that may not go is struck off.
-pub fn first_leaving(block: &[u64], to: u64, left: usize, sizes: &mut [usize]) -> u64
+// The first volume that may go, with what every asking writes into lent.
+fn first_asked(
+    block: &[u64],
+    to: u64,
+    left: usize,
+    sizes: &mut [usize],
+    order: &mut [usize],
+    starts: &mut [usize],
+    firsts: &mut [usize],
+) -> u64
     requires { ⌜ (is-image rack (now block) ≡ true) × (to ≤ 15) × (to ≡ getD (now block) 0 0 → ⊥) × (length (now sizes) ≡ room) ⌝ }
+    requires { ⌜ (length (now order) ≡ room) × (length (now starts) ≡ room) × (length (now firsts) ≡ room) ⌝ }
     ensures serial { λ r. ⌜ r ≡ getD (going (at (now (sizes .entry))) (now (block .entry)) left) 0 0 ⌝ }
     ensures untried { λ r. ⌜ Untried-in (at (now (sizes .entry))) (now (block .entry)) (now (sizes .exit)) ⌝ }
 {
     let n = block[2] as usize;
-    let mut order = [0usize; 4096];
-    let mut starts = [0usize; 4096];
-    let mut firsts = [0usize; 4096];
     // None of the volumes that start before i may go.
     let mut i = 0;
     while i < n {
@@ -70,10 +74,23 @@ pub fn first_leaving(block: &[u64], to: u64, left: usize, sizes: &mut [usize]) -
             continue;
         }
         let serial = record::field(block, Place(p), 0);
-        if may_leave(block, to, serial, &mut order, &mut starts, &mut firsts) {
+        if may_leave(block, to, serial, order, starts, firsts) {
             return serial;
         }
         sizes[p] = 0;
     }
     0
+}
+
+// The least serial of a volume of at most `left` darts that may go, 0 where there is none. `sizes` has the size of each volume at its
+// least place. One that may not go is struck off.
+pub fn first_leaving(block: &[u64], to: u64, left: usize, sizes: &mut [usize]) -> u64
+    requires { ⌜ (is-image rack (now block) ≡ true) × (to ≤ 15) × (to ≡ getD (now block) 0 0 → ⊥) × (length (now sizes) ≡ room) ⌝ }
+    ensures serial { λ r. ⌜ r ≡ getD (going (at (now (sizes .entry))) (now (block .entry)) left) 0 0 ⌝ }
+    ensures untried { λ r. ⌜ Untried-in (at (now (sizes .entry))) (now (block .entry)) (now (sizes .exit)) ⌝ }
+{
+    let mut order = [0usize; 4096];
+    let mut starts = [0usize; 4096];
+    let mut firsts = [0usize; 4096];
+    first_asked(block, to, left, sizes, &mut order, &mut starts, &mut firsts)
 }

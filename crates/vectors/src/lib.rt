@@ -1,9 +1,15 @@
 // Vectors of the second implementation: a call is played on what a record lends, and compared with what the record tells.
 pub mod cursor; // cursor.rt: numbers and words of a record
 pub mod lent; // lent.rt: lent memory and bytes, filled and compared
+pub mod meshes; // meshes.rt: meshes stored as files, and digests of their blocks
 
+ghost use mathlib.Core.Path.{_≡_};
+ghost use mathlib.Core.Bool.{true};
+ghost use Rattle.model.specs.Values.{finite-bits};
 use answers::Answer;
+use answers::NextMove;
 use answers::Written;
+use memory::point::Point;
 
 // As the record tells.
 pub const AS_TOLD: u32 = 0;
@@ -254,6 +260,108 @@ pub fn check_mesh_case(
     let words = cursor::short(record, 4);
     if words <= mesh.len() {
         return check_on(record, &mut mesh[..words], scratch, told);
+    }
+    PASSED_OVER
+}
+
+// The float of a finite pattern.
+fn finite_float(w: u64) -> f64
+    requires { ⌜ finite-bits w ≡ true ⌝ }
+{
+    f64::from_bits(w)
+}
+
+// The float of a pattern; where the pattern is a NaN's, a NaN: `from_bits` takes none.
+fn float(w: u64) -> f64 {
+    if memory::point::finite_word(w) {
+        return finite_float(w);
+    }
+    let top = f64::from_bits(0x7ff0000000000000);
+    if w == 0x7ff0000000000000 {
+        return top;
+    }
+    if w == 0xfff0000000000000 {
+        return -top;
+    }
+    top - top
+}
+
+// Three floats.
+pub fn point(record: &[u8], at: usize) -> Point {
+    Point {
+        x: float(cursor::number(record, at, 8)),
+        y: float(cursor::number(record, cursor::step(record, at, 8), 8)),
+        z: float(cursor::number(record, cursor::step(record, at, 16), 8)),
+    }
+}
+
+// A number of four bytes.
+fn small(record: &[u8], at: usize) -> u32 {
+    (cursor::number(record, at, 4) % 4294967296) as u32
+}
+
+fn wide(x: u32) -> u64 {
+    x as u64
+}
+
+// Whether a next move is as four words tell: level, blocked or a move, donor, recipient, serial.
+fn move_is(record: &[u8], at: usize, m: NextMove) -> bool {
+    let kind = cursor::number(record, at, 8) == wide(answers::move_kind(m));
+    let donor = cursor::number(record, cursor::step(record, at, 8), 8)
+        == wide(answers::move_donor(m));
+    let recipient = cursor::number(record, cursor::step(record, at, 16), 8)
+        == wide(answers::move_recipient(m));
+    let serial = cursor::number(record, cursor::step(record, at, 24), 8) == answers::move_serial(m);
+    kind & donor & recipient & serial
+}
+
+// The next move by the record's oracle.
+fn asked_move(record: &[u8], mesh: &[u64], scratch: &mut [u64]) -> NextMove {
+    let low = point(record, 12);
+    let high = point(record, 36);
+    nextmove::next_move_by_number(mesh, small(record, 4), small(record, 8), low, high, scratch)
+}
+
+// On a mesh and a scratch of the record's sizes; the scratch stands at a place, the answer behind it.
+fn move_with(record: &[u8], at: usize, mesh: &[u64], scratch: &mut [u64], told: &mut [u64]) -> u32 {
+    lent::words(record, at, told);
+    let end = lent::words(record, at, scratch);
+    if cursor::step(record, end, 36) != record.len() {
+        return UNREADABLE;
+    }
+    let m = asked_move(record, mesh, scratch);
+    let same = lent::same(scratch, told) & move_is(record, cursor::step(record, end, 4), m);
+    verdict(record, answers::move_number(m), same)
+}
+
+// On a mesh of the record's size.
+fn move_on(record: &[u8], mesh: &mut [u64], scratch: &mut [u64], told: &mut [u64]) -> u32 {
+    let at = lent::words(record, 60, mesh);
+    let entries = cursor::short(record, at);
+    if entries <= scratch.len() {
+        if entries <= told.len() {
+            return move_with(
+                record,
+                at,
+                mesh,
+                &mut scratch[..entries],
+                &mut told[..entries],
+            );
+        }
+    }
+    PASSED_OVER
+}
+
+// Next move: oracle, axis, six floats, memory of the mesh, scratch, which stays, the size of the lent answer, the answer.
+pub fn next_move_case(
+    record: &[u8],
+    mesh: &mut [u64],
+    scratch: &mut [u64],
+    told: &mut [u64],
+) -> u32 {
+    let words = cursor::short(record, 60);
+    if words <= mesh.len() {
+        return move_on(record, &mut mesh[..words], scratch, told);
     }
     PASSED_OVER
 }

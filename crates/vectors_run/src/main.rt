@@ -25,6 +25,7 @@ fn name(call: u8) {
         5 => io::write_all(1, b"release"),
         6 => io::write_all(1, b"redirect"),
         7 => io::write_all(1, b"check_mesh"),
+        8 => io::write_all(1, b"next_move"),
         _ => io::write_all(1, b"no call"),
     }
     ;
@@ -48,6 +49,7 @@ fn play(
         5 => vectors::release_case(record, block, told),
         6 => vectors::redirect_case(record, block, told),
         7 => vectors::check_mesh_case(record, mesh, block, told),
+        8 => vectors::next_move_case(record, mesh, block, told),
         _ => vectors::UNREADABLE,
     }
 }
@@ -208,6 +210,7 @@ fn show(counts: &[u64; 512]) {
     show_call(counts, 5);
     show_call(counts, 6);
     show_call(counts, 7);
+    show_call(counts, 8);
     show_found(counts, b"as told: ", vectors::AS_TOLD);
     show_found(counts, b"another answer: ", vectors::OTHER_ANSWER);
     show_found(counts, b"other content: ", vectors::OTHER_CONTENT);
@@ -233,7 +236,7 @@ fn run(
 }
 
 fn main() {
-    let mut input = [0u8; 524288];
+    let mut input = [0u8; 589824];
     let mut mesh = [0u64; 196656];
     let mut block = [0u64; 65552];
     let mut told = [0u64; 65552];

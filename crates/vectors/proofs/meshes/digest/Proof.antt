@@ -1,9 +1,9 @@
--- `rounds_run::digest` meets its contract.
+-- `vectors::meshes::digest` meets its contract.
 -- Assumes nothing.
 use Prim.Native.Nat.{_-_, _≤_}
 use borrow.Author.Needs.{needs}
-use Rattle.rounds_run.proofs.digest.Statement.{statement}
-use Rattle.rounds_run.proofs.digest.Tie as tie
+use Rattle.vectors.proofs.meshes.digest.Statement.{statement}
+use Rattle.vectors.proofs.meshes.digest.Tie as tie
 
 abbrev Inv-loop : tie.InvT-loop
 Inv-loop mesh b sum₀ i₀ sum i =

@@ -1,0 +1,147 @@
+-- `balance::leaving::first_asked` meets its contract. Assumes nothing.
+use Prim.Native.Nat.{_-_}
+use mathlib.Core.Path.{_≡_, refl, sym, ap, _∙_}
+use lib.ListN.{length}
+use Rattle.model.specs.Values.{rack}
+use Rattle.model.specs.Image.{room}
+use Rattle.cells.proofs.Sited.{sited}
+use Rattle.balance.specs.Moves.{can-leave, at}
+use Rattle.balance.proofs.Strikes.{Trying, trying-start, trying-none, trying-large, trying-strike, tried-found, tried-all}
+use native.Mathlib.Omega.{arith}
+use borrow.Author.Needs.{needs}
+use Rattle.balance.proofs.leaving.first_asked.Statement.{statement}
+use Rattle.balance.proofs.leaving.first_asked.Tie as tie
+
+abbrev Inv-loop : tie.InvT-loop
+Inv-loop block to left sizes₀ order₀ starts₀ firsts₀ n i₀ sizes order starts firsts i =
+    Trying (at sizes₀) block left sizes i × (length order ≡ room) × (length starts ≡ room) × (length firsts ≡ room)
+
+abbrev μ-loop : tie.MeasureT-loop
+μ-loop block to left sizes₀ order₀ starts₀ firsts₀ n i₀ sizes order starts firsts i =
+    n - i
+
+shared-slice-read-n : tie.Need-shared-slice-read-n Inv-loop μ-loop
+shared-slice-read-n c =
+    omega (arith, sited rack (c .before .before .before .before .before .before .args .block .now) (c .before .before .before .before .before .before .pre .0 .0) .linked .size)
+
+loop-holds : tie.Need-loop-holds Inv-loop μ-loop
+loop-holds c =
+    (trying-start _ _ _ (c .before .before .before .before .before .before .pre .0 .3), c .before .before .before .before .before .before .pre .1 .0, c .before .before .before .before .before .before .pre .1 .1, c .before .before .before .before .before .before .pre .1 .2)
+
+add-i : tie.Need-add-i Inv-loop μ-loop
+add-i c =
+    omega (arith, c .loop-test .taken, sited rack (c .before .before .before .before .before .before .before .before .args .block .now) (c .before .before .before .before .before .before .before .before .pre .0 .0) .linked .few)
+
+mul-s : tie.Need-mul-s Inv-loop μ-loop
+mul-s c =
+    omega (arith, c .loop-test .taken, sited rack (c .before .before .before .before .before .before .before .before .args .block .now) (c .before .before .before .before .before .before .before .before .pre .0 .0) .linked .few)
+
+slice-read-s : tie.Need-slice-read-s Inv-loop μ-loop
+slice-read-s c =
+    omega (arith, c .before .loop-test .taken, sited rack (c .before .before .before .before .before .before .before .before .before .args .block .now) (c .before .before .before .before .before .before .before .before .before .pre .0 .0) .linked .few, c .before .before .loop .inv .0 .untried .len)
+
+loop-less : tie.Need-loop-less Inv-loop μ-loop
+loop-less c =
+    omega (arith, c .before .before .loop-test .taken)
+
+loop-again : tie.Need-loop-again Inv-loop μ-loop
+loop-again c =
+    (trying-none (c .before .before .before .loop .inv .0) (c .before .before .loop-test .taken) refl (c .if1 .taken), c .before .before .before .loop .inv .1, c .before .before .before .loop .inv .2, c .before .before .before .loop .inv .3)
+
+loop-less-2 : tie.Need-loop-less-2 Inv-loop μ-loop
+loop-less-2 c =
+    omega (arith, c .before .before .before .loop-test .taken)
+
+loop-again-2 : tie.Need-loop-again-2 Inv-loop μ-loop
+loop-again-2 c =
+    (trying-large (c .before .before .before .before .loop .inv .0) (c .before .before .before .loop-test .taken) refl (c .if2 .taken), c .before .before .before .before .loop .inv .1, c .before .before .before .before .loop .inv .2, c .before .before .before .before .loop .inv .3)
+
+field-requires : tie.Need-field-requires Inv-loop μ-loop
+field-requires c κs =
+    (omega (arith, c .before .before .before .loop-test .taken, sited rack (c .before .before .before .before .before .before .before .before .before .before .before .args .block .now) (c .before .before .before .before .before .before .before .before .before .before .before .pre .0 .0) .linked .few), omega arith, sited rack (c .before .before .before .before .before .before .before .before .before .before .before .args .block .now) (c .before .before .before .before .before .before .before .before .before .before .before .pre .0 .0) .linked .size)
+
+may-leave-requires : tie.Need-may-leave-requires Inv-loop μ-loop
+may-leave-requires c κs =
+    ((c .before .before .before .before .before .before .before .before .before .before .before .before .before .before .before .pre .0 .0, c .before .before .before .before .before .before .before .before .before .before .before .before .before .before .before .pre .0 .1, c .before .before .before .before .before .before .before .before .before .before .before .before .before .before .before .pre .0 .2), (c .before .before .before .before .before .before .before .before .loop .inv .1, c .before .before .before .before .before .before .before .before .loop .inv .2, c .before .before .before .before .before .before .before .before .loop .inv .3))
+
+same-length : tie.Need-same-length Inv-loop μ-loop
+same-length c =
+    c .before .before .before .before .before .before .before .before .before .before .before .before .before .before .before .before .loop .inv .0 .untried .len ∙ sym (c .before .before .before .before .before .before .before .before .before .before .before .before .before .before .before .before .before .before .before .before .before .before .before .pre .0 .3)
+
+same-length-2 : tie.Need-same-length-2 Inv-loop μ-loop
+same-length-2 c = search needs
+
+same-length-3 : tie.Need-same-length-3 Inv-loop μ-loop
+same-length-3 c = search needs
+
+same-length-4 : tie.Need-same-length-4 Inv-loop μ-loop
+same-length-4 c = search needs
+
+returns : tie.Need-returns Inv-loop μ-loop
+returns c =
+    (c .before .before .before .before .before .before .before .before .before .before .before .field .ensures ∙ tried-found (c .before .before .before .before .before .before .before .before .before .before .before .before .before .before .before .before .loop .inv .0) (c .before .before .before .before .before .before .before .before .before .before .before .before .before .before .before .loop-test .taken) refl (c .before .before .before .before .before .before .before .before .before .before .before .before .before .if1 .left) (c .before .before .before .before .before .before .before .before .before .before .before .before .if2 .left) (ap (can-leave (c .before .before .before .before .before .before .before .before .before .before .before .before .before .before .before .before .before .before .before .before .before .before .before .args .block .now)) (sym (c .before .before .before .before .before .before .before .before .before .before .before .field .ensures)) ∙ sym (c .before .before .before .before .before .before .before .may-leave .ensures) ∙ c .if3 .taken), c .before .before .before .before .before .before .before .before .before .before .before .before .before .before .before .before .loop .inv .0 .untried)
+
+mul-sizes : tie.Need-mul-sizes Inv-loop μ-loop
+mul-sizes c =
+    omega (arith, c .before .before .before .before .before .before .before .before .before .before .before .before .before .before .before .loop-test .taken, sited rack (c .before .before .before .before .before .before .before .before .before .before .before .before .before .before .before .before .before .before .before .before .before .before .before .args .block .now) (c .before .before .before .before .before .before .before .before .before .before .before .before .before .before .before .before .before .before .before .before .before .before .before .pre .0 .0) .linked .few)
+
+slice-write-sizes : tie.Need-slice-write-sizes Inv-loop μ-loop
+slice-write-sizes c =
+    omega (arith, c .before .before .before .before .before .before .before .before .before .before .before .before .before .before .before .loop-test .taken, sited rack (c .before .before .before .before .before .before .before .before .before .before .before .before .before .before .before .before .before .before .before .before .before .before .before .args .block .now) (c .before .before .before .before .before .before .before .before .before .before .before .before .before .before .before .before .before .before .before .before .before .before .before .pre .0 .0) .linked .few, c .before .before .before .before .before .before .before .before .before .before .before .before .before .before .before .before .loop .inv .0 .untried .len)
+
+loop-less-3 : tie.Need-loop-less-3 Inv-loop μ-loop
+loop-less-3 c =
+    omega (arith, c .before .before .before .before .before .before .before .before .before .before .before .before .before .before .before .loop-test .taken)
+
+loop-again-3 : tie.Need-loop-again-3 Inv-loop μ-loop
+loop-again-3 c =
+    (trying-strike (c .before .before .before .before .before .before .before .before .before .before .before .before .before .before .before .before .loop .inv .0) (sited rack (c .before .before .before .before .before .before .before .before .before .before .before .before .before .before .before .before .before .before .before .before .before .before .before .args .block .now) (c .before .before .before .before .before .before .before .before .before .before .before .before .before .before .before .before .before .before .before .before .before .before .before .pre .0 .0) .linked .few) (c .before .before .before .before .before .before .before .before .before .before .before .before .before .before .before .loop-test .taken) (ap (can-leave (c .before .before .before .before .before .before .before .before .before .before .before .before .before .before .before .before .before .before .before .before .before .before .before .args .block .now)) (sym (c .before .before .before .before .before .before .before .before .before .before .before .field .ensures)) ∙ sym (c .before .before .before .before .before .before .before .may-leave .ensures) ∙ c .if3 .left), search needs, search needs, search needs)
+
+same-length-5 : tie.Need-same-length-5 Inv-loop μ-loop
+same-length-5 c =
+    c .before .loop .inv .0 .untried .len ∙ sym (c .before .before .before .before .before .before .before .before .pre .0 .3)
+
+same-length-6 : tie.Need-same-length-6 Inv-loop μ-loop
+same-length-6 c = search needs
+
+same-length-7 : tie.Need-same-length-7 Inv-loop μ-loop
+same-length-7 c = search needs
+
+same-length-8 : tie.Need-same-length-8 Inv-loop μ-loop
+same-length-8 c = search needs
+
+returns-2 : tie.Need-returns-2 Inv-loop μ-loop
+returns-2 c =
+    (tried-all (c .before .loop .inv .0) (c .loop-test .left), c .before .loop .inv .0 .untried)
+
+pub first-asked-spec : {M : Type 1} → statement M
+first-asked-spec =
+    tie.close
+    (tie.spec
+    Inv-loop
+    μ-loop
+    shared-slice-read-n
+    loop-holds
+    add-i
+    mul-s
+    slice-read-s
+    loop-less
+    loop-again
+    loop-less-2
+    loop-again-2
+    field-requires
+    may-leave-requires
+    same-length
+    same-length-2
+    same-length-3
+    same-length-4
+    returns
+    mul-sizes
+    slice-write-sizes
+    loop-less-3
+    loop-again-3
+    same-length-5
+    same-length-6
+    same-length-7
+    same-length-8
+    returns-2)
