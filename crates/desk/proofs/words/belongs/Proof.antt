@@ -1,0 +1,40 @@
+use Rattle.desk.specs.Words.{is-blank, belongs}
+use native.Mathlib.Omega.{arith}
+use borrow.Author.Needs.{needs}
+use Rattle.desk.proofs.words.belongs.Statement.{statement}
+use Rattle.desk.proofs.words.belongs.Tie as tie
+use Rattle.desk.proofs.words.belongs.Reads as reads
+use Rattle.desk.proofs.words.belongs.Lts as lts
+
+-- src/words.rt:92:25
+enum-told : tie.Need-enum-told
+enum-told c = search needs
+
+-- src/words.rt:93:23
+enum-told-2 : tie.Need-enum-told-2
+enum-told-2 c = search needs
+
+-- src/words.rt:94:23
+enum-told-3 : tie.Need-enum-told-3
+enum-told-3 c = search needs
+
+-- src/words.rt:87:1
+returns : tie.Need-returns
+unfolding belongs is-blank
+returns c =
+    rw (c .enum-told .given .1)
+
+-- src/words.rt:87:1
+returns-2 : tie.Need-returns-2
+unfolding belongs is-blank
+returns-2 c =
+    rw (c .enum-told2 .given .1)
+
+-- src/words.rt:87:1
+returns-3 : tie.Need-returns-3
+unfolding belongs is-blank
+returns-3 c =
+    rw (c .enum-told3 .given .1)
+
+pub belongs-spec : {M : Type 1} → statement M
+belongs-spec = tie.close (tie.spec enum-told enum-told-2 enum-told-3 returns returns-2 returns-3)

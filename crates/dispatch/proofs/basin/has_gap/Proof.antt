@@ -1,0 +1,132 @@
+use mathlib.Core.Path.{_≡_, refl, sym, _∙_}
+use Prim.Native.Nat.{_+_, _*_, _-_, _≤_, _<_}
+use lib.ListN.{length}
+use native.Mathlib.Omega.{arith}
+use borrow.Author.Needs.{needs}
+use Rattle.dispatch.proofs.basin.has_gap.Statement.{statement}
+use Rattle.dispatch.proofs.basin.has_gap.Tie as tie
+use Rattle.dispatch.proofs.basin.has_gap.Reads as reads
+use Rattle.dispatch.proofs.basin.has_gap.Lts as lts
+use Rattle.desk.proofs.names.block.Reads as block-reads
+use Rattle.dispatch.proofs.files.is_there.Reads as is-there-reads
+use Rattle.dispatch.proofs.say.text.Reads as text-reads
+
+abbrev Inv-loop : tie.InvT-loop
+Inv-loop k b₀ t3 t4 t5 b =
+    k ≤ b
+
+abbrev μ-loop : tie.MeasureT-loop
+μ-loop k b₀ t3 t4 t5 b =
+    16 - b
+
+-- src/basin.rt:96:5
+loop-holds : tie.Need-loop-holds Inv-loop μ-loop
+loop-holds c = search needs
+
+-- src/basin.rt:97:29
+block-requires : tie.Need-block-requires Inv-loop μ-loop
+block-requires c κs = search needs
+
+-- src/basin.rt:97:28
+slice-aggregate-is-there : tie.Need-slice-aggregate-is-there Inv-loop μ-loop
+slice-aggregate-is-there c = search needs
+
+-- src/basin.rt:97:12
+is-there-requires : tie.Need-is-there-requires Inv-loop μ-loop
+is-there-requires c κs = search needs
+
+-- src/basin.rt:98:23
+slice-aggregate-text : tie.Need-slice-aggregate-text Inv-loop μ-loop
+slice-aggregate-text c = search needs
+
+-- src/basin.rt:98:13
+text-requires : tie.Need-text-requires Inv-loop μ-loop
+text-requires c κs = search needs
+
+-- src/basin.rt:99:24
+block-requires-2 : tie.Need-block-requires-2 Inv-loop μ-loop
+block-requires-2 c κs = search needs
+
+-- src/basin.rt:99:23
+slice-aggregate-text-2 : tie.Need-slice-aggregate-text-2 Inv-loop μ-loop
+slice-aggregate-text-2 c = search needs
+
+-- src/basin.rt:99:13
+text-requires-2 : tie.Need-text-requires-2 Inv-loop μ-loop
+text-requires-2 c κs = search needs
+
+-- src/basin.rt:100:23
+slice-aggregate-text-3 : tie.Need-slice-aggregate-text-3 Inv-loop μ-loop
+slice-aggregate-text-3 c = search needs
+
+-- src/basin.rt:100:13
+text-requires-3 : tie.Need-text-requires-3 Inv-loop μ-loop
+text-requires-3 c κs = search needs
+
+-- src/basin.rt:101:24
+block-requires-3 : tie.Need-block-requires-3 Inv-loop μ-loop
+block-requires-3 c κs = search needs
+
+-- src/basin.rt:101:23
+slice-aggregate-text-4 : tie.Need-slice-aggregate-text-4 Inv-loop μ-loop
+slice-aggregate-text-4 c = search needs
+
+-- src/basin.rt:101:13
+text-requires-4 : tie.Need-text-requires-4 Inv-loop μ-loop
+text-requires-4 c κs = search needs
+
+-- src/basin.rt:102:23
+slice-aggregate-text-5 : tie.Need-slice-aggregate-text-5 Inv-loop μ-loop
+slice-aggregate-text-5 c = search needs
+
+-- src/basin.rt:102:13
+text-requires-5 : tie.Need-text-requires-5 Inv-loop μ-loop
+text-requires-5 c κs = search needs
+
+-- src/basin.rt:103:13
+returns : tie.Need-returns Inv-loop μ-loop
+returns c = search needs
+
+-- src/basin.rt:105:9
+add-b : tie.Need-add-b Inv-loop μ-loop
+add-b c = search needs
+
+-- src/basin.rt:96:5
+loop-less : tie.Need-loop-less Inv-loop μ-loop
+loop-less c = search needs
+
+-- src/basin.rt:96:5
+loop-again : tie.Need-loop-again Inv-loop μ-loop
+loop-again c = search needs
+
+-- src/basin.rt:94:1
+returns-2 : tie.Need-returns-2 Inv-loop μ-loop
+returns-2 c = search needs
+
+pub has-gap-spec : {M : Type 1} → statement M
+has-gap-spec =
+    tie.close
+    (tie.spec
+    Inv-loop
+    μ-loop
+    loop-holds
+    block-requires
+    slice-aggregate-is-there
+    is-there-requires
+    slice-aggregate-text
+    text-requires
+    block-requires-2
+    slice-aggregate-text-2
+    text-requires-2
+    slice-aggregate-text-3
+    text-requires-3
+    block-requires-3
+    slice-aggregate-text-4
+    text-requires-4
+    slice-aggregate-text-5
+    text-requires-5
+    returns
+    add-b
+    loop-less
+    loop-again
+    returns-2)

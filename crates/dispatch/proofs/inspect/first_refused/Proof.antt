@@ -1,0 +1,101 @@
+use mathlib.Core.Path.{_≡_, refl, sym, _∙_}
+use Prim.Native.Nat.{_+_, _*_, _-_, _≤_, _<_}
+use lib.ListN.{length}
+use native.Mathlib.Omega.{arith}
+use borrow.Author.Needs.{needs}
+use Rattle.dispatch.proofs.inspect.first_refused.Statement.{statement}
+use Rattle.dispatch.proofs.inspect.first_refused.Tie as tie
+use Rattle.dispatch.proofs.inspect.first_refused.Reads as reads
+use Rattle.dispatch.proofs.inspect.first_refused.Lts as lts
+use Rattle.answers.proofs.answer_number.Reads as answer-number-reads
+use Rattle.checkmesh.proofs.check_mesh.Reads as check-mesh-reads
+
+abbrev Inv-loop : tie.InvT-loop
+Inv-loop question mesh scratch₀ k b₀ scratch b =
+    (length scratch ≡ length scratch₀) × (k * 32776 ≤ length mesh)
+
+abbrev μ-loop : tie.MeasureT-loop
+μ-loop question mesh scratch₀ k b₀ scratch b =
+    k - b
+
+-- src/inspect.rt:39:5
+loop-holds : tie.Need-loop-holds Inv-loop μ-loop
+loop-holds c = search needs
+
+-- src/inspect.rt:40:19
+mul-end : tie.Need-mul-end Inv-loop μ-loop
+mul-end c = search needs
+
+-- src/inspect.rt:40:19
+add-end : tie.Need-add-end Inv-loop μ-loop
+add-end c = search needs
+
+-- src/inspect.rt:41:57
+sub-check-mesh : tie.Need-sub-check-mesh Inv-loop μ-loop
+sub-check-mesh c = search needs
+
+-- src/inspect.rt:41:57
+part-check-mesh-start : tie.Need-part-check-mesh-start Inv-loop μ-loop
+part-check-mesh-start c = search needs
+
+-- src/inspect.rt:41:57
+part-check-mesh-end : tie.Need-part-check-mesh-end Inv-loop μ-loop
+part-check-mesh-end c = search needs
+
+-- src/inspect.rt:41:35
+check-mesh-requires : tie.Need-check-mesh-requires Inv-loop μ-loop
+check-mesh-requires c κs = search needs
+
+-- src/inspect.rt:41:12
+answer-number-requires : tie.Need-answer-number-requires Inv-loop μ-loop
+answer-number-requires c κs = search needs
+
+-- src/inspect.rt:42:13
+same-length : tie.Need-same-length Inv-loop μ-loop
+same-length c = search needs
+
+-- src/inspect.rt:42:13
+returns : tie.Need-returns Inv-loop μ-loop
+returns c = search needs
+
+-- src/inspect.rt:44:9
+add-b : tie.Need-add-b Inv-loop μ-loop
+add-b c = search needs
+
+-- src/inspect.rt:39:5
+loop-less : tie.Need-loop-less Inv-loop μ-loop
+loop-less c = search needs
+
+-- src/inspect.rt:39:5
+loop-again : tie.Need-loop-again Inv-loop μ-loop
+loop-again c = search needs
+
+-- src/inspect.rt:36:1
+same-length-2 : tie.Need-same-length-2 Inv-loop μ-loop
+same-length-2 c = search needs
+
+-- src/inspect.rt:36:1
+returns-2 : tie.Need-returns-2 Inv-loop μ-loop
+returns-2 c = search needs
+
+pub first-refused-spec : {M : Type 1} → statement M
+first-refused-spec =
+    tie.close
+    (tie.spec
+    Inv-loop
+    μ-loop
+    loop-holds
+    mul-end
+    add-end
+    sub-check-mesh
+    part-check-mesh-start
+    part-check-mesh-end
+    check-mesh-requires
+    answer-number-requires
+    same-length
+    returns
+    add-b
+    loop-less
+    loop-again
+    same-length-2
+    returns-2)

@@ -1,0 +1,97 @@
+-- `tally::critical::count_critical` meets its contract. The loop's invariant: the count of the faces before f that are critical.
+-- The measure is what is left of the faces. Assumes nothing.
+use mathlib.Core.Path.{_≡_, refl, sym, ap, _∙_}
+use Prim.Native.Nat.{_-_, _≤_}
+use lib.ListN.{length, take}
+use borrow.Author.Tests.{not-true, not-false}
+use Rattle.model.specs.Lists.{keep, tab}
+use Rattle.model.specs.Cells.{faces, start-of}
+use Rattle.model.specs.Image.{column}
+use Rattle.cells.proofs.StartLaws.{in-order-few, count-skip, count-one, count-all}
+use Rattle.tally.specs.Tally.{critical-at}
+use Rattle.tally.proofs.CriticalFaces.{first-dart}
+use native.Mathlib.Omega.{arith}
+use Rattle.tally.proofs.critical.count_critical.Statement.{statement}
+use Rattle.tally.proofs.critical.count_critical.Tie as tie
+
+abbrev Inv-loop : tie.InvT-loop
+Inv-loop block n out starts darts count critical₀ f₀ critical f =
+    (f ≤ count) × (critical ≤ f) × (critical ≡ length (keep (λ l. critical-at block (start-of l)) (take f (faces (column block 1) (tab (λ p. p) n)))))
+
+abbrev μ-loop : tie.MeasureT-loop
+μ-loop block n out starts darts count critical₀ f₀ critical f =
+    count - f
+
+loop-holds : tie.Need-loop-holds Inv-loop μ-loop
+loop-holds c =
+    (omega arith, omega arith, refl)
+
+mul-i : tie.Need-mul-i Inv-loop μ-loop
+mul-i c =
+    omega (arith, c .loop-test .taken, in-order-few (c .before .before .before .before .before .pre .1) .1)
+
+shared-slice-read-i : tie.Need-shared-slice-read-i Inv-loop μ-loop
+shared-slice-read-i c =
+    omega (arith, c .before .loop-test .taken, in-order-few (c .before .before .before .before .before .before .pre .1) .1, c .before .before .before .before .before .before .pre .1 .starts-size)
+
+mul-p : tie.Need-mul-p Inv-loop μ-loop
+mul-p c =
+    omega (arith, first-dart (c .before .before .before .before .before .before .pre .0) (c .before .before .before .before .before .before .pre .1) (c .before .before .loop .f) (c .before .loop-test .taken) .0, in-order-few (c .before .before .before .before .before .before .pre .1) .0)
+
+shared-slice-read-p : tie.Need-shared-slice-read-p Inv-loop μ-loop
+shared-slice-read-p c =
+    omega (arith, first-dart (c .before .before .before .before .before .before .before .pre .0) (c .before .before .before .before .before .before .before .pre .1) (c .before .before .before .loop .f) (c .before .before .loop-test .taken) .0, in-order-few (c .before .before .before .before .before .before .before .pre .1) .0, c .before .before .before .before .before .before .before .pre .1 .out-size)
+
+add-f : tie.Need-add-f Inv-loop μ-loop
+add-f c =
+    omega (arith, c .before .before .loop-test .taken, in-order-few (c .before .before .before .before .before .before .before .pre .1) .1)
+
+is-critical-requires : tie.Need-is-critical-requires Inv-loop μ-loop
+is-critical-requires c κs =
+    (omega (arith, first-dart (c .before .before .before .before .before .before .before .pre .0) (c .before .before .before .before .before .before .before .pre .1) (c .before .before .before .loop .f) (c .before .before .loop-test .taken) .2, c .before .before .before .before .before .before .before .pre .0 .few), c .before .before .before .before .before .before .before .pre .0 .size)
+
+loop-less : tie.Need-loop-less Inv-loop μ-loop
+loop-less c =
+    omega (arith, c .before .before .before .before .loop-test .taken)
+
+loop-again : tie.Need-loop-again Inv-loop μ-loop
+loop-again c =
+    let at = first-dart (c .before .before .before .before .before .before .before .before .before .pre .0) (c .before .before .before .before .before .before .before .before .before .pre .1) (c .before .before .before .before .before .loop .f) (c .before .before .before .before .loop-test .taken) .1 in
+    (omega (arith, c .before .before .before .before .loop-test .taken), omega (arith, c .before .before .before .before .before .loop .inv .1), count-skip (λ l. critical-at (c .before .before .before .before .before .before .before .before .before .args .block .now) (start-of l)) (faces (column (c .before .before .before .before .before .before .before .before .before .args .block .now) 1) (tab (λ p. p) (c .before .before .before .before .before .before .before .before .before .args .n))) (c .before .before .before .before .before .loop .f) _ (c .before .before .before .before .before .loop .inv .2) (omega (arith, c .before .before .before .before .loop-test .taken, c .before .before .before .before .before .before .before .before .before .pre .1 .count-is)) (sym (c .before .is-critical .ensures ∙ ap (critical-at (c .before .before .before .before .before .before .before .before .before .args .block .now)) at) ∙ not-true _ (c .if1 .taken)))
+
+add-critical : tie.Need-add-critical Inv-loop μ-loop
+add-critical c =
+    omega (arith, c .before .before .before .before .before .loop .inv .1, c .before .before .before .before .loop-test .taken, in-order-few (c .before .before .before .before .before .before .before .before .before .pre .1) .1)
+
+loop-less-2 : tie.Need-loop-less-2 Inv-loop μ-loop
+loop-less-2 c =
+    omega (arith, c .before .before .before .before .loop-test .taken)
+
+loop-again-2 : tie.Need-loop-again-2 Inv-loop μ-loop
+loop-again-2 c =
+    let at = first-dart (c .before .before .before .before .before .before .before .before .before .pre .0) (c .before .before .before .before .before .before .before .before .before .pre .1) (c .before .before .before .before .before .loop .f) (c .before .before .before .before .loop-test .taken) .1 in
+    (omega (arith, c .before .before .before .before .loop-test .taken), omega (arith, c .before .before .before .before .before .loop .inv .1), count-one (λ l. critical-at (c .before .before .before .before .before .before .before .before .before .args .block .now) (start-of l)) (faces (column (c .before .before .before .before .before .before .before .before .before .args .block .now) 1) (tab (λ p. p) (c .before .before .before .before .before .before .before .before .before .args .n))) (c .before .before .before .before .before .loop .f) _ (c .before .before .before .before .before .loop .inv .2) (omega (arith, c .before .before .before .before .loop-test .taken, c .before .before .before .before .before .before .before .before .before .pre .1 .count-is)) (sym (c .before .is-critical .ensures ∙ ap (critical-at (c .before .before .before .before .before .before .before .before .before .args .block .now)) at) ∙ not-false _ (c .if1 .left)))
+
+returns : tie.Need-returns Inv-loop μ-loop
+returns c =
+    count-all (λ l. critical-at (c .before .before .before .before .before .args .block .now) (start-of l)) (faces (column (c .before .before .before .before .before .args .block .now) 1) (tab (λ p. p) (c .before .before .before .before .before .args .n))) (c .before .loop .f) _ (c .before .loop .inv .2) (omega (arith, c .loop-test .left, c .before .before .before .before .before .pre .1 .count-is))
+
+pub count-critical-spec : {M : Type 1} → statement M
+count-critical-spec =
+    tie.close
+    (tie.spec
+    Inv-loop
+    μ-loop
+    loop-holds
+    mul-i
+    shared-slice-read-i
+    mul-p
+    shared-slice-read-p
+    add-f
+    is-critical-requires
+    loop-less
+    loop-again
+    add-critical
+    loop-less-2
+    loop-again-2
+    returns)

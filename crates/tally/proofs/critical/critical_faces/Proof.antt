@@ -1,0 +1,67 @@
+-- `tally::critical::critical_faces` meets its contract: with every place marked, message order has all faces of the block. Assumes nothing.
+use mathlib.Core.Path.{refl, _∙_}
+use Prim.Native.Nat.{ℕ}
+use lib.ListN.{getD, length-replicate}
+use Rattle.model.specs.Values.{rack}
+use Rattle.model.specs.Image.{room}
+use Rattle.cells.proofs.Sited.{sited}
+use Rattle.tally.proofs.CriticalFaces.{all-closed, all-count, order-all, critical-count}
+use native.Mathlib.Omega.{arith}
+use borrow.Author.Needs.{needs}
+use Rattle.tally.proofs.critical.critical_faces.Statement.{statement}
+use Rattle.tally.proofs.critical.critical_faces.Tie as tie
+
+shared-slice-read-n : tie.Need-shared-slice-read-n
+shared-slice-read-n c =
+    omega (arith, sited rack (c .before .before .args .block .now) (c .before .before .pre) .linked .size)
+
+slice-aggregate-message-order : tie.Need-slice-aggregate-message-order
+slice-aggregate-message-order c = search needs
+
+slice-aggregate-message-order-2 : tie.Need-slice-aggregate-message-order-2
+slice-aggregate-message-order-2 c = search needs
+
+slice-aggregate-message-order-3 : tie.Need-slice-aggregate-message-order-3
+slice-aggregate-message-order-3 c = search needs
+
+slice-aggregate-message-order-4 : tie.Need-slice-aggregate-message-order-4
+slice-aggregate-message-order-4 c = search needs
+
+message-order-requires : tie.Need-message-order-requires
+message-order-requires c κs =
+    let m = c .before .before .before .before .before .before .args .block .now in
+    let ok = c .before .before .before .before .before .before .pre in
+    let linked = sited rack m ok .linked in
+    ((linked, length-replicate {A = ℕ} room 1, all-closed linked, all-count (getD m 2 0) (linked .few)), (length-replicate {A = ℕ} room 0, length-replicate {A = ℕ} room 0, refl))
+
+slice-aggregate-count-critical : tie.Need-slice-aggregate-count-critical
+slice-aggregate-count-critical c = search needs
+
+slice-aggregate-count-critical-2 : tie.Need-slice-aggregate-count-critical-2
+slice-aggregate-count-critical-2 c = search needs
+
+count-critical-requires : tie.Need-count-critical-requires
+count-critical-requires c κs =
+    let m = c .before .before .before .before .before .before .before .before .before .before .before .before .args .block .now in
+    let ok = c .before .before .before .before .before .before .before .before .before .before .before .before .pre in
+    let linked = sited rack m ok .linked in
+    (linked, order-all m (getD m 2 0) (linked .few) (c .before .before .before .before .before .message-order .ensures))
+
+returns : tie.Need-returns
+returns c =
+    c .count-critical .ensures ∙ critical-count (c .before .before .before .before .before .before .before .before .before .before .before .before .before .args .block .now) (c .before .before .before .before .before .before .before .before .before .before .before .before .before .pre)
+
+pub critical-faces-spec : {M : Type 1} → statement M
+critical-faces-spec =
+    tie.close
+    (tie.spec
+    shared-slice-read-n
+    slice-aggregate-message-order
+    slice-aggregate-message-order-2
+    slice-aggregate-message-order-3
+    slice-aggregate-message-order-4
+    message-order-requires
+    slice-aggregate-count-critical
+    slice-aggregate-count-critical-2
+    count-critical-requires
+    returns)
