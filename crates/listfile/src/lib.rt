@@ -1,11 +1,26 @@
 // What the listing program prints for a file: its listing, `refused N`, or `too long`.
 ghost use Prim.Native.Nat.{_≤_};
-ghost use lib.ListN.{length};
+ghost use lib.ListN.{length, replicate};
 ghost use Rattle.model.specs.Values.{rack};
-ghost use Rattle.model.specs.Listing.{listed};
+ghost use Rattle.model.specs.Image.{words};
+ghost use Rattle.model.specs.Calls.{read-file};
+ghost use Rattle.model.specs.Listing.{listing-of, listed};
 ghost use Rattle.listing.specs.Printed.{Printed, listing-room};
 use answers::Answer;
 
+// Of a file of any length.
+pub fn list_whole(file: &[u8], out: &mut [u8]) -> usize
+    requires { ⌜ listing-room ≤ length (now out) ⌝ }
+    ensures { λ r. ⌜ Printed (listing-of (read-file rack (now (file .entry)) (replicate words 0))) (now (out .entry)) (now (out .exit)) r ⌝ }
+{
+    let mut block = [0u64; 32776];
+    match readfile::read_file(file, &mut block) {
+        Answer::Served => listing::put_listing(&block, out),
+        Answer::Refused(r) => listing::put_refused(answers::refusal_number(r), out),
+    }
+}
+
+// Of a file of at most 65,536 bytes.
 pub fn list_file(file: &[u8], out: &mut [u8]) -> usize
     requires { ⌜ listing-room ≤ length (now out) ⌝ }
     ensures { λ r. ⌜ Printed (listed rack (now (file .entry))) (now (out .entry)) (now (out .exit)) r ⌝ }
@@ -13,9 +28,5 @@ pub fn list_file(file: &[u8], out: &mut [u8]) -> usize
     if 65536 < file.len() {
         return listing::put_too_long(out);
     }
-    let mut block = [0u64; 32776];
-    match readfile::read_file(file, &mut block) {
-        Answer::Served => listing::put_listing(&block, out),
-        Answer::Refused(r) => listing::put_refused(answers::refusal_number(r), out),
-    }
+    list_whole(file, out)
 }

@@ -14,10 +14,10 @@ use Rattle.theory.proofs.ImageLaws.{is-image-of}
 use Rattle.theory.proofs.DemandTwo.{read-as}
 use Rattle.answers.specs.Answers.{Gives}
 
-of-served : (r : Result (Unit {0})) {lent : List ℕ} → Gives r (served tt) lent → listing-of r ≡ listing (block-in lent)
+pub of-served : (r : Result (Unit {0})) {lent : List ℕ} → Gives r (served tt) lent → listing-of r ≡ listing (block-in lent)
 of-served r g = rw (← g .answer, ← g .left)
 
-of-refused : (r : Result (Unit {0})) {n : ℕ} {lent : List ℕ} → Gives r (refused n) lent → listing-of r ≡ bytes "refused " ++ decimal n ++ bytes "\n"
+pub of-refused : (r : Result (Unit {0})) {n : ℕ} {lent : List ℕ} → Gives r (refused n) lent → listing-of r ≡ bytes "refused " ++ decimal n ++ bytes "\n"
 of-refused r g = rw (← g .answer)
 
 module _ (lim : Limits) (file : List ℕ) where
@@ -25,14 +25,9 @@ module _ (lim : Limits) (file : List ℕ) where
   unfolding listed
   listed-long h = rw (lt-ltb 65536 (length file) h)
 
-  pub listed-served : {lent : List ℕ} → length file ≤ 65536 → Gives (read-file lim file (replicate words 0)) (served tt) lent → listed lim file ≡ listing (block-in lent)
+  pub listed-short : length file ≤ 65536 → listed lim file ≡ listing-of (read-file lim file (replicate words 0))
   unfolding listed
-  listed-served h g = rw (le-ltb 65536 (length file) h) (of-served (read-file lim file (replicate words 0)) g)
-
-  pub listed-refused : {n : ℕ} {lent : List ℕ} → length file ≤ 65536 → Gives (read-file lim file (replicate words 0)) (refused n) lent
-      → listed lim file ≡ bytes "refused " ++ decimal n ++ bytes "\n"
-  unfolding listed
-  listed-refused h g = rw (le-ltb 65536 (length file) h) (of-refused (read-file lim file (replicate words 0)) g)
+  listed-short h = rw (le-ltb 65536 (length file) h)
 
   -- what is read may be listed
   pub served-image : (m : List ℕ) {lent : List ℕ} → lim .block-darts ≤ room → Bytes file → Gives (read-file lim file m) (served tt) lent → is-image lim lent ≡ true

@@ -1,82 +1,40 @@
-use mir.Facts.{fits-lt-pow}
 use Rattle.model.specs.Values.{rack}
-use Rattle.listing.proofs.Listed.{listed-long, listed-served, listed-refused, served-image}
-use Rattle.listfile.proofs.Texts.{byte-list, printed-as, printed-number, gives-served, gives-refused}
+use Rattle.listing.proofs.Listed.{listed-long, listed-short}
+use Rattle.listfile.proofs.Texts.{printed-as}
 use native.Mathlib.Omega.{arith}
 use borrow.Author.Needs.{needs}
 use Rattle.listfile.proofs.list_file.Statement.{statement}
 use Rattle.listfile.proofs.list_file.Tie as tie
 use Rattle.listfile.proofs.list_file.Reads as reads
 use Rattle.listfile.proofs.list_file.Lts as lts
-use Rattle.answers.proofs.refusal_number.Reads as refusal-number-reads
-use Rattle.listing.proofs.put_listing.Reads as put-listing-reads
-use Rattle.listing.proofs.put_refused.Reads as put-refused-reads
+use Rattle.listfile.proofs.list_whole.Reads as list-whole-reads
 use Rattle.listing.proofs.put_too_long.Reads as put-too-long-reads
-use Rattle.readfile.proofs.read_file.Reads as read-file-reads
 
--- src/lib.rt:14:9
+-- src/lib.rt:29:9
 put-too-long-requires : tie.Need-put-too-long-requires
 put-too-long-requires c κs = search needs
 
--- src/lib.rt:14:9
+-- src/lib.rt:29:9
 same-length : tie.Need-same-length
 same-length c = search needs
 
--- src/lib.rt:14:9
+-- src/lib.rt:29:9
 returns : tie.Need-returns
 returns c =
     printed-as (listed-long rack _ (omega (arith, c .before .before .before .before .if1 .taken))) (c .before .before .put-too-long .ensures)
 
--- src/lib.rt:17:37
-slice-aggregate-read-file : tie.Need-slice-aggregate-read-file
-slice-aggregate-read-file c = search needs
+-- src/lib.rt:31:5
+list-whole-requires : tie.Need-list-whole-requires
+list-whole-requires c κs = search needs
 
--- src/lib.rt:17:11
-read-file-requires : tie.Need-read-file-requires
-read-file-requires c κs = search needs
-
--- src/lib.rt:18:48
-enum-told : tie.Need-enum-told
-enum-told c = search needs
-
--- src/lib.rt:18:48
-slice-aggregate-put-listing : tie.Need-slice-aggregate-put-listing
-slice-aggregate-put-listing c = search needs
-
--- src/lib.rt:18:27
-put-listing-requires : tie.Need-put-listing-requires
-put-listing-requires c κs =
-    (served-image rack (c .before .before .before .before .before .before .before .before .before .before .args .file .now) _ (omega arith) (byte-list (c .before .before .before .before .before .before .before .before .before .before .args .file .now) (λ i. fits-lt-pow (c .before .before .before .before .before .before .before .before .before .shared-slice-known .given i))) (gives-served (c .before .before .enum-told .given .1) (c .before .before .before .before .before .read-file .ensures)), c .before .before .before .before .before .before .before .before .before .before .pre)
-
--- src/lib.rt:19:25
-enum-known-r : tie.Need-enum-known-r
-enum-known-r c = search needs
-
--- src/lib.rt:19:52
-refusal-number-requires : tie.Need-refusal-number-requires
-refusal-number-requires c κs = search needs
-
--- src/lib.rt:19:31
-put-refused-requires : tie.Need-put-refused-requires
-put-refused-requires c κs = search needs
-
--- src/lib.rt:9:1
+-- src/lib.rt:24:1
 same-length-2 : tie.Need-same-length-2
 same-length-2 c = search needs
 
--- src/lib.rt:9:1
+-- src/lib.rt:24:1
 returns-2 : tie.Need-returns-2
 returns-2 c =
-    printed-as (listed-served rack _ (omega (arith, c .before .before .before .before .before .before .before .before .before .before .if1 .left)) (gives-served (c .before .before .before .before .before .enum-told .given .1) (c .before .before .before .before .before .before .before .before .read-file .ensures))) (c .before .before .put-listing .ensures)
-
--- src/lib.rt:9:1
-same-length-3 : tie.Need-same-length-3
-same-length-3 c = search needs
-
--- src/lib.rt:9:1
-returns-3 : tie.Need-returns-3
-returns-3 c =
-    printed-number (c .before .before .before .before .refusal-number .ensures) (listed-refused rack _ (omega (arith, c .before .before .before .before .before .before .before .before .before .before .before .if1 .left)) (gives-refused (c .before .before .before .before .before .before .r .given .1) (c .before .before .before .before .before .before .before .before .before .read-file .ensures))) (c .before .before .put-refused .ensures)
+    printed-as (listed-short rack _ (omega (arith, c .before .before .before .before .if1 .left))) (c .before .before .list-whole .ensures)
 
 pub list-file-spec : {M : Type 1} → statement M
 list-file-spec =
@@ -85,15 +43,6 @@ list-file-spec =
     put-too-long-requires
     same-length
     returns
-    slice-aggregate-read-file
-    read-file-requires
-    enum-told
-    slice-aggregate-put-listing
-    put-listing-requires
-    enum-known-r
-    refusal-number-requires
-    put-refused-requires
+    list-whole-requires
     same-length-2
-    returns-2
-    same-length-3
-    returns-3)
+    returns-2)

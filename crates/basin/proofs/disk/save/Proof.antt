@@ -1,0 +1,97 @@
+use mathlib.Core.Path.{_≡_, refl, sym, _∙_}
+use Prim.Native.Nat.{_+_, _*_, _-_, _≤_, _<_}
+use lib.ListN.{length}
+use borrow.Author.Needs.{needs}
+use Rattle.basin.proofs.disk.save.Statement.{statement}
+use Rattle.basin.proofs.disk.save.Tie as tie
+
+abbrev Inv-loop : tie.InvT-loop
+Inv-loop k mesh room₀ i₀ t6 t7 t8 t9 room i =
+    (length room ≡ length room₀) × (i ≤ 34)
+
+abbrev μ-loop : tie.MeasureT-loop
+μ-loop k mesh room₀ i₀ t6 t7 t8 t9 room i =
+    34 - i
+
+loop-holds : tie.Need-loop-holds Inv-loop μ-loop
+loop-holds c = search needs
+
+save-requires : tie.Need-save-requires Inv-loop μ-loop
+save-requires c κs = search needs
+
+carry-out-requires : tie.Need-carry-out-requires Inv-loop μ-loop
+carry-out-requires c κs = search needs
+
+slice-aggregate-failed : tie.Need-slice-aggregate-failed Inv-loop μ-loop
+slice-aggregate-failed c = search needs
+
+slice-aggregate-failed-2 : tie.Need-slice-aggregate-failed-2 Inv-loop μ-loop
+slice-aggregate-failed-2 c = search needs
+
+failed-requires : tie.Need-failed-requires Inv-loop μ-loop
+failed-requires c κs = search needs
+
+mend-requires : tie.Need-mend-requires Inv-loop μ-loop
+mend-requires c κs = search needs
+
+same-length : tie.Need-same-length Inv-loop μ-loop
+same-length c = search needs
+
+returns : tie.Need-returns Inv-loop μ-loop
+returns c = search needs
+
+add-i : tie.Need-add-i Inv-loop μ-loop
+add-i c = search needs
+
+loop-less : tie.Need-loop-less Inv-loop μ-loop
+loop-less c = search needs
+
+loop-again : tie.Need-loop-again Inv-loop μ-loop
+loop-again c = search needs
+
+slice-aggregate-text : tie.Need-slice-aggregate-text Inv-loop μ-loop
+slice-aggregate-text c = search needs
+
+text-requires : tie.Need-text-requires Inv-loop μ-loop
+text-requires c κs = search needs
+
+number-requires : tie.Need-number-requires Inv-loop μ-loop
+number-requires c κs = search needs
+
+slice-aggregate-text-2 : tie.Need-slice-aggregate-text-2 Inv-loop μ-loop
+slice-aggregate-text-2 c = search needs
+
+text-requires-2 : tie.Need-text-requires-2 Inv-loop μ-loop
+text-requires-2 c κs = search needs
+
+same-length-2 : tie.Need-same-length-2 Inv-loop μ-loop
+same-length-2 c = search needs
+
+returns-2 : tie.Need-returns-2 Inv-loop μ-loop
+returns-2 c = search needs
+
+pub save-spec : {M : Type 1} → statement M
+save-spec =
+    tie.close
+    (tie.spec
+    Inv-loop
+    μ-loop
+    loop-holds
+    save-requires
+    carry-out-requires
+    slice-aggregate-failed
+    slice-aggregate-failed-2
+    failed-requires
+    mend-requires
+    same-length
+    returns
+    add-i
+    loop-less
+    loop-again
+    slice-aggregate-text
+    text-requires
+    number-requires
+    slice-aggregate-text-2
+    text-requires-2
+    same-length-2
+    returns-2)

@@ -1,0 +1,19 @@
+use Rattle.model.specs.Listing.{bytes}
+use Rattle.desk.specs.Names.{new-name}
+use borrow.Author.Needs.{needs}
+use Rattle.desk.proofs.names.new_block.Statement.{statement}
+use Rattle.desk.proofs.names.new_block.Tie as tie
+
+tens-requires : tie.Need-tens-requires
+tens-requires c κs = search needs
+
+ones-requires : tie.Need-ones-requires
+ones-requires c κs = search needs
+
+returns : tie.Need-returns
+unfolding new-name bytes
+returns c =
+    rw (c .before .tens .ensures, c .ones .ensures)
+
+pub new-block-spec : {M : Type 1} → statement M
+new-block-spec = tie.close (tie.spec tens-requires ones-requires returns)

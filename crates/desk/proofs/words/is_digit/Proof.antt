@@ -1,0 +1,12 @@
+use mathlib.Core.Path.{refl}
+use Rattle.desk.specs.Words.{is-digit}
+use Rattle.desk.proofs.words.is_digit.Statement.{statement}
+use Rattle.desk.proofs.words.is_digit.Tie as tie
+
+returns : tie.Need-returns
+unfolding is-digit
+returns c =
+    refl
+
+pub is-digit-spec : {M : Type 1} → statement M
+is-digit-spec = tie.close (tie.spec returns)

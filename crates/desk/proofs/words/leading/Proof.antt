@@ -1,0 +1,61 @@
+use borrow.Author.Tests.{not-true, not-false}
+use mathlib.Core.Path.{_≡_, refl, sym, _∙_}
+use Prim.Native.Nat.{_+_, _-_, _≤_}
+use lib.ListN.{length, drop}
+use Rattle.desk.specs.Words.{belongs, leading}
+use Rattle.desk.proofs.Scans.{leading-on, leading-stop, leading-end, leading-start}
+use native.Mathlib.Omega.{arith}
+use borrow.Author.Needs.{needs}
+use Rattle.desk.proofs.words.leading.Statement.{statement}
+use Rattle.desk.proofs.words.leading.Tie as tie
+
+abbrev Inv-loop : tie.InvT-loop
+Inv-loop kind text i₀ i =
+    (i ≤ length text) × (i + leading (belongs kind) (drop i text) ≡ leading (belongs kind) text)
+
+abbrev μ-loop : tie.MeasureT-loop
+μ-loop kind text i₀ i =
+    length text - i
+
+loop-holds : tie.Need-loop-holds Inv-loop μ-loop
+loop-holds c =
+    (omega arith, leading-start (belongs (c .before .args .kind)) _)
+
+shared-slice-read-belongs : tie.Need-shared-slice-read-belongs Inv-loop μ-loop
+shared-slice-read-belongs c = search needs
+
+belongs-requires : tie.Need-belongs-requires Inv-loop μ-loop
+belongs-requires c κs = search needs
+
+returns : tie.Need-returns Inv-loop μ-loop
+returns c =
+    (sym (leading-stop (belongs (c .before .before .before .before .before .before .args .kind)) (c .before .before .before .before .before .before .args .text .now) (c .before .before .before .before .loop .i) (omega arith) (sym (c .before .belongs .ensures) ∙ not-true _ (c .if1 .taken))) ∙ c .before .before .before .before .loop .inv .1, omega arith)
+
+add-i : tie.Need-add-i Inv-loop μ-loop
+add-i c = search needs
+
+loop-less : tie.Need-loop-less Inv-loop μ-loop
+loop-less c = search needs
+
+loop-again : tie.Need-loop-again Inv-loop μ-loop
+loop-again c =
+    (omega arith, sym (leading-on (belongs (c .before .before .before .before .before .before .args .kind)) (c .before .before .before .before .before .before .args .text .now) (c .before .before .before .before .loop .i) (omega arith) (sym (c .before .belongs .ensures) ∙ not-false _ (c .if1 .left))) ∙ c .before .before .before .before .loop .inv .1)
+
+returns-2 : tie.Need-returns-2 Inv-loop μ-loop
+returns-2 c =
+    (sym (leading-end (belongs (c .before .before .before .args .kind)) (c .before .before .before .args .text .now) (c .before .loop .i) (omega arith)) ∙ c .before .loop .inv .1, omega arith)
+
+pub leading-spec : {M : Type 1} → statement M
+leading-spec =
+    tie.close
+    (tie.spec
+    Inv-loop
+    μ-loop
+    loop-holds
+    shared-slice-read-belongs
+    belongs-requires
+    returns
+    add-i
+    loop-less
+    loop-again
+    returns-2)

@@ -1,0 +1,86 @@
+use borrow.Author.Tests.{not-true, not-false}
+use mathlib.Core.Path.{_≡_, refl, sym, _∙_}
+use Prim.Native.Nat.{_+_, _*_, _-_, _^_, _≤_, _<_}
+use lib.ListN.{length, drop}
+use Rattle.desk.specs.Words.{digits-from, number-in}
+use Rattle.desk.proofs.Scans.{digits-on, digits-no-digit, digits-too-many, digits-end, number-some, number-none}
+use native.Mathlib.Omega.{arith}
+use borrow.Author.Needs.{needs}
+use Rattle.desk.proofs.words.number_in.Statement.{statement}
+use Rattle.desk.proofs.words.number_in.Tie as tie
+
+abbrev Inv-loop : tie.InvT-loop
+Inv-loop text n₀ i₀ n i =
+    (i ≤ length text) × (n < 2 ^ 32) × (digits-from n (drop i text) ≡ number-in text)
+
+abbrev μ-loop : tie.MeasureT-loop
+μ-loop text n₀ i₀ n i =
+    length text - i
+
+returns : tie.Need-returns Inv-loop μ-loop
+returns c =
+    number-none _ (c .if1 .taken)
+
+loop-holds : tie.Need-loop-holds Inv-loop μ-loop
+loop-holds c =
+    (omega arith, omega arith, number-some _ (omega arith))
+
+shared-slice-read-b : tie.Need-shared-slice-read-b Inv-loop μ-loop
+shared-slice-read-b c = search needs
+
+is-digit-requires : tie.Need-is-digit-requires Inv-loop μ-loop
+is-digit-requires c κs = search needs
+
+returns-2 : tie.Need-returns-2 Inv-loop μ-loop
+returns-2 c =
+    sym (digits-no-digit (c .before .before .before .before .before .before .before .args .text .now) (c .before .before .before .before .loop .n) (c .before .before .before .before .loop .i) (omega arith) (sym (c .before .is-digit .ensures) ∙ not-true _ (c .if2 .taken))) ∙ c .before .before .before .before .loop .inv .2
+
+mul-v : tie.Need-mul-v Inv-loop μ-loop
+mul-v c = search needs
+
+digit-requires : tie.Need-digit-requires Inv-loop μ-loop
+digit-requires c κs =
+    sym (c .before .is-digit .ensures) ∙ not-false _ (c .if2 .left)
+
+add-v : tie.Need-add-v Inv-loop μ-loop
+add-v c =
+    omega (arith, c .digit .ensures .1)
+
+returns-3 : tie.Need-returns-3 Inv-loop μ-loop
+returns-3 c =
+    sym (digits-too-many (c .before .before .before .before .before .before .before .before .before .args .text .now) (c .before .before .before .before .before .before .loop .n) (c .before .before .before .before .before .before .loop .i) (10 * c .before .before .before .before .before .before .loop .n + c .before .digit .result) (omega arith) (sym (c .before .before .before .is-digit .ensures) ∙ not-false _ (c .before .before .if2 .left)) (omega (arith, c .before .digit .ensures .0)) (omega arith)) ∙ c .before .before .before .before .before .before .loop .inv .2
+
+add-i : tie.Need-add-i Inv-loop μ-loop
+add-i c = search needs
+
+loop-less : tie.Need-loop-less Inv-loop μ-loop
+loop-less c =
+    omega arith
+
+loop-again : tie.Need-loop-again Inv-loop μ-loop
+loop-again c =
+    (omega arith, omega (arith, c .if3 .left), sym (digits-on (c .before .before .before .before .before .before .before .before .before .args .text .now) (c .before .before .before .before .before .before .loop .n) (c .before .before .before .before .before .before .loop .i) (10 * c .before .before .before .before .before .before .loop .n + c .before .digit .result) (omega arith) (sym (c .before .before .before .is-digit .ensures) ∙ not-false _ (c .before .before .if2 .left)) (omega (arith, c .before .digit .ensures .0)) (omega arith)) ∙ c .before .before .before .before .before .before .loop .inv .2)
+
+returns-4 : tie.Need-returns-4 Inv-loop μ-loop
+returns-4 c =
+    sym (digits-end (c .before .before .before .before .args .text .now) (c .before .loop .n) (c .before .loop .i) (omega arith)) ∙ c .before .loop .inv .2
+
+pub number-in-spec : {M : Type 1} → statement M
+number-in-spec =
+    tie.close
+    (tie.spec
+    Inv-loop
+    μ-loop
+    returns
+    loop-holds
+    shared-slice-read-b
+    is-digit-requires
+    returns-2
+    mul-v
+    digit-requires
+    add-v
+    returns-3
+    add-i
+    loop-less
+    loop-again
+    returns-4)

@@ -1,0 +1,66 @@
+use mathlib.Core.Path.{_≡_, refl, sym, _∙_}
+use Prim.Native.Nat.{_+_, _-_, _≤_}
+use lib.ListN.{length, drop}
+use Rattle.model.specs.Lists.{same-list}
+use Rattle.desk.proofs.Scans.{same-on, same-stop, same-end, same-short}
+use native.Mathlib.Omega.{arith}
+use borrow.Author.Needs.{needs}
+use Rattle.desk.proofs.words.same.Statement.{statement}
+use Rattle.desk.proofs.words.same.Tie as tie
+
+abbrev Inv-loop : tie.InvT-loop
+Inv-loop one other i₀ i =
+    (i ≤ length one) × (length one ≡ length other) × (same-list (drop i one) (drop i other) ≡ same-list one other)
+
+abbrev μ-loop : tie.MeasureT-loop
+μ-loop one other i₀ i =
+    length one - i
+
+returns : tie.Need-returns Inv-loop μ-loop
+returns c =
+    sym (same-short _ _ (c .if1 .taken))
+
+loop-holds : tie.Need-loop-holds Inv-loop μ-loop
+loop-holds c =
+    (omega arith, c .if1 .left, refl)
+
+shared-slice-read-if2 : tie.Need-shared-slice-read-if2 Inv-loop μ-loop
+shared-slice-read-if2 c = search needs
+
+shared-slice-read-if2-2 : tie.Need-shared-slice-read-if2-2 Inv-loop μ-loop
+shared-slice-read-if2-2 c = search needs
+
+returns-2 : tie.Need-returns-2 Inv-loop μ-loop
+returns-2 c =
+    sym (same-stop (c .before .before .before .before .before .before .args .one .now) (c .before .before .before .before .before .before .args .other .now) (c .before .before .before .before .loop .i) (omega arith) (omega (arith, c .before .before .before .before .loop .inv .1)) (c .if2 .taken)) ∙ c .before .before .before .before .loop .inv .2
+
+add-i : tie.Need-add-i Inv-loop μ-loop
+add-i c = search needs
+
+loop-less : tie.Need-loop-less Inv-loop μ-loop
+loop-less c =
+    omega arith
+
+loop-again : tie.Need-loop-again Inv-loop μ-loop
+loop-again c =
+    (omega arith, c .before .before .before .before .loop .inv .1, sym (same-on (c .before .before .before .before .before .before .args .one .now) (c .before .before .before .before .before .before .args .other .now) (c .before .before .before .before .loop .i) (omega arith) (omega (arith, c .before .before .before .before .loop .inv .1)) (c .if2 .left)) ∙ c .before .before .before .before .loop .inv .2)
+
+returns-3 : tie.Need-returns-3 Inv-loop μ-loop
+returns-3 c =
+    sym (same-end (c .before .before .before .args .one .now) (c .before .before .before .args .other .now) (c .before .loop .i) (omega arith) (omega (arith, c .before .loop .inv .1))) ∙ c .before .loop .inv .2
+
+pub same-spec : {M : Type 1} → statement M
+same-spec =
+    tie.close
+    (tie.spec
+    Inv-loop
+    μ-loop
+    returns
+    loop-holds
+    shared-slice-read-if2
+    shared-slice-read-if2-2
+    returns-2
+    add-i
+    loop-less
+    loop-again
+    returns-3)

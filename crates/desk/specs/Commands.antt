@@ -1,0 +1,25 @@
+-- Commands and oracles by their words. Assumes nothing.
+use mathlib.Core.Bool.{cond}
+use mathlib.Core.List.{List}
+use Prim.Native.Nat.{ℕ}
+use Rattle.model.specs.Lists.{same-list}
+use Rattle.model.specs.Listing.{bytes}
+use Rattle.desk.specs.declared.command.Command.{Command}
+use Rattle.desk.specs.declared.command.Command.the-variants as command
+use Rattle.desk.specs.declared.command.OracleWord.{OracleWord}
+use Rattle.desk.specs.declared.command.OracleWord.the-variants as oracle
+
+unfoldable pub command-in : List ℕ → Command
+command-in w =
+    cond (same-list w (bytes "check")) command.Check
+    (cond (same-list w (bytes "list")) command.List
+    (cond (same-list w (bytes "play")) command.Play
+    (cond (same-list w (bytes "balance")) command.Balance
+    (cond (same-list w (bytes "split")) command.Split
+    (cond (same-list w (bytes "help")) command.Help command.Unknown)))))
+
+unfoldable pub oracle-word-in : List ℕ → OracleWord
+oracle-word-in w =
+    cond (same-list w (bytes "all")) oracle.All
+    (cond (same-list w (bytes "box")) oracle.Box
+    (cond (same-list w (bytes "plane")) oracle.Plane oracle.Unknown))

@@ -1,0 +1,82 @@
+use mir.Facts.{fits-lt-pow}
+use Rattle.model.specs.Values.{rack}
+use Rattle.listing.proofs.Listed.{of-served, of-refused, served-image}
+use Rattle.listfile.proofs.Texts.{byte-list, printed-as, printed-number, gives-served, gives-refused}
+use native.Mathlib.Omega.{arith}
+use borrow.Author.Needs.{needs}
+use Rattle.listfile.proofs.list_whole.Statement.{statement}
+use Rattle.listfile.proofs.list_whole.Tie as tie
+use Rattle.listfile.proofs.list_whole.Reads as reads
+use Rattle.listfile.proofs.list_whole.Lts as lts
+use Rattle.answers.proofs.refusal_number.Reads as refusal-number-reads
+use Rattle.listing.proofs.put_listing.Reads as put-listing-reads
+use Rattle.listing.proofs.put_refused.Reads as put-refused-reads
+use Rattle.readfile.proofs.read_file.Reads as read-file-reads
+
+-- src/lib.rt:17:37
+slice-aggregate-read-file : tie.Need-slice-aggregate-read-file
+slice-aggregate-read-file c = search needs
+
+-- src/lib.rt:17:11
+read-file-requires : tie.Need-read-file-requires
+read-file-requires c κs = search needs
+
+-- src/lib.rt:18:48
+enum-told : tie.Need-enum-told
+enum-told c = search needs
+
+-- src/lib.rt:18:48
+slice-aggregate-put-listing : tie.Need-slice-aggregate-put-listing
+slice-aggregate-put-listing c = search needs
+
+-- src/lib.rt:18:27
+put-listing-requires : tie.Need-put-listing-requires
+put-listing-requires c κs =
+    (served-image rack (c .before .before .before .before .before .before .before .before .before .args .file .now) _ (omega arith) (byte-list (c .before .before .before .before .before .before .before .before .before .args .file .now) (λ i. fits-lt-pow (c .before .before .before .before .before .before .before .before .shared-slice-known .given i))) (gives-served (c .before .before .enum-told .given .1) (c .before .before .before .before .before .read-file .ensures)), c .before .before .before .before .before .before .before .before .before .pre)
+
+-- src/lib.rt:19:25
+enum-known-r : tie.Need-enum-known-r
+enum-known-r c = search needs
+
+-- src/lib.rt:19:52
+refusal-number-requires : tie.Need-refusal-number-requires
+refusal-number-requires c κs = search needs
+
+-- src/lib.rt:19:31
+put-refused-requires : tie.Need-put-refused-requires
+put-refused-requires c κs = search needs
+
+-- src/lib.rt:12:1
+same-length : tie.Need-same-length
+same-length c = search needs
+
+-- src/lib.rt:12:1
+returns : tie.Need-returns
+returns c =
+    printed-as (of-served _ (gives-served (c .before .before .before .before .before .enum-told .given .1) (c .before .before .before .before .before .before .before .before .read-file .ensures))) (c .before .before .put-listing .ensures)
+
+-- src/lib.rt:12:1
+same-length-2 : tie.Need-same-length-2
+same-length-2 c = search needs
+
+-- src/lib.rt:12:1
+returns-2 : tie.Need-returns-2
+returns-2 c =
+    printed-number (c .before .before .before .before .refusal-number .ensures) (of-refused _ (gives-refused (c .before .before .before .before .before .before .r .given .1) (c .before .before .before .before .before .before .before .before .before .read-file .ensures))) (c .before .before .put-refused .ensures)
+
+pub list-whole-spec : {M : Type 1} → statement M
+list-whole-spec =
+    tie.close
+    (tie.spec
+    slice-aggregate-read-file
+    read-file-requires
+    enum-told
+    slice-aggregate-put-listing
+    put-listing-requires
+    enum-known-r
+    refusal-number-requires
+    put-refused-requires
+    same-length
+    returns
+    same-length-2
+    returns-2)
