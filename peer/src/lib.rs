@@ -1,6 +1,7 @@
 //! A second implementation of the transfer core for volume meshes, written from the papers.
 
 pub mod balance;
+pub mod basin;
 pub mod calls;
 pub mod cases;
 pub mod cells;

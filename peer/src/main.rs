@@ -1,5 +1,6 @@
-//! The peer's program: simulate, vectors, compare, list, listings, rounds.
+//! The peer's program: simulate, vectors, compare, list, basin, listings, rounds.
 
+use peer::basin;
 use peer::cases::CALLS;
 use peer::compare;
 use peer::lent::Peer;
@@ -14,7 +15,7 @@ use std::path::Path;
 use std::process::ExitCode;
 
 const USAGE: &str =
-    "peer simulate SEED N | peer vectors SEED N DIR | peer compare SEED N | peer list < FILE | peer listings DIR | peer rounds SEED N DIR";
+    "peer simulate SEED N | peer vectors SEED N DIR | peer compare SEED N | peer list < FILE | peer basin DIR | peer listings DIR | peer rounds SEED N DIR";
 
 fn main() -> ExitCode {
     let words: Vec<String> = std::env::args().skip(1).collect();
@@ -33,6 +34,7 @@ fn main() -> ExitCode {
             _ => Err(USAGE.to_string()),
         },
         ["list"] => list(),
+        ["basin", folder] => write_basin(folder).map_err(|e| e.to_string()),
         ["listings", folder] => write_listings(folder).map_err(|e| e.to_string()),
         ["rounds", seed, count, folder] => match (seed.parse(), count.parse()) {
             (Ok(seed), Ok(count)) => write_rounds(seed, count, folder),
@@ -56,6 +58,11 @@ fn list() -> Result<(), String> {
     let limit = listing::MAX_INPUT as u64 + 1;
     std::io::stdin().take(limit).read_to_end(&mut input).map_err(|e| e.to_string())?;
     std::io::stdout().write_all(listing::listing(&input).as_bytes()).map_err(|e| e.to_string())
+}
+
+/// Writes the block files of a small basin.
+fn write_basin(folder: &str) -> std::io::Result<()> {
+    basin::files().iter().try_for_each(|(name, bytes)| std::fs::write(Path::new(folder).join(name), bytes))
 }
 
 /// Writes the files of the listing program in a row, and what it prints for them.

@@ -203,7 +203,7 @@ fn end_level(ended: Ended, o: Oracle, grown: bool, k: usize, mesh: &[u64], room:
             return;
         }
     }
-    say::text(b"after: ");
+    say::text(b"after:");
     inspect::show_picked(mesh, o);
     if grown | (0 < moves) {
         disk::save(k, mesh, room);

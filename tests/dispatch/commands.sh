@@ -1,0 +1,70 @@
+# Every command and every error, on copies of the basin. Sourced by tests/dispatch.sh.
+run() { printf '$ dispatch %s\n' "$*"; "$dispatch" "$@" || true; }
+
+fresh one
+run
+run check
+run list 2
+printf '0 2 1\n0 1 25\n\n2 0 1\r\n0 0 49\n0 2 9999\n7 0 1\n0 9 49\n' | run play
+run balance all
+run check
+run balance all
+run balance plane 0 1
+run balance box 0 0 0 1 1 1
+run balance box 1 0 0 -1 1 1
+run balance plane 7 1
+run split 5
+run check
+printf '' | run play
+
+# words
+run balance
+run balance some
+run balance all now
+run balance box 1 2 3
+run balance plane x 1
+run list
+run list 16
+run list 7
+run list two
+run split
+run split 0
+run split 17
+run split 2
+run check now
+run nonsense
+run help
+printf '0 1\n' | run play
+printf '0 1 5\n1 2 3 4\n' | run play
+printf '0 1 4294967296\n' | run play
+head -c 524288 /dev/zero | tr '\0' ' ' | run play
+
+# files
+fresh two
+rm block-00.dmap
+run check
+fresh three
+rm block-01.dmap
+run check
+fresh four
+head -c 100 "$basin/block-01.dmap" >block-01.dmap
+run check
+run list 1
+printf '0 2 1\n' | run play
+fresh five
+rm block-02.dmap
+run check
+run balance all
+fresh six
+cp block-01.dmap block-02.dmap
+run check
+fresh seven
+head -c 262144 /dev/zero >block-02.dmap
+run check
+fresh eight
+rm block-02.dmap
+mkdir block-02.dmap
+run check
+fresh nine
+rm block-*.dmap
+run check
