@@ -272,14 +272,42 @@ fn bench_round(large: bool, seed: Option<u64>) {
 }
 
 /// Sixteen slabs of 170 hexahedra, each a block of 4,080 darts.
-fn bench_mesh() {
+pub fn slabs() -> Vec<u64> {
     let map = shapes::grid([16, 10, 17], Filling::Hexahedra);
     let home = (0..map.len()).map(|dart| dart / 4080).collect();
     let scene = Scene { map, home };
-    let mesh: Vec<u64> = scene.blocks(16, Some(1)).iter().flat_map(image::encode).collect();
+    scene.blocks(16, Some(1)).iter().flat_map(image::encode).collect()
+}
+
+/// Fifteen blocks of 2,048 volumes of two darts, each sewn to another, and an empty block: the counters are full, so every volume is asked
+/// and none may leave.
+pub fn full_counters() -> Vec<u64> {
+    let mut map = Map::default();
+    for _ in 0..15 * 1024 {
+        let first = map.add(&[1, 0], &[1, 0], &[[0.0; 3]; 2]);
+        let second = map.add(&[1, 0], &[1, 0], &[[0.0; 3]; 2]);
+        map.sew(first, second);
+    }
+    let home: Vec<usize> = (0..map.len()).map(|dart| dart / 4096).collect();
+    let serials: Vec<u32> = (1..=map.len() as u32).collect();
+    let mut counters = [u32::MAX; 16];
+    counters[15] = 0;
+    let blocks = assemble(&map, &home, &serials, &map.wished_points(), &vec![None; map.len()], &counters);
+    blocks.iter().flat_map(image::encode).collect()
+}
+
+pub const EVERY: OracleNumbers = OracleNumbers { oracle: 0, axis: 0, floats: [0; 6] };
+
+/// The upper slabs.
+pub fn upper() -> OracleNumbers {
+    OracleNumbers { oracle: 1, floats: [8.5, 0.0, 0.0, 99.0, 99.0, 99.0].map(f64::to_bits), ..EVERY }
+}
+
+fn bench_mesh() {
+    let mesh = slabs();
     let mut scratch = vec![0; SCRATCH];
-    let every = OracleNumbers { oracle: 0, axis: 0, floats: [0; 6] };
-    let upper = OracleNumbers { oracle: 1, floats: [8.5, 0.0, 0.0, 99.0, 99.0, 99.0].map(f64::to_bits), ..every };
+    let every = EVERY;
+    let upper = upper();
     let mut check = Vec::new();
     let mut level = Vec::new();
     let mut blocked = Vec::new();
