@@ -59,15 +59,20 @@ pub fn next_move(blocks: &[Block], oracle: &Oracle) -> Answer<NextMove> {
     Ok(choose(blocks, oracle))
 }
 
-/// The rule on a sound mesh and a right oracle.
-pub fn choose(blocks: &[Block], oracle: &Oracle) -> NextMove {
-    let picked: Vec<Vec<BTreeSet<u32>>> = blocks
+/// The picked volumes of each block.
+pub fn picked(blocks: &[Block], oracle: &Oracle) -> Vec<Vec<BTreeSet<u32>>> {
+    blocks
         .iter()
         .map(|block| {
             let cells = cells::volumes(block, block.darts.keys().copied());
             cells.into_iter().filter(|cell| oracle.picks(block, cell)).collect()
         })
-        .collect();
+        .collect()
+}
+
+/// The rule on a sound mesh and a right oracle.
+pub fn choose(blocks: &[Block], oracle: &Oracle) -> NextMove {
+    let picked = picked(blocks, oracle);
     let total: usize = picked.iter().map(Vec::len).sum();
     let mean = total / blocks.len();
     let surplus: Vec<i32> = picked.iter().map(|cells| cells.len() as i32 - mean as i32).collect();

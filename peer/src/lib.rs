@@ -12,6 +12,7 @@ pub mod generate;
 pub mod groups;
 pub mod image;
 pub mod lent;
+pub mod levelling;
 pub mod listing;
 pub mod listings;
 pub mod mesh;

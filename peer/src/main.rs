@@ -1,9 +1,10 @@
-//! The peer's program: simulate, vectors, compare, list, basin, listings, rounds.
+//! The peer's program: simulate, vectors, compare, list, basin, listings, rounds, levelling.
 
 use peer::basin;
 use peer::cases::CALLS;
 use peer::compare;
 use peer::lent::Peer;
+use peer::levelling;
 use peer::listing;
 use peer::listings;
 use peer::plain::Plain;
@@ -15,7 +16,7 @@ use std::path::Path;
 use std::process::ExitCode;
 
 const USAGE: &str =
-    "peer simulate SEED N | peer vectors SEED N DIR | peer compare SEED N | peer list < FILE | peer basin DIR | peer listings DIR | peer rounds SEED N DIR";
+    "peer simulate SEED N | peer vectors SEED N DIR | peer compare SEED N | peer list < FILE | peer basin DIR | peer listings DIR | peer rounds SEED N DIR | peer levelling SEED DIR";
 
 fn main() -> ExitCode {
     let words: Vec<String> = std::env::args().skip(1).collect();
@@ -38,6 +39,10 @@ fn main() -> ExitCode {
         ["listings", folder] => write_listings(folder).map_err(|e| e.to_string()),
         ["rounds", seed, count, folder] => match (seed.parse(), count.parse()) {
             (Ok(seed), Ok(count)) => write_rounds(seed, count, folder),
+            _ => Err(USAGE.to_string()),
+        },
+        ["levelling", seed, folder] => match seed.parse() {
+            Ok(seed) => write_levelling(seed, folder),
             _ => Err(USAGE.to_string()),
         },
         _ => Err(USAGE.to_string()),
@@ -75,9 +80,20 @@ fn write_listings(folder: &str) -> std::io::Result<()> {
 /// Writes meshes with requests, and what a program that plays them has to print.
 fn write_rounds(seed: u64, count: usize, folder: &str) -> Result<(), String> {
     let made = rounds::rounds(seed, count)?;
+    put_run(folder, &made.input, &made.output)
+}
+
+/// Writes meshes with oracles, and what a program that balances them has to print.
+fn write_levelling(seed: u64, folder: &str) -> Result<(), String> {
+    let made = levelling::levelling(seed)?;
+    put_run(folder, &made.input, &made.output)
+}
+
+/// Writes what a program reads and what it has to print.
+fn put_run(folder: &str, input: &[u8], output: &str) -> Result<(), String> {
     let put = |name: &str, bytes: &[u8]| std::fs::write(Path::new(folder).join(name), bytes).map_err(|e| e.to_string());
-    put("stdin", &made.input)?;
-    put("stdout", made.output.as_bytes())
+    put("stdin", input)?;
+    put("stdout", output.as_bytes())
 }
 
 fn write_vectors(seed: u64, count: usize, folder: &str) -> Result<(), String> {

@@ -23,7 +23,8 @@ fn digest(words: &[u64]) -> u64 {
     words.iter().fold(0, |sum, word| step(step(sum, word >> 32), word & 0xffff_ffff))
 }
 
-fn digests(mesh: &[u64]) -> String {
+/// A digest of every block of a mesh.
+pub fn digests(mesh: &[u64]) -> String {
     mesh.chunks_exact(WORDS).map(|words| format!(" {}", digest(words))).collect()
 }
 

@@ -108,11 +108,14 @@ impl BothRuns {
         Ok(answer)
     }
 
+    /// The blocks of the divided run.
+    pub fn blocks(&self) -> Result<Vec<Block>, Disagreement> {
+        let blocks = self.mesh.chunks_exact(WORDS).enumerate();
+        blocks.map(|(number, words)| image::sound_block(words).ok_or(format!("block {number} is not sound"))).collect()
+    }
+
     fn compare(&mut self, core: &dyn Core) -> Result<(), Disagreement> {
-        let mut blocks = Vec::new();
-        for (number, words) in self.mesh.chunks_exact(WORDS).enumerate() {
-            blocks.push(image::sound_block(words).ok_or(format!("block {number} is not sound"))?);
-        }
+        let blocks = self.blocks()?;
         if let Err(No(number)) = mesh::check(&blocks) {
             return Err(format!("the mesh is not sound: {number}"));
         }
