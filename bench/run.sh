@@ -1,7 +1,7 @@
 #!/bin/bash
-# Prints, as Markdown, the times of every public call of the archive beside the plain version and a copy of what it works on.
+# run.sh [block, mesh or growth]: prints, as Markdown, the times of every public call of the archive beside the plain version and a copy of what it works on.
 set -eo pipefail
 here=$(cd "$(dirname "$0")" && pwd)
 ARCHIVE=$("$here/archive.sh")
 export ARCHIVE
-cargo run --quiet --release --offline --manifest-path "$here/Cargo.toml"
+cargo run --quiet --release --offline --manifest-path "$here/Cargo.toml" -- "$@"

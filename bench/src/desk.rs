@@ -1,5 +1,6 @@
 //! The calls on one block, and whole rounds over three.
 
+use crate::clock::{median, now};
 use crate::table::Times;
 use crate::SHUFFLES;
 use compare::archive::Archive;
@@ -9,7 +10,6 @@ use peer::message;
 use peer::plain::Plain;
 use peer::scenes::{self, Round};
 use std::hint::black_box;
-use std::time::Instant;
 
 /// Blocks before a call, what is sent in the round from 0 to 1, and the file of block 0.
 struct Setting {
@@ -37,11 +37,8 @@ pub struct Call {
 
 pub const ROUND: &str = "whole round";
 
-/// A destination that is none: a send is refused by 9, after question 2 and before all else.
-const NOWHERE: u64 = 16;
-
 pub const CALLS: [Call; 9] = [
-    Call { name: "question 2", of_a_cell: false, answer: 9, blocks: &[0], make: question_2 },
+    Call { name: "question 2", of_a_cell: false, answer: 16, blocks: &[0], make: question_2 },
     Call {
         name: "empty",
         of_a_cell: false,
@@ -88,8 +85,9 @@ pub const CALLS: [Call; 9] = [
     Call { name: ROUND, of_a_cell: true, answer: 0, blocks: &[0, 1, 2], make: round },
 ];
 
+/// A message of no bytes is refused by 16, right after question 2.
 fn question_2(core: &dyn Core, lent: &mut Lent, _: &Setting) -> u32 {
-    core.send(&lent.blocks[0], NOWHERE, 0, &mut lent.bytes, &mut lent.written)
+    core.receive(&mut lent.blocks[0], &[])
 }
 
 fn send(core: &dyn Core, lent: &mut Lent, setting: &Setting) -> u32 {
@@ -144,34 +142,59 @@ impl Desk {
         Desk { settings: vec![Setting { round, messages: Vec::new(), file: Vec::new() }] }
     }
 
-    /// The medians of a call over so many turns. What it works on is as it was before each call.
+    /// The medians of a call over so many turns: plain, proved, a copy of the blocks that it works on.
     pub fn times(&self, call: &Call, turns: usize) -> Times {
-        let mut lent = Lent { blocks: self.settings[0].round.images.clone(), bytes: vec![0; 262_144], written: 0 };
+        let mut lent = self.lent();
         let mut copy = vec![0; WORDS * call.blocks.len()];
         let mut times = [(); 3].map(|()| Vec::with_capacity(turns));
-        let mut at = 0;
-        for _ in 0..turns {
-            for (version, times) in times.iter_mut().enumerate() {
-                at = (at + 1) % self.settings.len();
-                let setting = &self.settings[at];
-                for (words, image) in lent.blocks.iter_mut().zip(&setting.round.images) {
-                    words.copy_from_slice(image);
-                }
-                let start = Instant::now();
-                match version {
-                    0 => assert_eq!((call.make)(&Plain, black_box(&mut lent), setting), call.answer, "{}", call.name),
-                    1 => assert_eq!((call.make)(&Archive, black_box(&mut lent), setting), call.answer, "{}", call.name),
-                    _ => {
-                        for (words, block) in copy.chunks_exact_mut(WORDS).zip(call.blocks) {
-                            words.copy_from_slice(black_box(&lent.blocks[*block]));
-                        }
-                        black_box(&copy);
-                    }
-                }
-                times.push(start.elapsed().as_secs_f64() * 1e6);
+        for turn in 0..turns {
+            let [plain, proved, copied] =
+                [0, 1, 2].map(|version| &self.settings[(3 * turn + version) % self.settings.len()]);
+            times[0].push(lent.time(call, &Plain, plain));
+            times[1].push(lent.time(call, &Archive, proved));
+            lent.reset(copied);
+            let start = now();
+            for (words, block) in copy.chunks_exact_mut(WORDS).zip(call.blocks) {
+                words.copy_from_slice(black_box(&lent.blocks[*block]));
             }
+            black_box(&copy);
+            times[2].push(now() - start);
         }
         times.map(median)
+    }
+
+    /// The medians of the proved call on each of these desks, which take turns too.
+    pub fn growth(desks: &[Desk], call: &Call, turns: usize) -> Vec<f64> {
+        let mut lent = desks[0].lent();
+        let mut times = vec![Vec::with_capacity(turns); desks.len()];
+        for turn in 0..turns {
+            for (desk, times) in desks.iter().zip(&mut times) {
+                times.push(lent.time(call, &Archive, &desk.settings[turn % desk.settings.len()]));
+            }
+        }
+        times.into_iter().map(median).collect()
+    }
+
+    fn lent(&self) -> Lent {
+        Lent { blocks: self.settings[0].round.images.clone(), bytes: vec![0; 262_144], written: 0 }
+    }
+}
+
+impl Lent {
+    fn reset(&mut self, setting: &Setting) {
+        for (words, image) in self.blocks.iter_mut().zip(&setting.round.images) {
+            words.copy_from_slice(image);
+        }
+    }
+
+    /// The time of one call on the blocks of a setting as they are at its start.
+    fn time(&mut self, call: &Call, core: &dyn Core, setting: &Setting) -> f64 {
+        self.reset(setting);
+        let start = now();
+        let answer = (call.make)(core, black_box(self), setting);
+        let time = now() - start;
+        assert_eq!(answer, call.answer, "{}", call.name);
+        time
     }
 }
 
@@ -187,9 +210,4 @@ impl Setting {
         bytes.truncate(written as usize);
         Setting { round, messages, file: bytes }
     }
-}
-
-pub fn median(mut times: Vec<f64>) -> f64 {
-    times.sort_by(f64::total_cmp);
-    times[times.len() / 2]
 }

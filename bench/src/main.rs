@@ -1,6 +1,7 @@
 //! The public calls on nearly full blocks: the archive's version beside the plain one and a copy of what it works on, and how each grows. All take
-//! turns in one run; what is printed, as Markdown, are medians.
+//! turns in one run; what is printed, as Markdown, are medians of processor time. A word (block, mesh, growth) prints one table alone.
 
+mod clock;
 mod desk;
 mod meshes;
 mod table;
@@ -74,23 +75,30 @@ fn growth() {
             } else {
                 ", 24-dart cell"
             };
-            let times: Vec<f64> = desks.iter().map(|desk| desk.times(call, 501)[1]).collect();
-            growth_row(&format!("{}{cell}", call.name), &times);
+            growth_row(&format!("{}{cell}", call.name), &Desk::growth(&desks, call, 1001));
         }
     }
     let slabs = [[2, 5], [3, 7], [6, 7], [5, 17], [10, 17]];
     let halls: Vec<Vec<Hall>> = slabs.iter().map(|slab| Hall::growing(*slab)).collect();
     for at in 0..halls[0].len() {
-        let times: Vec<f64> = halls.iter().map(|halls| halls[at].times(51)[1]).collect();
-        growth_row(&halls[0][at].name, &times);
+        let of_all: Vec<&Hall> = halls.iter().map(|halls| &halls[at]).collect();
+        growth_row(&of_all[0].name, &Hall::growth(&of_all, 101));
     }
 }
 
 fn main() {
-    println!("Blocks of about 4,080 darts.\n");
-    calls_of_a_block();
-    println!("\nMeshes of sixteen such blocks.\n");
-    calls_of_a_mesh();
-    println!("\nHow the proved calls grow: µs on blocks (meshes of sixteen blocks) of about so many darts, serials shuffled.\n");
-    growth();
+    let only = std::env::args().nth(1);
+    let wanted = |table: &str| only.as_deref().is_none_or(|only| only == table);
+    if wanted("block") {
+        println!("Blocks of about 4,080 darts.\n");
+        calls_of_a_block();
+    }
+    if wanted("mesh") {
+        println!("\nMeshes of sixteen such blocks.\n");
+        calls_of_a_mesh();
+    }
+    if wanted("growth") {
+        println!("\nThe proved calls in µs on blocks, or meshes of sixteen blocks, of about so many darts; serials shuffled.\n");
+        growth();
+    }
 }

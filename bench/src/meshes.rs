@@ -1,6 +1,6 @@
 //! The calls on a whole mesh.
 
-use crate::desk::median;
+use crate::clock::{median, now};
 use crate::table::{Limit, Times};
 use compare::archive::Archive;
 use peer::image::SCRATCH;
@@ -9,7 +9,6 @@ use peer::plain::Plain;
 use peer::scenes;
 use std::hint::black_box;
 use std::rc::Rc;
-use std::time::Instant;
 
 const EVERY: OracleNumbers = OracleNumbers { oracle: 0, axis: 0, floats: [0; 6] };
 
@@ -54,37 +53,48 @@ impl Hall {
         Limit::plain(2.0).milliseconds(if self.next_move.is_none() { 40.0 } else { 60.0 })
     }
 
-    fn make(&self, core: &dyn Core, scratch: &mut [u64]) {
+    /// The time of one call.
+    fn time(&self, core: &dyn Core, scratch: &mut [u64]) -> f64 {
         let mesh = black_box(&self.mesh[..]);
-        match &self.next_move {
-            None => assert_eq!(core.check_mesh(mesh, scratch), 0),
-            Some((oracle, wanted)) => {
-                let mut answer = [9; 4];
-                assert_eq!(core.next_move(mesh, oracle, scratch, &mut answer), 0);
-                assert_eq!(answer[0], *wanted, "{}", self.name);
-            }
+        let mut answer = [9; 4];
+        let start = now();
+        let number = match &self.next_move {
+            None => core.check_mesh(mesh, scratch),
+            Some((oracle, _)) => core.next_move(mesh, oracle, scratch, &mut answer),
+        };
+        let time = now() - start;
+        assert_eq!(number, 0, "{}", self.name);
+        if let Some((_, wanted)) = self.next_move {
+            assert_eq!(answer[0], wanted, "{}", self.name);
         }
+        time
     }
 
-    /// The medians of the call over so many turns.
+    /// The medians of the call over so many turns: plain, proved, a copy of the mesh.
     pub fn times(&self, turns: usize) -> Times {
         let mut scratch = vec![0; SCRATCH];
         let mut copy = self.mesh.to_vec();
         let mut times = [(); 3].map(|()| Vec::with_capacity(turns));
         for _ in 0..turns {
-            for (version, times) in times.iter_mut().enumerate() {
-                let start = Instant::now();
-                match version {
-                    0 => self.make(&Plain, &mut scratch),
-                    1 => self.make(&Archive, &mut scratch),
-                    _ => {
-                        copy.copy_from_slice(black_box(&self.mesh));
-                        black_box(&copy);
-                    }
-                }
-                times.push(start.elapsed().as_secs_f64() * 1e6);
-            }
+            times[0].push(self.time(&Plain, &mut scratch));
+            times[1].push(self.time(&Archive, &mut scratch));
+            let start = now();
+            copy.copy_from_slice(black_box(&self.mesh));
+            black_box(&copy);
+            times[2].push(now() - start);
         }
         times.map(median)
+    }
+
+    /// The medians of the proved call in each of these, which take turns too.
+    pub fn growth(halls: &[&Hall], turns: usize) -> Vec<f64> {
+        let mut scratch = vec![0; SCRATCH];
+        let mut times = vec![Vec::with_capacity(turns); halls.len()];
+        for _ in 0..turns {
+            for (hall, times) in halls.iter().zip(&mut times) {
+                times.push(hall.time(&Archive, &mut scratch));
+            }
+        }
+        times.into_iter().map(median).collect()
     }
 }
