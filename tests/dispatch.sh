@@ -23,19 +23,20 @@ fresh new; "$dispatch" balance all >/dev/null
 fresh old
 cc -shared -fPIC -O1 -o "$work/stop.so" "$stored/stop.c" -ldl
 stops=0
-for how in kill full; do
-    for ((call = 1; ; call++)); do
-        fresh run
-        killed=0
-        (LD_PRELOAD="$work/stop.so" STOP_AT=$call STOP_HOW=$how "$dispatch" balance all) >"$work/told" 2>/dev/null || killed=1
-        grep -q '^saved' "$work/told" && same . "$work/new" && break
-        # The next command finishes or forgets the save; so does one that is itself stopped at its first call.
-        LD_PRELOAD="$work/stop.so" STOP_AT=1 STOP_HOW=$how "$dispatch" check >/dev/null 2>&1 || true
-        "$dispatch" check >"$work/told" || true
-        [ "$(tail -n 1 "$work/told")" = sound ] || { echo "dispatch: not sound after a stop at call $call ($how)"; exit 1; }
-        same . "$work/old" || same . "$work/new" || { echo "dispatch: a mix after a stop at call $call ($how)"; exit 1; }
-        stops=$((stops + 1))
-    done
-done
-[ "$stops" -gt 20 ] || { echo "dispatch: stopped $stops times only"; exit 1; }
-echo "dispatch: every command prints what is stored; stopped at $stops calls, always the old basin or the new one"
+
+# A balance stopped at a call; then a command that is itself stopped at its first call, and one that is not. Whether it was stopped at all.
+stopped() {
+    fresh run
+    (LD_PRELOAD="$work/stop.so" STOP_AT=$2 STOP_HOW=$1 "$dispatch" balance all; exit $?) >"$work/told" 2>/dev/null && [ "$1" = kill ] && return 1
+    (LD_PRELOAD="$work/stop.so" STOP_AT=1 STOP_HOW=$1 "$dispatch" check; exit $?) >/dev/null 2>&1 || true
+    "$dispatch" check >"$work/told"
+    [ "$(tail -n 1 "$work/told")" = sound ] || { echo "dispatch: not sound after call $2 ($1)"; exit 1; }
+    same . "$work/old" || same . "$work/new" || { echo "dispatch: neither the old basin nor the new one after call $2 ($1)"; exit 1; }
+    stops=$((stops + 1))
+}
+
+calls=0
+while stopped kill $((calls + 1)); do calls=$((calls + 1)); done
+for ((call = 1; call <= calls; call++)); do stopped full "$call"; done
+[ "$calls" -gt 15 ] || { echo "dispatch: stopped at $calls calls only"; exit 1; }
+echo "dispatch: every command prints what is stored; stopped $stops times, always the old basin or the new one"

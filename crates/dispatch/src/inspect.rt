@@ -1,6 +1,6 @@
 // What is told of a basin: a line for each block, and whether it is sound.
-use basin::say;
 use answers::Answer;
+use basin::say;
 use desk::names;
 use oracle::Oracle;
 
