@@ -15,20 +15,23 @@ fresh() { rm -rf "$work/$1"; mkdir "$work/$1"; cp "$basin"/block-*.dmap "$work/$
 # Whether two folders hold the same files.
 same() { diff -r "$1" "$2" >/dev/null; }
 
+# Runs a command that is stopped at one of its calls on files: killed, or on a full disk.
+cc -shared -fPIC -O1 -o "$work/stop.so" "$stored/stop.c" -ldl
+stopping() { (LD_PRELOAD="$work/stop.so" STOP_HOW=$1 STOP_AT=$2 "$dispatch" "${@:3}"; exit $?) 2>/dev/null; }
+
 source "$stored/commands.sh" >"$work/said" 2>&1
 diff "$work/said" "$stored/said" || { echo 'dispatch: another output than is stored'; exit 1; }
 
 # What a balance leads to.
 fresh new; "$dispatch" balance all >/dev/null
 fresh old
-cc -shared -fPIC -O1 -o "$work/stop.so" "$stored/stop.c" -ldl
 stops=0
 
 # A balance stopped at a call; then a command that is itself stopped at its first call, and one that is not. Whether it was stopped at all.
 stopped() {
     fresh run
-    (LD_PRELOAD="$work/stop.so" STOP_AT=$2 STOP_HOW=$1 "$dispatch" balance all; exit $?) >"$work/told" 2>/dev/null && [ "$1" = kill ] && return 1
-    (LD_PRELOAD="$work/stop.so" STOP_AT=1 STOP_HOW=$1 "$dispatch" check; exit $?) >/dev/null 2>&1 || true
+    stopping "$1" "$2" balance all >/dev/null && [ "$1" = kill ] && return 1
+    stopping "$1" 1 check >/dev/null || true
     "$dispatch" check >"$work/told"
     [ "$(tail -n 1 "$work/told")" = sound ] || { echo "dispatch: not sound after call $2 ($1)"; exit 1; }
     same . "$work/old" || same . "$work/new" || { echo "dispatch: neither the old basin nor the new one after call $2 ($1)"; exit 1; }

@@ -68,3 +68,16 @@ run check
 fresh nine
 rm block-*.dmap
 run check
+
+# a full disk, and a run that is killed before and after all new files are written
+fresh ten
+echo '$ dispatch balance all, the disk full at its second call'
+stopping full 2 balance all
+run check
+echo '$ dispatch balance all, killed at its fifth call'
+stopping kill 5 balance all || ls
+run check
+echo '$ dispatch balance all, killed at its fifteenth call'
+stopping kill 15 balance all || ls
+run check
+ls
