@@ -3,3 +3,4 @@ pub mod Lines
 pub mod Commands
 pub mod Names
 pub mod Plan
+pub mod Folder
