@@ -119,7 +119,7 @@ fn counted(k: usize) -> usize {
 }
 
 // Reads the blocks from 00 on; how many, or 0 where something is wrong, which is said.
-pub fn load(mesh: &mut [u64], room: &mut [u8]) -> usize {
+fn load(mesh: &mut [u64], room: &mut [u8]) -> usize {
     let mut k = 0;
     while k < 16 {
         match read_part(k, mesh, room) {
@@ -238,4 +238,12 @@ pub fn save(k: usize, mesh: &[u64], room: &mut [u8]) {
     say::text(b"saved ");
     say::number(k as u64);
     say::text(b" blocks\n");
+}
+
+// Mends the basin and reads its blocks; how many, or 0 where something is wrong, which is said.
+pub fn open(mesh: &mut [u64], room: &mut [u8]) -> usize {
+    if !mend() {
+        return 0;
+    }
+    load(mesh, room)
 }

@@ -53,10 +53,7 @@ fn check_blocks(mesh: &[u64], scratch: &mut [u64]) {
 }
 
 fn check(mesh: &mut [u64], scratch: &mut [u64], room: &mut [u8]) {
-    if !disk::mend() {
-        return;
-    }
-    let k = disk::load(mesh, room);
+    let k = disk::open(mesh, room);
     if k == 0 {
         return;
     }
@@ -155,10 +152,7 @@ fn play_requests(
         say::text(b" is no request 'from to serial': nothing is played\n");
         return;
     }
-    if !disk::mend() {
-        return;
-    }
-    let k = disk::load(mesh, room);
+    let k = disk::open(mesh, room);
     if k == 0 {
         return;
     }
@@ -236,10 +230,7 @@ fn level_on(
 }
 
 fn balance(o: Oracle, mesh: &mut [u64], scratch: &mut [u64], outbox: &mut [u8], room: &mut [u8]) {
-    if !disk::mend() {
-        return;
-    }
-    let k = disk::load(mesh, room);
+    let k = disk::open(mesh, room);
     if k == 0 {
         return;
     }
@@ -309,10 +300,7 @@ fn grow(k: usize, n: usize, mesh: &mut [u64]) {
 }
 
 fn split(n: usize, mesh: &mut [u64], scratch: &mut [u64], outbox: &mut [u8], room: &mut [u8]) {
-    if !disk::mend() {
-        return;
-    }
-    let k = disk::load(mesh, room);
+    let k = disk::open(mesh, room);
     if k == 0 {
         return;
     }

@@ -6,7 +6,7 @@ use desk::words;
 use desk::words::Kind;
 use rounds::Outcome;
 
-// How many requests there were, and how many of them were carried out.
+// How many requests there were, how many of them were carried out, and whether a round did not finish.
 pub struct Count {
     pub asked: u64,
     pub moved: u64,
@@ -40,24 +40,13 @@ pub fn first_wrong(input: &[u8]) -> u64 {
     0
 }
 
-fn add(count: Count, moved: bool) -> Count {
-    if count.asked < 1000000 {
-        if moved {
-            if count.moved < 1000000 {
-                return Count {
-                    asked: count.asked + 1,
-                    moved: count.moved + 1,
-                    broken: count.broken,
-                };
-            }
-        }
-        return Count {
-            asked: count.asked + 1,
-            moved: count.moved,
-            broken: count.broken,
-        };
+// One request more, carried out or not.
+fn add(count: Count, moved: u64) -> Count {
+    Count {
+        asked: std::num::wrapping_add_u64(count.asked, 1),
+        moved: std::num::wrapping_add_u64(count.moved, moved),
+        broken: count.broken,
     }
-    count
 }
 
 // One round, and what became of it.
@@ -72,14 +61,14 @@ fn play_round(
     match rounds::play(mesh, from, to, serial, outbox) {
         Outcome::Finished => {
             say::text(b"moved\n");
-            add(count, true)
+            add(count, 1)
         }
         Outcome::Refused(r) => {
             let question = answers::refusal_number(r);
             say::refused(question);
             say::meaning(question);
             say::text(b"\n");
-            add(count, false)
+            add(count, 0)
         }
         Outcome::Unfinished => Count {
             asked: count.asked,

@@ -1,6 +1,5 @@
-use mathlib.Core.Path.{_≡_, refl, sym, _∙_}
-use Prim.Native.Nat.{_+_, _*_, _-_, _≤_, _<_}
-use lib.ListN.{length}
+-- `basin::disk::has_gap` meets its contract. The measure is what is left of sixteen blocks. Assumes nothing.
+use Prim.Native.Nat.{_-_, _≤_}
 use borrow.Author.Needs.{needs}
 use Rattle.basin.proofs.disk.has_gap.Statement.{statement}
 use Rattle.basin.proofs.disk.has_gap.Tie as tie

@@ -1,3 +1,4 @@
+-- `desk::command::command_of` meets its contract. Assumes nothing.
 use mathlib.Core.Path.{sym, _∙_}
 use Rattle.model.specs.Listing.{bytes}
 use Rattle.desk.specs.Commands.{command-in}

@@ -1,3 +1,4 @@
+-- `desk::lines::field_at` meets its contract. Assumes nothing.
 use mathlib.Core.Path.{sym, _∙_}
 use Rattle.desk.proofs.Fields.{field-past, field-word}
 use borrow.Author.Needs.{needs}

@@ -1,4 +1,4 @@
-use Rattle.desk.specs.Lines.{rest-blank}
+-- `desk::lines::is_rest_blank` meets its contract. Assumes nothing.
 use Rattle.desk.proofs.Fields.{blank-past, blank-is}
 use borrow.Author.Needs.{needs}
 use Rattle.desk.proofs.lines.is_rest_blank.Statement.{statement}

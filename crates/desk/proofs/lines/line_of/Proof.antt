@@ -1,3 +1,4 @@
+-- `desk::lines::line_of` meets its contract. Assumes nothing.
 use mathlib.Core.Path.{sym, _∙_}
 use borrow.Author.Tests.{not-true, not-false}
 use Rattle.desk.proofs.Fields.{line-blank, line-first, line-second, line-third, line-more, line-request}

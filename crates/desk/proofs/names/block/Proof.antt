@@ -1,3 +1,4 @@
+-- `desk::names::block` meets its contract. Assumes nothing.
 use Rattle.model.specs.Listing.{bytes}
 use Rattle.desk.specs.Names.{block-name}
 use borrow.Author.Needs.{needs}

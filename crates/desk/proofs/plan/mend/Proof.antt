@@ -1,3 +1,4 @@
+-- `desk::plan::mend` meets its contract. Assumes nothing.
 use borrow.Author.Tests.{lt-ltb, le-ltb, eq-eqb, ne-eqb, not-true, not-false}
 use Rattle.desk.specs.Plan.{mend-step}
 use Rattle.desk.proofs.plan.mend.Statement.{statement}

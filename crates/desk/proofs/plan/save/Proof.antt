@@ -1,3 +1,4 @@
+-- `desk::plan::save` meets its contract. Assumes nothing.
 use borrow.Author.Tests.{lt-ltb, le-ltb, le-leb, lt-leb, eq-eqb, ne-eqb}
 use Rattle.desk.specs.Plan.{save-step}
 use borrow.Author.Needs.{needs}

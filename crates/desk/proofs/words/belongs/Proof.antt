@@ -1,3 +1,4 @@
+-- `desk::words::belongs` meets its contract. Assumes nothing.
 use Rattle.desk.specs.Words.{is-blank, belongs}
 use borrow.Author.Needs.{needs}
 use Rattle.desk.proofs.words.belongs.Statement.{statement}

@@ -1,4 +1,4 @@
-use Rattle.desk.specs.Words.{is-digit}
+-- `desk::words::digit` meets its contract. Assumes nothing.
 use Rattle.desk.proofs.Scans.{digit-from, digit-to}
 use native.Mathlib.Omega.{arith}
 use borrow.Author.Needs.{needs}

@@ -1,3 +1,4 @@
+-- `desk::words::is_digit` meets its contract. Assumes nothing.
 use mathlib.Core.Path.{refl}
 use Rattle.desk.specs.Words.{is-digit}
 use Rattle.desk.proofs.words.is_digit.Statement.{statement}

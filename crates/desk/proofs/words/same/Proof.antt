@@ -1,5 +1,6 @@
+-- `desk::words::same` meets its contract. The loop's invariant: the texts are the same before i. Assumes nothing.
 use mathlib.Core.Path.{_≡_, refl, sym, _∙_}
-use Prim.Native.Nat.{_+_, _-_, _≤_}
+use Prim.Native.Nat.{_-_, _≤_}
 use lib.ListN.{length, drop}
 use Rattle.model.specs.Lists.{same-list}
 use Rattle.desk.proofs.Scans.{same-on, same-stop, same-end, same-short}

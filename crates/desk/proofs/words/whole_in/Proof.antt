@@ -1,3 +1,4 @@
+-- `desk::words::whole_in` meets its contract. Assumes nothing.
 use mathlib.Core.Path.{sym, _∙_}
 use Rattle.desk.proofs.Scans.{whole-none, whole-minus, whole-plus}
 use native.Mathlib.Omega.{arith}

@@ -1,7 +1,7 @@
-use mathlib.Core.Path.{_≡_, refl, sym, _∙_}
-use Prim.Native.Nat.{_+_, _*_, _-_, _≤_, _<_}
+-- `dispatch::moving::level` meets its contract. The loop's invariant: lengths stay. The measure is what is left of the bound on moves. Assumes nothing.
+use mathlib.Core.Path.{_≡_}
+use Prim.Native.Nat.{_-_, _≤_}
 use lib.ListN.{length}
-use native.Mathlib.Omega.{arith}
 use borrow.Author.Needs.{needs}
 use Rattle.dispatch.proofs.moving.level.Statement.{statement}
 use Rattle.dispatch.proofs.moving.level.Tie as tie
