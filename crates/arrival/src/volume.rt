@@ -46,7 +46,7 @@ fn numbered(draft: &[u64], k: usize, vertex: &[u64], count: u64, ranks: &[usize]
     requires { ⌜ Linked (now draft) k × (length (now vertex) ≡ 512) × (length (now ranks) ≡ 512) × (k ≤ 512) × ((i : ℕ) → i < k → getD (now ranks) i 0 < k) ⌝ }
     ensures { λ r. ⌜ Compared (now (vertex .entry)) (now (ranks .entry)) count k (now (draft .entry)) r ⌝ }
 {
-    let mut numbers = [4096usize; 4096];
+    let mut numbers = [0usize; 4096];
     let mut firsts = [0usize; 4096];
     let found = cells::vertex::number_vertices(draft, k, ranks, k, &mut numbers, &mut firsts);
     numbers_same(vertex, ranks, k, &numbers) & (count == found as u64)

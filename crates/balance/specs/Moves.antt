@@ -5,7 +5,7 @@ use mathlib.Core.List.{List, [], _∷_, map}
 use mathlib.Core.Logic.{_⊎_}
 use Prim.Native.Nat.{ℕ, _-_, _≤_, _<_}
 use lib.Dec.{leb, ltb, eqb}
-use lib.ListN.{length, getD, drop}
+use lib.ListN.{length, getD, drop, replicate}
 use lib.IntN.{ℤ, pos}
 use Rattle.model.specs.Lists.{keep, tab, concat-map, first-no}
 use Rattle.model.specs.Values.{Block, rack, all-rack}
@@ -18,6 +18,16 @@ use Rattle.mesh.specs.Parts.{blocks, part}
 -- 10 to 14 of the volume of the dart with this serial: they do not depend on the destination
 unfoldable pub can-leave : List ℕ → ℕ → Bool
 can-leave m s = eqb (first-no (drop 1 (departure-checks 512 (block-in m) 0 s))) 0
+
+-- the arrays that questions 9 to 14 are asked with: nothing is marked, and the others may hold anything
+pub record Asking (marks order starts seen numbers firsts stamps : List ℕ) : Type 0 where
+  pub unmarked : marks ≡ replicate room 0
+  pub order-size : length order ≡ room
+  pub starts-size : length starts ≡ room
+  pub unseen : seen ≡ replicate room 0
+  pub numbers-size : length numbers ≡ room
+  pub firsts-size : length firsts ≡ room
+  pub stamps-size : length stamps ≡ 512
 
 -- of a place, by the size of the picked volume that it starts: there is one, it is at most `left`, and it may leave
 abbrev pub fits : (ℕ → ℕ) → (ℕ → Bool) → ℕ → ℕ → Bool

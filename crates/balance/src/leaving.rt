@@ -1,62 +1,67 @@
 // Which picked volumes of a block may go to another: questions 9 to 14 of each, put once.
 ghost use mathlib.Core.Path.{_≡_};
-ghost use mathlib.Core.Bool.{true};
+ghost use mathlib.Core.Bool.{true, false};
 ghost use Prim.Native.Nat.{_≤_, _<_};
-ghost use lib.ListN.{length, getD, replicate};
+ghost use lib.ListN.{length, getD};
 ghost use Rattle.model.specs.Values.{rack};
 ghost use Rattle.model.specs.Image.{room, is-image};
-ghost use Rattle.balance.specs.Moves.{can-leave, Untried-in, going, at};
+ghost use Rattle.balance.specs.Moves.{Asking, can-leave, Untried-in, going, at};
 use departure::Leaving;
 use memory::record;
 use memory::record::Place;
 
-// Whether the volume of the dart with this serial may go to another block: 9 to 14. What stands in `order`, `starts` and `firsts` is
-// written before it is read, so no asking clears them.
+// Whether the volume of the dart with this serial may go to another block: 9 to 14. On a no `marks` and `seen` are clear again; what
+// stands in the other arrays is written before it is read. So no asking clears more than its volume has.
 fn may_leave(
     block: &[u64],
     to: u64,
     serial: u64,
+    marks: &mut [u8],
     order: &mut [usize],
     starts: &mut [usize],
+    seen: &mut [u8],
+    numbers: &mut [usize],
     firsts: &mut [usize],
+    stamps: &mut [usize],
 ) -> bool
     requires { ⌜ (is-image rack (now block) ≡ true) × (to ≤ 15) × (to ≡ getD (now block) 0 0 → ⊥) ⌝ }
-    requires { ⌜ (length (now order) ≡ room) × (length (now starts) ≡ room) × (length (now firsts) ≡ room) ⌝ }
-    ensures { λ r. ⌜ r ≡ can-leave (now (block .entry)) serial ⌝ }
+    requires { ⌜ Asking (now marks) (now order) (now starts) (now seen) (now numbers) (now firsts) (now stamps) ⌝ }
+    ensures answer { λ r. ⌜ r ≡ can-leave (now (block .entry)) serial ⌝ }
+    ensures again { λ r. ⌜ (r ≡ false → Asking (now (marks .exit)) (now (order .exit)) (now (starts .exit)) (now (seen .exit)) (now (numbers .exit)) (now (firsts .exit)) (now (stamps .exit))) ⌝ }
 {
-    let mut marks = [0u8; 4096];
-    let mut seen = [0u8; 4096];
-    let mut numbers = [4096usize; 4096];
-    let mut stamps = [0usize; 4096];
     match departure::leaves(
         block,
         to,
         serial,
-        &mut marks,
+        marks,
         order,
         starts,
-        &mut seen,
-        &mut numbers,
+        seen,
+        numbers,
         firsts,
-        &mut stamps,
+        stamps,
     ) {
         Leaving::Volume(_) => true,
         Leaving::Refused(_) => false,
     }
 }
 
-// The first volume that may go, with what every asking writes into lent.
+// The first volume that may go, with the arrays of an asking lent.
 fn first_asked(
     block: &[u64],
     to: u64,
     left: usize,
     sizes: &mut [usize],
+    marks: &mut [u8],
     order: &mut [usize],
     starts: &mut [usize],
+    seen: &mut [u8],
+    numbers: &mut [usize],
     firsts: &mut [usize],
+    stamps: &mut [usize],
 ) -> u64
     requires { ⌜ (is-image rack (now block) ≡ true) × (to ≤ 15) × (to ≡ getD (now block) 0 0 → ⊥) × (length (now sizes) ≡ room) ⌝ }
-    requires { ⌜ (length (now order) ≡ room) × (length (now starts) ≡ room) × (length (now firsts) ≡ room) ⌝ }
+    requires { ⌜ Asking (now marks) (now order) (now starts) (now seen) (now numbers) (now firsts) (now stamps) ⌝ }
     ensures serial { λ r. ⌜ r ≡ getD (going (at (now (sizes .entry))) (now (block .entry)) left) 0 0 ⌝ }
     ensures untried { λ r. ⌜ Untried-in (at (now (sizes .entry))) (now (block .entry)) (now (sizes .exit)) ⌝ }
 {
@@ -74,7 +79,18 @@ fn first_asked(
             continue;
         }
         let serial = record::field(block, Place(p), 0);
-        if may_leave(block, to, serial, order, starts, firsts) {
+        if may_leave(
+            block,
+            to,
+            serial,
+            marks,
+            order,
+            starts,
+            seen,
+            numbers,
+            firsts,
+            stamps,
+        ) {
             return serial;
         }
         sizes[p] = 0;
@@ -89,8 +105,24 @@ pub fn first_leaving(block: &[u64], to: u64, left: usize, sizes: &mut [usize]) -
     ensures serial { λ r. ⌜ r ≡ getD (going (at (now (sizes .entry))) (now (block .entry)) left) 0 0 ⌝ }
     ensures untried { λ r. ⌜ Untried-in (at (now (sizes .entry))) (now (block .entry)) (now (sizes .exit)) ⌝ }
 {
+    let mut marks = [0u8; 4096];
     let mut order = [0usize; 4096];
     let mut starts = [0usize; 4096];
+    let mut seen = [0u8; 4096];
+    let mut numbers = [0usize; 4096];
     let mut firsts = [0usize; 4096];
-    first_asked(block, to, left, sizes, &mut order, &mut starts, &mut firsts)
+    let mut stamps = [0usize; 512];
+    first_asked(
+        block,
+        to,
+        left,
+        sizes,
+        &mut marks,
+        &mut order,
+        &mut starts,
+        &mut seen,
+        &mut numbers,
+        &mut firsts,
+        &mut stamps,
+    )
 }

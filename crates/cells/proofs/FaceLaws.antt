@@ -1,5 +1,5 @@
 -- Message order by place: a marked place that no face so far holds starts a face, and any other does not. Assumes nothing.
-use mathlib.Core.Path.{_≡_, refl, sym, _∙_, ap}
+use mathlib.Core.Path.{_≡_, refl, sym, _∙_, ap, subst}
 use mathlib.Core.Logic.{_≢_}
 use mathlib.Core.Bool.{Bool, true, false, true≢false, cond, not, _&&_, _||_}
 use mathlib.Core.List.{List, [], _∷_, _++_, map, append-assoc, append-nil}
@@ -8,18 +8,18 @@ use native.Mathlib.Omega.{arith}
 use native.Mathlib.Nat.{add-zero, add-assoc, zero-add}
 use native.Mathlib.Numerals.{add-one}
 use lib.Dec.{leb, eqb}
-use lib.ListN.{length, getD, set, replicate, length-append, length-set, length-replicate}
+use lib.ListN.{length, getD, set, replicate, take, length-append, length-set, length-replicate}
 use lib.Seq.{take-suc-set}
-use borrow.Author.Tests.{eqb-true, eqb-false, eq-eqb, leb-true}
+use borrow.Author.Tests.{eqb-true, eqb-false, eq-eqb, ne-eqb, leb-true}
 use Rattle.model.specs.Lists.{all, ascending, keep, concat, distinct, mem, tab}
 use Rattle.model.specs.Cells.{cycle, faces}
 use Rattle.model.specs.Image.{room}
 use Rattle.model.specs.Departure.{placed}
 use Rattle.laws.proofs.Tests.{by-cases, and-left, and-right}
-use Rattle.laws.proofs.Members.{In, in-here, in-there, in-keep, keep-in, all-in, keep-ascending, ascending-distinct, distinct-not, pigeonhole, map-append}
+use Rattle.laws.proofs.Members.{In, in-here, in-there, in-keep, keep-in, all-in, keep-ascending, ascending-distinct, distinct-not, pigeonhole, map-append, none-kept}
 use Rattle.laws.proofs.Faces.{face-sym, face-stays, face-start, start-in, start-starts, in-faces, faces-only, faces-distinct, order-has, order-only, along-face}
 use Rattle.laws.proofs.Tables.{length-tab, tab-ascending}
-use Rattle.cells.specs.Places.{Within, Apart, Closed, InOrder, Painted, Put, bit, marked}
+use Rattle.cells.specs.Places.{Within, Apart, Closed, InOrder, Marked, Painted, Put, bit, marked}
 use Rattle.cells.proofs.Walks.{eq-or-ne, getD-zeros}
 use Rattle.cells.proofs.Reached.{places, in-places, places-below, within-places}
 use Rattle.cells.proofs.Paths.{apart-places, few-places, mem-append, round}
@@ -195,15 +195,23 @@ module _ (n : ℕ) (f : ℕ → ℕ) (marks : List ℕ) (few : n ≤ room) (wf :
       (λ x k. let r = faces-only f (marked n marks) stays apart small (keep (λ x. all (leb x) (cycle f x)) (marked p marks)) x k in
       face-stays f (marked n marks) stays apart small (r .0) x (sooner p h (r .0) (keep-in (λ x. all (leb x) (cycle f x)) (marked p marks) (r .0) (r .1) .0)) (r .2))
 
-  -- nothing is put at the start
-  pub ordering-start : (out starts seen : List ℕ) → length out ≡ room → length starts ≡ room → seen ≡ replicate room 0 → Ordering n f marks 0 out starts seen 0 0
-  unfolding faces marked concat placed
-  ordering-start out starts seen a b e = record {
-    so-far = record { out-size = a; starts-size = b; order = refl; darts-are = refl; indices = refl; count-is = refl };
-    p-le = omega arith;
+  -- nothing is put at the start: no place below it is marked
+  none-marked : (low : ℕ) → ((q : ℕ) → q < low → getD marks q 0 ≡ 0) → marked low marks ≡ []
+  unfolding marked
+  none-marked low h = none-kept (λ p. eqb (getD marks p 0) 1) (places low) (λ p k. ne-eqb (getD marks p 0) 1 (λ e. omega (arith, e, h p (places-below low p k))))
+
+  no-faces : (low : ℕ) → ((q : ℕ) → q < low → getD marks q 0 ≡ 0) → faces f (marked low marks) ≡ []
+  unfolding faces
+  no-faces low h = ap (faces f) (none-marked low h)
+
+  pub ordering-start : (low : ℕ) (out starts seen : List ℕ) → low ≤ n → ((q : ℕ) → q < low → getD marks q 0 ≡ 0) → length out ≡ room → length starts ≡ room → seen ≡ replicate room 0 → Ordering n f marks low out starts seen 0 0
+  unfolding concat placed
+  ordering-start low out starts seen le none a b e = record {
+    so-far = subst (λ (fs : List (List ℕ)). InOrder fs out starts 0 0) (sym (no-faces low none)) (record { out-size = a; starts-size = b; order = refl; darts-are = refl; indices = refl; count-is = refl });
+    p-le = le;
     count-le = omega arith;
     seen-size = rw e (length-replicate {A = ℕ} room 0);
-    seen-is = λ q. rw e (getD-zeros room q);
+    seen-is = λ q. ap (λ (l : List ℕ). getD l q 0) e ∙ getD-zeros room q ∙ ap (λ (fs : List (List ℕ)). bit (mem q (concat fs))) (sym (no-faces low none));
   }
 
   module _ {p darts count : ℕ} {out starts seen : List ℕ} (o : Ordering n f marks p out starts seen darts count) (h : p < n) where
@@ -280,6 +288,9 @@ module _ (n : ℕ) (f : ℕ → ℕ) (marks : List ℕ) (few : n ≤ room) (wf :
   module _ {p darts count : ℕ} {out starts seen : List ℕ} (o : Ordering n f marks p out starts seen darts count) where
     pub ordering-end : length (marked n marks) ≤ darts → InOrder (faces f (marked n marks)) out starts darts count
     ordering-end full = rw (full-end (n - p) p (omega (arith, o .p-le)) (omega (arith, o .so-far .darts-are))) (o .so-far)
+
+    pub ordering-seen : length (marked n marks) ≤ darts → Marked (take darts out) seen
+    ordering-seen full = record { size = o .seen-size; mark = λ q. o .seen-is q ∙ ap (λ (l : List ℕ). bit (mem q l)) (sym (o .so-far .order)) }
 
     -- before that a place is left
     pub ordering-on : darts < length (marked n marks) → p < n

@@ -4,6 +4,7 @@ pub mod Sited
 pub mod Serials
 pub mod SewnLaws
 pub mod Paths
+pub mod Resets
 pub mod FaceLaws
 pub mod FaceSerials
 pub mod RingLaws

@@ -12,7 +12,6 @@ use lib.Seq.{getD-set-same, getD-set-other}
 use borrow.Author.Tests.{eq-eqb, ne-eqb, eqb-true, eqb-false, not-true}
 use Rattle.model.specs.Lists.{all, any, mem, distinct, tab}
 use Rattle.model.specs.Cells.{cycle}
-use Rattle.model.specs.Image.{room}
 use Rattle.model.specs.Departure.{same-pair, pairs-once}
 use Rattle.laws.proofs.Tests.{by-cases, and-intro, and-left, and-right, not-equal}
 use Rattle.laws.proofs.Members.{In, in-here, in-there, in-eq, in-cons, map-append, distinct-append, distinct-left, distinct-apart, distinct-not}
@@ -70,9 +69,9 @@ module _ (key nx : ℕ → ℕ) where
           absurd (o .pairs-differ z (r .0) (in-here z v) (in-there (r .0) z v (r .1)) (λ w. distinct-not z v d (r .0) (r .1) (sym w)) (r .2) (r .3))
 
 -- STAMPS
-pub stamp-start : (a : ℕ) (stamps : List ℕ) → a < room → length stamps ≡ room → ((b : ℕ) → getD stamps b 0 ≤ a) → Stamped (a + 1) (a ∷ []) (set stamps a (a + 1))
-stamp-start a stamps h len low = record {
-  size = simp length-set len;
+pub stamp-start : (a : ℕ) (stamps : List ℕ) → a < length stamps → ((b : ℕ) → getD stamps b 0 ≤ a) → Stamped (length stamps) (a + 1) (a ∷ []) (set stamps a (a + 1))
+stamp-start a stamps h low = record {
+  size = simp length-set;
   bound = λ b. eq-or-ne b a (λ e. rw e (omega (arith, here))) (λ e. omega (arith, getD-set-other stamps a b (a + 1) 0 e, low b));
   stamp-is = λ b k. eq-or-ne b a
       (λ e. rw (e, here, eq-eqb (a + 1) (a + 1) refl, eq-eqb a a refl))
@@ -82,8 +81,8 @@ stamp-start a stamps h len low = record {
     here : getD (set stamps a (a + 1)) a 0 ≡ a + 1
     here = getD-set-same stamps a (a + 1) 0 (omega arith)
 
-pub stamp-more : {c : ℕ} {l stamps : List ℕ} → Stamped c l stamps → (b : ℕ) → b < room → Stamped c (l ++ b ∷ []) (set stamps b c)
-stamp-more {c} {l} {stamps} s b h = record {
+pub stamp-more : {m c : ℕ} {l stamps : List ℕ} → Stamped m c l stamps → (b : ℕ) → b < m → Stamped m c (l ++ b ∷ []) (set stamps b c)
+stamp-more {m} {c} {l} {stamps} s b h = record {
   size = simp length-set (s .size);
   bound = λ d. eq-or-ne d b (λ e. rw e (omega (arith, here))) (λ e. omega (arith, getD-set-other stamps b d c 0 e, s .bound d));
   stamp-is = λ d k. rw (mem-append d l (b ∷ [])) (eq-or-ne d b
@@ -103,27 +102,27 @@ stamp-more {c} {l} {stamps} s b h = record {
     neither false = refl
 
 -- as the calls leave the table
-pub stamped-first : {a : ℕ} (stamps : List ℕ) {stamps′ : List ℕ} → a < room → length stamps ≡ room → ((b : ℕ) → getD stamps b 0 ≤ a) → stamps′ ≡ set stamps a (a + 1) → Stamped (a + 1) (a ∷ []) stamps′
-stamped-first {a} stamps h len low e = rw e (stamp-start a stamps h len low)
+pub stamped-first : {a : ℕ} (stamps : List ℕ) {stamps′ : List ℕ} → a < length stamps → ((b : ℕ) → getD stamps b 0 ≤ a) → stamps′ ≡ set stamps a (a + 1) → Stamped (length stamps′) (a + 1) (a ∷ []) stamps′
+stamped-first {a} stamps h low e = rw (e, length-set) (stamp-start a stamps h low)
 
-pub stamped-next : {c b : ℕ} {l stamps stamps′ : List ℕ} → Stamped c l stamps → b < room → stamps′ ≡ set stamps b c → Stamped c (l ++ b ∷ []) stamps′
+pub stamped-next : {m c b : ℕ} {l stamps stamps′ : List ℕ} → Stamped m c l stamps → b < m → stamps′ ≡ set stamps b c → Stamped m c (l ++ b ∷ []) stamps′
 stamped-next {b = b} s h e = rw e (stamp-more s b h)
 
-pub stamped-size : {c : ℕ} {l stamps : List ℕ} (b : ℕ) {stamps′ : List ℕ} → Stamped c l stamps → stamps′ ≡ set stamps b c → length stamps′ ≡ room
+pub stamped-size : {m c : ℕ} {l stamps : List ℕ} (b : ℕ) {stamps′ : List ℕ} → Stamped m c l stamps → stamps′ ≡ set stamps b c → length stamps′ ≡ m
 stamped-size b s e = rw e (simp length-set (s .size))
 
 -- THE WALK along a ring: a and the ends so far differ, and are stamped
-pub record Ending (n : ℕ) (nx f : ℕ → ℕ) (numbers : List ℕ) (x a c k p : ℕ) (stamps : List ℕ) : Type 0 where
+pub record Ending (n : ℕ) (nx f : ℕ → ℕ) (numbers : List ℕ) (m x a c k p : ℕ) (stamps : List ℕ) : Type 0 where
   pub going : Going n f x c k p
   pub differ : distinct (a ∷ map (λ q. getD numbers (nx q) 0) (path f k x)) ≡ true
-  pub stamped : Stamped (a + 1) (a ∷ map (λ q. getD numbers (nx q) 0) (path f k x)) stamps
+  pub stamped : Stamped m (a + 1) (a ∷ map (λ q. getD numbers (nx q) 0) (path f k x)) stamps
 
 path-split : (f : ℕ → ℕ) (i j x : ℕ) → path f (i + j) x ≡ path f i x ++ path f j (iter f i x)
 path-split f zero j x = let z : 0 + j ≡ j = omega arith in rw z
 path-split f (suc i) j x = let z : suc i + j ≡ suc (i + j) = omega arith in rw z (ap (λ (l : List ℕ). x ∷ l) (path-split f i j (f x)))
 
-module _ {n : ℕ} {nx f : ℕ → ℕ} {numbers stamps : List ℕ} {x a c k p b : ℕ} (wf : Within n f) (r : Round f x c) (w : Ending n nx f numbers x a c k p stamps)
-    (e : b ≡ getD numbers (nx p) 0) (small : b < room) where
+module _ {n : ℕ} {nx f : ℕ → ℕ} {numbers stamps : List ℕ} {m x a c k p b : ℕ} (wf : Within n f) (r : Round f x c) (w : Ending n nx f numbers m x a c k p stamps)
+    (e : b ≡ getD numbers (nx p) 0) (small : b < m) where
   one-end : (a ∷ map (λ q. getD numbers (nx q) 0) (path f (suc k) x)) ≡ (a ∷ map (λ q. getD numbers (nx q) 0) (path f k x)) ++ b ∷ []
   one-end = ap (λ (l : List ℕ). a ∷ map (λ q. getD numbers (nx q) 0) l) (path-next wf r (w .going))
       ∙ ap (λ (l : List ℕ). a ∷ l) (map-append (λ q. getD numbers (nx q) 0) (path f k x) (p ∷ []))
@@ -165,7 +164,7 @@ module _ {n : ℕ} {nx f : ℕ → ℕ} {numbers stamps : List ℕ} {x a c k p b
         go y h false m = m
         go y h true m = in-cons y b [] m (λ same. absurd (true≢false (sym (in-eq b y (a ∷ map (λ q. getD numbers (nx q) 0) (path f k x)) (sym same) h) ∙ absent))) (λ z. absurd (true≢false (sym z)))
 
-    pub ending-more : {q : ℕ} {stamps′ : List ℕ} → stamps′ ≡ set stamps b (a + 1) → Going n f x c (k + 1) q → Ending n nx f numbers x a c (k + 1) q stamps′
+    pub ending-more : {q : ℕ} {stamps′ : List ℕ} → stamps′ ≡ set stamps b (a + 1) → Going n f x c (k + 1) q → Ending n nx f numbers m x a c (k + 1) q stamps′
     ending-more s g = let more : k + 1 ≡ suc k = omega arith in
         record { going = g; differ = rw more further; stamped = rw (more, one-end) (stamped-next (w .stamped) small s) }
 
@@ -191,5 +190,5 @@ ends-not nx op numbers firsts count a h e = by-cases (all (λ a. distinct (a ∷
 pub true-more : (t : ℕ → Bool) (a : ℕ) → ((k : ℕ) → k < a → t k ≡ true) → t a ≡ true → (k : ℕ) → k < a + 1 → t k ≡ true
 true-more t a h e k l = last-or-below l (λ w. rw w e) (h k)
 
-pub clear-stamps : (stamps : List ℕ) → stamps ≡ replicate room 0 → (b : ℕ) → getD stamps b 0 ≤ 0
-clear-stamps stamps e b = rw e (omega (arith, getD-zeros room b))
+pub clear-stamps : (m : ℕ) (stamps : List ℕ) → stamps ≡ replicate m 0 → (b : ℕ) → getD stamps b 0 ≤ 0
+clear-stamps m stamps e b = rw e (omega (arith, getD-zeros m b))

@@ -146,7 +146,7 @@ module _ (n : ℕ) (nx op : ℕ → ℕ) (few : n ≤ room) (wn : Within n nx) (
     firsts-size = m .firsts-size;
     count-few = omega (arith, m .count-le, w .few);
     first-below = λ a h. w .below (getD first a 0) (m .firsts-in a h);
-    end-below = λ a h q k. omega (arith, number-below (nx q) (w .next-in q (ring-inside (getD first a 0) q (m .firsts-in a h) k)), m .count-le, w .few);
+    end-below = λ a h q k. number-below (nx q) (w .next-in q (ring-inside (getD first a 0) q (m .firsts-in a h) k));
   }
 
   -- a dart lies in the ring of the first dart with its number

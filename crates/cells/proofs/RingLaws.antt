@@ -7,7 +7,7 @@ use Prim.Native.Nat.{ℕ, zero, suc, _+_, _≤_, _<_}
 use native.Mathlib.Omega.{arith}
 use native.Mathlib.Numerals.{add-one}
 use lib.Dec.{eqb}
-use lib.ListN.{length, getD, set, take, replicate, length-append, length-set, length-replicate}
+use lib.ListN.{length, getD, set, take, length-append, length-set}
 use lib.Seq.{getD-set-same, getD-set-other, take-suc, take-suc-set, length-take-le, getD-take}
 use borrow.Author.Tests.{eq-eqb, ne-eqb}
 use Rattle.model.specs.Lists.{keep, mem, firsts, index-of, least}
@@ -18,7 +18,7 @@ use Rattle.laws.proofs.Members.{In, in-here, in-eq, in-getD, in-append-left, in
 use Rattle.laws.proofs.Faces.{face-self, face-stays, face-sym, face-trans}
 use Rattle.theory.proofs.ImageLaws.{place-back}
 use Rattle.cells.specs.Places.{Within, Apart, Painted, Numbered}
-use Rattle.cells.proofs.Walks.{eq-or-ne, last-or-below}
+use Rattle.cells.proofs.Walks.{eq-or-ne, in-take, last-or-below}
 use Rattle.cells.proofs.Reached.{places, in-places, places-below, within-places}
 use Rattle.cells.proofs.Paths.{apart-places, few-places, mem-append}
 use Rattle.cells.proofs.FaceLaws.{keep-append}
@@ -110,61 +110,56 @@ module _ (n : ℕ) (nx op : ℕ → ℕ) (few : n ≤ room) (wn : Within n nx) (
       (λ e. rw (eq-eqb _ _ e) (one-ring x y hx hy e))
       (λ e. rw (ne-eqb _ _ e) (by-cases (mem y (ring nx op x)) (λ k. absurd (e (one-vertex x y hx hy k))) (λ k. k)))
 
--- NUMBERS: the darts `done` are passed, and every dart below n whose vertex one of them has, has its number
-pub record Numbering (n : ℕ) (nx op : ℕ → ℕ) (done numbers first : List ℕ) (count : ℕ) : Type 0 where
+-- NUMBERS: of the darts l those of `done` are passed, and every dart of l whose vertex one of them has, has its number
+pub record Numbering (n : ℕ) (nx op : ℕ → ℕ) (l done numbers first : List ℕ) (count : ℕ) : Type 0 where
   pub numbers-size : length numbers ≡ room
   pub first-size : length first ≡ room
-  pub value : (q : ℕ) → q < n → getD numbers q 0 ≡ cond (mem (vertex nx op q) (vertices nx op done)) (index-of (vertex nx op q) (vertices nx op done)) room
+  pub value : (q : ℕ) → q < n → In q l → getD numbers q 0 ≡ cond (mem (vertex nx op q) (vertices nx op done)) (index-of (vertex nx op q) (vertices nx op done)) room
   pub count-is : count ≡ length (vertices nx op done)
   pub count-le : count ≤ length done
   pub firsts-are : map (vertex nx op) (take count first) ≡ vertices nx op done
   pub firsts-in : (k : ℕ) → k < count → In (getD first k 0) done
 
-pub numbering-start : (n : ℕ) (nx op : ℕ → ℕ) (numbers first : List ℕ) → n ≤ room → numbers ≡ replicate room room → length first ≡ room → Numbering n nx op [] numbers first 0
+pub numbering-start : (n : ℕ) (nx op : ℕ → ℕ) (l numbers first : List ℕ) → length numbers ≡ room → ((q : ℕ) → In q l → getD numbers q 0 ≡ room) → length first ≡ room → Numbering n nx op l [] numbers first 0
 unfolding vertices firsts
-numbering-start n nx op numbers first few e l = record {
-  numbers-size = rw e (length-replicate {A = ℕ} room room);
-  first-size = l;
-  value = λ q h. rw e (getD-same room room q (omega arith));
+numbering-start n nx op l numbers first size none fits = record {
+  numbers-size = size;
+  first-size = fits;
+  value = λ q h k. none q k;
   count-is = refl;
   count-le = omega arith;
   firsts-are = refl;
   firsts-in = λ k h. absurd (omega arith);
 }
-  where
-    getD-same : (k v q : ℕ) → q < k → getD (replicate k v) q 0 ≡ v
-    getD-same zero v q h = absurd (omega arith)
-    getD-same (suc k) v zero h = refl
-    getD-same (suc k) v (suc q) h = getD-same k v q (omega arith)
 
 vertices-more : (nx op : ℕ → ℕ) (l : List ℕ) (p : ℕ) → vertices nx op (l ++ p ∷ []) ≡ vertices nx op l ++ cond (mem (vertex nx op p) (vertices nx op l)) [] (vertex nx op p ∷ [])
 unfolding vertices
 vertices-more nx op l p = ap firsts (map-append (vertex nx op) l (p ∷ [])) ∙ firsts-more (map (vertex nx op) l) (vertex nx op p)
     ∙ ap (λ (b : Bool). firsts (map (vertex nx op) l) ++ cond b [] (vertex nx op p ∷ [])) (sym (mem-firsts (vertex nx op p) (map (vertex nx op) l)))
 
-module _ {n p count : ℕ} {nx op : ℕ → ℕ} {done numbers first : List ℕ} (w : Numbering n nx op done numbers first count) (h : p < n) (short : length done < room) where
+module _ {n p count : ℕ} {nx op : ℕ → ℕ} {l done numbers first : List ℕ} (w : Numbering n nx op l done numbers first count) (h : p < n) (here : In p l) (short : length done < room) where
   -- a dart that has a number
-  pub numbering-skip : (getD numbers p 0 ≡ room → ⊥) → Numbering n nx op (done ++ p ∷ []) numbers first count
+  pub numbering-skip : (getD numbers p 0 ≡ room → ⊥) → Numbering n nx op l (done ++ p ∷ []) numbers first count
   numbering-skip ne = record {
     numbers-size = w .numbers-size;
     first-size = w .first-size;
-    value = λ q k. rw same (w .value q k);
+    value = λ q k i. rw same (w .value q k i);
     count-is = rw same (w .count-is);
     count-le = omega (arith, w .count-le, length-append done (p ∷ []));
     firsts-are = rw same (w .firsts-are);
-    firsts-in = λ k l. in-append-left (getD first k 0) done (p ∷ []) (w .firsts-in k l);
+    firsts-in = λ k j. in-append-left (getD first k 0) done (p ∷ []) (w .firsts-in k j);
   }
     where
       same : vertices nx op (done ++ p ∷ []) ≡ vertices nx op done
       same = by-cases (mem (vertex nx op p) (vertices nx op done))
           (λ e. vertices-more nx op done p ∙ ap (λ (b : Bool). vertices nx op done ++ cond b [] (vertex nx op p ∷ [])) e ∙ append-nil (vertices nx op done))
-          (λ e. absurd (ne (w .value p h ∙ ap (λ (b : Bool). cond b (index-of (vertex nx op p) (vertices nx op done)) room) e)))
+          (λ e. absurd (ne (w .value p h here ∙ ap (λ (b : Bool). cond b (index-of (vertex nx op p) (vertices nx op done)) room) e)))
 
   -- a dart that has none
   module _ (none : getD numbers p 0 ≡ room) where
     unnumbered : mem (vertex nx op p) (vertices nx op done) ≡ false
     unnumbered = by-cases (mem (vertex nx op p) (vertices nx op done))
-        (λ e. let at : getD numbers p 0 ≡ index-of (vertex nx op p) (vertices nx op done) = w .value p h ∙ ap (λ (b : Bool). cond b (index-of (vertex nx op p) (vertices nx op done)) room) e in
+        (λ e. let at : getD numbers p 0 ≡ index-of (vertex nx op p) (vertices nx op done) = w .value p h here ∙ ap (λ (b : Bool). cond b (index-of (vertex nx op p) (vertices nx op done)) room) e in
         absurd (omega (arith, place-back (vertex nx op p) (vertices nx op done) e .1, w .count-is, w .count-le)))
         (λ e. e)
 
@@ -172,35 +167,35 @@ module _ {n p count : ℕ} {nx op : ℕ → ℕ} {done numbers first : List ℕ}
     grown = vertices-more nx op done p ∙ ap (λ (b : Bool). vertices nx op done ++ cond b [] (vertex nx op p ∷ [])) unnumbered
 
     pub numbering-new : {numbers′ : List ℕ} → ((x y : ℕ) → x < n → y < n → mem y (ring nx op x) ≡ eqb (vertex nx op y) (vertex nx op x))
-        → Painted count (ring nx op p) numbers numbers′ → Numbering n nx op (done ++ p ∷ []) numbers′ (set first count p) (count + 1)
+        → Painted count (ring nx op p) numbers numbers′ → Numbering n nx op l (done ++ p ∷ []) numbers′ (set first count p) (count + 1)
     numbering-new {numbers′} test m = record {
       numbers-size = m .size ∙ w .numbers-size;
       first-size = simp length-set (w .first-size);
-      value = λ q k. m .value q ∙ ap (λ (b : Bool). cond b count (getD numbers q 0)) (test p q h k) ∙ numbered q k;
+      value = λ q k i. m .value q ∙ ap (λ (b : Bool). cond b count (getD numbers q 0)) (test p q h k) ∙ numbered q k i;
       count-is = omega (arith, w .count-is, ap length grown, length-append (vertices nx op done) (vertex nx op p ∷ []));
       count-le = omega (arith, w .count-le, length-append done (p ∷ []));
       firsts-are = rw (grown, add-one, take-suc-set first count p (omega (arith, w .first-size, w .count-le)), map-append, w .firsts-are);
-      firsts-in = λ k l. last-or-below l
+      firsts-in = λ k j. last-or-below j
           (λ e. in-append-right (getD (set first count p) k 0) done (p ∷ []) (in-eq _ p (p ∷ []) (ap (λ (j : ℕ). getD (set first count p) j 0) e ∙ getD-set-same first count p 0 (omega (arith, w .first-size, w .count-le))) (in-here p [])))
           (λ e. in-append-left (getD (set first count p) k 0) done (p ∷ []) (in-eq _ (getD first k 0) done (getD-set-other first count k p 0 (λ z. omega arith)) (w .firsts-in k e)));
     }
       where
-        numbered : (q : ℕ) → q < n → cond (eqb (vertex nx op q) (vertex nx op p)) count (getD numbers q 0)
+        numbered : (q : ℕ) → q < n → In q l → cond (eqb (vertex nx op q) (vertex nx op p)) count (getD numbers q 0)
             ≡ cond (mem (vertex nx op q) (vertices nx op (done ++ p ∷ []))) (index-of (vertex nx op q) (vertices nx op (done ++ p ∷ []))) room
-        numbered q k = rw (grown, mem-append (vertex nx op q) (vertices nx op done) (vertex nx op p ∷ [])) (eq-or-ne (vertex nx op q) (vertex nx op p)
+        numbered q k here = rw (grown, mem-append (vertex nx op q) (vertices nx op done) (vertex nx op p ∷ [])) (eq-or-ne (vertex nx op q) (vertex nx op p)
             (λ e. rw (e, eq-eqb (vertex nx op p) (vertex nx op p) refl, unnumbered, index-last (vertex nx op p) (vertices nx op done) unnumbered) (w .count-is))
-            (λ e. rw (ne-eqb _ _ e) (w .value q k ∙ by-cases (mem (vertex nx op q) (vertices nx op done))
+            (λ e. rw (ne-eqb _ _ e) (w .value q k here ∙ by-cases (mem (vertex nx op q) (vertices nx op done))
             (λ i. rw (i, index-more (vertex nx op q) (vertices nx op done) (vertex nx op p ∷ []) i))
             (λ i. rw i))))
 
 -- the darts before i of an order are passed
 pub record Passing (n : ℕ) (nx op : ℕ → ℕ) (order : List ℕ) (darts i : ℕ) (numbers first : List ℕ) (count : ℕ) : Type 0 where
   pub i-le : i ≤ darts
-  pub passed : Numbering n nx op (take i order) numbers first count
+  pub passed : Numbering n nx op (take darts order) (take i order) numbers first count
   pub few : count ≤ i
 
-pub passing-start : (n : ℕ) (nx op : ℕ → ℕ) (order : List ℕ) (darts : ℕ) (numbers first : List ℕ) → n ≤ room → numbers ≡ replicate room room → length first ≡ room → Passing n nx op order darts 0 numbers first 0
-passing-start n nx op order darts numbers first few e l = record { i-le = omega arith; passed = numbering-start n nx op numbers first few e l; few = omega arith }
+pub passing-start : (n : ℕ) (nx op : ℕ → ℕ) (order : List ℕ) (darts : ℕ) (numbers first : List ℕ) → length numbers ≡ room → ((q : ℕ) → In q (take darts order) → getD numbers q 0 ≡ room) → length first ≡ room → Passing n nx op order darts 0 numbers first 0
+passing-start n nx op order darts numbers first size none fits = record { i-le = omega arith; passed = numbering-start n nx op (take darts order) numbers first size none fits; few = omega arith }
 
 module _ {n darts i count p : ℕ} {nx op : ℕ → ℕ} {order numbers first : List ℕ} (w : Passing n nx op order darts i numbers first count)
     (h : i < darts) (fits : darts ≤ room) (there : darts ≤ length order) (below : (k : ℕ) → k < darts → getD order k 0 < n) (e : p ≡ getD order i 0) where
@@ -213,16 +208,19 @@ module _ {n darts i count p : ℕ} {nx op : ℕ → ℕ} {order numbers first : 
   pub place-below : p < n
   place-below = rw e (below i h)
 
+  place-in : In p (take darts order)
+  place-in = rw e (in-take order darts i h (omega arith))
+
   pub passing-skip : (getD numbers p 0 ≡ room → ⊥) → Passing n nx op order darts (i + 1) numbers first count
-  passing-skip ne = record { i-le = omega arith; passed = rw one-more (numbering-skip (w .passed) place-below short ne); few = omega (arith, w .few) }
+  passing-skip ne = record { i-le = omega arith; passed = rw one-more (numbering-skip (w .passed) place-below place-in short ne); few = omega (arith, w .few) }
 
   pub passing-new : {numbers′ : List ℕ} → getD numbers p 0 ≡ room → ((x y : ℕ) → x < n → y < n → mem y (ring nx op x) ≡ eqb (vertex nx op y) (vertex nx op x))
       → Painted count (ring nx op p) numbers numbers′ → Passing n nx op order darts (i + 1) numbers′ (set first count p) (count + 1)
-  passing-new none test m = record { i-le = omega arith; passed = rw one-more (numbering-new (w .passed) place-below short none test m); few = omega (arith, w .few) }
+  passing-new none test m = record { i-le = omega arith; passed = rw one-more (numbering-new (w .passed) place-below place-in short none test m); few = omega (arith, w .few) }
 
-pub numbering-end : {n count : ℕ} {nx op : ℕ → ℕ} {l numbers first : List ℕ} → Numbering n nx op l numbers first count → ((p : ℕ) → In p l → p < n) → Numbered nx op l numbers first count
+pub numbering-end : {n count : ℕ} {nx op : ℕ → ℕ} {l numbers first : List ℕ} → Numbering n nx op l l numbers first count → ((p : ℕ) → In p l → p < n) → Numbered nx op l numbers first count
 unfolding vertex-number vertices
-numbering-end {n} {count} {nx} {op} {l} w h = record { numbers-size = w .numbers-size; firsts-size = w .first-size; count-le = w .count-le; firsts-in = w .firsts-in; number = λ p k. w .value p (h p k) ∙ ap (λ (b : Bool). cond b (index-of (vertex nx op p) (vertices nx op l)) room) (there p k); count-is = w .count-is; firsts-are = w .firsts-are }
+numbering-end {n} {count} {nx} {op} {l} w h = record { numbers-size = w .numbers-size; firsts-size = w .first-size; count-le = w .count-le; firsts-in = w .firsts-in; number = λ p k. w .value p (h p k) k ∙ ap (λ (b : Bool). cond b (index-of (vertex nx op p) (vertices nx op l)) room) (there p k); count-is = w .count-is; firsts-are = w .firsts-are }
   where
     there : (p : ℕ) → In p l → In (vertex nx op p) (vertices nx op l)
     there p k = mem-firsts (vertex nx op p) (map (vertex nx op) l) ∙ in-map (vertex nx op) p l k

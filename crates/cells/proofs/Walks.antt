@@ -5,15 +5,15 @@ use mathlib.Core.List.{List, [], _∷_}
 use Prim.Native.Nat.{ℕ, zero, suc, _+_, _≤_, _<_}
 use native.Mathlib.Omega.{arith}
 use lib.Dec.{eqb}
-use lib.ListN.{length, getD, set, replicate, length-set, length-replicate}
+use lib.ListN.{length, getD, set, replicate, take, length-set, length-replicate}
 use lib.Seq.{getD-set-same, getD-set-other}
 use borrow.Author.Tests.{eqb-true, eqb-false}
 use Rattle.model.specs.Lists.{keep, mem, tab, sum}
 use Rattle.model.specs.Image.{room}
 use Rattle.laws.proofs.Tests.{by-cases}
-use Rattle.laws.proofs.Members.{In}
+use Rattle.laws.proofs.Members.{In, in-eq, in-here, in-there}
 use Rattle.laws.proofs.Volumes.{Volume}
-use Rattle.cells.specs.Places.{Within, Marked, Visited, bit, places-in}
+use Rattle.cells.specs.Places.{Within, Listed, Marked, Visited, bit, places-in}
 
 -- CASES
 pub eq-or-ne {ℓ} : {C : Type ℓ} (a b : ℕ) → (a ≡ b → C) → ((a ≡ b → ⊥) → C) → C
@@ -22,6 +22,13 @@ eq-or-ne a b f g = by-cases (eqb a b) (λ e. f (eqb-true a b e)) (λ e. g (eqb-f
 -- the code's i + 1
 pub last-or-below {ℓ} : {C : Type ℓ} {k i : ℕ} → k < i + 1 → (k ≡ i → C) → (k < i → C) → C
 last-or-below {C = C} {k = k} {i = i} h f g = eq-or-ne k i f (λ w. g (omega arith))
+
+-- THE FIRST of a list
+pub in-take : (l : List ℕ) (t k : ℕ) → k < t → k < length l → In (getD l k 0) (take t l)
+in-take [] t k h less = absurd (omega arith)
+in-take (x ∷ l) zero k h less = absurd (omega arith)
+in-take (x ∷ l) (suc t) zero h less = in-here x (take t l)
+in-take (x ∷ l) (suc t) (suc k) h less = in-there (getD l k 0) x (take t l) (in-take l t k (omega arith) (omega arith))
 
 -- TOTALS of marks
 sum-set : (l : List ℕ) (i : ℕ) → i < length l → getD l i 0 ≡ 0 → sum (set l i 1) ≡ sum l + 1
@@ -203,3 +210,13 @@ module _ (n : ℕ) (f g : ℕ → ℕ) (d : ℕ) (v : List ℕ) (vol : Volume f 
         above p k = eq-or-ne (getD m p 0) 1
             (λ one. let b = w .queue .back p one in absurd (omega (arith, w .queue .queued (b .0) (b .1) .0, b .2)))
             (λ other. omega (arith, w .queue .bits p))
+
+    -- and the queue lists it
+    pub walk-listed : t ≤ h → Listed n v o t
+    walk-listed e = record {
+      size = w .queue .len-o;
+      few = queue-le (w .queue);
+      below = λ k l. w .queue .queued k l .0;
+      has = λ p i. let b = w .queue .back p (reached e p i) in
+          in-eq p (getD o (b .0) 0) (take t o) (sym (b .2)) (in-take o t (b .0) (b .1) (omega (arith, b .1, queue-le (w .queue), w .queue .len-o)));
+    }

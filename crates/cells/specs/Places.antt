@@ -56,6 +56,13 @@ sewn-out b marks p = eqb (column b 3 p % 4) 1 && not (eqb (getD marks (column b 
 unfoldable pub places-in : ℕ → List ℕ → List ℕ
 places-in n v = keep (λ p. mem p v) (tab (λ p. p) n)
 
+-- the first t places of o are below n, and have every place of v among them
+pub record Listed (n : ℕ) (v o : List ℕ) (t : ℕ) : Type 0 where
+  pub size : length o ≡ room
+  pub few : t ≤ room
+  pub below : (k : ℕ) → k < t → getD o k 0 < n
+  pub has : (p : ℕ) → mem p v ≡ true → mem p (take t o) ≡ true
+
 -- a visit of p: unless it was marked before, it is marked and put at the end of the queue, of length t
 pub record Visited (p : ℕ) (m o : List ℕ) (t : ℕ) (m′ o′ : List ℕ) (t′ : ℕ) : Type 0 where
   pub marks : m′ ≡ cond (eqb (getD m p 0) 0) (set m p 1) m
@@ -118,10 +125,10 @@ pub record Ended (n : ℕ) (nx op : ℕ → ℕ) (numbers firsts : List ℕ) (co
   pub firsts-size : length firsts ≡ room
   pub count-few : count ≤ room
   pub first-below : (a : ℕ) → a < count → getD firsts a 0 < n
-  pub end-below : (a : ℕ) → a < count → (q : ℕ) → mem q (ring nx op (getD firsts a 0)) ≡ true → getD numbers (nx q) 0 < room
+  pub end-below : (a : ℕ) → a < count → (q : ℕ) → mem q (ring nx op (getD firsts a 0)) ≡ true → getD numbers (nx q) 0 < count
 
--- entries that have a colour are those of a list; none is above it
-pub record Stamped (colour : ℕ) (l stamps : List ℕ) : Type 0 where
-  pub size : length stamps ≡ room
+-- of m entries, those that have a colour are those of a list; none is above it
+pub record Stamped (m colour : ℕ) (l stamps : List ℕ) : Type 0 where
+  pub size : length stamps ≡ m
   pub bound : (b : ℕ) → getD stamps b 0 ≤ colour
-  pub stamp-is : (b : ℕ) → b < room → eqb (getD stamps b 0) colour ≡ mem b l
+  pub stamp-is : (b : ℕ) → b < m → eqb (getD stamps b 0) colour ≡ mem b l

@@ -10,12 +10,13 @@ ghost use Rattle.model.specs.Lists.{distinct, mem};
 ghost use Rattle.model.specs.Cells.{ring};
 ghost use Rattle.model.specs.Image.{room, column};
 ghost use Rattle.cells.specs.Places.{Ended, Linked, ends-of, ends-once};
+use crate::reset;
 use crate::vertex;
 use crate::walk;
 
 // Gives entry b a colour. Returns whether it had another.
 fn stamp(stamps: &mut [usize], b: usize, colour: usize) -> bool
-    requires { ⌜ (length (now stamps) ≡ room) × (b < room) ⌝ }
+    requires { ⌜ (length (now stamps) ≤ room) × (b < length (now stamps)) ⌝ }
     ensures fresh { λ r. ⌜ r ≡ not (eqb (getD (now (stamps .entry)) b 0) colour) ⌝ }
     ensures stamped { λ r. ⌜ now (stamps .exit) ≡ set (now (stamps .entry)) b colour ⌝ }
 {
@@ -33,12 +34,12 @@ fn ends_differ(
     numbers: &[usize],
     stamps: &mut [usize],
 ) -> bool
-    requires { ⌜ Linked (now block) n × (start < n) × (a < room) × (length (now numbers) ≡ room) × (length (now stamps) ≡ room) ⌝ }
-    requires { ⌜ ((q : ℕ) → mem q (ring (column (now block) 1) (column (now block) 2) start) ≡ true → getD (now numbers) (column (now block) 1 q) 0 < room) ⌝ }
+    requires { ⌜ Linked (now block) n × (start < n) × (a < length (now stamps)) × (length (now numbers) ≡ room) × (length (now stamps) ≤ room) ⌝ }
+    requires { ⌜ ((q : ℕ) → mem q (ring (column (now block) 1) (column (now block) 2) start) ≡ true → getD (now numbers) (column (now block) 1 q) 0 < length (now stamps)) ⌝ }
     requires { ⌜ ((b : ℕ) → getD (now stamps) b 0 ≤ a) ⌝ }
     ensures differ { λ r. ⌜ r ≡ distinct (a ∷ ends-of (column (now (block .entry)) 1) (column (now (block .entry)) 2) (now (numbers .entry)) start) ⌝ }
     ensures bound { λ r. ⌜ ((b : ℕ) → getD (now (stamps .exit)) b 0 ≤ a + 1) ⌝ }
-    ensures size { λ r. ⌜ length (now (stamps .exit)) ≡ room ⌝ }
+    ensures size { λ r. ⌜ length (now (stamps .exit)) ≡ length (now (stamps .entry)) ⌝ }
 {
     // `a` and the ends of the edges before p's, `steps` of them, differ, and have the colour.
     let colour = a + 1;
@@ -59,8 +60,8 @@ fn ends_differ(
     }
 }
 
-// Whether the edges of each of `count` vertices end at different vertices, none at itself. `firsts` has a dart of each vertex.
-pub fn pairs_once(
+// Whether the edges of each of `count` vertices end at different vertices, none at itself, with a clear table of as many stamps.
+fn each_once(
     block: &[u64],
     n: usize,
     numbers: &[usize],
@@ -68,7 +69,7 @@ pub fn pairs_once(
     count: usize,
     stamps: &mut [usize],
 ) -> bool
-    requires { ⌜ Linked (now block) n × Ended n (column (now block) 1) (column (now block) 2) (now numbers) (now firsts) count × (now stamps ≡ replicate room 0) ⌝ }
+    requires { ⌜ Linked (now block) n × Ended n (column (now block) 1) (column (now block) 2) (now numbers) (now firsts) count × (now stamps ≡ replicate count 0) ⌝ }
     ensures { λ r. ⌜ r ≡ ends-once (column (now (block .entry)) 1) (column (now (block .entry)) 2) (now (numbers .entry)) (now (firsts .entry)) count ⌝ }
 {
     // The edges of the vertices before a do; no stamp is above a.
@@ -81,4 +82,22 @@ pub fn pairs_once(
         a += 1;
     }
     true
+}
+
+// Whether the edges of each of `count` vertices end at different vertices, none at itself. `firsts` has a dart of each vertex; `stamps`
+// may hold anything.
+pub fn pairs_once(
+    block: &[u64],
+    n: usize,
+    numbers: &[usize],
+    firsts: &[usize],
+    count: usize,
+    stamps: &mut [usize],
+) -> bool
+    requires { ⌜ Linked (now block) n × Ended n (column (now block) 1) (column (now block) 2) (now numbers) (now firsts) count × (count ≤ length (now stamps)) ⌝ }
+    ensures { λ r. ⌜ r ≡ ends-once (column (now (block .entry)) 1) (column (now (block .entry)) 2) (now (numbers .entry)) (now (firsts .entry)) count ⌝ }
+{
+    let used = &mut stamps[0..count];
+    reset::clear(used);
+    each_once(block, n, numbers, firsts, count, used)
 }

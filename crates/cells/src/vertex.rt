@@ -1,10 +1,13 @@
 // The vertices of a volume: the rings of its darts, numbered by first use.
 ghost use mathlib.Core.Path.{_≡_};
 ghost use Prim.Native.Nat.{ℕ, _≤_, _<_};
-ghost use lib.ListN.{length, getD, replicate, take};
+ghost use lib.ListN.{length, getD, take};
+ghost use mathlib.Core.Bool.{true};
+ghost use Rattle.model.specs.Lists.{mem};
 ghost use Rattle.model.specs.Cells.{ring};
 ghost use Rattle.model.specs.Image.{room, column};
 ghost use Rattle.cells.specs.Places.{Linked, Numbered, Painted};
+use crate::reset;
 use crate::walk;
 
 // The next dart of a ring: next of opposite.
@@ -34,9 +37,8 @@ fn paint_ring(block: &[u64], n: usize, start: usize, number: usize, numbers: &mu
     }
 }
 
-// Numbers the vertices of the first `darts` darts of `order` by first use, in `numbers` by place; a place without a number has 4,096.
-// `firsts` gets the first dart of each. Returns how many there are.
-pub fn number_vertices(
+// Numbers the vertices of the first `darts` darts of `order`, none of which has a number, 4,096 in `numbers`.
+fn number_all(
     block: &[u64],
     n: usize,
     order: &[usize],
@@ -45,7 +47,7 @@ pub fn number_vertices(
     firsts: &mut [usize],
 ) -> usize
     requires { ⌜ Linked (now block) n × (darts ≤ room) × (darts ≤ length (now order)) × ((k : ℕ) → k < darts → getD (now order) k 0 < n) ⌝ }
-    requires { ⌜ (now numbers ≡ replicate room room) × (length (now firsts) ≡ room) ⌝ }
+    requires { ⌜ (length (now numbers) ≡ room) × ((q : ℕ) → mem q (take darts (now order)) ≡ true → getD (now numbers) q 0 ≡ room) × (length (now firsts) ≡ room) ⌝ }
     ensures { λ r. ⌜ Numbered (column (now (block .entry)) 1) (column (now (block .entry)) 2) (take darts (now (order .entry))) (now (numbers .exit)) (now (firsts .exit)) r ⌝ }
 {
     // The vertices of the darts before i have their numbers, at every dart of their rings.
@@ -62,4 +64,22 @@ pub fn number_vertices(
         count += 1;
     }
     count
+}
+
+// Numbers the vertices of the first `darts` darts of `order` by first use, in `numbers` by place, whatever stood there. `firsts` gets the
+// first dart of each. Returns how many there are.
+pub fn number_vertices(
+    block: &[u64],
+    n: usize,
+    order: &[usize],
+    darts: usize,
+    numbers: &mut [usize],
+    firsts: &mut [usize],
+) -> usize
+    requires { ⌜ Linked (now block) n × (darts ≤ room) × (darts ≤ length (now order)) × ((k : ℕ) → k < darts → getD (now order) k 0 < n) ⌝ }
+    requires { ⌜ (length (now numbers) ≡ room) × (length (now firsts) ≡ room) ⌝ }
+    ensures { λ r. ⌜ Numbered (column (now (block .entry)) 1) (column (now (block .entry)) 2) (take darts (now (order .entry))) (now (numbers .exit)) (now (firsts .exit)) r ⌝ }
+{
+    reset::unnumber(order, darts, numbers);
+    number_all(block, n, order, darts, numbers, firsts)
 }

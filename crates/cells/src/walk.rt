@@ -1,9 +1,10 @@
 // The volume of a dart: a walk along next and opposite that marks what it meets.
 ghost use mathlib.Core.Path.{_≡_};
 ghost use Prim.Native.Nat.{_≤_, _<_};
-ghost use lib.ListN.{length, getD, replicate};
+ghost use lib.ListN.{length, getD, replicate, take};
+ghost use Rattle.model.specs.Lists.{least};
 ghost use Rattle.model.specs.Image.{room, words, column};
-ghost use Rattle.cells.specs.Places.{Linked, Marked, Visited, places-in, volume-of};
+ghost use Rattle.cells.specs.Places.{Linked, Listed, Marked, Visited, places-in, volume-of};
 use memory::record;
 use memory::record::Place;
 
@@ -28,11 +29,12 @@ fn visit(marks: &mut [u8], order: &mut [usize], tail: usize, p: usize) -> usize
     tail + 1
 }
 
-// Marks the volume of the dart at place `start`. Returns how many darts it has (question 11).
+// Marks the volume of the dart at place `start`; `order` lists it. Returns how many darts it has (question 11).
 pub fn volume(block: &[u64], n: usize, start: usize, order: &mut [usize], marks: &mut [u8]) -> usize
     requires { ⌜ Linked (now block) n × (start < n) × (length (now order) ≡ room) × (now marks ≡ replicate room 0) ⌝ }
     ensures marked { λ r. ⌜ Marked (volume-of (now (block .entry)) start) (now (marks .exit)) ⌝ }
     ensures count { λ r. ⌜ r ≡ length (places-in n (volume-of (now (block .entry)) start)) ⌝ }
+    ensures listed { λ r. ⌜ Listed n (volume-of (now (block .entry)) start) (now (order .exit)) r ⌝ }
 {
     // What is queued is in the volume and marked; both links of what stands before `head` lead to what is marked.
     let mut tail = visit(marks, order, 0, start);
@@ -46,4 +48,22 @@ pub fn volume(block: &[u64], n: usize, start: usize, order: &mut [usize], marks:
         tail = visit(marks, order, tail, b);
     }
     tail
+}
+
+// The least of the first `count` places of a list, which has some.
+pub fn least_place(order: &[usize], count: usize) -> usize
+    requires { ⌜ (0 < count) × (count ≤ room) × (count ≤ length (now order)) ⌝ }
+    ensures { λ r. ⌜ r ≡ least (take count (now (order .entry))) ⌝ }
+{
+    // The least of the places before i.
+    let mut low = order[0];
+    let mut i = 1;
+    while i < count {
+        let p = order[i];
+        i += 1;
+        if p < low {
+            low = p;
+        }
+    }
+    low
 }

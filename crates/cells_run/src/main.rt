@@ -172,10 +172,11 @@ fn cells_of(
     firsts: &mut [usize],
     stamps: &mut [usize],
 )
-    requires { ⌜ Linked (now block) n × (0 < n) × (length (now queue) ≡ room) × (now marks ≡ replicate room 0) × (length (now out) ≡ room) × (length (now starts) ≡ room) × (now seen ≡ replicate room 0) × (now numbers ≡ replicate room room) × (length (now firsts) ≡ room) × (now stamps ≡ replicate room 0) ⌝ }
+    requires { ⌜ Linked (now block) n × (0 < n) × (length (now queue) ≡ room) × (now marks ≡ replicate room 0) × (length (now out) ≡ room) × (length (now starts) ≡ room) × (now seen ≡ replicate room 0) × (length (now numbers) ≡ room) × (length (now firsts) ≡ room) × (length (now stamps) ≡ room) ⌝ }
 {
     let size = cells::walk::volume(block, n, 0, queue, marks);
-    let order = cells::order::message_order(block, n, size, marks, out, starts, seen);
+    let low = cells::walk::least_place(queue, size);
+    let order = cells::order::message_order(block, n, size, low, marks, out, starts, seen);
     let darts = order.darts;
     let faces = order.faces;
     let within = cells::sewn::sewn_within(block, n, marks, out, darts);
@@ -197,7 +198,7 @@ fn show(block: &[u64], n: usize)
     let mut out = [0usize; 4096];
     let mut starts = [0usize; 4096];
     let mut seen = [0u8; 4096];
-    let mut numbers = [4096usize; 4096];
+    let mut numbers = [0usize; 4096];
     let mut firsts = [0usize; 4096];
     let mut stamps = [0usize; 4096];
     cells_of(

@@ -87,6 +87,9 @@ module _ (m : List ℕ) (ok : is-image rack m ≡ true) (j s : ℕ) {right : Boo
           is-11 : leb (length (volume-in (darts-in m) s)) 512 ≡ true
           is-11 = le-leb (length (volume-in (darts-in m) s)) 512 (omega (arith, size-is))
 
+          pub darts-few : darts ≤ 512
+          darts-few = omega (arith, out-count site (at .0) below mk o, ap (λ (x : ℕ). length (volume-in (darts-in m) x)) here, size-is)
+
           is-12 : all (λ x. not (is-sewn-into (volume-in (darts-in m) s) (third-at (darts-in m) x))) (volume-in (darts-in m) s) ≡ not inside
           is-12 = ap (λ (y : ℕ). all (λ x. not (is-sewn-into (volume-in (darts-in m) y) (third-at (darts-in m) x))) (volume-in (darts-in m) y)) (sym here)
               ∙ question-12 site (at .0) below mk ∙ ap not (sym (twelve ∙ out-any (site .linked) below mk o (sewn-in m marks)))
@@ -129,7 +132,7 @@ module _ (m : List ℕ) (ok : is-image rack m ≡ true) (j s : ℕ) {right : Boo
                   order = o;
                   numbering = nb;
                   sewn-is = away;
-                  few = omega (arith, out-count site (at .0) below mk o, ap (λ (x : ℕ). length (volume-in (darts-in m) x)) here, size-is);
+                  few = darts-few;
                 };
                 serial-is = here;
                 to-block = leb-true j 15 (and-left (leb j 15) _ is-9);

@@ -2,12 +2,13 @@
 use mathlib.Core.Path.{_≡_, subst}
 use mathlib.Core.List.{List}
 use Prim.Native.Nat.{ℕ}
-use Rattle.model.specs.Image.{block-in}
+use lib.ListN.{replicate}
+use Rattle.model.specs.Image.{room, block-in}
 use Rattle.model.specs.Departure.{departure-checks}
 use Rattle.model.specs.Calls.{refused}
 use Rattle.answers.specs.Answers.{answered, question}
 use Rattle.answers.specs.declared.Refusal.{Refusal}
-use Rattle.departure.specs.Asked.{Departs, Leaves}
+use Rattle.departure.specs.Asked.{Departs, Forgotten, Leaves}
 use Rattle.departure.specs.declared.Counts.{Counts}
 use Rattle.departure.specs.declared.Leaving.{Leaving}
 use Rattle.departure.specs.declared.Leaving.the-variants.{Volume, Refused}
@@ -18,3 +19,7 @@ module _ (m : List ℕ) (j s : ℕ) (marks order starts numbers firsts : List �
 
   pub refused-told : {q : Refusal} → r ≡ Refused q → refused (question q) ≡ answered (departure-checks 512 (block-in m) j s)
   refused-told e = subst (λ (x : Leaving). Leaves m j s x marks order starts numbers firsts) e h
+
+-- and a refusal that nothing is marked
+pub forgotten-told : (marks seen : List ℕ) {r : Leaving} {q : Refusal} → Forgotten r marks seen → r ≡ Refused q → (marks ≡ replicate room 0) × (seen ≡ replicate room 0)
+forgotten-told marks seen h e = subst (λ (x : Leaving). Forgotten x marks seen) e h

@@ -2,10 +2,10 @@
 use mathlib.Core.Path.{_≡_}
 use mathlib.Core.List.{List}
 use Prim.Native.Nat.{ℕ, _+_, _≤_, _<_, _^_}
-use lib.ListN.{length, getD, take}
+use lib.ListN.{length, getD, replicate, take}
 use Rattle.model.specs.Lists.{keep}
 use Rattle.model.specs.Cells.{faces, start-of}
-use Rattle.model.specs.Image.{column, block-in}
+use Rattle.model.specs.Image.{room, column, block-in}
 use Rattle.model.specs.Departure.{departure-checks}
 use Rattle.model.specs.Calls.{served, refused}
 use Rattle.answers.specs.Answers.{answered, question}
@@ -39,3 +39,8 @@ pub record Departs (m : List ℕ) (j s : ℕ) (c : Counts) (marks out starts num
 abbrev pub Leaves : List ℕ → ℕ → ℕ → Leaving → List ℕ → List ℕ → List ℕ → List ℕ → List ℕ → Type 0
 Leaves m j s (Volume c) marks out starts numbers firsts = Departs m j s c marks out starts numbers firsts
 Leaves m j s (Refused r) marks out starts numbers firsts = refused (question r) ≡ answered (departure-checks 512 (block-in m) j s)
+
+-- a volume that does not leave is marked nowhere
+abbrev pub Forgotten : Leaving → List ℕ → List ℕ → Type 0
+Forgotten (Volume c) marks seen = Unit {0}
+Forgotten (Refused r) marks seen = (marks ≡ replicate room 0) × (seen ≡ replicate room 0)

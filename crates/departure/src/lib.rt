@@ -1,12 +1,13 @@
 // What is asked before a volume leaves a block: questions 9 to 14. Send and release put them.
 ghost use mathlib.Core.Path.{_≡_};
 ghost use mathlib.Core.Bool.{true, not, _&&_};
-ghost use Prim.Native.Nat.{_+_, _≤_, _<_, _^_};
+ghost use Prim.Native.Nat.{ℕ, _+_, _≤_, _<_, _^_};
 ghost use lib.Dec.{leb, ltb, eqb};
-ghost use lib.ListN.{length, getD, replicate};
+ghost use lib.ListN.{length, getD, replicate, take};
 ghost use Rattle.model.specs.Values.{rack};
 ghost use Rattle.model.specs.Image.{room, words, is-image};
-ghost use Rattle.departure.specs.Asked.{Leaves};
+ghost use Rattle.cells.specs.Places.{Marked};
+ghost use Rattle.departure.specs.Asked.{Forgotten, Leaves};
 use answers::Refusal;
 use memory::header::Header;
 use memory::lookup;
@@ -42,9 +43,19 @@ fn counter_fits(block: &[u64], sewn: usize) -> bool
     block[1] + (sewn as u64) < 4294967296
 }
 
+// Takes the marks of a volume that does not leave away, at its own darts alone.
+fn forget(out: &[usize], darts: usize, marks: &mut [u8], seen: &mut [u8])
+    requires { ⌜ (darts ≤ room) × (darts ≤ length (now out)) × ((k : ℕ) → k < darts → getD (now out) k 0 < room) × Marked (take darts (now out)) (now marks) × Marked (take darts (now out)) (now seen) ⌝ }
+    ensures { λ _. ⌜ (now (marks .exit) ≡ replicate room 0) × (now (seen .exit) ≡ replicate room 0) ⌝ }
+{
+    cells::reset::unmark(out, darts, marks);
+    cells::reset::unmark(out, darts, seen);
+}
+
 // Whether the volume of the dart with this serial may go to another block. On a yes it is marked, by place, in `marks`; its faces
 // stand in `out` in message order, the index of each one's start in `starts`; `numbers` has the number of each dart's vertex, by
-// place, and `firsts` a dart of each vertex.
+// place, and `firsts` a dart of each vertex. On a no `marks` and `seen` are clear again, at a cost that goes by the volume's size, so
+// that many volumes may be asked in turn.
 pub fn leaves(
     block: &[u64],
     to: u64,
@@ -59,8 +70,9 @@ pub fn leaves(
 ) -> Leaving
     requires { ⌜ is-image rack (now block) ≡ true ⌝ }
     requires { ⌜ (now marks ≡ replicate room 0) × (length (now out) ≡ room) × (length (now starts) ≡ room) × (now seen ≡ replicate room 0) ⌝ }
-    requires { ⌜ (now numbers ≡ replicate room room) × (length (now firsts) ≡ room) × (now stamps ≡ replicate room 0) ⌝ }
-    ensures { λ r. ⌜ Leaves (now (block .entry)) to serial r (now (marks .exit)) (now (out .exit)) (now (starts .exit)) (now (numbers .exit)) (now (firsts .exit)) ⌝ }
+    requires { ⌜ (length (now numbers) ≡ room) × (length (now firsts) ≡ room) × (length (now stamps) ≡ 512) ⌝ }
+    ensures answer { λ r. ⌜ Leaves (now (block .entry)) to serial r (now (marks .exit)) (now (out .exit)) (now (starts .exit)) (now (numbers .exit)) (now (firsts .exit)) ⌝ }
+    ensures clear { λ r. ⌜ Forgotten r (now (marks .exit)) (now (seen .exit)) ⌝ }
 {
     if !destination_right(block, to) {
         return Leaving::Refused(Refusal::Destination);
@@ -72,20 +84,25 @@ pub fn leaves(
     // `out` is the queue of the walk before it is the order.
     let size = cells::walk::volume(block, n, place.0, out, marks);
     if Header::VOLUME < size {
+        cells::reset::unmark(out, size, marks);
         return Leaving::Refused(Refusal::VolumeTooLarge);
     }
-    let order = cells::order::message_order(block, n, size, marks, out, starts, seen);
+    let low = cells::walk::least_place(out, size);
+    let order = cells::order::message_order(block, n, size, low, marks, out, starts, seen);
     let darts = order.darts;
     let faces = order.faces;
     if cells::sewn::sewn_within(block, n, marks, out, darts) {
+        forget(out, darts, marks, seen);
         return Leaving::Refused(Refusal::SewnWithin);
     }
     let vertices = cells::vertex::number_vertices(block, n, out, darts, numbers, firsts);
     if !cells::pairs::pairs_once(block, n, numbers, firsts, vertices, stamps) {
+        forget(out, darts, marks, seen);
         return Leaving::Refused(Refusal::VertexPairs);
     }
     let sewn = cells::sewn::count_sewn(block, n, marks, out, starts, darts, faces);
     if !counter_fits(block, sewn) {
+        forget(out, darts, marks, seen);
         return Leaving::Refused(Refusal::CounterFull);
     }
     Leaving::Volume(Counts {

@@ -134,7 +134,7 @@ fn show_asked(
 )
     requires { ⌜ is-image rack (now block) ≡ true ⌝ }
     requires { ⌜ (now marks ≡ replicate room 0) × (length (now order) ≡ room) × (length (now starts) ≡ room) × (now seen ≡ replicate room 0) ⌝ }
-    requires { ⌜ (now numbers ≡ replicate room room) × (length (now firsts) ≡ room) × (now stamps ≡ replicate room 0) ⌝ }
+    requires { ⌜ (length (now numbers) ≡ room) × (length (now firsts) ≡ room) × (length (now stamps) ≡ 512) ⌝ }
 {
     match departure::leaves(
         block,
@@ -174,9 +174,9 @@ fn show(name: &[u8], block: &[u64; 32776], to: u64, serial: u64) {
     let mut order = [0usize; 4096];
     let mut starts = [0usize; 4096];
     let mut seen = [0u8; 4096];
-    let mut numbers = [4096usize; 4096];
+    let mut numbers = [0usize; 4096];
     let mut firsts = [0usize; 4096];
-    let mut stamps = [0usize; 4096];
+    let mut stamps = [0usize; 512];
     let mut out = [0u8; 4096];
     show_asked(
         block,

@@ -53,7 +53,7 @@ fn release_asked(
 ) -> Answer
     requires { ⌜ is-image rack (now block) ≡ true ⌝ }
     requires { ⌜ (now marks ≡ replicate room 0) × (length (now order) ≡ room) × (length (now starts) ≡ room) × (now seen ≡ replicate room 0) ⌝ }
-    requires { ⌜ (now numbers ≡ replicate room room) × (length (now firsts) ≡ room) × (now stamps ≡ replicate room 0) ⌝ }
+    requires { ⌜ (length (now numbers) ≡ room) × (length (now firsts) ≡ room) × (length (now stamps) ≡ 512) ⌝ }
     ensures { λ r. ⌜ Gives (calls.release rack (now (block .entry)) to serial) (answer-of r) (now (block .exit)) ⌝ }
 {
     match departure::leaves(
@@ -91,9 +91,9 @@ pub fn release(block: &mut [u64], to: u64, serial: u64) -> Answer
     let mut order = [0usize; 4096];
     let mut starts = [0usize; 4096];
     let mut seen = [0u8; 4096];
-    let mut numbers = [4096usize; 4096];
+    let mut numbers = [0usize; 4096];
     let mut firsts = [0usize; 4096];
-    let mut stamps = [0usize; 4096];
+    let mut stamps = [0usize; 512];
     release_asked(
         block,
         to,

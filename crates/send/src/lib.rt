@@ -24,9 +24,9 @@ pub fn send(block: &[u64], to: u64, serial: u64, outbox: &mut [u8]) -> Written
     let mut order = [0usize; 4096];
     let mut starts = [0usize; 4096];
     let mut seen = [0u8; 4096];
-    let mut numbers = [4096usize; 4096];
+    let mut numbers = [0usize; 4096];
     let mut firsts = [0usize; 4096];
-    let mut stamps = [0usize; 4096];
+    let mut stamps = [0usize; 512];
     let mut labels = [0usize; 16];
     let mut bytes = [0usize; 16];
     volume::send_volume(

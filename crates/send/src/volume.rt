@@ -28,7 +28,7 @@ pub fn send_volume(
 ) -> Written
     requires { ⌜ is-image rack (now block) ≡ true ⌝ }
     requires { ⌜ (now marks ≡ replicate room 0) × (length (now order) ≡ room) × (length (now starts) ≡ room) × (now seen ≡ replicate room 0) ⌝ }
-    requires { ⌜ (now numbers ≡ replicate room room) × (length (now firsts) ≡ room) × (now stamps ≡ replicate room 0) ⌝ }
+    requires { ⌜ (length (now numbers) ≡ room) × (length (now firsts) ≡ room) × (length (now stamps) ≡ 512) ⌝ }
     requires { ⌜ (now labels ≡ replicate 16 0) × (now bytes ≡ replicate 16 0) ⌝ }
     ensures { λ r. ⌜ Gives (calls.send rack (now (block .entry)) to serial (now (outbox .entry))) (written-of r) (now (outbox .exit)) ⌝ }
 {

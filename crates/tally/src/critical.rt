@@ -57,7 +57,16 @@ pub fn critical_faces(block: &[u64]) -> usize
     let mut out = [0usize; 4096];
     let mut starts = [0usize; 4096];
     let mut seen = [0u8; 4096];
-    let order = cells::order::message_order(block, n, n, &marks, &mut out, &mut starts, &mut seen);
+    let order = cells::order::message_order(
+        block,
+        n,
+        n,
+        0,
+        &marks,
+        &mut out,
+        &mut starts,
+        &mut seen,
+    );
     let darts = order.darts;
     let faces = order.faces;
     count_critical(block, n, &out, &starts, darts, faces)

@@ -22,7 +22,7 @@ enum-known-counts c = search needs
 show-transfer-requires : tie.Need-show-transfer-requires
 show-transfer-requires c κs =
     let st = c .before .before .before .before .before .before .before .before .before .before .before .before .before .before .before .before .before .before .before .before .before .before .before .before .before .before .before .before .before .before .before .before .before .before .before .before .before .before .before .before in
-    let d = departs-told (st .args .block .now) (st .args .to) (st .args .serial) _ _ _ _ _ (c .before .before .before .before .before .before .before .before .before .before .before .before .before .before .before .before .before .before .before .before .before .before .before .leaves .ensures) (c .before .before .before .before .before .before .before .counts .given .1) in
+    let d = departs-told (st .args .block .now) (st .args .to) (st .args .serial) _ _ _ _ _ (c .before .before .before .before .before .before .before .before .before .before .before .before .before .before .before .before .before .before .before .before .before .before .before .leaves .ensures .0) (c .before .before .before .before .before .before .before .counts .given .1) in
     (st .pre .0, (d .survey, (d .to-block, d .counter-fits)))
 
 same-length : tie.Need-same-length

@@ -16,7 +16,7 @@ volume-requires c κs = search needs
 
 returns : tie.Need-returns
 returns c =
-    rw (c .before .before .volume .ensures .1) refl
+    rw (c .before .before .volume .ensures .1 .0) refl
 
 pub one-volume-spec : {M : Type 1} → statement M
 one-volume-spec =

@@ -1,25 +1,15 @@
 -- `balance::leaving::may_leave` meets its contract. Assumes nothing.
-use Rattle.departure.proofs.Told.{departs-told, refused-told}
+use mathlib.Core.Bool.{true≢false}
+use Rattle.departure.proofs.Told.{departs-told, refused-told, forgotten-told}
 use Rattle.balance.proofs.Strikes.{leaves-yes, leaves-no}
 use borrow.Author.Needs.{needs}
 use Rattle.balance.proofs.leaving.may_leave.Statement.{statement}
 use Rattle.balance.proofs.leaving.may_leave.Tie as tie
 
-slice-aggregate-leaves : tie.Need-slice-aggregate-leaves
-slice-aggregate-leaves c = search needs
-
-slice-aggregate-leaves-2 : tie.Need-slice-aggregate-leaves-2
-slice-aggregate-leaves-2 c = search needs
-
-slice-aggregate-leaves-3 : tie.Need-slice-aggregate-leaves-3
-slice-aggregate-leaves-3 c = search needs
-
-slice-aggregate-leaves-4 : tie.Need-slice-aggregate-leaves-4
-slice-aggregate-leaves-4 c = search needs
-
 leaves-requires : tie.Need-leaves-requires
 leaves-requires c κs =
-    (c .before .before .before .before .before .before .before .before .before .before .before .pre .0 .0, (search needs, search needs))
+    let a = c .before .before .before .before .before .before .before .before .before .before .before .before .before .before .before .pre .1 in
+    (c .before .before .before .before .before .before .before .before .before .before .before .before .before .before .before .pre .0 .0, ((a .unmarked, a .order-size, a .starts-size, a .unseen), (a .numbers-size, a .firsts-size, a .stamps-size)))
 
 enum-told : tie.Need-enum-told
 enum-told c = search needs
@@ -36,10 +26,6 @@ same-length-2 c = search needs
 same-length-3 : tie.Need-same-length-3
 same-length-3 c = search needs
 
-returns : tie.Need-returns
-returns c =
-    leaves-yes (c .before .before .before .before .before .before .before .before .before .before .before .before .before .before .before .before .before .before .before .before .before .before .before .before .args .block .now) (c .before .before .before .before .before .before .before .before .before .before .before .before .before .before .before .before .before .before .before .before .before .before .before .before .args .to) (c .before .before .before .before .before .before .before .before .before .before .before .before .before .before .before .before .before .before .before .before .before .before .before .before .args .serial) (c .before .before .before .before .before .before .before .before .before .before .before .before .before .before .before .before .before .before .before .before .before .before .before .before .pre .0 .1) (c .before .before .before .before .before .before .before .before .before .before .before .before .before .before .before .before .before .before .before .before .before .before .before .before .pre .0 .2) (departs-told (c .before .before .before .before .before .before .before .before .before .before .before .before .before .before .before .before .before .before .before .before .before .before .before .before .args .block .now) (c .before .before .before .before .before .before .before .before .before .before .before .before .before .before .before .before .before .before .before .before .before .before .before .before .args .to) (c .before .before .before .before .before .before .before .before .before .before .before .before .before .before .before .before .before .before .before .before .before .before .before .before .args .serial) _ _ _ _ _ (c .before .before .before .before .before .before .before .before .before .before .before .before .leaves .ensures) (c .enum-told .given .1) .asked)
-
 same-length-4 : tie.Need-same-length-4
 same-length-4 c = search needs
 
@@ -49,26 +35,62 @@ same-length-5 c = search needs
 same-length-6 : tie.Need-same-length-6
 same-length-6 c = search needs
 
+same-length-7 : tie.Need-same-length-7
+same-length-7 c = search needs
+
+returns : tie.Need-returns
+returns c =
+    (leaves-yes (c .before .before .before .before .before .before .before .before .before .before .before .before .before .before .before .before .before .before .before .before .before .before .before .before .before .before .before .before .before .before .before .before .args .block .now) (c .before .before .before .before .before .before .before .before .before .before .before .before .before .before .before .before .before .before .before .before .before .before .before .before .before .before .before .before .before .before .before .before .args .to) (c .before .before .before .before .before .before .before .before .before .before .before .before .before .before .before .before .before .before .before .before .before .before .before .before .before .before .before .before .before .before .before .before .args .serial) (c .before .before .before .before .before .before .before .before .before .before .before .before .before .before .before .before .before .before .before .before .before .before .before .before .before .before .before .before .before .before .before .before .pre .0 .1) (c .before .before .before .before .before .before .before .before .before .before .before .before .before .before .before .before .before .before .before .before .before .before .before .before .before .before .before .before .before .before .before .before .pre .0 .2) (departs-told (c .before .before .before .before .before .before .before .before .before .before .before .before .before .before .before .before .before .before .before .before .before .before .before .before .before .before .before .before .before .before .before .before .args .block .now) (c .before .before .before .before .before .before .before .before .before .before .before .before .before .before .before .before .before .before .before .before .before .before .before .before .before .before .before .before .before .before .before .before .args .to) (c .before .before .before .before .before .before .before .before .before .before .before .before .before .before .before .before .before .before .before .before .before .before .before .before .before .before .before .before .before .before .before .before .args .serial) _ _ _ _ _ (c .before .before .before .before .before .before .before .before .before .before .before .before .before .before .before .before .leaves .ensures .0) (c .enum-told .given .1) .asked), λ e. absurd (true≢false e))
+
+same-length-8 : tie.Need-same-length-8
+same-length-8 c = search needs
+
+same-length-9 : tie.Need-same-length-9
+same-length-9 c = search needs
+
+same-length-10 : tie.Need-same-length-10
+same-length-10 c = search needs
+
+same-length-11 : tie.Need-same-length-11
+same-length-11 c = search needs
+
+same-length-12 : tie.Need-same-length-12
+same-length-12 c = search needs
+
+same-length-13 : tie.Need-same-length-13
+same-length-13 c = search needs
+
+same-length-14 : tie.Need-same-length-14
+same-length-14 c = search needs
+
 returns-2 : tie.Need-returns-2
 returns-2 c =
-    leaves-no (c .before .before .before .before .before .before .before .before .before .before .before .before .before .before .before .before .before .before .before .before .before .before .before .before .args .block .now) (c .before .before .before .before .before .before .before .before .before .before .before .before .before .before .before .before .before .before .before .before .before .before .before .before .args .to) (c .before .before .before .before .before .before .before .before .before .before .before .before .before .before .before .before .before .before .before .before .before .before .before .before .args .serial) (c .before .before .before .before .before .before .before .before .before .before .before .before .before .before .before .before .before .before .before .before .before .before .before .before .pre .0 .1) (c .before .before .before .before .before .before .before .before .before .before .before .before .before .before .before .before .before .before .before .before .before .before .before .before .pre .0 .2) _ (refused-told (c .before .before .before .before .before .before .before .before .before .before .before .before .before .before .before .before .before .before .before .before .before .before .before .before .args .block .now) (c .before .before .before .before .before .before .before .before .before .before .before .before .before .before .before .before .before .before .before .before .before .before .before .before .args .to) (c .before .before .before .before .before .before .before .before .before .before .before .before .before .before .before .before .before .before .before .before .before .before .before .before .args .serial) _ _ _ _ _ (c .before .before .before .before .before .before .before .before .before .before .before .before .leaves .ensures) (c .enum-told2 .given .1))
+    let a = c .before .before .before .before .before .before .before .before .before .before .before .before .before .before .before .before .before .before .before .before .before .before .before .before .before .before .before .before .before .before .before .before .pre .1 in
+    let f = forgotten-told _ _ (c .before .before .before .before .before .before .before .before .before .before .before .before .before .before .before .before .leaves .ensures .1) (c .enum-told2 .given .1) in (
+      leaves-no (c .before .before .before .before .before .before .before .before .before .before .before .before .before .before .before .before .before .before .before .before .before .before .before .before .before .before .before .before .before .before .before .before .args .block .now) (c .before .before .before .before .before .before .before .before .before .before .before .before .before .before .before .before .before .before .before .before .before .before .before .before .before .before .before .before .before .before .before .before .args .to) (c .before .before .before .before .before .before .before .before .before .before .before .before .before .before .before .before .before .before .before .before .before .before .before .before .before .before .before .before .before .before .before .before .args .serial) (c .before .before .before .before .before .before .before .before .before .before .before .before .before .before .before .before .before .before .before .before .before .before .before .before .before .before .before .before .before .before .before .before .pre .0 .1) (c .before .before .before .before .before .before .before .before .before .before .before .before .before .before .before .before .before .before .before .before .before .before .before .before .before .before .before .before .before .before .before .before .pre .0 .2) _ (refused-told (c .before .before .before .before .before .before .before .before .before .before .before .before .before .before .before .before .before .before .before .before .before .before .before .before .before .before .before .before .before .before .before .before .args .block .now) (c .before .before .before .before .before .before .before .before .before .before .before .before .before .before .before .before .before .before .before .before .before .before .before .before .before .before .before .before .before .before .before .before .args .to) (c .before .before .before .before .before .before .before .before .before .before .before .before .before .before .before .before .before .before .before .before .before .before .before .before .before .before .before .before .before .before .before .before .args .serial) _ _ _ _ _ (c .before .before .before .before .before .before .before .before .before .before .before .before .before .before .before .before .leaves .ensures .0) (c .enum-told2 .given .1)),
+      λ e. record { unmarked = f .0; order-size = search needs; starts-size = search needs; unseen = f .1; numbers-size = search needs; firsts-size = search needs; stamps-size = search needs },
+    )
 
 pub may-leave-spec : {M : Type 1} → statement M
 may-leave-spec =
     tie.close
     (tie.spec
-    slice-aggregate-leaves
-    slice-aggregate-leaves-2
-    slice-aggregate-leaves-3
-    slice-aggregate-leaves-4
     leaves-requires
     enum-told
     enum-told-2
     same-length
     same-length-2
     same-length-3
-    returns
     same-length-4
     same-length-5
     same-length-6
+    same-length-7
+    returns
+    same-length-8
+    same-length-9
+    same-length-10
+    same-length-11
+    same-length-12
+    same-length-13
+    same-length-14
     returns-2)

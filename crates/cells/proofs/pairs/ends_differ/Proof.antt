@@ -2,7 +2,7 @@
 -- The measure is what is left of the ring. Assumes nothing.
 use mathlib.Core.Path.{refl, sym, ap, _∙_}
 use Prim.Native.Nat.{ℕ, _-_, _<_}
-use lib.ListN.{length, getD}
+use lib.ListN.{length, getD, length-set}
 use borrow.Author.Tests.{not-true, not-false}
 use Rattle.model.specs.Cells.{cycle, ring}
 use Rattle.model.specs.Image.{room, column}
@@ -16,7 +16,7 @@ use Rattle.cells.proofs.pairs.ends_differ.Tie as tie
 
 abbrev Inv-loop : tie.InvT-loop
 Inv-loop block n start a numbers stamps₀ colour steps₀ p₀ stamps steps p =
-    Ending n (column block 1) (λ d. column block 1 (column block 2 d)) numbers start a (length (cycle (λ d. column block 1 (column block 2 d)) start)) steps p stamps
+    Ending n (column block 1) (λ d. column block 1 (column block 2 d)) numbers (length stamps₀) start a (length (cycle (λ d. column block 1 (column block 2 d)) start)) steps p stamps
 
 abbrev μ-loop : tie.MeasureT-loop
 μ-loop block n start a numbers stamps₀ colour steps₀ p₀ stamps steps p =
@@ -34,7 +34,7 @@ loop-holds c =
     record {
       going = going-start (round (l .few) (step-within _ _ _ (l .few) (l .next-within) (l .next-apart) (l .opposite-within) (l .opposite-apart)) (step-apart _ _ _ (l .few) (l .next-within) (l .next-apart) (l .opposite-within) (l .opposite-apart)) _ (c .before .before .before .before .before .before .before .pre .0 .1)) (c .before .before .before .before .before .before .before .pre .0 .1);
       differ = refl;
-      stamped = stamped-first (c .before .before .before .before .before .before .before .args .stamps .now) (c .before .before .before .before .before .before .before .pre .0 .2) (c .before .before .before .before .before .before .before .pre .0 .4) (c .before .before .before .before .before .before .before .pre .1 .1) (c .before .before .stamp .ensures .1);
+      stamped = stamped-first (c .before .before .before .before .before .before .before .args .stamps .now) (c .before .before .before .before .before .before .before .pre .0 .2) (c .before .before .before .before .before .before .before .pre .1 .1) (c .before .before .stamp .ensures .1);
     }
 
 field-requires : tie.Need-field-requires Inv-loop μ-loop
@@ -55,11 +55,11 @@ stamp-requires-2 c κs =
     let l = c .before .before .before .before .before .before .before .before .before .before .before .pre .0 .0 in
     let w = step-within _ _ _ (l .few) (l .next-within) (l .next-apart) (l .opposite-within) (l .opposite-apart) in
     let r = round (l .few) w (step-apart _ _ _ (l .few) (l .next-within) (l .next-apart) (l .opposite-within) (l .opposite-apart)) _ (c .before .before .before .before .before .before .before .before .before .before .before .pre .0 .1) in
-    (c .before .before .before .loop .inv .stamped .size, omega (arith, ap (λ (z : ℕ). getD (c .before .before .before .before .before .before .before .before .before .before .before .args .numbers .now) z 0) (c .before .before .field .ensures), c .before .before .before .before .before .before .before .before .before .before .before .pre .1 .0 _ (going-in r (c .before .before .before .loop .inv .going))))
+    (omega (arith, c .before .before .before .loop .inv .stamped .size, ap length (c .before .before .before .before .before .before .stamp .ensures .1) ∙ length-set (c .before .before .before .before .before .before .before .before .before .before .before .args .stamps .now) _ _, c .before .before .before .before .before .before .before .before .before .before .before .pre .0 .4), omega (arith, c .before .before .before .loop .inv .stamped .size, ap length (c .before .before .before .before .before .before .stamp .ensures .1) ∙ length-set (c .before .before .before .before .before .before .before .before .before .before .before .args .stamps .now) _ _, ap (λ (z : ℕ). getD (c .before .before .before .before .before .before .before .before .before .before .before .args .numbers .now) z 0) (c .before .before .field .ensures), c .before .before .before .before .before .before .before .before .before .before .before .pre .1 .0 _ (going-in r (c .before .before .before .loop .inv .going))))
 
 same-length : tie.Need-same-length Inv-loop μ-loop
 same-length c =
-    stamped-size _ (c .before .before .before .before .before .before .before .loop .inv .stamped) (c .before .before .before .stamp2 .ensures .1) ∙ sym (c .before .before .before .before .before .before .before .before .before .before .before .before .before .before .before .pre .0 .4)
+    stamped-size _ (c .before .before .before .before .before .before .before .loop .inv .stamped) (c .before .before .before .stamp2 .ensures .1) ∙ ap length (c .before .before .before .before .before .before .before .before .before .before .stamp .ensures .1) ∙ length-set (c .before .before .before .before .before .before .before .before .before .before .before .before .before .before .before .args .stamps .now) _ _
 
 returns : tie.Need-returns Inv-loop μ-loop
 unfolding ring
@@ -68,9 +68,9 @@ returns c =
     let w = step-within _ _ _ (l .few) (l .next-within) (l .next-apart) (l .opposite-within) (l .opposite-apart) in
     let r = round (l .few) w (step-apart _ _ _ (l .few) (l .next-within) (l .next-apart) (l .opposite-within) (l .opposite-apart)) _ (c .before .before .before .before .before .before .before .before .before .before .before .before .before .before .before .pre .0 .1) in
     let e = ap (λ (z : ℕ). getD (c .before .before .before .before .before .before .before .before .before .before .before .before .before .before .before .args .numbers .now) z 0) (c .before .before .before .before .before .before .field .ensures) in
-    let small : getD (c .before .before .before .before .before .before .before .before .before .before .before .before .before .before .before .args .numbers .now) (c .before .before .before .before .before .before .field .result) 0 < room = omega (arith, e, c .before .before .before .before .before .before .before .before .before .before .before .before .before .before .before .pre .1 .0 _ (going-in r (c .before .before .before .before .before .before .before .loop .inv .going))) in
+    let small : getD (c .before .before .before .before .before .before .before .before .before .before .before .before .before .before .before .args .numbers .now) (c .before .before .before .before .before .before .field .result) 0 < length (c .before .before .before .before .before .before .before .before .before .before .stamp .last .0) = omega (arith, e, ap length (c .before .before .before .before .before .before .before .before .before .before .stamp .ensures .1) ∙ length-set (c .before .before .before .before .before .before .before .before .before .before .before .before .before .before .before .args .stamps .now) _ _, c .before .before .before .before .before .before .before .before .before .before .before .before .before .before .before .pre .1 .0 _ (going-in r (c .before .before .before .before .before .before .before .loop .inv .going))) in
     let s = stamped-next (c .before .before .before .before .before .before .before .loop .inv .stamped) small (c .before .before .before .stamp2 .ensures .1) in
-    (ending-twice w r (c .before .before .before .before .before .before .before .loop .inv) e small (sym (c .before .before .before .stamp2 .ensures .0) ∙ not-true _ (c .if1 .taken)), (s .bound, s .size))
+    (ending-twice w r (c .before .before .before .before .before .before .before .loop .inv) e small (sym (c .before .before .before .stamp2 .ensures .0) ∙ not-true _ (c .if1 .taken)), (s .bound, s .size ∙ ap length (c .before .before .before .before .before .before .before .before .before .before .stamp .ensures .1) ∙ length-set (c .before .before .before .before .before .before .before .before .before .before .before .before .before .before .before .args .stamps .now) _ _))
 
 add-steps : tie.Need-add-steps Inv-loop μ-loop
 add-steps c =
@@ -85,7 +85,7 @@ ring-step-requires c κs =
 
 same-length-2 : tie.Need-same-length-2 Inv-loop μ-loop
 same-length-2 c =
-    stamped-size _ (c .before .before .before .before .before .before .before .before .before .loop .inv .stamped) (c .before .before .before .before .before .stamp2 .ensures .1) ∙ sym (c .before .before .before .before .before .before .before .before .before .before .before .before .before .before .before .before .before .pre .0 .4)
+    stamped-size _ (c .before .before .before .before .before .before .before .before .before .loop .inv .stamped) (c .before .before .before .before .before .stamp2 .ensures .1) ∙ ap length (c .before .before .before .before .before .before .before .before .before .before .before .before .stamp .ensures .1) ∙ length-set (c .before .before .before .before .before .before .before .before .before .before .before .before .before .before .before .before .before .args .stamps .now) _ _
 
 returns-2 : tie.Need-returns-2 Inv-loop μ-loop
 unfolding ring
@@ -94,9 +94,9 @@ returns-2 c =
     let w = step-within _ _ _ (l .few) (l .next-within) (l .next-apart) (l .opposite-within) (l .opposite-apart) in
     let r = round (l .few) w (step-apart _ _ _ (l .few) (l .next-within) (l .next-apart) (l .opposite-within) (l .opposite-apart)) _ (c .before .before .before .before .before .before .before .before .before .before .before .before .before .before .before .before .before .pre .0 .1) in
     let e = ap (λ (z : ℕ). getD (c .before .before .before .before .before .before .before .before .before .before .before .before .before .before .before .before .before .args .numbers .now) z 0) (c .before .before .before .before .before .before .before .before .field .ensures) in
-    let small : getD (c .before .before .before .before .before .before .before .before .before .before .before .before .before .before .before .before .before .args .numbers .now) (c .before .before .before .before .before .before .before .before .field .result) 0 < room = omega (arith, e, c .before .before .before .before .before .before .before .before .before .before .before .before .before .before .before .before .before .pre .1 .0 _ (going-in r (c .before .before .before .before .before .before .before .before .before .loop .inv .going))) in
+    let small : getD (c .before .before .before .before .before .before .before .before .before .before .before .before .before .before .before .before .before .args .numbers .now) (c .before .before .before .before .before .before .before .before .field .result) 0 < length (c .before .before .before .before .before .before .before .before .before .before .before .before .stamp .last .0) = omega (arith, e, ap length (c .before .before .before .before .before .before .before .before .before .before .before .before .stamp .ensures .1) ∙ length-set (c .before .before .before .before .before .before .before .before .before .before .before .before .before .before .before .before .before .args .stamps .now) _ _, c .before .before .before .before .before .before .before .before .before .before .before .before .before .before .before .before .before .pre .1 .0 _ (going-in r (c .before .before .before .before .before .before .before .before .before .loop .inv .going))) in
     let s = stamped-next (c .before .before .before .before .before .before .before .before .before .loop .inv .stamped) small (c .before .before .before .before .before .stamp2 .ensures .1) in
-    (ending-all w r (c .before .before .before .before .before .before .before .before .before .loop .inv) e small (sym (c .before .before .before .before .before .stamp2 .ensures .0) ∙ not-false _ (c .before .before .if1 .left)) (c .before .ring-step .ensures) (c .if2 .taken), (s .bound, s .size))
+    (ending-all w r (c .before .before .before .before .before .before .before .before .before .loop .inv) e small (sym (c .before .before .before .before .before .stamp2 .ensures .0) ∙ not-false _ (c .before .before .if1 .left)) (c .before .ring-step .ensures) (c .if2 .taken), (s .bound, s .size ∙ ap length (c .before .before .before .before .before .before .before .before .before .before .before .before .stamp .ensures .1) ∙ length-set (c .before .before .before .before .before .before .before .before .before .before .before .before .before .before .before .before .before .args .stamps .now) _ _))
 
 loop-less : tie.Need-loop-less Inv-loop μ-loop
 loop-less c =
@@ -109,7 +109,7 @@ loop-again c =
     let w = step-within _ _ _ (l .few) (l .next-within) (l .next-apart) (l .opposite-within) (l .opposite-apart) in
     let r = round (l .few) w (step-apart _ _ _ (l .few) (l .next-within) (l .next-apart) (l .opposite-within) (l .opposite-apart)) _ (c .before .before .before .before .before .before .before .before .before .before .before .before .before .before .before .before .before .pre .0 .1) in
     let e = ap (λ (z : ℕ). getD (c .before .before .before .before .before .before .before .before .before .before .before .before .before .before .before .before .before .args .numbers .now) z 0) (c .before .before .before .before .before .before .before .before .field .ensures) in
-    let small : getD (c .before .before .before .before .before .before .before .before .before .before .before .before .before .before .before .before .before .args .numbers .now) (c .before .before .before .before .before .before .before .before .field .result) 0 < room = omega (arith, e, c .before .before .before .before .before .before .before .before .before .before .before .before .before .before .before .before .before .pre .1 .0 _ (going-in r (c .before .before .before .before .before .before .before .before .before .loop .inv .going))) in
+    let small : getD (c .before .before .before .before .before .before .before .before .before .before .before .before .before .before .before .before .before .args .numbers .now) (c .before .before .before .before .before .before .before .before .field .result) 0 < length (c .before .before .before .before .before .before .before .before .before .before .before .before .stamp .last .0) = omega (arith, e, ap length (c .before .before .before .before .before .before .before .before .before .before .before .before .stamp .ensures .1) ∙ length-set (c .before .before .before .before .before .before .before .before .before .before .before .before .before .before .before .before .before .args .stamps .now) _ _, c .before .before .before .before .before .before .before .before .before .before .before .before .before .before .before .before .before .pre .1 .0 _ (going-in r (c .before .before .before .before .before .before .before .before .before .loop .inv .going))) in
     ending-more w r (c .before .before .before .before .before .before .before .before .before .loop .inv) e small (sym (c .before .before .before .before .before .stamp2 .ensures .0) ∙ not-false _ (c .before .before .if1 .left)) (c .before .before .before .before .before .stamp2 .ensures .1) (going-next w r (c .before .before .before .before .before .before .before .before .before .loop .inv .going) (c .before .ring-step .ensures) (c .if2 .left))
 
 pub ends-differ-spec : {M : Type 1} → statement M

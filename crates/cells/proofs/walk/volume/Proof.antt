@@ -5,7 +5,7 @@ use mathlib.Core.Path.{refl, sym, ap, _∙_}
 use lib.ListN.{length, length-replicate}
 use Rattle.model.specs.Image.{room, column}
 use Rattle.cells.specs.Places.{volume-of}
-use Rattle.cells.proofs.Walks.{Walk, walk-start, walk-step, walk-mid, walk-end, walk-count, queue-le, queue-room}
+use Rattle.cells.proofs.Walks.{Walk, walk-start, walk-step, walk-mid, walk-end, walk-count, walk-listed, queue-le, queue-room}
 use Rattle.cells.proofs.Reached.{volume-linked}
 use native.Mathlib.Omega.{arith}
 use Rattle.cells.proofs.walk.volume.Statement.{statement}
@@ -77,7 +77,7 @@ same-length-2 c =
 
 returns : tie.Need-returns Inv-loop μ-loop
 returns c =
-    (walk-end _ _ _ _ _ (volume-linked (c .before .before .before .before .before .before .before .before .before .before .before .before .pre .0) (c .before .before .before .before .before .before .before .before .before .before .before .before .pre .1)) (c .before .before .before .before .before .before .before .before .before .before .before .before .pre .0 .few) (c .before .loop .inv) (c .loop-test .left), walk-count _ _ _ _ _ (volume-linked (c .before .before .before .before .before .before .before .before .before .before .before .before .pre .0) (c .before .before .before .before .before .before .before .before .before .before .before .before .pre .1)) (c .before .before .before .before .before .before .before .before .before .before .before .before .pre .0 .few) (c .before .loop .inv) (c .loop-test .left))
+    (walk-end _ _ _ _ _ (volume-linked (c .before .before .before .before .before .before .before .before .before .before .before .before .pre .0) (c .before .before .before .before .before .before .before .before .before .before .before .before .pre .1)) (c .before .before .before .before .before .before .before .before .before .before .before .before .pre .0 .few) (c .before .loop .inv) (c .loop-test .left), (walk-count _ _ _ _ _ (volume-linked (c .before .before .before .before .before .before .before .before .before .before .before .before .pre .0) (c .before .before .before .before .before .before .before .before .before .before .before .before .pre .1)) (c .before .before .before .before .before .before .before .before .before .before .before .before .pre .0 .few) (c .before .loop .inv) (c .loop-test .left), walk-listed _ _ _ _ _ (volume-linked (c .before .before .before .before .before .before .before .before .before .before .before .before .pre .0) (c .before .before .before .before .before .before .before .before .before .before .before .before .pre .1)) (c .before .before .before .before .before .before .before .before .before .before .before .before .pre .0 .few) (c .before .loop .inv) (c .loop-test .left)))
 
 pub volume-spec : {M : Type 1} → statement M
 volume-spec =

@@ -19,7 +19,7 @@ enum-known-counts c = search needs
 put-messages-requires : tie.Need-put-messages-requires
 put-messages-requires c κs =
     let st = c .before .before .before .before .before .before .before .before .before .before .before .before .before .before .before .before .before .before .before .before .before .before .before .before .before .before .before .before .before .before .before .before .before .before .before .before .before .before .before .before .before .before .before .before in
-    let d = departs-told (st .args .block .now) (st .args .to) (st .args .serial) _ _ _ _ _ (c .before .before .before .before .before .before .before .before .before .before .before .before .before .before .before .before .before .before .before .before .before .before .before .before .before .leaves .ensures) (c .before .before .before .before .before .before .before .before .before .counts .given .1) in
+    let d = departs-told (st .args .block .now) (st .args .to) (st .args .serial) _ _ _ _ _ (c .before .before .before .before .before .before .before .before .before .before .before .before .before .before .before .before .before .before .before .before .before .before .before .before .before .leaves .ensures .0) (c .before .before .before .before .before .before .before .before .before .counts .given .1) in
     (st .pre .0, (d .survey, ((d .to-block, d .counter-fits), st .pre .1 .1 .1)))
 
 same-length : tie.Need-same-length
@@ -46,7 +46,7 @@ same-length-7 c = search needs
 returns : tie.Need-returns
 returns c =
     let st = c .before .before .before .before .before .before .before .before .before .before .before .before .before .before .before .before .before .before .before .before .before .before .before .before .before .before .before .before .before .before .before .before .before .before .before .before in
-    refused-leaving (st .args .block .now) _ (st .args .to) (st .args .serial) (st .pre .0) (refused-told (st .args .block .now) (st .args .to) (st .args .serial) _ _ _ _ _ (c .before .before .before .before .before .before .before .before .before .before .before .before .before .before .before .before .before .leaves .ensures) (c .before .q .given .1))
+    refused-leaving (st .args .block .now) _ (st .args .to) (st .args .serial) (st .pre .0) (refused-told (st .args .block .now) (st .args .to) (st .args .serial) _ _ _ _ _ (c .before .before .before .before .before .before .before .before .before .before .before .before .before .before .before .before .before .leaves .ensures .0) (c .before .q .given .1))
 
 same-length-8 : tie.Need-same-length-8
 same-length-8 c = search needs
@@ -81,7 +81,7 @@ same-length-17 c = search needs
 returns-2 : tie.Need-returns-2
 returns-2 c =
     let st = c .before .before .before .before .before .before .before .before .before .before .before .before .before .before .before .before .before .before .before .before .before .before .before .before .before .before .before .before .before .before .before .before .before .before .before .before .before .before .before .before .before .before .before .before .before .before .before .before .before .before .before in
-    let d = departs-told (st .args .block .now) (st .args .to) (st .args .serial) _ _ _ _ _ (c .before .before .before .before .before .before .before .before .before .before .before .before .before .before .before .before .before .before .before .before .before .before .before .before .before .before .before .before .before .before .before .before .leaves .ensures) (c .before .before .before .before .before .before .before .before .before .before .before .before .before .before .before .before .counts .given .1) in
+    let d = departs-told (st .args .block .now) (st .args .to) (st .args .serial) _ _ _ _ _ (c .before .before .before .before .before .before .before .before .before .before .before .before .before .before .before .before .before .before .before .before .before .before .before .before .before .before .before .before .before .before .before .before .leaves .ensures .0) (c .before .before .before .before .before .before .before .before .before .before .before .before .before .before .before .before .counts .given .1) in
     sent (st .args .block .now) _ (st .args .to) (st .args .serial) (st .pre .0) d (c .before .before .before .before .before .before .put-messages .ensures)
 
 pub send-volume-spec : {M : Type 1} → statement M

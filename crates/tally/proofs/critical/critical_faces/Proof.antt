@@ -32,7 +32,7 @@ message-order-requires c κs =
     let m = c .before .before .before .before .before .before .args .block .now in
     let ok = c .before .before .before .before .before .before .pre in
     let linked = sited rack m ok .linked in
-    ((linked, length-replicate {A = ℕ} room 1, all-closed linked, all-count (getD m 2 0) (linked .few)), (length-replicate {A = ℕ} room 0, length-replicate {A = ℕ} room 0, refl))
+    ((linked, length-replicate {A = ℕ} room 1, all-closed linked, all-count (getD m 2 0) (linked .few)), ((omega arith, λ q h. absurd (omega arith)), (length-replicate {A = ℕ} room 0, length-replicate {A = ℕ} room 0, refl)))
 
 slice-aggregate-count-critical : tie.Need-slice-aggregate-count-critical
 slice-aggregate-count-critical c = search needs
@@ -45,7 +45,7 @@ count-critical-requires c κs =
     let m = c .before .before .before .before .before .before .before .before .before .before .before .before .args .block .now in
     let ok = c .before .before .before .before .before .before .before .before .before .before .before .before .pre in
     let linked = sited rack m ok .linked in
-    (linked, order-all m (getD m 2 0) (linked .few) (c .before .before .before .before .before .message-order .ensures))
+    (linked, order-all m (getD m 2 0) (linked .few) (c .before .before .before .before .before .message-order .ensures .0))
 
 returns : tie.Need-returns
 returns c =

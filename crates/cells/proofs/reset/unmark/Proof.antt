@@ -1,0 +1,68 @@
+-- `cells::reset::unmark` meets its contract. The loop's invariant: the places before i of the list are unmarked.
+-- The measure is what is left of the list. Assumes nothing.
+use Prim.Native.Nat.{_-_, _≤_}
+use lib.ListN.{take}
+use Rattle.cells.specs.Places.{Painted}
+use Rattle.cells.proofs.Paths.{paint-none}
+use Rattle.cells.proofs.Resets.{paint-listed, painted-all}
+use native.Mathlib.Omega.{arith}
+use borrow.Author.Needs.{needs}
+use Rattle.cells.proofs.reset.unmark.Statement.{statement}
+use Rattle.cells.proofs.reset.unmark.Tie as tie
+
+abbrev Inv-loop : tie.InvT-loop
+Inv-loop order count marks₀ i₀ marks i =
+    (i ≤ count) × Painted 0 (take i order) marks₀ marks
+
+abbrev μ-loop : tie.MeasureT-loop
+μ-loop order count marks₀ i₀ marks i =
+    count - i
+
+loop-holds : tie.Need-loop-holds Inv-loop μ-loop
+loop-holds c =
+    (omega arith, paint-none 0 _)
+
+mul-marks : tie.Need-mul-marks Inv-loop μ-loop
+mul-marks c = search needs
+
+shared-slice-read-marks : tie.Need-shared-slice-read-marks Inv-loop μ-loop
+shared-slice-read-marks c = search needs
+
+slice-write-marks : tie.Need-slice-write-marks Inv-loop μ-loop
+slice-write-marks c =
+    omega (arith, c .before .before .before .pre .3 _ (c .before .loop-test .taken), c .before .before .loop .inv .1 .size, c .before .before .before .pre .2)
+
+add-i : tie.Need-add-i Inv-loop μ-loop
+add-i c = search needs
+
+loop-less : tie.Need-loop-less Inv-loop μ-loop
+loop-less c =
+    omega (arith, c .before .loop-test .taken)
+
+loop-again : tie.Need-loop-again Inv-loop μ-loop
+loop-again c =
+    (omega (arith, c .before .loop-test .taken), paint-listed (c .before .before .before .args .order .now) (c .before .before .loop .i) (c .before .before .loop .inv .1) (omega (arith, c .before .loop-test .taken, c .before .before .before .pre .1)) (omega (arith, c .before .before .before .pre .3 _ (c .before .loop-test .taken), c .before .before .before .pre .2)))
+
+same-length : tie.Need-same-length Inv-loop μ-loop
+same-length c =
+    c .before .loop .inv .1 .size
+
+returns : tie.Need-returns Inv-loop μ-loop
+returns c =
+    painted-all (c .before .before .args .order .now) (c .before .loop .i) (c .before .before .args .count) (c .before .loop .inv .0) (c .loop-test .left) (c .before .loop .inv .1)
+
+pub unmark-spec : {M : Type 1} → statement M
+unmark-spec =
+    tie.close
+    (tie.spec
+    Inv-loop
+    μ-loop
+    loop-holds
+    mul-marks
+    shared-slice-read-marks
+    slice-write-marks
+    add-i
+    loop-less
+    loop-again
+    same-length
+    returns)

@@ -1,0 +1,74 @@
+-- `cells::reset::unnumber` meets its contract. The loop's invariant: the places before i of the list have no number.
+-- The measure is what is left of the list. Assumes nothing.
+use Prim.Native.Nat.{_-_, _≤_}
+use lib.ListN.{take}
+use Rattle.model.specs.Image.{room}
+use Rattle.cells.specs.Places.{Painted}
+use Rattle.cells.proofs.Paths.{paint-none}
+use Rattle.cells.proofs.Resets.{paint-listed, painted-all}
+use native.Mathlib.Omega.{arith}
+use borrow.Author.Needs.{needs}
+use Rattle.cells.proofs.reset.unnumber.Statement.{statement}
+use Rattle.cells.proofs.reset.unnumber.Tie as tie
+
+abbrev Inv-loop : tie.InvT-loop
+Inv-loop order count numbers₀ i₀ numbers i =
+    (i ≤ count) × Painted room (take i order) numbers₀ numbers
+
+abbrev μ-loop : tie.MeasureT-loop
+μ-loop order count numbers₀ i₀ numbers i =
+    count - i
+
+loop-holds : tie.Need-loop-holds Inv-loop μ-loop
+loop-holds c =
+    (omega arith, paint-none room _)
+
+mul-numbers : tie.Need-mul-numbers Inv-loop μ-loop
+mul-numbers c = search needs
+
+shared-slice-read-numbers : tie.Need-shared-slice-read-numbers Inv-loop μ-loop
+shared-slice-read-numbers c = search needs
+
+mul-numbers-2 : tie.Need-mul-numbers-2 Inv-loop μ-loop
+mul-numbers-2 c =
+    omega (arith, c .before .before .before .pre .3 _ (c .before .loop-test .taken))
+
+slice-write-numbers : tie.Need-slice-write-numbers Inv-loop μ-loop
+slice-write-numbers c =
+    omega (arith, c .before .before .before .pre .3 _ (c .before .loop-test .taken), c .before .before .loop .inv .1 .size, c .before .before .before .pre .2)
+
+add-i : tie.Need-add-i Inv-loop μ-loop
+add-i c = search needs
+
+loop-less : tie.Need-loop-less Inv-loop μ-loop
+loop-less c =
+    omega (arith, c .before .loop-test .taken)
+
+loop-again : tie.Need-loop-again Inv-loop μ-loop
+loop-again c =
+    (omega (arith, c .before .loop-test .taken), paint-listed (c .before .before .before .args .order .now) (c .before .before .loop .i) (c .before .before .loop .inv .1) (omega (arith, c .before .loop-test .taken, c .before .before .before .pre .1)) (omega (arith, c .before .before .before .pre .3 _ (c .before .loop-test .taken), c .before .before .before .pre .2)))
+
+same-length : tie.Need-same-length Inv-loop μ-loop
+same-length c =
+    c .before .loop .inv .1 .size
+
+returns : tie.Need-returns Inv-loop μ-loop
+returns c =
+    painted-all (c .before .before .args .order .now) (c .before .loop .i) (c .before .before .args .count) (c .before .loop .inv .0) (c .loop-test .left) (c .before .loop .inv .1)
+
+pub unnumber-spec : {M : Type 1} → statement M
+unnumber-spec =
+    tie.close
+    (tie.spec
+    Inv-loop
+    μ-loop
+    loop-holds
+    mul-numbers
+    shared-slice-read-numbers
+    mul-numbers-2
+    slice-write-numbers
+    add-i
+    loop-less
+    loop-again
+    same-length
+    returns)
