@@ -196,15 +196,15 @@ module _ (n : ℕ) (f : ℕ → ℕ) (marks : List ℕ) (few : n ≤ room) (wf :
       face-stays f (marked n marks) stays apart small (r .0) x (sooner p h (r .0) (keep-in (λ x. all (leb x) (cycle f x)) (marked p marks) (r .0) (r .1) .0)) (r .2))
 
   -- nothing is put at the start: no place below it is marked
-  none-marked : (low : ℕ) → ((q : ℕ) → q < low → getD marks q 0 ≡ 0) → marked low marks ≡ []
+  none-marked : (low : ℕ) → ((q : ℕ) → q < low → getD marks q 0 ≡ 1 → ⊥) → marked low marks ≡ []
   unfolding marked
-  none-marked low h = none-kept (λ p. eqb (getD marks p 0) 1) (places low) (λ p k. ne-eqb (getD marks p 0) 1 (λ e. omega (arith, e, h p (places-below low p k))))
+  none-marked low h = none-kept (λ p. eqb (getD marks p 0) 1) (places low) (λ p k. ne-eqb (getD marks p 0) 1 (h p (places-below low p k)))
 
-  no-faces : (low : ℕ) → ((q : ℕ) → q < low → getD marks q 0 ≡ 0) → faces f (marked low marks) ≡ []
+  no-faces : (low : ℕ) → ((q : ℕ) → q < low → getD marks q 0 ≡ 1 → ⊥) → faces f (marked low marks) ≡ []
   unfolding faces
   no-faces low h = ap (faces f) (none-marked low h)
 
-  pub ordering-start : (low : ℕ) (out starts seen : List ℕ) → low ≤ n → ((q : ℕ) → q < low → getD marks q 0 ≡ 0) → length out ≡ room → length starts ≡ room → seen ≡ replicate room 0 → Ordering n f marks low out starts seen 0 0
+  pub ordering-start : (low : ℕ) (out starts seen : List ℕ) → low ≤ n → ((q : ℕ) → q < low → getD marks q 0 ≡ 1 → ⊥) → length out ≡ room → length starts ≡ room → seen ≡ replicate room 0 → Ordering n f marks low out starts seen 0 0
   unfolding concat placed
   ordering-start low out starts seen le none a b e = record {
     so-far = subst (λ (fs : List (List ℕ)). InOrder fs out starts 0 0) (sym (no-faces low none)) (record { out-size = a; starts-size = b; order = refl; darts-are = refl; indices = refl; count-is = refl });
@@ -271,6 +271,25 @@ module _ (n : ℕ) (f : ℕ → ℕ) (marks : List ℕ) (few : n ≤ room) (wf :
           either false true = refl
           either false false = refl
 
+  -- PLACES PASSED OVER: none of them is marked
+  passed-over : (k p : ℕ) → ((q : ℕ) → p ≤ q → q < p + k → getD marks q 0 ≡ 1 → ⊥) → faces f (marked (p + k) marks) ≡ faces f (marked p marks)
+  passed-over zero p none = ap (λ (j : ℕ). faces f (marked j marks)) (add-zero p)
+  passed-over (suc k) p none =
+      let more : p + suc k ≡ (p + k) + 1 = omega arith in
+      ap (λ (j : ℕ). faces f (marked j marks)) more ∙ unmarked-adds-none f marks (p + k) (ne-eqb (getD marks (p + k) 0) 1 (none (p + k) (omega arith) (omega arith))) ∙ passed-over k p (λ q a b. none q a (omega arith))
+
+  pub ordering-pass : {p q darts count : ℕ} {out starts seen : List ℕ} → Ordering n f marks p out starts seen darts count → p ≤ q → q ≤ n → ((x : ℕ) → p ≤ x → x < q → getD marks x 0 ≡ 1 → ⊥) → Ordering n f marks q out starts seen darts count
+  ordering-pass {p} {q} {darts} {count} {out} {starts} {seen} o le small none =
+      let whole : p + (q - p) ≡ q = omega arith in
+      let same : faces f (marked q marks) ≡ faces f (marked p marks) = ap (λ (j : ℕ). faces f (marked j marks)) (sym whole) ∙ passed-over (q - p) p (λ x a b. none x a (omega arith)) in
+      record {
+        so-far = subst (λ (fs : List (List ℕ)). InOrder fs out starts darts count) (sym same) (o .so-far);
+        p-le = small;
+        count-le = omega (arith, o .count-le);
+        seen-size = o .seen-size;
+        seen-is = λ x. o .seen-is x ∙ ap (λ (fs : List (List ℕ)). bit (mem x (concat fs))) (sym same);
+      }
+
   -- THE END: as many darts are put as are marked
   full-stays : (p : ℕ) → p < n → length (marked n marks) ≤ length (concat (faces f (marked p marks))) → faces f (marked (p + 1) marks) ≡ faces f (marked p marks)
   full-stays p h full = by-cases (eqb (getD marks p 0) 1)
@@ -289,8 +308,8 @@ module _ (n : ℕ) (f : ℕ → ℕ) (marks : List ℕ) (few : n ≤ room) (wf :
     pub ordering-end : length (marked n marks) ≤ darts → InOrder (faces f (marked n marks)) out starts darts count
     ordering-end full = rw (full-end (n - p) p (omega (arith, o .p-le)) (omega (arith, o .so-far .darts-are))) (o .so-far)
 
-    pub ordering-seen : length (marked n marks) ≤ darts → Marked (take darts out) seen
-    ordering-seen full = record { size = o .seen-size; mark = λ q. o .seen-is q ∙ ap (λ (l : List ℕ). bit (mem q l)) (sym (o .so-far .order)) }
+    pub ordering-seen : Marked (take darts out) seen
+    ordering-seen = record { size = o .seen-size; mark = λ q. o .seen-is q ∙ ap (λ (l : List ℕ). bit (mem q l)) (sym (o .so-far .order)) }
 
     -- before that a place is left
     pub ordering-on : darts < length (marked n marks) → p < n

@@ -4,8 +4,9 @@ pub mod Sited
 pub mod Serials
 pub mod SewnLaws
 pub mod Paths
-pub mod Resets
 pub mod FaceLaws
+pub mod Resets
+pub mod Turns
 pub mod FaceSerials
 pub mod RingLaws
 pub mod VertexSerials

@@ -11,8 +11,9 @@ use Rattle.model.specs.Lists.{least, least-from, mem}
 use Rattle.model.specs.Image.{room}
 use Rattle.laws.proofs.Tests.{by-cases}
 use Rattle.laws.proofs.Members.{In, in-getD, least-in, least-below}
-use Rattle.cells.specs.Places.{Listed, Marked, Painted, bit}
-use Rattle.cells.proofs.Paths.{paint-none, paint-more}
+use Rattle.cells.specs.Places.{Listed, Marked, Painted, bit, marked}
+use Rattle.cells.proofs.Paths.{paint-more}
+use Rattle.cells.proofs.FaceLaws.{in-marked, marked-in}
 
 -- PAINTED BY A LIST: one place more
 one-more : (order : List ℕ) (i : ℕ) → i < length order → take (i + 1) order ≡ take i order ++ getD order i 0 ∷ []
@@ -20,6 +21,10 @@ one-more order i h = ap (λ (k : ℕ). take k order) (add-one i) ∙ take-suc or
 
 pub paint-listed : (order : List ℕ) (i : ℕ) {c : ℕ} {t t′ : List ℕ} → Painted c (take i order) t t′ → i < length order → getD order i 0 < length t → Painted c (take (i + 1) order) t (set t′ (getD order i 0) c)
 paint-listed order i w h l = rw (one-more order i h) (paint-more w l)
+
+-- what is marked is in the volume
+pub marks-in : {v marks : List ℕ} → Marked v marks → (p : ℕ) → getD marks p 0 ≡ 1 → In p v
+marks-in {v} m p e = by-cases (mem p v) (λ i. i) (λ i. absurd (omega (arith, e, m .mark p ∙ ap bit i)))
 
 -- UNMARKED: where every mark is in the list, none is left
 zeros-are : (n : ℕ) (l : List ℕ) → length l ≡ n → ((p : ℕ) → getD l p 0 ≡ 0) → l ≡ replicate n 0
@@ -67,9 +72,13 @@ module _ (order : List ℕ) (i : ℕ) {low : ℕ} (w : Lowest order i low) (h : 
 pub lowest-all : (order : List ℕ) (i count : ℕ) {low : ℕ} → Lowest order i low → i ≤ count → count ≤ i → low ≡ least (take count order)
 lowest-all order i count w a b = let e : i ≡ count = omega arith in w .low-is ∙ ap (λ (k : ℕ). least (take k order)) e
 
--- no mark stands below it, where the list has every mark
-pub none-below : {n t : ℕ} {v order marks : List ℕ} → Marked v marks → Listed n v order t → (q : ℕ) → q < least (take t order) → getD marks q 0 ≡ 0
-none-below {n} {t} {v} {order} m l q h = m .mark q ∙ by-cases (mem q v) (λ i. absurd (omega (arith, least-below (take t order) q (l .has q i)))) (λ i. rw i)
+-- no mark stands below it, where the list has every marked place
+pub none-below : (marks : List ℕ) {n t : ℕ} {order : List ℕ} → Listed n (marked n marks) order t → least (take t order) ≤ n → (q : ℕ) → q < least (take t order) → getD marks q 0 ≡ 1 → ⊥
+none-below marks {n} {t} {order} l low q h one = omega (arith, least-below (take t order) q (l .has q (in-marked n marks q (omega arith) one)))
+
+-- a list of a volume is one of the marked places
+pub listed-marked : {n t : ℕ} {v marks order : List ℕ} → Marked v marks → Listed n v order t → Listed n (marked n marks) order t
+listed-marked {n} {t} {v} {marks} m l = record { size = l .size; few = l .few; below = l .below; once = l .once; has = λ p i. l .has p (marks-in m p (marked-in n marks p i .1)) }
 
 pub least-small : {n t : ℕ} {v order : List ℕ} → Listed n v order t → 0 < t → least (take t order) < n
 least-small {n} {t} {v} {order} l h = by-first (take t order) refl

@@ -6,13 +6,13 @@ use Prim.Native.Nat.{ℕ, _≤_, _<_}
 use native.Mathlib.Omega.{arith}
 use lib.ListN.{length, getD, take}
 use lib.Seq.{getD-take, length-take-le}
-use Rattle.model.specs.Lists.{any, concat, mem}
+use Rattle.model.specs.Lists.{any, concat}
 use Rattle.model.specs.Cells.{faces}
 use Rattle.model.specs.Image.{column}
 use Rattle.cells.specs.Places.{Ended, InOrder, Linked, Marked, Numbered, Whole, bit, marked, volume-of}
-use Rattle.laws.proofs.Tests.{by-cases}
 use Rattle.laws.proofs.Members.{In}
 use Rattle.cells.proofs.Reached.{volume-below}
+use Rattle.cells.proofs.Resets.{marks-in}
 use Rattle.cells.proofs.SewnLaws.{any-within}
 use Rattle.cells.proofs.FaceLaws.{getD-in, has, in-marked, marked-in, only}
 use Rattle.cells.proofs.FaceSerials.{closed-next, closed-opposite}
@@ -22,9 +22,6 @@ use Rattle.cells.proofs.PairsNumbered.{ended, order-whole, same-test}
 module _ {b : List ℕ} {n d : ℕ} (l : Linked b n) (h : d < n) {marks : List ℕ} (mk : Marked (volume-of b d) marks) where
   pub whole : Whole n (column b 1) (column b 2) (concat (faces (column b 1) (marked n marks)))
   whole = order-whole n (column b 1) (column b 2) marks (l .few) (l .next-within) (l .next-apart) (l .opposite-within) (closed-next l h mk) (closed-opposite l h mk)
-
-  marked-volume : (p : ℕ) → getD marks p 0 ≡ 1 → In p (volume-of b d)
-  marked-volume p e = by-cases (mem p (volume-of b d)) (λ i. i) (λ i. absurd (omega (arith, e, mk .mark p ∙ ap bit i)))
 
   module _ {out starts : List ℕ} {darts count : ℕ} (o : InOrder (faces (column b 1) (marked n marks)) out starts darts count) where
     pub out-whole : Whole n (column b 1) (column b 2) (take darts out)
@@ -48,7 +45,7 @@ module _ {b : List ℕ} {n d : ℕ} (l : Linked b n) (h : d < n) {marks : List �
         inside p i = rw (o .order) (has n (column b 1) marks (l .few) (l .next-within) (l .next-apart) (closed-next l h mk) p (in-marked n marks p (volume-below l h p i) (mk .mark p ∙ ap bit i)))
 
         outside : (p : ℕ) → In p (take darts out) → In p (volume-of b d)
-        outside p i = marked-volume p (marked-in n marks p (only n (column b 1) marks (l .few) (l .next-within) (l .next-apart) (closed-next l h mk) p (rw (o .order) at i)) .1)
+        outside p i = marks-in mk p (marked-in n marks p (only n (column b 1) marks (l .few) (l .next-within) (l .next-apart) (closed-next l h mk) p (rw (o .order) at i)) .1)
 
     -- a test of some dart in message order is one of some marked place
     pub out-any : (q : ℕ → Bool) → any q (take darts out) ≡ any q (marked n marks)

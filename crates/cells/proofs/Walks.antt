@@ -6,12 +6,13 @@ use Prim.Native.Nat.{ℕ, zero, suc, _+_, _≤_, _<_}
 use native.Mathlib.Omega.{arith}
 use lib.Dec.{eqb}
 use lib.ListN.{length, getD, set, replicate, take, length-set, length-replicate}
-use lib.Seq.{getD-set-same, getD-set-other}
-use borrow.Author.Tests.{eqb-true, eqb-false}
-use Rattle.model.specs.Lists.{keep, mem, tab, sum}
+use native.Mathlib.Numerals.{add-one}
+use lib.Seq.{getD-set-same, getD-set-other, getD-take, length-take-le, take-suc-set}
+use borrow.Author.Tests.{eqb-true, eqb-false, ne-eqb}
+use Rattle.model.specs.Lists.{distinct, keep, mem, tab, sum}
 use Rattle.model.specs.Image.{room}
 use Rattle.laws.proofs.Tests.{by-cases}
-use Rattle.laws.proofs.Members.{In, in-eq, in-here, in-there}
+use Rattle.laws.proofs.Members.{In, distinct-append, in-eq, in-getD, in-here, in-there}
 use Rattle.laws.proofs.Volumes.{Volume}
 use Rattle.cells.specs.Places.{Within, Listed, Marked, Visited, bit, places-in}
 
@@ -74,6 +75,7 @@ pub record Queue (n : ℕ) (v m o : List ℕ) (t : ℕ) : Type 0 where
   pub len-o : length o ≡ room
   pub bits : (p : ℕ) → getD m p 0 ≤ 1
   pub count : t ≡ sum m
+  pub once : distinct (take t o) ≡ true
   pub queued : (k : ℕ) → k < t → (getD o k 0 < n) × (getD m (getD o k 0) 0 ≡ 1) × In (getD o k 0) v
   pub back : (p : ℕ) → getD m p 0 ≡ 1 → (k : ℕ) × (k < t) × (getD o k 0 ≡ p)
 
@@ -113,10 +115,19 @@ module _ {n : ℕ} {v m o : List ℕ} {t : ℕ} (q : Queue n v m o t) where
       len-o = simp length-set (q .len-o);
       bits = λ k. eq-or-ne k p (λ w. rw w (omega (arith, same))) (λ w. omega (arith, other k w, q .bits k));
       count = omega (arith, sum-set m p (omega (arith, q .len-m)) z, q .count);
+      once = ap distinct (ap (λ (k : ℕ). take k (set o t p)) (add-one t) ∙ take-suc-set o t p (omega (arith, queue-room p (omega arith) z, q .len-o))) ∙ distinct-append (take t o) (p ∷ []) (q .once) refl new;
       queued = λ k l. last-or-below l (λ w. rw (at-last k w) (pn, same, r)) (old k);
       back = λ k e. eq-or-ne k p (λ w. (t, omega arith, last′ ∙ sym w)) (λ w. earlier (q .back k (sym (other k w) ∙ e)));
     }
       where
+        -- what is queued is marked, and p is not
+        new : (x : ℕ) → In x (take t o) → mem x (p ∷ []) ≡ false
+        new x i = let r = in-getD (take t o) x i in
+            let less : r .0 < t = omega (arith, r .1, length-take-le t o (omega (arith, queue-le, q .len-o))) in
+            let there : x ≡ getD o (r .0) 0 = r .2 ∙ getD-take t o (r .0) 0 less in
+            let one : getD m x 0 ≡ 1 = rw there (q .queued (r .0) less .1) in
+            rw (ne-eqb x p (λ e. omega (arith, one, ap (λ (y : ℕ). getD m y 0) e, z)))
+
         old : (k : ℕ) → k < t → (getD (set o t p) k 0 < n) × (getD (set m p 1) (getD (set o t p) k 0) 0 ≡ 1) × In (getD (set o t p) k 0) v
         old k l = rw (kept′ k l) (q .queued k l .0, grows′ _ (q .queued k l .1), q .queued k l .2)
 
@@ -155,6 +166,7 @@ empty-queue n v o len = record {
   len-o = len;
   bits = λ p. omega (arith, getD-zeros room p);
   count = sym (sum-zeros room);
+  once = refl;
   queued = λ k l. absurd (omega arith);
   back = λ p e. absurd (omega (arith, getD-zeros room p));
 }
@@ -217,6 +229,7 @@ module _ (n : ℕ) (f g : ℕ → ℕ) (d : ℕ) (v : List ℕ) (vol : Volume f 
       size = w .queue .len-o;
       few = queue-le (w .queue);
       below = λ k l. w .queue .queued k l .0;
+      once = w .queue .once;
       has = λ p i. let b = w .queue .back p (reached e p i) in
           in-eq p (getD o (b .0) 0) (take t o) (sym (b .2)) (in-take o t (b .0) (b .1) (omega (arith, b .1, queue-le (w .queue), w .queue .len-o)));
     }

@@ -9,6 +9,7 @@ use Rattle.model.specs.Lists.{all, keep, mem, distinct, tab, concat}
 use Rattle.model.specs.Cells.{volume, ring, vertex, vertices, vertex-number}
 use Rattle.model.specs.Image.{room, words, column}
 use Rattle.model.specs.Departure.{placed}
+use Rattle.laws.specs.Order.{Ascending}
 
 -- f takes the places below n to places below n
 abbrev pub Within : ℕ → (ℕ → ℕ) → Type 0
@@ -56,12 +57,21 @@ sewn-out b marks p = eqb (column b 3 p % 4) 1 && not (eqb (getD marks (column b 
 unfoldable pub places-in : ℕ → List ℕ → List ℕ
 places-in n v = keep (λ p. mem p v) (tab (λ p. p) n)
 
--- the first t places of o are below n, and have every place of v among them
+-- the first t places of o are below n and differ, and have every place of v among them
 pub record Listed (n : ℕ) (v o : List ℕ) (t : ℕ) : Type 0 where
   pub size : length o ≡ room
   pub few : t ≤ room
   pub below : (k : ℕ) → k < t → getD o k 0 < n
+  pub once : distinct (take t o) ≡ true
   pub has : (p : ℕ) → mem p v ≡ true → mem p (take t o) ≡ true
+
+-- the first t keys are places below n that ascend, and have every marked place below n among them
+pub record InTurn (n : ℕ) (marks keys : List ℕ) (t : ℕ) : Type 0 where
+  pub few : t ≤ room
+  pub there : t ≤ length keys
+  pub below : (k : ℕ) → k < t → getD keys k 0 < n
+  pub rises : Ascending t (λ k. getD keys k 0)
+  pub has : (p : ℕ) → p < n → getD marks p 0 ≡ 1 → (k : ℕ) × (k < t) × (getD keys k 0 ≡ p)
 
 -- a visit of p: unless it was marked before, it is marked and put at the end of the queue, of length t
 pub record Visited (p : ℕ) (m o : List ℕ) (t : ℕ) (m′ o′ : List ℕ) (t′ : ℕ) : Type 0 where

@@ -163,7 +163,6 @@ fn counts(size: usize, within: bool, faces: usize, away: usize, vertices: usize,
 fn cells_of(
     block: &[u64],
     n: usize,
-    queue: &mut [usize],
     marks: &mut [u8],
     out: &mut [usize],
     starts: &mut [usize],
@@ -172,11 +171,10 @@ fn cells_of(
     firsts: &mut [usize],
     stamps: &mut [usize],
 )
-    requires { ⌜ Linked (now block) n × (0 < n) × (length (now queue) ≡ room) × (now marks ≡ replicate room 0) × (length (now out) ≡ room) × (length (now starts) ≡ room) × (now seen ≡ replicate room 0) × (length (now numbers) ≡ room) × (length (now firsts) ≡ room) × (length (now stamps) ≡ room) ⌝ }
+    requires { ⌜ Linked (now block) n × (0 < n) × (now marks ≡ replicate room 0) × (length (now out) ≡ room) × (length (now starts) ≡ room) × (now seen ≡ replicate room 0) × (length (now numbers) ≡ room) × (length (now firsts) ≡ room) × (length (now stamps) ≡ room) ⌝ }
 {
-    let size = cells::walk::volume(block, n, 0, queue, marks);
-    let low = cells::walk::least_place(queue, size);
-    let order = cells::order::message_order(block, n, size, low, marks, out, starts, seen);
+    let size = cells::walk::volume(block, n, 0, out, marks);
+    let order = cells::order::message_order(block, n, size, marks, out, starts, seen);
     let darts = order.darts;
     let faces = order.faces;
     let within = cells::sewn::sewn_within(block, n, marks, out, darts);
@@ -193,7 +191,6 @@ fn cells_of(
 fn show(block: &[u64], n: usize)
     requires { ⌜ Linked (now block) n × (0 < n) ⌝ }
 {
-    let mut queue = [0usize; 4096];
     let mut marks = [0u8; 4096];
     let mut out = [0usize; 4096];
     let mut starts = [0usize; 4096];
@@ -204,7 +201,6 @@ fn show(block: &[u64], n: usize)
     cells_of(
         block,
         n,
-        &mut queue,
         &mut marks,
         &mut out,
         &mut starts,

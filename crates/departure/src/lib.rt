@@ -81,14 +81,13 @@ pub fn leaves(
     let Found::At(place) = lookup::place_of(block, n, serial) else {
         return Leaving::Refused(Refusal::SerialNotHeld);
     };
-    // `out` is the queue of the walk before it is the order.
+    // `out` lists the darts as the walk met them before it has them in order.
     let size = cells::walk::volume(block, n, place.0, out, marks);
     if Header::VOLUME < size {
         cells::reset::unmark(out, size, marks);
         return Leaving::Refused(Refusal::VolumeTooLarge);
     }
-    let low = cells::walk::least_place(out, size);
-    let order = cells::order::message_order(block, n, size, low, marks, out, starts, seen);
+    let order = cells::order::message_order(block, n, size, marks, out, starts, seen);
     let darts = order.darts;
     let faces = order.faces;
     if cells::sewn::sewn_within(block, n, marks, out, darts) {

@@ -43,6 +43,7 @@ as-queue {n} {f} {g} {m} {o} k = record {
   len-o = k .len-order;
   bits = k .bits;
   count = k .count;
+  once = k .once;
   queued = λ i h. (k .queued i h .0, k .queued i h .1, in-places n (getD o i 0) (k .queued i h .0));
   back = k .back;
 }
@@ -145,6 +146,7 @@ module _ (n : ℕ) (f g : ℕ → ℕ) (d : ℕ) (v : List ℕ) (vol : Volume f 
       len-order = w .queue .len-o;
       bits = w .queue .bits;
       count = w .queue .count;
+      once = w .queue .once;
       queued = λ k l. (w .queue .queued k l .0, w .queue .queued k l .1);
       back = w .queue .back;
       closed-f = λ p l e. closed p e .0;

@@ -98,6 +98,7 @@ no-marks n f g marks order e len = rw e (record {
   len-order = len;
   bits = λ p. omega (arith, getD-zeros room p);
   count = sym (sum-zeros room);
+  once = refl;
   queued = λ k h. absurd (omega arith);
   back = λ p h. absurd (omega (arith, getD-zeros room p));
   closed-f = λ p l h. absurd (omega (arith, getD-zeros room p));

@@ -4,8 +4,8 @@ use mathlib.Core.Bool.{Bool, true, false, cond, _&&_}
 use mathlib.Core.List.{List, map}
 use Prim.Native.Nat.{ℕ, _+_, _≤_, _<_}
 use lib.Dec.{leb}
-use lib.ListN.{length, getD}
-use Rattle.model.specs.Lists.{all, mem, sum}
+use lib.ListN.{length, getD, take}
+use Rattle.model.specs.Lists.{all, distinct, mem, sum}
 use Rattle.model.specs.Balance.{Oracle, picks}
 use Rattle.model.specs.Image.{room, column, dart-in}
 use Rattle.oracle.specs.Oracle.{holds}
@@ -53,6 +53,7 @@ pub record Marking (n : ℕ) (f g : ℕ → ℕ) (marks order : List ℕ) (tail 
   pub len-order : length order ≡ room
   pub bits : (p : ℕ) → getD marks p 0 ≤ 1
   pub count : tail ≡ sum marks
+  pub once : distinct (take tail order) ≡ true
   pub queued : (k : ℕ) → k < tail → (getD order k 0 < n) × (getD marks (getD order k 0) 0 ≡ 1)
   pub back : (p : ℕ) → getD marks p 0 ≡ 1 → (k : ℕ) × (k < tail) × (getD order k 0 ≡ p)
   pub closed-f : Closed n f marks

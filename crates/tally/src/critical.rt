@@ -57,7 +57,7 @@ pub fn critical_faces(block: &[u64]) -> usize
     let mut out = [0usize; 4096];
     let mut starts = [0usize; 4096];
     let mut seen = [0u8; 4096];
-    let order = cells::order::message_order(
+    let order = cells::order::scanned_order(
         block,
         n,
         n,

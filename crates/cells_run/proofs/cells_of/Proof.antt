@@ -2,7 +2,7 @@
 use mathlib.Core.Path.{sym, _∙_, ap}
 use lib.ListN.{length}
 use Rattle.cells.proofs.Reached.{volume-linked}
-use Rattle.cells.proofs.Resets.{none-below, least-small, listed-some}
+use Rattle.cells.proofs.Resets.{listed-marked, listed-some}
 use Rattle.cells.proofs.SewnLaws.{marked-places}
 use Rattle.cells.proofs.FaceSerials.{closed-next}
 use Rattle.cells.proofs.StartLaws.{in-order-few}
@@ -14,48 +14,42 @@ use Rattle.cells_run.proofs.cells_of.Tie as tie
 
 volume-requires : tie.Need-volume-requires
 volume-requires c κs =
-    (c .before .before .before .before .before .before .before .before .before .before .before .pre .0, c .before .before .before .before .before .before .before .before .before .before .before .pre .1, c .before .before .before .before .before .before .before .before .before .before .before .pre .2, c .before .before .before .before .before .before .before .before .before .before .before .pre .3)
-
-least-place-requires : tie.Need-least-place-requires
-least-place-requires c κs =
-    let listed = c .before .before .before .before .before .volume .ensures .1 .1 in
-    (listed-some _ listed (volume-linked (c .before .before .before .before .before .before .before .before .before .before .before .before .before .before .before .before .before .pre .0) (c .before .before .before .before .before .before .before .before .before .before .before .before .before .before .before .before .before .pre .1) .here), listed .few, omega (arith, listed .few, listed .size))
+    (c .before .before .before .before .before .before .before .before .before .before .pre .0, c .before .before .before .before .before .before .before .before .before .before .pre .1, c .before .before .before .before .before .before .before .before .before .before .pre .3, c .before .before .before .before .before .before .before .before .before .before .pre .2)
 
 message-order-requires : tie.Need-message-order-requires
 message-order-requires c κs =
-    let mk = c .before .before .before .before .before .before .before .before .before .before .volume .ensures .0 in
-    let listed = c .before .before .before .before .before .before .before .before .before .before .volume .ensures .1 .1 in
-    let least = c .before .before .before .before .least-place .ensures in
-    ((c .before .before .before .before .before .before .before .before .before .before .before .before .before .before .before .before .before .before .before .before .before .before .pre .0, mk .size, closed-next (c .before .before .before .before .before .before .before .before .before .before .before .before .before .before .before .before .before .before .before .before .before .before .pre .0) (c .before .before .before .before .before .before .before .before .before .before .before .before .before .before .before .before .before .before .before .before .before .before .pre .1) mk, c .before .before .before .before .before .before .before .before .before .before .volume .ensures .1 .0 ∙ sym (ap length (marked-places mk _))), ((omega (arith, least, least-small listed (listed-some _ listed (volume-linked (c .before .before .before .before .before .before .before .before .before .before .before .before .before .before .before .before .before .before .before .before .before .before .pre .0) (c .before .before .before .before .before .before .before .before .before .before .before .before .before .before .before .before .before .before .before .before .before .before .pre .1) .here))), λ q h. none-below mk listed q (omega (arith, least))), (c .before .before .before .before .before .before .before .before .before .before .before .before .before .before .before .before .before .before .before .before .before .before .pre .4, c .before .before .before .before .before .before .before .before .before .before .before .before .before .before .before .before .before .before .before .before .before .before .pre .5, c .before .before .before .before .before .before .before .before .before .before .before .before .before .before .before .before .before .before .before .before .before .before .pre .6)))
+    let mk = c .before .before .before .before .before .before .before .before .volume .ensures .0 in
+    let listed = c .before .before .before .before .before .before .before .before .volume .ensures .1 .1 in
+    ((c .before .before .before .before .before .before .before .before .before .before .before .before .before .before .before .before .before .before .before .pre .0, mk .size, closed-next (c .before .before .before .before .before .before .before .before .before .before .before .before .before .before .before .before .before .before .before .pre .0) (c .before .before .before .before .before .before .before .before .before .before .before .before .before .before .before .before .before .before .before .pre .1) mk, c .before .before .before .before .before .before .before .before .volume .ensures .1 .0 ∙ sym (ap length (marked-places mk _))), (listed-some _ listed (volume-linked (c .before .before .before .before .before .before .before .before .before .before .before .before .before .before .before .before .before .before .before .pre .0) (c .before .before .before .before .before .before .before .before .before .before .before .before .before .before .before .before .before .before .before .pre .1) .here), listed-marked mk listed, c .before .before .before .before .before .before .before .before .before .before .before .before .before .before .before .before .before .before .before .pre .4, c .before .before .before .before .before .before .before .before .before .before .before .before .before .before .before .before .before .before .before .pre .5))
 
 sewn-within-requires : tie.Need-sewn-within-requires
 sewn-within-requires c κs =
-    let mk = c .before .before .before .before .before .before .before .before .before .before .before .before .before .before .before .before .before .before .before .volume .ensures .0 in
+    let mk = c .before .before .before .before .before .before .before .before .before .before .before .before .before .before .before .before .before .volume .ensures .0 in
     let o = c .before .before .before .before .before .before .before .before .message-order .ensures .0 in
-    let pre = c .before .before .before .before .before .before .before .before .before .before .before .before .before .before .before .before .before .before .before .before .before .before .before .before .before .before .before .before .before .before .before .pre in
+    let pre = c .before .before .before .before .before .before .before .before .before .before .before .before .before .before .before .before .before .before .before .before .before .before .before .before .before .before .before .before .pre in
     ((pre .0, mk .size), (in-order-few o .0, out-long (pre .0) (pre .1) mk o, out-below (pre .0) (pre .1) mk o))
 
 count-sewn-requires : tie.Need-count-sewn-requires
 count-sewn-requires c κs =
-    let mk = c .before .before .before .before .before .before .before .before .before .before .before .before .before .before .before .before .before .before .before .before .before .before .before .volume .ensures .0 in
+    let mk = c .before .before .before .before .before .before .before .before .before .before .before .before .before .before .before .before .before .before .before .before .before .volume .ensures .0 in
     let o = c .before .before .before .before .before .before .before .before .before .before .before .before .message-order .ensures .0 in
-    let pre = c .before .before .before .before .before .before .before .before .before .before .before .before .before .before .before .before .before .before .before .before .before .before .before .before .before .before .before .before .before .before .before .before .before .before .before .pre in
+    let pre = c .before .before .before .before .before .before .before .before .before .before .before .before .before .before .before .before .before .before .before .before .before .before .before .before .before .before .before .before .before .before .before .before .pre in
     (pre .0, mk .size, o)
 
 number-vertices-requires : tie.Need-number-vertices-requires
 number-vertices-requires c κs =
-    let mk = c .before .before .before .before .before .before .before .before .before .before .before .before .before .before .before .before .before .before .before .before .before .before .before .before .before .before .before .volume .ensures .0 in
+    let mk = c .before .before .before .before .before .before .before .before .before .before .before .before .before .before .before .before .before .before .before .before .before .before .before .before .before .volume .ensures .0 in
     let o = c .before .before .before .before .before .before .before .before .before .before .before .before .before .before .before .before .message-order .ensures .0 in
-    let pre = c .before .before .before .before .before .before .before .before .before .before .before .before .before .before .before .before .before .before .before .before .before .before .before .before .before .before .before .before .before .before .before .before .before .before .before .before .before .before .before .pre in
-    ((pre .0, in-order-few o .0, out-long (pre .0) (pre .1) mk o, out-below (pre .0) (pre .1) mk o), (pre .7, pre .8))
+    let pre = c .before .before .before .before .before .before .before .before .before .before .before .before .before .before .before .before .before .before .before .before .before .before .before .before .before .before .before .before .before .before .before .before .before .before .before .before .pre in
+    ((pre .0, in-order-few o .0, out-long (pre .0) (pre .1) mk o, out-below (pre .0) (pre .1) mk o), (pre .6, pre .7))
 
 pairs-once-requires : tie.Need-pairs-once-requires
 pairs-once-requires c κs =
-    let mk = c .before .before .before .before .before .before .before .before .before .before .before .before .before .before .before .before .before .before .before .before .before .before .before .before .before .before .before .before .before .before .before .before .before .before .before .volume .ensures .0 in
+    let mk = c .before .before .before .before .before .before .before .before .before .before .before .before .before .before .before .before .before .before .before .before .before .before .before .before .before .before .before .before .before .before .before .before .before .volume .ensures .0 in
     let o = c .before .before .before .before .before .before .before .before .before .before .before .before .before .before .before .before .before .before .before .before .before .before .before .before .message-order .ensures .0 in
-    let pre = c .before .before .before .before .before .before .before .before .before .before .before .before .before .before .before .before .before .before .before .before .before .before .before .before .before .before .before .before .before .before .before .before .before .before .before .before .before .before .before .before .before .before .before .before .before .before .before .pre in
+    let pre = c .before .before .before .before .before .before .before .before .before .before .before .before .before .before .before .before .before .before .before .before .before .before .before .before .before .before .before .before .before .before .before .before .before .before .before .before .before .before .before .before .before .before .before .before .pre in
     let ended = ends-ready (pre .0) (pre .1) mk o (c .before .before .before .before .before .before .before .number-vertices .ensures) in
-    (pre .0, ended, omega (arith, ended .count-few, pre .9))
+    (pre .0, ended, omega (arith, ended .count-few, pre .8))
 
 counts-requires : tie.Need-counts-requires
 counts-requires c κs = search needs
@@ -86,32 +80,28 @@ list-requires-3 c κs = search needs
 
 same-length : tie.Need-same-length
 same-length c =
-    c .before .before .before .before .before .before .before .before .before .before .before .before .before .before .before .before .before .before .before .before .before .before .before .before .before .before .before .before .before .before .before .before .before .before .before .before .before .before .before .before .before .before .before .before .before .before .before .before .before .before .before .queue .given
+    c .before .before .before .before .before .before .before .before .before .before .before .before .before .before .before .before .before .before .before .before .before .before .before .before .before .before .before .before .before .before .before .before .before .before .before .before .before .before .before .before .before .before .before .before .before .before .before .marks .given
 
 same-length-2 : tie.Need-same-length-2
 same-length-2 c =
-    c .before .before .before .before .before .before .before .before .before .before .before .before .before .before .before .before .before .before .before .before .before .before .before .before .before .before .before .before .before .before .before .before .before .before .before .before .before .before .before .before .before .before .before .before .before .before .before .before .before .marks .given
+    c .before .before .before .before .before .before .before .before .before .before .before .before .before .before .before .before .before .before .before .before .before .before .before .before .before .before .before .before .before .before .before .before .before .before .before .before .before .before .before .before .out2 .given ∙ c .before .before .before .before .before .before .before .before .before .before .before .before .before .before .before .before .before .before .before .before .before .before .before .before .before .before .before .before .before .before .before .before .before .before .before .before .before .before .before .before .before .before .before .before .before .before .before .before .before .out .given
 
 same-length-3 : tie.Need-same-length-3
 same-length-3 c =
-    c .before .before .before .before .before .before .before .before .before .before .before .before .before .before .before .before .before .before .before .before .before .before .before .before .before .before .before .before .before .before .before .before .before .before .before .before .before .before .before .before .out .given
+    c .before .before .before .before .before .before .before .before .before .before .before .before .before .before .before .before .before .before .before .before .before .before .before .before .before .before .before .before .before .before .before .before .before .before .before .before .before .before .starts .given
 
 same-length-4 : tie.Need-same-length-4
 same-length-4 c =
-    c .before .before .before .before .before .before .before .before .before .before .before .before .before .before .before .before .before .before .before .before .before .before .before .before .before .before .before .before .before .before .before .before .before .before .before .before .before .before .starts .given
+    c .before .before .before .before .before .before .before .before .before .before .before .before .before .before .before .before .before .before .before .before .before .before .before .before .before .before .before .before .before .before .before .before .before .before .before .before .seen .given
 
 same-length-5 : tie.Need-same-length-5
-same-length-5 c =
-    c .before .before .before .before .before .before .before .before .before .before .before .before .before .before .before .before .before .before .before .before .before .before .before .before .before .before .before .before .before .before .before .before .before .before .before .before .seen .given
+same-length-5 c = search needs
 
 same-length-6 : tie.Need-same-length-6
 same-length-6 c = search needs
 
 same-length-7 : tie.Need-same-length-7
 same-length-7 c = search needs
-
-same-length-8 : tie.Need-same-length-8
-same-length-8 c = search needs
 
 returns : tie.Need-returns
 returns c = search needs
@@ -121,7 +111,6 @@ cells-of-spec =
     tie.close
     (tie.spec
     volume-requires
-    least-place-requires
     message-order-requires
     sewn-within-requires
     count-sewn-requires
@@ -143,5 +132,4 @@ cells-of-spec =
     same-length-5
     same-length-6
     same-length-7
-    same-length-8
     returns)

@@ -15,24 +15,24 @@ shared-slice-read-n : tie.Need-shared-slice-read-n
 shared-slice-read-n c =
     omega (arith, sited rack (c .before .before .args .block .now) (c .before .before .pre) .linked .size)
 
-slice-aggregate-message-order : tie.Need-slice-aggregate-message-order
-slice-aggregate-message-order c = search needs
+slice-aggregate-scanned-order : tie.Need-slice-aggregate-scanned-order
+slice-aggregate-scanned-order c = search needs
 
-slice-aggregate-message-order-2 : tie.Need-slice-aggregate-message-order-2
-slice-aggregate-message-order-2 c = search needs
+slice-aggregate-scanned-order-2 : tie.Need-slice-aggregate-scanned-order-2
+slice-aggregate-scanned-order-2 c = search needs
 
-slice-aggregate-message-order-3 : tie.Need-slice-aggregate-message-order-3
-slice-aggregate-message-order-3 c = search needs
+slice-aggregate-scanned-order-3 : tie.Need-slice-aggregate-scanned-order-3
+slice-aggregate-scanned-order-3 c = search needs
 
-slice-aggregate-message-order-4 : tie.Need-slice-aggregate-message-order-4
-slice-aggregate-message-order-4 c = search needs
+slice-aggregate-scanned-order-4 : tie.Need-slice-aggregate-scanned-order-4
+slice-aggregate-scanned-order-4 c = search needs
 
-message-order-requires : tie.Need-message-order-requires
-message-order-requires c κs =
+scanned-order-requires : tie.Need-scanned-order-requires
+scanned-order-requires c κs =
     let m = c .before .before .before .before .before .before .args .block .now in
     let ok = c .before .before .before .before .before .before .pre in
     let linked = sited rack m ok .linked in
-    ((linked, length-replicate {A = ℕ} room 1, all-closed linked, all-count (getD m 2 0) (linked .few)), ((omega arith, λ q h. absurd (omega arith)), (length-replicate {A = ℕ} room 0, length-replicate {A = ℕ} room 0, refl)))
+    ((linked, length-replicate {A = ℕ} room 1, all-closed linked, all-count (getD m 2 0) (linked .few)), ((omega arith, λ q h one. omega arith), (length-replicate {A = ℕ} room 0, length-replicate {A = ℕ} room 0, refl)))
 
 slice-aggregate-count-critical : tie.Need-slice-aggregate-count-critical
 slice-aggregate-count-critical c = search needs
@@ -45,7 +45,7 @@ count-critical-requires c κs =
     let m = c .before .before .before .before .before .before .before .before .before .before .before .before .args .block .now in
     let ok = c .before .before .before .before .before .before .before .before .before .before .before .before .pre in
     let linked = sited rack m ok .linked in
-    (linked, order-all m (getD m 2 0) (linked .few) (c .before .before .before .before .before .message-order .ensures .0))
+    (linked, order-all m (getD m 2 0) (linked .few) (c .before .before .before .before .before .scanned-order .ensures .0))
 
 returns : tie.Need-returns
 returns c =
@@ -56,11 +56,11 @@ critical-faces-spec =
     tie.close
     (tie.spec
     shared-slice-read-n
-    slice-aggregate-message-order
-    slice-aggregate-message-order-2
-    slice-aggregate-message-order-3
-    slice-aggregate-message-order-4
-    message-order-requires
+    slice-aggregate-scanned-order
+    slice-aggregate-scanned-order-2
+    slice-aggregate-scanned-order-3
+    slice-aggregate-scanned-order-4
+    scanned-order-requires
     slice-aggregate-count-critical
     slice-aggregate-count-critical-2
     count-critical-requires
