@@ -27,15 +27,26 @@ impl Hall {
         let mut halls = Hall::of_slabs([10, 17], seed);
         let room = Rc::new(scenes::mesh_with_room(170, 10, seed));
         halls.push(Hall { name: "next move, a move".into(), mesh: room, next_move: Some((EVERY, 2)) });
-        let stays = Rc::new(scenes::mesh_that_stays(1020, seed));
-        let name = "next move, blocked: 15,300 volumes asked, none may leave".into();
-        halls.push(Hall { name, mesh: stays, next_move: Some((EVERY, 1)) });
+        halls.extend([
+            Hall::blocked("30,720 volumes of 2 darts, refused by 13", scenes::mesh_that_stays(1, 2048, seed)),
+            Hall::blocked("15,300 volumes of 4 darts, refused by 13", scenes::mesh_that_stays(2, 1020, seed)),
+            Hall::blocked("10,200 volumes of 6 darts, refused by 14", scenes::mesh_with_full_counters(3, 340, seed)),
+            Hall::blocked("300 volumes of 200 darts, refused by 14", scenes::mesh_with_full_counters(100, 10, seed)),
+        ]);
         halls
     }
 
-    /// Sixteen slabs of so many cells; serials shuffled.
+    /// Sixteen slabs of so many cells, and as many darts in volumes that may not leave; serials shuffled.
     pub fn growing(slab: [usize; 2]) -> Vec<Hall> {
-        Hall::of_slabs(slab, Some(1))
+        let mut halls = Hall::of_slabs(slab, Some(1));
+        let volumes = 6 * slab[0] * slab[1];
+        halls.push(Hall::blocked("volumes of 4 darts, refused by 13", scenes::mesh_that_stays(2, volumes, Some(1))));
+        halls
+    }
+
+    /// A next move for which every volume of fifteen blocks is asked, and none may leave.
+    fn blocked(which: &str, mesh: Vec<u64>) -> Hall {
+        Hall { name: format!("next move, blocked: {which}"), mesh: Rc::new(mesh), next_move: Some((EVERY, 1)) }
     }
 
     /// The mesh check; a next move of a mesh that is level; one that a box picks cells for, all blocks being full.

@@ -154,16 +154,34 @@ pub fn mesh_with_room(cells: usize, missing: usize, seed: Option<u64>) -> Vec<u6
     images(&scene, seed)
 }
 
-/// Fifteen blocks of so many volumes of four darts, none of which may leave (question 13), and one with a single volume.
-pub fn mesh_that_stays(volumes: usize, seed: Option<u64>) -> Vec<u64> {
+/// Fifteen blocks of so many pillows of two n-gons, and one with a single pillow. With n below 3 none may leave (question 13).
+pub fn mesh_that_stays(n: usize, volumes: usize, seed: Option<u64>) -> Vec<u64> {
     let mut scene = Scene { map: Map::default(), home: Vec::new() };
     for block in 0..16 {
         for _ in 0..if block == 15 { 1 } else { volumes } {
-            shapes::pillow(&mut scene.map, 2);
+            shapes::pillow(&mut scene.map, n);
         }
         scene.settle(block);
     }
     images(&scene, seed)
+}
+
+/// Fifteen blocks of so many pairs of pillows, sewn to each other, and one with a single pillow. The counters are at their end, so none
+/// may leave (question 14).
+pub fn mesh_with_full_counters(n: usize, pairs: usize, seed: Option<u64>) -> Vec<u64> {
+    let mut scene = Scene { map: Map::default(), home: Vec::new() };
+    for block in 0..15 {
+        for _ in 0..pairs {
+            let [one, other] = [0; 2].map(|_| shapes::pillow(&mut scene.map, n));
+            scene.map.sew(one, other);
+        }
+        scene.settle(block);
+    }
+    shapes::pillow(&mut scene.map, n);
+    scene.settle(15);
+    let mut mesh = images(&scene, seed);
+    mesh.chunks_mut(image::WORDS).for_each(|block| block[1] = u32::MAX.into());
+    mesh
 }
 
 fn images(scene: &Scene, seed: Option<u64>) -> Vec<u64> {

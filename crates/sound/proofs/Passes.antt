@@ -1,17 +1,18 @@
 -- The loops of question 2: zeros, darts with their nexts marked, and the labels gathered. Assumes nothing.
 use mathlib.Core.Path.{_≡_, refl, sym, ap, _∙_}
-use mathlib.Core.Bool.{Bool, true, false, false≢true, _&&_}
+use mathlib.Core.Bool.{Bool, true, false, false≢true, cond, _&&_}
 use mathlib.Core.List.{List}
 use mathlib.Core.Logic.{_⊎_, inl, inr, ⊎-elim, _↔_}
 use Prim.Native.Nat.{ℕ, _+_, _≤_, _<_}
 use native.Mathlib.Omega.{arith}
 use native.Mathlib.Numerals.{add-one}
-use lib.Dec.{eqb}
+use lib.Dec.{ltb, eqb}
 use lib.ListN.{length, getD, set, take, replicate, length-set, length-replicate}
 use lib.Seq.{getD-set-same, getD-set-other, take-suc-set}
-use borrow.Author.Tests.{eqb-true, eqb-false, lt-ltb, le-ltb}
+use borrow.Author.Tests.{eqb-true, eqb-false, ltb-true, ltb-false, lt-ltb, le-ltb}
 use Rattle.model.specs.Image.{column}
-use Rattle.laws.proofs.Tests.{eq-or-ne, last-or-below, and-left, and-right}
+use Rattle.sound.specs.Kept.{Kept}
+use Rattle.laws.proofs.Tests.{by-cases, eq-or-ne, last-or-below, and-left, and-right}
 use Rattle.laws.proofs.Lists.{getD-zeros}
 use Rattle.columns.specs.Columns.{all-below, before, place-test, kind-test, dart-test, link-test, codes, OneToOne, Links, Darts}
 use Rattle.columns.proofs.Below.{below-at, below-none, below-more, below-false}
@@ -194,6 +195,12 @@ module _ {m : List ℕ} {n : ℕ} {out : List ℕ} {c i : ℕ} (w : Gathering m 
     len = simp length-set (w .len);
     done = rw (add-one, add-one, lt-ltb 1 (column m 3 i) (omega arith), take-suc-set out c _ (omega (arith, w .len, w .c-le)), w .done, el) refl;
   })
+
+-- one dart more, as it is kept
+pub gather-more : {m : List ℕ} {n : ℕ} {out : List ℕ} {c i : ℕ} → Gathering m n out c i → i < n → n ≤ 4096 → {out′ : List ℕ} {c′ : ℕ} → Kept m i out c out′ c′ → Gathering m n out′ c′ (i + 1)
+gather-more {m} {n} {out} {c} {i} w h few {out′} {c′} k = by-cases (ltb 1 (column m 3 i))
+    (λ e. gather-take w h refl few (ltb-true 1 (column m 3 i) e) refl (k .keys-are ∙ ap (λ (b : Bool). cond b (set out c (column m 4 i)) out) e) (k .count-is ∙ ap (λ (b : Bool). cond b (c + 1) c) e))
+    (λ e. gather-skip w h refl (ltb-false 1 (column m 3 i) e) (k .keys-are ∙ ap (λ (b : Bool). cond b (set out c (column m 4 i)) out) e) (k .count-is ∙ ap (λ (b : Bool). cond b (c + 1) c) e))
 
 pub gather-end : {m : List ℕ} {n : ℕ} {out : List ℕ} {c i : ℕ} → Gathering m n out c i → n ≤ i → (c ≤ n) × (length out ≡ 4096) × (take c out ≡ codes m n)
 gather-end {m} {n} {out} {c} {i} w h =

@@ -6,10 +6,10 @@ ghost use mathlib.Core.Path.{_≡_};
 ghost use mathlib.Core.Bool.{true};
 ghost use mathlib.Core.Logic.{_↔_};
 ghost use Prim.Native.Nat.{ℕ, _≤_, _<_};
-ghost use lib.ListN.{length, getD, replicate};
+ghost use lib.ListN.{length, getD, replicate, take};
 ghost use Rattle.model.specs.Values.{rack};
 ghost use Rattle.model.specs.Image.{room, words, is-image};
-ghost use Rattle.columns.specs.Columns.{all-below, header-test, far-test, Darts};
+ghost use Rattle.columns.specs.Columns.{all-below, codes, header-test, far-test, Darts};
 use memory::record;
 use memory::record::Place;
 
@@ -73,20 +73,35 @@ fn darts_right(block: &[u64], n: usize, seen: &mut [u8; 4096]) -> bool
     true
 }
 
-// Whether each dart is right with the darts that it links to.
-fn far_right(block: &[u64], n: usize) -> bool
-    requires { ⌜ (n ≤ room) × (length (now block) ≡ words) × Darts (now block) n ⌝ }
-    ensures { λ r. ⌜ r ≡ all-below (far-test (now (block .entry))) n ⌝ }
+// Whether each dart is right with the darts that it links to; then how many of them are critical.
+struct Far {
+    right: bool,
+    critical: usize,
+}
+
+// Looks at each dart and at those that it links to, and keeps the labels of the critical ones in order.
+fn far_right(block: &[u64], n: usize, keys: &mut [u64; 4096]) -> Far
+    requires { ⌜ (n ≤ room) × (length (now block) ≡ words) × Darts (now block) n × (length (now keys) ≡ 4096) ⌝ }
+    ensures right { λ r. ⌜ r .right ≡ all-below (far-test (now (block .entry))) n ⌝ }
+    ensures labels { λ r. ⌜ (r .right ≡ true → (r .critical ≤ n) × (take (r .critical) (now (keys .exit)) ≡ codes (now (block .entry)) n)) × (length (now (keys .exit)) ≡ 4096) ⌝ }
 {
-    // The darts below i are right.
+    // The darts below i are right, and the first c keys are their labels.
+    let mut c = 0;
     let mut i = 0;
     while i < n {
         if !dart::far_at(block, n, i) {
-            return false;
+            return Far {
+                right: false,
+                critical: 0,
+            };
         }
+        c = questions::put_label(block, i, keys, c);
         i += 1;
     }
-    true
+    Far {
+        right: true,
+        critical: c,
+    }
 }
 
 // 2: is the memory a sound block's image?
@@ -107,8 +122,10 @@ pub fn is_sound(block: &[u64]) -> bool
     if !darts_right(block, n, &mut seen) {
         return false;
     }
-    if !far_right(block, n) {
+    let mut keys = [0u64; 4096];
+    let far = far_right(block, n, &mut keys);
+    if !far.right {
         return false;
     }
-    questions::labels_differ(block, n)
+    questions::apart(&mut keys, far.critical)
 }

@@ -8,25 +8,34 @@ ghost use Rattle.model.specs.Lists.{distinct};
 ghost use Rattle.model.specs.Sound.{coordinates-finite, links-right as right-links, thirds-right as right-thirds, labels-right as right-labels, points-agree as agreeing-points};
 ghost use Rattle.model.specs.Image.{room, words, block-in};
 ghost use Rattle.columns.specs.Columns.{all-below, count, own-test, codes, Ranged, Links};
+ghost use Rattle.sound.specs.Kept.{Kept};
 use crate::dart;
 use memory::record;
 use memory::record::Place;
 
-// The labels of the critical darts, in order; how many there are.
-fn gather(block: &[u64], n: usize, out: &mut [u64; 4096]) -> usize
-    requires { ⌜ (n ≤ room) × (length (now block) ≡ words) × (length (now out) ≡ 4096) ⌝ }
-    ensures { λ r. ⌜ (r ≤ n) × (length (now (out .exit)) ≡ 4096) × (take r (now (out .exit)) ≡ codes (now (block .entry)) n) ⌝ }
+// The label of the dart at place i, if it is critical, goes after the first c keys. Returns how many there are then.
+pub fn put_label(block: &[u64], i: usize, keys: &mut [u64; 4096], c: usize) -> usize
+    requires { ⌜ (i < room) × (length (now block) ≡ words) × (length (now keys) ≡ 4096) × (c < 4096) ⌝ }
+    ensures { λ r. ⌜ Kept (now (block .entry)) i (now (keys .entry)) c (now (keys .exit)) r ⌝ }
 {
-    // The first c entries are the labels of the darts below i.
+    let k = record::field(block, Place(i), 3);
+    if k < 2 {
+        return c;
+    }
+    keys[c] = record::field(block, Place(i), 4);
+    c + 1
+}
+
+// The labels of the critical darts, in order; how many there are.
+fn gather(block: &[u64], n: usize, keys: &mut [u64; 4096]) -> usize
+    requires { ⌜ (n ≤ room) × (length (now block) ≡ words) × (length (now keys) ≡ 4096) ⌝ }
+    ensures { λ r. ⌜ (r ≤ n) × (length (now (keys .exit)) ≡ 4096) × (take r (now (keys .exit)) ≡ codes (now (block .entry)) n) ⌝ }
+{
+    // The first c keys are the labels of the darts below i.
     let mut c = 0;
     let mut i = 0;
     while i < n {
-        let k = record::field(block, Place(i), 3);
-        if 1 < k {
-            let l = record::field(block, Place(i), 4);
-            out[c] = l;
-            c += 1;
-        }
+        c = put_label(block, i, keys, c);
         i += 1;
     }
     c
@@ -41,7 +50,7 @@ fn differ(keys: &mut [u64], scratch: &mut [u64], c: usize) -> bool
 }
 
 // The same, by slots as far as they tell; labels that crowd a few slots are put in order.
-fn apart(keys: &mut [u64], c: usize) -> bool
+pub fn apart(keys: &mut [u64], c: usize) -> bool
     requires { ⌜ (c ≤ 4096) × (length (now keys) ≡ 4096) ⌝ }
     ensures { λ r. ⌜ r ≡ distinct (take c (now (keys .entry))) ⌝ }
 {
@@ -58,7 +67,7 @@ fn apart(keys: &mut [u64], c: usize) -> bool
 }
 
 // 7: whether no label stands twice.
-pub fn labels_differ(block: &[u64], n: usize) -> bool
+fn labels_differ(block: &[u64], n: usize) -> bool
     requires { ⌜ (n ≤ room) × (length (now block) ≡ words) ⌝ }
     ensures { λ r. ⌜ r ≡ distinct (codes (now (block .entry)) n) ⌝ }
 {

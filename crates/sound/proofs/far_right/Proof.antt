@@ -1,31 +1,36 @@
--- `sound::far_right` meets its contract: the darts below i are right with those that they link to.
+-- `sound::far_right` meets its contract: the darts below i are right with those that they link to, and the first c keys are their labels.
 -- Assumes nothing.
+use mathlib.Core.Path.{sym, _∙_}
+use mathlib.Core.Bool.{false≢true}
 use Prim.Native.Nat.{_-_}
 use borrow.Author.Tests.{not-true, not-false}
 use Rattle.columns.specs.Columns.{far-test}
-use Rattle.sound.proofs.Passes.{Going, going-none, going-no, going-more, going-end}
+use Rattle.sound.proofs.Passes.{Going, going-none, going-no, going-more, going-end, Gathering, gather-none, gather-more, gather-end}
 use borrow.Author.Needs.{needs}
 use Rattle.sound.proofs.far_right.Statement.{statement}
 use Rattle.sound.proofs.far_right.Tie as tie
 
 abbrev Inv-loop : tie.InvT-loop
-Inv-loop block n i₀ i =
-    Going (far-test block) n i
+Inv-loop block n keys₀ c₀ i₀ keys c i =
+    Going (far-test block) n i × Gathering block n keys c i
 
 abbrev μ-loop : tie.MeasureT-loop
-μ-loop block n i₀ i =
+μ-loop block n keys₀ c₀ i₀ keys c i =
     n - i
 
 loop-holds : tie.Need-loop-holds Inv-loop μ-loop
 loop-holds c =
-    going-none _ _
+    (going-none _ _, gather-none _ _ _ (c .before .pre .3))
 
 far-at-requires : tie.Need-far-at-requires Inv-loop μ-loop
 far-at-requires c κs = search needs
 
 returns : tie.Need-returns Inv-loop μ-loop
 returns c =
-    going-no (c .before .before .before .loop .inv) (c .before .before .loop-test .taken) (c .before .far-at .ensures) (not-true _ (c .if1 .taken))
+    (going-no (c .before .before .before .loop .inv .0) (c .before .before .loop-test .taken) (c .before .far-at .ensures) (not-true _ (c .if1 .taken)), ((λ e. absurd (false≢true e)), c .before .before .before .loop .inv .1 .len))
+
+put-label-requires : tie.Need-put-label-requires Inv-loop μ-loop
+put-label-requires c κs = search needs
 
 add-i : tie.Need-add-i Inv-loop μ-loop
 add-i c = search needs
@@ -35,11 +40,12 @@ loop-less c = search needs
 
 loop-again : tie.Need-loop-again Inv-loop μ-loop
 loop-again c =
-    going-more (c .before .before .before .loop .inv) (c .before .before .loop-test .taken) (c .before .far-at .ensures) (not-false _ (c .if1 .left))
+    (going-more (c .before .before .before .before .before .loop .inv .0) (c .before .before .before .before .loop-test .taken) (c .before .before .before .far-at .ensures) (not-false _ (c .before .before .if1 .left)), gather-more (c .before .before .before .before .before .loop .inv .1) (c .before .before .before .before .loop-test .taken) (c .before .before .before .before .before .before .before .pre .0) (c .put-label .ensures))
 
 returns-2 : tie.Need-returns-2 Inv-loop μ-loop
 returns-2 c =
-    going-end (c .before .loop .inv) (c .loop-test .left)
+    let e = gather-end (c .before .loop .inv .1) (c .loop-test .left) in
+    (going-end (c .before .loop .inv .0) (c .loop-test .left), ((λ _. (e .0, e .2)), e .1))
 
 pub far-right-spec : {M : Type 1} → statement M
 far-right-spec =
@@ -50,6 +56,7 @@ far-right-spec =
     loop-holds
     far-at-requires
     returns
+    put-label-requires
     add-i
     loop-less
     loop-again

@@ -1,7 +1,10 @@
 -- `sound::is_sound` meets its contract: a no to any part is a no, and a yes to all is a yes.
 -- Assumes nothing.
-use mathlib.Core.Path.{refl}
+use mathlib.Core.Path.{refl, ap, _∙_}
+use Prim.Native.Nat.{ℕ}
+use lib.ListN.{length-replicate}
 use borrow.Author.Tests.{not-true, not-false}
+use Rattle.model.specs.Lists.{distinct}
 use Rattle.sound.proofs.Whole.{other-length, header-few, no-header, no-zeros, no-darts, no-far, labels-last}
 use native.Mathlib.Omega.{arith}
 use borrow.Author.Needs.{needs}
@@ -49,19 +52,23 @@ returns-4 c =
 
 far-right-requires : tie.Need-far-right-requires
 far-right-requires c κs =
-    (header-few _ (c .before .before .before .before .before .before .before .header-right .ensures) (not-false _ (c .before .before .before .before .before .before .if2 .left)), c .before .before .before .before .before .before .before .before .if1 .left, c .before .darts-right .ensures .0 (not-false _ (c .if4 .left)))
+    (header-few _ (c .before .before .before .before .before .before .before .before .header-right .ensures) (not-false _ (c .before .before .before .before .before .before .before .if2 .left)), c .before .before .before .before .before .before .before .before .before .if1 .left, c .before .before .darts-right .ensures .0 (not-false _ (c .before .if4 .left)), length-replicate {A = ℕ} 4096 0)
 
 returns-5 : tie.Need-returns-5
 returns-5 c =
-    no-far _ (c .before .far-right .ensures) (not-true _ (c .if5 .taken))
+    no-far _ (c .before .before .far-right .ensures .0) (not-true _ (c .if5 .taken))
 
-labels-differ-requires : tie.Need-labels-differ-requires
-labels-differ-requires c κs =
-    (header-few _ (c .before .before .before .before .before .before .before .before .before .header-right .ensures) (not-false _ (c .before .before .before .before .before .before .before .before .if2 .left)), c .before .before .before .before .before .before .before .before .before .before .if1 .left)
+slice-aggregate-apart : tie.Need-slice-aggregate-apart
+slice-aggregate-apart c = search needs
+
+apart-requires : tie.Need-apart-requires
+apart-requires c κs =
+    let k = c .before .before .before .far-right .ensures .1 in
+    (omega (arith, k .0 (not-false _ (c .before .if5 .left)) .0, header-few _ (c .before .before .before .before .before .before .before .before .before .before .before .before .header-right .ensures) (not-false _ (c .before .before .before .before .before .before .before .before .before .before .before .if2 .left))), k .1)
 
 returns-6 : tie.Need-returns-6
 returns-6 c =
-    labels-last _ (c .before .before .before .before .before .before .before .before .before .before .before .if1 .left) (c .before .before .before .before .before .before .before .before .before .before .header-right .ensures) (not-false _ (c .before .before .before .before .before .before .before .before .before .if2 .left)) (c .before .before .before .before .before .before .before .zeros .ensures) (not-false _ (c .before .before .before .before .before .before .if3 .left)) (c .before .before .before .before .darts-right .ensures) (not-false _ (c .before .before .before .if4 .left)) (c .before .before .far-right .ensures) (not-false _ (c .before .if5 .left)) (c .labels-differ .ensures)
+    labels-last _ (c .before .before .before .before .before .before .before .before .before .before .before .before .before .before .before .if1 .left) (c .before .before .before .before .before .before .before .before .before .before .before .before .before .before .header-right .ensures) (not-false _ (c .before .before .before .before .before .before .before .before .before .before .before .before .before .if2 .left)) (c .before .before .before .before .before .before .before .before .before .before .before .zeros .ensures) (not-false _ (c .before .before .before .before .before .before .before .before .before .before .if3 .left)) (c .before .before .before .before .before .before .before .before .darts-right .ensures) (not-false _ (c .before .before .before .before .before .before .before .if4 .left)) (c .before .before .before .before .before .far-right .ensures .0) (not-false _ (c .before .before .before .if5 .left)) (c .before .apart .ensures ∙ ap distinct (c .before .before .before .before .before .far-right .ensures .1 .0 (not-false _ (c .before .before .before .if5 .left)) .1))
 
 pub is-sound-spec : {M : Type 1} → statement M
 is-sound-spec =
@@ -79,5 +86,6 @@ is-sound-spec =
     returns-4
     far-right-requires
     returns-5
-    labels-differ-requires
+    slice-aggregate-apart
+    apart-requires
     returns-6)
