@@ -13,17 +13,12 @@ use Rattle.model.specs.Values.{Label}
 use Rattle.model.specs.Sound.{paired}
 use Rattle.model.specs.Runs.{Request, State, nx, op, th, cell, inner-faces, after-move}
 use Rattle.laws.proofs.Members.{In, in-here, in-there}
-use Rattle.laws.proofs.Tests.{by-cases}
+use Rattle.laws.proofs.Tests.{by-cases, same-truth}
 use Rattle.agreement.proofs.Described.{Crossing, Map, Labelled, third-back-linked}
 use Rattle.agreement.proofs.MovedCell.{Cell}
 use Rattle.agreement.proofs.NewLabels.{Facing}
 
 -- COUNTING
-pub same-truth : (a b : Bool) → (a ≡ true → b ≡ true) → (b ≡ true → a ≡ true) → a ≡ b
-same-truth true b f g = sym (f refl)
-same-truth false true f g = g refl
-same-truth false false f g = refl
-
 pub keep-fewer : (p q : ℕ → Bool) (l : List ℕ) → ((x : ℕ) → In x l → p x ≡ true → q x ≡ true) → length (keep p l) ≤ length (keep q l)
 keep-fewer p q [] h = omega arith
 keep-fewer p q (x ∷ l) h = let ih = keep-fewer p q l (λ y m. h y (in-there y x l m)) in by-cases (p x)

@@ -18,9 +18,9 @@ use Rattle.model.specs.Departure.{same-pair, pairs-once, vertex-pairs, Placed, 
 use Rattle.model.specs.Arrival.{new-darts, face-from, sew-both, part2-links, part3-links, part4-links, critical-links, transfer-links, insert-all, received}
 use Rattle.model.specs.Runs.{Request, State, nx, op, th, cell}
 use Rattle.laws.proofs.Faces.{face-sym, along-face, order-has, order-only}
-use Rattle.laws.proofs.Members.{In, or-left, or-right, in-here, in-there, in-cons, in-eq, any-in, append-in, keep-ascending, Each, each-append, any-map, map-map, map-cong}
-use Rattle.laws.proofs.Tests.{by-cases, and-intro, and-left, and-right, or-cases, no-here}
-use Rattle.agreement.proofs.AfterMove.{same-truth}
+use Rattle.laws.proofs.Members.{In, or-left, or-right, in-here, in-there, in-cons, in-eq, any-in, append-in, keep-ascending, Each, each-append, any-map, map-map, map-cong, keep-true}
+use Rattle.laws.proofs.Tests.{by-cases, and-intro, and-left, and-right, or-cases, no-here, same-truth}
+use Rattle.laws.proofs.Orbits.{around-some}
 use Rattle.agreement.proofs.Described.{pt, third-by, dart-by, members, block-by, Crossing, Map, Inv, serials-by, find-by, table-unique, Mine, mine-member, member-mine, darts-by, in-order-by, kind-free, kind-sewn, kind-critical, by-kind, third-back-linked}
 use Rattle.agreement.proofs.Links.{Gives, relink-gives, find-append, faces-agree, faces-reach}
 use Rattle.agreement.proofs.MeshSound.{labelled-by, previous-across}
@@ -38,10 +38,6 @@ unfolding placed
 placed-strip n [] = refl
 placed-strip n (f ∷ l) = ap (λ (t : List (List ℕ)). f ∷ t) (placed-strip (n + length f) l)
 
-keep-true : {A : Type 0} (l : List A) → keep (λ a. true) l ≡ l
-keep-true [] = refl
-keep-true (a ∷ l) = ap (λ (t : List _). a ∷ t) (keep-true l)
-
 -- where every pair occurs once, a pair tells its element
 pub pair-one : (f : ℕ → ℕ × ℕ) (l : List ℕ) → pairs-once (map f l) ≡ true → (x y : ℕ) → In x l → In y l → f x .0 ≡ f y .0 → f x .1 ≡ f y .1 → x ≡ y
 unfolding pairs-once
@@ -56,13 +52,9 @@ pair-one f (z ∷ l) p x y h m a b =
     again : (z y : ℕ) → In y l → f z .0 ≡ f y .0 → f z .1 ≡ f y .1 → any (same-pair (f z)) (map f l) ≡ true
     again z y m a b = any-map (same-pair (f z)) f l ∙ any-in (λ w. same-pair (f z) (f w)) l y m (and-intro (eq-eqb (f z .0) (f y .0) a) (eq-eqb (f z .1) (f y .1) b))
 
-some-around : (f : ℕ → ℕ) (s n x : ℕ) → 0 < length (around f s (suc n) x)
-unfolding around
-some-around f s n x = omega arith
-
 some-cycle : (f : ℕ → ℕ) (x : ℕ) → 0 < length (cycle f x)
 unfolding cycle
-some-cycle f x = some-around f x 4095 x
+some-cycle f x = around-some f x 4095 x
 
 module _ (lims : ℕ → Limits) (fit : Fit lims) (k : ℕ) (u : State) (label : ℕ → Label) (I : Inv lims k u label) (r : Request) (S : Served lims k u r) where
   abbrev M₃ : Map u

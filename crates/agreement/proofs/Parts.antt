@@ -20,7 +20,7 @@ use Rattle.model.specs.Departure.{Placed, placed, part2-entry, part3-from, Link
 use Rattle.model.specs.Arrival.{new-darts, placed-faces, face-from, part3-links, part4-links, critical-links, indices-right, points-meet, part2-right, part2-apart, consecutive, label-new, labels-new, parts-right}
 use Rattle.model.specs.Runs.{Request, State, nx, th, cell}
 use Rattle.laws.proofs.Faces.{face-stays, face-trans, face-sym, is-start, start-unique, faces-only, along-face}
-use Rattle.laws.proofs.Members.{In, in-here, in-there, in-cons, in-eq, all-from, keep-in, in-append-left, in-append-right, append-in, distinct-append, distinct-not, distinct-left, distinct-right, distinct-apart, keep-ascending, ascending-distinct, Each, all-map, map-append, map-map, map-in}
+use Rattle.laws.proofs.Members.{In, in-here, in-there, in-cons, in-eq, all-from, keep-in, in-append-left, in-append-right, append-in, distinct-append, distinct-not, distinct-left, distinct-right, distinct-apart, keep-ascending, ascending-distinct, Each, all-map, map-append, map-map, map-in, least-among, distinct-map}
 use Rattle.laws.proofs.Tests.{by-cases, and-intro, and-left, and-right, not-equal}
 use Rattle.theory.proofs.BlockLaws.{same-point-self}
 use Rattle.theory.proofs.ImageLaws.{label-back}
@@ -34,7 +34,7 @@ use Rattle.agreement.proofs.NewLabels.{fresh-of, fresh-maker, fresh-low
 use Rattle.agreement.proofs.Passes.{all-each, order-length, new-at}
 use Rattle.agreement.proofs.Rebuilt.{face-dart-of}
 use Rattle.agreement.proofs.Received.{each-weaken, placed-low, placed-find, placed-keep, faces-back}
-use Rattle.agreement.proofs.Redirected.{nonempty-least, block-face-self, block-face-is, face-across}
+use Rattle.agreement.proofs.Redirected.{block-face-self, block-face-is, face-across}
 use Rattle.agreement.proofs.Sent.{placed-each, cell-faces, number-in, IsFace, all-faces, start-is, in-face-cell, face-faces, part4-by, is-inner-face, transfer-by}
 
 -- INDICES
@@ -94,16 +94,6 @@ unfolding part3-from
 part3-consecutive c [] = refl
 part3-consecutive c (i ∷ []) = refl
 part3-consecutive c (i ∷ n ∷ l) = and-intro (eq-eqb (suc c) (suc c) refl) (part3-consecutive (suc c) (n ∷ l))
-
--- distinct values of distinct elements
-pub distinct-map : (f : ℕ → ℕ) (l : List ℕ) → distinct l ≡ true → ((x y : ℕ) → In x l → In y l → f x ≡ f y → x ≡ y) → distinct (map f l) ≡ true
-distinct-map f [] d o = refl
-distinct-map f (x ∷ l) d o = and-intro (go (mem (f x) (map f l)) refl) (distinct-map f l (and-right (not (mem x l)) _ d) (λ y z m n. o y z (in-there y x l m) (in-there z x l n)))
-  where
-    go : (t : Bool) → mem (f x) (map f l) ≡ t → not (mem (f x) (map f l)) ≡ true
-    go false e = rw e
-    go true e = let q = map-in f l (f x) e in
-        absurd (true≢false (sym (in-eq x (q .0) l (o x (q .0) (in-here x l) (in-there (q .0) x l (q .1)) (q .2)) (q .1)) ∙ not-true (mem x l) (and-left _ _ d)))
 
 size-concat : (nx number : ℕ → ℕ) (fs : List (List ℕ)) → size-all (map (λ f. map (face-dart-of nx number) f) fs) ≡ length (concat fs)
 unfolding size-all concat
@@ -381,8 +371,8 @@ module _ (lims : ℕ → Limits) (fit : Fit lims) (k : ℕ) (u : State) (label :
       let same : least (cycle (nx u) (th u x)) ≡ least (cycle (nx u) (th u y)) = sym (met-least-is x (a .0)) ∙ e ∙ met-least-is y (b .0) in
       -- the least dart across is in both faces across, so its third link is in both faces here
       let w = least (cycle (nx u) (th u x)) in
-      let wx : In w (cycle (nx u) (th u x)) = nonempty-least (cycle (nx u) (th u x)) (th u x) (block-face-self lims fit k u label I (r .to) (S .to-below) (th u x) ax) in
-      let wy : In w (cycle (nx u) (th u y)) = in-eq w (least (cycle (nx u) (th u y))) (cycle (nx u) (th u y)) same (nonempty-least (cycle (nx u) (th u y)) (th u y) (block-face-self lims fit k u label I (r .to) (S .to-below) (th u y) ay)) in
+      let wx : In w (cycle (nx u) (th u x)) = least-among (cycle (nx u) (th u x)) (th u x) (block-face-self lims fit k u label I (r .to) (S .to-below) (th u x) ax) in
+      let wy : In w (cycle (nx u) (th u y)) = in-eq w (least (cycle (nx u) (th u y))) (cycle (nx u) (th u y)) same (least-among (cycle (nx u) (th u y)) (th u y) (block-face-self lims fit k u label I (r .to) (S .to-below) (th u y) ay)) in
       let zx = back x (a .0) w wx in
       let zy = back y (b .0) w wy in
       start-unique (nx u) v₅ (C₅ .next-closed) one₅ (C₅ .few) x y (a .0 .in-cell) (b .0 .in-cell) (a .1) (b .1)

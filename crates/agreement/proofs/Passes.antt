@@ -19,7 +19,7 @@ use Rattle.model.specs.Arrival.{Side, sides, reverses, first-serial, new-darts,
 use Rattle.model.specs.Runs.{Request, State, nx, op, cell}
 use Rattle.laws.proofs.Carry.{volume-cong, vertex-cong}
 use Rattle.laws.proofs.Faces.{order-has, order-only}
-use Rattle.laws.proofs.Members.{In, in-here, in-there, in-keep, keep-less, in-cons, in-eq, all-from, any-in, distinct-not, keep-ascending, ascending-distinct, Each, all-map, any-map, map-map, map-cong, in-map, map-in}
+use Rattle.laws.proofs.Members.{In, in-here, in-there, in-keep, keep-less, in-cons, in-eq, all-from, any-in, distinct-not, keep-ascending, ascending-distinct, Each, all-map, any-map, map-map, map-cong, in-map, map-in, distinct-fewer}
 use Rattle.laws.proofs.Tests.{by-cases, and-intro, and-left, and-right, not-equal, same-list-self}
 use Rattle.laws.proofs.Volumes.{Volume, volume-is}
 use Rattle.agreement.proofs.Arrived.{some-dart, once-only, new-are, order-distinct}
@@ -57,15 +57,6 @@ pair-ends f [] p x h = absurd (true≢false (sym h))
 pair-ends f (z ∷ l) p x h = in-cons x z l h
     (λ q. rw q (eqb-false (f z .0) (f z .1) (not-true _ (and-left (not (eqb (f z .0) (f z .1))) _ (and-left (not (eqb (f z .0) (f z .1)) && not (any (same-pair (f z)) (map f l))) _ p)))))
     (λ q. pair-ends f l (and-right (not (eqb (f z .0) (f z .1)) && not (any (same-pair (f z)) (map f l))) _ p) x q)
-
--- distinct elements of another list are no more than it has
-pub distinct-fewer : (l r : List ℕ) → distinct l ≡ true → ((x : ℕ) → In x l → In x r) → length l ≤ length r
-distinct-fewer [] r d h = omega arith
-distinct-fewer (x ∷ l) r d h =
-    let q : ℕ → Bool = λ y. not (eqb y x) in
-    let less = keep-less q x r (h x (in-here x l)) (rw (eq-eqb x x refl)) in
-    let rest = distinct-fewer l (keep q r) (and-right (not (mem x l)) _ d) (λ y m. in-keep q y r (h y (in-there y x l m)) (not-equal y x (distinct-not x l d y m))) in
-    omega arith
 
 pub all-each : {A : Type 0} (p : A → Bool) (l : List A) → Each (λ a. p a ≡ true) l → all p l ≡ true
 all-each p [] e = refl

@@ -19,7 +19,7 @@ use Rattle.model.specs.Arrival.{face-with, update-links, redirected}
 use Rattle.model.specs.Runs.{Request, State, nx, op, th, cell}
 use Rattle.laws.proofs.Carry.{around-cong}
 use Rattle.laws.proofs.Faces.{face, face-stays, face-self, face-trans, face-sym, is-start, start-unique, along-face, face-distinct}
-use Rattle.laws.proofs.Members.{In, in-here, in-there, in-cons, in-eq, least-in, least-below, each-append, keep-map, map-map, map-cong, in-map, map-in, one-kept}
+use Rattle.laws.proofs.Members.{In, in-here, in-there, in-cons, in-eq, least-in, least-below, each-append, keep-map, map-map, map-cong, in-map, map-in, one-kept, least-among}
 use Rattle.laws.proofs.Orbits.{in-cycle}
 use Rattle.laws.proofs.Tests.{by-cases, and-intro, and-left, and-right}
 use Rattle.agreement.proofs.BlockSound.{code-one}
@@ -37,15 +37,11 @@ unfolding labels-along
 labels-map ds label o [] h = refl
 labels-map ds label o (x ∷ f) h = rw (h x (in-here x f)) (ap (λ (l : List Label). label x ∷ l) (labels-map ds label o f (λ y k. h y (in-there y x f k))))
 
-pub nonempty-least : (l : List ℕ) (x : ℕ) → In x l → In (least l) l
-nonempty-least [] x h = absurd (true≢false (sym h))
-nonempty-least (y ∷ l) x h = least-in y l
-
 -- lists with the same members have one least
 pub least-same : (l r : List ℕ) (x : ℕ) → In x l → ((y : ℕ) → In y l → In y r) → ((y : ℕ) → In y r → In y l) → least l ≡ least r
 least-same l r x h f g =
-    let a = least-below r (least l) (f (least l) (nonempty-least l x h)) in
-    let b = least-below l (least r) (g (least r) (nonempty-least r x (f x h))) in
+    let a = least-below r (least l) (f (least l) (least-among l x h)) in
+    let b = least-below l (least r) (g (least r) (least-among r x (f x h))) in
     omega arith
 
 -- A FACE WITHIN ONE BLOCK
@@ -198,7 +194,7 @@ module _ (lims : ℕ → Limits) (fit : Fit lims) (k : ℕ) (u : State) (label :
       self = block-face-self lims fit k u label I (r .from) (S .from-below) st (C₁ .mine st h)
 
       pick : (z : ℕ) × In z (face-of st) × (least (map key (face-of st)) ≡ key z)
-      pick = map-in key (face-of st) (least (map key (face-of st))) (nonempty-least (map key (face-of st)) (key st) (in-map key st (face-of st) self))
+      pick = map-in key (face-of st) (least (map key (face-of st))) (least-among (map key (face-of st)) (key st) (in-map key st (face-of st) self))
 
       same : (x : ℕ) → In x (face-of st) → eqb (code (label x)) (least (map key (face-of st))) ≡ true → x ≡ pick .0
       same x m e =

@@ -6,11 +6,11 @@ use Rattle.model.specs.Lists.{least}
 use Rattle.model.specs.Cells.{cycle, ring, vertex}
 use Rattle.model.specs.Runs.{State, nx, op}
 use Rattle.laws.proofs.Faces.{face, face-stays, face-self, face-trans, face-sym, along-face}
-use Rattle.laws.proofs.Members.{In, in-eq}
+use Rattle.laws.proofs.Members.{In, in-eq, least-among}
 use Rattle.laws.proofs.Orbits.{in-cycle}
 use Rattle.agreement.proofs.Described.{pt, Map}
 use Rattle.agreement.proofs.MovedCell.{Cell}
-use Rattle.agreement.proofs.Redirected.{nonempty-least, least-same}
+use Rattle.agreement.proofs.Redirected.{least-same}
 
 module _ (u : State) (M : Map u) (i s : ℕ) (v : List ℕ) (C : Cell u i s v) where
   -- one step round a vertex
@@ -52,7 +52,7 @@ module _ (u : State) (M : Map u) (i s : ℕ) (v : List ℕ) (C : Cell u i s v) w
   vertex-opposite x h = sym (vertex-turn (op u x) (C .opposite-closed x h)) ∙ ap (λ (y : ℕ). vertex (nx u) (op u) (nx u y)) (M .opposite-twice x (C .mine x h .here))
 
   least-there : (x : ℕ) → In x v → In (least (ring-of x)) (ring-of x)
-  least-there x h = nonempty-least (ring-of x) x (face-self turn v turn-stays turn-one (C .few) x h)
+  least-there x h = least-among (ring-of x) x (face-self turn v turn-stays turn-one (C .few) x h)
 
   pub vertex-in : (x : ℕ) → In x v → In (vertex (nx u) (op u) x) v
   vertex-in x h = in-eq (vertex (nx u) (op u) x) (least (ring-of x)) v (vertex-is x) (face-stays turn v turn-stays turn-one (C .few) x (least (ring-of x)) h (least-there x h))

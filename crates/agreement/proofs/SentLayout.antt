@@ -19,7 +19,7 @@ use Rattle.model.specs.Departure.{Placed, placed, part2-entry, part3-from}
 use Rattle.model.specs.Arrival.{parts-right, addressed, receive-checks}
 use Rattle.model.specs.Runs.{Request, State, nx, op, th, cell, inner-faces}
 use Rattle.laws.proofs.Faces.{face-few}
-use Rattle.laws.proofs.Members.{In, keep-le, all-from, Each, all-map}
+use Rattle.laws.proofs.Members.{In, keep-le, all-from, Each, all-map, firsts-fewer}
 use Rattle.laws.proofs.Tests.{by-cases, and-intro, yes-then}
 use Rattle.theory.proofs.DemandTwo.{small-ok, point-ok}
 use Rattle.agreement.proofs.Arrived.{some-dart, all-some, by-start}
@@ -82,11 +82,6 @@ placed-size nx number n (f ∷ fs) e =
           let past : q .at - n - length f ≡ q .at - (n + length f) = omega arith in
           (omega arith, rw (size, le-ltb (q .at - n) (length f) (omega arith), past) (h .1))),
     )
-
-pub firsts-fewer : (l : List ℕ) → length (firsts l) ≤ length l
-unfolding firsts
-firsts-fewer [] = omega arith
-firsts-fewer (x ∷ l) = let a = keep-le (λ y. not (eqb x y)) (firsts l) in let b = firsts-fewer l in omega arith
 
 -- darts of faces are at least as many as faces
 pub faces-fewer : (fs : List (List ℕ)) → Each (λ f. 0 < length f) fs → length fs ≤ length (concat fs)

@@ -15,7 +15,7 @@ use Rattle.model.specs.Layouts.{_⊗_, _⊕_, as-type, such-that, exactly, fram
 use Rattle.model.specs.Messages.{Update, update, an-update, message-in}
 use Rattle.model.specs.Arrival.{addressed, names-face, update-right, redirect-checks}
 use Rattle.model.specs.Runs.{Request, addressee, State, nx, th, cell}
-use Rattle.laws.proofs.Members.{In, in-eq, all-from, all-map, map-map, in-map, map-in}
+use Rattle.laws.proofs.Members.{In, in-eq, all-from, all-map, map-map, in-map, map-in, distinct-fewer, distinct-map}
 use Rattle.laws.proofs.Tests.{and-intro, not-equal, yes-then, no-more}
 use Rattle.theory.proofs.DemandTwo.{small-ok}
 use Rattle.agreement.proofs.BlockSound.{label-range, code-one}
@@ -23,8 +23,6 @@ use Rattle.agreement.proofs.Described.{dart-by, block-by, Crossing, Map
 use Rattle.agreement.proofs.Moved.{Served, moved-cell}
 use Rattle.agreement.proofs.MovedCell.{Cell}
 use Rattle.agreement.proofs.NewLabels.{Facing, start-there}
-use Rattle.agreement.proofs.Parts.{distinct-map}
-use Rattle.agreement.proofs.Passes.{distinct-fewer}
 use Rattle.agreement.proofs.Redirected.{labels-map, least-same, block-face-mine, block-face-sym, block-face-trans, face-across, shared, facing-crossing, chosen, told, picked-facing, across-mine, across-labelled, face-told, across-along}
 use Rattle.theory.proofs.LayoutLengths.{update-short}
 use Rattle.agreement.proofs.Written.{counted-ok, group-ok, label-layout, label-ok, update-back, update-addressee}

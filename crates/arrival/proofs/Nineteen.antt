@@ -13,12 +13,11 @@ use Rattle.model.specs.Image.{column}
 use Rattle.model.specs.Messages.{Transfer}
 use Rattle.model.specs.Arrival.{Side, sides, new-darts, faces-ordered, pairs-right, one-volume, vertices-right, volume-right}
 use Rattle.laws.proofs.Tests.{by-cases, and-intro, and-left, and-right, same-list-is}
-use Rattle.laws.proofs.Members.{In, in-map, keep-le, distinct-not}
+use Rattle.laws.proofs.Members.{In, in-map, keep-le, distinct-not, getD-in}
 use Rattle.laws.proofs.Maps.{map-at}
 use Rattle.laws.proofs.Tables.{length-tab, getD-tab, map-tab, tab-all, all-tab, mem-place}
 use Rattle.theory.proofs.ImageLaws.{place-back}
 use Rattle.cells.specs.Places.{Numbered, places-in, volume-of}
-use Rattle.cells.proofs.FaceLaws.{getD-in}
 use Rattle.cells.proofs.RingLaws.{mem-firsts}
 use Rattle.inbox.specs.Inbox.{point-in, points-in}
 use Rattle.ranking.specs.Ranks.{Ranked}

@@ -18,15 +18,14 @@ use Rattle.model.specs.Departure.{departure-checks}
 use Rattle.model.specs.Image.{words, column, block-in, dart-in, is-image}
 use Rattle.model.specs.Balance.{Oracle, Move, level, blocked, move, picked, counts, surpluses, is-above, is-below, can-move, candidates, blocks-with, first-or, next-of}
 use Rattle.model.specs.Calls.{served, memories}
-use Rattle.laws.proofs.Tests.{by-cases, and-left, and-right}
-use Rattle.laws.proofs.Members.{In, in-here, keep-in, keep-le, keep-map}
+use Rattle.laws.proofs.Tests.{by-cases, and-left, and-right, same-truth}
+use Rattle.laws.proofs.Members.{In, in-here, keep-in, keep-le, keep-map, keep-twice, keep-cong}
 use Rattle.laws.proofs.Tables.{length-tab, getD-tab, tab-cong, tab-any}
-use Rattle.columns.proofs.Below.{same-test, below-at}
+use Rattle.columns.proofs.Below.{below-at}
 use Rattle.columns.proofs.Held.{serial-positive}
 use Rattle.columns.proofs.Question.{image-passed}
 use Rattle.cells.proofs.FaceLaws.{keep-append}
 use Rattle.cells.proofs.Reached.{places, places-below}
-use Rattle.cells.proofs.Serials.{keep-cong}
 use Rattle.cells.proofs.Sited.{sited, darts-in}
 use Rattle.picking.specs.Picked.{size-at, Sizes}
 use Rattle.picking.proofs.PickedPlaces.{picked-places, size-is}
@@ -36,12 +35,6 @@ use Rattle.balance.specs.Moves.{can-leave, fits, leaves-at, Untried-in, 
 use Rattle.balance.proofs.Strikes.{leaves-any, untried-more, fits-same}
 use Rattle.balance.proofs.Searches.{joined, none-from, Searching, searching-start, searching-skip, searching-none, search-found, search-end}
 use Rattle.balance.proofs.SurplusLaws.{surpluses-are}
-
-keep-twice : (p q : ℕ → Bool) (l : List ℕ) → keep p (keep q l) ≡ keep (λ x. q x && p x) l
-keep-twice p q [] = refl
-keep-twice p q (x ∷ l) = by-cases (q x)
-    (λ e. rw e (by-cases (p x) (λ f. rw (f, keep-twice p q l)) (λ f. rw (f, keep-twice p q l))))
-    (λ e. rw e (keep-twice p q l))
 
 keep-concat : (q : Move → Bool) (f : ℕ → List Move) (l : List ℕ) → keep q (concat-map f l) ≡ concat-map (λ x. keep q (f x)) l
 keep-concat q f [] = refl
@@ -98,7 +91,7 @@ module _ (o : Oracle) (mesh : List ℕ) (sp : SoundParts mesh) (d r : ℕ) (hd :
       go x y e f = rw (e, f, leaves-any b r s (omega (arith, sp .few)) (λ q. apart (q ∙ sp .number d hd)), length-tab (dart-in c) (getD c 2 0)) refl
 
   room-is : (a : ℕ) → leb (getD c 2 0 + a) 4096 ≡ leb a (4096 - getD c 2 0)
-  room-is a = same-test (leb (getD c 2 0 + a) 4096) (leb a (4096 - getD c 2 0))
+  room-is a = same-truth (leb (getD c 2 0 + a) 4096) (leb a (4096 - getD c 2 0))
       (λ e. le-leb a (4096 - getD c 2 0) (omega (arith, leb-true (getD c 2 0 + a) 4096 e)))
       (λ e. le-leb (getD c 2 0 + a) 4096 (omega (arith, leb-true a (4096 - getD c 2 0) e, few)))
 

@@ -15,7 +15,7 @@ use Rattle.model.specs.Cells.{dart-at, volume-in, volume-starts}
 use Rattle.model.specs.Sound.{Fit}
 use Rattle.model.specs.Balance.{Oracle, picks, picked, counts}
 use Rattle.model.specs.Runs.{State, nx, op, cell}
-use Rattle.laws.proofs.Members.{In, in-here, in-there, all-in, keep-in, map-cong, one-kept, ascending-distinct}
+use Rattle.laws.proofs.Members.{In, in-here, in-there, all-in, keep-in, map-cong, one-kept, ascending-distinct, keep-twice, keep-cong}
 use Rattle.laws.proofs.Tables.{map-tab, tab-cong}
 use Rattle.laws.proofs.Tests.{by-cases, and-intro, and-left, and-right}
 use Rattle.agreement.proofs.AfterMove.{keep-either, after}
@@ -23,16 +23,6 @@ use Rattle.agreement.proofs.Described.{pt, members, block-by, mesh-by, Map, Inv
 use Rattle.agreement.proofs.MovedCell.{Cell, cell-is, volume-same, reached-from}
 
 -- WHAT IS KEPT
-pub keep-cong : (p q : ℕ → Bool) (l : List ℕ) → ((x : ℕ) → In x l → p x ≡ q x) → keep p l ≡ keep q l
-keep-cong p q [] h = refl
-keep-cong p q (x ∷ l) h = rw (h x (in-here x l), keep-cong p q l (λ y k. h y (in-there y x l k)))
-
-pub keep-twice : (p q : ℕ → Bool) (l : List ℕ) → keep p (keep q l) ≡ keep (λ x. q x && p x) l
-keep-twice p q [] = refl
-keep-twice p q (x ∷ l) = by-cases (q x)
-    (λ e. rw e (by-cases (p x) (λ f. rw (f, keep-twice p q l)) (λ f. rw (f, keep-twice p q l))))
-    (λ e. rw e (keep-twice p q l))
-
 -- PICKED BY CELLS: x is the least of its cell, and the cell is picked
 pub is-least : State → ℕ → Bool
 is-least u x = all (leb x) (cell u x)

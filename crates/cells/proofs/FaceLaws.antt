@@ -16,19 +16,16 @@ use Rattle.model.specs.Cells.{cycle, faces}
 use Rattle.model.specs.Image.{room}
 use Rattle.model.specs.Departure.{placed}
 use Rattle.laws.proofs.Tests.{by-cases, and-left, and-right}
-use Rattle.laws.proofs.Members.{In, in-here, in-there, in-keep, keep-in, all-in, keep-ascending, ascending-distinct, distinct-not, pigeonhole, map-append, none-kept}
+use Rattle.laws.proofs.Members.{In, in-here, in-there, in-keep, keep-in, all-in, keep-ascending, ascending-distinct, distinct-not, pigeonhole, map-append, none-kept, distinct-fewer, getD-in}
 use Rattle.laws.proofs.Faces.{face-sym, face-stays, face-start, start-in, start-starts, in-faces, faces-only, faces-distinct, order-has, order-only, along-face}
-use Rattle.laws.proofs.Tables.{length-tab, tab-ascending}
+use Rattle.laws.proofs.Tables.{length-tab, tab-ascending, tab-more}
+use Rattle.laws.proofs.Lists.{getD-zeros}
 use Rattle.cells.specs.Places.{Within, Apart, Closed, InOrder, Marked, Painted, Put, bit, marked}
-use Rattle.cells.proofs.Walks.{eq-or-ne, getD-zeros}
+use Rattle.cells.proofs.Walks.{eq-or-ne}
 use Rattle.cells.proofs.Reached.{places, in-places, places-below, within-places}
 use Rattle.cells.proofs.Paths.{apart-places, few-places, mem-append, round}
 
 -- LISTS that grow at the end
-tab-more : {A : Type 0} (f : ℕ → A) (n : ℕ) → tab f (suc n) ≡ tab f n ++ f n ∷ []
-tab-more f zero = refl
-tab-more f (suc n) = ap (λ (l : List _). f 0 ∷ l) (tab-more (λ k. f (suc k)) n)
-
 pub keep-append : {A : Type 0} (q : A → Bool) (l r : List A) → keep q (l ++ r) ≡ keep q l ++ keep q r
 keep-append q [] r = refl
 keep-append q (x ∷ l) r = by-cases (q x) (λ e. rw (e, keep-append q l r)) (λ e. rw (e, keep-append q l r))
@@ -47,20 +44,11 @@ unfolding placed concat
 placed-more i [] f = rw add-zero
 placed-more i (g ∷ fs) f = rw (placed-more (i + length g) fs f, length-append, add-assoc)
 
-pub getD-in : (l : List ℕ) (k : ℕ) → k < length l → In (getD l k 0) l
-getD-in [] k h = absurd (omega arith)
-getD-in (x ∷ l) zero h = in-here x l
-getD-in (x ∷ l) (suc k) h = in-there (getD l k 0) x l (getD-in l k (omega arith))
-
 pub distinct-at : (l : List ℕ) → distinct l ≡ true → (a b : ℕ) → a < b → b < length l → getD l a 0 ≢ getD l b 0
 distinct-at [] d a b h k e = absurd (omega arith)
 distinct-at (x ∷ l) d a zero h k e = absurd (omega arith)
 distinct-at (x ∷ l) d zero (suc b) h k e = distinct-not x l d (getD l b 0) (getD-in l b (omega arith)) (sym e)
 distinct-at (x ∷ l) d (suc a) (suc b) h k e = distinct-at l (and-right (not (mem x l)) _ d) a b (omega arith) (omega arith) e
-
--- different elements that are all in another list
-pub distinct-fewer : (l v : List ℕ) → distinct l ≡ true → ((x : ℕ) → In x l → In x v) → length l ≤ length v
-distinct-fewer l v d h = pigeonhole (length l) (λ k. getD l k 0) v (λ k j. h (getD l k 0) (getD-in l k j)) (distinct-at l d)
 
 -- different numbers below n are at most n
 pub distinct-few : (l : List ℕ) (n : ℕ) → distinct l ≡ true → ((x : ℕ) → In x l → x < n) → length l ≤ n

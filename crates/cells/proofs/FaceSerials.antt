@@ -11,7 +11,7 @@ use Rattle.model.specs.Cells.{cycle, faces, faces-in, volume-in, next-in}
 use Rattle.model.specs.Image.{column}
 use Rattle.model.specs.Departure.{placed}
 use Rattle.laws.proofs.Tests.{by-cases}
-use Rattle.laws.proofs.Members.{In, all-map, all-cong, keep-map, map-map, map-cong, map-append, keep-in}
+use Rattle.laws.proofs.Members.{In, all-map, all-cong, keep-map, map-map, map-cong, map-append, keep-in, keep-cong}
 use Rattle.laws.proofs.Faces.{face-stays}
 use Rattle.laws.specs.Order.{Ascending}
 use Rattle.laws.proofs.Carry.{carry-cycle}
@@ -20,7 +20,7 @@ use Rattle.cells.proofs.Walks.{eq-or-ne}
 use Rattle.cells.proofs.Reached.{places, in-places, places-below, within-places, volume-linked, places-in-in}
 use Rattle.cells.proofs.Paths.{apart-places, few-places}
 use Rattle.cells.proofs.Sited.{Sited, darts-in, count-in}
-use Rattle.cells.proofs.Serials.{keep-cong, serials-apart, volume-serials}
+use Rattle.cells.proofs.Serials.{serials-apart, volume-serials}
 use Rattle.cells.proofs.SewnLaws.{mark-test, marked-places}
 
 -- MARKS OF A VOLUME are closed under its links

@@ -17,8 +17,9 @@ use Rattle.laws.proofs.Tests.{by-cases, and-intro, and-left, and-right, not-equ
 use Rattle.laws.proofs.Members.{In, in-here, in-there, in-eq, in-cons, map-append, distinct-append, distinct-left, distinct-apart, distinct-not}
 use Rattle.laws.proofs.Orbits.{iter, path, in-path}
 use Rattle.laws.proofs.Tables.{tab-all, all-tab}
+use Rattle.laws.proofs.Lists.{getD-zeros}
 use Rattle.cells.specs.Places.{Within, Stamped, ends-of, ends-once}
-use Rattle.cells.proofs.Walks.{eq-or-ne, last-or-below, getD-zeros}
+use Rattle.cells.proofs.Walks.{eq-or-ne, last-or-below}
 use Rattle.cells.proofs.Paths.{Round, Going, path-next, going-end, mem-append}
 
 -- EACH PAIR ONCE: a dart x leads from key x to key (nx x)

@@ -14,7 +14,7 @@ use Rattle.model.specs.Lists.{any, keep, mem, distinct, index-of, firsts, conca
 use Rattle.model.specs.Cells.{cycle, faces, ring, vertex, vertices, vertex-number, volume-in, next-in, opposite-in}
 use Rattle.model.specs.Image.{room, column}
 use Rattle.model.specs.Departure.{same-pair, pairs-once, vertex-pairs}
-use Rattle.laws.proofs.Tests.{by-cases, and-intro, and-right}
+use Rattle.laws.proofs.Tests.{by-cases, and-intro, and-right, same-truth}
 use Rattle.laws.proofs.Members.{In, in-here, in-there, in-cons, in-map, map-in, map-map, map-cong, keep-in, distinct-not}
 use Rattle.laws.proofs.Faces.{along-face, face-distinct}
 use Rattle.laws.proofs.Tables.{tab-all, all-tab}
@@ -30,12 +30,6 @@ use Rattle.cells.proofs.RingLaws.{mem-firsts, step-within, step-apart, 
 use Rattle.cells.proofs.VertexSerials.{same-eqb, vertex-below, vertex-serial}
 use Rattle.cells.proofs.PairLaws.{Once, once-from, once-to}
 
--- two tests that follow from each other
-pub same-test : (a b : Bool) → (a ≡ true → b ≡ true) → (b ≡ true → a ≡ true) → a ≡ b
-same-test true b f g = sym (f refl)
-same-test false true f g = g refl
-same-test false false f g = refl
-
 -- ANY ORDER of the darts
 once-any : {key nx : ℕ → ℕ} {v l : List ℕ} → ((x : ℕ) → In x l → In x v) → Once key nx v → Once key nx l
 once-any h o = record { ends-differ = λ x k. o .ends-differ x (h x k); pairs-differ = λ x y i j. o .pairs-differ x y (h x i) (h y j) }
@@ -43,7 +37,7 @@ once-any h o = record { ends-differ = λ x k. o .ends-differ x (h x k); pairs-di
 pub pairs-any : (nx op : ℕ → ℕ) (v l : List ℕ) → distinct v ≡ true → distinct l ≡ true → ((x : ℕ) → In x v → In x l) → ((x : ℕ) → In x l → In x v)
     → pairs-once (vertex-pairs nx op l) ≡ pairs-once (vertex-pairs nx op v)
 unfolding vertex-pairs
-pairs-any nx op v l dv dl f g = same-test _ _
+pairs-any nx op v l dv dl f g = same-truth _ _
     (λ e. once-to (vertex nx op) nx v dv (once-any f (once-from (vertex nx op) nx l e)))
     (λ e. once-to (vertex nx op) nx l dl (once-any g (once-from (vertex nx op) nx v e)))
 
@@ -188,7 +182,7 @@ module _ (n : ℕ) (nx op : ℕ → ℕ) (few : n ≤ room) (wn : Within n nx) (
 
   pub pairs-numbered : ends-once nx op numbers first count ≡ pairs-once (vertex-pairs nx op l)
   unfolding ends-once vertex-pairs
-  pairs-numbered = same-test _ _
+  pairs-numbered = same-truth _ _
       (λ e. once-to (vertex nx op) nx l (w .once) (ends-to-once (all-tab (λ a. distinct (a ∷ ends-of nx op numbers (getD first a 0))) (λ a. a) count e)))
       (λ e. tab-all (λ a. distinct (a ∷ ends-of nx op numbers (getD first a 0))) (λ a. a) count (once-to-ends (once-from (vertex nx op) nx l e)))
 

@@ -15,7 +15,7 @@ use Rattle.model.specs.Cells.{cycle}
 use Rattle.model.specs.Image.{room}
 use Rattle.laws.proofs.Tests.{by-cases}
 use Rattle.laws.proofs.Members.{In}
-use Rattle.laws.proofs.Orbits.{iter, iter-out, path, around-path}
+use Rattle.laws.proofs.Orbits.{iter, iter-out, path, around-path, path-length}
 use Rattle.laws.proofs.Tables.{length-tab}
 use Rattle.cells.specs.Places.{Within, Apart, Painted, Put}
 use Rattle.cells.proofs.Walks.{eq-or-ne}
@@ -28,10 +28,6 @@ pub record Round (f : ℕ → ℕ) (x c : ℕ) : Type 0 where
   pub cycle-is : cycle f x ≡ path f c x
   pub returns : iter f c x ≡ x
   pub first : (k : ℕ) → 0 < k → k < c → iter f k x ≢ x
-
-path-length : (f : ℕ → ℕ) (k x : ℕ) → length (path f k x) ≡ k
-path-length f zero x = refl
-path-length f (suc k) x = ap suc (path-length f k (f x))
 
 path-more : (f : ℕ → ℕ) (k x : ℕ) → path f (suc k) x ≡ path f k x ++ (iter f k x ∷ [])
 path-more f zero x = refl

@@ -14,7 +14,7 @@ use Rattle.model.specs.Lists.{keep, mem, firsts, index-of, least}
 use Rattle.model.specs.Cells.{cycle, ring, vertex, vertices, vertex-number}
 use Rattle.model.specs.Image.{room}
 use Rattle.laws.proofs.Tests.{by-cases}
-use Rattle.laws.proofs.Members.{In, in-here, in-eq, in-getD, in-append-left, in-append-right, in-map, map-append, mem-keep, least-in, least-below}
+use Rattle.laws.proofs.Members.{In, in-here, in-eq, in-getD, in-append-left, in-append-right, in-map, map-append, mem-keep, least-in, least-below, least-among}
 use Rattle.laws.proofs.Faces.{face-self, face-stays, face-sym, face-trans}
 use Rattle.theory.proofs.ImageLaws.{place-back}
 use Rattle.cells.specs.Places.{Within, Apart, Painted, Numbered}
@@ -67,10 +67,6 @@ module _ (n : ℕ) (nx op : ℕ → ℕ) (few : n ≤ room) (wn : Within n nx) (
   pub step-apart : Apart n step
   step-apart p q hp hq e = ao p q hp hq (an (op p) (op q) (wo p hp) (wo q hq) e)
 
-  least-of : (l : List ℕ) (x : ℕ) → In x l → In (least l) l
-  least-of [] x h = absurd (true≢false (sym h))
-  least-of (y ∷ l) x h = least-in y l
-
   module _ (x : ℕ) (hx : x < n) where
     pub ring-self : In x (ring nx op x)
     unfolding ring cycle
@@ -82,7 +78,7 @@ module _ (n : ℕ) (nx op : ℕ → ℕ) (few : n ≤ room) (wn : Within n nx) (
 
     pub vertex-in : In (vertex nx op x) (ring nx op x)
     unfolding vertex
-    vertex-in = least-of (ring nx op x) x ring-self
+    vertex-in = least-among (ring nx op x) x ring-self
 
     ring-sym : (y : ℕ) → In y (ring nx op x) → In x (ring nx op y)
     unfolding ring cycle

@@ -12,12 +12,12 @@ use Rattle.model.specs.Cells.{volume-in, third-at}
 use Rattle.model.specs.Image.{column, third-in}
 use Rattle.model.specs.Departure.{is-sewn-into, is-sewn-out-of}
 use Rattle.laws.proofs.Tests.{by-cases}
-use Rattle.laws.proofs.Members.{In, in-here, in-there, or-left, or-right, any-in, all-map, all-cong, mem-keep}
+use Rattle.laws.proofs.Members.{In, in-here, in-there, or-left, or-right, any-in, all-map, all-cong, mem-keep, keep-cong}
 use Rattle.cells.specs.Places.{Marked, bit, marked, places-in, sewn-in, sewn-out, volume-of}
 use Rattle.cells.proofs.Walks.{last-or-below}
 use Rattle.cells.proofs.Reached.{places, in-places, places-in-in}
 use Rattle.cells.proofs.Sited.{Sited, darts-in, count-in}
-use Rattle.cells.proofs.Serials.{keep-cong, mem-map, serials-apart, volume-serials}
+use Rattle.cells.proofs.Serials.{mem-map, serials-apart, volume-serials}
 
 -- SOME DART of a list
 any-out : (q : ℕ → Bool) (l : List ℕ) → any q l ≡ true → (x : ℕ) × In x l × (q x ≡ true)

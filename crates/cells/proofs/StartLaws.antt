@@ -13,14 +13,13 @@ use Rattle.model.specs.Lists.{all, keep, concat}
 use Rattle.model.specs.Cells.{cycle, faces, volume-in, third-at, start-of}
 use Rattle.model.specs.Image.{room, column}
 use Rattle.model.specs.Departure.{Placed, placed, sewn-faces, is-sewn-out-of}
-use Rattle.laws.proofs.Members.{In, keep-in, keep-map}
+use Rattle.laws.proofs.Members.{In, keep-in, keep-map, getD-in, keep-cong}
 use Rattle.laws.proofs.Orbits.{path}
 use Rattle.cells.specs.Places.{Within, Apart, InOrder, Marked, marked, sewn-out, volume-of}
 use Rattle.cells.proofs.Paths.{Round, round}
 use Rattle.cells.proofs.Sited.{Sited, darts-in, count-in}
-use Rattle.cells.proofs.Serials.{keep-cong}
 use Rattle.cells.proofs.SewnLaws.{sewn-out-is}
-use Rattle.cells.proofs.FaceLaws.{keep-append, getD-in, marked-in}
+use Rattle.cells.proofs.FaceLaws.{keep-append, marked-in}
 use Rattle.cells.proofs.FaceSerials.{faces-serials, marked-below}
 
 -- STARTS: the index of a face that has darts is that of its first dart

@@ -10,14 +10,15 @@ use Rattle.model.specs.Lists.{any, concat}
 use Rattle.model.specs.Cells.{faces}
 use Rattle.model.specs.Image.{column}
 use Rattle.cells.specs.Places.{Ended, InOrder, Linked, Marked, Numbered, Whole, bit, marked, volume-of}
-use Rattle.laws.proofs.Members.{In}
+use Rattle.laws.proofs.Members.{In, getD-in}
+use Rattle.laws.proofs.Tests.{same-truth}
 use Rattle.cells.proofs.Reached.{volume-below}
 use Rattle.cells.proofs.Resets.{marks-in}
 use Rattle.cells.proofs.SewnLaws.{any-within}
-use Rattle.cells.proofs.FaceLaws.{getD-in, has, in-marked, marked-in, only}
+use Rattle.cells.proofs.FaceLaws.{has, in-marked, marked-in, only}
 use Rattle.cells.proofs.FaceSerials.{closed-next, closed-opposite}
 use Rattle.cells.proofs.StartLaws.{in-order-few}
-use Rattle.cells.proofs.PairsNumbered.{ended, order-whole, same-test}
+use Rattle.cells.proofs.PairsNumbered.{ended, order-whole}
 
 module _ {b : List ℕ} {n d : ℕ} (l : Linked b n) (h : d < n) {marks : List ℕ} (mk : Marked (volume-of b d) marks) where
   pub whole : Whole n (column b 1) (column b 2) (concat (faces (column b 1) (marked n marks)))
@@ -39,7 +40,7 @@ module _ {b : List ℕ} {n d : ℕ} (l : Linked b n) (h : d < n) {marks : List �
 
     -- the marks are those of the order
     pub out-marked : Marked (take darts out) marks
-    out-marked = record { size = mk .size; mark = λ p. mk .mark p ∙ ap bit (same-test _ _ (inside p) (outside p)) }
+    out-marked = record { size = mk .size; mark = λ p. mk .mark p ∙ ap bit (same-truth _ _ (inside p) (outside p)) }
       where
         inside : (p : ℕ) → In p (volume-of b d) → In p (take darts out)
         inside p i = rw (o .order) (has n (column b 1) marks (l .few) (l .next-within) (l .next-apart) (closed-next l h mk) p (in-marked n marks p (volume-below l h p i) (mk .mark p ∙ ap bit i)))
@@ -49,7 +50,7 @@ module _ {b : List ℕ} {n d : ℕ} (l : Linked b n) (h : d < n) {marks : List �
 
     -- a test of some dart in message order is one of some marked place
     pub out-any : (q : ℕ → Bool) → any q (take darts out) ≡ any q (marked n marks)
-    out-any q = ap (any q) (o .order) ∙ same-test _ _
+    out-any q = ap (any q) (o .order) ∙ same-truth _ _
         (any-within q (concat (faces (column b 1) (marked n marks))) (marked n marks) (only n (column b 1) marks (l .few) (l .next-within) (l .next-apart) (closed-next l h mk)))
         (any-within q (marked n marks) (concat (faces (column b 1) (marked n marks))) (has n (column b 1) marks (l .few) (l .next-within) (l .next-apart) (closed-next l h mk)))
 

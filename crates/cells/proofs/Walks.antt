@@ -14,6 +14,7 @@ use Rattle.model.specs.Image.{room}
 use Rattle.laws.proofs.Tests.{by-cases}
 use Rattle.laws.proofs.Members.{In, distinct-append, in-eq, in-getD, in-here, in-there}
 use Rattle.laws.proofs.Volumes.{Volume}
+use Rattle.laws.proofs.Lists.{getD-zeros, sum-zeros}
 use Rattle.cells.specs.Places.{Within, Listed, Marked, Visited, bit, places-in}
 
 -- CASES
@@ -45,15 +46,6 @@ sum-lt : (l : List ℕ) (i : ℕ) → i < length l → getD l i 0 ≡ 0 → ((k 
 sum-lt [] i h e b = absurd (omega arith)
 sum-lt (x ∷ l) zero h e b = omega (arith, sum-le l (λ k. b (suc k)))
 sum-lt (x ∷ l) (suc i) h e b = omega (arith, b 0, sum-lt l i (omega arith) e (λ k. b (suc k)))
-
-sum-zeros : (n : ℕ) → sum (replicate n 0) ≡ 0
-sum-zeros zero = refl
-sum-zeros (suc n) = omega (arith, sum-zeros n)
-
-pub getD-zeros : (n t : ℕ) → _≡_ {A = ℕ} (getD (replicate n 0) t 0) 0
-getD-zeros zero t = refl
-getD-zeros (suc n) zero = refl
-getD-zeros (suc n) (suc t) = getD-zeros n t
 
 sum-none : (l : List ℕ) → ((k : ℕ) → getD l k 0 ≡ 0) → sum l ≡ 0
 sum-none [] h = refl

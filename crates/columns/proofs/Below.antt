@@ -7,15 +7,9 @@ use native.Mathlib.Omega.{arith}
 use native.Mathlib.Numerals.{add-one}
 use native.Mathlib.Nat.{eq-or-lt-of-le, le-of-suc-le-suc}
 use Rattle.model.specs.Lists.{all, tab}
-use Rattle.laws.proofs.Tests.{and-intro, and-left, and-right}
+use Rattle.laws.proofs.Tests.{and-intro, and-left, and-right, same-truth}
 use Rattle.laws.proofs.Tables.{all-tab, tab-all}
 use Rattle.columns.specs.Columns.{all-below}
-
--- two tests that pass together are one
-pub same-test : (a b : Bool) → (a ≡ true → b ≡ true) → (b ≡ true → a ≡ true) → a ≡ b
-same-test true b f g = sym (f refl)
-same-test false true f g = g refl
-same-test false false f g = refl
 
 pub and-no : (a b : Bool) → b ≡ false → (a && b) ≡ false
 and-no true b p = p
@@ -60,7 +54,7 @@ module _ (t : ℕ → Bool) where
 
 -- the model's test of a list, by places
 pub all-is : {A : Type 0} (q : A → Bool) (f : ℕ → A) (n : ℕ) → all-below (λ p. q (f p)) n ≡ all q (tab f n)
-all-is q f n = same-test (all-below (λ p. q (f p)) n) (all q (tab f n)) (λ e. tab-all q f n (below-at (λ p. q (f p)) n e)) (λ e. at-below (λ p. q (f p)) n (all-tab q f n e))
+all-is q f n = same-truth (all-below (λ p. q (f p)) n) (all q (tab f n)) (λ e. tab-all q f n (below-at (λ p. q (f p)) n e)) (λ e. at-below (λ p. q (f p)) n (all-tab q f n e))
 
 pub all-tests : {A : Type 0} (q : A → Bool) (f : ℕ → A) (t : ℕ → Bool) (n : ℕ) → ((p : ℕ) → p < n → q (f p) ≡ t p) → all-below t n ≡ all q (tab f n)
-all-tests q f t n h = same-test (all-below t n) (all q (tab f n)) (λ e. tab-all q f n (λ p l. h p l ∙ below-at t n e p l)) (λ e. at-below t n (λ p l. sym (h p l) ∙ all-tab q f n e p l))
+all-tests q f t n h = same-truth (all-below t n) (all q (tab f n)) (λ e. tab-all q f n (λ p l. h p l ∙ below-at t n e p l)) (λ e. at-below t n (λ p l. sym (h p l) ∙ all-tab q f n e p l))

@@ -12,6 +12,8 @@ use Rattle.model.specs.Values.{Label, Dart, code, label-of}
 use Rattle.model.specs.Cells.{labels}
 use Rattle.model.specs.Sound.{label-right, labels-right}
 use Rattle.model.specs.Image.{column, third-in, dart-in, block-in}
+use Rattle.laws.proofs.Members.{map-append}
+use Rattle.laws.proofs.Tables.{tab-more}
 use Rattle.columns.specs.Columns.{all-below, count, Kind, kind-free, kind-sewn, kind-critical, Ranged, label-test, own-test, codes}
 use Rattle.columns.proofs.Below.{all-tests}
 use Rattle.columns.proofs.Thirds.{third-free, third-sewn, third-critical, code-in}
@@ -23,14 +25,6 @@ label-is s me counter k a (kind-sewn e) = rw (third-sewn s k a e, e) refl
 label-is s me counter k a (kind-critical e f g) = rw (third-critical s k a e, le-ltb k 2 (omega arith)) refl
 
 -- THE LABELS, in the order of the darts
-map-append : {A B : Type 0} (f : A → B) (x y : List A) → map f (x ++ y) ≡ map f x ++ map f y
-map-append f [] y = refl
-map-append f (a ∷ x) y = ap (λ (l : List _). f a ∷ l) (map-append f x y)
-
-tab-snoc : {A : Type 0} (f : ℕ → A) (n : ℕ) → tab f (suc n) ≡ tab f n ++ f n ∷ []
-tab-snoc f zero = refl
-tab-snoc f (suc n) = ap (λ (l : List _). f 0 ∷ l) (tab-snoc (λ k. f (suc k)) n)
-
 labels-append : (x y : List Dart) → labels (x ++ y) ≡ labels x ++ labels y
 unfolding labels
 labels-append [] y = refl
@@ -45,7 +39,7 @@ pub codes-are : (m : List ℕ) (n : ℕ) → ((p : ℕ) → p < n → Kind (colu
 unfolding codes labels
 codes-are m zero h = refl
 codes-are m (suc n) h =
-    ap (λ (x : List Dart). map code (labels x)) (tab-snoc (dart-in m) n) ∙ ap (map code) (labels-append (tab (dart-in m) n) (dart-in m n ∷ []))
+    ap (λ (x : List Dart). map code (labels x)) (tab-more (dart-in m) n) ∙ ap (map code) (labels-append (tab (dart-in m) n) (dart-in m n ∷ []))
     ∙ map-append code (labels (tab (dart-in m) n)) (labels (dart-in m n ∷ [])) ∙ ap (λ (x : List ℕ). x ++ map code (labels (dart-in m n ∷ []))) (codes-are m n (λ p l. h p (omega arith))) ∙ last (h n (omega arith))
   where
     last : Kind (column m 3 n) (column m 4 n) → codes m n ++ map code (labels (dart-in m n ∷ [])) ≡ codes m (suc n)

@@ -7,9 +7,8 @@ use native.Mathlib.Omega.{arith}
 use lib.Dec.{eqb}
 use lib.ListN.{length, drop, take}
 use lib.Seq.{take-all}
-use Rattle.desk.proofs.Scans.{part-rest}
 use borrow.Author.Tests.{eq-eqb}
-use Rattle.laws.proofs.Lists.{drop-end}
+use Rattle.laws.proofs.Lists.{drop-end, rest-whole}
 use Rattle.desk.specs.declared.words.Number.{Number}
 use Rattle.desk.specs.declared.words.Number.the-variants as number
 use Rattle.desk.specs.declared.words.Kind.the-variants as kind
@@ -34,7 +33,7 @@ blank-past s at h = sym (eq-eqb _ _ (leading-past (belongs kind.Blanks) s at h �
 
 pub blank-is : (s : List ℕ) (at a : ℕ) → a ≡ leading (belongs kind.Blanks) (take (length s - at) (drop at s)) → eqb a (length s - at) ≡ rest-blank s at
 unfolding rest-blank
-blank-is s at a e = rw (e, part-rest s at)
+blank-is s at a e = rw (e, rest-whole s at)
 
 at-word : (s : List ℕ) (at a b : ℕ) (r : Number) → a ≡ leading (belongs kind.Blanks) (drop at s) → b ≡ leading (belongs kind.Word) (drop (at + a) s) → r ≡ number-in (take b (drop (at + a) s)) → valued r (at + a + b) ≡ field-in s at
 unfolding field-in field-from word-at
@@ -42,7 +41,7 @@ at-word s at a b r ea eb er = rw (← ea, ← eb, ← er)
 
 -- a word read from its two ends
 pub field-word : (s : List ℕ) (at a b : ℕ) (r : Number) → a ≡ leading (belongs kind.Blanks) (take (length s - at) (drop at s)) → b ≡ leading (belongs kind.Word) (take (length s - (at + a)) (drop (at + a) s)) → r ≡ number-in (take (at + a + b - (at + a)) (drop (at + a) s)) → valued r (at + a + b) ≡ field-in s at
-field-word s at a b r ea eb er = let size : at + a + b - (at + a) ≡ b = omega arith in at-word s at a b r (ea ∙ ap (leading (belongs kind.Blanks)) (part-rest s at)) (eb ∙ ap (leading (belongs kind.Word)) (part-rest s (at + a))) (er ∙ ap (λ (k : ℕ). number-in (take k (drop (at + a) s))) size)
+field-word s at a b r ea eb er = let size : at + a + b - (at + a) ≡ b = omega arith in at-word s at a b r (ea ∙ ap (leading (belongs kind.Blanks)) (rest-whole s at)) (eb ∙ ap (leading (belongs kind.Word)) (rest-whole s (at + a))) (er ∙ ap (λ (k : ℕ). number-in (take k (drop (at + a) s))) size)
 
 -- past the end there is no word
 pub field-past : (s : List ℕ) (at : ℕ) → length s ≤ at → field.Other ≡ field-in s at

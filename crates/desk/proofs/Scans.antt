@@ -10,7 +10,7 @@ use lib.Seq.{take-all}
 use borrow.Author.Tests.{lt-ltb, le-ltb, leb-true, eq-eqb, ne-eqb}
 use Rattle.model.specs.Lists.{same-list}
 use Rattle.laws.proofs.Tests.{and-left, and-right}
-use Rattle.laws.proofs.Lists.{drop-at-cons, drop-end}
+use Rattle.laws.proofs.Lists.{drop-at-cons, drop-end, rest-whole}
 use Rattle.desk.specs.declared.words.Number.{Number}
 use Rattle.desk.specs.declared.words.Number.the-variants as number
 use Rattle.desk.specs.declared.words.Whole.{Whole}
@@ -94,10 +94,6 @@ same-short (x ∷ s) (y ∷ t) h = rw (same-short s t (λ e. h (ap suc e))) (and
     and-no true = refl
     and-no false = refl
 
--- A PART up to the end
-pub part-rest : (s : List ℕ) (n : ℕ) → take (length s - n) (drop n s) ≡ drop n s
-part-rest s n = take-all (length s - n) (drop n s) (omega (arith, length-drop n s))
-
 -- WHOLE NUMBERS
 pub whole-none : (t : List ℕ) → length t ≡ 0 → whole.Not ≡ whole-in t
 unfolding whole-in
@@ -107,7 +103,7 @@ whole-none (b ∷ bs) h = absurd (omega (arith, h))
 pub whole-minus : (t : List ℕ) (r : Number) → 0 < length t → getD t 0 0 ≡ 45 → r ≡ number-in (take (length t - 1) (drop 1 t)) → minus r ≡ whole-in t
 unfolding whole-in
 whole-minus [] r h e n = absurd (omega arith)
-whole-minus (b ∷ bs) r h e n = rw (e, n, part-rest (b ∷ bs) 1)
+whole-minus (b ∷ bs) r h e n = rw (e, n, rest-whole (b ∷ bs) 1)
 
 pub whole-plus : (t : List ℕ) (r : Number) → 0 < length t → (getD t 0 0 ≡ 45 → ⊥) → r ≡ number-in t → plus r ≡ whole-in t
 unfolding whole-in

@@ -11,11 +11,10 @@ use Rattle.model.specs.Lists.{all, sorted}
 use Rattle.model.specs.Values.{Dart, Block, same-point}
 use Rattle.model.specs.Sound.{paired, labels-paired, same-across, points-across}
 use Rattle.model.specs.Image.{column, third-in, dart-in, block-in}
-use Rattle.laws.proofs.Tests.{by-cases, and-intro, and-left, and-right}
+use Rattle.laws.proofs.Tests.{by-cases, and-intro, and-left, and-right, same-truth}
 use Rattle.laws.proofs.Members.{In}
 use Rattle.laws.proofs.Tables.{all-tab, tab-all}
 use Rattle.columns.specs.Columns.{count, Kind, kind-free, kind-sewn, kind-critical}
-use Rattle.columns.proofs.Below.{same-test}
 use Rattle.columns.proofs.Thirds.{third-free, third-sewn}
 use Rattle.sort.specs.Order.{Sorted}
 use Rattle.sort.proofs.Order.{sorted-in-order, sorted-keys}
@@ -308,7 +307,7 @@ module _ {m : List ℕ} (a : Asked m) where
 
     pub labels-are : in-pairs (label-pair m t) keys ≡ labels-paired (mesh-of m)
     unfolding labels-paired
-    labels-are = same-test (in-pairs (label-pair m t) keys) (labels-paired (mesh-of m))
+    labels-are = same-truth (in-pairs (label-pair m t) keys) (labels-paired (mesh-of m))
         (λ e. at-every m (λ b d. paired (mesh-of m) b d (d .third)) (tests-labels e))
         (λ e. mates (label-pair m t) keys in-order (λ v h. mate-by (label-pair m t) v (met e v h) (met e v h .so)))
 
@@ -360,6 +359,6 @@ module _ {m : List ℕ} (a : Asked m) where
     pub points-are : labels-paired (mesh-of m) ≡ true → each-pair (point-pair m) keys ≡ points-across (mesh-of m)
     unfolding points-across
     points-are e = both-tests (label-pair m t) (point-pair m) keys (labels-are ∙ e)
-        ∙ same-test (in-pairs both keys) (points-across (mesh-of m))
+        ∙ same-truth (in-pairs both keys) (points-across (mesh-of m))
         (λ f. at-every m (λ b d. same-across (mesh-of m) d (d .third)) (tests-points f))
         (λ f. mates both keys in-order (λ v h. mate-by both v (met e v h) (met-points e f v (met e v h))))

@@ -8,14 +8,9 @@ use lib.ListN.{length, getD, take}
 use lib.Seq.{getD-take, length-take-le}
 use Rattle.model.specs.Lists.{mem, distinct}
 use Rattle.laws.proofs.Tests.{by-cases, and-intro, and-right}
-use Rattle.laws.proofs.Members.{In, in-here, in-there, distinct-not}
+use Rattle.laws.proofs.Members.{In, in-here, in-there, distinct-not, getD-in}
 use Rattle.theory.proofs.ImageLaws.{place-back}
 use Rattle.keyset.specs.Slots.{Apart, Told}
-
-in-at : (l : List ℕ) (q : ℕ) → q < length l → In (getD l q 0) l
-in-at [] q h = absurd (omega arith)
-in-at (x ∷ l) zero h = in-here x l
-in-at (x ∷ l) (suc q) h = in-there (getD l q 0) x l (in-at l q (omega arith))
 
 apart-distinct : (l : List ℕ) → Apart l (length l) → distinct l ≡ true
 apart-distinct [] a = refl
@@ -27,7 +22,7 @@ apart-distinct (x ∷ l) a = and-intro {a = not (mem x l)} (by-cases (mem x l)
 distinct-apart : (l : List ℕ) → distinct l ≡ true → Apart l (length l)
 distinct-apart [] d p q h k = absurd (omega arith)
 distinct-apart (x ∷ l) d p zero h k = absurd (omega arith)
-distinct-apart (x ∷ l) d zero (suc q) h k = λ e. distinct-not x l d (getD l q 0) (in-at l q (omega arith)) (sym e)
+distinct-apart (x ∷ l) d zero (suc q) h k = λ e. distinct-not x l d (getD l q 0) (getD-in l q (omega arith)) (sym e)
 distinct-apart (x ∷ l) d (suc p) (suc q) h k = distinct-apart l (and-right (not (mem x l)) _ d) p q (omega arith) (omega arith)
 
 module _ (keys : List ℕ) (n : ℕ) (fits : n ≤ length keys) where

@@ -9,8 +9,8 @@ use native.Mathlib.Omega.{arith}
 use lib.Dec.{leb, ltb, eqb}
 use lib.ListN.{length, getD}
 use borrow.Author.Tests.{eqb-true, eqb-false, eq-eqb, ne-eqb, ltb-true, lt-ltb, leb-true, leb-false, not-true}
-use Rattle.model.specs.Lists.{all, any, keep, mem, distinct, ascending, find, more, collect, least, least-from}
-use Rattle.laws.proofs.Tests.{by-cases, and-intro, and-left, and-right}
+use Rattle.model.specs.Lists.{all, any, keep, mem, distinct, ascending, find, firsts, more, collect, least, least-from}
+use Rattle.laws.proofs.Tests.{by-cases, and-intro, and-left, and-right, not-equal}
 
 -- MEMBERS
 abbrev pub In : ℕ → List ℕ → Type 0
@@ -356,3 +356,55 @@ each-map P f (x ∷ l) h = (h x (in-here x l), each-map P f l (λ y k. h y (in-t
 pub collect-map : {A B C : Type 0} (f : A → B) (g : B → Option C) (l : List A) → collect g (map f l) ≡ collect (λ x. g (f x)) l
 collect-map f g [] = refl
 collect-map f g (x ∷ l) = ap (more (g (f x))) (collect-map f g l)
+
+-- by index
+pub getD-in : (l : List ℕ) (k : ℕ) → k < length l → In (getD l k 0) l
+getD-in [] k h = absurd (omega arith)
+getD-in (x ∷ l) zero h = in-here x l
+getD-in (x ∷ l) (suc k) h = in-there (getD l k 0) x l (getD-in l k (omega arith))
+
+-- the least is there, where anything is
+pub least-among : (l : List ℕ) (x : ℕ) → In x l → In (least l) l
+least-among [] x h = absurd (true≢false (sym h))
+least-among (y ∷ l) x h = least-in y l
+
+-- WHAT IS KEPT by tests that agree, by two, by one that always passes
+pub keep-cong : (p q : ℕ → Bool) (l : List ℕ) → ((x : ℕ) → In x l → p x ≡ q x) → keep p l ≡ keep q l
+keep-cong p q [] h = refl
+keep-cong p q (x ∷ l) h = rw (h x (in-here x l), keep-cong p q l (λ y k. h y (in-there y x l k)))
+
+pub keep-twice : (p q : ℕ → Bool) (l : List ℕ) → keep p (keep q l) ≡ keep (λ x. q x && p x) l
+keep-twice p q [] = refl
+keep-twice p q (x ∷ l) = by-cases (q x)
+    (λ e. rw e (by-cases (p x) (λ f. rw (f, keep-twice p q l)) (λ f. rw (f, keep-twice p q l))))
+    (λ e. rw e (keep-twice p q l))
+
+pub keep-true : {A : Type 0} (l : List A) → keep (λ a. true) l ≡ l
+keep-true [] = refl
+keep-true (a ∷ l) = ap (λ (t : List _). a ∷ t) (keep-true l)
+
+-- EACH ONCE: such elements of another list are no more than it has
+pub distinct-fewer : (l r : List ℕ) → distinct l ≡ true → ((x : ℕ) → In x l → In x r) → length l ≤ length r
+distinct-fewer [] r d h = omega arith
+distinct-fewer (x ∷ l) r d h =
+    let q : ℕ → Bool = λ y. not (eqb y x) in
+    let less = keep-less q x r (h x (in-here x l)) (rw (eq-eqb x x refl)) in
+    let rest = distinct-fewer l (keep q r) (and-right (not (mem x l)) _ d) (λ y m. in-keep q y r (h y (in-there y x l m)) (not-equal y x (distinct-not x l d y m))) in
+    omega arith
+
+-- under a function that keeps them apart
+pub distinct-map : (f : ℕ → ℕ) (l : List ℕ) → distinct l ≡ true → ((x y : ℕ) → In x l → In y l → f x ≡ f y → x ≡ y) → distinct (map f l) ≡ true
+distinct-map f [] d h = refl
+distinct-map f (x ∷ l) d h = and-intro (go (mem (f x) (map f l)) refl) (distinct-map f l (and-right (not (mem x l)) _ d) (λ a b i j. h a b (in-there a x l i) (in-there b x l j)))
+  where
+    go : (o : Bool) → mem (f x) (map f l) ≡ o → not (mem (f x) (map f l)) ≡ true
+    go false e = rw e
+    go true e =
+        let r = map-in f l (f x) e in
+        absurd (true≢false (sym (in-eq x (r .0) l (h x (r .0) (in-here x l) (in-there (r .0) x l (r .1)) (r .2)) (r .1)) ∙ not-true (mem x l) (and-left _ _ d)))
+
+-- first uses are no more than uses
+pub firsts-fewer : (l : List ℕ) → length (firsts l) ≤ length l
+unfolding firsts
+firsts-fewer [] = omega arith
+firsts-fewer (x ∷ l) = let a = keep-le (λ y. not (eqb x y)) (firsts l) in let b = firsts-fewer l in omega arith

@@ -30,6 +30,10 @@ abbrev pub path : (ℕ → ℕ) → ℕ → ℕ → List ℕ
 path f zero x = []
 path f (suc k) x = x ∷ path f k (f x)
 
+pub path-length : (f : ℕ → ℕ) (k x : ℕ) → length (path f k x) ≡ k
+path-length f zero x = refl
+path-length f (suc k) x = ap suc (path-length f k (f x))
+
 pub in-path : (f : ℕ → ℕ) (p x k : ℕ) → k < p → In (iter f k x) (path f p x)
 in-path f zero x k h = absurd (not-suc-le-zero h)
 in-path f (suc p) x zero h = in-here x (path f p (f x))
@@ -42,6 +46,10 @@ path-in f (suc p) x y h = go (or-cases (eqb y x) _ h) (path-in f p (f x) y)
     go : (eqb y x ≡ true) ⊎ In y (path f p (f x)) → (In y (path f p (f x)) → (k : ℕ) × (k < p) × (y ≡ iter f k (f x))) → (k : ℕ) × (k < suc p) × (y ≡ iter f k x)
     go (inl e) ih = (0, omega arith, eqb-true y x e)
     go (inr m) ih = let r = ih m in (suc (r .0), omega (arith, r .1), r .2)
+
+pub around-some : (f : ℕ → ℕ) (s n x : ℕ) → 0 < length (around f s (suc n) x)
+unfolding around
+around-some f s n x = omega arith
 
 -- what `around` gives: the path up to the first return, or there is no return
 pub around-cases : (f : ℕ → ℕ) (s n x : ℕ)

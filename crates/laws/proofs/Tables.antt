@@ -5,7 +5,7 @@
 use Prim.Native.Nat.{ℕ, zero, suc, _<_}
 use mathlib.Core.Path.{_≡_, refl, sym, ap}
 use mathlib.Core.Bool.{Bool, true, false, true≢false}
-use mathlib.Core.List.{List, _∷_, map}
+use mathlib.Core.List.{List, [], _∷_, _++_, map}
 use mathlib.Core.Logic.{_⊎_, inl, inr, ⊎-elim}
 use mathlib.Core.Option.{none, some}
 use native.Mathlib.Omega.{arith}
@@ -60,6 +60,10 @@ module _ {A : Type 0} where
   pub none-tab : (q : A → Bool) (f : ℕ → A) (n : ℕ) → ((p : ℕ) → p < n → q (f p) ≡ false) → any q (tab f n) ≡ false
   none-tab q f zero h = refl
   none-tab q f (suc n) h = rw (h 0 (omega arith)) (none-tab q (λ k. f (suc k)) n (λ p l. h (suc p) (omega arith)))
+
+pub tab-more : {A : Type 0} (f : ℕ → A) (n : ℕ) → tab f (suc n) ≡ tab f n ++ f n ∷ []
+tab-more f zero = refl
+tab-more f (suc n) = ap (λ (l : List _). f 0 ∷ l) (tab-more (λ k. f (suc k)) n)
 
 pub map-tab : {A B : Type 0} (g : A → B) (f : ℕ → A) (n : ℕ) → map g (tab f n) ≡ tab (λ k. g (f k)) n
 map-tab g f zero = refl

@@ -8,7 +8,7 @@ use lib.Dec.{leb, eqb}
 use lib.ListN.{length, getD, take, drop}
 use lib.Seq.{getD-take, getD-drop, ext-getD}
 use borrow.Author.Tests.{eqb-true, eq-eqb, ne-eqb, le-leb, lt-leb}
-use Rattle.laws.proofs.Tests.{and-intro, and-left, and-right}
+use Rattle.laws.proofs.Tests.{and-intro, and-left, and-right, same-truth}
 use Rattle.laws.proofs.Tables.{length-tab, map-tab, getD-tab}
 use Rattle.model.specs.Lists.{all, tab}
 use Rattle.model.specs.Values.{Block, rack}
@@ -16,7 +16,7 @@ use Rattle.model.specs.Sound.{numbered-from, blocks-right}
 use Rattle.model.specs.Image.{words, block-in, is-image}
 use Rattle.model.specs.Calls.{memories, mesh-lent, scratch-entries}
 use Rattle.columns.specs.Columns.{all-below}
-use Rattle.columns.proofs.Below.{same-test, below-at, at-below, below-none, below-step, all-is}
+use Rattle.columns.proofs.Below.{below-at, at-below, below-none, below-step, all-is}
 use Rattle.mesh.specs.Parts.{blocks, part, number-test}
 
 -- THE PARTS
@@ -52,7 +52,7 @@ abbrev pub zero-test : List ℕ → ℕ → Bool
 zero-test s i = eqb 0 (getD s i 0)
 
 pub zero-read : (s : List ℕ) (i : ℕ) → eqb (getD s i 0) 0 ≡ zero-test s i
-zero-read s i = same-test (eqb (getD s i 0) 0) (eqb 0 (getD s i 0)) (λ e. eq-eqb 0 (getD s i 0) (sym (eqb-true (getD s i 0) 0 e))) (λ e. eq-eqb (getD s i 0) 0 (sym (eqb-true 0 (getD s i 0) e)))
+zero-read s i = same-truth (eqb (getD s i 0) 0) (eqb 0 (getD s i 0)) (λ e. eq-eqb 0 (getD s i 0) (sym (eqb-true (getD s i 0) 0 e))) (λ e. eq-eqb (getD s i 0) 0 (sym (eqb-true 0 (getD s i 0) e)))
 
 pub zeros-is : (s : List ℕ) → all-below (zero-test s) (length s) ≡ all (eqb 0) s
 zeros-is s = all-is (eqb 0) (λ i. getD s i 0) (length s) ∙ ap (all (eqb 0)) (sym (list-tab s))
@@ -114,7 +114,7 @@ first-word m i = getD-take words (drop (i * words) m) 0 0 (omega arith) ∙ getD
     plus-zero k = omega arith
 
 numbered-tests : (m : List ℕ) (g : ℕ → Block) (n : ℕ) → ((i : ℕ) → g i .number ≡ getD m (i * words) 0) → all-below (number-test m) n ≡ numbered-from 0 (tab g n)
-numbered-tests m g n h = same-test (all-below (number-test m) n) (numbered-from 0 (tab g n))
+numbered-tests m g n h = same-truth (all-below (number-test m) n) (numbered-from 0 (tab g n))
     (λ e. at-numbered g n 0 (λ p l. ap (eqb (g p .number)) (from-zero p) ∙ ap (λ (k : ℕ). eqb k p) (h p) ∙ below-at (number-test m) n e p l))
     (λ e. at-below (number-test m) n (λ p l. ap (λ (k : ℕ). eqb k p) (sym (h p)) ∙ ap (eqb (g p .number)) (sym (from-zero p)) ∙ numbered-at g n 0 e p l))
   where

@@ -13,11 +13,10 @@ use Rattle.model.specs.Values.{Third, free, sewn, critical, Label, rack, serial
 use Rattle.model.specs.Sound.{third-in-range, dart-in-range, coordinates-finite}
 use Rattle.model.specs.Image.{room, column, dart-in, dart-words, kind-word, is-image}
 use Rattle.laws.proofs.Tests.{and-left, and-right}
-use Rattle.laws.proofs.Members.{In}
+use Rattle.laws.proofs.Members.{In, getD-in}
 use Rattle.laws.proofs.Tables.{all-tab}
 use Rattle.memory.specs.Point.{FiniteAt}
 use Rattle.cells.specs.Places.{Linked}
-use Rattle.cells.proofs.FaceLaws.{getD-in}
 use Rattle.cells.proofs.Sited.{Sited, count-in, parts, read, sited, word-is}
 use Rattle.cells.proofs.StartLaws.{face-at, start-place}
 use Rattle.cells.proofs.PairsNumbered.{number-below}

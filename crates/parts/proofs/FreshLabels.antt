@@ -16,13 +16,12 @@ use Rattle.model.specs.Image.{column, label-in, third-in, dart-in, block-in}
 use Rattle.model.specs.Messages.{Transfer}
 use Rattle.model.specs.Departure.{Link}
 use Rattle.model.specs.Arrival.{critical-links, label-new, labels-new}
-use Rattle.laws.proofs.Tests.{by-cases, and-left, and-right, and-intro, lt-or-ge, eq-or-ne}
+use Rattle.laws.proofs.Tests.{by-cases, and-left, and-right, and-intro, lt-or-ge, eq-or-ne, same-truth}
 use Rattle.laws.proofs.Members.{In, in-there, all-in, all-from, all-cong, all-map, map-append, map-map, map-cong, append-in, in-append-left, in-append-right, distinct-append, distinct-left, distinct-right, distinct-apart}
 use Rattle.laws.proofs.Maps.{map-self}
 use Rattle.laws.proofs.Tables.{tab-all, all-tab, map-tab, mem-place, place-mem, mem-none}
 use Rattle.memory.proofs.Labels.{code-label}
 use Rattle.columns.specs.Columns.{Ranged, Kind, kind-free, kind-sewn, kind-critical, codes, count}
-use Rattle.columns.proofs.Below.{same-test}
 use Rattle.columns.proofs.Labels.{codes-are}
 use Rattle.columns.proofs.Thirds.{third-critical}
 use Rattle.arrival.specs.Sides.{Segments}
@@ -315,7 +314,7 @@ module _ (s : ℕ → ℕ) (x : List ℕ) {b z kinds links : List ℕ} {k : ℕ}
     labels-are t e = ap (λ (ks : List Link). all (label-new (block-in m)) (collect (λ d. label-of (d .third)) ks) && distinct (map code (collect (λ d. label-of (d .third)) ks))) e
         ∙ ap (λ (ls : List Label). all (label-new (block-in m)) ls && distinct (map code ls)) (labels-told l (w .starts) (λ i h. h))
         ∙ both (all-map (label-new (block-in m)) label-in all-codes ∙ all-cong _ _ all-codes (λ a h. new-is a)) (ap distinct (map-map label-in code all-codes ∙ map-cong _ _ all-codes (λ a h. code-label a) ∙ map-self all-codes))
-        ∙ same-test _ _ to-fit of-fit
+        ∙ same-truth _ _ to-fit of-fit
       where
         both : {p q r u : Bool} → p ≡ q → r ≡ u → (p && r) ≡ (q && u)
         both p q = rw (p, q)

@@ -11,11 +11,10 @@ use lib.Seq.{take-suc-set, getD-take}
 use borrow.Author.Tests.{lt-ltb, le-ltb}
 use Rattle.model.specs.Lists.{all, mem, distinct, tab}
 use Rattle.model.specs.Image.{column}
-use Rattle.laws.proofs.Tests.{by-cases}
+use Rattle.laws.proofs.Tests.{by-cases, same-truth}
 use Rattle.laws.proofs.Maps.{tab-more}
 use Rattle.laws.proofs.Tables.{getD-tab, mem-place, place-mem, mem-none}
 use Rattle.arrival.proofs.PairLaws.{all-same}
-use Rattle.columns.proofs.Below.{same-test}
 use Rattle.memory.specs.Lookup.{place-in}
 use Rattle.memory.specs.declared.record.Place.{Place}
 use Rattle.memory.specs.declared.lookup.Found.the-variants.{At, Nothing}
@@ -85,6 +84,6 @@ module _ (m : List ℕ) (n : ℕ) (kinds links : List ℕ) (k : ℕ) where
   clear-is {values} {keys} {ranks} {r} t s d w e = rw (t, sym (ap distinct (s .front)) ∙ d) (e ∙ all-same _ _ n (λ p h. ap (λ (c : Bool). ltb (column m 3 p) 2 || not c) (same (column m 4 p))))
     where
       same : (x : ℕ) → mem x (tab (value-at keys) k) ≡ mem x (tab (fresh-at kinds links) k)
-      same x = same-test _ _
+      same x = same-truth _ _
           (λ u. let a = place-mem (value-at keys) k x u in mem-place (fresh-at kinds links) k (index-at keys (a .0)) x (w .index-below (a .0) (a .1)) (sym (value-is s (index-at keys (a .0)) (w .index-below (a .0) (a .1))) ∙ sym (w .value-is (a .0) (a .1)) ∙ a .2))
           (λ u. let a = place-mem (fresh-at kinds links) k x u in mem-place (value-at keys) k (getD ranks (a .0) 0) x (w .rank-below (a .0) (a .1)) (w .value-is (getD ranks (a .0) 0) (w .rank-below (a .0) (a .1)) ∙ ap (λ (i : ℕ). getD values i 0) (w .index-rank (a .0) (a .1)) ∙ value-is s (a .0) (a .1) ∙ a .2))

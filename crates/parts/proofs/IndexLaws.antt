@@ -14,12 +14,11 @@ use Rattle.model.specs.Messages.{Transfer, size-all}
 use Rattle.model.specs.Arrival.{placed-faces, indices-right}
 use Rattle.laws.specs.Order.{Ascending}
 use Rattle.laws.proofs.Lists.{getD-zeros}
-use Rattle.laws.proofs.Tests.{by-cases, and-left, and-right, and-intro, lt-or-ge, eq-or-ne, last-or-below}
+use Rattle.laws.proofs.Tests.{by-cases, and-left, and-right, and-intro, lt-or-ge, eq-or-ne, last-or-below, same-truth}
 use Rattle.laws.proofs.Members.{In, all-in, all-from, all-cong, append-in, in-append-left, in-append-right, distinct-append, distinct-left, distinct-apart, ascending-distinct}
 use Rattle.laws.proofs.Tables.{tab-all, all-tab, mem-place, place-mem, tab-ascending, ascending-tab}
 use Rattle.cells.proofs.Paths.{mem-append}
 use Rattle.cells.proofs.FaceLaws.{distinct-few}
-use Rattle.columns.proofs.Below.{same-test}
 use Rattle.theory.proofs.ImageLaws.{tab-list}
 use Rattle.inbox.specs.Inbox.{FacesIn, is-hollow}
 use Rattle.parts.specs.Indices.{above-at, fits-at, FitTold, MarkedBy, starts-at, part-fits, indices-fit}
@@ -70,7 +69,7 @@ marking-more {idx} {marks} {marks′} {e} {y} w s h = record {
 }
   where
     same : (q : ℕ) → (q ≡ y → ⊥) → mem q (tab (λ j. getD idx j 0) e) ≡ mem q (tab (λ j. getD idx j 0) (e + 1))
-    same q d = same-test _ _
+    same q d = same-truth _ _
         (λ t. let r = place-mem (λ j. getD idx j 0) e q t in mem-place (λ j. getD idx j 0) (e + 1) (r .0) q (let u = r .1 in omega arith) (r .2))
         (λ t. let r = place-mem (λ j. getD idx j 0) (e + 1) q t in ⊎-elim
         (λ (u : r .0 ≡ e). absurd (d (sym (r .2) ∙ ap (λ (j : ℕ). getD idx j 0) u ∙ sym s)))
@@ -153,7 +152,7 @@ module _ (idx b marks l : List ℕ) (k c : ℕ) (n : c ≤ length idx) (w : Mark
           (eq-or-ne e 0)
 
   part-is : all (fits-at idx b marks k) (tab (λ e. e) c) ≡ part-fits b k l (take c idx)
-  part-is = same-test _ _ fits-there there-fits ∙ ap (part-fits b k l) (sym (front-tab idx c n))
+  part-is = same-truth _ _ fits-there there-fits ∙ ap (part-fits b k l) (sym (front-tab idx c n))
 
   -- each names a dart
   part-below : all (fits-at idx b marks k) (tab (λ e. e) c) ≡ true → (e : ℕ) → e < c → getD idx e 0 < k
@@ -229,7 +228,7 @@ module _ (p : ℕ → Bool) (a b c : List ℕ) where
       up l m e = and-right (all p l) _ (and-left (all p l && ascending l) _ e)
 
   whole-is : whole ≡ (fits [] a && fits a b && fits (a ++ b) c)
-  whole-is = same-test _ _ to-parts of-parts
+  whole-is = same-truth _ _ to-parts of-parts
 
 module _ {v x b z : List ℕ} (t : Transfer) (inside : FacesIn (t .faces) v x b z) (full : is-hollow (t .faces) ≡ false) where
   pub indices-are : indices-right t ≡ indices-fit b (size-all (t .faces)) (map (λ m. m .index) (t .part2)) (map (λ m. m .index) (t .part3)) (map (λ m. m .index) (t .part4))

@@ -14,7 +14,7 @@ use Rattle.model.specs.Messages.{Part3, Part4}
 use Rattle.model.specs.Arrival.{consecutive}
 use Rattle.laws.proofs.Members.{all-map}
 use Rattle.laws.proofs.Maps.{tab-more}
-use Rattle.columns.proofs.Below.{same-test}
+use Rattle.laws.proofs.Tests.{same-truth}
 use Rattle.arrival.proofs.PairLaws.{all-index, all-same}
 use Rattle.parts.specs.Entries.{number3, other4}
 use Rattle.parts.specs.Numbers.{follows-at, neither-at}
@@ -24,7 +24,7 @@ pub follows-not : (a b : ℕ) → b ≤ a → false ≡ eqb (suc a) b
 follows-not a b h = sym (ne-eqb (suc a) b (λ e. omega arith))
 
 pub follows-is : (a b : ℕ) → a < b → eqb (b - a) 1 ≡ eqb (suc a) b
-follows-is a b h = same-test _ _ (λ t. eq-eqb (suc a) b (let e = eqb-true (b - a) 1 t in omega arith)) (λ t. eq-eqb (b - a) 1 (let e = eqb-true (suc a) b t in omega arith))
+follows-is a b h = same-truth _ _ (λ t. eq-eqb (suc a) b (let e = eqb-true (b - a) 1 t in omega arith)) (λ t. eq-eqb (b - a) 1 (let e = eqb-true (suc a) b t in omega arith))
 
 -- the model's test
 consecutive-by : (s : ℕ → ℕ) (m : Part3) (ms : List Part3) → ((e : ℕ) → e < suc (length ms) → s e ≡ getD (map number3 (m ∷ ms)) e 0) → consecutive (m ∷ ms) ≡ all (λ e. eqb (suc (s e)) (s (e + 1))) (tab (λ e. e) (length ms))

@@ -15,13 +15,12 @@ use Rattle.model.specs.Cells.{cycle, dart-at, labelled, next-in, previous-in}
 use Rattle.model.specs.Image.{column, dart-in, is-image}
 use Rattle.model.specs.Messages.{Part2, Transfer, size-all}
 use Rattle.model.specs.Arrival.{new-darts, face-from, points-meet, part2-right, part2-apart}
-use Rattle.laws.proofs.Tests.{by-cases, lt-or-ge, and-intro, and-left, and-right}
+use Rattle.laws.proofs.Tests.{by-cases, lt-or-ge, and-intro, and-left, and-right, same-truth}
 use Rattle.laws.proofs.Members.{In, in-eq, least-in, least-below}
 use Rattle.laws.proofs.Orbits.{iter}
 use Rattle.laws.proofs.Faces.{face-stays, face-self, face-trans, face-sym}
 use Rattle.laws.proofs.Tables.{all-tab, tab-all, getD-tab, tab-cong, map-tab, one-place, dart-place}
 use Rattle.theory.proofs.ImageLaws.{tab-list}
-use Rattle.columns.proofs.Below.{same-test}
 use Rattle.columns.proofs.Question.{image-passed}
 use Rattle.cells.proofs.Reached.{places, in-places, places-below, within-places}
 use Rattle.cells.proofs.Paths.{apart-places, few-places}
@@ -142,7 +141,7 @@ by-entries : (passes right : ℕ → Bool) (key : ℕ → ℕ) (c : ℕ) → ((e
     → ((d e : ℕ) → d < e → e < c → passes d ≡ true → passes e ≡ true → key d ≡ key e → ⊥)
     → (((e : ℕ) → e < c → right e ≡ true) → ((d e : ℕ) → d < e → e < c → key d ≡ key e → ⊥) → (e : ℕ) → e < c → passes e ≡ true)
     → all passes (tab (λ e. e) c) ≡ (all right (tab (λ e. e) c) && distinct (tab key c))
-by-entries passes right key c one two three = same-test _ _
+by-entries passes right key c one two three = same-truth _ _
     (λ t. and-intro (tab-all right (λ e. e) c (λ e h. one e h (all-tab passes (λ e. e) c t e h))) (tab-once key c (λ i j hi hj q. differ t i j hi hj q)))
     (λ t. tab-all passes (λ e. e) c (three (λ e h. all-tab right (λ e. e) c (and-left (all right (tab (λ e. e) c)) (distinct (tab key c)) t) e h) (λ d e l h q. let r = once-tab key c (and-right (all right (tab (λ e. e) c)) (distinct (tab key c)) t) d e (omega arith) h q in omega (arith, r, l))))
   where

@@ -13,8 +13,8 @@ use Rattle.model.specs.Lists.{all, mem, tab}
 use Rattle.model.specs.Cells.{cycle}
 use Rattle.model.specs.Image.{room, column}
 use Rattle.laws.proofs.Tests.{and-left}
+use Rattle.laws.proofs.Lists.{getD-zeros}
 use Rattle.cells.specs.Places.{Painted}
-use Rattle.cells.proofs.Walks.{getD-zeros}
 use Rattle.cells.proofs.Paths.{paint-more}
 use Rattle.parts.specs.Faces.{Over}
 use Rattle.parts.specs.Meets.{Meetable, Trailed, met-at, entry-right, EntryRight}

@@ -14,8 +14,7 @@ use Rattle.model.specs.Cells.{cycle}
 use Rattle.model.specs.Image.{room, words, column}
 use Rattle.memory.specs.Point.{FiniteAt}
 use Rattle.laws.proofs.Orbits.{iter, path}
-use Rattle.laws.proofs.Tests.{eq-or-ne}
-use Rattle.columns.proofs.Below.{same-test}
+use Rattle.laws.proofs.Tests.{eq-or-ne, same-truth}
 use Rattle.arrival.proofs.PairLaws.{all-same}
 use Rattle.cells.specs.Places.{Within, Linked, Put}
 use Rattle.cells.proofs.Paths.{Round, Going, round}
@@ -26,7 +25,7 @@ use Rattle.parts.specs.Meets.{Walked, Meetable, Trailed, meet-at, met-at
 pub walked-back : {m o o′ : List ℕ} {start size : ℕ} (i : ℕ) → length o ≡ 512 → Put (cycle (column m 1) start) 0 o o′ (i + 1) → Walked m start size o′ (eqb (i + 1) size)
 walked-back {m} {o} {o′} {start} {size} i h p = record {
   len = p .size ∙ h;
-  said = same-test _ _ (λ t. eq-eqb size _ (let e = eqb-true (i + 1) size t in omega (arith, e, p .end))) (λ t. eq-eqb (i + 1) size (let e = eqb-true size _ t in omega (arith, e, p .end)));
+  said = same-truth _ _ (λ t. eq-eqb size _ (let e = eqb-true (i + 1) size t in omega (arith, e, p .end))) (λ t. eq-eqb (i + 1) size (let e = eqb-true size _ t in omega (arith, e, p .end)));
   front = λ t. ap (λ (n : ℕ). take n o′) (sym (eqb-true (i + 1) size t)) ∙ p .front;
 }
 

@@ -15,9 +15,10 @@ use Rattle.model.specs.Values.{rack, finite-bits, finite}
 use Rattle.model.specs.Balance.{Oracle, picked}
 use Rattle.model.specs.Image.{room, column, dart-in, block-in, is-image}
 use Rattle.laws.proofs.Tests.{last-or-below, and-left, and-right}
-use Rattle.laws.proofs.Members.{keep-le}
+use Rattle.laws.proofs.Members.{keep-le, keep-cong}
 use Rattle.laws.proofs.Maps.{tab-more}
 use Rattle.laws.proofs.Tables.{length-tab}
+use Rattle.laws.proofs.Lists.{getD-zeros, sum-zeros}
 use Rattle.memory.specs.Point.{point-of, patterns, FiniteAt}
 use Rattle.memory.specs.declared.point.Point.{Point}
 use Rattle.memory.proofs.Points.{point-patterns}
@@ -25,9 +26,7 @@ use Rattle.oracle.specs.Oracle.{holds}
 use Rattle.columns.proofs.Question.{image-passed}
 use Rattle.cells.proofs.Reached.{places, places-below}
 use Rattle.cells.proofs.Sited.{sited}
-use Rattle.cells.proofs.Serials.{keep-cong}
 use Rattle.cells.proofs.FaceLaws.{keep-append}
-use Rattle.cells.proofs.Walks.{getD-zeros}
 use Rattle.picking.specs.Picked.{size-at, Sizes, Walkable, Some, holds-at, Marking, Through}
 use Rattle.picking.proofs.PickedPlaces.{picked-places}
 
@@ -87,10 +86,6 @@ pub record Measuring (o : Oracle) (m : List ℕ) (sizes marks order : List ℕ) 
   pub p-le : p ≤ getD m 2 0
   pub len : length sizes ≡ room
   pub told : (q : ℕ) → q < p → getD sizes q 0 ≡ size-at o m q
-
-sum-zeros : (n : ℕ) → sum (replicate n 0) ≡ 0
-sum-zeros zero = refl
-sum-zeros (suc n) = omega (arith, sum-zeros n)
 
 no-marks : (n : ℕ) (f g : ℕ → ℕ) (marks order : List ℕ) → marks ≡ replicate room 0 → length order ≡ room → Marking n f g marks order 0
 no-marks n f g marks order e len = rw e (record {

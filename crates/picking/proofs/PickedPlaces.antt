@@ -14,25 +14,18 @@ use Rattle.model.specs.Cells.{dart-at, serials, volume-in, volume-starts}
 use Rattle.model.specs.Balance.{Oracle, picks, picked}
 use Rattle.model.specs.Image.{column, dart-in, is-image}
 use Rattle.laws.specs.Order.{Ascending}
-use Rattle.laws.proofs.Tests.{by-cases, lt-or-ge}
-use Rattle.laws.proofs.Members.{In, all-map, all-cong, map-map, map-cong, keep-map}
+use Rattle.laws.proofs.Tests.{by-cases, lt-or-ge, same-truth}
+use Rattle.laws.proofs.Members.{In, all-map, all-cong, map-map, map-cong, keep-map, keep-twice, keep-cong}
 use Rattle.laws.proofs.Tables.{map-tab}
-use Rattle.columns.proofs.Below.{same-test}
 use Rattle.cells.specs.Places.{volume-of}
 use Rattle.cells.proofs.Reached.{places, places-below, volume-linked, in-places-in, places-in-in}
 use Rattle.cells.proofs.Sited.{Sited, sited, darts-in, count-in, dart-is}
-use Rattle.cells.proofs.Serials.{keep-cong, volume-serials, volume-size}
+use Rattle.cells.proofs.Serials.{volume-serials, volume-size}
 use Rattle.picking.specs.Picked.{volume-at, is-start, is-picked, size-at}
-
-keep-twice : (p q : ℕ → Bool) (l : List ℕ) → keep p (keep q l) ≡ keep (λ x. q x && p x) l
-keep-twice p q [] = refl
-keep-twice p q (x ∷ l) = by-cases (q x)
-    (λ e. rw e (by-cases (p x) (λ f. rw (f, keep-twice p q l)) (λ f. rw (f, keep-twice p q l))))
-    (λ e. rw e (keep-twice p q l))
 
 -- serials keep the order of places
 order-kept : {n : ℕ} {s : ℕ → ℕ} → Ascending n s → (p q : ℕ) → p < n → q < n → leb (s p) (s q) ≡ leb p q
-order-kept {n} {s} a p q hp hq = same-test (leb (s p) (s q)) (leb p q)
+order-kept {n} {s} a p q hp hq = same-truth (leb (s p) (s q)) (leb p q)
     (λ e. le-leb p q (⊎-elim (λ l. absurd (omega (arith, a q p l hp, leb-true (s p) (s q) e))) (λ l. l) (lt-or-ge q p)))
     (λ e. le-leb (s p) (s q) (⊎-elim (λ l. omega (arith, a p q l hq)) (λ l. at-same (omega (arith, leb-true p q e))) (lt-or-ge p q)))
   where

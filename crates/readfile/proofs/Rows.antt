@@ -11,6 +11,7 @@ use lib.Seq.{take-at, drop-append-add, drop-drop, length-take-le, getD-append-ad
 use Rattle.laws.proofs.Members.{Each}
 use Rattle.model.specs.Lists.{tab, concat}
 use Rattle.model.specs.Image.{column}
+use Rattle.laws.proofs.Lists.{concat-snoc}
 use Rattle.memory.specs.Record.{put}
 use Rattle.readfile.specs.Serials.{behind}
 
@@ -29,11 +30,6 @@ pub rows-length : (rows : List (List ℕ)) → Eights rows → length (concat ro
 unfolding concat
 rows-length [] e = refl
 rows-length (r ∷ rows) e = omega (arith, e .0, rows-length rows (e .1), length-append r (concat rows))
-
-rows-more : (rows : List (List ℕ)) (r : List ℕ) → concat (rows ++ r ∷ []) ≡ concat rows ++ r
-unfolding concat
-rows-more [] r = append-nil r
-rows-more (q ∷ rows) r = ap (λ (l : List ℕ). q ++ l) (rows-more rows r) ∙ sym (append-assoc q (concat rows) r)
 
 -- word f of the row at place p
 pub row-at : (rows : List (List ℕ)) → Eights rows → (rest : List ℕ) (p f : ℕ) → p < length rows → f < 8 → getD (concat rows ++ rest) (p * 8 + f) 0 ≡ getD (getD rows p []) f 0
@@ -98,4 +94,4 @@ module _ (m : List ℕ) (rows : List (List ℕ)) (e : Eights rows) (h : 8 + leng
       ap (λ (x : List ℕ). put x p r) parts ∙ stored
       ∙ ap (λ (x : List ℕ). front ++ (r ++ x)) (drop-drop 8 (8 + length rows * 8) m ∙ ap (λ (k : ℕ). drop k m) on)
       ∙ append-assoc (take 8 m) (concat rows) (r ++ drop (8 + length (rows ++ r ∷ []) * 8) m)
-      ∙ ap (λ (x : List ℕ). take 8 m ++ x) (sym (append-assoc (concat rows) r (drop (8 + length (rows ++ r ∷ []) * 8) m)) ∙ ap (λ (x : List ℕ). x ++ drop (8 + length (rows ++ r ∷ []) * 8) m) (sym (rows-more rows r)))
+      ∙ ap (λ (x : List ℕ). take 8 m ++ x) (sym (append-assoc (concat rows) r (drop (8 + length (rows ++ r ∷ []) * 8) m)) ∙ ap (λ (x : List ℕ). x ++ drop (8 + length (rows ++ r ∷ []) * 8) m) (sym (concat-snoc rows r)))

@@ -8,7 +8,7 @@ use Prim.Native.Nat.{ℕ, _+_, _*_, _<_}
 use native.Mathlib.Omega.{arith}
 use lib.Dec.{leb, ltb, eqb}
 use lib.ListN.{length, getD, length-map}
-use Rattle.laws.proofs.Tests.{by-cases, and-intro, and-left, and-right, all-at, find-map}
+use Rattle.laws.proofs.Tests.{by-cases, and-intro, and-left, and-right, all-at, find-map, same-truth}
 use Rattle.laws.proofs.Members.{all-in, all-map, any-map}
 use Rattle.laws.proofs.Maps.{all-weaken, map-where, map-at, map-self, index-absent}
 use Rattle.model.specs.Lists.{all, any, mem, tab, find, index-of, first-no}
@@ -17,7 +17,6 @@ use Rattle.model.specs.Cells.{serials, held, dart-at, opposite-in}
 use Rattle.model.specs.Sound.{third-in-range, dart-in-range, ranges-right, coordinates-finite, link-right, links-right, third-right, thirds-right, labels-right, points-agree, block-checks}
 use Rattle.model.specs.Image.{kind-word, link-word, dart-words, image, column, third-in, dart-in, block-in}
 use Rattle.theory.proofs.ImageLaws.{tab-list, column-is, ranges-of, links-held, serial-back, third-back}
-use Rattle.columns.proofs.Below.{same-test}
 use Rattle.columns.proofs.Images.{image-rest}
 
 -- WHAT IS READ BACK: a link that is held, or 0
@@ -169,7 +168,7 @@ module _ (ds : List Dart) (positive : held ds 0 ≡ false) where
   clipped-links-held e = ap links-right (only-thirds e) ∙ same-links (λ d. clip-third ds (d .third)) ds
 
   clipped-links : links-right (map (clip-dart ds) ds) ≡ links-right ds
-  clipped-links = same-test (links-right es) (links-right ds) (λ e. sym (clipped-links-held (linked-clipped e)) ∙ e) (λ e. clipped-links-held (linked-before e) ∙ e)
+  clipped-links = same-truth (links-right es) (links-right ds) (λ e. sym (clipped-links-held (linked-clipped e)) ∙ e) (λ e. clipped-links-held (linked-before e) ∙ e)
 
   -- QUESTION 6
   module _ (linked : links-right ds ≡ true) where
@@ -198,7 +197,7 @@ module _ (ds : List Dart) (positive : held ds 0 ≡ false) where
         back (critical o l) h = refl
 
     clipped-thirds : thirds-right (map (clip-dart ds) ds) ≡ thirds-right ds
-    clipped-thirds = same-test (thirds-right es) (thirds-right ds)
+    clipped-thirds = same-truth (thirds-right es) (thirds-right ds)
         (λ e. ap thirds-right (sym (clipped-same (sewn-clipped e))) ∙ e)
         (λ e. ap thirds-right (clipped-same (sewn-before e)) ∙ e)
 

@@ -9,7 +9,7 @@ use lib.Dec.{leb, ltb}
 use lib.ListN.{length, take, drop, replicate, length-replicate, length-drop, length-map}
 use lib.Seq.{drop-at, length-take-le}
 use borrow.Author.Tests.{le-leb, lt-leb, lt-ltb, ltb-true}
-use Rattle.laws.proofs.Tests.{by-cases, and-intro, and-left, and-right}
+use Rattle.laws.proofs.Tests.{by-cases, and-intro, and-left, and-right, same-truth}
 use Rattle.laws.proofs.Members.{all-map}
 use Rattle.laws.proofs.Lists.{drop-zeros}
 use Rattle.model.specs.Lists.{all, ascending, concat}
@@ -21,7 +21,6 @@ use Rattle.model.specs.Image.{room, words}
 use Rattle.memory.specs.Header.{header-words}
 use Rattle.groups.proofs.Ends.{Ends, Reads, then-some, when-some, same-rest}
 use Rattle.groups.proofs.Labels.{same-value}
-use Rattle.columns.proofs.Below.{same-test}
 use Rattle.readfile.specs.Serials.{raw-words, raw, behind, stored-all}
 use Rattle.readfile.specs.Parts.{climbs, climbing, placed-end, DartsStored, RawRead}
 use Rattle.readfile.specs.declared.raw.End.the-variants as end
@@ -50,7 +49,7 @@ ascends-climbs last [] a e = refl
 ascends-climbs last (x ∷ xs) a e = and-intro (and-left (ltb last x) _ a) (ascends-climbs x xs (and-left (all (ltb x) xs) _ e) (and-right (all (ltb x) xs) _ e))
 
 in-order-is : (ds : List Dart) → climbs 0 (serials ds) ≡ (all (λ d. leb 1 (d .serial)) ds && ascending (serials ds))
-in-order-is ds = same-test (climbs 0 (serials ds)) (all (λ d. leb 1 (d .serial)) ds && ascending (serials ds))
+in-order-is ds = same-truth (climbs 0 (serials ds)) (all (λ d. leb 1 (d .serial)) ds && ascending (serials ds))
     (λ e. and-intro (sym (all-map (ltb 0) (λ (d : Dart). d .serial) ds) ∙ climbs-first 0 (serials ds) e) (climbs-ascends 0 (serials ds) e))
     (λ e. ascends-climbs 0 (serials ds) (all-map (ltb 0) (λ (d : Dart). d .serial) ds ∙ and-left (all (λ d. leb 1 (d .serial)) ds) _ e) (and-right (all (λ d. leb 1 (d .serial)) ds) _ e))
 

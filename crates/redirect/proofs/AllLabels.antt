@@ -15,7 +15,7 @@ use Rattle.model.specs.Layouts.{Layout, times, get-all}
 use Rattle.model.specs.Messages.{label}
 use Rattle.model.specs.Arrival.{names-face}
 use Rattle.laws.proofs.Tests.{by-cases, and-left, and-right}
-use Rattle.laws.proofs.Members.{In, in-map, all-in, pigeonhole}
+use Rattle.laws.proofs.Members.{In, in-map, all-in, pigeonhole, getD-in}
 use Rattle.laws.proofs.Tables.{length-tab, any-tab}
 use Rattle.groups.proofs.Ends.{then-some}
 use Rattle.groups.proofs.Labels.{same-value}
@@ -24,7 +24,7 @@ use Rattle.columns.proofs.Below.{and-no}
 use Rattle.columns.proofs.Question.{Passed}
 use Rattle.cells.specs.Places.{Linked}
 use Rattle.cells.proofs.Reached.{places, in-places}
-use Rattle.cells.proofs.FaceLaws.{getD-in, distinct-at}
+use Rattle.cells.proofs.FaceLaws.{distinct-at}
 use Rattle.cells.proofs.Sited.{Sited, darts-in}
 use Rattle.departure.specs.ByPlaces.{critical-with}
 use Rattle.inbox.specs.Inbox.{Took}

@@ -12,12 +12,11 @@ use Rattle.model.specs.Values.{Label, Dart, no-dart, or-no-dart, code, label-ke
 use Rattle.model.specs.Cells.{cycle, next-in, least-label, labelled}
 use Rattle.model.specs.Image.{column, third-in, dart-in}
 use Rattle.model.specs.Arrival.{face-with, names-face}
-use Rattle.laws.proofs.Tests.{by-cases, and-intro, and-left, and-right}
+use Rattle.laws.proofs.Tests.{by-cases, and-intro, and-left, and-right, same-truth}
 use Rattle.laws.proofs.Members.{In, in-eq}
 use Rattle.laws.proofs.Tables.{tab-any, any-tab}
 use Rattle.memory.proofs.Labels.{code-label}
 use Rattle.columns.specs.Columns.{Kind, kind-free, kind-sewn, kind-critical}
-use Rattle.columns.proofs.Below.{same-test}
 use Rattle.columns.proofs.Thirds.{third-free, third-sewn, third-critical}
 use Rattle.columns.proofs.Question.{Passed}
 use Rattle.cells.proofs.Serials.{mem-map, serials-apart}
@@ -111,7 +110,7 @@ module _ {m : List ℕ} (site : Sited m) (ok : Passed m) where
       test q = critical-with m from q && eqb (face-code m q) (code l)
 
       go : Labelled l → names-face (darts-in m) from l ≡ names-at m from (code l)
-      go (at-place y h c k e) = test-at from l y h c e ∙ same-test (critical-with m from y && eqb (code l) (face-code m y)) (names-at m from (code l))
+      go (at-place y h c k e) = test-at from l y h c e ∙ same-truth (critical-with m from y && eqb (code l) (face-code m y)) (names-at m from (code l))
           (λ t. tab-any test (λ q. q) (count-in m) y h (and-intro (and-left (critical-with m from y) (eqb (code l) (face-code m y)) t) (eq-eqb (face-code m y) (code l) (sym (eqb-true (code l) (face-code m y) (and-right (critical-with m from y) (eqb (code l) (face-code m y)) t))))))
           (λ t. let w = any-tab test (λ q. q) (count-in m) t in
           let z = holder from l (w .0) (w .1) (w .2) in
@@ -132,7 +131,7 @@ module _ {m : List ℕ} (site : Sited m) (ok : Passed m) where
           let least = eqb-true (code l) (face-code m y) (and-right (critical-with m from y) (eqb (code l) (face-code m y)) t) in
           ap (mem (column m 0 p)) (face-at from l y h c e)
           ∙ mem-map (column m 0) p (cycle (column m 1) y) (λ z i. serials-apart site p z hp (stays-in (site .linked) y z h i))
-          ∙ same-test (mem p (cycle (column m 1) y)) (critical-with m from p && eqb (face-code m p) (code l))
+          ∙ same-truth (mem p (cycle (column m 1) y)) (critical-with m from p && eqb (face-code m p) (code l))
           (λ i. and-intro (eq-eqb (column m 3 p) (2 + 4 * from) (one-kind site ok y p h i ∙ kind)) (eq-eqb (face-code m p) (code l) (one-code (site .linked) y p h i ∙ sym least)))
           (λ u. let z = holder from l p hp u in
           let same : z .0 ≡ y = labels-apart m (count-in m) (z .0) y (ok .differ) (z .1) h (z .3) c (z .4 ∙ sym k) in

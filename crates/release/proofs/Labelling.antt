@@ -15,14 +15,14 @@ use Rattle.model.specs.Cells.{cycle, faces, start-of}
 use Rattle.model.specs.Image.{kind-word, link-word, column}
 use Rattle.model.specs.Departure.{Link, label-links, label-faces}
 use Rattle.laws.proofs.Maps.{map-at}
-use Rattle.laws.proofs.Members.{In, in-here, in-there, keep-in}
+use Rattle.laws.proofs.Members.{In, in-here, in-there, keep-in, getD-in}
 use Rattle.laws.proofs.Orbits.{path}
 use Rattle.laws.proofs.Faces.{along-face}
 use Rattle.memory.proofs.Records.{set-there}
 use Rattle.cells.specs.Places.{InOrder, marked, sewn-out}
 use Rattle.cells.proofs.Reached.{places, in-places, places-below, within-places}
 use Rattle.cells.proofs.Paths.{Round, round, Going, going-start, going-next, going-end, apart-places, few-places}
-use Rattle.cells.proofs.FaceLaws.{getD-in, marked-in}
+use Rattle.cells.proofs.FaceLaws.{marked-in}
 use Rattle.cells.proofs.StartLaws.{cycle-start, start-place}
 use Rattle.departure.specs.Asked.{faces-at}
 use Rattle.removal.specs.LetGo.{with-link, with-links, sewn-at, left-behind}

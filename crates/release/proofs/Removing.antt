@@ -10,6 +10,7 @@ use Rattle.model.specs.Lists.{concat}
 use Rattle.model.specs.Image.{room, words, column}
 use Rattle.laws.proofs.Tests.{eq-or-ne, last-or-below}
 use Rattle.laws.proofs.Members.{map-append}
+use Rattle.laws.proofs.Lists.{concat-snoc}
 use Rattle.memory.specs.Record.{record-in, put}
 use Rattle.memory.specs.declared.record.Record.{Record}
 use Rattle.memory.proofs.Records.{length-put}
@@ -94,11 +95,6 @@ module _ (x r : List ℕ) (t : ℕ) (h : 16 + t * 8 ≤ length x) (l : length r 
       ∙ drop-drop (8 + k * 8 - (16 + t * 8)) (16 + t * 8) x ∙ ap (λ (i : ℕ). drop i x) f
 
 -- THE LOOP THAT MOVES RECORDS
-pub concat-snoc : (l : List (List ℕ)) (r : List ℕ) → concat (l ++ r ∷ []) ≡ concat l ++ r
-unfolding concat
-concat-snoc [] r = append-nil r
-concat-snoc (a ∷ l) r = rw (concat-snoc l r, append-assoc)
-
 module _ (g : ℕ → List ℕ) (marks : List ℕ) (i : ℕ) where
   records-one : (getD marks i 0 ≡ 1 → ⊥) → records g marks (i + 1) ≡ records g marks i ++ g i
   unfolding records

@@ -11,7 +11,7 @@ use Rattle.model.specs.Lists.{any, mem, concat, distinct, ascending}
 use Rattle.model.specs.Cells.{cycle, start-of}
 use Rattle.model.specs.Image.{column}
 use Rattle.laws.proofs.Tests.{by-cases, and-intro, and-left, and-right}
-use Rattle.laws.proofs.Members.{In, in-here, in-there, in-eq, any-in, map-in, keep-le, keep-ascending}
+use Rattle.laws.proofs.Members.{In, in-here, in-there, in-eq, any-in, map-in, keep-le, keep-ascending, distinct-map}
 use Rattle.laws.proofs.Orbits.{in-cycle}
 use Rattle.laws.proofs.Faces.{face-sym, along-face}
 use Rattle.laws.proofs.KeptFaces.{kept-distinct, kept-in, in-kept}
@@ -28,17 +28,6 @@ use Rattle.cells.proofs.FaceLaws.{marked-in, in-marked}
 use Rattle.cells.proofs.FaceSerials.{closed-next, closed-opposite}
 use Rattle.cells.proofs.Sited.{Sited, count-in}
 use Rattle.removal.specs.LetGo.{sewn-at}
-
--- different numbers under a function that keeps them apart
-pub distinct-map : (f : ℕ → ℕ) (l : List ℕ) → distinct l ≡ true → ((x y : ℕ) → In x l → In y l → f x ≡ f y → x ≡ y) → distinct (map f l) ≡ true
-distinct-map f [] d h = refl
-distinct-map f (x ∷ l) d h = and-intro (go (mem (f x) (map f l)) refl) (distinct-map f l (and-right (not (mem x l)) _ d) (λ a b i j. h a b (in-there a x l i) (in-there b x l j)))
-  where
-    go : (o : Bool) → mem (f x) (map f l) ≡ o → not (mem (f x) (map f l)) ≡ true
-    go false e = rw e
-    go true e =
-        let r = map-in f l (f x) e in
-        absurd (true≢false (sym (in-eq x (r .0) l (h x (r .0) (in-here x l) (in-there (r .0) x l (r .1)) (r .2)) (r .1)) ∙ not-true (mem x l) (and-left _ _ d)))
 
 -- a kind word whose rest is 1
 pub kind-one : {k a : ℕ} → Kind k a → k % 4 ≡ 1 → k ≡ 1

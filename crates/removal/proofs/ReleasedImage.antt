@@ -17,7 +17,7 @@ use Rattle.model.specs.Departure.{Link, third-or, relink, label-faces, sewn-fac
 use Rattle.answers.specs.Answers.{answered}
 use Rattle.laws.proofs.Tests.{yes-first}
 use Rattle.laws.proofs.Lists.{getD-zeros}
-use Rattle.laws.proofs.Members.{In, in-here, in-there, in-eq, in-map, map-in, keep-map, map-map, map-cong, Each, each-found}
+use Rattle.laws.proofs.Members.{In, in-here, in-there, in-eq, in-map, map-in, keep-map, map-map, map-cong, Each, each-found, keep-cong}
 use Rattle.laws.proofs.Tables.{map-tab}
 use Rattle.theory.proofs.CallLaws.{served-value}
 use Rattle.columns.specs.Columns.{Kind, kind-free, kind-sewn, kind-critical}
@@ -25,7 +25,7 @@ use Rattle.columns.proofs.Thirds.{third-free, third-sewn, third-critical, code-
 use Rattle.columns.proofs.Question.{Passed, image-passed}
 use Rattle.cells.specs.Places.{Marked, marked, sewn-in, volume-of}
 use Rattle.cells.proofs.Reached.{places, places-below}
-use Rattle.cells.proofs.Serials.{keep-cong, serials-apart}
+use Rattle.cells.proofs.Serials.{serials-apart}
 use Rattle.cells.proofs.SewnLaws.{mark-is, question-12}
 use Rattle.cells.proofs.StartLaws.{sewn-faces-serials}
 use Rattle.cells.proofs.Sited.{Sited, darts-in, count-in, sited}

@@ -10,6 +10,7 @@ use lib.Seq.{length-take-le, take-nil, drop-nil, take-all, take-length, drop-len
 use Rattle.model.specs.Layouts.{Layout, Read, group, _⊕_}
 use Rattle.model.specs.Runs.{message-length, cut, messages-in, to-number, addressee}
 use Rattle.laws.proofs.Tests.{lt-or-ge}
+use Rattle.laws.proofs.Lists.{rest-whole}
 use Rattle.groups.proofs.Ends.{group-ends}
 use Rattle.inbox.specs.Inbox.{Took}
 use Rattle.inbox.proofs.Taking.{both-none, both-half, both-took}
@@ -89,10 +90,6 @@ first-part u at end e = let k : end - at ≡ length (first-in (drop at u)) = ome
 
 pub behind-first : (u : List ℕ) (at end : ℕ) → end ≡ at + length (first-in (drop at u)) → rest-in (drop at u) ≡ drop end u
 behind-first u at end e = sym (drop-fits (message-length (drop at u) (group .get (drop at u))) (drop at u)) ∙ drop-drop (length (first-in (drop at u))) at u ∙ ap (λ (n : ℕ). drop n u) (sym e)
-
--- the rest of a slice from a place on
-pub rest-whole : (u : List ℕ) (at : ℕ) → take (length u - at) (drop at u) ≡ drop at u
-rest-whole u at = take-all (length u - at) (drop at u) (let d = length-drop at u in omega (arith, d))
 
 pub first-there : (u : List ℕ) (at : ℕ) {n : ℕ} → n ≡ length (first-in (take (length u - at) (drop at u))) → n ≡ length (first-in (drop at u))
 first-there u at e = e ∙ ap (λ (q : List ℕ). length (first-in q)) (rest-whole u at)

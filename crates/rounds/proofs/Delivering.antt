@@ -14,6 +14,7 @@ use Rattle.model.specs.Departure.{departure-checks, messages}
 use Rattle.model.specs.Calls.{Answer, Result, served, refused, number-of, memories, send, writing}
 use Rattle.model.specs.Runs as runs
 use Rattle.model.specs.Runs.{Round, Step, Done, done, called, stored, run-steps, receiving, releasing, redirect-step, messages-in, send-step, sent-messages, round, written, memory-at}
+use Rattle.laws.proofs.Lists.{rest-whole}
 use Rattle.theory.proofs.CallLaws.{with-fifteen, writing-serves, writing-refuses}
 use Rattle.answers.specs.Answers.{Gives, question, answer-of, written-of}
 use Rattle.answers.specs.declared.Answer as answers
@@ -29,7 +30,7 @@ use Rattle.rounds.specs.declared.Outcome.{Outcome}
 use Rattle.rounds.specs.declared.Outcome.the-variants as outcome
 use Rattle.rounds.specs.Post.{first-in}
 use Rattle.rounds.specs.Played.{on-rack, at-block, asks-for, outcome-of, delivered, Stepped, Ran, Delivered, round-in-order, Played}
-use Rattle.rounds.proofs.Cuts.{first-is, others-are, first-front, rest-whole}
+use Rattle.rounds.proofs.Cuts.{first-is, others-are, first-front}
 use Rattle.rounds.proofs.Placed.{memory-is, no-memory}
 
 -- SEND at a block of the mesh

@@ -12,11 +12,11 @@ use Rattle.model.specs.Lists.{distinct}
 use Rattle.model.specs.Values.{rack}
 use Rattle.model.specs.Sound.{coordinates-finite, links-right, thirds-right, points-agree}
 use Rattle.model.specs.Image.{room, words, block-in, is-image, dart-in}
-use Rattle.laws.proofs.Tests.{by-cases, lt-or-ge, and-left, and-right}
+use Rattle.laws.proofs.Tests.{by-cases, lt-or-ge, and-left, and-right, same-truth}
 use Rattle.laws.proofs.Tables.{length-tab}
 use Rattle.theory.proofs.ImageLaws.{image-is, image-length}
 use Rattle.columns.specs.Columns.{all-below, count, header-test, third-test, point-test, far-test, codes, Ranged, Places, SewnPlaces, Finite, Links, Darts}
-use Rattle.columns.proofs.Below.{same-test, below-at, at-below}
+use Rattle.columns.proofs.Below.{below-at, at-below}
 use Rattle.columns.proofs.Held.{darts}
 use Rattle.columns.proofs.Links.{places, links-yes, links-says, links-apart}
 use Rattle.columns.proofs.ThirdLinks.{sewn-places, thirds-yes, thirds-says}
@@ -135,21 +135,21 @@ module _ (m : List ℕ) where
   -- THE LAST: labels
   pub labels-last : length m ≡ words → {h z d f r : Bool} → h ≡ header-test m → h ≡ true → (z ≡ true) ↔ ZerosFrom m (8 + count m * 8) → z ≡ true → (d ≡ true) ↔ Darts m (count m) → d ≡ true
       → f ≡ all-below (far-test m) (count m) → f ≡ true → r ≡ distinct (codes m (count m)) → r ≡ is-image rack m
-  labels-last len eh yh ez yz ed yd ef yf er = er ∙ same-test (distinct (codes m (count m))) (is-image rack m)
+  labels-last len eh yh ez yz ed yd ef yf er = er ∙ same-truth (distinct (codes m (count m))) (is-image rack m)
       (λ e. passed-image m len (all-passed m (header-says m (sym eh ∙ yh)) (ez .0 yz) (ed .0 yd) (sym ef ∙ yf) e))
       (λ e. image-passed m e .differ)
 
 -- QUESTIONS 5 TO 8, where all before have been answered yes
 module _ (m : List ℕ) (w : Ranged m) where
   pub links-are : {r : Bool} → (r ≡ true) ↔ Links m (count m) → r ≡ links-right (darts m)
-  links-are {r} e = same-test r (links-right (darts m)) (λ y. let l = e .0 y in links-yes m w (l .each) (l .apart)) (λ y. e .1 (record { each = links-says m w y; apart = links-apart m w y }))
+  links-are {r} e = same-truth r (links-right (darts m)) (λ y. let l = e .0 y in links-yes m w (l .each) (l .apart)) (λ y. e .1 (record { each = links-says m w y; apart = links-apart m w y }))
 
   module _ (l : links-right (darts m) ≡ true) where
     pub link-places : Places m (count m)
     link-places = places m (count m) (links-says m w l)
 
     pub thirds-are : all-below (third-test m (count m)) (count m) ≡ thirds-right (darts m)
-    thirds-are = same-test _ _ (λ y. thirds-yes m w link-places (below-at _ (count m) y)) (λ y. at-below _ (count m) (thirds-says m w link-places y))
+    thirds-are = same-truth _ _ (λ y. thirds-yes m w link-places (below-at _ (count m) y)) (λ y. at-below _ (count m) (thirds-says m w link-places y))
 
     module _ (t : thirds-right (darts m) ≡ true) where
       pub third-places : SewnPlaces m (count m)

@@ -18,7 +18,7 @@ use Rattle.model.specs.Departure.{Link, third-or}
 use Rattle.model.specs.Arrival.{Side, sides-of, sides, new-darts, face-serials, face-from, sew-both, part2-links, points-meet, part2-right, insert-all}
 use Rattle.laws.proofs.Faces.{face-self, face-trans, face-sym, face-distinct}
 use Rattle.laws.proofs.Members.{In, in-eq, in-append-left, in-append-right, distinct-left, distinct-right, distinct-apart}
-use Rattle.laws.proofs.Orbits.{iter, path, in-path, iter-stays, around-path, in-cycle}
+use Rattle.laws.proofs.Orbits.{iter, path, in-path, iter-stays, around-path, in-cycle, path-length}
 use Rattle.laws.proofs.Tests.{by-cases, and-left, and-right}
 use Rattle.theory.proofs.BlockLaws.{Links, found-in, found-self, same-point-is}
 use Rattle.theory.proofs.ImageLaws.{parts-of, ranges-of}
@@ -37,10 +37,6 @@ use Rattle.soundness.proofs.Starts.{starts, faces-serials, in-concat, d
 
 not-head : (x y : ℕ) (l : List ℕ) → mem x (y ∷ l) ≡ false → (x ≢ y) × (mem x l ≡ false)
 not-head x y l e = by-cases (eqb x y) (λ q. absurd (true≢false (sym (rw q) ∙ e))) (λ q. (eqb-false x y q, rw q at e))
-
-path-length : (f : ℕ → ℕ) (n x : ℕ) → length (path f n x) ≡ n
-path-length f zero x = refl
-path-length f (suc n) x = ap suc (path-length f n (f x))
 
 module _ (lim : Limits) (b : Block) (t : Transfer) (small : lim .block-darts ≤ 4096) (s : sound-block lim b ≡ true) (F : Fits t) (P : Passed lim b t) where
   abbrev ds : List Dart

@@ -13,7 +13,7 @@ use Rattle.model.specs.Lists.{all, keep, concat, concat-map, collect, more, mem
 use Rattle.model.specs.Values.{Third, free, sewn, critical, Dart, Block, Limits, rack, code, label-of, is-critical-with}
 use Rattle.model.specs.Cells.{around, cycle, faces, start-of, next-in, opposite-in, third-at, vertex, vertices, volume-in, faces-in, labels-along, least-label, dart-at}
 use Rattle.laws.proofs.Faces.{faces-distinct, order-only}
-use Rattle.laws.proofs.Members.{In, in-here, in-there, in-keep, keep-in, keep-less, keep-ascending, ascending-distinct, distinct-not, Each}
+use Rattle.laws.proofs.Members.{In, in-here, in-there, in-keep, keep-in, keep-less, keep-ascending, ascending-distinct, distinct-not, Each, distinct-fewer, firsts-fewer, keep-le}
 use Rattle.laws.proofs.Tests.{by-cases, and-left, and-right, not-equal, yes-then, no-more, first-no-append, first-no-stays}
 use Rattle.model.specs.Departure.{is-sewn-out-of, departure-checks, Placed, placed, part2-entry, part3-from, part4-entry, transfer-of, least-labels, update-for, updates-of, messages}
 use Rattle.model.specs.Calls.{writing, send}
@@ -22,20 +22,12 @@ use Rattle.model.specs.Image.{room, block-in, memory-checks}
 use Rattle.model.specs.Sound.{sound-block}
 use Rattle.model.specs.Layouts.{Layout, group, _⊗_, _⊕_, as-type, such-that, at-most, exactly, put-all, times, counted, framed}
 use Rattle.model.specs.Messages.{FaceDart, Part4, Transfer, Update, point, face-dart, part1, part2, part3, part4, transfer, update}
-use Rattle.agreement.proofs.SentLayout.{collect-fewer, placed-count, firsts-fewer, faces-fewer}
+use Rattle.laws.proofs.Orbits.{around-some}
+use Rattle.agreement.proofs.SentLayout.{collect-fewer, placed-count, faces-fewer}
 use Rattle.theory.proofs.LayoutLengths.{group-short, counted-short, point-short, at-most-short, exactly-short, face-dart-short, part2-short, part3-short, each-of, part4-short, update-short}
 use Rattle.theory.proofs.CallLaws.{asked-number}
 use Rattle.soundness.proofs.ReleaseSound.{asked, closed-next, in-order, v-few, v-one}
 use Rattle.soundness.proofs.Served.{after-memory}
-
--- a list without repeats is not longer than one that has its members
-distinct-few : (l r : List ℕ) → distinct l ≡ true → ((x : ℕ) → In x l → In x r) → length l ≤ length r
-distinct-few [] r d h = omega arith
-distinct-few (x ∷ l) r d h =
-    let ih = distinct-few l (keep (λ y. not (eqb x y)) r) (and-right (not (mem x l)) _ d)
-    (λ y k. in-keep (λ z. not (eqb x z)) y r (h y (in-there y x l k)) (not-equal x y (λ e. distinct-not x l d y k (sym e)))) in
-    let less = keep-less (λ y. not (eqb x y)) x r (h x (in-here x l)) (ap not (eq-eqb x x refl)) in
-    omega arith
 
 -- EACH FACE IS IN ONE UPDATE AT MOST
 module _ (third : List ℕ → Third) where
@@ -92,10 +84,6 @@ module _ (third : List ℕ → Third) where
       omega (arith, length-append f (concat fs))
 
 -- LENGTHS, in terms of the faces: n darts, k faces
-kept-fewer : {A : Type 0} (q : A → Bool) (l : List A) → length (keep q l) ≤ length l
-kept-fewer q [] = omega arith
-kept-fewer q (a ∷ l) = by-cases (q a) (λ e. rw e (let i = kept-fewer q l in omega arith)) (λ e. rw e (let i = kept-fewer q l in omega arith))
-
 module _ (ds : List Dart) where
   along-few : (f : List ℕ) → length (labels-along ds f) ≤ length f
   unfolding labels-along
@@ -103,7 +91,7 @@ module _ (ds : List Dart) where
 
   least-few : (f : List ℕ) → length (least-labels ds f) ≤ length f
   unfolding least-labels
-  least-few f = let a = kept-fewer (λ l. eqb (code l) (least-label ds f)) (labels-along ds f) in let b = along-few f in omega arith
+  least-few f = let a = keep-le (λ l. eqb (code l) (least-label ds f)) (labels-along ds f) in let b = along-few f in omega arith
 
   least-all : (fs : List (List ℕ)) → length (concat-map (least-labels ds) fs) ≤ length (concat fs)
   unfolding concat
@@ -200,10 +188,6 @@ transfer-long t p f a b c hp hf ha hb hc =
       length-append (counted part3 .put (t .part3)) (counted (part4 (t .faces)) .put (t .part4)),
     )
 
-around-some : (f : ℕ → ℕ) (start n x : ℕ) → 0 < length (around f start (suc n) x)
-unfolding around
-around-some f start n x = omega arith
-
 -- OF A VOLUME
 module _ (lim : Limits) (b : Block) (fits : lim .block-darts ≤ 4096) (few-sent : lim .volume-darts ≤ 512) (sound : sound-block lim b ≡ true) (j s : ℕ)
     (asks : first-no (departure-checks (lim .volume-darts) b j s) ≡ 0) where
@@ -234,7 +218,7 @@ module _ (lim : Limits) (b : Block) (fits : lim .block-darts ≤ 4096) (few-sent
 
   pub darts-few : length (concat F) ≤ 512
   unfolding faces-in
-  darts-few = let a = distinct-few (concat F) v ordered (order-only (next-in ds) v stays one small) in let c = asked lim b fits sound j s asks .few-moved in omega arith
+  darts-few = let a = distinct-fewer (concat F) v ordered (order-only (next-in ds) v stays one small) in let c = asked lim b fits sound j s asks .few-moved in omega arith
 
   some-dart : (l : List ℕ) → Each (λ f. 0 < length f) (map (cycle (next-in ds)) l)
   unfolding cycle
@@ -267,7 +251,7 @@ module _ (lim : Limits) (b : Block) (fits : lim .block-darts ≤ 4096) (few-sent
       let sent = keep (λ p. is-sewn-out-of v (third-at ds (start-of (p .face)))) (placed 0 F) in
       let ps = part3-from (b .counter) (map (λ p. p .at) sent) in
       let a = counted-short part3 10 ps (each-of ps part3-short) in
-      let c = kept-fewer (λ p. is-sewn-out-of v (third-at ds (start-of (p .face)))) (placed 0 F) in
+      let c = keep-le (λ p. is-sewn-out-of v (third-at ds (start-of (p .face)))) (placed 0 F) in
       omega (arith, part3-count (b .counter) (map (λ p. p .at) sent), length-map sent (λ p. p .at), placed-count 0 F)
 
   faces-long : length (counted (counted face-dart) .put (transfer-of b j s .faces)) ≤ 5 + (length F * 5 + length (concat F) * 10)

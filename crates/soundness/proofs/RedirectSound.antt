@@ -17,9 +17,9 @@ use Rattle.model.specs.Messages.{Update}
 use Rattle.model.specs.Departure.{Link, third-or, relink}
 use Rattle.model.specs.Arrival.{face-with, names-face, update-right, update-links, redirected}
 use Rattle.laws.proofs.Faces.{face, face-trans, face-sym}
-use Rattle.laws.proofs.Members.{In}
+use Rattle.laws.proofs.Members.{In, keep-true}
 use Rattle.laws.proofs.Orbits.{in-cycle, cycle-closed}
-use Rattle.laws.proofs.Tests.{by-cases, and-intro, and-left, and-right}
+use Rattle.laws.proofs.Tests.{by-cases, and-intro, and-left, and-right, same-truth}
 use Rattle.theory.proofs.BlockLaws.{found-in}
 use Rattle.soundness.proofs.Pointwise.{CriticalRight, Right, right-of, links-of, right-sound}
 use Rattle.soundness.proofs.Rethird.{left, T, Stays, Fits, third-left, next-left, right-left}
@@ -96,15 +96,6 @@ module _ (ds : List Dart) (o : ℕ) where
   third-told : (x : ℕ) (ls : List Label) → third-or (third-at ds x) (find (λ k. k .dart) x (concat-map (λ l. map link-to (face-with ds l)) ls)) ≡ told-third o (told ls x) (third-at ds x)
   third-told x ls = ap (third-or (third-at ds x)) (found-told x ls) ∙ by-cases (told ls x) (λ e. rw e) (λ e. rw e)
 
-keep-all : (ds : List Dart) → keep (λ d. true) ds ≡ ds
-keep-all [] = refl
-keep-all (d ∷ ds) = ap (λ (l : List Dart). d ∷ l) (keep-all ds)
-
-both-ways : (a b : Bool) → (a ≡ true → b ≡ true) → (b ≡ true → a ≡ true) → a ≡ b
-both-ways true b f g = sym (f refl)
-both-ways false true f g = g refl
-both-ways false false f g = refl
-
 -- FACES OF A SOUND BLOCK
 module _ (lim : Limits) (b : Block) (fits : lim .block-darts ≤ 4096) (sound : sound-block lim b ≡ true) where
   abbrev ds : List Dart
@@ -125,7 +116,7 @@ module _ (lim : Limits) (b : Block) (fits : lim .block-darts ≤ 4096) (sound : 
   -- x is on a face exactly if next x is
   pub face-next : (e x : ℕ) → In e v → In x v → mem (next-in ds x) (cycle (next-in ds) e) ≡ mem x (cycle (next-in ds) e)
   unfolding cycle
-  face-next e x he hx = both-ways _ _
+  face-next e x he hx = same-truth _ _
       (λ k. face-trans (next-in ds) v (R .next-held) next-one few e (next-in ds x) x he k (face-sym (next-in ds) v (R .next-held) next-one few x (next-in ds x) hx on))
       (λ k. cycle-closed (next-in ds) v (R .next-held) next-one 4096 e x few he k)
     where
@@ -231,5 +222,5 @@ module _ (lim : Limits) (b : Block) (fits : lim .block-darts ≤ 4096) (sound : 
 
       pub redirected-sound : sound-block lim (redirected b u) ≡ true
       unfolding redirected
-      redirected-sound = subst (λ (l : List Dart). sound-block lim (record { number = b .number; counter = b .counter; darts = map (relink ks) l }) ≡ true) (keep-all ds)
+      redirected-sound = subst (λ (l : List Dart). sound-block lim (record { number = b .number; counter = b .counter; darts = map (relink ks) l }) ≡ true) (keep-true ds)
           (right-sound lim (b .number) (b .counter) (left lim (b .number) (b .counter) ds R ks q) (right-left lim (b .number) (b .counter) ds R ks q (b .counter) fit))

@@ -8,16 +8,13 @@ use lib.ListN.{length, take, drop, set, take-append-drop, drop-of-length-le, len
 use lib.Seq.{sets, drop-set-add, take-set-le, take-all}
 use borrow.Rule.Slice.PartMut.{putMid}
 use Rattle.groups.specs.Slices.{Stored}
+use Rattle.laws.proofs.Lists.{rest-whole}
 
 -- stores after the first at
 into-rest : (xs l : List ℕ) (at j : ℕ) → take at l ++ sets (drop at l) j xs ≡ sets l (at + j) xs
 into-rest [] l at j = take-append-drop at l
 into-rest (x ∷ xs) l at j =
     rw (← drop-set-add at l j x, ← take-set-le at l (at + j) x (le-add-right at j)) (into-rest xs (set l (at + j) x) at (suc j) ∙ ap (λ (n : ℕ). sets (set l (at + j) x) n xs) (add-suc at j))
-
--- the part is the whole rest
-rest-whole : (l : List ℕ) (at : ℕ) → take (length l - at) (drop at l) ≡ drop at l
-rest-whole l at = take-all (length l - at) (drop at l) (omega (arith, length-drop at l))
 
 rest-back : (xs l ys : List ℕ) (at : ℕ) → at ≤ length l → ys ≡ sets (take (length l - at) (drop at l)) 0 xs → putMid at (length l - at) l ys ≡ sets l at xs
 rest-back xs l ys at h e =

@@ -16,12 +16,13 @@ use Rattle.model.specs.Image.{room, words, column}
 use Rattle.laws.specs.Order.{Ascending}
 use Rattle.laws.proofs.Tests.{lt-or-ge, eq-or-ne}
 use Rattle.laws.proofs.Maps.{tab-more}
+use Rattle.laws.proofs.Lists.{concat-snoc}
 use Rattle.memory.specs.Record.{record-in, put}
 use Rattle.memory.specs.declared.record.Record.{Record}
 use Rattle.memory.proofs.Records.{length-put}
 use Rattle.removal.specs.LetGo.{moved-link, moved-words}
 use Rattle.release.specs.Asks.{Tabled, Bounded}
-use Rattle.release.proofs.Removing.{length-moved, same-words, concat-snoc}
+use Rattle.release.proofs.Removing.{length-moved, same-words}
 use Rattle.weave.specs.Weave.{below, up, Between, last-old, behind, weave, moved-record, rows, woven-at, Weaves}
 
 -- COUNTS

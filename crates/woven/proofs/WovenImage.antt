@@ -15,7 +15,7 @@ use Rattle.model.specs.Arrival.{insert-all}
 use Rattle.laws.specs.Order.{Ascending}
 use Rattle.laws.proofs.Tests.{by-cases}
 use Rattle.laws.proofs.Lists.{getD-zeros}
-use Rattle.laws.proofs.Members.{In, in-map, map-in, map-map, each-map}
+use Rattle.laws.proofs.Members.{In, in-map, map-in, map-map, each-map, distinct-map}
 use Rattle.laws.proofs.Tables.{one-place, find-place, tab-ascending, map-tab}
 use Rattle.theory.proofs.ImageLaws.{tab-list, getD-serial}
 use Rattle.columns.specs.Columns.{Kind, kind-free}
@@ -25,7 +25,6 @@ use Rattle.cells.specs.Places.{Linked}
 use Rattle.cells.proofs.Sited.{count-in, sited}
 use Rattle.removal.specs.LetGo.{moved-words}
 use Rattle.removal.proofs.ReleasedImage.{link-moved}
-use Rattle.removal.proofs.CutFaces.{distinct-map}
 use Rattle.weave.specs.Weave.{up, Between, weave, rows, woven-at}
 use Rattle.woven.specs.Woven.{Drafted}
 use Rattle.woven.proofs.Positions.{Rows, woven-rows, keys, woven-keys, index-old, index-new, map-weave, keep-weave}
