@@ -14,8 +14,7 @@ const CELLS: [usize; 3] = [22, 10, 4];
 pub fn blocks() -> Vec<Block> {
     let map = shapes::grid(SIZE, Filling::Hexahedra);
     let darts = Filling::Hexahedra.darts();
-    let home: Vec<usize> =
-        CELLS.iter().enumerate().flat_map(|(block, cells)| vec![block; cells * darts]).collect();
+    let home: Vec<usize> = CELLS.iter().enumerate().flat_map(|(block, cells)| vec![block; cells * darts]).collect();
     let serials: Vec<u32> = (1..).take(map.len()).collect();
     let mut number = 0;
     let labels = label_crossings(&map, &home, |size| {
