@@ -2,7 +2,7 @@
 use mathlib.Core.Path.{_≡_, refl, sym, _∙_, ap, subst}
 use mathlib.Core.Bool.{Bool, true, false, true≢false, not, _&&_}
 use mathlib.Core.List.{List, [], _∷_, map}
-use Prim.Native.Nat.{ℕ, zero, suc, _+_, _*_, _≤_, _<_}
+use Prim.Native.Nat.{ℕ, _+_, _*_, _≤_, _<_}
 use native.Mathlib.Omega.{arith}
 use lib.Dec.{leb, ltb, eqb}
 use lib.ListN.{length, getD, take, length-map}
@@ -13,9 +13,9 @@ use Rattle.model.specs.Image.{column}
 use Rattle.model.specs.Messages.{Transfer}
 use Rattle.model.specs.Arrival.{Side, sides, new-darts, faces-ordered, pairs-right, one-volume, vertices-right, volume-right}
 use Rattle.laws.proofs.Tests.{by-cases, and-intro, and-left, and-right, same-list-is}
-use Rattle.laws.proofs.Members.{In, in-map, keep-le, distinct-not}
+use Rattle.laws.proofs.Members.{In, in-map, keep-le}
 use Rattle.laws.proofs.Maps.{map-at}
-use Rattle.laws.proofs.Tables.{length-tab, getD-tab, map-tab, tab-all, all-tab, mem-place}
+use Rattle.laws.proofs.Tables.{length-tab, getD-tab, map-tab, tab-all, all-tab}
 use Rattle.theory.proofs.ImageLaws.{place-back}
 use Rattle.cells.specs.Places.{Numbered, places-in, volume-of}
 use Rattle.cells.proofs.FaceLaws.{getD-in}
@@ -27,6 +27,7 @@ use Rattle.arrival.specs.Draft.{Paired, draft-record, Draftable, Drafted
 use Rattle.arrival.proofs.SideLaws.{sides-are}
 use Rattle.arrival.proofs.OrderLaws.{order-is}
 use Rattle.arrival.proofs.SegmentLaws.{segments}
+use Rattle.arrival.proofs.CoupleLaws.{tab-apart}
 use Rattle.arrival.proofs.PairLaws.{pairs-is}
 use Rattle.arrival.proofs.VolumeLaws.{volume-is, vertices-are}
 
@@ -44,14 +45,6 @@ module _ (nx op : ℕ → ℕ) (order : List ℕ) where
   number-below : (x : ℕ) → In x order → vertex-number nx op order x < length (vertices nx op order)
   unfolding vertex-number vertices
   number-below x h = place-back (vertex nx op x) (firsts (map (vertex nx op) order)) (mem-firsts (vertex nx op x) (map (vertex nx op) order) ∙ in-map (vertex nx op) x order h) .1
-
--- values that differ are those of different indices
-tab-apart : (f : ℕ → ℕ) (n : ℕ) → distinct (tab f n) ≡ true → (i j : ℕ) → i < n → j < n → f i ≡ f j → i ≡ j
-tab-apart f zero d i j hi hj e = absurd (omega (arith, hi))
-tab-apart f (suc n) d zero zero hi hj e = refl
-tab-apart f (suc n) d zero (suc j) hi hj e = absurd (distinct-not (f 0) (tab (λ k. f (suc k)) n) d (f (suc j)) (mem-place (λ k. f (suc k)) n j (f (suc j)) (omega (arith, hj)) refl) (sym e))
-tab-apart f (suc n) d (suc i) zero hi hj e = absurd (distinct-not (f 0) (tab (λ k. f (suc k)) n) d (f (suc i)) (mem-place (λ k. f (suc k)) n i (f (suc i)) (omega (arith, hi)) refl) e)
-tab-apart f (suc n) d (suc i) (suc j) hi hj e = ap suc (tab-apart (λ k. f (suc k)) n (and-right (not (mem (f 0) (tab (λ k. f (suc k)) n))) _ d) i j (omega (arith, hi)) (omega (arith, hj)) e)
 
 and-false : (a : Bool) → (a && false) ≡ false
 and-false true = refl

@@ -1,37 +1,26 @@
 -- `redirect::each_named` meets its contract: an index is marked where a face has its code.
 -- Assumes nothing.
 use Rattle.redirect.proofs.Hits.{each-named}
-use native.Mathlib.Omega.{arith}
 use borrow.Author.Needs.{needs}
 use Rattle.redirect.proofs.each_named.Statement.{statement}
 use Rattle.redirect.proofs.each_named.Tie as tie
-use Rattle.redirect.proofs.each_named.Reads as reads
-use Rattle.redirect.proofs.each_named.Lts as lts
-use Rattle.redirect.proofs.named.all_hit.Reads as all-hit-reads
-use Rattle.redirect.proofs.named.index_faces.Reads as index-faces-reads
 
--- src/lib.rt:64:57
 slice-aggregate-index-faces : tie.Need-slice-aggregate-index-faces
 slice-aggregate-index-faces c = search needs
 
--- src/lib.rt:64:5
 index-faces-requires : tie.Need-index-faces-requires
 index-faces-requires c κs =
     (c .before .before .before .before .before .pre .0, c .before .before .before .before .before .pre .1, c .before .before .before .before .before .pre .2, c .before .before .before .before .before .pre .3, c .before .before .before .before .before .pre .4, search needs)
 
--- src/lib.rt:65:20
 slice-aggregate-all-hit : tie.Need-slice-aggregate-all-hit
 slice-aggregate-all-hit c = search needs
 
--- src/lib.rt:65:5
 all-hit-requires : tie.Need-all-hit-requires
 all-hit-requires c κs = search needs
 
--- src/lib.rt:52:1
 same-length : tie.Need-same-length
 same-length c = search needs
 
--- src/lib.rt:52:1
 returns : tie.Need-returns
 returns c =
     each-named (c .before .before .before .before .before .before .before .before .before .before .before .args .block .now) (c .before .before .before .before .before .before .before .before .before .before .before .args .from) (c .before .before .before .before .before .before .before .before .before .before .before .pre .3) (c .before .before .before .before .before .before .before .before .before .before .before .pre .1) (c .before .before .before .before .before .index-faces .ensures .0) (c .before .before .before .before .before .index-faces .ensures .1) (c .all-hit .ensures)

@@ -13,9 +13,6 @@ use native.Mathlib.Omega.{arith}
 use borrow.Author.Needs.{needs}
 use Rattle.arrival.proofs.serials.all_new.Statement.{statement}
 use Rattle.arrival.proofs.serials.all_new.Tie as tie
-use Rattle.arrival.proofs.serials.all_new.Reads as reads
-use Rattle.arrival.proofs.serials.all_new.Lts as lts
-use Rattle.arrival.proofs.serials.gap_of.Reads as gap-of-reads
 
 abbrev Inv-loop : tie.InvT-loop
 Inv-loop block n serial k near₀ i₀ near i =
@@ -25,43 +22,34 @@ abbrev μ-loop : tie.MeasureT-loop
 μ-loop block n serial k near₀ i₀ near i =
     k - i
 
--- src/serials.rt:120:5
 loop-holds : tie.Need-loop-holds Inv-loop μ-loop
 loop-holds c =
     (omega arith, passing-none _)
 
--- src/serials.rt:121:36
 mul-gap-of : tie.Need-mul-gap-of Inv-loop μ-loop
 mul-gap-of c = search needs
 
--- src/serials.rt:121:36
 shared-slice-read-gap-of : tie.Need-shared-slice-read-gap-of Inv-loop μ-loop
 shared-slice-read-gap-of c = search needs
 
--- src/serials.rt:121:13
 gap-of-requires : tie.Need-gap-of-requires Inv-loop μ-loop
 gap-of-requires c κs =
     (c .before .before .before .before .before .pre .0, c .before .before .before .before .before .pre .1, c .before .before .before .before .before .pre .2, c .before .before .before .before .before .pre .3, c .before .before .before .before .before .pre .4, c .before .before .before .before .before .pre .7 (c .before .before .loop .i) (c .before .loop-test .taken), c .before .before .loop .inv .0)
 
--- src/serials.rt:123:13
 returns : tie.Need-returns Inv-loop μ-loop
 returns c =
     passing-not (λ j. leb 1 (getD (c .before .before .before .before .before .before .before .args .serial .now) j 0) && not (held (block-in (c .before .before .before .before .before .before .before .args .block .now) .darts) (getD (c .before .before .before .before .before .before .before .args .serial .now) j 0))) (c .before .before .before .before .loop .i) (c .before .before .before .before .before .before .before .args .k) (omega arith) (sym (c .before .gap-of .ensures) ∙ lt-leb _ _ (c .if1 .taken))
 
--- src/serials.rt:126:9
 add-i : tie.Need-add-i Inv-loop μ-loop
 add-i c = search needs
 
--- src/serials.rt:120:5
 loop-less : tie.Need-loop-less Inv-loop μ-loop
 loop-less c = search needs
 
--- src/serials.rt:120:5
 loop-again : tie.Need-loop-again Inv-loop μ-loop
 loop-again c =
     (omega arith, passing-more (c .before .before .before .before .loop .inv .1) (sym (c .before .gap-of .ensures) ∙ le-leb (c .before .gap-of .result) (c .before .before .before .before .before .before .before .args .n) (omega (arith, c .if1 .left))))
 
--- src/serials.rt:113:1
 returns-2 : tie.Need-returns-2 Inv-loop μ-loop
 returns-2 c =
     passing-all {k = c .before .before .before .before .args .k} (c .before .loop .inv .1) (omega arith)

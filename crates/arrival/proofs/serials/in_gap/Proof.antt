@@ -1,37 +1,28 @@
 -- `arrival::serials::in_gap` meets its contract.
 -- Assumes nothing.
 use borrow.Author.Tests.{ltb-true, not-true, not-false}
-use mathlib.Core.Path.{sym, subst}
+use mathlib.Core.Path.{sym}
 use mathlib.Core.Bool.{true≢false}
 use Rattle.arrival.proofs.Eighteen.{gap-none}
 use native.Mathlib.Omega.{arith}
 use borrow.Author.Needs.{needs}
 use Rattle.arrival.proofs.serials.in_gap.Statement.{statement}
 use Rattle.arrival.proofs.serials.in_gap.Tie as tie
-use Rattle.arrival.proofs.serials.in_gap.Reads as reads
-use Rattle.arrival.proofs.serials.in_gap.Lts as lts
-use Rattle.arrival.proofs.serials.is_past.Reads as is-past-reads
-use Rattle.memory.proofs.record.field.Reads as field-reads
 
--- src/serials.rt:80:9
 is-past-requires : tie.Need-is-past-requires
 is-past-requires c κs = search needs
 
--- src/serials.rt:81:9
 returns : tie.Need-returns
 returns c =
     (λ e. absurd (true≢false (sym e)), λ e. let h = c .before .is-past .ensures .1 (not-true _ (c .if1 .taken)) in omega (arith, h, c .before .before .before .pre .2))
 
--- src/serials.rt:84:25
 field-requires : tie.Need-field-requires
 field-requires c κs = search needs
 
--- src/serials.rt:84:9
 returns-2 : tie.Need-returns-2
 returns-2 c =
     (λ e. gap-none (c .before .before .before .before .before .pre .3) (c .before .before .before .before .before .pre .2) (c .before .before .before .is-past .ensures .0 (not-false _ (c .before .before .if1 .left))) (λ h. let l = ltb-true (c .before .before .before .before .before .args .serial) (c .field .result) e in omega (arith, l, c .field .ensures)), λ e. omega (arith, c .before .if2 .taken))
 
--- src/serials.rt:76:1
 returns-3 : tie.Need-returns-3
 returns-3 c =
     (λ e. gap-none (c .before .before .before .before .pre .3) (c .before .before .before .before .pre .2) (c .before .before .is-past .ensures .0 (not-false _ (c .before .if1 .left))) (λ h. absurd (omega (arith, h, c .if2 .left))), λ e. absurd (true≢false e))

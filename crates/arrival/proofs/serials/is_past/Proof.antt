@@ -1,30 +1,22 @@
 -- `arrival::serials::is_past` meets its contract.
 -- Assumes nothing.
 use borrow.Author.Tests.{ltb-true}
-use mathlib.Core.Path.{sym}
 use mathlib.Core.Bool.{true≢false}
 use native.Mathlib.Omega.{arith}
 use borrow.Author.Needs.{needs}
 use Rattle.arrival.proofs.serials.is_past.Statement.{statement}
 use Rattle.arrival.proofs.serials.is_past.Tie as tie
-use Rattle.arrival.proofs.serials.is_past.Reads as reads
-use Rattle.arrival.proofs.serials.is_past.Lts as lts
-use Rattle.memory.proofs.record.field.Reads as field-reads
 
--- src/serials.rt:70:9
 returns : tie.Need-returns
 returns c =
     (λ e h. omega (arith, h, c .if1 .taken), λ e. absurd (true≢false e))
 
--- src/serials.rt:72:32
 sub-t6 : tie.Need-sub-t6
 sub-t6 c = search needs
 
--- src/serials.rt:72:5
 field-requires : tie.Need-field-requires
 field-requires c κs = search needs
 
--- src/serials.rt:65:1
 returns-2 : tie.Need-returns-2
 returns-2 c =
     (λ e h. let l = ltb-true (c .field .result) (c .before .before .before .args .serial) e in omega (arith, l, c .field .ensures), λ e. omega (arith, c .before .if1 .left))

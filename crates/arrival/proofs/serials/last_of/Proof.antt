@@ -8,10 +8,6 @@ use native.Mathlib.Omega.{arith}
 use borrow.Author.Needs.{needs}
 use Rattle.arrival.proofs.serials.last_of.Statement.{statement}
 use Rattle.arrival.proofs.serials.last_of.Tie as tie
-use Rattle.arrival.proofs.serials.last_of.Reads as reads
-use Rattle.arrival.proofs.serials.last_of.Lts as lts
-use Rattle.memory.proofs.record.field.Reads as field-reads
-use Rattle.ranking.proofs.up.Reads as up-reads
 
 abbrev Inv-loop : tie.InvT-loop
 Inv-loop block n serial low₀ left₀ low left =
@@ -21,38 +17,30 @@ abbrev μ-loop : tie.MeasureT-loop
 μ-loop block n serial low₀ left₀ low left =
     left
 
--- src/serials.rt:55:5
 loop-holds : tie.Need-loop-holds Inv-loop μ-loop
 loop-holds c =
     halving-start _ _ _ (c .before .pre .0)
 
--- src/serials.rt:57:49
 add-t9 : tie.Need-add-t9 Inv-loop μ-loop
 add-t9 c = search needs
 
--- src/serials.rt:57:13
 field-requires : tie.Need-field-requires Inv-loop μ-loop
 field-requires c κs = search needs
 
--- src/serials.rt:58:9
 up-requires : tie.Need-up-requires Inv-loop μ-loop
 up-requires c κs =
     (omega arith, (let small = c .before .before .before .before .pre .4 (c .before .before .loop .low + c .before .before .loop .left / 2) (omega arith) in omega (arith, small, c .field .ensures)), (let small = c .before .before .before .before .pre .5 in omega (arith, small)))
 
--- src/serials.rt:59:9
 sub-left : tie.Need-sub-left Inv-loop μ-loop
 sub-left c = search needs
 
--- src/serials.rt:55:5
 loop-less : tie.Need-loop-less Inv-loop μ-loop
 loop-less c = search needs
 
--- src/serials.rt:55:5
 loop-again : tie.Need-loop-again Inv-loop μ-loop
 loop-again c =
     halving-on (c .before .before .before .before .before .pre .3) (c .before .before .before .loop .inv) (c .before .before .loop-test .taken) (c .before .field .ensures) (c .up .ensures)
 
--- src/serials.rt:48:1
 returns : tie.Need-returns Inv-loop μ-loop
 returns c =
     (omega arith, λ p h e. let k = c .before .loop .inv .within p h e in omega (arith, k .0, k .1, c .loop-test .left))

@@ -10,10 +10,6 @@ use native.Mathlib.Omega.{arith}
 use borrow.Author.Needs.{needs}
 use Rattle.redirect.proofs.named.rewrite.Statement.{statement}
 use Rattle.redirect.proofs.named.rewrite.Tie as tie
-use Rattle.redirect.proofs.named.rewrite.Reads as reads
-use Rattle.redirect.proofs.named.rewrite.Lts as lts
-use Rattle.memory.proofs.record.put_field.Reads as put-field-reads
-use Rattle.redirect.proofs.named.wide.Reads as wide-reads
 
 abbrev Inv-loop : tie.InvT-loop
 Inv-loop block₀ n word table c p₀ block p =
@@ -23,64 +19,51 @@ abbrev μ-loop : tie.MeasureT-loop
 μ-loop block₀ n word table c p₀ block p =
     n - p
 
--- src/named.rt:77:5
 loop-holds : tie.Need-loop-holds Inv-loop μ-loop
 loop-holds c =
     (omega arith, rewritten-start _ _ _)
 
--- src/named.rt:78:22
 mul-wide : tie.Need-mul-wide Inv-loop μ-loop
 mul-wide c =
     omega (arith, c .loop-test .taken, c .before .before .before .before .pre .0)
 
--- src/named.rt:78:22
 shared-slice-read-wide : tie.Need-shared-slice-read-wide Inv-loop μ-loop
 shared-slice-read-wide c =
     omega (arith, c .before .loop-test .taken, c .before .before .before .before .before .pre .0, c .before .before .before .before .before .pre .2)
 
--- src/named.rt:78:17
 wide-requires : tie.Need-wide-requires Inv-loop μ-loop
 wide-requires c κs = search needs
 
--- src/named.rt:79:13
 add-p : tie.Need-add-p Inv-loop μ-loop
 add-p c = search needs
 
--- src/named.rt:77:5
 loop-less : tie.Need-loop-less Inv-loop μ-loop
 loop-less c =
     omega (arith, c .before .before .before .loop-test .taken)
 
--- src/named.rt:77:5
 loop-again : tie.Need-loop-again Inv-loop μ-loop
 loop-again c =
     (omega (arith, c .before .before .before .loop-test .taken), rewriting-skip (c .before .before .before .before .before .before .before .args .table .now) (c .before .before .before .before .before .before .before .args .c) (c .before .before .before .before .loop .inv .1) (omega (arith, c .if1 .taken, c .before .wide .ensures)))
 
--- src/named.rt:82:9
 put-field-requires : tie.Need-put-field-requires Inv-loop μ-loop
 put-field-requires c κs =
     (omega (arith, c .before .before .before .before .loop-test .taken, c .before .before .before .before .before .before .before .before .pre .0), omega arith, c .before .before .before .before .before .loop .inv .1 .size ∙ c .before .before .before .before .before .before .before .before .pre .1)
 
--- src/named.rt:83:9
 add-p-2 : tie.Need-add-p-2 Inv-loop μ-loop
 add-p-2 c = search needs
 
--- src/named.rt:77:5
 loop-less-2 : tie.Need-loop-less-2 Inv-loop μ-loop
 loop-less-2 c =
     omega (arith, c .before .before .before .before .before .before .before .loop-test .taken)
 
--- src/named.rt:77:5
 loop-again-2 : tie.Need-loop-again-2 Inv-loop μ-loop
 loop-again-2 c =
     (omega (arith, c .before .before .before .before .before .before .before .loop-test .taken), rewriting-set (c .before .before .before .before .before .before .before .before .before .before .before .args .table .now) (c .before .before .before .before .before .before .before .before .before .before .before .args .c) (c .before .before .before .before .before .before .before .before .loop .inv .1) (omega (arith, c .before .before .before .before .if1 .left, c .before .before .before .before .before .wide .ensures)) (omega (arith, c .before .before .before .before .before .before .before .loop-test .taken, c .before .before .before .before .before .before .before .before .before .before .before .pre .0, c .before .before .before .before .before .before .before .before .before .before .before .pre .1)) (c .before .before .put-field .ensures))
 
--- src/named.rt:71:1
 same-length : tie.Need-same-length Inv-loop μ-loop
 same-length c =
     c .before .loop .inv .1 .size
 
--- src/named.rt:71:1
 returns : tie.Need-returns Inv-loop μ-loop
 returns c =
     rewritten-end (c .before .loop .inv .0) (c .loop-test .left) (c .before .loop .inv .1)
