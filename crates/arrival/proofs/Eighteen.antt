@@ -1,8 +1,10 @@
 -- Question 18 by index. Assumes nothing.
-use mathlib.Core.Path.{_≡_, refl, sym, _∙_, subst}
+use mathlib.Core.Path.{_≡_, refl, sym, _∙_, ap, subst}
 use mathlib.Core.Bool.{Bool, true, false, true≢false, not, _&&_}
 use mathlib.Core.List.{List}
-use Prim.Native.Nat.{ℕ, _+_, _*_, _≤_, _<_}
+use mathlib.Core.Logic.{⊎-elim}
+use Prim.Native.Nat.{ℕ, _+_, _-_, _*_, _≤_, _<_}
+use native.Mathlib.Nat.{eq-or-lt-of-le}
 use native.Mathlib.Omega.{arith}
 use lib.Dec.{leb}
 use lib.ListN.{length, getD, take}
@@ -15,11 +17,12 @@ use Rattle.model.specs.Cells.{held}
 use Rattle.model.specs.Image.{column, block-in}
 use Rattle.model.specs.Messages.{Transfer}
 use Rattle.model.specs.Arrival.{Side, sides, serials-new}
+use Rattle.laws.proofs.Tests.{lt-or-ge}
 use Rattle.laws.proofs.Tables.{length-tab, getD-tab, map-tab}
 use Rattle.memory.specs.Lookup.{place-in}
 use Rattle.memory.specs.declared.record.Place.{Place}
 use Rattle.memory.specs.declared.lookup.Found.the-variants.{At, Nothing}
-use Rattle.memory.proofs.Lookups.{held-at, held-nothing}
+use Rattle.memory.proofs.Lookups.{held-at, held-nothing, place-found, place-none}
 use Rattle.inbox.specs.Inbox.{word-in, point-in, points-in}
 use Rattle.ranking.specs.Ranks.{Ranked}
 use Rattle.arrival.specs.Sides.{side-at}
@@ -41,6 +44,29 @@ module _ (m : List ℕ) (x : ℕ) where
 
     pub nothing-held : {n : ℕ} → n ≡ getD m 2 0 → place-in (column m 0) n x ≡ Nothing → true ≡ (leb 1 x && not (held (block-in m .darts) x))
     nothing-held q e = rw (positive, held-nothing m x (subst (λ (k : ℕ). place-in (column m 0) k x ≡ Nothing) q e)) refl
+
+-- IN A GAP of serials that ascend
+module _ {n : ℕ} {s : ℕ → ℕ} (a : Ascending n s) where
+  up-to : (p q : ℕ) → p ≤ q → q < n → s p ≤ s q
+  up-to p q h l = ⊎-elim (λ e. omega (arith, ap s e)) (λ k. omega (arith, a p q k l)) (eq-or-lt-of-le h)
+
+  pub gap-none : {x g : ℕ} → g ≤ n → (0 < g → s (g - 1) < x) → (g < n → x < s g) → (p : ℕ) → p < n → s p ≡ x → ⊥
+  gap-none {x} {g} le below above p h e = ⊎-elim
+      (λ l. omega (arith, e, below (omega (arith, l)), up-to p (g - 1) (omega (arith, l)) (omega (arith, l, le))))
+      (λ l. omega (arith, e, above (omega (arith, l, h)), up-to g p l h))
+      (lt-or-ge p g)
+
+-- THE ANSWER OF A SEARCH: how many are below, or more than there are
+module _ (m : List ℕ) {x n r : ℕ} where
+  pub gap-zero : x ≡ 0 → n < r → leb r n ≡ (leb 1 x && not (held (block-in m .darts) x))
+  gap-zero e h = lt-leb r n h ∙ zero-held m x e
+
+  module _ (some-serial : x ≡ 0 → ⊥) (q : n ≡ getD m 2 0) where
+    pub gap-held : Ascending n (column m 0) → {p : ℕ} → p < n → column m 0 p ≡ x → n < r → leb r n ≡ (leb 1 x && not (held (block-in m .darts) x))
+    gap-held a {p} l e h = lt-leb r n h ∙ found-held m x some-serial q a (sym (place-found (column m 0) n x p a l e))
+
+    pub gap-new : ((p : ℕ) → p < n → column m 0 p ≡ x → ⊥) → r ≤ n → leb r n ≡ (leb 1 x && not (held (block-in m .darts) x))
+    gap-new never h = le-leb r n h ∙ nothing-held m x some-serial q (sym (place-none (column m 0) n x never))
 
 -- THE POINTS, by their number
 pub points-tested : (s : List ℕ) (from n : ℕ) → all finite (points-in s from n) ≡ all (λ j. finite (point-in s (from + 24 * j))) (tab (λ j. j) n)

@@ -2,7 +2,7 @@
 use mathlib.Core.Path.{_≡_, refl, sym, _∙_, ap, subst}
 use mathlib.Core.Bool.{Bool, true, false, true≢false, not, _&&_}
 use mathlib.Core.List.{List, [], _∷_, map}
-use Prim.Native.Nat.{ℕ, zero, suc, _+_, _*_, _≤_, _<_}
+use Prim.Native.Nat.{ℕ, _+_, _*_, _≤_, _<_}
 use native.Mathlib.Omega.{arith}
 use lib.Dec.{leb, ltb, eqb}
 use lib.ListN.{length, getD, take, length-map}
@@ -12,10 +12,10 @@ use Rattle.model.specs.Cells.{vertex, vertices, vertex-number, next-in, opposit
 use Rattle.model.specs.Image.{column}
 use Rattle.model.specs.Messages.{Transfer}
 use Rattle.model.specs.Arrival.{Side, sides, new-darts, faces-ordered, pairs-right, one-volume, vertices-right, volume-right}
-use Rattle.laws.proofs.Tests.{by-cases, and-intro, and-left, and-right, same-list-is}
-use Rattle.laws.proofs.Members.{In, in-map, keep-le, distinct-not, getD-in}
+use Rattle.laws.proofs.Tests.{by-cases, and-intro, and-left, and-right, same-list-is, and-false}
+use Rattle.laws.proofs.Members.{In, in-map, keep-le, getD-in, firsts-fewer}
 use Rattle.laws.proofs.Maps.{map-at}
-use Rattle.laws.proofs.Tables.{length-tab, getD-tab, map-tab, tab-all, all-tab, mem-place}
+use Rattle.laws.proofs.Tables.{length-tab, getD-tab, map-tab, tab-all, all-tab}
 use Rattle.theory.proofs.ImageLaws.{place-back}
 use Rattle.cells.specs.Places.{Numbered, places-in, volume-of}
 use Rattle.cells.proofs.RingLaws.{mem-firsts}
@@ -26,15 +26,11 @@ use Rattle.arrival.specs.Draft.{Paired, draft-record, Draftable, Drafted
 use Rattle.arrival.proofs.SideLaws.{sides-are}
 use Rattle.arrival.proofs.OrderLaws.{order-is}
 use Rattle.arrival.proofs.SegmentLaws.{segments}
+use Rattle.arrival.proofs.CoupleLaws.{tab-apart}
 use Rattle.arrival.proofs.PairLaws.{pairs-is}
 use Rattle.arrival.proofs.VolumeLaws.{volume-is, vertices-are}
 
 -- NUMBERS BY FIRST USE lie below the count of vertices, which is at most that of darts
-firsts-fewer : (l : List ℕ) → length (firsts l) ≤ length l
-unfolding firsts
-firsts-fewer [] = omega arith
-firsts-fewer (x ∷ l) = let a = keep-le (λ y. not (eqb x y)) (firsts l) in let b = firsts-fewer l in omega arith
-
 module _ (nx op : ℕ → ℕ) (order : List ℕ) where
   few-vertices : length (vertices nx op order) ≤ length order
   unfolding vertices
@@ -43,18 +39,6 @@ module _ (nx op : ℕ → ℕ) (order : List ℕ) where
   number-below : (x : ℕ) → In x order → vertex-number nx op order x < length (vertices nx op order)
   unfolding vertex-number vertices
   number-below x h = place-back (vertex nx op x) (firsts (map (vertex nx op) order)) (mem-firsts (vertex nx op x) (map (vertex nx op) order) ∙ in-map (vertex nx op) x order h) .1
-
--- values that differ are those of different indices
-tab-apart : (f : ℕ → ℕ) (n : ℕ) → distinct (tab f n) ≡ true → (i j : ℕ) → i < n → j < n → f i ≡ f j → i ≡ j
-tab-apart f zero d i j hi hj e = absurd (omega (arith, hi))
-tab-apart f (suc n) d zero zero hi hj e = refl
-tab-apart f (suc n) d zero (suc j) hi hj e = absurd (distinct-not (f 0) (tab (λ k. f (suc k)) n) d (f (suc j)) (mem-place (λ k. f (suc k)) n j (f (suc j)) (omega (arith, hj)) refl) (sym e))
-tab-apart f (suc n) d (suc i) zero hi hj e = absurd (distinct-not (f 0) (tab (λ k. f (suc k)) n) d (f (suc i)) (mem-place (λ k. f (suc k)) n i (f (suc i)) (omega (arith, hi)) refl) e)
-tab-apart f (suc n) d (suc i) (suc j) hi hj e = ap suc (tab-apart (λ k. f (suc k)) n (and-right (not (mem (f 0) (tab (λ k. f (suc k)) n))) _ d) i j (omega (arith, hi)) (omega (arith, hj)) e)
-
-and-false : (a : Bool) → (a && false) ≡ false
-and-false true = refl
-and-false false = refl
 
 module _ {t : Transfer} {v x b z s : List ℕ} {from n k : ℕ} {hollow : Bool} (w : Told t v x b z s from n k hollow) where
   pub segs : Segments b z k

@@ -12,18 +12,13 @@ use Rattle.model.specs.Lists.{all, concat, tab, ascending}
 use Rattle.model.specs.Cells.{start-of}
 use Rattle.model.specs.Messages.{FaceDart, Transfer, size-all}
 use Rattle.model.specs.Arrival.{face-serials, faces-ordered}
-use Rattle.laws.proofs.Tests.{by-cases, all-at, lt-or-ge, eq-or-ne, and-intro, and-left, and-right}
+use Rattle.laws.proofs.Tests.{by-cases, all-at, lt-or-ge, eq-or-ne, and-intro, and-left, and-right, same-truth}
 use Rattle.laws.proofs.Members.{Each, all-map}
 use Rattle.laws.proofs.Maps.{all-weaken}
 use Rattle.laws.proofs.Tables.{all-tab, tab-all}
 use Rattle.inbox.specs.Inbox.{FacesIn, starts-of, is-hollow}
 use Rattle.arrival.specs.Sides.{floor-at, order-at}
 use Rattle.arrival.proofs.SideLaws.{no-side, From, past-face, from-start}
-
-pub same-truth : (a b : Bool) → (a ≡ true → b ≡ true) → (b ≡ true → a ≡ true) → a ≡ b
-same-truth true b f g = sym (f refl)
-same-truth false true f g = g refl
-same-truth false false f g = refl
 
 -- faces whose starts ascend from a floor on
 abbrev Chained : ℕ → List (List FaceDart) → Type 0

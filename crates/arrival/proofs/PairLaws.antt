@@ -10,11 +10,10 @@ use borrow.Author.Tests.{eqb-true, eq-eqb}
 use Rattle.model.specs.Lists.{all, any, mem, tab, distinct}
 use Rattle.model.specs.Departure.{same-pair, pairs-once}
 use Rattle.model.specs.Arrival.{Side, reverses, pairs-right}
-use Rattle.laws.proofs.Tests.{and-intro, and-left, and-right}
+use Rattle.laws.proofs.Tests.{and-intro, and-left, and-right, same-truth}
 use Rattle.laws.proofs.Members.{Each, all-map}
 use Rattle.laws.proofs.Tables.{map-tab, tab-any, any-tab, tab-all, all-tab}
 use Rattle.arrival.specs.Sides.{next-index, side-at, pair-code, pair-at, reverse-at, ends-differ, Segments, Small}
-use Rattle.arrival.proofs.OrderLaws.{same-truth}
 use Rattle.arrival.proofs.SegmentLaws.{next-below}
 
 -- ends that a code tells apart

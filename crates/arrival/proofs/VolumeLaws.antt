@@ -13,7 +13,7 @@ use Rattle.model.specs.Cells.{volume, vertices, vertex-number, next-in, opposit
 use Rattle.model.specs.Image.{column}
 use Rattle.model.specs.Messages.{Transfer, size-all}
 use Rattle.model.specs.Arrival.{Side, sides, first-serial, new-darts, one-volume, vertices-right}
-use Rattle.laws.proofs.Tests.{by-cases, and-left, and-right}
+use Rattle.laws.proofs.Tests.{by-cases, and-left, and-right, same-truth}
 use Rattle.laws.proofs.Members.{In, all-from, keep-less}
 use Rattle.laws.proofs.Tables.{length-tab, getD-tab, map-tab, tab-cong, tab-all, all-tab, mem-place, place-mem}
 use Rattle.cells.specs.Places.{Numbered, places-in, volume-of}
@@ -25,7 +25,6 @@ use Rattle.inbox.specs.Inbox.{FacesIn, point-in, points-in}
 use Rattle.ranking.specs.Ranks.{index-at}
 use Rattle.arrival.specs.Sides.{side-at}
 use Rattle.arrival.specs.Draft.{Draft}
-use Rattle.arrival.proofs.OrderLaws.{same-truth}
 use Rattle.arrival.proofs.PairLaws.{all-index, all-same}
 use Rattle.arrival.proofs.DraftLaws.{sited, serial-of}
 use Rattle.arrival.proofs.NewDarts.{all-sides, same-next, same-opposite}

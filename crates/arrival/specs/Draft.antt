@@ -1,9 +1,10 @@
 -- The new darts of a transfer as a block's memory of their own, in ascending serial. Assumes nothing.
 -- v, b, z as in Sides; keys, ranks: the serials ranked; q: the index of each dart's opposite; the points stand in s from a place on.
 use mathlib.Core.Path.{_≡_}
-use mathlib.Core.Bool.{Bool, true, not, _&&_}
+use mathlib.Core.Logic.{_≢_}
+use mathlib.Core.Bool.{Bool, true, false, not, _&&_}
 use mathlib.Core.List.{List}
-use Prim.Native.Nat.{ℕ, _+_, _*_, _≤_, _<_}
+use Prim.Native.Nat.{ℕ, _+_, _*_, _/_, _≤_, _<_}
 use lib.Dec.{leb, eqb}
 use lib.ListN.{length, getD, take}
 use Rattle.model.specs.Lists.{all, mem, distinct, tab}
@@ -18,12 +19,10 @@ use Rattle.inbox.specs.Inbox.{FacesIn, is-hollow, points-in, word-in}
 use Rattle.ranking.specs.Ranks.{value-at, index-at, Ranked}
 use Rattle.arrival.specs.Sides.{next-index, pair-at, reverse-at, ends-differ, Segments, Small}
 
--- the pairs of the first k darts, ranked
-pub record PairsRanked (v b z : List ℕ) (k : ℕ) (keys : List ℕ) : Type 0 where
-  pub pairs : List ℕ
-  pub ranks : List ℕ
-  pub are : take k pairs ≡ tab (pair-at v b z) k
-  pub ranked : Ranked pairs k keys ranks
+-- whether the values of the first k keys, which ascend, are couples that differ in the last bit; then q has the index of each one's other
+pub record Coupled (keys : List ℕ) (k : ℕ) (q : List ℕ) (r : Bool) : Type 0 where
+  pub yes : r ≡ true → (p : ℕ) → p < k → (s : ℕ) × (s < k) × (value-at keys p / 2 ≡ value-at keys s / 2) × (value-at keys p ≢ value-at keys s) × (getD q (index-at keys p) 0 ≡ index-at keys s)
+  pub no : r ≡ false → (p : ℕ) × (p < k) × ((s : ℕ) → s < k → value-at keys p / 2 ≡ value-at keys s / 2 → value-at keys p ≡ value-at keys s)
 
 -- q has the index of each dart's opposite, whose pair is the reverse
 pub record Opposed (v b z : List ℕ) (k : ℕ) (q : List ℕ) : Type 0 where

@@ -4,7 +4,7 @@ use mathlib.Core.Path.{_≡_}
 use mathlib.Core.Bool.{Bool, cond, not, _&&_, _||_}
 use mathlib.Core.List.{List}
 use Prim.Native.Nat.{ℕ, suc, _+_, _*_, _-_, _≤_, _<_}
-use lib.Dec.{leb, eqb}
+use lib.Dec.{leb, ltb, eqb}
 use lib.ListN.{getD}
 use Rattle.model.specs.Arrival.{Side}
 
@@ -39,6 +39,13 @@ pair-at v b z i = pair-code (getD v i 0) (getD v (next-index b z i) 0)
 
 abbrev pub reverse-at : List ℕ → List ℕ → List ℕ → ℕ → ℕ
 reverse-at v b z i = pair-code (getD v (next-index b z i) 0) (getD v i 0)
+
+-- the same as one number for a pair and its reverse, but for the last bit: the lesser end first, and 1 where that turned it round
+abbrev pub couple-code : ℕ → ℕ → ℕ
+couple-code a c = cond (ltb c a) ((c * 1024 + a) * 2 + 1) ((a * 1024 + c) * 2)
+
+abbrev pub couple-at : List ℕ → List ℕ → List ℕ → ℕ → ℕ
+couple-at v b z i = couple-code (getD v i 0) (getD v (next-index b z i) 0)
 
 -- both ends of a dart differ
 abbrev pub ends-differ : List ℕ → List ℕ → List ℕ → ℕ → Bool

@@ -1,12 +1,12 @@
-// Two darts are opposite when their ordered vertex pairs are reversed: pairs are ranked, and the reverse of each is looked up.
+// Two darts are opposite when their ordered vertex pairs are reversed: pairs are ranked so that a pair and its reverse are neighbours.
 ghost use mathlib.Core.Path.{_≡_};
-ghost use mathlib.Core.Bool.{true};
 ghost use Prim.Native.Nat.{ℕ, _≤_, _<_};
 ghost use lib.ListN.{length, getD, take};
-ghost use Rattle.model.specs.Lists.{all, mem, tab};
-ghost use Rattle.arrival.specs.Sides.{next-index, pair-at, reverse-at, ends-differ, Segments, Small};
-ghost use Rattle.arrival.specs.Draft.{PairsRanked, Opposed, Paired};
-use memory::lookup::Found;
+ghost use Rattle.laws.specs.Order.{Ascending};
+ghost use Rattle.model.specs.Lists.{all, tab};
+ghost use Rattle.ranking.specs.Ranks.{value-at, index-at};
+ghost use Rattle.arrival.specs.Sides.{next-index, couple-code, couple-at, ends-differ, Segments, Small};
+ghost use Rattle.arrival.specs.Draft.{Coupled, Paired};
 
 // The index of the next dart along a face.
 pub fn next_index(starts: &[usize], sizes: &[usize], i: usize) -> usize
@@ -20,6 +20,17 @@ pub fn next_index(starts: &[usize], sizes: &[usize], i: usize) -> usize
     i + 1
 }
 
+// A pair as one number: twice that of its ends, the lesser first, and 1 more where that turned it round.
+fn couple(a: u64, c: u64) -> u64
+    requires { ⌜ (a ≤ 512) × (c ≤ 512) ⌝ }
+    ensures { λ r. ⌜ r ≡ couple-code a c ⌝ }
+{
+    if c < a {
+        return (c * 1024 + a) * 2 + 1;
+    }
+    (a * 1024 + c) * 2
+}
+
 // The pairs of the first k darts; whether the ends of each differ.
 pub fn put_pairs(
     vertex: &[u64],
@@ -30,7 +41,7 @@ pub fn put_pairs(
 ) -> bool
     requires { ⌜ (length (now vertex) ≡ 512) × (length (now starts) ≡ 512) × (length (now sizes) ≡ 512) × (length (now pairs) ≡ 512) × (k ≤ 512) ⌝ }
     requires { ⌜ Segments (now starts) (now sizes) k × Small (now vertex) k ⌝ }
-    ensures { λ r. ⌜ (r ≡ all (ends-differ (now (vertex .entry)) (now (starts .entry)) (now (sizes .entry))) (tab (λ i. i) k)) × (take k (now (pairs .exit)) ≡ tab (pair-at (now (vertex .entry)) (now (starts .entry)) (now (sizes .entry))) k) × (length (now (pairs .exit)) ≡ 512) ⌝ }
+    ensures { λ r. ⌜ (r ≡ all (ends-differ (now (vertex .entry)) (now (starts .entry)) (now (sizes .entry))) (tab (λ i. i) k)) × (take k (now (pairs .exit)) ≡ tab (couple-at (now (vertex .entry)) (now (starts .entry)) (now (sizes .entry))) k) × (length (now (pairs .exit)) ≡ 512) ⌝ }
 {
     // The pairs before i are put; `ok` says whether their ends differ.
     let mut ok = true;
@@ -38,35 +49,32 @@ pub fn put_pairs(
     while i < k {
         let j = next_index(starts, sizes, i);
         ok = ok & (vertex[i] != vertex[j]);
-        pairs[i] = vertex[i] * 1024 + vertex[j];
+        pairs[i] = couple(vertex[i], vertex[j]);
         i += 1;
     }
     ok
 }
 
-// Whether the reverse of each pair is there; then `opposite` has the index of the dart whose pair it is. `keys`: the pairs ranked.
-pub fn find_reverses(
-    vertex: &[u64],
-    starts: &[usize],
-    sizes: &[usize],
-    k: usize,
-    keys: &[u64],
-    opposite: &mut [usize],
-) -> bool
-    requires { ⌜ (length (now vertex) ≡ 512) × (length (now starts) ≡ 512) × (length (now sizes) ≡ 512) × (length (now keys) ≡ 512) × (length (now opposite) ≡ 512) × (k ≤ 512) ⌝ }
-    requires { ⌜ Segments (now starts) (now sizes) k × Small (now vertex) k × PairsRanked (now vertex) (now starts) (now sizes) k (now keys) ⌝ }
-    ensures { λ r. ⌜ (r ≡ all (λ i. mem (reverse-at (now (vertex .entry)) (now (starts .entry)) (now (sizes .entry)) i) (tab (pair-at (now (vertex .entry)) (now (starts .entry)) (now (sizes .entry))) k)) (tab (λ i. i) k)) × (r ≡ true → Opposed (now (vertex .entry)) (now (starts .entry)) (now (sizes .entry)) k (now (opposite .exit))) × (length (now (opposite .exit)) ≡ 512) ⌝ }
+// Whether the first k keys, whose values ascend, are couples, two by two; then `opposite` has the index of each one's other.
+fn couples(keys: &[u64], k: usize, opposite: &mut [usize]) -> bool
+    requires { ⌜ (k ≤ 512) × (length (now keys) ≡ 512) × (length (now opposite) ≡ 512) × Ascending k (value-at (now keys)) ⌝ }
+    requires { ⌜ ((p s : ℕ) → p < k → s < k → index-at (now keys) p ≡ index-at (now keys) s → p ≡ s) ⌝ }
+    ensures { λ r. ⌜ Coupled (now (keys .entry)) k (now (opposite .exit)) r × (length (now (opposite .exit)) ≡ 512) ⌝ }
 {
-    // Those before i have their opposites.
-    let mut i = 0;
-    while i < k {
-        let j = next_index(starts, sizes, i);
-        let Found::At(p) = ranking::find(keys, k, vertex[j] * 1024 + vertex[i]) else {
+    // The keys below r are.
+    let mut r = 0;
+    while r < k {
+        if r + 1 == k {
             return false;
-        };
-        let rank = p.0;
-        opposite[i] = (keys[rank] % 512) as usize;
-        i += 1;
+        }
+        let a = keys[r];
+        let b = keys[r + 1];
+        if a / 1024 != b / 1024 {
+            return false;
+        }
+        opposite[(a % 512) as usize] = (b % 512) as usize;
+        opposite[(b % 512) as usize] = (a % 512) as usize;
+        r += 2;
     }
     true
 }
@@ -94,5 +102,5 @@ pub fn paired(
     if !ranking::rank(&pairs, k, &mut keys, &mut scratch, &mut ranks) {
         return false;
     }
-    find_reverses(vertex, starts, sizes, k, &keys, opposite)
+    couples(&keys, k, opposite)
 }

@@ -1,7 +1,8 @@
 // Question 18: coordinates finite, serials at least 1, distinct, not held.
 ghost use mathlib.Core.Path.{_≡_};
-ghost use mathlib.Core.Bool.{true, not, _&&_};
-ghost use Prim.Native.Nat.{ℕ, _+_, _*_, _≤_, _<_};
+ghost use mathlib.Core.Bool.{true, false, not, _&&_};
+ghost use mathlib.Core.Logic.{_≢_};
+ghost use Prim.Native.Nat.{ℕ, _+_, _-_, _*_, _≤_, _<_};
 ghost use lib.Dec.{leb};
 ghost use lib.ListN.{length, getD};
 ghost use Rattle.laws.specs.Order.{Ascending};
@@ -12,9 +13,9 @@ ghost use Rattle.model.specs.Image.{room, words, column, block-in};
 ghost use Rattle.inbox.specs.Inbox.{point-in, points-in};
 ghost use Rattle.arrival.specs.Draft.{NewSerials};
 use crate::draft;
-use memory::lookup;
-use memory::lookup::Found;
 use memory::point;
+use memory::record;
+use memory::record::Place;
 
 // Whether the point at a place of the message is finite.
 fn point_finite(message: &[u8], at: usize) -> bool
@@ -43,31 +44,85 @@ fn points_finite(message: &[u8], from: usize, count: usize) -> bool
     true
 }
 
-// Whether a serial is one that the block's n darts do not have.
-fn serial_new(block: &[u64], n: usize, serial: u64) -> bool
-    requires { ⌜ (n ≡ getD (now block) 2 0) × (n ≤ room) × (length (now block) ≡ words) × Ascending n (column (now block) 0) ⌝ }
-    ensures { λ r. ⌜ r ≡ (leb 1 serial && not (held (block-in (now (block .entry)) .darts) serial)) ⌝ }
+// The last of the first n places whose serial is at most this one, by halving without a branch; the first place where there is none.
+fn last_of(block: &[u64], n: usize, serial: u64) -> usize
+    requires { ⌜ (1 ≤ n) × (n ≤ room) × (length (now block) ≡ words) × Ascending n (column (now block) 0) × ((p : ℕ) → p < n → column (now block) 0 p < serial-bound) × (serial < serial-bound) ⌝ }
+    ensures { λ r. ⌜ (r < n) × ((p : ℕ) → p < n → column (now (block .entry)) 0 p ≡ serial → p ≡ r) ⌝ }
 {
-    if serial == 0 {
-        return false;
+    // A place with this serial is one of `left` places from `low` on.
+    let mut low = 0;
+    let mut left = n;
+    while 1 < left {
+        let half = left / 2;
+        let middle = record::field(block, Place(low + half), 0);
+        low = ranking::up(low, half, middle, serial);
+        left -= half;
     }
-    let Found::At(p) = lookup::place_of(block, n, serial) else {
-        return true;
-    };
-    false
+    low
 }
 
-// Whether the first k are.
+// Whether a serial is above that at the place before `gap`, if there is one.
+fn is_past(block: &[u64], gap: usize, serial: u64) -> bool
+    requires { ⌜ (gap ≤ room) × (length (now block) ≡ words) ⌝ }
+    ensures { λ r. ⌜ (r ≡ true → 0 < gap → column (now (block .entry)) 0 (gap - 1) < serial) × (r ≡ false → 0 < gap) ⌝ }
+{
+    if gap == 0 {
+        return true;
+    }
+    record::field(block, Place(gap - 1), 0) < serial
+}
+
+// Whether a serial lies between those at the places before and from `gap` on.
+fn in_gap(block: &[u64], n: usize, gap: usize, serial: u64) -> bool
+    requires { ⌜ (n ≤ room) × (length (now block) ≡ words) × (gap ≤ n) × Ascending n (column (now block) 0) ⌝ }
+    ensures { λ r. ⌜ (r ≡ true → (p : ℕ) → p < n → column (now (block .entry)) 0 p ≢ serial) × (r ≡ false → 1 ≤ n) ⌝ }
+{
+    if !is_past(block, gap, serial) {
+        return false;
+    }
+    if gap < n {
+        return serial < record::field(block, Place(gap), 0);
+    }
+    true
+}
+
+// How many of the first n serials are below one that is at least 1 and none of them; above n for any other. `near`: a guess.
+fn gap_of(block: &[u64], n: usize, serial: u64, near: usize) -> usize
+    requires { ⌜ (n ≡ getD (now block) 2 0) × (n ≤ room) × (length (now block) ≡ words) × Ascending n (column (now block) 0) × ((p : ℕ) → p < n → column (now block) 0 p < serial-bound) × (serial < serial-bound) × (near ≤ n) ⌝ }
+    ensures { λ r. ⌜ leb r n ≡ (leb 1 serial && not (held (block-in (now (block .entry)) .darts) serial)) ⌝ }
+{
+    if serial == 0 {
+        return n + 1;
+    }
+    // Serials that come one after the other are mostly in one gap.
+    if in_gap(block, n, near, serial) {
+        return near;
+    }
+    let low = last_of(block, n, serial);
+    let there = record::field(block, Place(low), 0);
+    if there == serial {
+        return n + 1;
+    }
+    if there < serial {
+        return low + 1;
+    }
+    low
+}
+
+// Whether the first k are at least 1, and the block's n darts do not have them.
 fn all_new(block: &[u64], n: usize, serial: &[u64], k: usize) -> bool
-    requires { ⌜ (n ≡ getD (now block) 2 0) × (n ≤ room) × (length (now block) ≡ words) × Ascending n (column (now block) 0) × (length (now serial) ≡ 512) × (k ≤ 512) ⌝ }
+    requires { ⌜ (n ≡ getD (now block) 2 0) × (n ≤ room) × (length (now block) ≡ words) × Ascending n (column (now block) 0) × ((p : ℕ) → p < n → column (now block) 0 p < serial-bound) × (length (now serial) ≡ 512) × (k ≤ 512) × ((i : ℕ) → i < k → getD (now serial) i 0 < serial-bound) ⌝ }
     ensures { λ r. ⌜ r ≡ all (λ i. leb 1 (getD (now (serial .entry)) i 0) && not (held (block-in (now (block .entry)) .darts) (getD (now (serial .entry)) i 0))) (tab (λ i. i) k) ⌝ }
 {
-    // Those before i are.
+    // Those before i are; `near` is the gap of the last one.
+    let mut near = 0;
     let mut i = 0;
     while i < k {
-        if !serial_new(block, n, serial[i]) {
+        let gap = gap_of(block, n, serial[i], near);
+        if n < gap {
             return false;
         }
+        near = gap;
         i += 1;
     }
     true
@@ -85,7 +140,7 @@ pub fn new_serials(
     keys: &mut [u64],
     ranks: &mut [usize],
 ) -> bool
-    requires { ⌜ (n ≡ getD (now block) 2 0) × (n ≤ room) × (length (now block) ≡ words) × Ascending n (column (now block) 0) ⌝ }
+    requires { ⌜ (n ≡ getD (now block) 2 0) × (n ≤ room) × (length (now block) ≡ words) × Ascending n (column (now block) 0) × ((p : ℕ) → p < n → column (now block) 0 p < serial-bound) ⌝ }
     requires { ⌜ (length (now serial) ≡ 512) × (length (now keys) ≡ 512) × (length (now ranks) ≡ 512) × (1 ≤ k) × (k ≤ 512) × (from + 24 * count ≤ length (now message)) × ((i : ℕ) → i < k → getD (now serial) i 0 < serial-bound) ⌝ }
     ensures { λ r. ⌜ NewSerials (block-in (now (block .entry)) .darts) (now (message .entry)) from count (now (serial .entry)) k (now (keys .exit)) (now (ranks .exit)) r × (length (now (keys .exit)) ≡ 512) × (length (now (ranks .exit)) ≡ 512) ⌝ }
 {

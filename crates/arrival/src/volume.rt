@@ -16,13 +16,12 @@ use crate::order;
 use crate::pairs;
 
 // Whether the k darts of a draft are the volume of the one at place `first`.
-fn one_volume(draft: &[u64], k: usize, first: usize) -> bool
-    requires { ⌜ Linked (now draft) k × (first < k) ⌝ }
-    ensures { λ r. ⌜ r ≡ eqb (length (places-in k (volume-of (now (draft .entry)) first))) k ⌝ }
+fn one_volume(draft: &[u64], k: usize, first: usize, queue: &mut [usize]) -> bool
+    requires { ⌜ Linked (now draft) k × (first < k) × (length (now queue) ≡ room) ⌝ }
+    ensures { λ r. ⌜ (r ≡ eqb (length (places-in k (volume-of (now (draft .entry)) first))) k) × (length (now (queue .exit)) ≡ room) ⌝ }
 {
-    let mut queue = [0usize; 4096];
     let mut marks = [0u8; 4096];
-    cells::walk::volume(draft, k, first, &mut queue, &mut marks) == k
+    cells::walk::volume(draft, k, first, queue, &mut marks) == k
 }
 
 // Whether each dart has the number of its vertex.
@@ -42,17 +41,23 @@ fn numbers_same(vertex: &[u64], ranks: &[usize], k: usize, numbers: &[usize]) ->
 }
 
 // Whether the vertices are numbered from 0 by first use, `count` of them.
-fn numbered(draft: &[u64], k: usize, vertex: &[u64], count: u64, ranks: &[usize]) -> bool
-    requires { ⌜ Linked (now draft) k × (length (now vertex) ≡ 512) × (length (now ranks) ≡ 512) × (k ≤ 512) × ((i : ℕ) → i < k → getD (now ranks) i 0 < k) ⌝ }
-    ensures { λ r. ⌜ Compared (now (vertex .entry)) (now (ranks .entry)) count k (now (draft .entry)) r ⌝ }
+fn numbered(
+    draft: &[u64],
+    k: usize,
+    vertex: &[u64],
+    count: u64,
+    ranks: &[usize],
+    numbers: &mut [usize],
+    firsts: &mut [usize],
+) -> bool
+    requires { ⌜ Linked (now draft) k × (length (now vertex) ≡ 512) × (length (now ranks) ≡ 512) × (k ≤ 512) × ((i : ℕ) → i < k → getD (now ranks) i 0 < k) × (length (now numbers) ≡ room) × (length (now firsts) ≡ room) ⌝ }
+    ensures { λ r. ⌜ Compared (now (vertex .entry)) (now (ranks .entry)) count k (now (draft .entry)) r × (length (now (numbers .exit)) ≡ room) × (length (now (firsts .exit)) ≡ room) ⌝ }
 {
-    let mut numbers = [0usize; 4096];
-    let mut firsts = [0usize; 4096];
-    let found = cells::vertex::number_vertices(draft, k, ranks, k, &mut numbers, &mut firsts);
-    numbers_same(vertex, ranks, k, &numbers) & (count == found as u64)
+    let found = cells::vertex::number_vertices(draft, k, ranks, k, numbers, firsts);
+    numbers_same(vertex, ranks, k, numbers) & (count == found as u64)
 }
 
-// 19, of a transfer whose serials are ranked; on a yes its darts are drafted.
+// 19, of a transfer whose serials are ranked; on a yes its darts are drafted. `queue` and `firsts` are lent to work in.
 pub fn volume_right(
     message: &[u8],
     from: usize,
@@ -67,11 +72,13 @@ pub fn volume_right(
     ranks: &[usize],
     opposite: &mut [usize],
     draft: &mut [u64],
+    queue: &mut [usize],
+    firsts: &mut [usize],
 ) -> bool
-    requires { ⌜ (length (now vertex) ≡ 512) × (length (now serial) ≡ 512) × (length (now starts) ≡ 512) × (length (now sizes) ≡ 512) × (length (now keys) ≡ 512) × (length (now ranks) ≡ 512) × (length (now opposite) ≡ 512) × (length (now draft) ≡ words) ⌝ }
+    requires { ⌜ (length (now vertex) ≡ 512) × (length (now serial) ≡ 512) × (length (now starts) ≡ 512) × (length (now sizes) ≡ 512) × (length (now keys) ≡ 512) × (length (now ranks) ≡ 512) × (length (now opposite) ≡ 512) × (length (now draft) ≡ words) × (length (now queue) ≡ room) × (length (now firsts) ≡ room) ⌝ }
     requires { ⌜ Ranked (now serial) k (now keys) (now ranks) × ((t : Transfer) × Told t (now vertex) (now serial) (now starts) (now sizes) (now message) from count k hollow) ⌝ }
     ensures answer { λ r. ⌜ ((t : Transfer) → Told t (now (vertex .entry)) (now (serial .entry)) (now (starts .entry)) (now (sizes .entry)) (now (message .entry)) from count k hollow → r ≡ volume-right t) ⌝ }
-    ensures drafted { λ r. ⌜ (r ≡ true → Draft (now (vertex .entry)) (now (serial .entry)) (now (starts .entry)) (now (sizes .entry)) (now (keys .entry)) (now (ranks .entry)) (now (opposite .exit)) (now (message .entry)) from k (now (draft .exit))) × (length (now (opposite .exit)) ≡ 512) × (length (now (draft .exit)) ≡ words) ⌝ }
+    ensures drafted { λ r. ⌜ (r ≡ true → Draft (now (vertex .entry)) (now (serial .entry)) (now (starts .entry)) (now (sizes .entry)) (now (keys .entry)) (now (ranks .entry)) (now (opposite .exit)) (now (message .entry)) from k (now (draft .exit))) × (length (now (opposite .exit)) ≡ 512) × (length (now (draft .exit)) ≡ words) × (length (now (queue .exit)) ≡ room) × (length (now (firsts .exit)) ≡ room) ⌝ }
 {
     if hollow {
         return false;
@@ -97,8 +104,8 @@ pub fn volume_right(
         opposite,
         draft,
     );
-    if !one_volume(draft, k, ranks[0]) {
+    if !one_volume(draft, k, ranks[0], queue) {
         return false;
     }
-    numbered(draft, k, vertex, count, ranks)
+    numbered(draft, k, vertex, count, ranks, queue, firsts)
 }

@@ -13,8 +13,8 @@ use Rattle.model.specs.Image.{column}
 use Rattle.model.specs.Messages.{Part2}
 use Rattle.model.specs.Arrival.{part2-apart}
 use Rattle.laws.proofs.Tests.{lt-or-ge, and-left, and-right}
-use Rattle.laws.proofs.Members.{In, in-eq, least-in, least-below}
-use Rattle.laws.proofs.Orbits.{iter, iter-add, iter-stays, iter-inj, path, path-in, around-path, in-cycle}
+use Rattle.laws.proofs.Members.{In, in-eq, least-in, least-below, least-among}
+use Rattle.laws.proofs.Orbits.{iter, iter-add, iter-stays, iter-inj, path, path-in, around-path, in-cycle, path-length}
 use Rattle.laws.proofs.Faces.{face-self, face-stays, face-sym, face-trans}
 use Rattle.laws.proofs.Tables.{map-tab, tab-cong, mem-place, one-place}
 use Rattle.ranking.proofs.RankLaws.{tab-distinct}
@@ -23,14 +23,6 @@ use Rattle.cells.proofs.Paths.{apart-places, few-places}
 use Rattle.cells.proofs.Sited.{Sited, darts-in, count-in}
 use Rattle.cells.proofs.FaceSerials.{cycle-carried}
 use Rattle.cells.proofs.VertexSerials.{least-map}
-
-length-path : (f : ℕ → ℕ) (n x : ℕ) → length (path f n x) ≡ n
-length-path f zero x = refl
-length-path f (suc n) x = ap suc (length-path f n (f x))
-
-some-least : (l : List ℕ) (x : ℕ) → In x l → In (least l) l
-some-least [] x h = absurd (true≢false (sym h))
-some-least (y ∷ l) x h = least-in y l
 
 -- values that a test finds different
 apart-tab : (f : ℕ → ℕ) (n : ℕ) → distinct (tab f n) ≡ true → (i j : ℕ) → i < j → j < n → f i ≡ f j → ⊥
@@ -61,7 +53,7 @@ module _ {m : List ℕ} (site : Sited m) where
   unfolding cycle
   round y h =
       let r = around-path (column m 1) (places (count-in m)) stays one 4096 y few (in-places (count-in m) y h) in
-      let e : r .0 ≡ size y = sym (ap length (r .3) ∙ length-path (column m 1) (r .0) y) in
+      let e : r .0 ≡ size y = sym (ap length (r .3) ∙ path-length (column m 1) (r .0) y) in
       subst (λ (p : ℕ). (0 < p) × (cycle (column m 1) y ≡ path (column m 1) p y) × (iter (column m 1) p y ≡ y) × ((k : ℕ) → 0 < k → k < p → iter (column m 1) k y ≢ y)) e (r .1, r .3, r .4, r .5)
 
   -- the first one is y itself
@@ -110,7 +102,7 @@ module _ {m : List ℕ} (site : Sited m) where
 
   least-in-cycle : (y : ℕ) → y < count-in m → In (least (cycle (column m 1) y)) (cycle (column m 1) y)
   unfolding cycle
-  least-in-cycle y h = some-least (cycle (column m 1) y) y (face-self (column m 1) (places (count-in m)) stays one few y (in-places (count-in m) y h))
+  least-in-cycle y h = least-among (cycle (column m 1) y) y (face-self (column m 1) (places (count-in m)) stays one few y (in-places (count-in m) y h))
 
   same-least : (y u q : ℕ) → y < count-in m → u < count-in m → In q (cycle (column m 1) y) → In q (cycle (column m 1) u) → least (cycle (column m 1) y) ≡ least (cycle (column m 1) u)
   same-least y u q hy hu ky ku =

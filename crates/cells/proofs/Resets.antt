@@ -10,7 +10,7 @@ use lib.Seq.{take-suc, length-take-le, getD-take}
 use Rattle.model.specs.Lists.{least, least-from, mem}
 use Rattle.model.specs.Image.{room}
 use Rattle.laws.proofs.Tests.{by-cases}
-use Rattle.laws.proofs.Members.{In, in-getD, least-in, least-below}
+use Rattle.laws.proofs.Members.{In, in-getD, least-in, least-below, least-more}
 use Rattle.cells.specs.Places.{Listed, Marked, Painted, bit, marked}
 use Rattle.cells.proofs.Paths.{paint-more}
 use Rattle.cells.proofs.FaceLaws.{in-marked, marked-in}
@@ -40,10 +40,6 @@ unmarked {v} {l} {marks} {marks′} m has w = zeros-are room marks′ (w .size �
     none p = by-cases (mem p l) (λ e. rw e) (λ e. rw e (m .mark p ∙ by-cases (mem p v) (λ i. absurd (true≢false (sym (has p i) ∙ e))) (λ i. rw i)))
 
 -- THE LEAST
-least-more : (x : ℕ) (l : List ℕ) (y : ℕ) → least-from x (l ++ y ∷ []) ≡ min (least-from x l) y
-least-more x [] y = refl
-least-more x (z ∷ l) y = least-more (min x z) l y
-
 least-last : (l : List ℕ) (y : ℕ) → 0 < length l → least (l ++ y ∷ []) ≡ min (least l) y
 unfolding least
 least-last [] y h = absurd (omega arith)

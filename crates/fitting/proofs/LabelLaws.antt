@@ -9,7 +9,7 @@ use Rattle.model.specs.Values.{Dart, Block, label-key, or-no-dart}
 use Rattle.model.specs.Cells.{cycle, labelled, next-in}
 use Rattle.model.specs.Messages.{Part2, Transfer}
 use Rattle.model.specs.Arrival.{indices-right, part2-right, part2-apart, consecutive, labels-new, parts-right}
-use Rattle.laws.proofs.Tests.{by-cases, and-intro, and-right}
+use Rattle.laws.proofs.Tests.{by-cases, and-intro, and-right, and-false}
 use Rattle.laws.proofs.Members.{in-map, distinct-not, map-map}
 use Rattle.parts.specs.Entries.{code2}
 use Rattle.parts.specs.Critical.{rest-right}
@@ -19,10 +19,6 @@ use Rattle.parts.specs.Sewing.{Part2Told}
 use Rattle.fitting.specs.Fitting.{CodesRanked, Part2Ready, Part2Done}
 
 -- TWO HALVES
-and-false : (a : Bool) → (a && false) ≡ false
-and-false true = refl
-and-false false = refl
-
 reordered : (a b c d e f : Bool) → (a && b && c && d && e && f) ≡ (((a && d && f) && e) && (b && c))
 reordered false b c d e f = refl
 reordered true false c d e f = sym (and-false ((d && f) && e))

@@ -368,6 +368,11 @@ pub least-among : (l : List ℕ) (x : ℕ) → In x l → In (least l) l
 least-among [] x h = absurd (true≢false (sym h))
 least-among (y ∷ l) x h = least-in y l
 
+-- one element more
+pub least-more : (x : ℕ) (l : List ℕ) (y : ℕ) → least-from x (l ++ y ∷ []) ≡ min (least-from x l) y
+least-more x [] y = refl
+least-more x (z ∷ l) y = least-more (min x z) l y
+
 -- WHAT IS KEPT by tests that agree, by two, by one that always passes
 pub keep-cong : (p q : ℕ → Bool) (l : List ℕ) → ((x : ℕ) → In x l → p x ≡ q x) → keep p l ≡ keep q l
 keep-cong p q [] h = refl

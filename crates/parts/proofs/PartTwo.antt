@@ -16,7 +16,7 @@ use Rattle.model.specs.Image.{column, dart-in, is-image}
 use Rattle.model.specs.Messages.{Part2, Transfer, size-all}
 use Rattle.model.specs.Arrival.{new-darts, face-from, points-meet, part2-right, part2-apart}
 use Rattle.laws.proofs.Tests.{by-cases, lt-or-ge, and-intro, and-left, and-right, same-truth}
-use Rattle.laws.proofs.Members.{In, in-eq, least-in, least-below}
+use Rattle.laws.proofs.Members.{In, in-eq, least-in, least-below, least-among}
 use Rattle.laws.proofs.Orbits.{iter}
 use Rattle.laws.proofs.Faces.{face-stays, face-self, face-trans, face-sym}
 use Rattle.laws.proofs.Tables.{all-tab, tab-all, getD-tab, tab-cong, map-tab, one-place, dart-place}
@@ -84,10 +84,6 @@ entry-none ds t e found =
     ap (λ (h : Dart). is-critical-with (t .from) (h .third) && eqb (length (face-from t (e .index))) (length (cycle (previous-in ds) (h .serial))) && all (λ p. points-meet ds t (p .0) (p .1)) (zip (face-from t (e .index)) (cycle (previous-in ds) (h .serial)))) found
 
 -- FACES by their least dart
-nonempty : (l : List ℕ) (x : ℕ) → In x l → In (least l) l
-nonempty [] x h = absurd (true≢false (sym h))
-nonempty (y ∷ l) x h = least-in y l
-
 module _ {m : List ℕ} (site : Sited m) where
   self : (x : ℕ) → x < count-in m → In x (cycle (column m 1) x)
   unfolding cycle
@@ -106,7 +102,7 @@ module _ {m : List ℕ} (site : Sited m) where
   back x y h = face-sym (column m 1) (places (count-in m)) (within-places (site .linked .next-within)) (apart-places (site .linked .next-apart)) (few-places (site .linked .few)) x y (in-places (count-in m) x h)
 
   lowest : (x : ℕ) → x < count-in m → In (least (cycle (column m 1) x)) (cycle (column m 1) x)
-  lowest x h = nonempty (cycle (column m 1) x) x (self x h)
+  lowest x h = least-among (cycle (column m 1) x) x (self x h)
 
   -- one face, one least dart
   same-least : (x y : ℕ) → x < count-in m → y < count-in m → In y (cycle (column m 1) x) → least (cycle (column m 1) x) ≡ least (cycle (column m 1) y)

@@ -1,2 +1,3 @@
 pub mod RankLaws
 pub mod Steps
+pub mod Halves

@@ -4,7 +4,7 @@ ghost use mathlib.Core.Bool.{true};
 ghost use Prim.Native.Nat.{_≤_};
 ghost use lib.ListN.{length, replicate};
 ghost use Rattle.model.specs.Values.{rack};
-ghost use Rattle.model.specs.Image.{words, is-image, block-in};
+ghost use Rattle.model.specs.Image.{room, words, is-image, block-in};
 ghost use Rattle.model.specs.Messages.{Transfer, a-transfer, message-in};
 ghost use Rattle.model.specs.Arrival.{addressed};
 ghost use Rattle.inbox.specs.Inbox.{Sides};
@@ -27,7 +27,7 @@ fn for_here(block: &[u64], from: u64, to: u64) -> bool
     (to == block[0]) & (from != block[0])
 }
 
-// All of them, in their order.
+// All of them, in their order. `queue` and `firsts` are lent to work in.
 pub fn questions(
     block: &[u64],
     message: &[u8],
@@ -43,10 +43,12 @@ pub fn questions(
     draft: &mut [u64],
     kinds: &mut [u64],
     links: &mut [u64],
+    queue: &mut [usize],
+    firsts: &mut [usize],
 ) -> Asked
     requires { ⌜ (is-image rack (now block) ≡ true) × Sides (now vertex) (now serial) (now starts) (now sizes) × ((t : Transfer) × (message-in (now message) ≡ a-transfer t) × TransferOutlined t (now message) (now vertex) (now serial) (now starts) (now sizes) front tail) ⌝ }
-    requires { ⌜ (length (now keys) ≡ 512) × (length (now ranks) ≡ 512) × (length (now opposite) ≡ 512) × (length (now draft) ≡ words) × (now kinds ≡ replicate 512 0) × (now links ≡ replicate 512 0) ⌝ }
-    ensures { λ r. ⌜ AskedAll (now (block .entry)) (now (message .entry)) (now (vertex .entry)) (now (serial .entry)) (now (starts .entry)) (now (sizes .entry)) front tail (now (keys .exit)) (now (ranks .exit)) (now (opposite .exit)) (now (draft .exit)) (now (kinds .exit)) (now (links .exit)) r ⌝ }
+    requires { ⌜ (length (now keys) ≡ 512) × (length (now ranks) ≡ 512) × (length (now opposite) ≡ 512) × (length (now draft) ≡ words) × (now kinds ≡ replicate 512 0) × (now links ≡ replicate 512 0) × (length (now queue) ≡ room) × (length (now firsts) ≡ room) ⌝ }
+    ensures { λ r. ⌜ AskedAll (now (block .entry)) (now (message .entry)) (now (vertex .entry)) (now (serial .entry)) (now (starts .entry)) (now (sizes .entry)) front tail (now (keys .exit)) (now (ranks .exit)) (now (opposite .exit)) (now (draft .exit)) (now (kinds .exit)) (now (links .exit)) r × (length (now (queue .exit)) ≡ room) × (length (now (firsts .exit)) ≡ room) ⌝ }
 {
     if !for_here(block, front.from, front.to) {
         return Asked::No(Refusal::NotForHere);
@@ -80,6 +82,8 @@ pub fn questions(
         ranks,
         opposite,
         draft,
+        queue,
+        firsts,
     ) {
         return Asked::No(Refusal::VolumeWrong);
     }

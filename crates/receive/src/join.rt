@@ -2,16 +2,25 @@
 ghost use mathlib.Core.Path.{_≡_};
 ghost use Prim.Native.Nat.{_≤_};
 ghost use lib.ListN.{length, getD};
+ghost use Rattle.model.specs.Image.{room};
 ghost use Rattle.receive.specs.Taken.{MayJoin, Joins};
 
-pub fn join(block: &mut [u64], draft: &[u64], kinds: &[u64], links: &[u64], ranks: &[usize])
+// `old` and `new` are lent for the places of the darts of both.
+pub fn join(
+    block: &mut [u64],
+    draft: &[u64],
+    kinds: &[u64],
+    links: &[u64],
+    ranks: &[usize],
+    old: &mut [usize],
+    new: &mut [usize],
+)
+    requires { ⌜ (length (now old) ≡ room) × (length (now new) ≡ room) ⌝ }
     requires { ⌜ (length (now kinds) ≡ 512) × (length (now links) ≡ 512) × (length (now ranks) ≡ 512) × MayJoin (now block) (now draft) (getD (now block) 2 0) (getD (now draft) 2 0) (now kinds) (now links) (now ranks) × (getD (now draft) 2 0 ≤ 512) ⌝ }
     ensures { λ _. ⌜ Joins (now (block .entry)) (now (draft .entry)) (getD (now (block .entry)) 2 0) (getD (now (draft .entry)) 2 0) (now (kinds .entry)) (now (links .entry)) (now (ranks .entry)) (now (block .exit)) ⌝ }
 {
     let n = block[2] as usize;
     let k = draft[2] as usize;
-    let mut old = [0usize; 4096];
-    let mut new = [0usize; 4096];
-    weave::insert(block, draft, &mut old, &mut new);
-    sewing::sew(block, n, k, kinds, links, ranks, &old, &new);
+    weave::insert(block, draft, old, new);
+    sewing::sew(block, n, k, kinds, links, ranks, old, new);
 }

@@ -40,6 +40,9 @@ fn take(
     let mut draft = [0u64; 32776];
     let mut kinds = [0u64; 512];
     let mut links = [0u64; 512];
+    // The questions work in both; then they are for the places of all darts.
+    let mut old = [0usize; 4096];
+    let mut new = [0usize; 4096];
     match asks::questions(
         block,
         message,
@@ -55,10 +58,12 @@ fn take(
         &mut draft,
         &mut kinds,
         &mut links,
+        &mut old,
+        &mut new,
     ) {
         Asked::No(r) => Answer::Refused(r),
         Asked::Yes => {
-            join::join(block, &draft, &kinds, &links, &ranks);
+            join::join(block, &draft, &kinds, &links, &ranks, &mut old, &mut new);
             Answer::Served
         }
     }

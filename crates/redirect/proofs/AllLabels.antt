@@ -73,7 +73,7 @@ index-mem x (y ∷ l) = by-cases (eqb x y) (λ e. rw e (lt-ltb 0 (suc (length l)
 -- the darts whose face has one of the codes
 index-named : (m : List ℕ) (from : ℕ) {codes : List ℕ} {c : ℕ} (l : List ℕ) → Ready codes c → take c codes ≡ sorted l → (p : ℕ) → ltb (code-index m from codes c p) c ≡ named-at m from l p
 unfolding code-index
-index-named m from {codes} {c} l ready e p = by-cases (critical-with m from p) (λ t. rw t there) (λ t. rw t (le-ltb c c (omega arith)))
+index-named m from {codes} {c} l ready e p = by-cases (critical-with m from p) (λ t. rw t there) (λ t. rw t (le-ltb 4097 c (let h = ready .few in omega arith)))
   where
     list : tab (λ k. getD codes k 0) c ≡ sorted l
     list = front-tab codes c (let a = ready .few in let b = ready .size in omega arith) ∙ e

@@ -11,7 +11,7 @@ use Rattle.model.specs.Values.{code}
 use Rattle.model.specs.Cells.{cycle, next-in, least-label}
 use Rattle.model.specs.Image.{column}
 use Rattle.laws.proofs.Tests.{and-left}
-use Rattle.laws.proofs.Members.{In, in-map, map-in, map-map, map-cong, least-in, least-below}
+use Rattle.laws.proofs.Members.{In, in-map, map-in, map-map, map-cong, least-in, least-below, least-among}
 use Rattle.laws.proofs.Faces.{face-self, face-stays, face-sym, face-trans, along-face, face-distinct}
 use Rattle.memory.proofs.Labels.{code-label}
 use Rattle.columns.specs.Columns.{third-test}
@@ -25,10 +25,6 @@ use Rattle.cells.proofs.Sited.{Sited, darts-in, count-in}
 use Rattle.departure.specs.ByPlaces.{label-at}
 use Rattle.departure.proofs.LeavingFaces.{Face, labels-are}
 use Rattle.redirect.specs.ByPlaces.{face-code}
-
-least-of : (l : List ℕ) (x : ℕ) → In x l → In (least l) l
-least-of [] x k = absurd (true≢false (sym k))
-least-of (y ∷ l) x k = least-in y l
 
 -- A FACE, from any of its darts
 module _ {m : List ℕ} {n : ℕ} (l : Linked m n) where
@@ -55,7 +51,7 @@ module _ {m : List ℕ} {n : ℕ} (l : Linked m n) where
   -- its least label stands at one of its darts, and is that of each
   pub code-there : (x : ℕ) → x < n → (y : ℕ) × In y (cycle (column m 1) x) × (face-code m x ≡ column m 4 y)
   unfolding face-code
-  code-there x h = map-in (column m 4) (cycle (column m 1) x) (face-code m x) (least-of (map (column m 4) (cycle (column m 1) x)) (column m 4 x) (in-map (column m 4) x (cycle (column m 1) x) (self-in x h)))
+  code-there x h = map-in (column m 4) (cycle (column m 1) x) (face-code m x) (least-among (map (column m 4) (cycle (column m 1) x)) (column m 4 x) (in-map (column m 4) x (cycle (column m 1) x) (self-in x h)))
 
   code-least : (x y : ℕ) → In y (cycle (column m 1) x) → face-code m x ≤ column m 4 y
   unfolding face-code

@@ -2,51 +2,58 @@
 use mathlib.Core.Path.{_≡_, sym, _∙_, ap}
 use mathlib.Core.Bool.{Bool, true, _&&_}
 use mathlib.Core.List.{List}
-use Prim.Native.Nat.{ℕ, _+_, _≤_, _<_}
+use Prim.Native.Nat.{ℕ, _≤_, _<_}
 use native.Mathlib.Omega.{arith}
 use lib.Dec.{eqb}
 use lib.ListN.{length, getD, set, take, replicate, length-set, length-replicate}
 use lib.Seq.{getD-set-same, getD-set-other}
 use borrow.Author.Tests.{eqb-true, eq-eqb}
-use Rattle.model.specs.Lists.{all, tab, index-of}
+use Rattle.model.specs.Lists.{all, mem, tab, index-of}
+use Rattle.model.specs.Image.{room}
 use Rattle.laws.proofs.Tests.{by-cases, and-intro, and-left, and-right, same-truth}
 use Rattle.laws.proofs.Lists.{getD-zeros}
 use Rattle.laws.proofs.Tables.{tab-any, any-tab, index-place, index-held}
 use Rattle.columns.specs.Columns.{all-below}
 use Rattle.columns.proofs.Below.{all-tests}
-use Rattle.cells.proofs.Walks.{eq-or-ne, last-or-below}
+use Rattle.cells.specs.Places.{Painted}
+use Rattle.cells.proofs.Walks.{eq-or-ne}
 use Rattle.departure.specs.ByPlaces.{critical-with}
 use Rattle.redirect.specs.ByPlaces.{face-code, names-at, Ready, code-index, Indexed, HitsAre, all-hit, EachNamed}
 use Rattle.redirect.proofs.ReadCodes.{front-tab}
-use Rattle.redirect.proofs.Indices.{index-few}
+use Rattle.redirect.proofs.Indices.{same-everywhere}
 
--- MARKS
-pub hits-start : (index : ℕ → ℕ) (hits : List ℕ) → hits ≡ replicate 4097 0 → HitsAre index 0 hits
-hits-start index hits e = record {
+-- MARKS, beside a table of indices that is filled face by face
+pub record Hitting (index : ℕ → ℕ) (n : ℕ) (table hits : List ℕ) : Type 0 where
+  pub size : length hits ≡ 4097
+  pub only : (k : ℕ) → getD hits k 0 ≡ 1 → (p : ℕ) × (p < n) × (index p ≡ k)
+  pub marked : (p : ℕ) → p < n → getD table p 0 < 4097 → getD hits (getD table p 0) 0 ≡ 1
+
+pub hitting-start : (index : ℕ → ℕ) {n : ℕ} {table hits : List ℕ} → n ≤ room → table ≡ replicate room 4097 → hits ≡ replicate 4097 0 → Hitting index n table hits
+hitting-start index {n} {table} {hits} few t e = record {
   size = ap length e ∙ length-replicate {A = ℕ} 4097 0;
   only = λ k h. let z : getD hits k 0 ≡ 0 = ap (λ (l : List ℕ). getD l k 0) e ∙ getD-zeros 4097 k in absurd (omega arith);
-  marked = λ p h. absurd (omega arith);
+  marked = λ p h l. let z : getD table p 0 ≡ 4097 = ap (λ (u : List ℕ). getD u p 0) t ∙ same-everywhere room 4097 p (omega arith) in absurd (omega arith);
 }
 
-pub hits-more : {index : ℕ → ℕ} {p k : ℕ} {hits : List ℕ} → HitsAre index p hits → k ≡ index p → k < 4097 → HitsAre index (p + 1) (set hits k 1)
-hits-more {index} {p} {k} {hits} w e h = record {
+-- a face gets its index, which is marked
+pub hitting-face : {index : ℕ → ℕ} {n p k : ℕ} {f table table′ hits : List ℕ} → Hitting index n table hits → p < n → k ≡ index p → k < 4097 → Painted k f table table′ → Hitting index n table′ (set hits k 1)
+hitting-face {index} {n} {p} {k} {f} {table} {table′} {hits} w below e h d = record {
   size = simp length-set (w .size);
-  only = λ j t. eq-or-ne j k
-      (λ s. (p, omega arith, sym e ∙ sym s))
-      (λ s. let r = w .only j (sym (getD-set-other hits k j 1 0 s) ∙ t) in (r .0, (let b = r .1 in omega arith), r .2));
-  marked = λ q t. last-or-below t
-      (λ s. ap (λ (j : ℕ). getD (set hits k 1) j 0) (ap index s ∙ sym e) ∙ getD-set-same hits k 1 0 (let b = w .size in omega arith))
-      (λ s. eq-or-ne (index q) k
-      (λ i. ap (λ (j : ℕ). getD (set hits k 1) j 0) i ∙ getD-set-same hits k 1 0 (let b = w .size in omega arith))
-      (λ i. getD-set-other hits k (index q) 1 0 i ∙ w .marked q s));
+  only = λ j t. eq-or-ne j k (λ s. (p, below, sym e ∙ sym s)) (λ s. w .only j (sym (getD-set-other hits k j 1 0 s) ∙ t));
+  marked = λ q l less. by-cases (mem q f)
+      (λ i. at-k (d .value q ∙ rw i))
+      (λ i. let old : getD table′ q 0 ≡ getD table q 0 = d .value q ∙ rw i in
+      eq-or-ne (getD table′ q 0) k at-k (λ s. getD-set-other hits k (getD table′ q 0) 1 0 s ∙ ap (λ (j : ℕ). getD hits j 0) old ∙ w .marked q l (omega (arith, less, old))));
 }
+  where
+    at-k : {j : ℕ} → j ≡ k → getD (set hits k 1) j 0 ≡ 1
+    at-k s = ap (λ (i : ℕ). getD (set hits k 1) i 0) s ∙ getD-set-same hits k 1 0 (omega (arith, w .size, h))
 
--- marks of the indices in a table
-pub hits-indexed : {index : ℕ → ℕ} {n : ℕ} {table hits : List ℕ} → Indexed index n table → HitsAre (λ p. getD table p 0) n hits → HitsAre index n hits
-hits-indexed {index} {n} {table} {hits} d w = record {
+pub hitting-end : {index : ℕ → ℕ} {n : ℕ} {table hits : List ℕ} → Indexed index n table → Hitting index n table hits → HitsAre index n hits
+hitting-end {index} {n} {table} {hits} d w = record {
   size = w .size;
-  only = λ k h. let r = w .only k h in (r .0, r .1, sym (d .index-is (r .0) (r .1)) ∙ r .2);
-  marked = λ p h. ap (λ (j : ℕ). getD hits j 0) (sym (d .index-is p h)) ∙ w .marked p h;
+  only = w .only;
+  marked = λ p h l. ap (λ (j : ℕ). getD hits j 0) (sym (d .index-is p h)) ∙ w .marked p h (omega (arith, d .index-is p h, l));
 }
 
 -- each code is marked where a face has it
@@ -56,7 +63,7 @@ module _ (m : List ℕ) (from : ℕ) {codes : List ℕ} {c : ℕ} (ready : Ready
   found q k h e = by-cases (critical-with m from q)
       (λ t. let i : index-of (face-code m q) (tab (λ j. getD codes j 0) c) ≡ k = rw t at e in
       (t, sym (sym (ap (λ j. getD codes j 0) i) ∙ index-held (λ j. getD codes j 0) c (face-code m q) (omega arith))))
-      (λ t. let i : c ≡ k = rw t at e in absurd (omega arith))
+      (λ t. let i : 4097 ≡ k = rw t at e in absurd (omega (arith, i, h, ready .few)))
 
   finds : (q k : ℕ) → k < c → critical-with m from q ≡ true → face-code m q ≡ getD codes k 0 → code-index m from codes c q ≡ k
   unfolding code-index
@@ -77,19 +84,12 @@ module _ (m : List ℕ) (from : ℕ) {codes : List ℕ} {c : ℕ} (ready : Ready
       hit-of k h t =
           let r = any-tab (λ q. critical-with m from q && eqb (face-code m q) (getD codes k 0)) (λ q. q) (getD m 2 0) t in
           let i = finds (r .0) k h (and-left (critical-with m from (r .0)) _ (r .2)) (eqb-true (face-code m (r .0)) (getD codes k 0) (and-right (critical-with m from (r .0)) _ (r .2))) in
-          eq-eqb (getD hits k 0) 1 (ap (λ (j : ℕ). getD hits j 0) (sym i) ∙ w .marked (r .0) (r .1))
+          eq-eqb (getD hits k 0) 1 (ap (λ (j : ℕ). getD hits j 0) (sym i) ∙ w .marked (r .0) (r .1) (omega (arith, i, h, ready .few)))
 
   -- what table and marks say
-  pub each-named : {table hits : List ℕ} {n : ℕ} {r : Bool} → n ≡ getD m 2 0 → Indexed (code-index m from codes c) n table → HitsAre (λ p. getD table p 0) n hits → r ≡ all-hit hits c → EachNamed m from codes c table r
-  each-named {table} {hits} {n} {r} e d w k = let d′ : Indexed (code-index m from codes c) (getD m 2 0) table = rw e at d in record { said = k ∙ hits-names (hits-indexed d′ (rw e at w)); indexed = d′ }
-
-  -- an index is at most c
-  pub index-fits : {table : List ℕ} {n : ℕ} → Indexed (code-index m from codes c) n table → (p : ℕ) → p < n → getD table p 0 < 4097
-  index-fits d p h = omega (arith, d .index-is p h, index-few m from codes c p, ready .few)
+  pub each-named : {table hits : List ℕ} {n : ℕ} {r : Bool} → n ≡ getD m 2 0 → Indexed (code-index m from codes c) n table → HitsAre (code-index m from codes c) n hits → r ≡ all-hit hits c → EachNamed m from codes c table r
+  each-named {table} {hits} {n} {r} e d w k = record { said = k ∙ hits-names (rw e at w); indexed = rw e at d }
 
 -- ALL PASSED
-pub hits-end : {index : ℕ → ℕ} {p n : ℕ} {hits : List ℕ} → p ≤ n → n ≤ p → HitsAre index p hits → HitsAre index n hits
-hits-end {index} {p} {n} {hits} a b w = let e : p ≡ n = omega arith in rw e at w
-
 pub all-below-end : (t : ℕ → Bool) {k n : ℕ} {ok : Bool} → k ≤ n → n ≤ k → ok ≡ all-below t k → ok ≡ all-below t n
 all-below-end t {k} {n} a b e = let s : k ≡ n = omega arith in e ∙ ap (all-below t) s

@@ -6,18 +6,18 @@ use mathlib.Core.List.{List, [], _∷_}
 use Prim.Native.Nat.{ℕ, zero, suc, _+_, _*_, _≤_, _<_}
 use native.Mathlib.Omega.{arith}
 use lib.Dec.{eqb}
-use lib.ListN.{length, getD, set, replicate, length-replicate}
+use lib.ListN.{length, getD, replicate, length-replicate}
 use borrow.Author.Tests.{eq-eqb, ne-eqb}
 use Rattle.model.specs.Lists.{mem, tab, index-of}
 use Rattle.model.specs.Values.{rack}
 use Rattle.model.specs.Cells.{cycle}
 use Rattle.model.specs.Image.{room, column, is-image}
 use Rattle.laws.proofs.Tests.{by-cases}
-use Rattle.laws.proofs.Members.{In, in-here, in-cons, in-eq}
+use Rattle.laws.proofs.Members.{In, in-eq}
 use Rattle.laws.proofs.Tables.{length-tab}
 use Rattle.columns.proofs.Question.{image-passed}
 use Rattle.cells.specs.Places.{Linked, Painted}
-use Rattle.cells.proofs.Paths.{paint-none, paint-more}
+use Rattle.cells.proofs.Walks.{eq-or-ne}
 use Rattle.cells.proofs.Sited.{sited}
 use Rattle.departure.specs.ByPlaces.{critical-with}
 use Rattle.redirect.specs.ByPlaces.{face-code, code-index, Indexed}
@@ -29,14 +29,11 @@ unfolding index-of
 index-le x [] = omega arith
 index-le x (y ∷ l) = by-cases (eqb x y) (λ e. rw e (omega arith)) (λ e. rw e (let h = index-le x l in omega arith))
 
-module _ (m : List ℕ) (from : ℕ) (codes : List ℕ) (c p : ℕ) where
-  pub index-few : code-index m from codes c p ≤ c
-  unfolding code-index
-  index-few = by-cases (critical-with m from p)
-      (λ t. rw t (omega (arith, index-le (face-code m p) (tab (λ k. getD codes k 0) c), length-tab (λ k. getD codes k 0) c)))
-      (λ t. rw t (omega arith))
+pub index-few : (codes : List ℕ) (c x : ℕ) {k : ℕ} → k ≡ index-of x (tab (λ j. getD codes j 0) c) → k ≤ c
+index-few codes c x e = omega (arith, e, index-le x (tab (λ j. getD codes j 0) c), length-tab (λ j. getD codes j 0) c)
 
-  pub index-away : {v : ℕ} → v ≡ column m 3 p → (v ≡ 2 + 4 * from → ⊥) → c ≡ code-index m from codes c p
+module _ (m : List ℕ) (from : ℕ) (codes : List ℕ) (c p : ℕ) where
+  pub index-away : {v : ℕ} → v ≡ column m 3 p → (v ≡ 2 + 4 * from → ⊥) → code-index m from codes c p ≡ 4097
   unfolding code-index
   index-away read other = rw (ne-eqb (column m 3 p) (2 + 4 * from) (λ e. other (read ∙ e)))
 
@@ -49,8 +46,8 @@ pub index-along : (m : List ℕ) (ok : is-image rack m ≡ true) (from : ℕ) (c
 unfolding code-index
 index-along m ok from codes c x y h i =
     let site = sited rack m ok in
-    ap (λ (k : ℕ). cond (eqb k (2 + 4 * from)) (index-of (face-code m y) (tab (λ j. getD codes j 0) c)) c) (one-kind site (image-passed m ok) x y h i)
-    ∙ ap (λ (a : ℕ). cond (critical-with m from x) (index-of a (tab (λ j. getD codes j 0) c)) c) (one-code (site .linked) x y h i)
+    ap (λ (k : ℕ). cond (eqb k (2 + 4 * from)) (index-of (face-code m y) (tab (λ j. getD codes j 0) c)) 4097) (one-kind site (image-passed m ok) x y h i)
+    ∙ ap (λ (a : ℕ). cond (critical-with m from x) (index-of a (tab (λ j. getD codes j 0) c)) 4097) (one-code (site .linked) x y h i)
 
 -- BY PLACE: where a dart's place is not passed yet, it may have no index yet
 pub record Indexing (index : ℕ → ℕ) (n p : ℕ) (t : List ℕ) : Type 0 where
@@ -58,7 +55,7 @@ pub record Indexing (index : ℕ → ℕ) (n p : ℕ) (t : List ℕ) : Type 0 wh
   pub p-le : p ≤ n
   pub each : (q : ℕ) → q < n → (getD t q 0 ≡ index q) ⊎ ((p ≤ q) × (getD t q 0 ≡ 4097))
 
-same-everywhere : (k v q : ℕ) → q < k → getD (replicate k v) q 0 ≡ v
+pub same-everywhere : (k v q : ℕ) → q < k → getD (replicate k v) q 0 ≡ v
 same-everywhere zero v q h = absurd (omega arith)
 same-everywhere (suc k) v zero h = refl
 same-everywhere (suc k) v (suc q) h = same-everywhere k v q (omega arith)
@@ -81,16 +78,21 @@ module _ {index : ℕ → ℕ} {n p : ℕ} {t : List ℕ} (w : Indexing index n 
       go q (inl e) = inl e
       go q (inr e) = inr (above (λ s. other (ap (λ (j : ℕ). getD t j 0) s ∙ e .1)) (e .0), e .1)
 
-  -- one dart, or the face of one
+  -- a dart that has no index
+  pub indexing-away : index p ≡ 4097 → Indexing index n (p + 1) t
+  indexing-away none = record { size = w .size; p-le = omega arith; each = λ q k. go q (w .each q k) }
+    where
+      go : (q : ℕ) → (getD t q 0 ≡ index q) ⊎ ((p ≤ q) × (getD t q 0 ≡ 4097)) → (getD t q 0 ≡ index q) ⊎ ((p + 1 ≤ q) × (getD t q 0 ≡ 4097))
+      go q (inl e) = inl e
+      go q (inr e) = eq-or-ne p q (λ s. inl (e .1 ∙ sym none ∙ ap index s)) (λ s. inr (above s (e .0), e .1))
+
+  -- the face of one
   pub indexing-face : {f t′ : List ℕ} {v : ℕ} → v ≡ index p → In p f → ((q : ℕ) → In q f → index q ≡ index p) → Painted v f t t′ → Indexing index n (p + 1) t′
   indexing-face {f} {t′} {v} e self along d = record { size = d .size ∙ w .size; p-le = omega arith; each = λ q k. by-cases (mem q f) (λ i. inl (d .value q ∙ rw i (e ∙ sym (along q i)))) (λ i. go q i (w .each q k)) }
     where
       go : (q : ℕ) → mem q f ≡ false → (getD t q 0 ≡ index q) ⊎ ((p ≤ q) × (getD t q 0 ≡ 4097)) → (getD t′ q 0 ≡ index q) ⊎ ((p + 1 ≤ q) × (getD t′ q 0 ≡ 4097))
       go q i (inl a) = inl (d .value q ∙ rw i a)
       go q i (inr a) = inr (above (λ s. true≢false (sym (in-eq q p f (sym s) self) ∙ i)) (a .0), d .value q ∙ rw i (a .1))
-
-  pub indexing-one : {v : ℕ} → n ≤ room → v ≡ index p → Indexing index n (p + 1) (set t p v)
-  indexing-one {v} few e = indexing-face e (in-here p []) (λ q i. in-cons q p [] i (λ s. ap index s) (λ j. absurd (true≢false (sym j)))) (paint-more (paint-none v t) (let z = w .size in omega arith))
 
 pub indexing-end : {index : ℕ → ℕ} {n p : ℕ} {t : List ℕ} → Indexing index n p t → n ≤ p → Indexed index n t
 indexing-end {index} {n} {p} {t} w h = record { size = w .size; index-is = λ q k. go q k (w .each q k) }

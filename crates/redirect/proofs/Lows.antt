@@ -6,17 +6,13 @@ use native.Mathlib.Omega.{arith}
 use Rattle.model.specs.Lists.{least, least-from}
 use Rattle.model.specs.Cells.{cycle}
 use Rattle.model.specs.Image.{column}
-use Rattle.laws.proofs.Members.{map-append}
+use Rattle.laws.proofs.Members.{map-append, least-more}
 use Rattle.laws.proofs.Orbits.{path}
 use Rattle.cells.specs.Places.{Within}
 use Rattle.cells.proofs.Paths.{Round, Going, path-next, going-end}
 use Rattle.redirect.specs.ByPlaces.{face-code}
 
 -- ALONG A FACE
-least-more : (m : ℕ) (l : List ℕ) (y : ℕ) → least-from m (l ++ y ∷ []) ≡ min (least-from m l) y
-least-more m [] y = refl
-least-more m (x ∷ l) y = least-more (min m x) l y
-
 -- the least of v at the first k darts from x on
 pub record Lowest (f v : ℕ → ℕ) (x k low : ℕ) : Type 0 where
   pub low-is : low ≡ least-from (v x) (map v (path f k x))

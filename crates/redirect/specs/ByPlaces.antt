@@ -43,20 +43,20 @@ pub record Ready (codes : List ℕ) (c : ℕ) : Type 0 where
   pub size : length codes ≡ room
   pub ascends : Ascending c (λ k. getD codes k 0)
 
--- the index of the code of the face of the dart at place p, where that face is critical with block `from`; c elsewhere
+-- the index of the code of the face of the dart at place p, where that face is critical with block `from`; 4,097 elsewhere
 unfoldable pub code-index : List ℕ → ℕ → List ℕ → ℕ → ℕ → ℕ
-code-index m from codes c p = cond (critical-with m from p) (index-of (face-code m p) (tab (λ k. getD codes k 0) c)) c
+code-index m from codes c p = cond (critical-with m from p) (index-of (face-code m p) (tab (λ k. getD codes k 0) c)) 4097
 
 -- a table of these, by place
 pub record Indexed (index : ℕ → ℕ) (n : ℕ) (table : List ℕ) : Type 0 where
   pub size : length table ≡ room
   pub index-is : (q : ℕ) → q < n → getD table q 0 ≡ index q
 
--- the indices at the places below n are marked, and no other
+-- the indices of the faces that have one, at the places below n, are marked, and no other
 pub record HitsAre (index : ℕ → ℕ) (n : ℕ) (hits : List ℕ) : Type 0 where
   pub size : length hits ≡ 4097
   pub only : (k : ℕ) → getD hits k 0 ≡ 1 → (p : ℕ) × (p < n) × (index p ≡ k)
-  pub marked : (p : ℕ) → p < n → getD hits (index p) 0 ≡ 1
+  pub marked : (p : ℕ) → p < n → index p < 4097 → getD hits (index p) 0 ≡ 1
 
 -- the first c are marked
 abbrev pub all-hit : List ℕ → ℕ → Bool

@@ -37,7 +37,7 @@ pub fn face_code(block: &[u64], n: usize, start: usize) -> u64
 }
 
 // Gives the darts of the face of the dart at place `start` a number.
-pub fn paint_face(block: &[u64], n: usize, start: usize, number: usize, table: &mut [usize])
+pub fn paint_face(block: &[u64], n: usize, start: usize, number: u16, table: &mut [u16])
     requires { ⌜ Linked (now block) n × (start < n) × (length (now table) ≡ room) ⌝ }
     ensures { λ _. ⌜ Painted number (cycle (column (now (block .entry)) 1) start) (now (table .entry)) (now (table .exit)) ⌝ }
 {

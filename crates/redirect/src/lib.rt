@@ -55,14 +55,13 @@ fn each_named(
     from: u64,
     codes: &[u64],
     c: usize,
-    table: &mut [usize],
+    table: &mut [u16],
 ) -> bool
     requires { ⌜ (is-image rack (now block) ≡ true) × (n ≡ getD (now block) 2 0) × (from ≤ 15) × Ready (now codes) c × (now table ≡ replicate room 4097) ⌝ }
     ensures { λ r. ⌜ EachNamed (now (block .entry)) from (now (codes .entry)) c (now (table .exit)) r ⌝ }
 {
-    named::index_faces(block, n, from, codes, c, table);
     let mut hits = [0u8; 4097];
-    named::hit(table, n, &mut hits);
+    named::index_faces(block, n, from, codes, c, table, &mut hits);
     named::all_hit(&hits, c)
 }
 
@@ -75,7 +74,7 @@ fn all_named(
     s: &[u8],
     at: usize,
     count: usize,
-    table: &mut [usize],
+    table: &mut [u16],
 ) -> bool
     requires { ⌜ (is-image rack (now block) ≡ true) × (n ≡ getD (now block) 2 0) × (from ≤ 15) × (at ≤ length (now s)) × (count ≤ room) ⌝ }
     requires { ⌜ now table ≡ replicate room 4097 ⌝ }
@@ -108,7 +107,7 @@ fn redirect_update(block: &mut [u64], s: &[u8], u: Update) -> Answer
     }
     let n = block[2] as usize;
     let count = u.count as usize;
-    let mut table = [4097usize; 4096];
+    let mut table = [4097u16; 4096];
     if !all_named(block, n, from, s, u.labels, count, &mut table) {
         return Answer::Refused(Refusal::UpdateWrong);
     }

@@ -12,41 +12,35 @@ use crate::least;
 use memory::record;
 use memory::record::Place;
 
-// The index among the first c codes of the least label of each dart's face, by place; c where it is none of them, and where the face is
-// not critical with block `from`. A place that is not passed yet has 4,097.
-pub fn index_faces(block: &[u64], n: usize, from: u64, codes: &[u64], c: usize, table: &mut [usize])
-    requires { ⌜ (is-image rack (now block) ≡ true) × (n ≡ getD (now block) 2 0) × (from ≤ 15) × Ready (now codes) c × (now table ≡ replicate room 4097) ⌝ }
-    ensures { λ _. ⌜ Indexed (code-index (now (block .entry)) from (now (codes .entry)) c) n (now (table .exit)) ⌝ }
+// The index among the first c codes of the least label of each dart's face, by place; c where it is none of them. Where the face is not
+// critical with block `from`, and at a place that is not passed yet, it is 4,097. Marks each index that a face has.
+pub fn index_faces(
+    block: &[u64],
+    n: usize,
+    from: u64,
+    codes: &[u64],
+    c: usize,
+    table: &mut [u16],
+    hits: &mut [u8],
+)
+    requires { ⌜ (is-image rack (now block) ≡ true) × (n ≡ getD (now block) 2 0) × (from ≤ 15) × Ready (now codes) c × (now table ≡ replicate room 4097) × (now hits ≡ replicate 4097 0) ⌝ }
+    ensures { λ _. ⌜ Indexed (code-index (now (block .entry)) from (now (codes .entry)) c) n (now (table .exit)) × HitsAre (code-index (now (block .entry)) from (now (codes .entry)) c) n (now (hits .exit)) ⌝ }
 {
     let kind = 2 + 4 * from;
     // The places below p have their index, and so has each place whose face has a dart below p.
     let mut p = 0;
     while p < n {
-        if table[p] != 4097 {
+        if record::field(block, Place(p), 3) != kind {
             p += 1;
             continue;
         }
-        if record::field(block, Place(p), 3) != kind {
-            table[p] = c;
+        if table[p] != 4097 {
             p += 1;
             continue;
         }
         let code = least::face_code(block, n, p);
         let k = codes::index_of(codes, c, code);
-        least::paint_face(block, n, p, k, table);
-        p += 1;
-    }
-}
-
-// Marks each index that a dart has.
-pub fn hit(table: &[usize], n: usize, hits: &mut [u8])
-    requires { ⌜ (n ≤ room) × (length (now table) ≡ room) × ((p : ℕ) → p < n → getD (now table) p 0 < 4097) × (now hits ≡ replicate 4097 0) ⌝ }
-    ensures { λ _. ⌜ HitsAre (λ p. getD (now (table .entry)) p 0) n (now (hits .exit)) ⌝ }
-{
-    // The indices at the places below p are marked.
-    let mut p = 0;
-    while p < n {
-        let k = table[p];
+        least::paint_face(block, n, p, k as u16, table);
         hits[k] = 1;
         p += 1;
     }
@@ -67,15 +61,21 @@ pub fn all_hit(hits: &[u8], c: usize) -> bool
     ok
 }
 
+fn wide(x: u16) -> usize
+    ensures { λ r. ⌜ r ≡ x ⌝ }
+{
+    x as usize
+}
+
 // Sets the kind word of the darts whose index is below c.
-pub fn rewrite(block: &mut [u64], n: usize, word: u64, table: &[usize], c: usize)
+pub fn rewrite(block: &mut [u64], n: usize, word: u64, table: &[u16], c: usize)
     requires { ⌜ (n ≤ room) × (length (now block) ≡ words) × (length (now table) ≡ room) ⌝ }
     ensures { λ _. ⌜ Rewritten (now (block .entry)) (now (block .exit)) (λ p. ltb (getD (now (table .entry)) p 0) c) word n ⌝ }
 {
     // The words at the places below p are set.
     let mut p = 0;
     while p < n {
-        if c <= table[p] {
+        if c <= wide(table[p]) {
             p += 1;
             continue;
         }

@@ -13,7 +13,7 @@ use Rattle.model.specs.Values.{Dart}
 use Rattle.model.specs.Cells.{serials}
 use Rattle.model.specs.Arrival.{insert-all}
 use Rattle.laws.proofs.Tests.{by-cases, and-left, and-right, found-all}
-use Rattle.laws.proofs.Members.{In, in-cons, all-map, Each}
+use Rattle.laws.proofs.Members.{In, in-cons, all-map, Each, keep-true}
 use Rattle.cells.proofs.FaceLaws.{distinct-few}
 
 -- ONE ROW
@@ -64,10 +64,6 @@ or-assoc true false c = refl
 or-assoc false true c = refl
 or-assoc false false c = refl
 
-keep-all : {A : Type 0} (l : List A) → keep (λ a. true) l ≡ l
-keep-all [] = refl
-keep-all (a ∷ l) = ap (λ (t : List _). a ∷ t) (keep-all l)
-
 put-all : (r : ℕ → Bool) (ns l : List Dart) → ascending (serials l) ≡ true → Each (λ d. find (λ e. e .serial) (d .serial) l ≡ some d) ns → Each (λ d. r (d .serial) ≡ false) ns → distinct (serials ns) ≡ true
     → insert-all ns (keep (λ e. not (mem (e .serial) (serials ns) || r (e .serial))) l) ≡ keep (λ e. not (r (e .serial))) l
 put-all r [] l a f o d = refl
@@ -85,7 +81,7 @@ put-all r (n ∷ ns) l a f o d =
 -- THE LAW: rows that a table holds, each once, inserted into what is left of it
 pub inserted : (ns l : List Dart) → ascending (serials l) ≡ true → Each (λ d. find (λ e. e .serial) (d .serial) l ≡ some d) ns → distinct (serials ns) ≡ true
     → insert-all ns (keep (λ e. not (mem (e .serial) (serials ns) || false)) l) ≡ l
-inserted ns l a f d = put-all (λ x. false) ns l a f (all-false ns) d ∙ keep-all l
+inserted ns l a f d = put-all (λ x. false) ns l a f (all-false ns) d ∙ keep-true l
   where
     all-false : (ms : List Dart) → Each (λ d. false ≡ false) ms
     all-false [] = tt

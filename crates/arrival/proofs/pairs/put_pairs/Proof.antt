@@ -1,7 +1,7 @@
 -- `arrival::pairs::put_pairs` meets its contract.
 -- Assumes nothing.
 use Prim.Native.Nat.{_-_}
-use mathlib.Core.Path.{refl}
+use mathlib.Core.Path.{refl, _∙_}
 use Rattle.arrival.proofs.SegmentLaws.{next-below}
 use Rattle.arrival.proofs.Steps.{Pairing, pairing-none, pairing-more, pairing-all}
 use native.Mathlib.Omega.{arith}
@@ -39,33 +39,26 @@ shared-slice-read-ok-2 : tie.Need-shared-slice-read-ok-2 Inv-loop μ-loop
 shared-slice-read-ok-2 c =
     let n = next-below (c .before .before .before .before .before .before .before .before .before .pre .1 .0) (c .before .before .before .before .loop .i) (omega arith) in omega (arith, n, c .before .before .next-index .ensures)
 
-mul-pairs : tie.Need-mul-pairs Inv-loop μ-loop
-mul-pairs c = search needs
+mul-couple : tie.Need-mul-couple Inv-loop μ-loop
+mul-couple c = search needs
 
-shared-slice-read-pairs : tie.Need-shared-slice-read-pairs Inv-loop μ-loop
-shared-slice-read-pairs c = search needs
+shared-slice-read-couple : tie.Need-shared-slice-read-couple Inv-loop μ-loop
+shared-slice-read-couple c = search needs
 
-mul-pairs-2 : tie.Need-mul-pairs-2 Inv-loop μ-loop
-mul-pairs-2 c =
-    let r = c .before .before .before .before .before .before .before .before .before .before .pre .1 .1 (c .before .before .before .before .before .loop .i) (omega arith) in omega (arith, r)
-
-mul-pairs-3 : tie.Need-mul-pairs-3 Inv-loop μ-loop
-mul-pairs-3 c =
+mul-couple-2 : tie.Need-mul-couple-2 Inv-loop μ-loop
+mul-couple-2 c =
     let n = next-below (c .before .before .before .before .before .before .before .before .before .before .pre .1 .0) (c .before .before .before .before .before .loop .i) (omega arith) in omega (arith, n, c .before .before .before .next-index .ensures)
 
-shared-slice-read-pairs-2 : tie.Need-shared-slice-read-pairs-2 Inv-loop μ-loop
-shared-slice-read-pairs-2 c =
+shared-slice-read-couple-2 : tie.Need-shared-slice-read-couple-2 Inv-loop μ-loop
+shared-slice-read-couple-2 c =
     let n = next-below (c .before .before .before .before .before .before .before .before .before .before .before .pre .1 .0) (c .before .before .before .before .before .before .loop .i) (omega arith) in omega (arith, n, c .before .before .before .before .next-index .ensures)
 
-add-pairs : tie.Need-add-pairs Inv-loop μ-loop
-add-pairs c =
-    let n = next-below (c .before .before .before .before .before .before .before .before .before .before .before .pre .1 .0) (c .before .before .before .before .before .before .loop .i) (omega arith) in
-    let r = c .before .before .before .before .before .before .before .before .before .before .before .pre .1 .1 (c .before .before .before .before .before .before .loop .i) (omega arith) in
-    let u = c .before .before .before .before .before .before .before .before .before .before .before .pre .1 .1 (c .before .before .before .before .next-index .result) (omega (arith, n, c .before .before .before .before .next-index .ensures)) in
-    omega (arith, r, u)
+couple-requires : tie.Need-couple-requires Inv-loop μ-loop
+couple-requires c κs =
+    (c .before .before .before .before .before .before .before .before .before .before .before .pre .1 .1 (c .before .before .before .before .before .before .loop .i) (c .before .before .before .before .before .loop-test .taken), c .before .before .before .before .before .before .before .before .before .before .before .pre .1 .1 (c .before .before .before .before .next-index .result) (let n = next-below (c .before .before .before .before .before .before .before .before .before .before .before .pre .1 .0) (c .before .before .before .before .before .before .loop .i) (omega arith) in omega (arith, n, c .before .before .before .before .next-index .ensures)))
 
-mul-pairs-4 : tie.Need-mul-pairs-4 Inv-loop μ-loop
-mul-pairs-4 c = search needs
+mul-pairs : tie.Need-mul-pairs Inv-loop μ-loop
+mul-pairs c = search needs
 
 slice-write-pairs : tie.Need-slice-write-pairs Inv-loop μ-loop
 slice-write-pairs c = search needs
@@ -78,7 +71,7 @@ loop-less c = search needs
 
 loop-again : tie.Need-loop-again Inv-loop μ-loop
 loop-again c =
-    pairing-more (c .before .before .before .before .before .before .loop .inv) (omega arith) (omega arith) (rw (c .before .before .before .before .next-index .ensures) refl) (rw (c .before .before .before .before .next-index .ensures) refl)
+    pairing-more (c .before .before .before .before .before .before .before .loop .inv) (omega arith) (omega arith) (c .couple .ensures ∙ rw (c .before .before .before .before .before .next-index .ensures) refl) (rw (c .before .before .before .before .before .next-index .ensures) refl)
 
 same-length : tie.Need-same-length Inv-loop μ-loop
 same-length c = search needs
@@ -99,13 +92,12 @@ put-pairs-spec =
     shared-slice-read-ok
     mul-ok-2
     shared-slice-read-ok-2
+    mul-couple
+    shared-slice-read-couple
+    mul-couple-2
+    shared-slice-read-couple-2
+    couple-requires
     mul-pairs
-    shared-slice-read-pairs
-    mul-pairs-2
-    mul-pairs-3
-    shared-slice-read-pairs-2
-    add-pairs
-    mul-pairs-4
     slice-write-pairs
     add-i
     loop-less

@@ -8,16 +8,15 @@ use Rattle.arrival.proofs.volume.one_volume.Tie as tie
 slice-aggregate-volume : tie.Need-slice-aggregate-volume
 slice-aggregate-volume c = search needs
 
-slice-aggregate-volume-2 : tie.Need-slice-aggregate-volume-2
-slice-aggregate-volume-2 c = search needs
-
 volume-requires : tie.Need-volume-requires
 volume-requires c κs = search needs
 
+same-length : tie.Need-same-length
+same-length c = search needs
+
 returns : tie.Need-returns
 returns c =
-    rw (c .before .before .volume .ensures .1 .0) refl
+    (rw (c .before .before .before .volume .ensures .1 .0) refl, c .before .before .before .volume .ensures .1 .1 .size)
 
 pub one-volume-spec : {M : Type 1} → statement M
-one-volume-spec =
-    tie.close (tie.spec slice-aggregate-volume slice-aggregate-volume-2 volume-requires returns)
+one-volume-spec = tie.close (tie.spec slice-aggregate-volume volume-requires same-length returns)

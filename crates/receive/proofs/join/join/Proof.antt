@@ -11,31 +11,25 @@ slice-read-n c = search needs
 shared-slice-read-k : tie.Need-shared-slice-read-k
 shared-slice-read-k c = search needs
 
-slice-aggregate-insert : tie.Need-slice-aggregate-insert
-slice-aggregate-insert c = search needs
-
-slice-aggregate-insert-2 : tie.Need-slice-aggregate-insert-2
-slice-aggregate-insert-2 c = search needs
-
 insert-requires : tie.Need-insert-requires
 insert-requires c κs = search needs
 
-slice-aggregate-sew : tie.Need-slice-aggregate-sew
-slice-aggregate-sew c = search needs
-
-slice-aggregate-sew-2 : tie.Need-slice-aggregate-sew-2
-slice-aggregate-sew-2 c = search needs
-
 sew-requires : tie.Need-sew-requires
 sew-requires c κs =
-    (woven-size (c .before .before .before .before .before .before .before .before .before .before .before .before .before .before .before .before .before .before .pre .3) (c .before .before .before .before .before .before .before .insert .ensures .0), c .before .before .before .before .before .before .before .before .before .before .before .before .before .before .before .before .before .before .pre .0, c .before .before .before .before .before .before .before .before .before .before .before .before .before .before .before .before .before .before .pre .1, c .before .before .before .before .before .before .before .before .before .before .before .before .before .before .before .before .before .before .pre .2, c .before .before .before .before .before .before .before .insert .ensures .1 .0 .1, c .before .before .before .before .before .before .before .insert .ensures .1 .1 .1, may-sew (c .before .before .before .before .before .before .before .before .before .before .before .before .before .before .before .before .before .before .pre .3) _ _ (c .before .before .before .before .before .before .before .insert .ensures .1 .0 .0) (c .before .before .before .before .before .before .before .insert .ensures .1 .1 .0) (c .before .before .before .before .before .before .before .before .before .before .before .before .before .before .before .before .before .before .pre .4))
+    (woven-size (c .before .before .before .before .before .before .before .before .before .before .before .before .before .before .before .before .before .before .before .before .before .before .pre .1 .3) (c .before .before .before .before .before .before .before .before .before .insert .ensures .0), c .before .before .before .before .before .before .before .before .before .before .before .before .before .before .before .before .before .before .before .before .before .before .pre .1 .0, c .before .before .before .before .before .before .before .before .before .before .before .before .before .before .before .before .before .before .before .before .before .before .pre .1 .1, c .before .before .before .before .before .before .before .before .before .before .before .before .before .before .before .before .before .before .before .before .before .before .pre .1 .2, c .before .before .before .before .before .before .before .before .before .insert .ensures .1 .0 .1, c .before .before .before .before .before .before .before .before .before .insert .ensures .1 .1 .1, may-sew (c .before .before .before .before .before .before .before .before .before .before .before .before .before .before .before .before .before .before .before .before .before .before .pre .1 .3) _ _ (c .before .before .before .before .before .before .before .before .before .insert .ensures .1 .0 .0) (c .before .before .before .before .before .before .before .before .before .insert .ensures .1 .1 .0) (c .before .before .before .before .before .before .before .before .before .before .before .before .before .before .before .before .before .before .before .before .before .before .pre .1 .4))
 
 same-length : tie.Need-same-length
 same-length c = search needs
 
+same-length-2 : tie.Need-same-length-2
+same-length-2 c = search needs
+
+same-length-3 : tie.Need-same-length-3
+same-length-3 c = search needs
+
 returns : tie.Need-returns
 returns c =
-    joins (c .before .before .before .before .before .before .before .before .before .before .before .before .before .before .before .before .before .before .before .before .before .pre .3) _ _ (c .before .before .before .before .before .before .before .before .before .before .insert .ensures .1 .0 .0) (c .before .before .before .before .before .before .before .before .before .before .insert .ensures .1 .1 .0) (c .before .before .before .before .before .before .before .before .before .before .insert .ensures .0) (c .before .before .sew .ensures)
+    joins (c .before .before .before .before .before .before .before .before .before .before .before .before .before .before .before .before .before .before .before .before .before .before .before .before .before .pre .1 .3) _ _ (c .before .before .before .before .before .before .before .before .before .before .before .before .insert .ensures .1 .0 .0) (c .before .before .before .before .before .before .before .before .before .before .before .before .insert .ensures .1 .1 .0) (c .before .before .before .before .before .before .before .before .before .before .before .before .insert .ensures .0) (c .before .before .sew .ensures)
 
 pub join-spec : {M : Type 1} → statement M
 join-spec =
@@ -43,11 +37,9 @@ join-spec =
     (tie.spec
     slice-read-n
     shared-slice-read-k
-    slice-aggregate-insert
-    slice-aggregate-insert-2
     insert-requires
-    slice-aggregate-sew
-    slice-aggregate-sew-2
     sew-requires
     same-length
+    same-length-2
+    same-length-3
     returns)

@@ -1,0 +1,116 @@
+-- `arrival::pairs::couples` meets its contract. The loop's invariant: the keys below r are couples, two by two.
+-- The measure is what is left of the keys. Assumes nothing.
+use Prim.Native.Nat.{_-_}
+use mathlib.Core.Path.{refl, sym, _∙_}
+use lib.ListN.{length-set}
+use Rattle.arrival.proofs.CoupleLaws.{Coupling, coupling-none, coupling-not, coupling-more, coupling-all}
+use native.Mathlib.Omega.{arith}
+use borrow.Author.Needs.{needs}
+use Rattle.arrival.proofs.pairs.couples.Statement.{statement}
+use Rattle.arrival.proofs.pairs.couples.Tie as tie
+
+abbrev Inv-loop : tie.InvT-loop
+Inv-loop keys k opposite₀ r₀ opposite r =
+    Coupling keys k opposite r
+
+abbrev μ-loop : tie.MeasureT-loop
+μ-loop keys k opposite₀ r₀ opposite r =
+    k - r
+
+loop-holds : tie.Need-loop-holds Inv-loop μ-loop
+loop-holds c =
+    coupling-none _ _ (c .pre .0 .2)
+
+add-if1 : tie.Need-add-if1 Inv-loop μ-loop
+add-if1 c = search needs
+
+same-length : tie.Need-same-length Inv-loop μ-loop
+same-length c =
+    c .before .before .loop .inv .len ∙ sym (c .before .before .before .pre .0 .2)
+
+returns : tie.Need-returns Inv-loop μ-loop
+returns c =
+    (coupling-not (c .before .before .before .pre .0 .3) (c .before .before .loop .inv) (c .before .loop-test .taken) (λ l. absurd (omega (arith, l, c .if1 .taken))), c .before .before .loop .inv .len)
+
+mul-a : tie.Need-mul-a Inv-loop μ-loop
+mul-a c = search needs
+
+shared-slice-read-a : tie.Need-shared-slice-read-a Inv-loop μ-loop
+shared-slice-read-a c = search needs
+
+add-b : tie.Need-add-b Inv-loop μ-loop
+add-b c = search needs
+
+mul-b : tie.Need-mul-b Inv-loop μ-loop
+mul-b c = search needs
+
+shared-slice-read-b : tie.Need-shared-slice-read-b Inv-loop μ-loop
+shared-slice-read-b c = search needs
+
+same-length-2 : tie.Need-same-length-2 Inv-loop μ-loop
+same-length-2 c =
+    c .before .before .before .before .before .loop .inv .len ∙ sym (c .before .before .before .before .before .before .pre .0 .2)
+
+returns-2 : tie.Need-returns-2 Inv-loop μ-loop
+returns-2 c =
+    (coupling-not (c .before .before .before .before .before .before .pre .0 .3) (c .before .before .before .before .before .loop .inv) (c .before .before .before .before .loop-test .taken) (λ l e. c .if2 .taken (omega (arith, e))), c .before .before .before .before .before .loop .inv .len)
+
+mul-opposite : tie.Need-mul-opposite Inv-loop μ-loop
+mul-opposite c = search needs
+
+slice-write-opposite : tie.Need-slice-write-opposite Inv-loop μ-loop
+slice-write-opposite c =
+    omega (arith, c .before .before .before .before .before .loop .inv .len)
+
+mul-opposite-2 : tie.Need-mul-opposite-2 Inv-loop μ-loop
+mul-opposite-2 c = search needs
+
+slice-write-opposite-2 : tie.Need-slice-write-opposite-2 Inv-loop μ-loop
+slice-write-opposite-2 c =
+    simp length-set (omega (arith, c .before .before .before .before .before .loop .inv .len))
+
+add-r : tie.Need-add-r Inv-loop μ-loop
+add-r c = search needs
+
+loop-less : tie.Need-loop-less Inv-loop μ-loop
+loop-less c =
+    omega (arith, c .before .before .before .before .loop-test .taken)
+
+loop-again : tie.Need-loop-again Inv-loop μ-loop
+loop-again c =
+    coupling-more (c .before .before .before .before .before .before .pre .0 .3) (c .before .before .before .before .before .loop .inv) (c .before .before .before .before .loop-test .taken) (omega (arith, c .before .before .before .before .loop-test .taken, c .before .before .before .if1 .left)) (c .before .before .before .before .before .before .pre .1) (omega (arith, c .if2 .left)) refl refl
+
+same-length-3 : tie.Need-same-length-3 Inv-loop μ-loop
+same-length-3 c =
+    c .before .loop .inv .len ∙ sym (c .before .before .pre .0 .2)
+
+returns-3 : tie.Need-returns-3 Inv-loop μ-loop
+returns-3 c =
+    (coupling-all (c .before .loop .inv) (c .loop-test .left), c .before .loop .inv .len)
+
+pub couples-spec : {M : Type 1} → statement M
+couples-spec =
+    tie.close
+    (tie.spec
+    Inv-loop
+    μ-loop
+    loop-holds
+    add-if1
+    same-length
+    returns
+    mul-a
+    shared-slice-read-a
+    add-b
+    mul-b
+    shared-slice-read-b
+    same-length-2
+    returns-2
+    mul-opposite
+    slice-write-opposite
+    mul-opposite-2
+    slice-write-opposite-2
+    add-r
+    loop-less
+    loop-again
+    same-length-3
+    returns-3)

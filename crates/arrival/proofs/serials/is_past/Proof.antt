@@ -1,0 +1,25 @@
+-- `arrival::serials::is_past` meets its contract.
+-- Assumes nothing.
+use borrow.Author.Tests.{ltb-true}
+use mathlib.Core.Bool.{true≢false}
+use native.Mathlib.Omega.{arith}
+use borrow.Author.Needs.{needs}
+use Rattle.arrival.proofs.serials.is_past.Statement.{statement}
+use Rattle.arrival.proofs.serials.is_past.Tie as tie
+
+returns : tie.Need-returns
+returns c =
+    (λ e h. omega (arith, h, c .if1 .taken), λ e. absurd (true≢false e))
+
+sub-t6 : tie.Need-sub-t6
+sub-t6 c = search needs
+
+field-requires : tie.Need-field-requires
+field-requires c κs = search needs
+
+returns-2 : tie.Need-returns-2
+returns-2 c =
+    (λ e h. let l = ltb-true (c .field .result) (c .before .before .before .args .serial) e in omega (arith, l, c .field .ensures), λ e. omega (arith, c .before .if1 .left))
+
+pub is-past-spec : {M : Type 1} → statement M
+is-past-spec = tie.close (tie.spec returns sub-t6 field-requires returns-2)
