@@ -20,7 +20,8 @@ returns c = search needs
 
 returns-2 : tie.Need-returns-2
 returns-2 c =
-    c .refusal-number .ensures ∙ sym (ap (λ x. number-of (answer-of x)) (c .before .before .a .given .1))
+    let a-given = (let p : tie.After-a = search in p .a .given) in
+    c .refusal-number .ensures ∙ sym (ap (λ x. number-of (answer-of x)) (a-given .1))
 
 pub answer-number-spec : {M : Type 1} → statement M
 answer-number-spec =

@@ -32,7 +32,8 @@ returns-3 c = search needs
 
 returns-4 : tie.Need-returns-4
 returns-4 c =
-    c .refusal-number .ensures ∙ sym (ap (λ x. number-of (move-of x)) (c .before .before .m .given .1))
+    let m-given = (let p : tie.After-m = search in p .m .given) in
+    c .refusal-number .ensures ∙ sym (ap (λ x. number-of (move-of x)) (m-given .1))
 
 pub move-number-spec : {M : Type 1} → statement M
 move-number-spec =

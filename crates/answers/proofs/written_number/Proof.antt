@@ -20,7 +20,8 @@ returns c = search needs
 
 returns-2 : tie.Need-returns-2
 returns-2 c =
-    c .refusal-number .ensures ∙ sym (ap (λ x. number-of (written-of x)) (c .before .before .w .given .1))
+    let w-given = (let p : tie.After-w = search in p .w .given) in
+    c .refusal-number .ensures ∙ sym (ap (λ x. number-of (written-of x)) (w-given .1))
 
 pub written-number-spec : {M : Type 1} → statement M
 written-number-spec =

@@ -22,7 +22,8 @@ shared-slice-read-left c = search needs
 
 sub-left : tie.Need-sub-left
 sub-left c =
-    omega (arith, count-few (c .before .before .before .pre .0) (c .before .before .before .args .to) (c .before .before .before .pre .2))
+    let start : tie.Start = search in
+    omega (arith, count-few (start .pre .0) (start .args .to) (start .pre .2))
 
 mul-from : tie.Need-mul-from
 mul-from c = search needs
@@ -44,15 +45,18 @@ part-first-leaving-end c = search needs
 
 first-leaving-requires : tie.Need-first-leaving-requires
 first-leaving-requires c κs =
-    let q = leaving-ready (c .before .before .before .before .before .pre .0) (c .before .before .before .before .before .args .d) (c .before .before .before .before .before .args .to) (c .before .before .before .before .before .pre .1) (c .before .before .before .before .before .pre .2) (c .before .before .before .before .before .pre .3) (part-is (c .before .before .before .before .before .args .mesh .now) (c .before .before .before .before .before .args .d) _ refl) in
-    (q .0, q .1, q .2, c .before .before .before .before .before .pre .4)
+    let start : tie.Start = search in
+    let q = leaving-ready (start .pre .0) (start .args .d) (start .args .to) (start .pre .1) (start .pre .2) (start .pre .3) (part-is (start .args .mesh .now) (start .args .d) _ refl) in
+    (q .0, q .1, q .2, start .pre .4)
 
 same-length : tie.Need-same-length
 same-length c = search needs
 
 returns : tie.Need-returns
 returns c =
-    between-there (c .before .before .before .before .before .before .before .before .args .sizes .now) (part-is (c .before .before .before .before .before .before .before .before .args .mesh .now) (c .before .before .before .before .before .before .before .before .args .d) _ refl) (ap (λ (x : ℕ). 4096 - x) (sym (count-word (c .before .before .before .before .before .before .before .before .args .mesh .now) (c .before .before .before .before .before .before .before .before .args .to)))) (c .before .before .first-leaving .ensures .0) (c .before .before .first-leaving .ensures .1)
+    let start : tie.Start = search in
+    let first-leaving-ensures = (let p : tie.After-first-leaving = search in p .first-leaving .ensures) in
+    between-there (start .args .sizes .now) (part-is (start .args .mesh .now) (start .args .d) _ refl) (ap (λ (x : ℕ). 4096 - x) (sym (count-word (start .args .mesh .now) (start .args .to)))) (first-leaving-ensures .0) (first-leaving-ensures .1)
 
 pub between-spec : {M : Type 1} → statement M
 between-spec =

@@ -29,69 +29,106 @@ abbrev μ-loop : tie.MeasureT-loop
 
 loop-holds : tie.Need-loop-holds Inv-loop μ-loop
 loop-holds c =
-    (c .before .before .pre .2, searching-start _ _ _)
+    let start : tie.Start Inv-loop μ-loop = search in
+    (start .pre .2, searching-start _ _ _)
 
 add-d : tie.Need-add-d Inv-loop μ-loop
 add-d c =
-    omega (arith, c .loop-test .taken, c .before .before .before .before .pre .0 .few)
+    let start : tie.Start Inv-loop μ-loop = search in
+    omega (arith, c .loop-test .taken, start .pre .0 .few)
 
 mul-s : tie.Need-mul-s Inv-loop μ-loop
 mul-s c =
-    omega (arith, c .loop-test .taken, c .before .before .before .before .pre .0 .few)
+    let start : tie.Start Inv-loop μ-loop = search in
+    omega (arith, c .loop-test .taken, start .pre .0 .few)
 
 array-copy-out-s : tie.Need-array-copy-out-s Inv-loop μ-loop
 array-copy-out-s c =
-    omega (arith, c .loop-test .taken, c .before .before .before .before .pre .0 .few, c .before .before .before .before .pre .1 .size)
+    let start : tie.Start Inv-loop μ-loop = search in
+    omega (arith, c .loop-test .taken, start .pre .0 .few, start .pre .1 .size)
 
 is-above-requires : tie.Need-is-above-requires Inv-loop μ-loop
 is-above-requires c κs = search needs
 
 loop-less : tie.Need-loop-less Inv-loop μ-loop
 loop-less c =
-    omega (arith, c .before .before .before .loop-test .taken)
+    let loop-test-taken = (let p : tie.In-loop Inv-loop μ-loop = search in p .loop-test .taken) in
+    omega (arith, loop-test-taken)
 
 loop-again : tie.Need-loop-again Inv-loop μ-loop
 loop-again c =
-    let e : toZ w32 (ofZ w32 (getD (c .before .before .before .before .before .before .before .args .t3) (c .before .before .before .before .loop .d) (pos 0))) ≡ getD (c .before .before .before .before .before .before .before .args .t3) (c .before .before .before .before .loop .d) (pos 0) = toZ-ofZ w32 (getD (c .before .before .before .before .before .before .before .args .t3) (c .before .before .before .before .loop .d) (pos 0)) (search needs) in
-    (c .before .before .before .before .loop .inv .0, searching-skip (c .before .before .before .before .loop .inv .1) (c .before .before .before .loop-test .taken) (sym (above-told (c .before .before .before .before .before .before .before .pre .1) (c .before .before .before .before .loop .d) (c .before .before .before .loop-test .taken) e (c .before .is-above .ensures)) ∙ not-true _ (c .if1 .taken)))
+    let start : tie.Start Inv-loop μ-loop = search in
+    let loop-d = (let p : tie.At-loop Inv-loop μ-loop = search in p .loop .d) in
+    let loop-inv = (let p : tie.At-loop Inv-loop μ-loop = search in p .loop .inv) in
+    let loop-test-taken = (let p : tie.In-loop Inv-loop μ-loop = search in p .loop-test .taken) in
+    let is-above-ensures = (let p : tie.After-is-above Inv-loop μ-loop = search in p .is-above .ensures) in
+    let e : toZ w32 (ofZ w32 (getD (start .args .t3) loop-d (pos 0))) ≡ getD (start .args .t3) loop-d (pos 0) = toZ-ofZ w32 (getD (start .args .t3) loop-d (pos 0)) (search needs) in
+    (loop-inv .0, searching-skip (loop-inv .1) loop-test-taken (sym (above-told (start .pre .1) loop-d loop-test-taken e is-above-ensures) ∙ not-true _ (c .if1 .taken)))
 
 from-donor-requires : tie.Need-from-donor-requires Inv-loop μ-loop
 from-donor-requires c κs =
-    let e : toZ w32 (ofZ w32 (getD (c .before .before .before .before .before .before .before .before .args .t3) (c .before .before .before .before .before .loop .d) (pos 0))) ≡ getD (c .before .before .before .before .before .before .before .before .args .t3) (c .before .before .before .before .before .loop .d) (pos 0) = toZ-ofZ w32 (getD (c .before .before .before .before .before .before .before .before .args .t3) (c .before .before .before .before .before .loop .d) (pos 0)) (search needs) in
-    ((c .before .before .before .before .before .before .before .before .pre .0, c .before .before .before .before .loop-test .taken, c .before .before .before .before .before .loop .inv .0), (c .before .before .before .before .before .before .before .before .pre .1, ap is-above (sym e) ∙ sym (c .before .before .is-above .ensures) ∙ not-false _ (c .before .if1 .left)))
+    let start : tie.Start Inv-loop μ-loop = search in
+    let loop-d = (let p : tie.At-loop Inv-loop μ-loop = search in p .loop .d) in
+    let loop-inv = (let p : tie.At-loop Inv-loop μ-loop = search in p .loop .inv) in
+    let loop-test-taken = (let p : tie.In-loop Inv-loop μ-loop = search in p .loop-test .taken) in
+    let is-above-ensures = (let p : tie.After-is-above Inv-loop μ-loop = search in p .is-above .ensures) in
+    let if1-left = (let p : tie.Else1 Inv-loop μ-loop = search in p .if1 .left) in
+    let e : toZ w32 (ofZ w32 (getD (start .args .t3) loop-d (pos 0))) ≡ getD (start .args .t3) loop-d (pos 0) = toZ-ofZ w32 (getD (start .args .t3) loop-d (pos 0)) (search needs) in
+    ((start .pre .0, loop-test-taken, loop-inv .0), (start .pre .1, ap is-above (sym e) ∙ sym is-above-ensures ∙ not-false _ if1-left))
 
 loop-less-2 : tie.Need-loop-less-2 Inv-loop μ-loop
 loop-less-2 c =
-    omega (arith, c .before .before .before .before .before .before .before .before .before .loop-test .taken)
+    let loop-test-taken = (let p : tie.In-loop Inv-loop μ-loop = search in p .loop-test .taken) in
+    omega (arith, loop-test-taken)
 
 loop-again-2 : tie.Need-loop-again-2 Inv-loop μ-loop
 loop-again-2 c =
-    (c .before .before .before .before .from-donor .ensures .2, searching-none (c .before .before .before .before .before .before .before .before .before .before .loop .inv .1) (c .before .before .before .before .before .before .before .before .before .loop-test .taken) (c .before .before .before .before .from-donor .ensures .0 .nothing (c .if2 .taken)))
+    let loop-inv = (let p : tie.At-loop Inv-loop μ-loop = search in p .loop .inv) in
+    let loop-test-taken = (let p : tie.In-loop Inv-loop μ-loop = search in p .loop-test .taken) in
+    let from-donor-ensures = (let p : tie.After-from-donor Inv-loop μ-loop = search in p .from-donor .ensures) in
+    (from-donor-ensures .2, searching-none (loop-inv .1) loop-test-taken (from-donor-ensures .0 .nothing (c .if2 .taken)))
 
 cast-t21 : tie.Need-cast-t21 Inv-loop μ-loop
 cast-t21 c =
-    omega (arith, c .before .before .before .before .before .before .before .before .before .loop-test .taken, c .before .before .before .before .before .before .before .before .before .before .before .before .before .pre .0 .few)
+    let start : tie.Start Inv-loop μ-loop = search in
+    let loop-test-taken = (let p : tie.In-loop Inv-loop μ-loop = search in p .loop-test .taken) in
+    omega (arith, loop-test-taken, start .pre .0 .few)
 
 cast-t22 : tie.Need-cast-t22 Inv-loop μ-loop
 cast-t22 c =
-    omega (arith, c .before .before .before .before .before .from-donor .ensures .1)
+    let from-donor-ensures = (let p : tie.After-from-donor Inv-loop μ-loop = search in p .from-donor .ensures) in
+    omega (arith, from-donor-ensures .1)
 
 same-length : tie.Need-same-length Inv-loop μ-loop
 same-length c =
-    c .before .before .before .before .before .from-donor .ensures .2 ∙ sym (c .before .before .before .before .before .before .before .before .before .before .before .before .before .before .pre .2)
+    let start : tie.Start Inv-loop μ-loop = search in
+    let from-donor-ensures = (let p : tie.After-from-donor Inv-loop μ-loop = search in p .from-donor .ensures) in
+    from-donor-ensures .2 ∙ sym (start .pre .2)
 
 returns : tie.Need-returns Inv-loop μ-loop
 returns c =
-    let e : toZ w32 (ofZ w32 (getD (c .before .before .before .before .before .before .before .before .before .before .before .before .before .before .args .t3) (c .before .before .before .before .before .before .before .before .before .before .before .loop .d) (pos 0))) ≡ getD (c .before .before .before .before .before .before .before .before .before .before .before .before .before .before .args .t3) (c .before .before .before .before .before .before .before .before .before .before .before .loop .d) (pos 0) = toZ-ofZ w32 (getD (c .before .before .before .before .before .before .before .before .before .before .before .before .before .before .args .t3) (c .before .before .before .before .before .before .before .before .before .before .before .loop .d) (pos 0)) (search needs) in
-    donor-found (oracle-of (c .before .before .before .before .before .before .before .before .before .before .before .before .before .before .args .o)) (c .before .before .before .before .before .before .before .before .before .before .before .before .before .before .args .mesh .now) (c .before .before .before .before .before .before .before .before .before .before .before .loop .inv .1) (c .before .before .before .before .before .before .before .before .before .before .loop-test .taken) (sym (above-told (c .before .before .before .before .before .before .before .before .before .before .before .before .before .before .pre .1) (c .before .before .before .before .before .before .before .before .before .before .before .loop .d) (c .before .before .before .before .before .before .before .before .before .before .loop-test .taken) e (c .before .before .before .before .before .before .before .before .is-above .ensures)) ∙ not-false _ (c .before .before .before .before .before .before .before .if1 .left)) (c .before .before .before .before .before .from-donor .ensures .0) (c .before .if2 .left)
+    let start : tie.Start Inv-loop μ-loop = search in
+    let loop-d = (let p : tie.At-loop Inv-loop μ-loop = search in p .loop .d) in
+    let loop-inv = (let p : tie.At-loop Inv-loop μ-loop = search in p .loop .inv) in
+    let loop-test-taken = (let p : tie.In-loop Inv-loop μ-loop = search in p .loop-test .taken) in
+    let is-above-ensures = (let p : tie.After-is-above Inv-loop μ-loop = search in p .is-above .ensures) in
+    let if1-left = (let p : tie.Else1 Inv-loop μ-loop = search in p .if1 .left) in
+    let from-donor-ensures = (let p : tie.After-from-donor Inv-loop μ-loop = search in p .from-donor .ensures) in
+    let if2-left = (let p : tie.Else2 Inv-loop μ-loop = search in p .if2 .left) in
+    let e : toZ w32 (ofZ w32 (getD (start .args .t3) loop-d (pos 0))) ≡ getD (start .args .t3) loop-d (pos 0) = toZ-ofZ w32 (getD (start .args .t3) loop-d (pos 0)) (search needs) in
+    donor-found (oracle-of (start .args .o)) (start .args .mesh .now) (loop-inv .1) loop-test-taken (sym (above-told (start .pre .1) loop-d loop-test-taken e is-above-ensures) ∙ not-false _ if1-left) (from-donor-ensures .0) if2-left
 
 same-length-2 : tie.Need-same-length-2 Inv-loop μ-loop
 same-length-2 c =
-    c .before .loop .inv .0 ∙ sym (c .before .before .before .before .pre .2)
+    let start : tie.Start Inv-loop μ-loop = search in
+    let loop-inv = (let p : tie.At-loop Inv-loop μ-loop = search in p .loop .inv) in
+    loop-inv .0 ∙ sym (start .pre .2)
 
 returns-2 : tie.Need-returns-2 Inv-loop μ-loop
 returns-2 c =
-    donor-end (oracle-of (c .before .before .before .before .args .o)) (c .before .before .before .before .args .mesh .now) (c .before .loop .inv .1) (c .loop-test .left)
+    let start : tie.Start Inv-loop μ-loop = search in
+    let loop-inv = (let p : tie.At-loop Inv-loop μ-loop = search in p .loop .inv) in
+    donor-end (oracle-of (start .args .o)) (start .args .mesh .now) (loop-inv .1) (c .loop-test .left)
 
 pub first-move-spec : {M : Type 1} → statement M
 first-move-spec =

@@ -28,7 +28,8 @@ abbrev μ-loop : tie.MeasureT-loop
 
 sizes-at-requires : tie.Need-sizes-at-requires Inv-loop μ-loop
 sizes-at-requires c κs =
-    c .before .before .before .pre .0
+    let start : tie.Start Inv-loop μ-loop = search in
+    start .pre .0
 
 loop-holds : tie.Need-loop-holds Inv-loop μ-loop
 loop-holds c =
@@ -36,58 +37,98 @@ loop-holds c =
 
 add-r : tie.Need-add-r Inv-loop μ-loop
 add-r c =
-    omega (arith, c .loop-test .taken, c .before .before .before .before .before .before .before .before .pre .0 .0 .few)
+    let start : tie.Start Inv-loop μ-loop = search in
+    omega (arith, c .loop-test .taken, start .pre .0 .0 .few)
 
 mul-s : tie.Need-mul-s Inv-loop μ-loop
 mul-s c =
-    omega (arith, c .loop-test .taken, c .before .before .before .before .before .before .before .before .pre .0 .0 .few)
+    let start : tie.Start Inv-loop μ-loop = search in
+    omega (arith, c .loop-test .taken, start .pre .0 .0 .few)
 
 array-copy-out-s : tie.Need-array-copy-out-s Inv-loop μ-loop
 array-copy-out-s c =
-    omega (arith, c .loop-test .taken, c .before .before .before .before .before .before .before .before .pre .0 .0 .few, c .before .before .before .before .before .before .before .before .pre .1 .0 .size)
+    let start : tie.Start Inv-loop μ-loop = search in
+    omega (arith, c .loop-test .taken, start .pre .0 .0 .few, start .pre .1 .0 .size)
 
 is-below-requires : tie.Need-is-below-requires Inv-loop μ-loop
 is-below-requires c κs = search needs
 
 loop-less : tie.Need-loop-less Inv-loop μ-loop
 loop-less c =
-    omega (arith, c .before .before .before .loop-test .taken)
+    let loop-test-taken = (let p : tie.In-loop Inv-loop μ-loop = search in p .loop-test .taken) in
+    omega (arith, loop-test-taken)
 
 loop-again : tie.Need-loop-again Inv-loop μ-loop
 loop-again c =
-    let e : toZ w32 (ofZ w32 (getD (c .before .before .before .before .before .before .before .before .before .before .before .args .t3) (c .before .before .before .before .loop .r) (pos 0))) ≡ getD (c .before .before .before .before .before .before .before .before .before .before .before .args .t3) (c .before .before .before .before .loop .r) (pos 0) = toZ-ofZ w32 (getD (c .before .before .before .before .before .before .before .before .before .before .before .args .t3) (c .before .before .before .before .loop .r) (pos 0)) (search needs) in
-    λ o z s. giving-skip (c .before .before .before .before .loop .inv o z s) (c .before .before .before .loop-test .taken) (sym (below-told s (c .before .before .before .before .loop .r) (c .before .before .before .loop-test .taken) e (c .before .is-below .ensures)) ∙ not-true _ (c .if1 .taken))
+    let start : tie.Start Inv-loop μ-loop = search in
+    let loop-inv = (let p : tie.At-loop Inv-loop μ-loop = search in p .loop .inv) in
+    let loop-r = (let p : tie.At-loop Inv-loop μ-loop = search in p .loop .r) in
+    let loop-test-taken = (let p : tie.In-loop Inv-loop μ-loop = search in p .loop-test .taken) in
+    let is-below-ensures = (let p : tie.After-is-below Inv-loop μ-loop = search in p .is-below .ensures) in
+    let e : toZ w32 (ofZ w32 (getD (start .args .t3) loop-r (pos 0))) ≡ getD (start .args .t3) loop-r (pos 0) = toZ-ofZ w32 (getD (start .args .t3) loop-r (pos 0)) (search needs) in
+    λ o z s. giving-skip (loop-inv o z s) loop-test-taken (sym (below-told s loop-r loop-test-taken e is-below-ensures) ∙ not-true _ (c .if1 .taken))
 
 between-requires : tie.Need-between-requires Inv-loop μ-loop
 between-requires c κs =
-    let e : toZ w32 (ofZ w32 (getD (c .before .before .before .before .before .before .before .before .before .before .before .before .args .t3) (c .before .before .before .before .before .loop .r) (pos 0))) ≡ getD (c .before .before .before .before .before .before .before .before .before .before .before .before .args .t3) (c .before .before .before .before .before .loop .r) (pos 0) = toZ-ofZ w32 (getD (c .before .before .before .before .before .before .before .before .before .before .before .before .args .t3) (c .before .before .before .before .before .loop .r) (pos 0)) (search needs) in
-    (c .before .before .before .before .before .before .before .before .before .before .before .before .pre .0 .0, c .before .before .before .before .before .before .before .before .before .before .before .before .pre .0 .1, c .before .before .before .before .loop-test .taken, blocks-apart (c .before .before .before .before .before .before .before .before .before .before .before .before .args .t3) (c .before .before .before .before .before .before .before .before .before .before .before .before .args .d) (c .before .before .before .before .before .loop .r) (c .before .before .before .before .before .before .before .before .before .before .before .before .pre .1 .1) e (c .before .before .is-below .ensures) (not-false _ (c .before .if1 .left)), (c .before .before .before .before .before .loop .inv (oracle-of (c .before .before .before .before .before .before .before .before .before .before .before .before .args .o)) (c .before .before .before .before .before .before .before .before .sizes-at .ensures) (c .before .before .before .before .before .before .before .before .before .before .before .before .pre .1 .0)) .untried .len)
+    let start : tie.Start Inv-loop μ-loop = search in
+    let sizes-at-ensures = (let p : tie.After-sizes-at Inv-loop μ-loop = search in p .sizes-at .ensures) in
+    let loop-inv = (let p : tie.At-loop Inv-loop μ-loop = search in p .loop .inv) in
+    let loop-r = (let p : tie.At-loop Inv-loop μ-loop = search in p .loop .r) in
+    let loop-test-taken = (let p : tie.In-loop Inv-loop μ-loop = search in p .loop-test .taken) in
+    let is-below-ensures = (let p : tie.After-is-below Inv-loop μ-loop = search in p .is-below .ensures) in
+    let if1-left = (let p : tie.Else1 Inv-loop μ-loop = search in p .if1 .left) in
+    let e : toZ w32 (ofZ w32 (getD (start .args .t3) loop-r (pos 0))) ≡ getD (start .args .t3) loop-r (pos 0) = toZ-ofZ w32 (getD (start .args .t3) loop-r (pos 0)) (search needs) in
+    (start .pre .0 .0, start .pre .0 .1, loop-test-taken, blocks-apart (start .args .t3) (start .args .d) loop-r (start .pre .1 .1) e is-below-ensures (not-false _ if1-left), (loop-inv (oracle-of (start .args .o)) sizes-at-ensures (start .pre .1 .0)) .untried .len)
 
 loop-less-2 : tie.Need-loop-less-2 Inv-loop μ-loop
 loop-less-2 c =
-    omega (arith, c .before .before .before .before .before .before .before .before .loop-test .taken)
+    let loop-test-taken = (let p : tie.In-loop Inv-loop μ-loop = search in p .loop-test .taken) in
+    omega (arith, loop-test-taken)
 
 loop-again-2 : tie.Need-loop-again-2 Inv-loop μ-loop
 loop-again-2 c =
-    let e : toZ w32 (ofZ w32 (getD (c .before .before .before .before .before .before .before .before .before .before .before .before .before .before .before .before .args .t3) (c .before .before .before .before .before .before .before .before .before .loop .r) (pos 0))) ≡ getD (c .before .before .before .before .before .before .before .before .before .before .before .before .before .before .before .before .args .t3) (c .before .before .before .before .before .before .before .before .before .loop .r) (pos 0) = toZ-ofZ w32 (getD (c .before .before .before .before .before .before .before .before .before .before .before .before .before .before .before .before .args .t3) (c .before .before .before .before .before .before .before .before .before .loop .r) (pos 0)) (search needs) in
-    λ o z s. giving-none (c .before .before .before .before .before .before .before .before .before .loop .inv o z s) (c .before .before .before .before .before .before .before .before .loop-test .taken) (c .before .before .before .before .before .before .before .before .before .before .before .before .before .before .before .before .pre .0 .0) (c .before .before .before .before .before .before .before .before .before .before .before .before .before .before .before .before .pre .0 .1) (blocks-apart (c .before .before .before .before .before .before .before .before .before .before .before .before .before .before .before .before .args .t3) (c .before .before .before .before .before .before .before .before .before .before .before .before .before .before .before .before .args .d) (c .before .before .before .before .before .before .before .before .before .loop .r) (c .before .before .before .before .before .before .before .before .before .before .before .before .before .before .before .before .pre .1 .1) e (c .before .before .before .before .before .before .is-below .ensures) (not-false _ (c .before .before .before .before .before .if1 .left))) (c .before .before .before .between .ensures .0) (c .if2 .taken) (c .before .before .before .between .ensures .1)
+    let start : tie.Start Inv-loop μ-loop = search in
+    let loop-inv = (let p : tie.At-loop Inv-loop μ-loop = search in p .loop .inv) in
+    let loop-r = (let p : tie.At-loop Inv-loop μ-loop = search in p .loop .r) in
+    let loop-test-taken = (let p : tie.In-loop Inv-loop μ-loop = search in p .loop-test .taken) in
+    let is-below-ensures = (let p : tie.After-is-below Inv-loop μ-loop = search in p .is-below .ensures) in
+    let if1-left = (let p : tie.Else1 Inv-loop μ-loop = search in p .if1 .left) in
+    let between-ensures = (let p : tie.After-between Inv-loop μ-loop = search in p .between .ensures) in
+    let e : toZ w32 (ofZ w32 (getD (start .args .t3) loop-r (pos 0))) ≡ getD (start .args .t3) loop-r (pos 0) = toZ-ofZ w32 (getD (start .args .t3) loop-r (pos 0)) (search needs) in
+    λ o z s. giving-none (loop-inv o z s) loop-test-taken (start .pre .0 .0) (start .pre .0 .1) (blocks-apart (start .args .t3) (start .args .d) loop-r (start .pre .1 .1) e is-below-ensures (not-false _ if1-left)) (between-ensures .0) (c .if2 .taken) (between-ensures .1)
 
 same-length : tie.Need-same-length Inv-loop μ-loop
 same-length c =
-    c .before .before .before .between .ensures .1 .len ∙ sym (c .before .before .before .before .before .before .before .before .before .before .before .before .before .before .before .before .pre .0 .2)
+    let start : tie.Start Inv-loop μ-loop = search in
+    let between-ensures = (let p : tie.After-between Inv-loop μ-loop = search in p .between .ensures) in
+    between-ensures .1 .len ∙ sym (start .pre .0 .2)
 
 returns : tie.Need-returns Inv-loop μ-loop
 returns c =
-    let e : toZ w32 (ofZ w32 (getD (c .before .before .before .before .before .before .before .before .before .before .before .before .before .before .before .before .args .t3) (c .before .before .before .before .before .before .before .before .before .loop .r) (pos 0))) ≡ getD (c .before .before .before .before .before .before .before .before .before .before .before .before .before .before .before .before .args .t3) (c .before .before .before .before .before .before .before .before .before .loop .r) (pos 0) = toZ-ofZ w32 (getD (c .before .before .before .before .before .before .before .before .before .before .before .before .before .before .before .before .args .t3) (c .before .before .before .before .before .before .before .before .before .loop .r) (pos 0)) (search needs) in
-    (giving-found (c .before .before .before .before .before .before .before .before .before .loop .inv (oracle-of (c .before .before .before .before .before .before .before .before .before .before .before .before .before .before .before .before .args .o)) (c .before .before .before .before .before .before .before .before .before .before .before .before .sizes-at .ensures) (c .before .before .before .before .before .before .before .before .before .before .before .before .before .before .before .before .pre .1 .0)) (c .before .before .before .before .before .before .before .before .loop-test .taken) (c .before .before .before .before .before .before .before .before .before .before .before .before .before .before .before .before .pre .0 .0) (c .before .before .before .before .before .before .before .before .before .before .before .before .before .before .before .before .pre .0 .1) (blocks-apart (c .before .before .before .before .before .before .before .before .before .before .before .before .before .before .before .before .args .t3) (c .before .before .before .before .before .before .before .before .before .before .before .before .before .before .before .before .args .d) (c .before .before .before .before .before .before .before .before .before .loop .r) (c .before .before .before .before .before .before .before .before .before .before .before .before .before .before .before .before .pre .1 .1) e (c .before .before .before .before .before .before .is-below .ensures) (not-false _ (c .before .before .before .before .before .if1 .left))) (c .before .before .before .between .ensures .0) (c .if2 .left) (sym (below-told (c .before .before .before .before .before .before .before .before .before .before .before .before .before .before .before .before .pre .1 .0) (c .before .before .before .before .before .before .before .before .before .loop .r) (c .before .before .before .before .before .before .before .before .loop-test .taken) e (c .before .before .before .before .before .before .is-below .ensures)) ∙ not-false _ (c .before .before .before .before .before .if1 .left)), omega (arith, c .before .before .before .before .before .before .before .before .loop-test .taken, c .before .before .before .before .before .before .before .before .before .before .before .before .before .before .before .before .pre .0 .0 .few), c .before .before .before .between .ensures .1 .len)
+    let start : tie.Start Inv-loop μ-loop = search in
+    let sizes-at-ensures = (let p : tie.After-sizes-at Inv-loop μ-loop = search in p .sizes-at .ensures) in
+    let loop-inv = (let p : tie.At-loop Inv-loop μ-loop = search in p .loop .inv) in
+    let loop-r = (let p : tie.At-loop Inv-loop μ-loop = search in p .loop .r) in
+    let loop-test-taken = (let p : tie.In-loop Inv-loop μ-loop = search in p .loop-test .taken) in
+    let is-below-ensures = (let p : tie.After-is-below Inv-loop μ-loop = search in p .is-below .ensures) in
+    let if1-left = (let p : tie.Else1 Inv-loop μ-loop = search in p .if1 .left) in
+    let between-ensures = (let p : tie.After-between Inv-loop μ-loop = search in p .between .ensures) in
+    let e : toZ w32 (ofZ w32 (getD (start .args .t3) loop-r (pos 0))) ≡ getD (start .args .t3) loop-r (pos 0) = toZ-ofZ w32 (getD (start .args .t3) loop-r (pos 0)) (search needs) in
+    (giving-found (loop-inv (oracle-of (start .args .o)) sizes-at-ensures (start .pre .1 .0)) loop-test-taken (start .pre .0 .0) (start .pre .0 .1) (blocks-apart (start .args .t3) (start .args .d) loop-r (start .pre .1 .1) e is-below-ensures (not-false _ if1-left)) (between-ensures .0) (c .if2 .left) (sym (below-told (start .pre .1 .0) loop-r loop-test-taken e is-below-ensures) ∙ not-false _ if1-left), omega (arith, loop-test-taken, start .pre .0 .0 .few), between-ensures .1 .len)
 
 same-length-2 : tie.Need-same-length-2 Inv-loop μ-loop
 same-length-2 c =
-    (c .before .loop .inv (oracle-of (c .before .before .before .before .before .before .before .before .args .o)) (c .before .before .before .before .sizes-at .ensures) (c .before .before .before .before .before .before .before .before .pre .1 .0)) .untried .len ∙ sym (c .before .before .before .before .before .before .before .before .pre .0 .2)
+    let start : tie.Start Inv-loop μ-loop = search in
+    let sizes-at-ensures = (let p : tie.After-sizes-at Inv-loop μ-loop = search in p .sizes-at .ensures) in
+    let loop-inv = (let p : tie.At-loop Inv-loop μ-loop = search in p .loop .inv) in
+    (loop-inv (oracle-of (start .args .o)) sizes-at-ensures (start .pre .1 .0)) .untried .len ∙ sym (start .pre .0 .2)
 
 returns-2 : tie.Need-returns-2 Inv-loop μ-loop
 returns-2 c =
-    (giving-end (c .before .loop .inv (oracle-of (c .before .before .before .before .before .before .before .before .args .o)) (c .before .before .before .before .sizes-at .ensures) (c .before .before .before .before .before .before .before .before .pre .1 .0)) (c .loop-test .left), omega arith, (c .before .loop .inv (oracle-of (c .before .before .before .before .before .before .before .before .args .o)) (c .before .before .before .before .sizes-at .ensures) (c .before .before .before .before .before .before .before .before .pre .1 .0)) .untried .len)
+    let start : tie.Start Inv-loop μ-loop = search in
+    let sizes-at-ensures = (let p : tie.After-sizes-at Inv-loop μ-loop = search in p .sizes-at .ensures) in
+    let loop-inv = (let p : tie.At-loop Inv-loop μ-loop = search in p .loop .inv) in
+    (giving-end (loop-inv (oracle-of (start .args .o)) sizes-at-ensures (start .pre .1 .0)) (c .loop-test .left), omega arith, (loop-inv (oracle-of (start .args .o)) sizes-at-ensures (start .pre .1 .0)) .untried .len)
 
 pub from-donor-spec : {M : Type 1} → statement M
 from-donor-spec =

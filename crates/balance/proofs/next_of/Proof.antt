@@ -8,34 +8,52 @@ use Rattle.balance.proofs.next_of.Tie as tie
 
 surpluses-requires : tie.Need-surpluses-requires
 surpluses-requires c κs =
-    sound-parts (c .before .args .mesh .now) (c .before .pre .0) (c .before .pre .1)
+    let start : tie.Start = search in
+    sound-parts (start .args .mesh .now) (start .pre .0) (start .pre .1)
 
 some-above-requires : tie.Need-some-above-requires
 some-above-requires c κs =
-    sound-parts (c .before .before .args .mesh .now) (c .before .before .pre .0) (c .before .before .pre .1) .few
+    let start : tie.Start = search in
+    sound-parts (start .args .mesh .now) (start .pre .0) (start .pre .1) .few
 
 returns : tie.Need-returns
 returns c =
-    nobody-above (oracle-of (c .before .before .before .before .args .o)) (c .before .before .before .before .args .mesh .now) (c .before .before .surpluses .ensures) (c .before .some-above .ensures) (c .if1 .taken) ∙ model-mesh (oracle-of (c .before .before .before .before .args .o)) (c .before .before .before .before .args .mesh .now)
+    let start : tie.Start = search in
+    let surpluses-ensures = (let p : tie.After-surpluses = search in p .surpluses .ensures) in
+    let some-above-ensures = (let p : tie.After-some-above = search in p .some-above .ensures) in
+    nobody-above (oracle-of (start .args .o)) (start .args .mesh .now) surpluses-ensures some-above-ensures (c .if1 .taken) ∙ model-mesh (oracle-of (start .args .o)) (start .args .mesh .now)
 
 some-below-requires : tie.Need-some-below-requires
 some-below-requires c κs =
-    sound-parts (c .before .before .before .before .args .mesh .now) (c .before .before .before .before .pre .0) (c .before .before .before .before .pre .1) .few
+    let start : tie.Start = search in
+    sound-parts (start .args .mesh .now) (start .pre .0) (start .pre .1) .few
 
 returns-2 : tie.Need-returns-2
 returns-2 c =
-    nobody-below (oracle-of (c .before .before .before .before .before .before .args .o)) (c .before .before .before .before .before .before .args .mesh .now) (c .before .before .before .before .surpluses .ensures) (c .before .some-below .ensures) (c .if2 .taken) ∙ model-mesh (oracle-of (c .before .before .before .before .before .before .args .o)) (c .before .before .before .before .before .before .args .mesh .now)
+    let start : tie.Start = search in
+    let surpluses-ensures = (let p : tie.After-surpluses = search in p .surpluses .ensures) in
+    let some-below-ensures = (let p : tie.After-some-below = search in p .some-below .ensures) in
+    nobody-below (oracle-of (start .args .o)) (start .args .mesh .now) surpluses-ensures some-below-ensures (c .if2 .taken) ∙ model-mesh (oracle-of (start .args .o)) (start .args .mesh .now)
 
 slice-aggregate-first-move : tie.Need-slice-aggregate-first-move
 slice-aggregate-first-move c = search needs
 
 first-move-requires : tie.Need-first-move-requires
 first-move-requires c κs =
-    (sound-parts (c .before .before .before .before .before .before .before .args .mesh .now) (c .before .before .before .before .before .before .before .pre .0) (c .before .before .before .before .before .before .before .pre .1), c .before .before .before .before .before .surpluses .ensures, refl)
+    let start : tie.Start = search in
+    let surpluses-ensures = (let p : tie.After-surpluses = search in p .surpluses .ensures) in
+    (sound-parts (start .args .mesh .now) (start .pre .0) (start .pre .1), surpluses-ensures, refl)
 
 returns-3 : tie.Need-returns-3
 returns-3 c =
-    c .before .first-move .ensures ∙ some-of-both (oracle-of (c .before .before .before .before .before .before .before .before .before .args .o)) (c .before .before .before .before .before .before .before .before .before .args .mesh .now) (c .before .before .before .before .before .before .before .surpluses .ensures) (c .before .before .before .before .before .before .some-above .ensures) (c .before .before .before .before .before .if1 .left) (c .before .before .before .before .some-below .ensures) (c .before .before .before .if2 .left) ∙ model-mesh (oracle-of (c .before .before .before .before .before .before .before .before .before .args .o)) (c .before .before .before .before .before .before .before .before .before .args .mesh .now)
+    let start : tie.Start = search in
+    let surpluses-ensures = (let p : tie.After-surpluses = search in p .surpluses .ensures) in
+    let some-above-ensures = (let p : tie.After-some-above = search in p .some-above .ensures) in
+    let if1-left = (let p : tie.Else1 = search in p .if1 .left) in
+    let some-below-ensures = (let p : tie.After-some-below = search in p .some-below .ensures) in
+    let if2-left = (let p : tie.Else2 = search in p .if2 .left) in
+    let first-move-ensures = (let p : tie.After-first-move = search in p .first-move .ensures) in
+    first-move-ensures ∙ some-of-both (oracle-of (start .args .o)) (start .args .mesh .now) surpluses-ensures some-above-ensures if1-left some-below-ensures if2-left ∙ model-mesh (oracle-of (start .args .o)) (start .args .mesh .now)
 
 pub next-of-spec : {M : Type 1} → statement M
 next-of-spec =

@@ -31,14 +31,17 @@ part-sizes-of-end c = search needs
 
 sizes-of-requires : tie.Need-sizes-of-requires
 sizes-of-requires c κs =
-    (subst (λ (l : List ℕ). is-image rack l ≡ true) (sym (part-is (c .before .before .before .before .args .mesh .now) (c .before .before .before .before .args .i) _ refl)) (c .before .before .before .before .pre .0 .image (c .before .before .before .before .args .i) (c .before .before .before .before .pre .1)), c .before .before .before .before .pre .2)
+    let start : tie.Start = search in
+    (subst (λ (l : List ℕ). is-image rack l ≡ true) (sym (part-is (start .args .mesh .now) (start .args .i) _ refl)) (start .pre .0 .image (start .args .i) (start .pre .1)), start .pre .2)
 
 same-length : tie.Need-same-length
 same-length c = search needs
 
 returns : tie.Need-returns
 returns c =
-    sizes-there (c .before .before .sizes-of .ensures) (part-is (c .before .before .before .before .before .before .before .args .mesh .now) (c .before .before .before .before .before .before .before .args .i) _ refl)
+    let start : tie.Start = search in
+    let sizes-of-ensures = (let p : tie.After-sizes-of = search in p .sizes-of .ensures) in
+    sizes-there sizes-of-ensures (part-is (start .args .mesh .now) (start .args .i) _ refl)
 
 pub sizes-at-spec : {M : Type 1} → statement M
 sizes-at-spec =

@@ -18,7 +18,7 @@ returns-2 c = search needs
 
 slice-aggregate-show : tie.Need-slice-aggregate-show
 slice-aggregate-show c =
-    let st = c .before .before .before .before .before in
+    let st : tie.Start = search in
     sym (length-take-le (st .args .k * 32776) (st .args .mesh .now) (omega arith))
 
 show-requires : tie.Need-show-requires

@@ -46,7 +46,11 @@ returns-3 c = search needs
 
 next-of-requires : tie.Need-next-of-requires
 next-of-requires c κs =
-    (sym (c .before .before .before .before .before .all-sound .ensures) ∙ not-false _ (c .before .before .before .before .if1 .left), sym (c .before .before .before .blocks-right .ensures) ∙ not-false _ (c .before .before .if2 .left))
+    let all-sound-ensures = (let p : tie.After-all-sound = search in p .all-sound .ensures) in
+    let if1-left = (let p : tie.Else1 = search in p .if1 .left) in
+    let blocks-right-ensures = (let p : tie.After-blocks-right = search in p .blocks-right .ensures) in
+    let if2-left = (let p : tie.Else2 = search in p .if2 .left) in
+    (sym all-sound-ensures ∙ not-false _ if1-left, sym blocks-right-ensures ∙ not-false _ if2-left)
 
 move-kind-requires : tie.Need-move-kind-requires
 move-kind-requires c κs = search needs

@@ -45,14 +45,31 @@ field-requires-4 c κs = search needs
 
 returns-5 : tie.Need-returns-5
 returns-5 c =
-    λ e. linked-at (c .before .before .before .before .before .before .before .before .before .before .before .before .args .block .now) _ (c .before .before .before .before .before .before .before .before .before .before .before .before .args .back .now) _ (c .before .before .before .before .before .before .before .before .before .field .ensures) (omega (arith, c .before .before .before .before .before .before .before .before .if1 .left)) (c .before .before .before .before .before .before .if2 .left) (c .before .before .before .before .before .field2 .ensures) (omega (arith, c .before .before .before .before .if3 .left)) (c .before .before .before .field3 .ensures) (c .before .before .if4 .left) (λ s. absurd (c .if5 .taken (ap (λ (k : ℕ). k % 4) (c .before .field4 .ensures) ∙ s)))
+    let start : tie.Start = search in
+    let field-ensures = (let p : tie.After-field = search in p .field .ensures) in
+    let if1-left = (let p : tie.Else1 = search in p .if1 .left) in
+    let if2-left = (let p : tie.Else2 = search in p .if2 .left) in
+    let field2-ensures = (let p : tie.After-field2 = search in p .field2 .ensures) in
+    let if3-left = (let p : tie.Else3 = search in p .if3 .left) in
+    let field3-ensures = (let p : tie.After-field3 = search in p .field3 .ensures) in
+    let if4-left = (let p : tie.Else4 = search in p .if4 .left) in
+    let field4-ensures = (let p : tie.After-field4 = search in p .field4 .ensures) in
+    λ e. linked-at (start .args .block .now) _ (start .args .back .now) _ field-ensures (omega (arith, if1-left)) if2-left field2-ensures (omega (arith, if3-left)) field3-ensures if4-left (λ s. absurd (c .if5 .taken (ap (λ (k : ℕ). k % 4) field4-ensures ∙ s)))
 
 field-requires-5 : tie.Need-field-requires-5
 field-requires-5 c κs = search needs
 
 returns-6 : tie.Need-returns-6
 returns-6 c =
-    λ e. linked-at (c .before .before .before .before .before .before .before .before .before .before .before .before .before .args .block .now) _ (c .before .before .before .before .before .before .before .before .before .before .before .before .before .args .back .now) _ (c .before .before .before .before .before .before .before .before .before .before .field .ensures) (omega (arith, c .before .before .before .before .before .before .before .before .before .if1 .left)) (c .before .before .before .before .before .before .before .if2 .left) (c .before .before .before .before .before .before .field2 .ensures) (omega (arith, c .before .before .before .before .before .if3 .left)) (c .before .before .before .before .field3 .ensures) (c .before .before .before .if4 .left) (λ s. omega (arith, ltb-true (c .field5 .result) (c .before .before .before .before .before .before .before .before .before .before .before .before .before .args .n) e, c .field5 .ensures))
+    let start : tie.Start = search in
+    let field-ensures = (let p : tie.After-field = search in p .field .ensures) in
+    let if1-left = (let p : tie.Else1 = search in p .if1 .left) in
+    let if2-left = (let p : tie.Else2 = search in p .if2 .left) in
+    let field2-ensures = (let p : tie.After-field2 = search in p .field2 .ensures) in
+    let if3-left = (let p : tie.Else3 = search in p .if3 .left) in
+    let field3-ensures = (let p : tie.After-field3 = search in p .field3 .ensures) in
+    let if4-left = (let p : tie.Else4 = search in p .if4 .left) in
+    λ e. linked-at (start .args .block .now) _ (start .args .back .now) _ field-ensures (omega (arith, if1-left)) if2-left field2-ensures (omega (arith, if3-left)) field3-ensures if4-left (λ s. omega (arith, ltb-true (c .field5 .result) (start .args .n) e, c .field5 .ensures))
 
 pub dart-linked-spec : {M : Type 1} → statement M
 dart-linked-spec =

@@ -34,15 +34,23 @@ add-p c = search needs
 
 loop-less : tie.Need-loop-less Inv-loop μ-loop
 loop-less c =
-    omega (arith, c .before .before .loop-test .taken)
+    let loop-test-taken = (let p : tie.In-loop Inv-loop μ-loop = search in p .loop-test .taken) in
+    omega (arith, loop-test-taken)
 
 loop-again : tie.Need-loop-again Inv-loop μ-loop
 loop-again c =
-    (omega (arith, c .before .before .loop-test .taken), linked-more (LinkedAt (c .before .before .before .before .before .before .args .block .now) (c .before .before .before .before .before .before .args .n) (c .before .before .before .before .before .before .args .back .now)) (c .before .before .before .loop .p) (c .before .before .before .loop .inv .1) (c .before .dart-linked .ensures (not-false _ (c .if1 .left))))
+    let start : tie.Start Inv-loop μ-loop = search in
+    let loop-inv = (let p : tie.At-loop Inv-loop μ-loop = search in p .loop .inv) in
+    let loop-p = (let p : tie.At-loop Inv-loop μ-loop = search in p .loop .p) in
+    let loop-test-taken = (let p : tie.In-loop Inv-loop μ-loop = search in p .loop-test .taken) in
+    let dart-linked-ensures = (let p : tie.After-dart-linked Inv-loop μ-loop = search in p .dart-linked .ensures) in
+    (omega (arith, loop-test-taken), linked-more (LinkedAt (start .args .block .now) (start .args .n) (start .args .back .now)) loop-p (loop-inv .1) (dart-linked-ensures (not-false _ (c .if1 .left))))
 
 returns-2 : tie.Need-returns-2 Inv-loop μ-loop
 returns-2 c =
-    λ e. linked-all _ _ (c .before .before .before .before .args .back .now) (c .before .before .before .before .pre .0) (c .before .before .before .before .pre .1) (λ k h. c .before .loop .inv .1 k (omega (arith, c .loop-test .left)))
+    let start : tie.Start Inv-loop μ-loop = search in
+    let loop-inv = (let p : tie.At-loop Inv-loop μ-loop = search in p .loop .inv) in
+    λ e. linked-all _ _ (start .args .back .now) (start .pre .0) (start .pre .1) (λ k h. loop-inv .1 k (omega (arith, c .loop-test .left)))
 
 pub linked-spec : {M : Type 1} → statement M
 linked-spec =

@@ -17,7 +17,9 @@ linked-requires c κs = search needs
 
 show-requires : tie.Need-show-requires
 show-requires c κs =
-    (c .before .linked .ensures (c .if1 .taken), c .before .before .before .before .before .before .before .before .pre .1)
+    let start : tie.Start = search in
+    let linked-ensures = (let p : tie.After-linked = search in p .linked .ensures) in
+    (linked-ensures (c .if1 .taken), start .pre .1)
 
 returns : tie.Need-returns
 returns c = search needs

@@ -13,7 +13,9 @@ same-length c = search needs
 
 returns : tie.Need-returns
 returns c =
-    gives-mesh (c .before .before .before .before .before .before .args .mesh .now) (c .before .before .before .before .before .before .args .scratch .now) (c .before .before .mesh-asked .ensures .0) (c .before .before .mesh-asked .ensures .1)
+    let start : tie.Start = search in
+    let mesh-asked-ensures = (let p : tie.After-mesh-asked = search in p .mesh-asked .ensures) in
+    gives-mesh (start .args .mesh .now) (start .args .scratch .now) (mesh-asked-ensures .0) (mesh-asked-ensures .1)
 
 pub check-mesh-spec : {M : Type 1} → statement M
 check-mesh-spec =

@@ -7,11 +7,13 @@ use Rattle.departure.proofs.forget.Tie as tie
 
 unmark-requires : tie.Need-unmark-requires
 unmark-requires c κs =
-    (c .before .before .before .before .pre .0, c .before .before .before .before .pre .1, c .before .before .before .before .pre .3 .size, c .before .before .before .before .pre .2)
+    let start : tie.Start = search in
+    (start .pre .0, start .pre .1, start .pre .3 .size, start .pre .2)
 
 unmark-requires-2 : tie.Need-unmark-requires-2
 unmark-requires-2 c κs =
-    (c .before .before .before .before .before .before .before .before .pre .0, c .before .before .before .before .before .before .before .before .pre .1, c .before .before .before .before .before .before .before .before .pre .4 .size, c .before .before .before .before .before .before .before .before .pre .2)
+    let start : tie.Start = search in
+    (start .pre .0, start .pre .1, start .pre .4 .size, start .pre .2)
 
 same-length : tie.Need-same-length
 same-length c = search needs
@@ -21,7 +23,10 @@ same-length-2 c = search needs
 
 returns : tie.Need-returns
 returns c =
-    (unmarked (c .before .before .before .before .before .before .before .before .before .before .before .pre .3) (λ p i. i) (c .before .before .before .before .before .before .unmark .ensures), unmarked (c .before .before .before .before .before .before .before .before .before .before .before .pre .4) (λ p i. i) (c .before .before .unmark2 .ensures))
+    let start : tie.Start = search in
+    let unmark-ensures = (let p : tie.After-unmark = search in p .unmark .ensures) in
+    let unmark2-ensures = (let p : tie.After-unmark2 = search in p .unmark2 .ensures) in
+    (unmarked (start .pre .3) (λ p i. i) unmark-ensures, unmarked (start .pre .4) (λ p i. i) unmark2-ensures)
 
 pub forget-spec : {M : Type 1} → statement M
 forget-spec =

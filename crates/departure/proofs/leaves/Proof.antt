@@ -21,22 +21,25 @@ use Rattle.departure.proofs.leaves.Tie as tie
 
 destination-right-requires : tie.Need-destination-right-requires
 destination-right-requires c κs =
-    sited rack (c .before .before .before .before .before .before .before .before .args .block .now) (c .before .before .before .before .before .before .before .before .pre .0) .linked .size
+    let start : tie.Start = search in
+    sited rack (start .args .block .now) (start .pre .0) .linked .size
 
 returns : tie.Need-returns
 returns c =
-    let st = c .before .before .before .before .before .before .before .before .before .before in
+    let destination-right-ensures = (let p : tie.After-destination-right = search in p .destination-right .ensures) in
+    let st : tie.Start = search in
     let m = st .args .block .now in
     let ok = st .pre .0 in
-    (first-9 m ok (st .args .to) (st .args .serial) (c .before .destination-right .ensures) (c .if1 .taken), (st .pre .1 .0 .0, st .pre .1 .0 .3))
+    (first-9 m ok (st .args .to) (st .args .serial) destination-right-ensures (c .if1 .taken), (st .pre .1 .0 .0, st .pre .1 .0 .3))
 
 shared-slice-read-n : tie.Need-shared-slice-read-n
 shared-slice-read-n c =
-    omega (arith, sited rack (c .before .before .before .before .before .before .before .before .before .before .before .args .block .now) (c .before .before .before .before .before .before .before .before .before .before .before .pre .0) .linked .size)
+    let start : tie.Start = search in
+    omega (arith, sited rack (start .args .block .now) (start .pre .0) .linked .size)
 
 place-of-requires : tie.Need-place-of-requires
 place-of-requires c κs =
-    let st = c .before .before .before .before .before .before .before .before .before .before .before in
+    let st : tie.Start = search in
     let m = st .args .block .now in
     let ok = st .pre .0 in
     (sited rack m ok .linked .few, sited rack m ok .linked .size, sited rack m ok .ascends)
@@ -49,28 +52,38 @@ enum-told c = search needs
 
 returns-2 : tie.Need-returns-2
 returns-2 c =
-    let st = c .before .before .before .before .before .before .before .before .before .before .before .before .before .before in
+    let destination-right-ensures = (let p : tie.After-destination-right = search in p .destination-right .ensures) in
+    let if1-left = (let p : tie.Else1 = search in p .if1 .left) in
+    let place-of-ensures = (let p : tie.After-place-of = search in p .place-of .ensures) in
+    let st : tie.Start = search in
     let m = st .args .block .now in
     let ok = st .pre .0 in
-    (first-10 m ok (st .args .to) (st .args .serial) (c .before .before .before .before .before .destination-right .ensures) (c .before .before .before .before .if1 .left) (c .before .before .place-of .ensures) (c .enum-told .given .1), (st .pre .1 .0 .0, st .pre .1 .0 .3))
+    (first-10 m ok (st .args .to) (st .args .serial) destination-right-ensures if1-left place-of-ensures (c .enum-told .given .1), (st .pre .1 .0 .0, st .pre .1 .0 .3))
 
 volume-requires : tie.Need-volume-requires
 volume-requires c κs =
-    let st = c .before .before .before .before .before .before .before .before .before .before .before .before .before .before .before .before .before in
+    let destination-right-ensures = (let p : tie.After-destination-right = search in p .destination-right .ensures) in
+    let if1-left = (let p : tie.Else1 = search in p .if1 .left) in
+    let place-of-ensures = (let p : tie.After-place-of = search in p .place-of .ensures) in
+    let place-given = (let p : tie.After-place = search in p .place .given) in
+    let st : tie.Start = search in
     let m = st .args .block .now in
     let ok = st .pre .0 in
     let linked = sited rack m ok .linked in
-    let low = below m ok (st .args .to) (st .args .serial) (c .before .before .before .before .before .before .before .before .destination-right .ensures) (c .before .before .before .before .before .before .before .if1 .left) (c .before .before .before .before .before .place-of .ensures) (c .before .before .before .place .given .1) in
+    let low = below m ok (st .args .to) (st .args .serial) destination-right-ensures if1-left place-of-ensures (place-given .1) in
     (linked, low, st .pre .1 .0 .1, st .pre .1 .0 .0)
 
 unmark-requires : tie.Need-unmark-requires
 unmark-requires c κs =
-    let st = c .before .before .before .before .before .before .before .before .before .before .before .before .before .before .before .before .before .before .before .before .before .before .before .before .before in
+    let volume-ensures = (let p : tie.After-volume = search in p .volume .ensures) in
+    let c : tie.After-volume = search in
+    let start : tie.Start = search in
+    let st = start in
     let m = st .args .block .now in
     let ok = st .pre .0 in
     let linked = sited rack m ok .linked in
-    let listed = c .before .before .before .before .before .before .before .volume .ensures .1 .1 in
-    (listed .few, omega (arith, listed .few, listed .size), c .before .before .before .before .before .before .before .volume .ensures .0 .size, λ k h. omega (arith, listed .below k h, linked .few))
+    let listed = volume-ensures .1 .1 in
+    (listed .few, omega (arith, listed .few, listed .size), volume-ensures .0 .size, λ k h. omega (arith, listed .below k h, linked .few))
 
 same-length : tie.Need-same-length
 same-length c = search needs
@@ -80,44 +93,75 @@ same-length-2 c = search needs
 
 returns-3 : tie.Need-returns-3
 returns-3 c =
-    let st = c .before .before .before .before .before .before .before .before .before .before .before .before .before .before .before .before .before .before .before .before .before .before .before .before .before .before .before .before in
+    let unmark-ensures = (let p : tie.After-unmark = search in p .unmark .ensures) in
+    let if2-taken = (let p : tie.Then2 = search in p .if2 .taken) in
+    let volume-ensures = (let p : tie.After-volume = search in p .volume .ensures) in
+    let place-given = (let p : tie.After-place = search in p .place .given) in
+    let place-of-ensures = (let p : tie.After-place-of = search in p .place-of .ensures) in
+    let if1-left = (let p : tie.Else1 = search in p .if1 .left) in
+    let destination-right-ensures = (let p : tie.After-destination-right = search in p .destination-right .ensures) in
+    let c : tie.After-destination-right = search in
+    let start : tie.Start = search in
+    let st = start in
     let m = st .args .block .now in
     let ok = st .pre .0 in
-    let mk = c .before .before .before .before .before .before .before .before .before .before .volume .ensures .0 in
-    (first-11 m ok (st .args .to) (st .args .serial) (c .before .before .before .before .before .before .before .before .before .before .before .before .before .before .before .before .before .before .before .destination-right .ensures) (c .before .before .before .before .before .before .before .before .before .before .before .before .before .before .before .before .before .before .if1 .left) (c .before .before .before .before .before .before .before .before .before .before .before .before .before .before .before .before .place-of .ensures) (c .before .before .before .before .before .before .before .before .before .before .before .before .before .before .place .given .1) mk (c .before .before .before .before .before .before .before .before .before .before .volume .ensures .1 .0) (c .before .before .before .before .before .if2 .taken), (unmarked mk (c .before .before .before .before .before .before .before .before .before .before .volume .ensures .1 .1 .has) (c .before .before .unmark .ensures), st .pre .1 .0 .3))
+    let mk = volume-ensures .0 in
+    (first-11 m ok (st .args .to) (st .args .serial) destination-right-ensures if1-left place-of-ensures (place-given .1) mk (volume-ensures .1 .0) if2-taken, (unmarked mk (volume-ensures .1 .1 .has) unmark-ensures, st .pre .1 .0 .3))
 
 message-order-requires : tie.Need-message-order-requires
 message-order-requires c κs =
-    let st = c .before .before .before .before .before .before .before .before .before .before .before .before .before .before .before .before .before .before .before .before .before .before .before .before .before .before .before in
+    let destination-right-ensures = (let p : tie.After-destination-right = search in p .destination-right .ensures) in
+    let if1-left = (let p : tie.Else1 = search in p .if1 .left) in
+    let place-of-ensures = (let p : tie.After-place-of = search in p .place-of .ensures) in
+    let place-given = (let p : tie.After-place = search in p .place .given) in
+    let volume-ensures = (let p : tie.After-volume = search in p .volume .ensures) in
+    let st : tie.Start = (let c : tie.After-destination-right = search in search) in
     let m = st .args .block .now in
     let ok = st .pre .0 in
     let linked = sited rack m ok .linked in
-    let low = below m ok (st .args .to) (st .args .serial) (c .before .before .before .before .before .before .before .before .before .before .before .before .before .before .before .before .before .before .destination-right .ensures) (c .before .before .before .before .before .before .before .before .before .before .before .before .before .before .before .before .before .if1 .left) (c .before .before .before .before .before .before .before .before .before .before .before .before .before .before .before .place-of .ensures) (c .before .before .before .before .before .before .before .before .before .before .before .before .before .place .given .1) in
-    let mk = c .before .before .before .before .before .before .before .before .before .volume .ensures .0 in
-    let listed = c .before .before .before .before .before .before .before .before .before .volume .ensures .1 .1 in
-    ((linked, mk .size, closed-next linked low mk, c .before .before .before .before .before .before .before .before .before .volume .ensures .1 .0 ∙ sym (ap length (marked-places mk (getD m 2 0)))), (listed-some _ listed (volume-linked linked low .here), listed-marked mk listed, st .pre .1 .0 .2, st .pre .1 .0 .3))
+    let low = below m ok (st .args .to) (st .args .serial) destination-right-ensures if1-left place-of-ensures (place-given .1) in
+    let mk = volume-ensures .0 in
+    let listed = volume-ensures .1 .1 in
+    ((linked, mk .size, closed-next linked low mk, volume-ensures .1 .0 ∙ sym (ap length (marked-places mk (getD m 2 0)))), (listed-some _ listed (volume-linked linked low .here), listed-marked mk listed, st .pre .1 .0 .2, st .pre .1 .0 .3))
 
 sewn-within-requires : tie.Need-sewn-within-requires
 sewn-within-requires c κs =
-    let st = c .before .before .before .before .before .before .before .before .before .before .before .before .before .before .before .before .before .before .before .before .before .before .before .before .before .before .before .before .before .before .before .before .before .before .before .before in
+    let message-order-ensures = (let p : tie.After-message-order = search in p .message-order .ensures) in
+    let volume-ensures = (let p : tie.After-volume = search in p .volume .ensures) in
+    let c : tie.After-volume = search in
+    let place-given = (let p : tie.After-place = search in p .place .given) in
+    let place-of-ensures = (let p : tie.After-place-of = search in p .place-of .ensures) in
+    let if1-left = (let p : tie.Else1 = search in p .if1 .left) in
+    let destination-right-ensures = (let p : tie.After-destination-right = search in p .destination-right .ensures) in
+    let start : tie.Start = search in
+    let st = start in
     let m = st .args .block .now in
     let ok = st .pre .0 in
     let linked = sited rack m ok .linked in
-    let low = below m ok (st .args .to) (st .args .serial) (c .before .before .before .before .before .before .before .before .before .before .before .before .before .before .before .before .before .before .before .before .before .before .before .before .before .before .before .destination-right .ensures) (c .before .before .before .before .before .before .before .before .before .before .before .before .before .before .before .before .before .before .before .before .before .before .before .before .before .before .if1 .left) (c .before .before .before .before .before .before .before .before .before .before .before .before .before .before .before .before .before .before .before .before .before .before .before .before .place-of .ensures) (c .before .before .before .before .before .before .before .before .before .before .before .before .before .before .before .before .before .before .before .before .before .before .place .given .1) in
-    let mk = c .before .before .before .before .before .before .before .before .before .before .before .before .before .before .before .before .before .before .volume .ensures .0 in
-    let o = c .before .before .before .before .before .before .before .before .message-order .ensures .0 in
+    let low = below m ok (st .args .to) (st .args .serial) destination-right-ensures if1-left place-of-ensures (place-given .1) in
+    let mk = volume-ensures .0 in
+    let o = message-order-ensures .0 in
     ((linked, mk .size), (in-order-few o .0, out-long linked low mk o, out-below linked low mk o))
 
 forget-requires : tie.Need-forget-requires
 forget-requires c κs =
-    let st = c .before .before .before .before .before .before .before .before .before .before .before .before .before .before .before .before .before .before .before .before .before .before .before .before .before .before .before .before .before .before .before .before .before .before .before .before .before .before .before .before .before in
+    let message-order-ensures = (let p : tie.After-message-order = search in p .message-order .ensures) in
+    let c : tie.After-message-order = search in
+    let volume-ensures = (let p : tie.After-volume = search in p .volume .ensures) in
+    let place-given = (let p : tie.After-place = search in p .place .given) in
+    let place-of-ensures = (let p : tie.After-place-of = search in p .place-of .ensures) in
+    let if1-left = (let p : tie.Else1 = search in p .if1 .left) in
+    let destination-right-ensures = (let p : tie.After-destination-right = search in p .destination-right .ensures) in
+    let c : tie.After-destination-right = search in
+    let start : tie.Start = search in
+    let st = start in
     let m = st .args .block .now in
     let ok = st .pre .0 in
     let linked = sited rack m ok .linked in
-    let low = below m ok (st .args .to) (st .args .serial) (c .before .before .before .before .before .before .before .before .before .before .before .before .before .before .before .before .before .before .before .before .before .before .before .before .before .before .before .before .before .before .before .before .destination-right .ensures) (c .before .before .before .before .before .before .before .before .before .before .before .before .before .before .before .before .before .before .before .before .before .before .before .before .before .before .before .before .before .before .before .if1 .left) (c .before .before .before .before .before .before .before .before .before .before .before .before .before .before .before .before .before .before .before .before .before .before .before .before .before .before .before .before .before .place-of .ensures) (c .before .before .before .before .before .before .before .before .before .before .before .before .before .before .before .before .before .before .before .before .before .before .before .before .before .before .before .place .given .1) in
-    let mk = c .before .before .before .before .before .before .before .before .before .before .before .before .before .before .before .before .before .before .before .before .before .before .before .volume .ensures .0 in
-    let o = c .before .before .before .before .before .before .before .before .before .before .before .before .before .message-order .ensures .0 in
-    (in-order-few o .0, out-long linked low mk o, (λ k h. omega (arith, out-below linked low mk o k h, linked .few)), out-marked linked low mk o, c .before .before .before .before .before .before .before .before .before .before .before .before .before .message-order .ensures .1)
+    let low = below m ok (st .args .to) (st .args .serial) destination-right-ensures if1-left place-of-ensures (place-given .1) in
+    let mk = volume-ensures .0 in
+    let o = message-order-ensures .0 in
+    (in-order-few o .0, out-long linked low mk o, (λ k h. omega (arith, out-below linked low mk o k h, linked .few)), out-marked linked low mk o, message-order-ensures .1)
 
 same-length-3 : tie.Need-same-length-3
 same-length-3 c = search needs
@@ -133,53 +177,108 @@ same-length-6 c = search needs
 
 returns-4 : tie.Need-returns-4
 returns-4 c =
-    let st = c .before .before .before .before .before .before .before .before .before .before .before .before .before .before .before .before .before .before .before .before .before .before .before .before .before .before .before .before .before .before .before .before .before .before .before .before .before .before .before .before .before .before .before .before .before .before in
+    let forget-ensures = (let p : tie.After-forget = search in p .forget .ensures) in
+    let if3-taken = (let p : tie.Then3 = search in p .if3 .taken) in
+    let sewn-within-ensures = (let p : tie.After-sewn-within = search in p .sewn-within .ensures) in
+    let message-order-ensures = (let p : tie.After-message-order = search in p .message-order .ensures) in
+    let c : tie.After-message-order = search in
+    let if2-left = (let p : tie.Else2 = search in p .if2 .left) in
+    let volume-ensures = (let p : tie.After-volume = search in p .volume .ensures) in
+    let place-given = (let p : tie.After-place = search in p .place .given) in
+    let place-of-ensures = (let p : tie.After-place-of = search in p .place-of .ensures) in
+    let if1-left = (let p : tie.Else1 = search in p .if1 .left) in
+    let destination-right-ensures = (let p : tie.After-destination-right = search in p .destination-right .ensures) in
+    let c : tie.After-destination-right = search in
+    let start : tie.Start = search in
+    let st = start in
     let m = st .args .block .now in
     let ok = st .pre .0 in
-    let mk = c .before .before .before .before .before .before .before .before .before .before .before .before .before .before .before .before .before .before .before .before .before .before .before .before .before .before .before .before .volume .ensures .0 in
-    (first-12 m ok (st .args .to) (st .args .serial) (c .before .before .before .before .before .before .before .before .before .before .before .before .before .before .before .before .before .before .before .before .before .before .before .before .before .before .before .before .before .before .before .before .before .before .before .before .before .destination-right .ensures) (c .before .before .before .before .before .before .before .before .before .before .before .before .before .before .before .before .before .before .before .before .before .before .before .before .before .before .before .before .before .before .before .before .before .before .before .before .if1 .left) (c .before .before .before .before .before .before .before .before .before .before .before .before .before .before .before .before .before .before .before .before .before .before .before .before .before .before .before .before .before .before .before .before .before .before .place-of .ensures) (c .before .before .before .before .before .before .before .before .before .before .before .before .before .before .before .before .before .before .before .before .before .before .before .before .before .before .before .before .before .before .before .before .place .given .1) mk (c .before .before .before .before .before .before .before .before .before .before .before .before .before .before .before .before .before .before .before .before .before .before .before .before .before .before .before .before .volume .ensures .1 .0) (omega (arith, c .before .before .before .before .before .before .before .before .before .before .before .before .before .before .before .before .before .before .before .before .before .before .before .if2 .left)) (c .before .before .before .before .before .before .before .before .before .before .before .before .before .before .before .before .before .before .message-order .ensures .0) (c .before .before .before .before .before .before .before .before .before .sewn-within .ensures) (c .before .before .before .before .before .before .before .before .if3 .taken), c .before .before .before .before .forget .ensures)
+    let mk = volume-ensures .0 in
+    (first-12 m ok (st .args .to) (st .args .serial) destination-right-ensures if1-left place-of-ensures (place-given .1) mk (volume-ensures .1 .0) (omega (arith, if2-left)) (message-order-ensures .0) sewn-within-ensures if3-taken, forget-ensures)
 
 number-vertices-requires : tie.Need-number-vertices-requires
 number-vertices-requires c κs =
-    let st = c .before .before .before .before .before .before .before .before .before .before .before .before .before .before .before .before .before .before .before .before .before .before .before .before .before .before .before .before .before .before .before .before .before .before .before .before .before .before .before .before .before in
+    let message-order-ensures = (let p : tie.After-message-order = search in p .message-order .ensures) in
+    let c : tie.After-message-order = search in
+    let volume-ensures = (let p : tie.After-volume = search in p .volume .ensures) in
+    let place-given = (let p : tie.After-place = search in p .place .given) in
+    let place-of-ensures = (let p : tie.After-place-of = search in p .place-of .ensures) in
+    let if1-left = (let p : tie.Else1 = search in p .if1 .left) in
+    let destination-right-ensures = (let p : tie.After-destination-right = search in p .destination-right .ensures) in
+    let c : tie.After-destination-right = search in
+    let start : tie.Start = search in
+    let st = start in
     let m = st .args .block .now in
     let ok = st .pre .0 in
     let linked = sited rack m ok .linked in
-    let low = below m ok (st .args .to) (st .args .serial) (c .before .before .before .before .before .before .before .before .before .before .before .before .before .before .before .before .before .before .before .before .before .before .before .before .before .before .before .before .before .before .before .before .destination-right .ensures) (c .before .before .before .before .before .before .before .before .before .before .before .before .before .before .before .before .before .before .before .before .before .before .before .before .before .before .before .before .before .before .before .if1 .left) (c .before .before .before .before .before .before .before .before .before .before .before .before .before .before .before .before .before .before .before .before .before .before .before .before .before .before .before .before .before .place-of .ensures) (c .before .before .before .before .before .before .before .before .before .before .before .before .before .before .before .before .before .before .before .before .before .before .before .before .before .before .before .place .given .1) in
-    let mk = c .before .before .before .before .before .before .before .before .before .before .before .before .before .before .before .before .before .before .before .before .before .before .before .volume .ensures .0 in
-    let o = c .before .before .before .before .before .before .before .before .before .before .before .before .before .message-order .ensures .0 in
+    let low = below m ok (st .args .to) (st .args .serial) destination-right-ensures if1-left place-of-ensures (place-given .1) in
+    let mk = volume-ensures .0 in
+    let o = message-order-ensures .0 in
     ((linked, in-order-few o .0, out-long linked low mk o, out-below linked low mk o), (st .pre .1 .1 .0, st .pre .1 .1 .1))
 
 pairs-once-requires : tie.Need-pairs-once-requires
 pairs-once-requires c κs =
-    let st = c .before .before .before .before .before .before .before .before .before .before .before .before .before .before .before .before .before .before .before .before .before .before .before .before .before .before .before .before .before .before .before .before .before .before .before .before .before .before .before .before .before .before .before .before .before .before .before .before .before in
+    let number-vertices-ensures = (let p : tie.After-number-vertices = search in p .number-vertices .ensures) in
+    let sewn-within-ensures = (let p : tie.After-sewn-within = search in p .sewn-within .ensures) in
+    let c : tie.After-sewn-within = search in
+    let message-order-ensures = (let p : tie.After-message-order = search in p .message-order .ensures) in
+    let message-order-last = (let p : tie.After-message-order = search in p .message-order .last) in
+    let message-order-result = (let p : tie.After-message-order = search in p .message-order .result) in
+    let if2-left = (let p : tie.Else2 = search in p .if2 .left) in
+    let volume-ensures = (let p : tie.After-volume = search in p .volume .ensures) in
+    let c : tie.After-volume = search in
+    let place-given = (let p : tie.After-place = search in p .place .given) in
+    let place-of-ensures = (let p : tie.After-place-of = search in p .place-of .ensures) in
+    let if1-left = (let p : tie.Else1 = search in p .if1 .left) in
+    let destination-right-ensures = (let p : tie.After-destination-right = search in p .destination-right .ensures) in
+    let start : tie.Start = search in
+    let st = start in
     let m = st .args .block .now in
     let ok = st .pre .0 in
     let linked = sited rack m ok .linked in
-    let low = below m ok (st .args .to) (st .args .serial) (c .before .before .before .before .before .before .before .before .before .before .before .before .before .before .before .before .before .before .before .before .before .before .before .before .before .before .before .before .before .before .before .before .before .before .before .before .before .before .before .before .destination-right .ensures) (c .before .before .before .before .before .before .before .before .before .before .before .before .before .before .before .before .before .before .before .before .before .before .before .before .before .before .before .before .before .before .before .before .before .before .before .before .before .before .before .if1 .left) (c .before .before .before .before .before .before .before .before .before .before .before .before .before .before .before .before .before .before .before .before .before .before .before .before .before .before .before .before .before .before .before .before .before .before .before .before .before .place-of .ensures) (c .before .before .before .before .before .before .before .before .before .before .before .before .before .before .before .before .before .before .before .before .before .before .before .before .before .before .before .before .before .before .before .before .before .before .before .place .given .1) in
-    let mk = c .before .before .before .before .before .before .before .before .before .before .before .before .before .before .before .before .before .before .before .before .before .before .before .before .before .before .before .before .before .before .before .volume .ensures .0 in
-    let o = c .before .before .before .before .before .before .before .before .before .before .before .before .before .before .before .before .before .before .before .before .before .message-order .ensures .0 in
-    let nb = c .before .before .before .before .before .before .before .number-vertices .ensures in
-    (linked, ends-ready linked low mk o nb, omega (arith, nb .count-le, length-take-le (c .before .before .before .before .before .before .before .before .before .before .before .before .before .before .before .before .before .before .before .before .before .message-order .result .darts) (c .before .before .before .before .before .before .before .before .before .before .before .before .before .before .before .before .before .before .before .before .before .message-order .last .1 .1 .1 .1 .0) (out-long linked low mk o), darts-few m ok (st .args .to) (st .args .serial) (c .before .before .before .before .before .before .before .before .before .before .before .before .before .before .before .before .before .before .before .before .before .before .before .before .before .before .before .before .before .before .before .before .before .before .before .before .before .before .before .before .destination-right .ensures) (c .before .before .before .before .before .before .before .before .before .before .before .before .before .before .before .before .before .before .before .before .before .before .before .before .before .before .before .before .before .before .before .before .before .before .before .before .before .before .before .if1 .left) (c .before .before .before .before .before .before .before .before .before .before .before .before .before .before .before .before .before .before .before .before .before .before .before .before .before .before .before .before .before .before .before .before .before .before .before .before .before .place-of .ensures) (c .before .before .before .before .before .before .before .before .before .before .before .before .before .before .before .before .before .before .before .before .before .before .before .before .before .before .before .before .before .before .before .before .before .before .before .place .given .1) mk (c .before .before .before .before .before .before .before .before .before .before .before .before .before .before .before .before .before .before .before .before .before .before .before .before .before .before .before .before .before .before .before .volume .ensures .1 .0) (omega (arith, c .before .before .before .before .before .before .before .before .before .before .before .before .before .before .before .before .before .before .before .before .before .before .before .before .before .before .if2 .left)) (c .before .before .before .before .before .before .before .before .before .before .before .before .before .before .before .before .before .before .before .before .before .message-order .ensures .0) (c .before .before .before .before .before .before .before .before .before .before .before .before .sewn-within .ensures), st .pre .1 .1 .2))
+    let low = below m ok (st .args .to) (st .args .serial) destination-right-ensures if1-left place-of-ensures (place-given .1) in
+    let mk = volume-ensures .0 in
+    let o = message-order-ensures .0 in
+    let nb = number-vertices-ensures in
+    (linked, ends-ready linked low mk o nb, omega (arith, nb .count-le, length-take-le (message-order-result .darts) (message-order-last .1 .1 .1 .1 .0) (out-long linked low mk o), darts-few m ok (st .args .to) (st .args .serial) destination-right-ensures if1-left place-of-ensures (place-given .1) mk (volume-ensures .1 .0) (omega (arith, if2-left)) (message-order-ensures .0) sewn-within-ensures, st .pre .1 .1 .2))
 
 forget-requires-2 : tie.Need-forget-requires-2
 forget-requires-2 c κs =
-    let st = c .before .before .before .before .before .before .before .before .before .before .before .before .before .before .before .before .before .before .before .before .before .before .before .before .before .before .before .before .before .before .before .before .before .before .before .before .before .before .before .before .before .before .before .before .before .before .before .before .before .before .before .before .before .before .before .before in
+    let c : tie.After-sewn-within-arg2 = search in
+    let message-order-ensures = (let p : tie.After-message-order = search in p .message-order .ensures) in
+    let volume-ensures = (let p : tie.After-volume = search in p .volume .ensures) in
+    let c : tie.After-volume = search in
+    let place-given = (let p : tie.After-place = search in p .place .given) in
+    let place-of-ensures = (let p : tie.After-place-of = search in p .place-of .ensures) in
+    let if1-left = (let p : tie.Else1 = search in p .if1 .left) in
+    let destination-right-ensures = (let p : tie.After-destination-right = search in p .destination-right .ensures) in
+    let start : tie.Start = search in
+    let st = start in
     let m = st .args .block .now in
     let ok = st .pre .0 in
     let linked = sited rack m ok .linked in
-    let low = below m ok (st .args .to) (st .args .serial) (c .before .before .before .before .before .before .before .before .before .before .before .before .before .before .before .before .before .before .before .before .before .before .before .before .before .before .before .before .before .before .before .before .before .before .before .before .before .before .before .before .before .before .before .before .before .before .before .destination-right .ensures) (c .before .before .before .before .before .before .before .before .before .before .before .before .before .before .before .before .before .before .before .before .before .before .before .before .before .before .before .before .before .before .before .before .before .before .before .before .before .before .before .before .before .before .before .before .before .before .if1 .left) (c .before .before .before .before .before .before .before .before .before .before .before .before .before .before .before .before .before .before .before .before .before .before .before .before .before .before .before .before .before .before .before .before .before .before .before .before .before .before .before .before .before .before .before .before .place-of .ensures) (c .before .before .before .before .before .before .before .before .before .before .before .before .before .before .before .before .before .before .before .before .before .before .before .before .before .before .before .before .before .before .before .before .before .before .before .before .before .before .before .before .before .before .place .given .1) in
-    let mk = c .before .before .before .before .before .before .before .before .before .before .before .before .before .before .before .before .before .before .before .before .before .before .before .before .before .before .before .before .before .before .before .before .before .before .before .before .before .before .volume .ensures .0 in
-    let o = c .before .before .before .before .before .before .before .before .before .before .before .before .before .before .before .before .before .before .before .before .before .before .before .before .before .before .before .before .message-order .ensures .0 in
-    (in-order-few o .0, out-long linked low mk o, (λ k h. omega (arith, out-below linked low mk o k h, linked .few)), out-marked linked low mk o, c .before .before .before .before .before .before .before .before .before .before .before .before .before .before .before .before .before .before .before .before .before .before .before .before .before .before .before .before .message-order .ensures .1)
+    let low = below m ok (st .args .to) (st .args .serial) destination-right-ensures if1-left place-of-ensures (place-given .1) in
+    let mk = volume-ensures .0 in
+    let o = message-order-ensures .0 in
+    (in-order-few o .0, out-long linked low mk o, (λ k h. omega (arith, out-below linked low mk o k h, linked .few)), out-marked linked low mk o, message-order-ensures .1)
 
 same-length-7 : tie.Need-same-length-7
 same-length-7 c =
-    ap length (c .before .before .before .before .forget2 .ensures .0 ∙ sym (c .before .before .before .before .before .before .before .before .before .before .before .before .before .before .before .before .before .before .before .before .before .before .before .before .before .before .before .before .before .before .before .before .before .before .before .before .before .before .before .before .before .before .before .before .before .before .before .before .before .before .before .before .before .before .before .before .before .before .before .before .before .pre .1 .0 .0))
+    let forget2-ensures = (let p : tie.After-forget2 = search in p .forget2 .ensures) in
+    let c : tie.After-forget2 = search in
+    let c : tie.After-sewn-within-arg2 = search in
+    let c : tie.After-known-told = search in
+    let start : tie.Start = search in
+    ap length (forget2-ensures .0 ∙ sym (start .pre .1 .0 .0))
 
 same-length-8 : tie.Need-same-length-8
 same-length-8 c =
-    c .before .before .before .before .before .before .before .before .before .before .before .before .before .before .before .before .before .before .before .before .before .before .before .before .before .before .before .before .before .before .before .before .before .message-order .ensures .0 .out-size ∙ sym (c .before .before .before .before .before .before .before .before .before .before .before .before .before .before .before .before .before .before .before .before .before .before .before .before .before .before .before .before .before .before .before .before .before .before .before .before .before .before .before .before .before .before .before .before .before .before .before .before .before .before .before .before .before .before .before .before .before .before .before .before .before .pre .1 .0 .1)
+    let c : tie.After-number-vertices-arg2 = search in
+    let message-order-ensures = (let p : tie.After-message-order = search in p .message-order .ensures) in
+    let c : tie.After-message-order = search in
+    let c : tie.After-slice-known6 = search in
+    let start : tie.Start = search in
+    message-order-ensures .0 .out-size ∙ sym (start .pre .1 .0 .1)
 
 same-length-9 : tie.Need-same-length-9
 same-length-9 c = search needs
@@ -198,52 +297,110 @@ same-length-13 c = search needs
 
 returns-5 : tie.Need-returns-5
 returns-5 c =
-    let st = c .before .before .before .before .before .before .before .before .before .before .before .before .before .before .before .before .before .before .before .before .before .before .before .before .before .before .before .before .before .before .before .before .before .before .before .before .before .before .before .before .before .before .before .before .before .before .before .before .before .before .before .before .before .before .before .before .before .before .before .before .before in
+    let forget2-ensures = (let p : tie.After-forget2 = search in p .forget2 .ensures) in
+    let if4-taken = (let p : tie.Then4 = search in p .if4 .taken) in
+    let pairs-once-ensures = (let p : tie.After-pairs-once = search in p .pairs-once .ensures) in
+    let number-vertices-ensures = (let p : tie.After-number-vertices = search in p .number-vertices .ensures) in
+    let c : tie.After-number-vertices = search in
+    let if3-left = (let p : tie.Else3 = search in p .if3 .left) in
+    let sewn-within-ensures = (let p : tie.After-sewn-within = search in p .sewn-within .ensures) in
+    let message-order-ensures = (let p : tie.After-message-order = search in p .message-order .ensures) in
+    let if2-left = (let p : tie.Else2 = search in p .if2 .left) in
+    let c : tie.Else2 = search in
+    let volume-ensures = (let p : tie.After-volume = search in p .volume .ensures) in
+    let place-given = (let p : tie.After-place = search in p .place .given) in
+    let place-of-ensures = (let p : tie.After-place-of = search in p .place-of .ensures) in
+    let if1-left = (let p : tie.Else1 = search in p .if1 .left) in
+    let destination-right-ensures = (let p : tie.After-destination-right = search in p .destination-right .ensures) in
+    let c : tie.After-destination-right = search in
+    let start : tie.Start = search in
+    let st = start in
     let m = st .args .block .now in
     let ok = st .pre .0 in
-    let mk = c .before .before .before .before .before .before .before .before .before .before .before .before .before .before .before .before .before .before .before .before .before .before .before .before .before .before .before .before .before .before .before .before .before .before .before .before .before .before .before .before .before .before .before .volume .ensures .0 in
-    (first-13 m ok (st .args .to) (st .args .serial) (c .before .before .before .before .before .before .before .before .before .before .before .before .before .before .before .before .before .before .before .before .before .before .before .before .before .before .before .before .before .before .before .before .before .before .before .before .before .before .before .before .before .before .before .before .before .before .before .before .before .before .before .before .destination-right .ensures) (c .before .before .before .before .before .before .before .before .before .before .before .before .before .before .before .before .before .before .before .before .before .before .before .before .before .before .before .before .before .before .before .before .before .before .before .before .before .before .before .before .before .before .before .before .before .before .before .before .before .before .before .if1 .left) (c .before .before .before .before .before .before .before .before .before .before .before .before .before .before .before .before .before .before .before .before .before .before .before .before .before .before .before .before .before .before .before .before .before .before .before .before .before .before .before .before .before .before .before .before .before .before .before .before .before .place-of .ensures) (c .before .before .before .before .before .before .before .before .before .before .before .before .before .before .before .before .before .before .before .before .before .before .before .before .before .before .before .before .before .before .before .before .before .before .before .before .before .before .before .before .before .before .before .before .before .before .before .place .given .1) mk (c .before .before .before .before .before .before .before .before .before .before .before .before .before .before .before .before .before .before .before .before .before .before .before .before .before .before .before .before .before .before .before .before .before .before .before .before .before .before .before .before .before .before .before .volume .ensures .1 .0) (omega (arith, c .before .before .before .before .before .before .before .before .before .before .before .before .before .before .before .before .before .before .before .before .before .before .before .before .before .before .before .before .before .before .before .before .before .before .before .before .before .before .if2 .left)) (c .before .before .before .before .before .before .before .before .before .before .before .before .before .before .before .before .before .before .before .before .before .before .before .before .before .before .before .before .before .before .before .before .before .message-order .ensures .0) (c .before .before .before .before .before .before .before .before .before .before .before .before .before .before .before .before .before .before .before .before .before .before .before .before .sewn-within .ensures) (c .before .before .before .before .before .before .before .before .before .before .before .before .before .before .before .before .before .before .before .before .before .before .before .if3 .left) (c .before .before .before .before .before .before .before .before .before .before .before .before .before .before .before .before .before .before .before .number-vertices .ensures) (c .before .before .before .before .before .before .before .before .before .before .before .pairs-once .ensures) (c .before .before .before .before .before .before .before .before .if4 .taken), c .before .before .before .before .forget2 .ensures)
+    let mk = volume-ensures .0 in
+    (first-13 m ok (st .args .to) (st .args .serial) destination-right-ensures if1-left place-of-ensures (place-given .1) mk (volume-ensures .1 .0) (omega (arith, if2-left)) (message-order-ensures .0) sewn-within-ensures if3-left number-vertices-ensures pairs-once-ensures if4-taken, forget2-ensures)
 
 count-sewn-requires : tie.Need-count-sewn-requires
 count-sewn-requires c κs =
-    let st = c .before .before .before .before .before .before .before .before .before .before .before .before .before .before .before .before .before .before .before .before .before .before .before .before .before .before .before .before .before .before .before .before .before .before .before .before .before .before .before .before .before .before .before .before .before .before .before .before .before .before .before .before .before .before .before .before in
+    let c : tie.After-sewn-within-arg = search in
+    let message-order-ensures = (let p : tie.After-message-order = search in p .message-order .ensures) in
+    let volume-ensures = (let p : tie.After-volume = search in p .volume .ensures) in
+    let c : tie.After-volume = search in
+    let start : tie.Start = search in
+    let st = start in
     let m = st .args .block .now in
     let ok = st .pre .0 in
-    (sited rack m ok .linked, c .before .before .before .before .before .before .before .before .before .before .before .before .before .before .before .before .before .before .before .before .before .before .before .before .before .before .before .before .before .before .before .before .before .before .before .before .before .before .volume .ensures .0 .size, c .before .before .before .before .before .before .before .before .before .before .before .before .before .before .before .before .before .before .before .before .before .before .before .before .before .before .before .before .message-order .ensures .0)
+    (sited rack m ok .linked, volume-ensures .0 .size, message-order-ensures .0)
 
 counter-fits-requires : tie.Need-counter-fits-requires
 counter-fits-requires c κs =
-    let st = c .before .before .before .before .before .before .before .before .before .before .before .before .before .before .before .before .before .before .before .before .before .before .before .before .before .before .before .before .before .before .before .before .before .before .before .before .before .before .before .before .before .before .before .before .before .before .before .before .before .before .before .before .before .before .before .before .before in
+    let count-sewn-ensures = (let p : tie.After-count-sewn = search in p .count-sewn .ensures) in
+    let c : tie.After-sewn-within-arg2 = search in
+    let message-order-ensures = (let p : tie.After-message-order = search in p .message-order .ensures) in
+    let c : tie.After-message-order = search in
+    let c : tie.After-slice-known6 = search in
+    let start : tie.Start = search in
+    let st = start in
     let m = st .args .block .now in
     let ok = st .pre .0 in
-    (sited rack m ok .linked .size, ranges-in m ok .counter-small, sewn-few _ (c .before .before .before .before .before .before .before .before .before .before .before .before .before .before .before .before .before .before .before .before .before .before .before .before .before .before .before .before .before .message-order .ensures .0) (c .count-sewn .ensures))
+    (sited rack m ok .linked .size, ranges-in m ok .counter-small, sewn-few _ (message-order-ensures .0) count-sewn-ensures)
 
 forget-requires-3 : tie.Need-forget-requires-3
 forget-requires-3 c κs =
-    let st = c .before .before .before .before .before .before .before .before .before .before .before .before .before .before .before .before .before .before .before .before .before .before .before .before .before .before .before .before .before .before .before .before .before .before .before .before .before .before .before .before .before .before .before .before .before .before .before .before .before .before .before .before .before .before .before .before .before .before .before .before .before .before in
+    let c : tie.After-number-vertices = search in
+    let message-order-ensures = (let p : tie.After-message-order = search in p .message-order .ensures) in
+    let c : tie.After-message-order = search in
+    let volume-ensures = (let p : tie.After-volume = search in p .volume .ensures) in
+    let place-given = (let p : tie.After-place = search in p .place .given) in
+    let place-of-ensures = (let p : tie.After-place-of = search in p .place-of .ensures) in
+    let if1-left = (let p : tie.Else1 = search in p .if1 .left) in
+    let destination-right-ensures = (let p : tie.After-destination-right = search in p .destination-right .ensures) in
+    let c : tie.After-destination-right = search in
+    let start : tie.Start = search in
+    let st = start in
     let m = st .args .block .now in
     let ok = st .pre .0 in
     let linked = sited rack m ok .linked in
-    let low = below m ok (st .args .to) (st .args .serial) (c .before .before .before .before .before .before .before .before .before .before .before .before .before .before .before .before .before .before .before .before .before .before .before .before .before .before .before .before .before .before .before .before .before .before .before .before .before .before .before .before .before .before .before .before .before .before .before .before .before .before .before .before .before .destination-right .ensures) (c .before .before .before .before .before .before .before .before .before .before .before .before .before .before .before .before .before .before .before .before .before .before .before .before .before .before .before .before .before .before .before .before .before .before .before .before .before .before .before .before .before .before .before .before .before .before .before .before .before .before .before .before .if1 .left) (c .before .before .before .before .before .before .before .before .before .before .before .before .before .before .before .before .before .before .before .before .before .before .before .before .before .before .before .before .before .before .before .before .before .before .before .before .before .before .before .before .before .before .before .before .before .before .before .before .before .before .place-of .ensures) (c .before .before .before .before .before .before .before .before .before .before .before .before .before .before .before .before .before .before .before .before .before .before .before .before .before .before .before .before .before .before .before .before .before .before .before .before .before .before .before .before .before .before .before .before .before .before .before .before .place .given .1) in
-    let mk = c .before .before .before .before .before .before .before .before .before .before .before .before .before .before .before .before .before .before .before .before .before .before .before .before .before .before .before .before .before .before .before .before .before .before .before .before .before .before .before .before .before .before .before .before .volume .ensures .0 in
-    let o = c .before .before .before .before .before .before .before .before .before .before .before .before .before .before .before .before .before .before .before .before .before .before .before .before .before .before .before .before .before .before .before .before .before .before .message-order .ensures .0 in
-    (in-order-few o .0, out-long linked low mk o, (λ k h. omega (arith, out-below linked low mk o k h, linked .few)), out-marked linked low mk o, c .before .before .before .before .before .before .before .before .before .before .before .before .before .before .before .before .before .before .before .before .before .before .before .before .before .before .before .before .before .before .before .before .before .before .message-order .ensures .1)
+    let low = below m ok (st .args .to) (st .args .serial) destination-right-ensures if1-left place-of-ensures (place-given .1) in
+    let mk = volume-ensures .0 in
+    let o = message-order-ensures .0 in
+    (in-order-few o .0, out-long linked low mk o, (λ k h. omega (arith, out-below linked low mk o k h, linked .few)), out-marked linked low mk o, message-order-ensures .1)
 
 same-length-14 : tie.Need-same-length-14
 same-length-14 c =
-    ap length (c .before .before .before .before .forget3 .ensures .0 ∙ sym (c .before .before .before .before .before .before .before .before .before .before .before .before .before .before .before .before .before .before .before .before .before .before .before .before .before .before .before .before .before .before .before .before .before .before .before .before .before .before .before .before .before .before .before .before .before .before .before .before .before .before .before .before .before .before .before .before .before .before .before .before .before .before .before .before .before .before .before .pre .1 .0 .0))
+    let forget3-ensures = (let p : tie.After-forget3 = search in p .forget3 .ensures) in
+    let c : tie.After-forget3 = search in
+    let c : tie.After-number-vertices = search in
+    let c : tie.After-marks = search in
+    let start : tie.Start = search in
+    ap length (forget3-ensures .0 ∙ sym (start .pre .1 .0 .0))
 
 same-length-15 : tie.Need-same-length-15
 same-length-15 c =
-    c .before .before .before .before .before .before .before .before .before .before .before .before .before .before .before .before .before .before .before .before .before .before .before .before .before .before .before .before .before .before .before .before .before .before .before .before .before .before .before .message-order .ensures .0 .out-size ∙ sym (c .before .before .before .before .before .before .before .before .before .before .before .before .before .before .before .before .before .before .before .before .before .before .before .before .before .before .before .before .before .before .before .before .before .before .before .before .before .before .before .before .before .before .before .before .before .before .before .before .before .before .before .before .before .before .before .before .before .before .before .before .before .before .before .before .before .before .before .pre .1 .0 .1)
+    let c : tie.After-slice-known17 = search in
+    let message-order-ensures = (let p : tie.After-message-order = search in p .message-order .ensures) in
+    let c : tie.After-message-order = search in
+    let c : tie.After-slice-known6 = search in
+    let start : tie.Start = search in
+    message-order-ensures .0 .out-size ∙ sym (start .pre .1 .0 .1)
 
 same-length-16 : tie.Need-same-length-16
 same-length-16 c =
-    c .before .before .before .before .before .before .before .before .before .before .before .before .before .before .before .before .before .before .before .before .before .before .before .before .before .before .before .before .before .before .before .before .before .before .before .before .before .before .before .message-order .ensures .0 .starts-size ∙ sym (c .before .before .before .before .before .before .before .before .before .before .before .before .before .before .before .before .before .before .before .before .before .before .before .before .before .before .before .before .before .before .before .before .before .before .before .before .before .before .before .before .before .before .before .before .before .before .before .before .before .before .before .before .before .before .before .before .before .before .before .before .before .before .before .before .before .before .before .pre .1 .0 .2)
+    let c : tie.After-slice-known17 = search in
+    let message-order-ensures = (let p : tie.After-message-order = search in p .message-order .ensures) in
+    let c : tie.After-message-order = search in
+    let c : tie.After-slice-known6 = search in
+    let start : tie.Start = search in
+    message-order-ensures .0 .starts-size ∙ sym (start .pre .1 .0 .2)
 
 same-length-17 : tie.Need-same-length-17
 same-length-17 c =
-    ap length (c .before .before .before .before .forget3 .ensures .1 ∙ sym (c .before .before .before .before .before .before .before .before .before .before .before .before .before .before .before .before .before .before .before .before .before .before .before .before .before .before .before .before .before .before .before .before .before .before .before .before .before .before .before .before .before .before .before .before .before .before .before .before .before .before .before .before .before .before .before .before .before .before .before .before .before .before .before .before .before .before .before .pre .1 .0 .3))
+    let forget3-ensures = (let p : tie.After-forget3 = search in p .forget3 .ensures) in
+    let c : tie.After-forget3 = search in
+    let c : tie.After-number-vertices = search in
+    let c : tie.After-marks = search in
+    let start : tie.Start = search in
+    ap length (forget3-ensures .1 ∙ sym (start .pre .1 .0 .3))
 
 same-length-18 : tie.Need-same-length-18
 same-length-18 c = search needs
@@ -256,19 +413,48 @@ same-length-20 c = search needs
 
 returns-6 : tie.Need-returns-6
 returns-6 c =
-    let st = c .before .before .before .before .before .before .before .before .before .before .before .before .before .before .before .before .before .before .before .before .before .before .before .before .before .before .before .before .before .before .before .before .before .before .before .before .before .before .before .before .before .before .before .before .before .before .before .before .before .before .before .before .before .before .before .before .before .before .before .before .before .before .before .before .before .before .before in
+    let forget3-ensures = (let p : tie.After-forget3 = search in p .forget3 .ensures) in
+    let if5-taken = (let p : tie.Then5 = search in p .if5 .taken) in
+    let counter-fits-ensures = (let p : tie.After-counter-fits = search in p .counter-fits .ensures) in
+    let count-sewn-ensures = (let p : tie.After-count-sewn = search in p .count-sewn .ensures) in
+    let if4-left = (let p : tie.Else4 = search in p .if4 .left) in
+    let pairs-once-ensures = (let p : tie.After-pairs-once = search in p .pairs-once .ensures) in
+    let c : tie.After-pairs-once = search in
+    let number-vertices-ensures = (let p : tie.After-number-vertices = search in p .number-vertices .ensures) in
+    let if3-left = (let p : tie.Else3 = search in p .if3 .left) in
+    let sewn-within-ensures = (let p : tie.After-sewn-within = search in p .sewn-within .ensures) in
+    let c : tie.After-sewn-within = search in
+    let message-order-ensures = (let p : tie.After-message-order = search in p .message-order .ensures) in
+    let if2-left = (let p : tie.Else2 = search in p .if2 .left) in
+    let volume-ensures = (let p : tie.After-volume = search in p .volume .ensures) in
+    let c : tie.After-volume = search in
+    let place-given = (let p : tie.After-place = search in p .place .given) in
+    let place-of-ensures = (let p : tie.After-place-of = search in p .place-of .ensures) in
+    let if1-left = (let p : tie.Else1 = search in p .if1 .left) in
+    let destination-right-ensures = (let p : tie.After-destination-right = search in p .destination-right .ensures) in
+    let start : tie.Start = search in
+    let st = start in
     let m = st .args .block .now in
     let ok = st .pre .0 in
-    let mk = c .before .before .before .before .before .before .before .before .before .before .before .before .before .before .before .before .before .before .before .before .before .before .before .before .before .before .before .before .before .before .before .before .before .before .before .before .before .before .before .before .before .before .before .before .before .before .before .before .before .volume .ensures .0 in
-    (first-14 m ok (st .args .to) (st .args .serial) (c .before .before .before .before .before .before .before .before .before .before .before .before .before .before .before .before .before .before .before .before .before .before .before .before .before .before .before .before .before .before .before .before .before .before .before .before .before .before .before .before .before .before .before .before .before .before .before .before .before .before .before .before .before .before .before .before .before .before .destination-right .ensures) (c .before .before .before .before .before .before .before .before .before .before .before .before .before .before .before .before .before .before .before .before .before .before .before .before .before .before .before .before .before .before .before .before .before .before .before .before .before .before .before .before .before .before .before .before .before .before .before .before .before .before .before .before .before .before .before .before .before .if1 .left) (c .before .before .before .before .before .before .before .before .before .before .before .before .before .before .before .before .before .before .before .before .before .before .before .before .before .before .before .before .before .before .before .before .before .before .before .before .before .before .before .before .before .before .before .before .before .before .before .before .before .before .before .before .before .before .before .place-of .ensures) (c .before .before .before .before .before .before .before .before .before .before .before .before .before .before .before .before .before .before .before .before .before .before .before .before .before .before .before .before .before .before .before .before .before .before .before .before .before .before .before .before .before .before .before .before .before .before .before .before .before .before .before .before .before .place .given .1) mk (c .before .before .before .before .before .before .before .before .before .before .before .before .before .before .before .before .before .before .before .before .before .before .before .before .before .before .before .before .before .before .before .before .before .before .before .before .before .before .before .before .before .before .before .before .before .before .before .before .before .volume .ensures .1 .0) (omega (arith, c .before .before .before .before .before .before .before .before .before .before .before .before .before .before .before .before .before .before .before .before .before .before .before .before .before .before .before .before .before .before .before .before .before .before .before .before .before .before .before .before .before .before .before .before .if2 .left)) (c .before .before .before .before .before .before .before .before .before .before .before .before .before .before .before .before .before .before .before .before .before .before .before .before .before .before .before .before .before .before .before .before .before .before .before .before .before .before .before .message-order .ensures .0) (c .before .before .before .before .before .before .before .before .before .before .before .before .before .before .before .before .before .before .before .before .before .before .before .before .before .before .before .before .before .before .sewn-within .ensures) (c .before .before .before .before .before .before .before .before .before .before .before .before .before .before .before .before .before .before .before .before .before .before .before .before .before .before .before .before .before .if3 .left) (c .before .before .before .before .before .before .before .before .before .before .before .before .before .before .before .before .before .before .before .before .before .before .before .before .before .number-vertices .ensures) (c .before .before .before .before .before .before .before .before .before .before .before .before .before .before .before .before .before .pairs-once .ensures) (c .before .before .before .before .before .before .before .before .before .before .before .before .before .before .if4 .left) (c .before .before .before .before .before .before .before .before .before .before .count-sewn .ensures) (c .before .before .before .before .before .before .before .before .before .counter-fits .ensures) (c .before .before .before .before .before .before .before .before .if5 .taken), c .before .before .before .before .forget3 .ensures)
+    let mk = volume-ensures .0 in
+    (first-14 m ok (st .args .to) (st .args .serial) destination-right-ensures if1-left place-of-ensures (place-given .1) mk (volume-ensures .1 .0) (omega (arith, if2-left)) (message-order-ensures .0) sewn-within-ensures if3-left number-vertices-ensures pairs-once-ensures if4-left count-sewn-ensures counter-fits-ensures if5-taken, forget3-ensures)
 
 same-length-21 : tie.Need-same-length-21
 same-length-21 c =
-    c .before .before .before .before .before .before .before .before .before .before .before .before .before .before .before .before .before .before .before .before .before .before .before .before .before .before .before .before .before .before .before .before .before .before .before .before .before .before .before .before .before .volume .ensures .0 .size ∙ sym (ap length (c .before .before .before .before .before .before .before .before .before .before .before .before .before .before .before .before .before .before .before .before .before .before .before .before .before .before .before .before .before .before .before .before .before .before .before .before .before .before .before .before .before .before .before .before .before .before .before .before .before .before .before .before .before .before .before .before .before .before .before .pre .1 .0 .0) ∙ length-replicate {A = ℕ} room 0)
+    let c : tie.Else3 = search in
+    let volume-ensures = (let p : tie.After-volume = search in p .volume .ensures) in
+    let c : tie.After-volume = search in
+    let start : tie.Start = search in
+    volume-ensures .0 .size ∙ sym (ap length (start .pre .1 .0 .0) ∙ length-replicate {A = ℕ} room 0)
 
 same-length-22 : tie.Need-same-length-22
 same-length-22 c =
-    c .before .before .before .before .before .before .before .before .before .before .before .before .before .before .before .before .before .before .before .before .before .before .before .before .before .before .before .before .before .before .before .message-order .ensures .0 .out-size ∙ sym (c .before .before .before .before .before .before .before .before .before .before .before .before .before .before .before .before .before .before .before .before .before .before .before .before .before .before .before .before .before .before .before .before .before .before .before .before .before .before .before .before .before .before .before .before .before .before .before .before .before .before .before .before .before .before .before .before .before .before .before .pre .1 .0 .1)
+    let c : tie.Else3 = search in
+    let message-order-ensures = (let p : tie.After-message-order = search in p .message-order .ensures) in
+    let c : tie.After-message-order = search in
+    let c : tie.After-slice-known6 = search in
+    let start : tie.Start = search in
+    message-order-ensures .0 .out-size ∙ sym (start .pre .1 .0 .1)
 
 same-length-23 : tie.Need-same-length-23
 same-length-23 c = search needs
@@ -287,11 +473,30 @@ same-length-27 c = search needs
 
 returns-7 : tie.Need-returns-7
 returns-7 c =
-    let st = c .before .before .before .before .before .before .before .before .before .before .before .before .before .before .before .before .before .before .before .before .before .before .before .before .before .before .before .before .before .before .before .before .before .before .before .before .before .before .before .before .before .before .before .before .before .before .before .before .before .before .before .before .before .before .before .before .before .before .before in
+    let if5-left = (let p : tie.Else5 = search in p .if5 .left) in
+    let counter-fits-ensures = (let p : tie.After-counter-fits = search in p .counter-fits .ensures) in
+    let count-sewn-ensures = (let p : tie.After-count-sewn = search in p .count-sewn .ensures) in
+    let if4-left = (let p : tie.Else4 = search in p .if4 .left) in
+    let pairs-once-ensures = (let p : tie.After-pairs-once = search in p .pairs-once .ensures) in
+    let number-vertices-ensures = (let p : tie.After-number-vertices = search in p .number-vertices .ensures) in
+    let c : tie.After-number-vertices = search in
+    let if3-left = (let p : tie.Else3 = search in p .if3 .left) in
+    let sewn-within-ensures = (let p : tie.After-sewn-within = search in p .sewn-within .ensures) in
+    let message-order-ensures = (let p : tie.After-message-order = search in p .message-order .ensures) in
+    let if2-left = (let p : tie.Else2 = search in p .if2 .left) in
+    let c : tie.Else2 = search in
+    let volume-ensures = (let p : tie.After-volume = search in p .volume .ensures) in
+    let place-given = (let p : tie.After-place = search in p .place .given) in
+    let place-of-ensures = (let p : tie.After-place-of = search in p .place-of .ensures) in
+    let if1-left = (let p : tie.Else1 = search in p .if1 .left) in
+    let destination-right-ensures = (let p : tie.After-destination-right = search in p .destination-right .ensures) in
+    let c : tie.After-destination-right = search in
+    let start : tie.Start = search in
+    let st = start in
     let m = st .args .block .now in
     let ok = st .pre .0 in
-    let mk = c .before .before .before .before .before .before .before .before .before .before .before .before .before .before .before .before .before .before .before .before .before .before .before .before .before .before .before .before .before .before .before .before .before .before .before .before .before .before .before .before .before .volume .ensures .0 in
-    (departs m ok (st .args .to) (st .args .serial) (c .before .before .before .before .before .before .before .before .before .before .before .before .before .before .before .before .before .before .before .before .before .before .before .before .before .before .before .before .before .before .before .before .before .before .before .before .before .before .before .before .before .before .before .before .before .before .before .before .before .before .destination-right .ensures) (c .before .before .before .before .before .before .before .before .before .before .before .before .before .before .before .before .before .before .before .before .before .before .before .before .before .before .before .before .before .before .before .before .before .before .before .before .before .before .before .before .before .before .before .before .before .before .before .before .before .if1 .left) (c .before .before .before .before .before .before .before .before .before .before .before .before .before .before .before .before .before .before .before .before .before .before .before .before .before .before .before .before .before .before .before .before .before .before .before .before .before .before .before .before .before .before .before .before .before .before .before .place-of .ensures) (c .before .before .before .before .before .before .before .before .before .before .before .before .before .before .before .before .before .before .before .before .before .before .before .before .before .before .before .before .before .before .before .before .before .before .before .before .before .before .before .before .before .before .before .before .before .place .given .1) mk (c .before .before .before .before .before .before .before .before .before .before .before .before .before .before .before .before .before .before .before .before .before .before .before .before .before .before .before .before .before .before .before .before .before .before .before .before .before .before .before .before .before .volume .ensures .1 .0) (omega (arith, c .before .before .before .before .before .before .before .before .before .before .before .before .before .before .before .before .before .before .before .before .before .before .before .before .before .before .before .before .before .before .before .before .before .before .before .before .if2 .left)) (c .before .before .before .before .before .before .before .before .before .before .before .before .before .before .before .before .before .before .before .before .before .before .before .before .before .before .before .before .before .before .before .message-order .ensures .0) (c .before .before .before .before .before .before .before .before .before .before .before .before .before .before .before .before .before .before .before .before .before .before .sewn-within .ensures) (c .before .before .before .before .before .before .before .before .before .before .before .before .before .before .before .before .before .before .before .before .before .if3 .left) (c .before .before .before .before .before .before .before .before .before .before .before .before .before .before .before .before .before .number-vertices .ensures) (c .before .before .before .before .before .before .before .before .before .pairs-once .ensures) (c .before .before .before .before .before .before .if4 .left) (c .before .before .count-sewn .ensures) (c .before .counter-fits .ensures) (c .if5 .left), tt)
+    let mk = volume-ensures .0 in
+    (departs m ok (st .args .to) (st .args .serial) destination-right-ensures if1-left place-of-ensures (place-given .1) mk (volume-ensures .1 .0) (omega (arith, if2-left)) (message-order-ensures .0) sewn-within-ensures if3-left number-vertices-ensures pairs-once-ensures if4-left count-sewn-ensures counter-fits-ensures if5-left, tt)
 
 pub leaves-spec : {M : Type 1} → statement M
 leaves-spec =

@@ -16,7 +16,8 @@ same-length c = search needs
 
 returns : tie.Need-returns
 returns c =
-    numbered (c .answer-number .ensures) (c .before .before .before .check-mesh .ensures)
+    let check-mesh-ensures = (let p : tie.After-check-mesh = search in p .check-mesh .ensures) in
+    numbered (c .answer-number .ensures) check-mesh-ensures
 
 pub dmap-check-mesh-spec : {M : Type 1} → statement M
 dmap-check-mesh-spec =

@@ -16,7 +16,8 @@ same-length c = search needs
 
 returns : tie.Need-returns
 returns c =
-    numbered (c .answer-number .ensures) (c .before .before .before .empty .ensures)
+    let empty-ensures = (let p : tie.After-empty = search in p .empty .ensures) in
+    numbered (c .answer-number .ensures) empty-ensures
 
 pub dmap-empty-spec : {M : Type 1} → statement M
 dmap-empty-spec = tie.close (tie.spec empty-requires answer-number-requires same-length returns)

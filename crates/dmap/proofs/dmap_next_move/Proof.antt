@@ -9,14 +9,16 @@ use Rattle.dmap.proofs.dmap_next_move.Tie as tie
 
 returns : tie.Need-returns
 returns c =
-    not-four (c .before .before .before .before .args .answer .now) (c .before .before .before .before .args .scratch .now) (next-move-by-number all-rack (c .before .before .before .before .args .mesh .now) (c .before .before .before .before .args .oracle) (c .before .before .before .before .args .axis) (point-words (c .before .before .before .before .args .x0) (c .before .before .before .before .args .y0) (c .before .before .before .before .args .z0)) (point-words (c .before .before .before .before .args .x1) (c .before .before .before .before .args .y1) (c .before .before .before .before .args .z1)) (c .before .before .before .before .args .scratch .now)) (c .if1 .taken)
+    let start : tie.Start = search in
+    not-four (start .args .answer .now) (start .args .scratch .now) (next-move-by-number all-rack (start .args .mesh .now) (start .args .oracle) (start .args .axis) (point-words (start .args .x0) (start .args .y0) (start .args .z0)) (point-words (start .args .x1) (start .args .y1) (start .args .z1)) (start .args .scratch .now)) (c .if1 .taken)
 
 next-move-by-number-requires : tie.Need-next-move-by-number-requires
 next-move-by-number-requires c κs = search needs
 
 tell-move-requires : tie.Need-tell-move-requires
 tell-move-requires c κs =
-    c .before .before .before .before .before .if1 .left
+    let if1-left = (let p : tie.Else1 = search in p .if1 .left) in
+    if1-left
 
 same-length : tie.Need-same-length
 same-length c = search needs
@@ -26,7 +28,11 @@ same-length-2 c = search needs
 
 returns-2 : tie.Need-returns-2
 returns-2 c =
-    moved (c .before .before .before .before .before .before .before .before .before .before .before .before .args .answer .now) (c .before .before .before .before .before .before .before .before .before .before .before .before .args .scratch .now) (c .before .before .before .before .before .before .before .before .if1 .left) (c .before .before .tell-move .ensures) (c .before .before .before .before .before .before .next-move-by-number .ensures)
+    let start : tie.Start = search in
+    let if1-left = (let p : tie.Else1 = search in p .if1 .left) in
+    let next-move-by-number-ensures = (let p : tie.After-next-move-by-number = search in p .next-move-by-number .ensures) in
+    let tell-move-ensures = (let p : tie.After-tell-move = search in p .tell-move .ensures) in
+    moved (start .args .answer .now) (start .args .scratch .now) if1-left tell-move-ensures next-move-by-number-ensures
 
 pub dmap-next-move-spec : {M : Type 1} → statement M
 dmap-next-move-spec =

@@ -16,7 +16,8 @@ same-length c = search needs
 
 returns : tie.Need-returns
 returns c =
-    numbered (c .answer-number .ensures) (c .before .before .before .read-file .ensures)
+    let read-file-ensures = (let p : tie.After-read-file = search in p .read-file .ensures) in
+    numbered (c .answer-number .ensures) read-file-ensures
 
 pub dmap-read-file-spec : {M : Type 1} → statement M
 dmap-read-file-spec =

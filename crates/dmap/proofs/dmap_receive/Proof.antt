@@ -16,7 +16,8 @@ same-length c = search needs
 
 returns : tie.Need-returns
 returns c =
-    numbered (c .answer-number .ensures) (c .before .before .before .receive .ensures)
+    let receive-ensures = (let p : tie.After-receive = search in p .receive .ensures) in
+    numbered (c .answer-number .ensures) receive-ensures
 
 pub dmap-receive-spec : {M : Type 1} → statement M
 dmap-receive-spec =

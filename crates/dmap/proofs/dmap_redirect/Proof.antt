@@ -16,7 +16,8 @@ same-length c = search needs
 
 returns : tie.Need-returns
 returns c =
-    numbered (c .answer-number .ensures) (c .before .before .before .redirect .ensures)
+    let redirect-ensures = (let p : tie.After-redirect = search in p .redirect .ensures) in
+    numbered (c .answer-number .ensures) redirect-ensures
 
 pub dmap-redirect-spec : {M : Type 1} → statement M
 dmap-redirect-spec =

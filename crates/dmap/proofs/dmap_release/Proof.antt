@@ -16,7 +16,8 @@ same-length c = search needs
 
 returns : tie.Need-returns
 returns c =
-    numbered (c .answer-number .ensures) (c .before .before .before .release .ensures)
+    let release-ensures = (let p : tie.After-release = search in p .release .ensures) in
+    numbered (c .answer-number .ensures) release-ensures
 
 pub dmap-release-spec : {M : Type 1} → statement M
 dmap-release-spec =

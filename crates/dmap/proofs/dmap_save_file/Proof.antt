@@ -16,7 +16,8 @@ same-length c = search needs
 
 returns : tie.Need-returns
 returns c =
-    counted (c .tell-written .ensures) (c .before .before .before .before .save-file .ensures)
+    let save-file-ensures = (let p : tie.After-save-file = search in p .save-file .ensures) in
+    counted (c .tell-written .ensures) save-file-ensures
 
 pub dmap-save-file-spec : {M : Type 1} → statement M
 dmap-save-file-spec =

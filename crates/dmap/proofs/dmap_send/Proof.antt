@@ -16,7 +16,8 @@ same-length c = search needs
 
 returns : tie.Need-returns
 returns c =
-    counted (c .tell-written .ensures) (c .before .before .before .before .send .ensures)
+    let send-ensures = (let p : tie.After-send = search in p .send .ensures) in
+    counted (c .tell-written .ensures) send-ensures
 
 pub dmap-send-spec : {M : Type 1} → statement M
 dmap-send-spec = tie.close (tie.spec send-requires tell-written-requires same-length returns)

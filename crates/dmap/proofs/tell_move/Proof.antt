@@ -40,25 +40,32 @@ same-length c = search needs
 
 returns : tie.Need-returns
 returns c =
-    level-told (c .before .before .before .before .enum-told .given .1) (c .before .before .put-words .ensures)
+    let enum-told-given = (let p : tie.After-enum-told = search in p .enum-told .given) in
+    let put-words-ensures = (let p : tie.After-put-words = search in p .put-words .ensures) in
+    level-told (enum-told-given .1) put-words-ensures
 
 same-length-2 : tie.Need-same-length-2
 same-length-2 c = search needs
 
 returns-2 : tie.Need-returns-2
 returns-2 c =
-    blocked-told (c .before .before .before .before .enum-told2 .given .1) (c .before .before .put-words2 .ensures)
+    let enum-told2-given = (let p : tie.After-enum-told2 = search in p .enum-told2 .given) in
+    let put-words2-ensures = (let p : tie.After-put-words2 = search in p .put-words2 .ensures) in
+    blocked-told (enum-told2-given .1) put-words2-ensures
 
 same-length-3 : tie.Need-same-length-3
 same-length-3 c = search needs
 
 returns-3 : tie.Need-returns-3
 returns-3 c =
-    move-told (c .before .before .before .before .before .m .given .1) (c .before .before .put-words3 .ensures)
+    let m-given = (let p : tie.After-m = search in p .m .given) in
+    let put-words3-ensures = (let p : tie.After-put-words3 = search in p .put-words3 .ensures) in
+    move-told (m-given .1) put-words3-ensures
 
 returns-4 : tie.Need-returns-4
 returns-4 c =
-    move-refused (c .before .before .m2 .given .1) (c .refusal-number .ensures) refl
+    let m2-given = (let p : tie.After-m2 = search in p .m2 .given) in
+    move-refused (m2-given .1) (c .refusal-number .ensures) refl
 
 pub tell-move-spec : {M : Type 1} → statement M
 tell-move-spec =

@@ -16,11 +16,13 @@ refusal-number-requires c κs = search needs
 
 returns : tie.Need-returns
 returns c =
-    told-served (c .before .w .given .1)
+    let w-given = (let p : tie.After-w = search in p .w .given) in
+    told-served (w-given .1)
 
 returns-2 : tie.Need-returns-2
 returns-2 c =
-    told-refused (c .before .before .w2 .given .1) (c .refusal-number .ensures)
+    let w2-given = (let p : tie.After-w2 = search in p .w2 .given) in
+    told-refused (w2-given .1) (c .refusal-number .ensures)
 
 pub tell-written-spec : {M : Type 1} → statement M
 tell-written-spec =

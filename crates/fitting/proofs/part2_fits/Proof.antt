@@ -16,15 +16,18 @@ slice-aggregate-rank-codes-2 c = search needs
 
 rank-codes-requires : tie.Need-rank-codes-requires
 rank-codes-requires c κs =
-    (c .before .before .before .before .before .before .before .before .before .before .pre .0 .codes-size, few-entries (c .before .before .before .before .before .before .before .before .before .before .pre .0), c .before .before .before .before .before .before .before .before .before .before .pre .0 .codes-small, refl, refl)
+    let start : tie.Start = search in
+    (start .pre .0 .codes-size, few-entries (start .pre .0), start .pre .0 .codes-small, refl, refl)
 
 returns : tie.Need-returns
 returns c =
-    same-no (c .before .before .before .rank-codes .ensures) (not-true _ (c .if1 .taken))
+    let rank-codes-ensures = (let p : tie.After-rank-codes = search in p .rank-codes .ensures) in
+    same-no rank-codes-ensures (not-true _ (c .if1 .taken))
 
 shared-slice-read-n : tie.Need-shared-slice-read-n
 shared-slice-read-n c =
-    let l = beside (c .before .before .before .before .before .before .before .before .before .before .before .before .before .before .before .pre .0) .linked .size in omega (arith, l)
+    let start : tie.Start = search in
+    let l = beside (start .pre .0) .linked .size in omega (arith, l)
 
 slice-aggregate-locate : tie.Need-slice-aggregate-locate
 slice-aggregate-locate c = search needs
@@ -37,14 +40,20 @@ slice-aggregate-locate-3 c = search needs
 
 locate-requires : tie.Need-locate-requires
 locate-requires c κs =
-    (beside (c .before .before .before .before .before .before .before .before .before .before .before .before .before .before .before .before .before .before .pre .0) .linked .size, beside (c .before .before .before .before .before .before .before .before .before .before .before .before .before .before .before .before .before .before .pre .0) .linked .few, c .before .before .before .before .before .before .before .rank-codes .ensures .keys-size, few-entries (c .before .before .before .before .before .before .before .before .before .before .before .before .before .before .before .before .before .before .pre .0), refl, c .before .before .before .before .before .before .before .rank-codes .ensures .ranked (not-false _ (c .before .before .before .before .if1 .left)))
+    let start : tie.Start = search in
+    let rank-codes-ensures = (let p : tie.After-rank-codes = search in p .rank-codes .ensures) in
+    let if1-left = (let p : tie.Else1 = search in p .if1 .left) in
+    (beside (start .pre .0) .linked .size, beside (start .pre .0) .linked .few, rank-codes-ensures .keys-size, few-entries (start .pre .0), refl, rank-codes-ensures .ranked (not-false _ if1-left))
 
 slice-aggregate-part2-right : tie.Need-slice-aggregate-part2-right
 slice-aggregate-part2-right c = search needs
 
 part2-right-requires : tie.Need-part2-right-requires
 part2-right-requires c κs =
-    (c .before .before .before .before .before .before .before .before .before .before .before .before .before .before .before .before .before .before .before .before .before .before .before .pre .0 .sewable _ (c .before .before .before .before .locate .ensures .size), (c .before .before .before .before .before .before .before .before .before .before .before .before .before .before .before .before .before .before .before .before .before .before .before .pre .1, c .before .before .before .before .before .before .before .before .before .before .before .before .before .before .before .before .before .before .before .before .before .before .before .pre .2))
+    let locate-ensures = (let p : tie.After-locate = search in p .locate .ensures) in
+    let c : tie.After-locate = search in
+    let start : tie.Start = search in
+    (start .pre .0 .sewable _ (locate-ensures .size), (start .pre .1, start .pre .2))
 
 same-length : tie.Need-same-length
 same-length c = search needs
@@ -54,7 +63,11 @@ same-length-2 c = search needs
 
 returns-2 : tie.Need-returns-2
 returns-2 c =
-    part2-done (c .before .before .before .before .before .before .before .before .before .before .before .before .before .before .before .before .before .rank-codes .ensures) (not-false _ (c .before .before .before .before .before .before .before .before .before .before .before .before .before .before .if1 .left)) (c .before .before .before .before .before .before .before .before .before .locate .ensures) (c .before .before .before .before .part2-right .ensures)
+    let rank-codes-ensures = (let p : tie.After-rank-codes = search in p .rank-codes .ensures) in
+    let if1-left = (let p : tie.Else1 = search in p .if1 .left) in
+    let locate-ensures = (let p : tie.After-locate = search in p .locate .ensures) in
+    let part2-right-ensures = (let p : tie.After-part2-right = search in p .part2-right .ensures) in
+    part2-done rank-codes-ensures (not-false _ if1-left) locate-ensures part2-right-ensures
 
 pub part2-fits-spec : {M : Type 1} → statement M
 part2-fits-spec =

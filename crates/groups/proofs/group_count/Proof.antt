@@ -23,7 +23,8 @@ size-requires c κs = search needs
 returns : tie.Need-returns
 unfolding group-counts group-count
 returns c =
-    rw (← bit-length (c .before .args .v) (omega arith)) (c .size .ensures)
+    let start : tie.Start = search in
+    rw (← bit-length (start .args .v) (omega arith)) (c .size .ensures)
 
 pub group-count-spec : {M : Type 1} → statement M
 group-count-spec = tie.close (tie.spec sub-n cast-n array-read-size size-requires returns)

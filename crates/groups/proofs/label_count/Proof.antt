@@ -27,18 +27,26 @@ group-count-requires-3 c κs = search needs
 
 add-result : tie.Need-add-result
 add-result c =
-    let a = c .before .before .before .args .code in
-    omega (arith, c .before .group-count2 .ensures, c .group-count3 .ensures, count-most (a / 4096 % 2 ^ 32) (omega arith), count-most (a % 4096) (omega arith))
+    let start : tie.Start = search in
+    let group-count2-ensures = (let p : tie.After-group-count2 = search in p .group-count2 .ensures) in
+    let a = start .args .code in
+    omega (arith, group-count2-ensures, c .group-count3 .ensures, count-most (a / 4096 % 2 ^ 32) (omega arith), count-most (a % 4096) (omega arith))
 
 add-result-2 : tie.Need-add-result-2
 add-result-2 c =
-    let a = c .before .before .before .args .code in
-    omega (arith, c .before .before .group-count .ensures, c .before .group-count2 .ensures, c .group-count3 .ensures, count-most (a / 4096 / 2 ^ 32) (omega arith), count-most (a / 4096 % 2 ^ 32) (omega arith), count-most (a % 4096) (omega arith))
+    let start : tie.Start = search in
+    let group-count-ensures = (let p : tie.After-group-count = search in p .group-count .ensures) in
+    let group-count2-ensures = (let p : tie.After-group-count2 = search in p .group-count2 .ensures) in
+    let a = start .args .code in
+    omega (arith, group-count-ensures, group-count2-ensures, c .group-count3 .ensures, count-most (a / 4096 / 2 ^ 32) (omega arith), count-most (a / 4096 % 2 ^ 32) (omega arith), count-most (a % 4096) (omega arith))
 
 returns : tie.Need-returns
 returns c =
-    let a = c .before .before .before .args .code in
-    omega (arith, c .before .before .group-count .ensures, c .before .group-count2 .ensures, c .group-count3 .ensures, label-length a, group-length (a / 4096 / 2 ^ 32) (omega arith), group-length (a / 4096 % 2 ^ 32) (omega arith), group-length (a % 4096) (omega arith))
+    let start : tie.Start = search in
+    let group-count-ensures = (let p : tie.After-group-count = search in p .group-count .ensures) in
+    let group-count2-ensures = (let p : tie.After-group-count2 = search in p .group-count2 .ensures) in
+    let a = start .args .code in
+    omega (arith, group-count-ensures, group-count2-ensures, c .group-count3 .ensures, label-length a, group-length (a / 4096 / 2 ^ 32) (omega arith), group-length (a / 4096 % 2 ^ 32) (omega arith), group-length (a % 4096) (omega arith))
 
 pub label-count-spec : {M : Type 1} → statement M
 label-count-spec =

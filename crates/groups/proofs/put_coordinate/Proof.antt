@@ -23,11 +23,13 @@ cast-out c = search needs
 
 slice-write-out : tie.Need-slice-write-out Inv-loop μ-loop
 slice-write-out c =
-    omega (arith, c .before .loop .inv .end, c .before .loop .inv .room, c .before .loop .inv .same-length)
+    let loop-inv = (let p : tie.At-loop Inv-loop μ-loop = search in p .loop .inv) in
+    omega (arith, loop-inv .end, loop-inv .room, loop-inv .same-length)
 
 add-p : tie.Need-add-p Inv-loop μ-loop
 add-p c =
-    omega (arith, c .before .loop .inv .end, c .before .loop .inv .room, c .before .loop .inv .same-length)
+    let loop-inv = (let p : tie.At-loop Inv-loop μ-loop = search in p .loop .inv) in
+    omega (arith, loop-inv .end, loop-inv .room, loop-inv .same-length)
 
 sub-left : tie.Need-sub-left Inv-loop μ-loop
 sub-left c = search needs
@@ -38,15 +40,18 @@ loop-less c =
 
 loop-again : tie.Need-loop-again Inv-loop μ-loop
 loop-again c =
-    spelling-step (c .before .loop .inv) (c .loop-test .taken)
+    let loop-inv = (let p : tie.At-loop Inv-loop μ-loop = search in p .loop .inv) in
+    spelling-step loop-inv (c .loop-test .taken)
 
 same-length : tie.Need-same-length Inv-loop μ-loop
 same-length c =
-    c .before .loop .inv .same-length
+    let loop-inv = (let p : tie.At-loop Inv-loop μ-loop = search in p .loop .inv) in
+    loop-inv .same-length
 
 returns : tie.Need-returns Inv-loop μ-loop
 returns c =
-    spelling-end (c .before .loop .inv) (omega arith)
+    let loop-inv = (let p : tie.At-loop Inv-loop μ-loop = search in p .loop .inv) in
+    spelling-end loop-inv (omega arith)
 
 pub put-coordinate-spec : {M : Type 1} → statement M
 put-coordinate-spec =

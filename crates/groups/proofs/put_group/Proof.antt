@@ -12,7 +12,8 @@ widen-requires c κs = search needs
 put-number-requires : tie.Need-put-number-requires
 unfolding group group-below
 put-number-requires c κs =
-    (omega arith, rw (c .widen .ensures, four-is-eight (c .before .before .before .args .v) (omega arith)) (c .before .before .before .pre))
+    let start : tie.Start = search in
+    (omega arith, rw (c .widen .ensures, four-is-eight (start .args .v) (omega arith)) (start .pre))
 
 same-length : tie.Need-same-length
 same-length c = search needs
@@ -20,7 +21,10 @@ same-length c = search needs
 returns : tie.Need-returns
 unfolding group group-below
 returns c =
-    rw (c .before .before .before .widen .ensures, four-is-eight (c .before .before .before .before .before .before .args .v) (omega arith)) at (c .before .before .put-number .ensures)
+    let start : tie.Start = search in
+    let widen-ensures = (let p : tie.After-widen = search in p .widen .ensures) in
+    let put-number-ensures = (let p : tie.After-put-number = search in p .put-number .ensures) in
+    rw (widen-ensures, four-is-eight (start .args .v) (omega arith)) at put-number-ensures
 
 pub put-group-spec : {M : Type 1} → statement M
 put-group-spec = tie.close (tie.spec widen-requires put-number-requires same-length returns)

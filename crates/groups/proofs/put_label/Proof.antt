@@ -11,28 +11,38 @@ cast-put-group c = search needs
 
 put-group-requires : tie.Need-put-group-requires
 put-group-requires c κs =
-    omega (arith, c .before .before .pre, label-length (c .before .before .args .code))
+    let start : tie.Start = search in
+    omega (arith, start .pre, label-length (start .args .code))
 
 cast-put-group-2 : tie.Need-cast-put-group-2
 cast-put-group-2 c = search needs
 
 put-group-requires-2 : tie.Need-put-group-requires-2
 put-group-requires-2 c κs =
-    omega (arith, c .before .before .before .before .before .before .pre, label-length (c .before .before .before .before .before .before .args .code), stored-length (c .before .before .before .put-group .ensures), c .before .before .before .put-group .ensures .past)
+    let start : tie.Start = search in
+    let put-group-ensures = (let p : tie.After-put-group = search in p .put-group .ensures) in
+    omega (arith, start .pre, label-length (start .args .code), stored-length put-group-ensures, put-group-ensures .past)
 
 cast-put-group-3 : tie.Need-cast-put-group-3
 cast-put-group-3 c = search needs
 
 put-group-requires-3 : tie.Need-put-group-requires-3
 put-group-requires-3 c κs =
-    omega (arith, c .before .before .before .before .before .before .before .before .before .before .pre, label-length (c .before .before .before .before .before .before .before .before .before .before .args .code), stored-length (c .before .before .before .before .before .before .before .put-group .ensures), c .before .before .before .before .before .before .before .put-group .ensures .past, stored-length (c .before .before .before .put-group2 .ensures), c .before .before .before .put-group2 .ensures .past)
+    let start : tie.Start = search in
+    let put-group-ensures = (let p : tie.After-put-group = search in p .put-group .ensures) in
+    let put-group2-ensures = (let p : tie.After-put-group2 = search in p .put-group2 .ensures) in
+    omega (arith, start .pre, label-length (start .args .code), stored-length put-group-ensures, put-group-ensures .past, stored-length put-group2-ensures, put-group2-ensures .past)
 
 same-length : tie.Need-same-length
 same-length c = search needs
 
 returns : tie.Need-returns
 returns c =
-    rw (label-put (c .before .before .before .before .before .before .before .before .before .before .before .before .before .args .code)) (stored-then (c .before .before .before .before .before .before .before .before .before .before .put-group .ensures) (stored-then (c .before .before .before .before .before .before .put-group2 .ensures) (c .before .before .put-group3 .ensures)))
+    let start : tie.Start = search in
+    let put-group-ensures = (let p : tie.After-put-group = search in p .put-group .ensures) in
+    let put-group2-ensures = (let p : tie.After-put-group2 = search in p .put-group2 .ensures) in
+    let put-group3-ensures = (let p : tie.After-put-group3 = search in p .put-group3 .ensures) in
+    rw (label-put (start .args .code)) (stored-then put-group-ensures (stored-then put-group2-ensures put-group3-ensures))
 
 pub put-label-spec : {M : Type 1} → statement M
 put-label-spec =

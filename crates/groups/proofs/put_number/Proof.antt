@@ -26,36 +26,42 @@ cast-out c = search needs
 
 slice-write-out : tie.Need-slice-write-out Inv-loop μ-loop
 slice-write-out c =
-    omega (arith, put-more (c .before .loop .inv) (c .loop-test .taken))
+    let loop-inv = (let p : tie.At-loop Inv-loop μ-loop = search in p .loop .inv) in
+    omega (arith, put-more loop-inv (c .loop-test .taken))
 
 add-p : tie.Need-add-p Inv-loop μ-loop
 add-p c =
-    omega (arith, put-more (c .before .loop .inv) (c .loop-test .taken))
+    let loop-inv = (let p : tie.At-loop Inv-loop μ-loop = search in p .loop .inv) in
+    omega (arith, put-more loop-inv (c .loop-test .taken))
 
 loop-less : tie.Need-loop-less Inv-loop μ-loop
 loop-less c = search needs
 
 loop-again : tie.Need-loop-again Inv-loop μ-loop
 loop-again c =
-    putting-step (c .before .loop .inv) (c .loop-test .taken)
+    let loop-inv = (let p : tie.At-loop Inv-loop μ-loop = search in p .loop .inv) in
+    putting-step loop-inv (c .loop-test .taken)
 
 cast-out-2 : tie.Need-cast-out-2 Inv-loop μ-loop
 cast-out-2 c = search needs
 
 slice-write-out-2 : tie.Need-slice-write-out-2 Inv-loop μ-loop
 slice-write-out-2 c =
-    omega (arith, put-last (c .before .loop .inv) (c .loop-test .left))
+    let loop-inv = (let p : tie.At-loop Inv-loop μ-loop = search in p .loop .inv) in
+    omega (arith, put-last loop-inv (c .loop-test .left))
 
 add-result : tie.Need-add-result Inv-loop μ-loop
 add-result c =
-    omega (arith, put-last (c .before .loop .inv) (c .loop-test .left))
+    let loop-inv = (let p : tie.At-loop Inv-loop μ-loop = search in p .loop .inv) in
+    omega (arith, put-last loop-inv (c .loop-test .left))
 
 same-length : tie.Need-same-length Inv-loop μ-loop
 same-length c = search needs
 
 returns : tie.Need-returns Inv-loop μ-loop
 returns c =
-    putting-end (c .before .loop .inv) (c .loop-test .left)
+    let loop-inv = (let p : tie.At-loop Inv-loop μ-loop = search in p .loop .inv) in
+    putting-end loop-inv (c .loop-test .left)
 
 pub put-number-spec : {M : Type 1} → statement M
 put-number-spec =

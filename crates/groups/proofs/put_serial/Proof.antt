@@ -9,7 +9,8 @@ use Rattle.groups.proofs.put_serial.Tie as tie
 put-number-requires : tie.Need-put-number-requires
 unfolding serial group-below
 put-number-requires c κs =
-    (omega arith, rw (four-is-eight (c .before .before .args .v) (c .before .before .pre .0)) (c .before .before .pre .1))
+    let start : tie.Start = search in
+    (omega arith, rw (four-is-eight (start .args .v) (start .pre .0)) (start .pre .1))
 
 same-length : tie.Need-same-length
 same-length c = search needs
@@ -17,7 +18,9 @@ same-length c = search needs
 returns : tie.Need-returns
 unfolding serial group-below
 returns c =
-    rw (four-is-eight (c .before .before .before .before .before .args .v) (c .before .before .before .before .before .pre .0)) at (c .before .before .put-number .ensures)
+    let start : tie.Start = search in
+    let put-number-ensures = (let p : tie.After-put-number = search in p .put-number .ensures) in
+    rw (four-is-eight (start .args .v) (start .pre .0)) at put-number-ensures
 
 pub put-serial-spec : {M : Type 1} → statement M
 put-serial-spec = tie.close (tie.spec put-number-requires same-length returns)

@@ -16,15 +16,20 @@ enum-told c = search needs
 
 returns : tie.Need-returns
 returns c =
-    most-none _ _ _ (sym (c .enum-told .given .1) ∙ c .before .before .read-group .ensures)
+    let read-group-ensures = (let p : tie.After-read-group = search in p .read-group .ensures) in
+    most-none _ _ _ (sym (c .enum-told .given .1) ∙ read-group-ensures)
 
 returns-2 : tie.Need-returns-2
 returns-2 c =
-    most-within _ _ _ _ _ (sym (c .before .before .v .given .1) ∙ c .before .before .before .before .read-group .ensures) (c .if1 .taken)
+    let read-group-ensures = (let p : tie.After-read-group = search in p .read-group .ensures) in
+    let v-given = (let p : tie.After-v = search in p .v .given) in
+    most-within _ _ _ _ _ (sym (v-given .1) ∙ read-group-ensures) (c .if1 .taken)
 
 returns-3 : tie.Need-returns-3
 returns-3 c =
-    most-over _ _ _ _ _ (sym (c .before .before .v .given .1) ∙ c .before .before .before .before .read-group .ensures) (c .if1 .left)
+    let read-group-ensures = (let p : tie.After-read-group = search in p .read-group .ensures) in
+    let v-given = (let p : tie.After-v = search in p .v .given) in
+    most-over _ _ _ _ _ (sym (v-given .1) ∙ read-group-ensures) (c .if1 .left)
 
 pub read-at-most-spec : {M : Type 1} → statement M
 read-at-most-spec =

@@ -24,11 +24,17 @@ keep-requires c κs = search needs
 
 returns-2 : tie.Need-returns-2
 returns-2 c =
-    c .keep .ensures ∙ below-last _ _ _ _ _ (c .before .before .before .before .if1 .left) (c .before .before .wide .ensures .0) (c .before .if2 .taken)
+    let if1-left = (let p : tie.Else1 = search in p .if1 .left) in
+    let wide-ensures = (let p : tie.After-wide = search in p .wide .ensures) in
+    let if2-taken = (let p : tie.Then2 = search in p .if2 .taken) in
+    c .keep .ensures ∙ below-last _ _ _ _ _ if1-left (wide-ensures .0) if2-taken
 
 returns-3 : tie.Need-returns-3
 returns-3 c =
-    below-full _ _ _ _ _ (c .before .before .before .before .if1 .left) (c .before .before .wide .ensures .0) (c .before .if2 .left) (c .if3 .taken)
+    let if1-left = (let p : tie.Else1 = search in p .if1 .left) in
+    let wide-ensures = (let p : tie.After-wide = search in p .wide .ensures) in
+    let if2-left = (let p : tie.Else2 = search in p .if2 .left) in
+    below-full _ _ _ _ _ if1-left (wide-ensures .0) if2-left (c .if3 .taken)
 
 add-read-more : tie.Need-add-read-more
 add-read-more c = search needs
@@ -41,7 +47,10 @@ read-more-requires c κs = search needs
 
 returns-4 : tie.Need-returns-4
 returns-4 c =
-    c .read-more .ensures ∙ below-more _ _ _ _ _ (c .before .before .before .before .before .if1 .left) (c .before .before .before .wide .ensures .0) (c .before .before .if2 .left) (omega arith)
+    let if1-left = (let p : tie.Else1 = search in p .if1 .left) in
+    let wide-ensures = (let p : tie.After-wide = search in p .wide .ensures) in
+    let if2-left = (let p : tie.Else2 = search in p .if2 .left) in
+    c .read-more .ensures ∙ below-more _ _ _ _ _ if1-left (wide-ensures .0) if2-left (omega arith)
 
 pub read-below-spec : {M : Type 1} → statement M
 read-below-spec =

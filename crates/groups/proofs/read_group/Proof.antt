@@ -16,7 +16,9 @@ add-t9 c = search needs
 
 returns : tie.Need-returns
 returns c =
-    group-one _ _ _ (c .before .before .before .if1 .taken) (c .before .wide .ensures .0) (c .if2 .taken)
+    let if1-taken = (let p : tie.Then1 = search in p .if1 .taken) in
+    let wide-ensures = (let p : tie.After-wide = search in p .wide .ensures) in
+    group-one _ _ _ if1-taken (wide-ensures .0) (c .if2 .taken)
 
 read-below-requires : tie.Need-read-below-requires
 read-below-requires c κs = search needs

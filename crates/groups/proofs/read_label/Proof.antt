@@ -19,7 +19,8 @@ enum-told c = search needs
 
 returns : tie.Need-returns
 returns c =
-    no-maker _ _ (bad-at (at-most 15) _ _ (sym (c .enum-told .given .1) ∙ c .before .before .read-at-most .ensures))
+    let read-at-most-ensures = (let p : tie.After-read-at-most = search in p .read-at-most .ensures) in
+    no-maker _ _ (bad-at (at-most 15) _ _ (sym (c .enum-told .given .1) ∙ read-at-most-ensures))
 
 read-group-requires : tie.Need-read-group-requires
 read-group-requires c κs = search needs
@@ -32,8 +33,11 @@ enum-told-2 c = search needs
 
 returns-2 : tie.Need-returns-2
 returns-2 c =
-    no-number _ _ (at-most-at 15 (sym (c .before .before .before .before .maker .given .1) ∙ c .before .before .before .before .before .before .read-at-most .ensures))
-    (bad-at group _ _ (sym (c .enum-told2 .given .1) ∙ c .before .before .read-group .ensures))
+    let read-at-most-ensures = (let p : tie.After-read-at-most = search in p .read-at-most .ensures) in
+    let maker-given = (let p : tie.After-maker = search in p .maker .given) in
+    let read-group-ensures = (let p : tie.After-read-group = search in p .read-group .ensures) in
+    no-number _ _ (at-most-at 15 (sym (maker-given .1) ∙ read-at-most-ensures))
+    (bad-at group _ _ (sym (c .enum-told2 .given .1) ∙ read-group-ensures))
 
 read-at-most-requires-2 : tie.Need-read-at-most-requires-2
 read-at-most-requires-2 c κs = search needs
@@ -46,44 +50,71 @@ enum-told-3 c = search needs
 
 returns-3 : tie.Need-returns-3
 returns-3 c =
-    no-position _ _ (at-most-at 15 (sym (c .before .before .before .before .before .before .before .before .maker .given .1) ∙ c .before .before .before .before .before .before .before .before .before .before .read-at-most .ensures))
-    (group-at (sym (c .before .before .before .before .number .given .1) ∙ c .before .before .before .before .before .before .read-group .ensures))
-    (bad-at (at-most 4095) _ _ (sym (c .enum-told3 .given .1) ∙ c .before .before .read-at-most2 .ensures))
+    let read-at-most-ensures = (let p : tie.After-read-at-most = search in p .read-at-most .ensures) in
+    let maker-given = (let p : tie.After-maker = search in p .maker .given) in
+    let read-group-ensures = (let p : tie.After-read-group = search in p .read-group .ensures) in
+    let number-given = (let p : tie.After-number = search in p .number .given) in
+    let read-at-most2-ensures = (let p : tie.After-read-at-most2 = search in p .read-at-most2 .ensures) in
+    no-position _ _ (at-most-at 15 (sym (maker-given .1) ∙ read-at-most-ensures))
+    (group-at (sym (number-given .1) ∙ read-group-ensures))
+    (bad-at (at-most 4095) _ _ (sym (c .enum-told3 .given .1) ∙ read-at-most2-ensures))
 
 mul-t12 : tie.Need-mul-t12
 mul-t12 c =
-    omega (arith, at-most-bound 15 _ _ _ (at-most-at 15 (sym (c .before .before .before .before .before .before .before .before .before .maker .given .1) ∙ c .before .before .before .before .before .before .before .before .before .before .before .read-at-most .ensures) .value))
+    let read-at-most-ensures = (let p : tie.After-read-at-most = search in p .read-at-most .ensures) in
+    let maker-given = (let p : tie.After-maker = search in p .maker .given) in
+    omega (arith, at-most-bound 15 _ _ _ (at-most-at 15 (sym (maker-given .1) ∙ read-at-most-ensures) .value))
 
 add-t13 : tie.Need-add-t13
 add-t13 c =
+    let read-at-most-ensures = (let p : tie.After-read-at-most = search in p .read-at-most .ensures) in
+    let maker-given = (let p : tie.After-maker = search in p .maker .given) in
+    let read-group-ensures = (let p : tie.After-read-group = search in p .read-group .ensures) in
+    let number-given = (let p : tie.After-number = search in p .number .given) in
     omega (
       arith,
-      at-most-bound 15 _ _ _ (at-most-at 15 (sym (c .before .before .before .before .before .before .before .before .before .maker .given .1) ∙ c .before .before .before .before .before .before .before .before .before .before .before .read-at-most .ensures) .value),
-      group-bound _ _ _ (group-at (sym (c .before .before .before .before .before .number .given .1) ∙ c .before .before .before .before .before .before .before .read-group .ensures) .value),
+      at-most-bound 15 _ _ _ (at-most-at 15 (sym (maker-given .1) ∙ read-at-most-ensures) .value),
+      group-bound _ _ _ (group-at (sym (number-given .1) ∙ read-group-ensures) .value),
     )
 
 mul-t14 : tie.Need-mul-t14
 mul-t14 c =
+    let read-at-most-ensures = (let p : tie.After-read-at-most = search in p .read-at-most .ensures) in
+    let maker-given = (let p : tie.After-maker = search in p .maker .given) in
+    let read-group-ensures = (let p : tie.After-read-group = search in p .read-group .ensures) in
+    let number-given = (let p : tie.After-number = search in p .number .given) in
     omega (
       arith,
-      at-most-bound 15 _ _ _ (at-most-at 15 (sym (c .before .before .before .before .before .before .before .before .before .maker .given .1) ∙ c .before .before .before .before .before .before .before .before .before .before .before .read-at-most .ensures) .value),
-      group-bound _ _ _ (group-at (sym (c .before .before .before .before .before .number .given .1) ∙ c .before .before .before .before .before .before .before .read-group .ensures) .value),
+      at-most-bound 15 _ _ _ (at-most-at 15 (sym (maker-given .1) ∙ read-at-most-ensures) .value),
+      group-bound _ _ _ (group-at (sym (number-given .1) ∙ read-group-ensures) .value),
     )
 
 add-t15 : tie.Need-add-t15
 add-t15 c =
+    let read-at-most-ensures = (let p : tie.After-read-at-most = search in p .read-at-most .ensures) in
+    let maker-given = (let p : tie.After-maker = search in p .maker .given) in
+    let read-group-ensures = (let p : tie.After-read-group = search in p .read-group .ensures) in
+    let number-given = (let p : tie.After-number = search in p .number .given) in
+    let read-at-most2-ensures = (let p : tie.After-read-at-most2 = search in p .read-at-most2 .ensures) in
+    let position-given = (let p : tie.After-position = search in p .position .given) in
     omega (
       arith,
-      at-most-bound 15 _ _ _ (at-most-at 15 (sym (c .before .before .before .before .before .before .before .before .before .maker .given .1) ∙ c .before .before .before .before .before .before .before .before .before .before .before .read-at-most .ensures) .value),
-      group-bound _ _ _ (group-at (sym (c .before .before .before .before .before .number .given .1) ∙ c .before .before .before .before .before .before .before .read-group .ensures) .value),
-      at-most-bound 4095 _ _ _ (at-most-at 4095 (sym (c .before .position .given .1) ∙ c .before .before .before .read-at-most2 .ensures) .value),
+      at-most-bound 15 _ _ _ (at-most-at 15 (sym (maker-given .1) ∙ read-at-most-ensures) .value),
+      group-bound _ _ _ (group-at (sym (number-given .1) ∙ read-group-ensures) .value),
+      at-most-bound 4095 _ _ _ (at-most-at 4095 (sym (position-given .1) ∙ read-at-most2-ensures) .value),
     )
 
 returns-4 : tie.Need-returns-4
 returns-4 c =
-    label-code-read _ _ (at-most-at 15 (sym (c .before .before .before .before .before .before .before .before .before .maker .given .1) ∙ c .before .before .before .before .before .before .before .before .before .before .before .read-at-most .ensures))
-    (group-at (sym (c .before .before .before .before .before .number .given .1) ∙ c .before .before .before .before .before .before .before .read-group .ensures))
-    (at-most-at 4095 (sym (c .before .position .given .1) ∙ c .before .before .before .read-at-most2 .ensures))
+    let read-at-most-ensures = (let p : tie.After-read-at-most = search in p .read-at-most .ensures) in
+    let maker-given = (let p : tie.After-maker = search in p .maker .given) in
+    let read-group-ensures = (let p : tie.After-read-group = search in p .read-group .ensures) in
+    let number-given = (let p : tie.After-number = search in p .number .given) in
+    let read-at-most2-ensures = (let p : tie.After-read-at-most2 = search in p .read-at-most2 .ensures) in
+    let position-given = (let p : tie.After-position = search in p .position .given) in
+    label-code-read _ _ (at-most-at 15 (sym (maker-given .1) ∙ read-at-most-ensures))
+    (group-at (sym (number-given .1) ∙ read-group-ensures))
+    (at-most-at 4095 (sym (position-given .1) ∙ read-at-most2-ensures))
 
 pub read-label-spec : {M : Type 1} → statement M
 read-label-spec =

@@ -19,7 +19,8 @@ abbrev μ-loop : tie.MeasureT-loop
 
 loop-holds : tie.Need-loop-holds Inv-loop μ-loop
 loop-holds c =
-    reading-start _ _ _ _ (c .before .pre .0) (c .before .pre .1)
+    let start : tie.Start Inv-loop μ-loop = search in
+    reading-start _ _ _ _ (start .pre .0) (start .pre .1)
 
 shared-slice-read-wide : tie.Need-shared-slice-read-wide Inv-loop μ-loop
 shared-slice-read-wide c = search needs
@@ -29,15 +30,25 @@ wide-requires c κs = search needs
 
 returns : tie.Need-returns Inv-loop μ-loop
 returns c =
-    last-zero (c .before .before .before .before .before .loop .inv) _ _ (c .before .before .before .before .loop-test .taken) (c .before .before .wide .ensures .0) (c .before .if1 .taken) (c .if2 .taken)
+    let loop-inv = (let p : tie.At-loop Inv-loop μ-loop = search in p .loop .inv) in
+    let loop-test-taken = (let p : tie.In-loop Inv-loop μ-loop = search in p .loop-test .taken) in
+    let wide-ensures = (let p : tie.After-wide Inv-loop μ-loop = search in p .wide .ensures) in
+    let if1-taken = (let p : tie.Then1 Inv-loop μ-loop = search in p .if1 .taken) in
+    last-zero loop-inv _ _ loop-test-taken (wide-ensures .0) if1-taken (c .if2 .taken)
 
 mul-keep : tie.Need-mul-keep Inv-loop μ-loop
 mul-keep c =
-    omega (arith, scale-fits (c .before .before .before .before .before .loop .inv), group-fits (c .before .before .before .before .before .loop .inv) (c .before .before .wide .result) (c .before .if1 .taken))
+    let loop-inv = (let p : tie.At-loop Inv-loop μ-loop = search in p .loop .inv) in
+    let wide-result = (let p : tie.After-wide Inv-loop μ-loop = search in p .wide .result) in
+    let if1-taken = (let p : tie.Then1 Inv-loop μ-loop = search in p .if1 .taken) in
+    omega (arith, scale-fits loop-inv, group-fits loop-inv wide-result if1-taken)
 
 add-keep : tie.Need-add-keep Inv-loop μ-loop
 add-keep c =
-    omega (arith, scale-fits (c .before .before .before .before .before .loop .inv), c .before .before .before .before .before .loop .inv .small, group-fits (c .before .before .before .before .before .loop .inv) (c .before .before .wide .result) (c .before .if1 .taken))
+    let loop-inv = (let p : tie.At-loop Inv-loop μ-loop = search in p .loop .inv) in
+    let wide-result = (let p : tie.After-wide Inv-loop μ-loop = search in p .wide .result) in
+    let if1-taken = (let p : tie.Then1 Inv-loop μ-loop = search in p .if1 .taken) in
+    omega (arith, scale-fits loop-inv, loop-inv .small, group-fits loop-inv wide-result if1-taken)
 
 add-keep-2 : tie.Need-add-keep-2 Inv-loop μ-loop
 add-keep-2 c = search needs
@@ -47,23 +58,39 @@ keep-requires c κs = search needs
 
 returns-2 : tie.Need-returns-2 Inv-loop μ-loop
 returns-2 c =
-    c .keep .ensures ∙ last-more (c .before .before .before .before .before .before .loop .inv) _ _ (c .before .before .before .before .before .loop-test .taken) (c .before .before .before .wide .ensures .0) (c .before .before .if1 .taken) (c .before .if2 .left)
+    let loop-inv = (let p : tie.At-loop Inv-loop μ-loop = search in p .loop .inv) in
+    let loop-test-taken = (let p : tie.In-loop Inv-loop μ-loop = search in p .loop-test .taken) in
+    let wide-ensures = (let p : tie.After-wide Inv-loop μ-loop = search in p .wide .ensures) in
+    let if1-taken = (let p : tie.Then1 Inv-loop μ-loop = search in p .if1 .taken) in
+    let if2-left = (let p : tie.Else2 Inv-loop μ-loop = search in p .if2 .left) in
+    c .keep .ensures ∙ last-more loop-inv _ _ loop-test-taken (wide-ensures .0) if1-taken if2-left
 
 returns-3 : tie.Need-returns-3 Inv-loop μ-loop
 returns-3 c =
-    no-more (c .before .before .before .before .before .loop .inv) _ _ (c .before .before .before .before .loop-test .taken) (c .before .before .wide .ensures .0) (c .before .if1 .left) (c .if3 .taken)
+    let loop-inv = (let p : tie.At-loop Inv-loop μ-loop = search in p .loop .inv) in
+    let loop-test-taken = (let p : tie.In-loop Inv-loop μ-loop = search in p .loop-test .taken) in
+    let wide-ensures = (let p : tie.After-wide Inv-loop μ-loop = search in p .wide .ensures) in
+    let if1-left = (let p : tie.Else1 Inv-loop μ-loop = search in p .if1 .left) in
+    no-more loop-inv _ _ loop-test-taken (wide-ensures .0) if1-left (c .if3 .taken)
 
 mul-low : tie.Need-mul-low Inv-loop μ-loop
 mul-low c =
-    omega (arith, scale-fits (c .before .before .before .before .before .loop .inv), group-fits (c .before .before .before .before .before .loop .inv) (c .before .before .wide .result - 128) (omega (arith, c .before .before .wide .ensures .1)))
+    let loop-inv = (let p : tie.At-loop Inv-loop μ-loop = search in p .loop .inv) in
+    let wide-ensures = (let p : tie.After-wide Inv-loop μ-loop = search in p .wide .ensures) in
+    let wide-result = (let p : tie.After-wide Inv-loop μ-loop = search in p .wide .result) in
+    omega (arith, scale-fits loop-inv, group-fits loop-inv (wide-result - 128) (omega (arith, wide-ensures .1)))
 
 add-low : tie.Need-add-low Inv-loop μ-loop
 add-low c =
-    omega (arith, scale-fits (c .before .before .before .before .before .loop .inv), c .before .before .before .before .before .loop .inv .small, group-fits (c .before .before .before .before .before .loop .inv) (c .before .before .wide .result - 128) (omega (arith, c .before .before .wide .ensures .1)))
+    let loop-inv = (let p : tie.At-loop Inv-loop μ-loop = search in p .loop .inv) in
+    let wide-ensures = (let p : tie.After-wide Inv-loop μ-loop = search in p .wide .ensures) in
+    let wide-result = (let p : tie.After-wide Inv-loop μ-loop = search in p .wide .result) in
+    omega (arith, scale-fits loop-inv, loop-inv .small, group-fits loop-inv (wide-result - 128) (omega (arith, wide-ensures .1)))
 
 mul-scale : tie.Need-mul-scale Inv-loop μ-loop
 mul-scale c =
-    omega (arith, scale-fits (c .before .before .before .before .before .loop .inv))
+    let loop-inv = (let p : tie.At-loop Inv-loop μ-loop = search in p .loop .inv) in
+    omega (arith, scale-fits loop-inv)
 
 sub-left : tie.Need-sub-left Inv-loop μ-loop
 sub-left c = search needs
@@ -73,15 +100,21 @@ add-p c = search needs
 
 loop-less : tie.Need-loop-less Inv-loop μ-loop
 loop-less c =
-    omega (arith, c .before .before .before .before .loop-test .taken)
+    let loop-test-taken = (let p : tie.In-loop Inv-loop μ-loop = search in p .loop-test .taken) in
+    omega (arith, loop-test-taken)
 
 loop-again : tie.Need-loop-again Inv-loop μ-loop
 loop-again c =
-    reading-step (c .before .before .before .before .before .loop .inv) 0 _ (c .before .before .before .before .loop-test .taken) (c .before .before .wide .ensures .0) (c .before .if1 .left) (c .before .before .wide .ensures .1) (omega arith)
+    let loop-inv = (let p : tie.At-loop Inv-loop μ-loop = search in p .loop .inv) in
+    let loop-test-taken = (let p : tie.In-loop Inv-loop μ-loop = search in p .loop-test .taken) in
+    let wide-ensures = (let p : tie.After-wide Inv-loop μ-loop = search in p .wide .ensures) in
+    let if1-left = (let p : tie.Else1 Inv-loop μ-loop = search in p .if1 .left) in
+    reading-step loop-inv 0 _ loop-test-taken (wide-ensures .0) if1-left (wide-ensures .1) (omega arith)
 
 returns-4 : tie.Need-returns-4 Inv-loop μ-loop
 returns-4 c =
-    ends-short (c .before .loop .inv) _ (c .loop-test .left)
+    let loop-inv = (let p : tie.At-loop Inv-loop μ-loop = search in p .loop .inv) in
+    ends-short loop-inv _ (c .loop-test .left)
 
 pub read-more-spec : {M : Type 1} → statement M
 read-more-spec =

@@ -15,7 +15,8 @@ group-count-requires c κs = search needs
 returns : tie.Need-returns
 unfolding group serial
 returns c =
-    c .group-count .ensures ∙ sym (group-length (c .before .args .v) (c .before .pre))
+    let start : tie.Start = search in
+    c .group-count .ensures ∙ sym (group-length (start .args .v) (start .pre))
 
 pub serial-count-spec : {M : Type 1} → statement M
 serial-count-spec = tie.close (tie.spec cast-group-count group-count-requires returns)

@@ -117,7 +117,15 @@ add-result-7 c = search needs
 
 returns : tie.Need-returns
 returns c =
-    coordinate-word _ _ _ _ _ _ _ _ _ _ (c .before .before .before .before .before .before .before .before .before .before .before .before .before .before .before .before .before .pre) (c .before .before .before .before .before .before .before .before .before .before .before .before .before .before .wide .ensures .0) (c .before .before .before .before .before .before .before .before .before .before .before .before .wide2 .ensures .0) (c .before .before .before .before .before .before .before .before .before .before .wide3 .ensures .0) (c .before .before .before .before .before .before .before .before .wide4 .ensures .0) (c .before .before .before .before .before .before .wide5 .ensures .0) (c .before .before .before .before .wide6 .ensures .0) (c .before .before .wide7 .ensures .0) (c .wide8 .ensures .0)
+    let start : tie.Start = search in
+    let wide-ensures = (let p : tie.After-wide = search in p .wide .ensures) in
+    let wide2-ensures = (let p : tie.After-wide2 = search in p .wide2 .ensures) in
+    let wide3-ensures = (let p : tie.After-wide3 = search in p .wide3 .ensures) in
+    let wide4-ensures = (let p : tie.After-wide4 = search in p .wide4 .ensures) in
+    let wide5-ensures = (let p : tie.After-wide5 = search in p .wide5 .ensures) in
+    let wide6-ensures = (let p : tie.After-wide6 = search in p .wide6 .ensures) in
+    let wide7-ensures = (let p : tie.After-wide7 = search in p .wide7 .ensures) in
+    coordinate-word _ _ _ _ _ _ _ _ _ _ (start .pre) (wide-ensures .0) (wide2-ensures .0) (wide3-ensures .0) (wide4-ensures .0) (wide5-ensures .0) (wide6-ensures .0) (wide7-ensures .0) (c .wide8 .ensures .0)
 
 pub word-at-spec : {M : Type 1} → statement M
 word-at-spec =

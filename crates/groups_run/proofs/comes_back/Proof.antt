@@ -10,7 +10,9 @@ returns c = search needs
 
 put-group-requires : tie.Need-put-group-requires
 put-group-requires c κs =
-    omega (arith, group-most (c .before .before .before .args .v) (omega arith), c .before .if1 .left)
+    let start : tie.Start = search in
+    let if1-left = (let p : tie.Else1 = search in p .if1 .left) in
+    omega (arith, group-most (start .args .v) (omega arith), if1-left)
 
 read-group-requires : tie.Need-read-group-requires
 read-group-requires c κs = search needs

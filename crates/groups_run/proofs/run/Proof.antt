@@ -37,7 +37,9 @@ loop-less c =
 
 loop-again : tie.Need-loop-again Inv-loop μ-loop
 loop-again c =
-    c .before .before .out .given ∙ c .before .before .before .before .before .before .before .loop .inv
+    let loop-inv = (let p : tie.At-loop Inv-loop μ-loop = search in p .loop .inv) in
+    let out-given = (let p : tie.After-out Inv-loop μ-loop = search in p .out .given) in
+    out-given ∙ loop-inv
 
 number-requires : tie.Need-number-requires Inv-loop μ-loop
 number-requires c κs = search needs
@@ -50,7 +52,8 @@ text-requires c κs = search needs
 
 same-length : tie.Need-same-length Inv-loop μ-loop
 same-length c =
-    c .before .before .before .before .loop .inv
+    let loop-inv = (let p : tie.At-loop Inv-loop μ-loop = search in p .loop .inv) in
+    loop-inv
 
 returns : tie.Need-returns Inv-loop μ-loop
 returns c = search needs

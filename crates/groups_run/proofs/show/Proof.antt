@@ -13,7 +13,9 @@ returns c = search needs
 
 put-group-requires : tie.Need-put-group-requires
 put-group-requires c κs =
-    omega (arith, group-most (c .before .before .before .args .v) (omega arith), c .before .if1 .left)
+    let start : tie.Start = search in
+    let if1-left = (let p : tie.Else1 = search in p .if1 .left) in
+    omega (arith, group-most (start .args .v) (omega arith), if1-left)
 
 number-requires : tie.Need-number-requires
 number-requires c κs = search needs
@@ -32,22 +34,38 @@ place-requires c κs = search needs
 
 slice-reshare-prefix-bytes : tie.Need-slice-reshare-prefix-bytes
 slice-reshare-prefix-bytes c =
-    omega (arith, group-most (c .before .before .before .before .before .before .before .before .before .before .before .args .v) (omega arith), c .before .before .before .before .before .before .before .before .before .if1 .left, c .before .before .before .before .before .before .before .put-group .ensures .past, stored-length (c .before .before .before .before .before .before .before .put-group .ensures))
+    let start : tie.Start = search in
+    let if1-left = (let p : tie.Else1 = search in p .if1 .left) in
+    let put-group-ensures = (let p : tie.After-put-group = search in p .put-group .ensures) in
+    omega (arith, group-most (start .args .v) (omega arith), if1-left, put-group-ensures .past, stored-length put-group-ensures)
 
 slice-aggregate-bytes : tie.Need-slice-aggregate-bytes
 slice-aggregate-bytes c =
-    sym (length-take-le (c .before .before .before .before .before .before .before .before .put-group .result) (c .before .before .before .before .before .before .before .before .put-group .last .0) (omega (arith, group-most (c .before .before .before .before .before .before .before .before .before .before .before .before .args .v) (omega arith), c .before .before .before .before .before .before .before .before .before .before .if1 .left, c .before .before .before .before .before .before .before .before .put-group .ensures .past, stored-length (c .before .before .before .before .before .before .before .before .put-group .ensures))))
+    let start : tie.Start = search in
+    let if1-left = (let p : tie.Else1 = search in p .if1 .left) in
+    let put-group-ensures = (let p : tie.After-put-group = search in p .put-group .ensures) in
+    let put-group-last = (let p : tie.After-put-group = search in p .put-group .last) in
+    let put-group-result = (let p : tie.After-put-group = search in p .put-group .result) in
+    sym (length-take-le put-group-result (put-group-last .0) (omega (arith, group-most (start .args .v) (omega arith), if1-left, put-group-ensures .past, stored-length put-group-ensures)))
 
 bytes-requires : tie.Need-bytes-requires
 bytes-requires c κs = search needs
 
 slice-reshare-prefix-read-group : tie.Need-slice-reshare-prefix-read-group
 slice-reshare-prefix-read-group c =
-    omega (arith, group-most (c .before .before .before .before .before .before .before .before .before .before .before .before .before .args .v) (omega arith), c .before .before .before .before .before .before .before .before .before .before .before .if1 .left, c .before .before .before .before .before .before .before .before .before .put-group .ensures .past, stored-length (c .before .before .before .before .before .before .before .before .before .put-group .ensures))
+    let start : tie.Start = search in
+    let if1-left = (let p : tie.Else1 = search in p .if1 .left) in
+    let put-group-ensures = (let p : tie.After-put-group = search in p .put-group .ensures) in
+    omega (arith, group-most (start .args .v) (omega arith), if1-left, put-group-ensures .past, stored-length put-group-ensures)
 
 slice-aggregate-read-group : tie.Need-slice-aggregate-read-group
 slice-aggregate-read-group c =
-    sym (length-take-le (c .before .before .before .before .before .before .before .before .before .before .put-group .result) (c .before .before .before .before .before .before .before .before .before .before .put-group .last .0) (omega (arith, group-most (c .before .before .before .before .before .before .before .before .before .before .before .before .before .before .args .v) (omega arith), c .before .before .before .before .before .before .before .before .before .before .before .before .if1 .left, c .before .before .before .before .before .before .before .before .before .before .put-group .ensures .past, stored-length (c .before .before .before .before .before .before .before .before .before .before .put-group .ensures))))
+    let start : tie.Start = search in
+    let if1-left = (let p : tie.Else1 = search in p .if1 .left) in
+    let put-group-ensures = (let p : tie.After-put-group = search in p .put-group .ensures) in
+    let put-group-last = (let p : tie.After-put-group = search in p .put-group .last) in
+    let put-group-result = (let p : tie.After-put-group = search in p .put-group .result) in
+    sym (length-take-le put-group-result (put-group-last .0) (omega (arith, group-most (start .args .v) (omega arith), if1-left, put-group-ensures .past, stored-length put-group-ensures)))
 
 read-group-requires : tie.Need-read-group-requires
 read-group-requires c κs = search needs

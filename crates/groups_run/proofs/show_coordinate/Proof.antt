@@ -16,11 +16,19 @@ put-coordinate-requires c κs = search needs
 
 slice-reshare-prefix-read-coordinate : tie.Need-slice-reshare-prefix-read-coordinate
 slice-reshare-prefix-read-coordinate c =
-    omega (arith, coordinate-length (c .before .before .before .before .before .before .args .word), c .before .before .before .before .if1 .left, c .before .before .put-coordinate .ensures .past, stored-length (c .before .before .put-coordinate .ensures))
+    let start : tie.Start = search in
+    let if1-left = (let p : tie.Else1 = search in p .if1 .left) in
+    let put-coordinate-ensures = (let p : tie.After-put-coordinate = search in p .put-coordinate .ensures) in
+    omega (arith, coordinate-length (start .args .word), if1-left, put-coordinate-ensures .past, stored-length put-coordinate-ensures)
 
 slice-aggregate-read-coordinate : tie.Need-slice-aggregate-read-coordinate
 slice-aggregate-read-coordinate c =
-    sym (length-take-le (c .before .before .before .put-coordinate .result) (c .before .before .before .put-coordinate .last .0) (omega (arith, coordinate-length (c .before .before .before .before .before .before .before .args .word), c .before .before .before .before .before .if1 .left, c .before .before .before .put-coordinate .ensures .past, stored-length (c .before .before .before .put-coordinate .ensures))))
+    let start : tie.Start = search in
+    let if1-left = (let p : tie.Else1 = search in p .if1 .left) in
+    let put-coordinate-ensures = (let p : tie.After-put-coordinate = search in p .put-coordinate .ensures) in
+    let put-coordinate-last = (let p : tie.After-put-coordinate = search in p .put-coordinate .last) in
+    let put-coordinate-result = (let p : tie.After-put-coordinate = search in p .put-coordinate .result) in
+    sym (length-take-le put-coordinate-result (put-coordinate-last .0) (omega (arith, coordinate-length (start .args .word), if1-left, put-coordinate-ensures .past, stored-length put-coordinate-ensures)))
 
 read-coordinate-requires : tie.Need-read-coordinate-requires
 read-coordinate-requires c κs = search needs

@@ -22,26 +22,44 @@ number-requires c κs = search needs
 
 put-label-requires : tie.Need-put-label-requires
 put-label-requires c κs =
-    omega (arith, label-most (c .before .before .before .before .before .before .args .code) (omega arith), c .before .before .before .before .if1 .left)
+    let start : tie.Start = search in
+    let if1-left = (let p : tie.Else1 = search in p .if1 .left) in
+    omega (arith, label-most (start .args .code) (omega arith), if1-left)
 
 slice-reshare-prefix-bytes : tie.Need-slice-reshare-prefix-bytes
 slice-reshare-prefix-bytes c =
-    omega (arith, label-most (c .before .before .before .before .before .before .before .before .before .args .code) (omega arith), c .before .before .before .before .before .before .before .if1 .left, c .before .before .put-label .ensures .past, stored-length (c .before .before .put-label .ensures))
+    let start : tie.Start = search in
+    let if1-left = (let p : tie.Else1 = search in p .if1 .left) in
+    let put-label-ensures = (let p : tie.After-put-label = search in p .put-label .ensures) in
+    omega (arith, label-most (start .args .code) (omega arith), if1-left, put-label-ensures .past, stored-length put-label-ensures)
 
 slice-aggregate-bytes : tie.Need-slice-aggregate-bytes
 slice-aggregate-bytes c =
-    sym (length-take-le (c .before .before .before .put-label .result) (c .before .before .before .put-label .last .0) (omega (arith, label-most (c .before .before .before .before .before .before .before .before .before .before .args .code) (omega arith), c .before .before .before .before .before .before .before .before .if1 .left, c .before .before .before .put-label .ensures .past, stored-length (c .before .before .before .put-label .ensures))))
+    let start : tie.Start = search in
+    let if1-left = (let p : tie.Else1 = search in p .if1 .left) in
+    let put-label-ensures = (let p : tie.After-put-label = search in p .put-label .ensures) in
+    let put-label-last = (let p : tie.After-put-label = search in p .put-label .last) in
+    let put-label-result = (let p : tie.After-put-label = search in p .put-label .result) in
+    sym (length-take-le put-label-result (put-label-last .0) (omega (arith, label-most (start .args .code) (omega arith), if1-left, put-label-ensures .past, stored-length put-label-ensures)))
 
 bytes-requires : tie.Need-bytes-requires
 bytes-requires c κs = search needs
 
 slice-reshare-prefix-read-label : tie.Need-slice-reshare-prefix-read-label
 slice-reshare-prefix-read-label c =
-    omega (arith, label-most (c .before .before .before .before .before .before .before .before .before .before .before .args .code) (omega arith), c .before .before .before .before .before .before .before .before .before .if1 .left, c .before .before .before .before .put-label .ensures .past, stored-length (c .before .before .before .before .put-label .ensures))
+    let start : tie.Start = search in
+    let if1-left = (let p : tie.Else1 = search in p .if1 .left) in
+    let put-label-ensures = (let p : tie.After-put-label = search in p .put-label .ensures) in
+    omega (arith, label-most (start .args .code) (omega arith), if1-left, put-label-ensures .past, stored-length put-label-ensures)
 
 slice-aggregate-read-label : tie.Need-slice-aggregate-read-label
 slice-aggregate-read-label c =
-    sym (length-take-le (c .before .before .before .before .before .put-label .result) (c .before .before .before .before .before .put-label .last .0) (omega (arith, label-most (c .before .before .before .before .before .before .before .before .before .before .before .before .args .code) (omega arith), c .before .before .before .before .before .before .before .before .before .before .if1 .left, c .before .before .before .before .before .put-label .ensures .past, stored-length (c .before .before .before .before .before .put-label .ensures))))
+    let start : tie.Start = search in
+    let if1-left = (let p : tie.Else1 = search in p .if1 .left) in
+    let put-label-ensures = (let p : tie.After-put-label = search in p .put-label .ensures) in
+    let put-label-last = (let p : tie.After-put-label = search in p .put-label .last) in
+    let put-label-result = (let p : tie.After-put-label = search in p .put-label .result) in
+    sym (length-take-le put-label-result (put-label-last .0) (omega (arith, label-most (start .args .code) (omega arith), if1-left, put-label-ensures .past, stored-length put-label-ensures)))
 
 read-label-requires : tie.Need-read-label-requires
 read-label-requires c κs = search needs

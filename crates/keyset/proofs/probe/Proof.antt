@@ -33,38 +33,55 @@ wide-requires c κs = search needs
 
 returns : tie.Need-returns Inv-loop μ-loop
 returns c =
-    at-zero (c .before .before .before .before .loop .inv) (c .before .wide .ensures) (c .if1 .taken)
+    let loop-inv = (let p : tie.At-loop Inv-loop μ-loop = search in p .loop .inv) in
+    let wide-ensures = (let p : tie.After-wide Inv-loop μ-loop = search in p .wide .ensures) in
+    at-zero loop-inv wide-ensures (c .if1 .taken)
 
 sub-if2 : tie.Need-sub-if2 Inv-loop μ-loop
 sub-if2 c = search needs
 
 mul-if2 : tie.Need-mul-if2 Inv-loop μ-loop
 mul-if2 c =
-    let v = slot-le (c .before .before .before .before .loop .inv) (c .before .wide .ensures) (c .before .before .before .before .before .before .pre .2) in
-    omega (arith, c .before .before .before .before .before .before .pre .1, v)
+    let start : tie.Start Inv-loop μ-loop = search in
+    let loop-inv = (let p : tie.At-loop Inv-loop μ-loop = search in p .loop .inv) in
+    let wide-ensures = (let p : tie.After-wide Inv-loop μ-loop = search in p .wide .ensures) in
+    let v = slot-le loop-inv wide-ensures (start .pre .2) in
+    omega (arith, start .pre .1, v)
 
 shared-slice-read-if2 : tie.Need-shared-slice-read-if2 Inv-loop μ-loop
 shared-slice-read-if2 c =
-    index-lt (c .before .before .before .before .before .loop .inv) (c .before .before .wide .ensures) (c .before .before .before .before .before .before .before .pre .2) (c .before .if1 .left)
+    let start : tie.Start Inv-loop μ-loop = search in
+    let loop-inv = (let p : tie.At-loop Inv-loop μ-loop = search in p .loop .inv) in
+    let wide-ensures = (let p : tie.After-wide Inv-loop μ-loop = search in p .wide .ensures) in
+    let if1-left = (let p : tie.Else1 Inv-loop μ-loop = search in p .if1 .left) in
+    index-lt loop-inv wide-ensures (start .pre .2) if1-left
 
 returns-2 : tie.Need-returns-2 Inv-loop μ-loop
 returns-2 c =
-    at-key (c .before .before .before .before .before .before .loop .inv) (c .before .before .before .wide .ensures) (c .if2 .taken)
+    let loop-inv = (let p : tie.At-loop Inv-loop μ-loop = search in p .loop .inv) in
+    let wide-ensures = (let p : tie.After-wide Inv-loop μ-loop = search in p .wide .ensures) in
+    at-key loop-inv wide-ensures (c .if2 .taken)
 
 add-t : tie.Need-add-t Inv-loop μ-loop
 add-t c = search needs
 
 loop-less : tie.Need-loop-less Inv-loop μ-loop
 loop-less c =
-    omega (arith, c .before .before .before .before .before .loop-test .taken)
+    let loop-test-taken = (let p : tie.In-loop Inv-loop μ-loop = search in p .loop-test .taken) in
+    omega (arith, loop-test-taken)
 
 loop-again : tie.Need-loop-again Inv-loop μ-loop
 loop-again c =
-    going-more (c .before .before .before .before .before .before .loop .inv) (c .before .before .before .wide .ensures) (c .before .before .before .before .before .loop-test .taken) (c .before .before .if1 .left) (c .if2 .left)
+    let loop-inv = (let p : tie.At-loop Inv-loop μ-loop = search in p .loop .inv) in
+    let loop-test-taken = (let p : tie.In-loop Inv-loop μ-loop = search in p .loop-test .taken) in
+    let wide-ensures = (let p : tie.After-wide Inv-loop μ-loop = search in p .wide .ensures) in
+    let if1-left = (let p : tie.Else1 Inv-loop μ-loop = search in p .if1 .left) in
+    going-more loop-inv wide-ensures loop-test-taken if1-left (c .if2 .left)
 
 returns-3 : tie.Need-returns-3 Inv-loop μ-loop
 returns-3 c =
-    at-end (c .before .loop .inv) (c .loop-test .left)
+    let loop-inv = (let p : tie.At-loop Inv-loop μ-loop = search in p .loop .inv) in
+    at-end loop-inv (c .loop-test .left)
 
 pub probe-spec : {M : Type 1} → statement M
 probe-spec =

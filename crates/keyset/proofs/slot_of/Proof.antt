@@ -19,7 +19,9 @@ add-result c = search needs
 
 returns : tie.Need-returns
 unfolding slot-of
-returns c = (rw (c .before .low-part .ensures .0, c .high-part .ensures .0) refl, mod-lt _ {m = 8192} (omega arith))
+returns c =
+    let low-part-ensures = (let p : tie.After-low-part = search in p .low-part .ensures) in
+    (rw (low-part-ensures .0, c .high-part .ensures .0) refl, mod-lt _ {m = 8192} (omega arith))
 
 pub slot-of-spec : {M : Type 1} → statement M
 slot-of-spec = tie.close (tie.spec low-part-requires high-part-requires add-result returns)

@@ -18,7 +18,8 @@ abbrev μ-loop : tie.MeasureT-loop
 
 loop-holds : tie.Need-loop-holds Inv-loop μ-loop
 loop-holds c =
-    (none-spread _ _ (c .before .pre .2), omega arith)
+    let start : tie.Start Inv-loop μ-loop = search in
+    (none-spread _ _ (start .pre .2), omega arith)
 
 mul-x : tie.Need-mul-x Inv-loop μ-loop
 mul-x c = search needs
@@ -31,7 +32,11 @@ slot-of-requires c κs = search needs
 
 probe-requires : tie.Need-probe-requires Inv-loop μ-loop
 probe-requires c κs =
-    (c .before .slot-of .ensures .1, c .before .before .before .before .before .before .pre .1, λ t. omega (arith, c .before .before .before .before .loop .inv .0 .only t, c .before .before .before .loop-test .taken, c .before .before .before .before .before .before .pre .0))
+    let start : tie.Start Inv-loop μ-loop = search in
+    let loop-inv = (let p : tie.At-loop Inv-loop μ-loop = search in p .loop .inv) in
+    let loop-test-taken = (let p : tie.In-loop Inv-loop μ-loop = search in p .loop-test .taken) in
+    let slot-of-ensures = (let p : tie.After-slot-of Inv-loop μ-loop = search in p .slot-of .ensures) in
+    (slot-of-ensures .1, start .pre .1, λ t. omega (arith, loop-inv .0 .only t, loop-test-taken, start .pre .0))
 
 add-if1 : tie.Need-add-if1 Inv-loop μ-loop
 add-if1 c = search needs
@@ -48,7 +53,12 @@ element-copy-out-if2 c = search needs
 
 returns-2 : tie.Need-returns-2 Inv-loop μ-loop
 returns-2 c =
-    twice (c .before .before .before .before .before .before .before .before .loop .inv .0) refl (c .before .before .before .before .before .slot-of .ensures .0) (c .before .before .before .probe .ensures) _ (c .before .before .before .before .before .before .before .loop-test .taken) (c .before .before .if1 .left) (c .if2 .taken)
+    let loop-inv = (let p : tie.At-loop Inv-loop μ-loop = search in p .loop .inv) in
+    let loop-test-taken = (let p : tie.In-loop Inv-loop μ-loop = search in p .loop-test .taken) in
+    let slot-of-ensures = (let p : tie.After-slot-of Inv-loop μ-loop = search in p .slot-of .ensures) in
+    let probe-ensures = (let p : tie.After-probe Inv-loop μ-loop = search in p .probe .ensures) in
+    let if1-left = (let p : tie.Else1 Inv-loop μ-loop = search in p .if1 .left) in
+    twice (loop-inv .0) refl (slot-of-ensures .0) probe-ensures _ loop-test-taken if1-left (c .if2 .taken)
 
 add-table : tie.Need-add-table Inv-loop μ-loop
 add-table c = search needs
@@ -67,15 +77,21 @@ add-i c = search needs
 
 loop-less : tie.Need-loop-less Inv-loop μ-loop
 loop-less c =
-    omega (arith, c .before .before .before .before .before .before .before .loop-test .taken)
+    let loop-test-taken = (let p : tie.In-loop Inv-loop μ-loop = search in p .loop-test .taken) in
+    omega (arith, loop-test-taken)
 
 loop-again : tie.Need-loop-again Inv-loop μ-loop
 loop-again c =
-    (one-more (c .before .before .before .before .before .before .before .before .loop .inv .0) refl (c .before .before .before .before .before .slot-of .ensures .0) (c .before .before .before .probe .ensures) (omega (arith, c .before .before .before .probe .ensures .to, c .before .before .before .before .before .slot-of .ensures .1)) (c .if2 .left), omega (arith, c .before .before .before .before .before .before .before .loop-test .taken))
+    let loop-inv = (let p : tie.At-loop Inv-loop μ-loop = search in p .loop .inv) in
+    let loop-test-taken = (let p : tie.In-loop Inv-loop μ-loop = search in p .loop-test .taken) in
+    let slot-of-ensures = (let p : tie.After-slot-of Inv-loop μ-loop = search in p .slot-of .ensures) in
+    let probe-ensures = (let p : tie.After-probe Inv-loop μ-loop = search in p .probe .ensures) in
+    (one-more (loop-inv .0) refl (slot-of-ensures .0) probe-ensures (omega (arith, probe-ensures .to, slot-of-ensures .1)) (c .if2 .left), omega (arith, loop-test-taken))
 
 returns-3 : tie.Need-returns-3 Inv-loop μ-loop
 returns-3 c =
-    all-spread (c .before .loop .inv .0) (c .loop-test .left)
+    let loop-inv = (let p : tie.At-loop Inv-loop μ-loop = search in p .loop .inv) in
+    all-spread (loop-inv .0) (c .loop-test .left)
 
 pub told-spec : {M : Type 1} → statement M
 told-spec =

@@ -31,7 +31,9 @@ same-length-2 c = search needs
 
 returns : tie.Need-returns
 returns c =
-    answered (c .before .before .before .before .before .before .before .before .before .before .args .mesh .now) (oracle-of (c .before .before .before .before .before .before .before .before .before .before .args .o)) (c .before .before .before .before .before .before .before .before .before .before .args .scratch .now) (c .before .before .before .before .before .before .before .before .before .before .args .outbox .now) (c .enum-told .given .1) (c .before .before .before .before .next-move .ensures) (stays (c .before .before .before .before .before .before .before .before .before .before .args .mesh .now) (c .before .before .before .before .before .before .before .before .before .before .args .outbox .now) _)
+    let start : tie.Start = search in
+    let next-move-ensures = (let p : tie.After-next-move = search in p .next-move .ensures) in
+    answered (start .args .mesh .now) (oracle-of (start .args .o)) (start .args .scratch .now) (start .args .outbox .now) (c .enum-told .given .1) next-move-ensures (stays (start .args .mesh .now) (start .args .outbox .now) _)
 
 same-length-3 : tie.Need-same-length-3
 same-length-3 c = search needs
@@ -41,7 +43,9 @@ same-length-4 c = search needs
 
 returns-2 : tie.Need-returns-2
 returns-2 c =
-    answered (c .before .before .before .before .before .before .before .before .before .before .args .mesh .now) (oracle-of (c .before .before .before .before .before .before .before .before .before .before .args .o)) (c .before .before .before .before .before .before .before .before .before .before .args .scratch .now) (c .before .before .before .before .before .before .before .before .before .before .args .outbox .now) (c .enum-told2 .given .1) (c .before .before .before .before .next-move .ensures) (stays (c .before .before .before .before .before .before .before .before .before .before .args .mesh .now) (c .before .before .before .before .before .before .before .before .before .before .args .outbox .now) _)
+    let start : tie.Start = search in
+    let next-move-ensures = (let p : tie.After-next-move = search in p .next-move .ensures) in
+    answered (start .args .mesh .now) (oracle-of (start .args .o)) (start .args .scratch .now) (start .args .outbox .now) (c .enum-told2 .given .1) next-move-ensures (stays (start .args .mesh .now) (start .args .outbox .now) _)
 
 same-length-5 : tie.Need-same-length-5
 same-length-5 c = search needs
@@ -54,7 +58,11 @@ same-length-7 c = search needs
 
 returns-3 : tie.Need-returns-3
 returns-3 c =
-    answered (c .before .before .before .before .before .before .before .before .before .before .before .before .before .before .before .before .before .before .args .mesh .now) (oracle-of (c .before .before .before .before .before .before .before .before .before .before .before .before .before .before .before .before .before .before .args .o)) (c .before .before .before .before .before .before .before .before .before .before .before .before .before .before .before .before .before .before .args .scratch .now) (c .before .before .before .before .before .before .before .before .before .before .before .before .before .before .before .before .before .before .args .outbox .now) (c .before .before .before .before .before .before .before .before .donor .given .1) (c .before .before .before .before .before .before .before .before .before .before .before .before .next-move .ensures) (c .before .before .before .before .carry-out .ensures)
+    let start : tie.Start = search in
+    let next-move-ensures = (let p : tie.After-next-move = search in p .next-move .ensures) in
+    let donor-given = (let p : tie.After-donor = search in p .donor .given) in
+    let carry-out-ensures = (let p : tie.After-carry-out = search in p .carry-out .ensures) in
+    answered (start .args .mesh .now) (oracle-of (start .args .o)) (start .args .scratch .now) (start .args .outbox .now) (donor-given .1) next-move-ensures carry-out-ensures
 
 same-length-8 : tie.Need-same-length-8
 same-length-8 c = search needs
@@ -64,7 +72,10 @@ same-length-9 c = search needs
 
 returns-4 : tie.Need-returns-4
 returns-4 c =
-    answered (c .before .before .before .before .before .before .before .before .before .before .before .args .mesh .now) (oracle-of (c .before .before .before .before .before .before .before .before .before .before .before .args .o)) (c .before .before .before .before .before .before .before .before .before .before .before .args .scratch .now) (c .before .before .before .before .before .before .before .before .before .before .before .args .outbox .now) (c .before .q .given .1) (c .before .before .before .before .before .next-move .ensures) (stays (c .before .before .before .before .before .before .before .before .before .before .before .args .mesh .now) (c .before .before .before .before .before .before .before .before .before .before .before .args .outbox .now) _)
+    let start : tie.Start = search in
+    let next-move-ensures = (let p : tie.After-next-move = search in p .next-move .ensures) in
+    let q-given = (let p : tie.After-q = search in p .q .given) in
+    answered (start .args .mesh .now) (oracle-of (start .args .o)) (start .args .scratch .now) (start .args .outbox .now) (q-given .1) next-move-ensures (stays (start .args .mesh .now) (start .args .outbox .now) _)
 
 pub step-spec : {M : Type 1} → statement M
 step-spec =

@@ -15,7 +15,9 @@ slice-relend-prefix-balance-blocks c = search needs
 
 slice-aggregate-balance-blocks : tie.Need-slice-aggregate-balance-blocks
 slice-aggregate-balance-blocks c =
-    sym (length-take-le (c .before .before .before .before .before .args .k * 32776) (c .before .before .before .before .before .args .mesh .now) (omega (arith, c .before .if1 .taken)))
+    let start : tie.Start = search in
+    let if1-taken = (let p : tie.Then1 = search in p .if1 .taken) in
+    sym (length-take-le (start .args .k * 32776) (start .args .mesh .now) (omega (arith, if1-taken)))
 
 balance-blocks-requires : tie.Need-balance-blocks-requires
 balance-blocks-requires c κs = search needs

@@ -8,7 +8,9 @@ use Rattle.levelling_run.proofs.run.Tie as tie
 
 slice-aggregate-balance-all : tie.Need-slice-aggregate-balance-all
 slice-aggregate-balance-all c =
-    sym (length-take-le (c .before .before .before .before .before .before .args .n) (c .before .before .before .before .before .before .args .input .now) (omega (arith, c .before .if1 .taken)))
+    let start : tie.Start = search in
+    let if1-taken = (let p : tie.Then1 = search in p .if1 .taken) in
+    sym (length-take-le (start .args .n) (start .args .input .now) (omega (arith, if1-taken)))
 
 balance-all-requires : tie.Need-balance-all-requires
 balance-all-requires c κs = search needs

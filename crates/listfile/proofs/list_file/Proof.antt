@@ -21,7 +21,9 @@ same-length c = search needs
 -- src/lib.rt:29:9
 returns : tie.Need-returns
 returns c =
-    printed-as (listed-long rack _ (omega (arith, c .before .before .before .before .if1 .taken))) (c .before .before .put-too-long .ensures)
+    let if1-taken = (let p : tie.Then1 = search in p .if1 .taken) in
+    let put-too-long-ensures = (let p : tie.After-put-too-long = search in p .put-too-long .ensures) in
+    printed-as (listed-long rack _ (omega (arith, if1-taken))) put-too-long-ensures
 
 -- src/lib.rt:31:5
 list-whole-requires : tie.Need-list-whole-requires
@@ -34,7 +36,9 @@ same-length-2 c = search needs
 -- src/lib.rt:24:1
 returns-2 : tie.Need-returns-2
 returns-2 c =
-    printed-as (listed-short rack _ (omega (arith, c .before .before .before .before .if1 .left))) (c .before .before .list-whole .ensures)
+    let if1-left = (let p : tie.Else1 = search in p .if1 .left) in
+    let list-whole-ensures = (let p : tie.After-list-whole = search in p .list-whole .ensures) in
+    printed-as (listed-short rack _ (omega (arith, if1-left))) list-whole-ensures
 
 pub list-file-spec : {M : Type 1} → statement M
 list-file-spec =

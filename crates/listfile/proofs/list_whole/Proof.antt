@@ -32,7 +32,11 @@ slice-aggregate-put-listing c = search needs
 -- src/lib.rt:18:27
 put-listing-requires : tie.Need-put-listing-requires
 put-listing-requires c κs =
-    (served-image rack (c .before .before .before .before .before .before .before .before .before .args .file .now) _ (omega arith) (byte-list (c .before .before .before .before .before .before .before .before .before .args .file .now) (λ i. fits-lt-pow (c .before .before .before .before .before .before .before .before .shared-slice-known .given i))) (gives-served (c .before .before .enum-told .given .1) (c .before .before .before .before .before .read-file .ensures)), c .before .before .before .before .before .before .before .before .before .pre)
+    let start : tie.Start = search in
+    let shared-slice-known-given = (let p : tie.After-shared-slice-known = search in p .shared-slice-known .given) in
+    let read-file-ensures = (let p : tie.After-read-file = search in p .read-file .ensures) in
+    let enum-told-given = (let p : tie.After-enum-told = search in p .enum-told .given) in
+    (served-image rack (start .args .file .now) _ (omega arith) (byte-list (start .args .file .now) (λ i. fits-lt-pow (shared-slice-known-given i))) (gives-served (enum-told-given .1) read-file-ensures), start .pre)
 
 -- src/lib.rt:19:25
 enum-known-r : tie.Need-enum-known-r
@@ -53,7 +57,10 @@ same-length c = search needs
 -- src/lib.rt:12:1
 returns : tie.Need-returns
 returns c =
-    printed-as (of-served _ (gives-served (c .before .before .before .before .before .enum-told .given .1) (c .before .before .before .before .before .before .before .before .read-file .ensures))) (c .before .before .put-listing .ensures)
+    let read-file-ensures = (let p : tie.After-read-file = search in p .read-file .ensures) in
+    let enum-told-given = (let p : tie.After-enum-told = search in p .enum-told .given) in
+    let put-listing-ensures = (let p : tie.After-put-listing = search in p .put-listing .ensures) in
+    printed-as (of-served _ (gives-served (enum-told-given .1) read-file-ensures)) put-listing-ensures
 
 -- src/lib.rt:12:1
 same-length-2 : tie.Need-same-length-2
@@ -62,7 +69,11 @@ same-length-2 c = search needs
 -- src/lib.rt:12:1
 returns-2 : tie.Need-returns-2
 returns-2 c =
-    printed-number (c .before .before .before .before .refusal-number .ensures) (of-refused _ (gives-refused (c .before .before .before .before .before .before .r .given .1) (c .before .before .before .before .before .before .before .before .before .read-file .ensures))) (c .before .before .put-refused .ensures)
+    let read-file-ensures = (let p : tie.After-read-file = search in p .read-file .ensures) in
+    let r-given = (let p : tie.After-r = search in p .r .given) in
+    let refusal-number-ensures = (let p : tie.After-refusal-number = search in p .refusal-number .ensures) in
+    let put-refused-ensures = (let p : tie.After-put-refused = search in p .put-refused .ensures) in
+    printed-number refusal-number-ensures (of-refused _ (gives-refused (r-given .1) read-file-ensures)) put-refused-ensures
 
 pub list-whole-spec : {M : Type 1} → statement M
 list-whole-spec =

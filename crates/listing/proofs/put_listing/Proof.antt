@@ -11,24 +11,31 @@ use Rattle.listing.proofs.put_listing.Tie as tie
 
 put-header-requires : tie.Need-put-header-requires
 put-header-requires c κs =
-    (c .before .before .before .pre .0, omega (arith, c .before .before .before .pre .1))
+    let start : tie.Start = search in
+    (start .pre .0, omega (arith, start .pre .1))
 
 shared-slice-read-put-darts : tie.Need-shared-slice-read-put-darts
 shared-slice-read-put-darts c =
-    omega (arith, image-size (c .before .before .before .before .before .before .before .args .block .now) (c .before .before .before .before .before .before .before .pre .0))
+    let start : tie.Start = search in
+    omega (arith, image-size (start .args .block .now) (start .pre .0))
 
 put-darts-requires : tie.Need-put-darts-requires
 put-darts-requires c κs =
-    let h = stored-past 40 (c .before .before .before .before .put-header .ensures) (header-short (c .before .before .before .before .before .before .before .before .args .block .now) (c .before .before .before .before .before .before .before .before .pre .0)) in
-    (image-small (c .before .before .before .before .before .before .before .before .args .block .now) (c .before .before .before .before .before .before .before .before .pre .0), omega (arith, count-small (c .before .before .before .before .before .before .before .before .args .block .now) (c .before .before .before .before .before .before .before .before .pre .0), c .before .before .before .before .before .before .before .before .pre .1))
+    let start : tie.Start = search in
+    let put-header-ensures = (let p : tie.After-put-header = search in p .put-header .ensures) in
+    let h = stored-past 40 put-header-ensures (header-short (start .args .block .now) (start .pre .0)) in
+    (image-small (start .args .block .now) (start .pre .0), omega (arith, count-small (start .args .block .now) (start .pre .0), start .pre .1))
 
 same-length : tie.Need-same-length
 same-length c = search needs
 
 returns : tie.Need-returns
 returns c =
-    let h = listing-short (c .before .before .before .before .before .before .before .before .before .before .before .args .block .now) (c .before .before .before .before .before .before .before .before .before .before .before .pre .0) in
-    printed (rw (listing-parts (c .before .before .before .before .before .before .before .before .before .before .before .args .block .now)) (stored-then (c .before .before .before .before .before .before .before .put-header .ensures) (c .before .before .put-darts .ensures))) (omega (arith, c .before .before .before .before .before .before .before .before .before .before .before .pre .1))
+    let start : tie.Start = search in
+    let put-header-ensures = (let p : tie.After-put-header = search in p .put-header .ensures) in
+    let put-darts-ensures = (let p : tie.After-put-darts = search in p .put-darts .ensures) in
+    let h = listing-short (start .args .block .now) (start .pre .0) in
+    printed (rw (listing-parts (start .args .block .now)) (stored-then put-header-ensures put-darts-ensures)) (omega (arith, start .pre .1))
 
 pub put-listing-spec : {M : Type 1} → statement M
 put-listing-spec =

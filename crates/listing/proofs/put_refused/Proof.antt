@@ -18,8 +18,10 @@ put-text-requires c κs = search needs
 
 put-number-requires : tie.Need-put-number-requires
 put-number-requires c κs =
-    let p = stored-past 8 (c .before .before .before .put-text .ensures) (omega arith) in
-    (omega arith, omega (arith, decimal-ten (c .before .before .before .before .before .before .before .args .number) (omega arith), c .before .before .before .before .before .before .before .pre))
+    let start : tie.Start = search in
+    let put-text-ensures = (let p : tie.After-put-text = search in p .put-text .ensures) in
+    let p = stored-past 8 put-text-ensures (omega arith) in
+    (omega arith, omega (arith, decimal-ten (start .args .number) (omega arith), start .pre))
 
 same-length : tie.Need-same-length
 same-length c = search needs
@@ -27,8 +29,11 @@ same-length c = search needs
 returns : tie.Need-returns
 unfolding bytes
 returns c =
-    let d = ended-most 10 (c .before .before .before .before .before .before .before .before .before .before .args .number) 10 (decimal-ten (c .before .before .before .before .before .before .before .before .before .before .args .number) (omega arith)) in
-    rw (ended-line (bytes "refused ") (c .before .before .before .before .before .before .before .before .before .before .args .number)) (printed (stored-then (c .before .before .before .before .before .before .put-text .ensures) (c .before .before .put-number .ensures)) (omega (arith, c .before .before .before .before .before .before .before .before .before .before .pre)))
+    let start : tie.Start = search in
+    let put-text-ensures = (let p : tie.After-put-text = search in p .put-text .ensures) in
+    let put-number-ensures = (let p : tie.After-put-number = search in p .put-number .ensures) in
+    let d = ended-most 10 (start .args .number) 10 (decimal-ten (start .args .number) (omega arith)) in
+    rw (ended-line (bytes "refused ") (start .args .number)) (printed (stored-then put-text-ensures put-number-ensures) (omega (arith, start .pre)))
 
 pub put-refused-spec : {M : Type 1} → statement M
 put-refused-spec =

@@ -19,7 +19,9 @@ same-length c = search needs
 returns : tie.Need-returns
 unfolding bytes
 returns c =
-    printed (c .before .before .put-text .ensures) (omega (arith, c .before .before .before .before .before .before .pre))
+    let start : tie.Start = search in
+    let put-text-ensures = (let p : tie.After-put-text = search in p .put-text .ensures) in
+    printed put-text-ensures (omega (arith, start .pre))
 
 pub put-too-long-spec : {M : Type 1} → statement M
 put-too-long-spec =

@@ -13,7 +13,10 @@ is-sound-requires c κs = search needs
 
 put-listing-requires : tie.Need-put-listing-requires
 put-listing-requires c κs =
-    (sym (c .before .before .is-sound .ensures) ∙ c .before .if2 .taken, c .before .before .before .if1 .left)
+    let if1-left = (let p : tie.Else1 = search in p .if1 .left) in
+    let is-sound-ensures = (let p : tie.After-is-sound = search in p .is-sound .ensures) in
+    let if2-taken = (let p : tie.Then2 = search in p .if2 .taken) in
+    (sym is-sound-ensures ∙ if2-taken, if1-left)
 
 show-requires : tie.Need-show-requires
 show-requires c κs = search needs

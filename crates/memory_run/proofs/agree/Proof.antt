@@ -17,22 +17,36 @@ finite-word-requires-3 c κs = search needs
 
 point-of-requires : tie.Need-point-of-requires
 point-of-requires c κs =
-    let x = sym (c .before .before .before .before .before .finite-word .ensures) ∙ c .before .before .before .before .if1 .taken in
-    let z = sym (c .before .finite-word3 .ensures) ∙ c .if3 .taken in
+    let finite-word-ensures = (let p : tie.After-finite-word = search in p .finite-word .ensures) in
+    let if1-taken = (let p : tie.Then1 = search in p .if1 .taken) in
+    let finite-word3-ensures = (let p : tie.After-finite-word3 = search in p .finite-word3 .ensures) in
+    let x = sym finite-word-ensures ∙ if1-taken in
+    let z = sym finite-word3-ensures ∙ c .if3 .taken in
     (x, z, z)
 
 point-of-requires-2 : tie.Need-point-of-requires-2
 point-of-requires-2 c κs =
-    let y = sym (c .before .before .before .before .finite-word2 .ensures) ∙ c .before .before .before .if2 .taken in
-    let z = sym (c .before .before .finite-word3 .ensures) ∙ c .before .if3 .taken in
+    let finite-word2-ensures = (let p : tie.After-finite-word2 = search in p .finite-word2 .ensures) in
+    let if2-taken = (let p : tie.Then2 = search in p .if2 .taken) in
+    let finite-word3-ensures = (let p : tie.After-finite-word3 = search in p .finite-word3 .ensures) in
+    let if3-taken = (let p : tie.Then3 = search in p .if3 .taken) in
+    let y = sym finite-word2-ensures ∙ if2-taken in
+    let z = sym finite-word3-ensures ∙ if3-taken in
     (y, z, z)
 
 same-point-requires : tie.Need-same-point-requires
 same-point-requires c κs =
-    let x = sym (c .before .before .before .before .before .before .before .finite-word .ensures) ∙ c .before .before .before .before .before .before .if1 .taken in
-    let y = sym (c .before .before .before .before .before .finite-word2 .ensures) ∙ c .before .before .before .before .if2 .taken in
-    let z = sym (c .before .before .before .finite-word3 .ensures) ∙ c .before .before .if3 .taken in
-    (rw (c .before .point-of .ensures) (point-finite _ _ _ x z z), rw (c .point-of2 .ensures) (point-finite _ _ _ y z z))
+    let finite-word-ensures = (let p : tie.After-finite-word = search in p .finite-word .ensures) in
+    let if1-taken = (let p : tie.Then1 = search in p .if1 .taken) in
+    let finite-word2-ensures = (let p : tie.After-finite-word2 = search in p .finite-word2 .ensures) in
+    let if2-taken = (let p : tie.Then2 = search in p .if2 .taken) in
+    let finite-word3-ensures = (let p : tie.After-finite-word3 = search in p .finite-word3 .ensures) in
+    let if3-taken = (let p : tie.Then3 = search in p .if3 .taken) in
+    let point-of-ensures = (let p : tie.After-point-of = search in p .point-of .ensures) in
+    let x = sym finite-word-ensures ∙ if1-taken in
+    let y = sym finite-word2-ensures ∙ if2-taken in
+    let z = sym finite-word3-ensures ∙ if3-taken in
+    (rw point-of-ensures (point-finite _ _ _ x z z), rw (c .point-of2 .ensures) (point-finite _ _ _ y z z))
 
 returns : tie.Need-returns
 returns c = search needs

@@ -8,7 +8,8 @@ use Rattle.memory_run.proofs.answers.Tie as tie
 
 place-of-requires : tie.Need-place-of-requires
 place-of-requires c κs =
-    (omega arith, c .before .pre .len, filled-ascends (c .before .pre))
+    let start : tie.Start = search in
+    (omega arith, start .pre .len, filled-ascends (start .pre))
 
 enum-known-q : tie.Need-enum-known-q
 enum-known-q c = search needs

@@ -18,7 +18,8 @@ abbrev μ-loop : tie.MeasureT-loop
 
 loop-holds : tie.Need-loop-holds Inv-loop μ-loop
 loop-holds c =
-    filled-none _ (c .before .pre)
+    let start : tie.Start Inv-loop μ-loop = search in
+    filled-none _ (start .pre)
 
 mul-put-field : tie.Need-mul-put-field Inv-loop μ-loop
 mul-put-field c = search needs
@@ -37,16 +38,18 @@ loop-less c = search needs
 
 loop-again : tie.Need-loop-again Inv-loop μ-loop
 loop-again c =
-    let turn = c .before .before .before .before .before in
-    let test = c .before .before .before .before in
-    filled-more (turn .loop .inv) (test .loop-test .taken) (c .before .before .put-field .ensures)
+    let put-field-ensures = (let p : tie.After-put-field Inv-loop μ-loop = search in p .put-field .ensures) in
+    let turn : tie.At-loop Inv-loop μ-loop = search in
+    let test : tie.In-loop Inv-loop μ-loop = search in
+    filled-more (turn .loop .inv) (test .loop-test .taken) put-field-ensures
 
 same-length : tie.Need-same-length Inv-loop μ-loop
 same-length c = search needs
 
 returns : tie.Need-returns Inv-loop μ-loop
 returns c =
-    record { len = c .before .loop .inv .len; serials = λ q h. c .before .loop .inv .serials q (omega arith) }
+    let loop-inv = (let p : tie.At-loop Inv-loop μ-loop = search in p .loop .inv) in
+    record { len = loop-inv .len; serials = λ q h. loop-inv .serials q (omega arith) }
 
 pub full-spec : {M : Type 1} → statement M
 full-spec =

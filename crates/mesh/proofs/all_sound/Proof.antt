@@ -26,7 +26,10 @@ sound-at-requires c κs = search needs
 
 returns : tie.Need-returns Inv-loop μ-loop
 returns c =
-    going-no (c .before .before .before .loop .inv) (c .before .before .loop-test .taken) (c .before .sound-at .ensures) (not-true _ (c .if1 .taken)) ∙ sound-is _
+    let loop-inv = (let p : tie.At-loop Inv-loop μ-loop = search in p .loop .inv) in
+    let loop-test-taken = (let p : tie.In-loop Inv-loop μ-loop = search in p .loop-test .taken) in
+    let sound-at-ensures = (let p : tie.After-sound-at Inv-loop μ-loop = search in p .sound-at .ensures) in
+    going-no loop-inv loop-test-taken sound-at-ensures (not-true _ (c .if1 .taken)) ∙ sound-is _
 
 add-i : tie.Need-add-i Inv-loop μ-loop
 add-i c = search needs
@@ -36,11 +39,15 @@ loop-less c = search needs
 
 loop-again : tie.Need-loop-again Inv-loop μ-loop
 loop-again c =
-    going-more (c .before .before .before .loop .inv) (c .before .before .loop-test .taken) (c .before .sound-at .ensures) (not-false _ (c .if1 .left))
+    let loop-inv = (let p : tie.At-loop Inv-loop μ-loop = search in p .loop .inv) in
+    let loop-test-taken = (let p : tie.In-loop Inv-loop μ-loop = search in p .loop-test .taken) in
+    let sound-at-ensures = (let p : tie.After-sound-at Inv-loop μ-loop = search in p .sound-at .ensures) in
+    going-more loop-inv loop-test-taken sound-at-ensures (not-false _ (c .if1 .left))
 
 returns-2 : tie.Need-returns-2 Inv-loop μ-loop
 returns-2 c =
-    going-end (c .before .loop .inv) (c .loop-test .left) ∙ sound-is _
+    let loop-inv = (let p : tie.At-loop Inv-loop μ-loop = search in p .loop .inv) in
+    going-end loop-inv (c .loop-test .left) ∙ sound-is _
 
 pub all-sound-spec : {M : Type 1} → statement M
 all-sound-spec =

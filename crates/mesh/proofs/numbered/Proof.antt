@@ -37,11 +37,14 @@ loop-less c = search needs
 
 loop-again : tie.Need-loop-again Inv-loop μ-loop
 loop-again c =
-    tested-more (c .before .before .loop .inv) (c .before .loop-test .taken) refl
+    let loop-inv = (let p : tie.At-loop Inv-loop μ-loop = search in p .loop .inv) in
+    let loop-test-taken = (let p : tie.In-loop Inv-loop μ-loop = search in p .loop-test .taken) in
+    tested-more loop-inv loop-test-taken refl
 
 returns : tie.Need-returns Inv-loop μ-loop
 returns c =
-    tested-end (c .before .loop .inv) (c .loop-test .left)
+    let loop-inv = (let p : tie.At-loop Inv-loop μ-loop = search in p .loop .inv) in
+    tested-end loop-inv (c .loop-test .left)
 
 pub numbered-spec : {M : Type 1} → statement M
 numbered-spec =

@@ -31,7 +31,8 @@ is-sound-requires c κs = search needs
 
 returns : tie.Need-returns
 returns c =
-    c .is-sound .ensures ∙ ap (is-image rack) (part-is (c .before .before .before .args .mesh .now) (c .before .before .before .args .i) _ refl)
+    let start : tie.Start = search in
+    c .is-sound .ensures ∙ ap (is-image rack) (part-is (start .args .mesh .now) (start .args .i) _ refl)
 
 pub sound-at-spec : {M : Type 1} → statement M
 sound-at-spec =

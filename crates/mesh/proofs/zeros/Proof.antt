@@ -34,11 +34,17 @@ loop-less c = search needs
 
 loop-again : tie.Need-loop-again Inv-loop μ-loop
 loop-again c =
-    tested-more (c .before .before .loop .inv) (c .before .loop-test .taken) (zero-read (c .before .before .before .args .scratch .now) (c .before .before .loop .i))
+    let start : tie.Start Inv-loop μ-loop = search in
+    let loop-i = (let p : tie.At-loop Inv-loop μ-loop = search in p .loop .i) in
+    let loop-inv = (let p : tie.At-loop Inv-loop μ-loop = search in p .loop .inv) in
+    let loop-test-taken = (let p : tie.In-loop Inv-loop μ-loop = search in p .loop-test .taken) in
+    tested-more loop-inv loop-test-taken (zero-read (start .args .scratch .now) loop-i)
 
 returns : tie.Need-returns Inv-loop μ-loop
 returns c =
-    tested-end (c .before .loop .inv) (c .loop-test .left) ∙ zeros-is (c .before .before .args .scratch .now)
+    let start : tie.Start Inv-loop μ-loop = search in
+    let loop-inv = (let p : tie.At-loop Inv-loop μ-loop = search in p .loop .inv) in
+    tested-end loop-inv (c .loop-test .left) ∙ zeros-is (start .args .scratch .now)
 
 pub zeros-spec : {M : Type 1} → statement M
 zeros-spec =

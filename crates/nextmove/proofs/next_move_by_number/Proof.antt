@@ -13,7 +13,10 @@ same-length c = search needs
 
 returns : tie.Need-returns
 returns c =
-    by-zero (c .before .before .before .before .before .before .before .args .mesh .now) (c .before .before .before .before .before .before .before .args .scratch .now) (c .before .before .before .before .before .before .before .args .number) (c .before .before .before .before .before .before .before .args .axis) (patterns (c .before .before .before .before .before .before .before .args .low)) (patterns (c .before .before .before .before .before .before .before .args .high)) (c .before .before .before .before .if1 .taken) (c .before .before .next-move .ensures)
+    let start : tie.Start = search in
+    let if1-taken = (let p : tie.Then1 = search in p .if1 .taken) in
+    let next-move-ensures = (let p : tie.After-next-move = search in p .next-move .ensures) in
+    by-zero (start .args .mesh .now) (start .args .scratch .now) (start .args .number) (start .args .axis) (patterns (start .args .low)) (patterns (start .args .high)) if1-taken next-move-ensures
 
 next-move-requires-2 : tie.Need-next-move-requires-2
 next-move-requires-2 c κs = search needs
@@ -23,7 +26,10 @@ same-length-2 c = search needs
 
 returns-2 : tie.Need-returns-2
 returns-2 c =
-    by-one (c .before .before .before .before .before .before .before .before .args .mesh .now) (c .before .before .before .before .before .before .before .before .args .scratch .now) (c .before .before .before .before .before .before .before .before .args .number) (c .before .before .before .before .before .before .before .before .args .axis) (patterns (c .before .before .before .before .before .before .before .before .args .low)) (patterns (c .before .before .before .before .before .before .before .before .args .high)) (c .before .before .before .before .if2 .taken) (c .before .before .next-move2 .ensures)
+    let start : tie.Start = search in
+    let if2-taken = (let p : tie.Then2 = search in p .if2 .taken) in
+    let next-move2-ensures = (let p : tie.After-next-move2 = search in p .next-move2 .ensures) in
+    by-one (start .args .mesh .now) (start .args .scratch .now) (start .args .number) (start .args .axis) (patterns (start .args .low)) (patterns (start .args .high)) if2-taken next-move2-ensures
 
 next-move-requires-3 : tie.Need-next-move-requires-3
 next-move-requires-3 c κs = search needs
@@ -33,7 +39,10 @@ same-length-3 c = search needs
 
 returns-3 : tie.Need-returns-3
 returns-3 c =
-    by-two (c .before .before .before .before .before .before .before .before .before .args .mesh .now) (c .before .before .before .before .before .before .before .before .before .args .scratch .now) (c .before .before .before .before .before .before .before .before .before .args .number) (c .before .before .before .before .before .before .before .before .before .args .axis) (patterns (c .before .before .before .before .before .before .before .before .before .args .low)) (patterns (c .before .before .before .before .before .before .before .before .before .args .high)) (c .before .before .before .before .if3 .taken) (c .before .before .next-move3 .ensures)
+    let start : tie.Start = search in
+    let if3-taken = (let p : tie.Then3 = search in p .if3 .taken) in
+    let next-move3-ensures = (let p : tie.After-next-move3 = search in p .next-move3 .ensures) in
+    by-two (start .args .mesh .now) (start .args .scratch .now) (start .args .number) (start .args .axis) (patterns (start .args .low)) (patterns (start .args .high)) if3-taken next-move3-ensures
 
 without-oracle-requires : tie.Need-without-oracle-requires
 without-oracle-requires c κs = search needs
@@ -43,7 +52,12 @@ same-length-4 c = search needs
 
 returns-4 : tie.Need-returns-4
 returns-4 c =
-    by-other (c .before .before .before .before .before .before .before .before .before .args .mesh .now) (c .before .before .before .before .before .before .before .before .before .args .scratch .now) (c .before .before .before .before .before .before .before .before .before .args .number) (c .before .before .before .before .before .before .before .before .before .args .axis) (patterns (c .before .before .before .before .before .before .before .before .before .args .low)) (patterns (c .before .before .before .before .before .before .before .before .before .args .high)) (c .before .before .before .before .before .before .if1 .left) (c .before .before .before .before .before .if2 .left) (c .before .before .before .before .if3 .left) (c .before .before .without-oracle .ensures)
+    let start : tie.Start = search in
+    let if1-left = (let p : tie.Else1 = search in p .if1 .left) in
+    let if2-left = (let p : tie.Else2 = search in p .if2 .left) in
+    let if3-left = (let p : tie.Else3 = search in p .if3 .left) in
+    let without-oracle-ensures = (let p : tie.After-without-oracle = search in p .without-oracle .ensures) in
+    by-other (start .args .mesh .now) (start .args .scratch .now) (start .args .number) (start .args .axis) (patterns (start .args .low)) (patterns (start .args .high)) if1-left if2-left if3-left without-oracle-ensures
 
 pub next-move-by-number-spec : {M : Type 1} → statement M
 next-move-by-number-spec =

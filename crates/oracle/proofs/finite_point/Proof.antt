@@ -17,7 +17,9 @@ is-finite-requires-3 c κs = search needs
 returns : tie.Need-returns
 unfolding finite
 returns c =
-    rw (c .before .before .is-finite .ensures, c .before .is-finite2 .ensures, c .is-finite3 .ensures) refl
+    let is-finite-ensures = (let p : tie.After-is-finite = search in p .is-finite .ensures) in
+    let is-finite2-ensures = (let p : tie.After-is-finite2 = search in p .is-finite2 .ensures) in
+    rw (is-finite-ensures, is-finite2-ensures, c .is-finite3 .ensures) refl
 
 pub finite-point-spec : {M : Type 1} → statement M
 finite-point-spec =

@@ -12,7 +12,8 @@ enum-known-o c = search needs
 
 returns : tie.Need-returns
 returns c =
-    rw (c .before .before .o .given .1, c .if1 .taken) refl
+    let o-given = (let p : tie.After-o = search in p .o .given) in
+    rw (o-given .1, c .if1 .taken) refl
 
 not-above-requires : tie.Need-not-above-requires
 not-above-requires c κs = search needs
@@ -31,7 +32,10 @@ below-requires c κs = search needs
 
 returns-2 : tie.Need-returns-2
 returns-2 c =
-    rw (c .before .before .before .before .o2 .given .1, c .before .if2 .taken, c .below .ensures, c .before .before .coordinate .ensures) refl
+    let o2-given = (let p : tie.After-o2 = search in p .o2 .given) in
+    let coordinate-ensures = (let p : tie.After-coordinate = search in p .coordinate .ensures) in
+    let if2-taken = (let p : tie.Then2 = search in p .if2 .taken) in
+    rw (o2-given .1, if2-taken, c .below .ensures, coordinate-ensures) refl
 
 below-requires-2 : tie.Need-below-requires-2
 below-requires-2 c κs = search needs
@@ -41,11 +45,17 @@ returns-3 c = search needs
 
 returns-4 : tie.Need-returns-4
 returns-4 c =
-    rw (c .before .before .before .before .o .given .1, c .before .before .if1 .left, c .before .not-above .ensures, c .not-above2 .ensures) refl
+    let o-given = (let p : tie.After-o = search in p .o .given) in
+    let if1-left = (let p : tie.Else1 = search in p .if1 .left) in
+    let not-above-ensures = (let p : tie.After-not-above = search in p .not-above .ensures) in
+    rw (o-given .1, if1-left, not-above-ensures, c .not-above2 .ensures) refl
 
 returns-5 : tie.Need-returns-5
 returns-5 c =
-    rw (c .before .before .before .before .o2 .given .1, c .before .if2 .left, c .below2 .ensures, c .before .before .coordinate .ensures) refl
+    let o2-given = (let p : tie.After-o2 = search in p .o2 .given) in
+    let coordinate-ensures = (let p : tie.After-coordinate = search in p .coordinate .ensures) in
+    let if2-left = (let p : tie.Else2 = search in p .if2 .left) in
+    rw (o2-given .1, if2-left, c .below2 .ensures, coordinate-ensures) refl
 
 pub holds-spec : {M : Type 1} → statement M
 holds-spec =

@@ -17,7 +17,9 @@ at-most-requires-3 c κs = search needs
 returns : tie.Need-returns
 unfolding le-point
 returns c =
-    rw (c .before .before .at-most .ensures, c .before .at-most2 .ensures, c .at-most3 .ensures) refl
+    let at-most-ensures = (let p : tie.After-at-most = search in p .at-most .ensures) in
+    let at-most2-ensures = (let p : tie.After-at-most2 = search in p .at-most2 .ensures) in
+    rw (at-most-ensures, at-most2-ensures, c .at-most3 .ensures) refl
 
 pub not-above-spec : {M : Type 1} → statement M
 not-above-spec =

@@ -34,12 +34,16 @@ returns c =
 returns-2 : tie.Need-returns-2
 unfolding oracle-right
 returns-2 c =
-    rw (c .before .before .before .before .o .given .1, c .before .before .finite-point .ensures, c .before .finite-point2 .ensures, c .not-above .ensures) refl
+    let o-given = (let p : tie.After-o = search in p .o .given) in
+    let finite-point-ensures = (let p : tie.After-finite-point = search in p .finite-point .ensures) in
+    let finite-point2-ensures = (let p : tie.After-finite-point2 = search in p .finite-point2 .ensures) in
+    rw (o-given .1, finite-point-ensures, finite-point2-ensures, c .not-above .ensures) refl
 
 returns-3 : tie.Need-returns-3
 unfolding oracle-right
 returns-3 c =
-    rw (c .before .before .o2 .given .1, c .is-finite .ensures) refl
+    let o2-given = (let p : tie.After-o2 = search in p .o2 .given) in
+    rw (o2-given .1, c .is-finite .ensures) refl
 
 pub oracle-right-spec : {M : Type 1} → statement M
 oracle-right-spec =

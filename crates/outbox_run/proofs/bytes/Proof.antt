@@ -24,7 +24,8 @@ shared-slice-read-number c = search needs
 
 cast-number : tie.Need-cast-number Inv-loop μ-loop
 cast-number c =
-    omega (arith, c .shared-slice-known2 .given (c .before .before .before .loop .i))
+    let loop-i = (let p : tie.At-loop Inv-loop μ-loop = search in p .loop .i) in
+    omega (arith, c .shared-slice-known2 .given loop-i)
 
 number-requires : tie.Need-number-requires Inv-loop μ-loop
 number-requires c κs = search needs

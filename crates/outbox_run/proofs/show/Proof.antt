@@ -51,7 +51,9 @@ slice-aggregate-show-asked-8 c = search needs
 
 show-asked-requires : tie.Need-show-asked-requires
 show-asked-requires c κs =
-    (said-yes (c .before .before .before .before .before .before .before .before .before .before .is-sound .ensures) (c .before .before .before .before .before .before .before .before .before .if1 .left), (search needs, search needs))
+    let is-sound-ensures = (let p : tie.After-is-sound = search in p .is-sound .ensures) in
+    let if1-left = (let p : tie.Else1 = search in p .if1 .left) in
+    (said-yes is-sound-ensures if1-left, (search needs, search needs))
 
 returns-2 : tie.Need-returns-2
 returns-2 c = search needs

@@ -21,8 +21,13 @@ enum-known-counts c = search needs
 
 show-transfer-requires : tie.Need-show-transfer-requires
 show-transfer-requires c κs =
-    let st = c .before .before .before .before .before .before .before .before .before .before .before .before .before .before .before .before .before .before .before .before .before .before .before .before .before .before .before .before .before .before .before .before .before .before .before .before .before .before .before .before in
-    let d = departs-told (st .args .block .now) (st .args .to) (st .args .serial) _ _ _ _ _ (c .before .before .before .before .before .before .before .before .before .before .before .before .before .before .before .before .before .before .before .before .before .before .before .leaves .ensures .0) (c .before .before .before .before .before .before .before .counts .given .1) in
+    let counts-given = (let p : tie.After-counts = search in p .counts .given) in
+    let c : tie.After-counts = search in
+    let leaves-ensures = (let p : tie.After-leaves = search in p .leaves .ensures) in
+    let c : tie.After-leaves = search in
+    let start : tie.Start = search in
+    let st = start in
+    let d = departs-told (st .args .block .now) (st .args .to) (st .args .serial) _ _ _ _ _ (leaves-ensures .0) (counts-given .1) in
     (st .pre .0, (d .survey, (d .to-block, d .counter-fits)))
 
 same-length : tie.Need-same-length

@@ -33,9 +33,11 @@ returns c = search needs
 
 put-transfer-requires : tie.Need-put-transfer-requires
 put-transfer-requires c κs =
-    let st = c .before .before .before .before .before .before .before .before .before .before .before .before .before .before .before .before .before .before in
+    let transfer-sizes-ensures = (let p : tie.After-transfer-sizes = search in p .transfer-sizes .ensures) in
+    let if1-left = (let p : tie.Else1 = search in p .if1 .left) in
+    let st : tie.Start = search in
     let sv = st .pre .1 .0 in
-    (st .pre .0, (sv, (st .pre .1 .1, (c .before .before .before .before .before .before .before .before .before .before .transfer-sizes .ensures (st .args .firsts .now) sv, omega (arith, c .before .if1 .left)))))
+    (st .pre .0, (sv, (st .pre .1 .1, (transfer-sizes-ensures (st .args .firsts .now) sv, omega (arith, if1-left)))))
 
 number-requires-6 : tie.Need-number-requires-6
 number-requires-6 c κs = search needs

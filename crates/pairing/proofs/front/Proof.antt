@@ -13,7 +13,8 @@ slice-aggregate-tested c =
 
 tested-requires : tie.Need-tested-requires
 tested-requires c κs =
-    (c .before .before .before .before .pre .0, c .before .before .before .before .pre .1, c .before .before .before .before .pre .3)
+    let start : tie.Start = search in
+    (start .pre .0, start .pre .1, start .pre .3)
 
 returns : tie.Need-returns
 returns c = search needs

@@ -11,24 +11,34 @@ order-requires c κs = search needs
 
 fill-requires : tie.Need-fill-requires
 fill-requires c κs =
-    (c .before .before .before .before .before .before .before .before .before .before .before .pre .0, c .before .before .before .before .before .order .ensures .2 ∙ c .before .before .before .before .before .before .before .before .before .before .before .pre .3)
+    let start : tie.Start = search in
+    let order-ensures = (let p : tie.After-order = search in p .order .ensures) in
+    (start .pre .0, order-ensures .2 ∙ start .pre .3)
 
 front-requires : tie.Need-front-requires
 front-requires c κs =
-    let k = in-order (c .before .before .before .before .before .before .before .before .before .before .before .before .before .before .before .before .args .c) (c .before .before .before .before .before .before .before .before .before .before .before .before .before .before .before .before .args .keys .now) _ (c .before .before .before .before .before .before .before .before .before .before .order .ensures .0) (c .before .before .before .before .before .before .before .before .before .before .order .ensures .1) (c .before .before .before .before .before .before .before .before .before .before .before .before .before .before .before .before .pre .2) (c .before .before .before .before .before .before .before .before .before .before .before .before .before .before .before .before .pre .1) (c .before .before .before .before .before .before .before .before .before .before .before .before .before .before .before .before .pre .4) in
-    (c .before .before .before .before .before .before .before .before .before .before .before .before .before .before .before .before .pre .0, c .before .before .before .before .fill .ensures, k .0, k .1)
+    let start : tie.Start = search in
+    let order-ensures = (let p : tie.After-order = search in p .order .ensures) in
+    let fill-ensures = (let p : tie.After-fill = search in p .fill .ensures) in
+    let k = in-order (start .args .c) (start .args .keys .now) _ (order-ensures .0) (order-ensures .1) (start .pre .2) (start .pre .1) (start .pre .4) in
+    (start .pre .0, fill-ensures, k .0, k .1)
 
 same-length : tie.Need-same-length
 same-length c =
-    c .before .before .before .before .before .before .before .before .before .before .before .order .ensures .1
+    let order-ensures = (let p : tie.After-order = search in p .order .ensures) in
+    order-ensures .1
 
 same-length-2 : tie.Need-same-length-2
 same-length-2 c =
-    c .before .before .before .before .before .fill .ensures .len ∙ sym (c .before .before .before .before .before .before .before .before .before .before .before .before .before .before .before .before .before .pre .3)
+    let start : tie.Start = search in
+    let fill-ensures = (let p : tie.After-fill = search in p .fill .ensures) in
+    fill-ensures .len ∙ sym (start .pre .3)
 
 returns : tie.Need-returns
 returns c =
-    (c .front .ensures, c .before .before .before .before .before .before .before .before .before .before .before .order .ensures .1 ∙ c .before .before .before .before .before .before .before .before .before .before .before .before .before .before .before .before .before .pre .2)
+    let start : tie.Start = search in
+    let order-ensures = (let p : tie.After-order = search in p .order .ensures) in
+    (c .front .ensures, order-ensures .1 ∙ start .pre .2)
 
 pub ordered-spec : {M : Type 1} → statement M
 ordered-spec =

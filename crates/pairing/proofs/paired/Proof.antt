@@ -8,11 +8,14 @@ use Rattle.pairing.proofs.paired.Tie as tie
 
 gather-requires : tie.Need-gather-requires
 gather-requires c κs =
-    (c .before .before .before .pre .1, scratch-length (c .before .before .before .args .mesh .now) (c .before .before .before .args .scratch .now) (c .before .before .before .pre .0))
+    let start : tie.Start = search in
+    (start .pre .1, scratch-length (start .args .mesh .now) (start .args .scratch .now) (start .pre .0))
 
 with-room-requires : tie.Need-with-room-requires
 with-room-requires c κs =
-    (c .before .before .before .before .before .before .before .pre .1, c .before .before .before .gather .ensures .0, c .before .before .before .gather .ensures .1, c .before .before .before .gather .ensures .2)
+    let start : tie.Start = search in
+    let gather-ensures = (let p : tie.After-gather = search in p .gather .ensures) in
+    (start .pre .1, gather-ensures .0, gather-ensures .1, gather-ensures .2)
 
 clear-requires : tie.Need-clear-requires
 clear-requires c κs = search needs
@@ -22,7 +25,10 @@ same-length c = search needs
 
 returns : tie.Need-returns
 returns c =
-    (c .before .before .before .before .before .before .with-room .ensures .0, cleared-again (c .before .before .before .before .before .before .before .before .before .before .before .before .before .before .args .scratch .now) (scratch-zero (c .before .before .before .before .before .before .before .before .before .before .before .before .before .before .args .mesh .now) (c .before .before .before .before .before .before .before .before .before .before .before .before .before .before .args .scratch .now) (c .before .before .before .before .before .before .before .before .before .before .before .before .before .before .pre .0)) (c .before .before .before .before .before .before .with-room .ensures .1 ∙ sym (scratch-length (c .before .before .before .before .before .before .before .before .before .before .before .before .before .before .args .mesh .now) (c .before .before .before .before .before .before .before .before .before .before .before .before .before .before .args .scratch .now) (c .before .before .before .before .before .before .before .before .before .before .before .before .before .before .pre .0))) (c .before .before .clear .ensures))
+    let start : tie.Start = search in
+    let with-room-ensures = (let p : tie.After-with-room = search in p .with-room .ensures) in
+    let clear-ensures = (let p : tie.After-clear = search in p .clear .ensures) in
+    (with-room-ensures .0, cleared-again (start .args .scratch .now) (scratch-zero (start .args .mesh .now) (start .args .scratch .now) (start .pre .0)) (with-room-ensures .1 ∙ sym (scratch-length (start .args .mesh .now) (start .args .scratch .now) (start .pre .0))) clear-ensures)
 
 pub paired-spec : {M : Type 1} → statement M
 paired-spec =

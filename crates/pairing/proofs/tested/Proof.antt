@@ -7,23 +7,35 @@ use Rattle.pairing.proofs.tested.Tie as tie
 
 labels-requires : tie.Need-labels-requires
 labels-requires c κs =
-    (c .before .before .before .pre .0, c .before .before .before .pre .1, held-keys (c .before .before .before .pre .0) (c .before .before .before .pre .2))
+    let start : tie.Start = search in
+    (start .pre .0, start .pre .1, held-keys (start .pre .0) (start .pre .2))
 
 returns : tie.Need-returns
 returns c =
-    unpaired (c .before .before .before .before .before .pre .0) (c .before .before .before .before .before .pre .1) (c .before .before .before .before .before .pre .2) (c .before .labels .ensures) (c .if1 .taken)
+    let start : tie.Start = search in
+    let labels-ensures = (let p : tie.After-labels = search in p .labels .ensures) in
+    unpaired (start .pre .0) (start .pre .1) (start .pre .2) labels-ensures (c .if1 .taken)
 
 points-requires : tie.Need-points-requires
 points-requires c κs =
-    (c .before .before .before .before .before .pre .0, held-keys (c .before .before .before .before .before .pre .0) (c .before .before .before .before .before .pre .2))
+    let start : tie.Start = search in
+    (start .pre .0, held-keys (start .pre .0) (start .pre .2))
 
 returns-2 : tie.Need-returns-2
 returns-2 c =
-    apart (c .before .before .before .before .before .before .before .pre .0) (c .before .before .before .before .before .before .before .pre .1) (c .before .before .before .before .before .before .before .pre .2) (c .before .before .before .labels .ensures) (c .before .before .if1 .left) (c .before .points .ensures) (c .if2 .taken)
+    let start : tie.Start = search in
+    let labels-ensures = (let p : tie.After-labels = search in p .labels .ensures) in
+    let if1-left = (let p : tie.Else1 = search in p .if1 .left) in
+    let points-ensures = (let p : tie.After-points = search in p .points .ensures) in
+    apart (start .pre .0) (start .pre .1) (start .pre .2) labels-ensures if1-left points-ensures (c .if2 .taken)
 
 returns-3 : tie.Need-returns-3
 returns-3 c =
-    right (c .before .before .before .before .before .before .before .pre .0) (c .before .before .before .before .before .before .before .pre .1) (c .before .before .before .before .before .before .before .pre .2) (c .before .before .before .labels .ensures) (c .before .before .if1 .left) (c .before .points .ensures) (c .if2 .left)
+    let start : tie.Start = search in
+    let labels-ensures = (let p : tie.After-labels = search in p .labels .ensures) in
+    let if1-left = (let p : tie.Else1 = search in p .if1 .left) in
+    let points-ensures = (let p : tie.After-points = search in p .points .ensures) in
+    right (start .pre .0) (start .pre .1) (start .pre .2) labels-ensures if1-left points-ensures (c .if2 .left)
 
 pub tested-spec : {M : Type 1} → statement M
 tested-spec =

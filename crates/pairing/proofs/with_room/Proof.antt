@@ -11,7 +11,8 @@ slice-aggregate-ordered c = search needs
 
 ordered-requires : tie.Need-ordered-requires
 ordered-requires c κs =
-    (c .before .before .before .before .pre .0, c .before .before .before .before .pre .1, c .before .before .before .before .pre .2, length-replicate {A = ℕ} 65536 0, c .before .before .before .before .pre .3)
+    let start : tie.Start = search in
+    (start .pre .0, start .pre .1, start .pre .2, length-replicate {A = ℕ} 65536 0, start .pre .3)
 
 same-length : tie.Need-same-length
 same-length c = search needs

@@ -22,67 +22,121 @@ abbrev μ-loop : tie.MeasureT-loop
 
 visit-requires : tie.Need-visit-requires Inv-loop μ-loop
 visit-requires c κs =
-    let q = as-queue (c .before .before .before .before .before .pre .2) in
-    (q .len-m, q .len-o, omega (arith, c .before .before .before .before .before .pre .0 .few, c .before .before .before .before .before .pre .1), queue-le q, queue-room q _ (omega (arith, c .before .before .before .before .before .pre .0 .few, c .before .before .before .before .before .pre .1)))
+    let start : tie.Start Inv-loop μ-loop = search in
+    let q = as-queue (start .pre .2) in
+    (q .len-m, q .len-o, omega (arith, start .pre .0 .few, start .pre .1), queue-le q, queue-room q _ (omega (arith, start .pre .0 .few, start .pre .1)))
 
 loop-holds : tie.Need-loop-holds Inv-loop μ-loop
 loop-holds c =
-    λ m o k x. going-start _ _ _ _ _ (volume-linked (c .before .before .before .before .before .before .before .before .before .before .pre .0) (c .before .before .before .before .before .before .before .before .before .before .pre .1)) (c .before .before .before .before .before .before .before .before .before .before .pre .0 .few) k (c .before .before .before .before .before .before .before .before .before .before .pre .1) x
+    let start : tie.Start Inv-loop μ-loop = search in
+    λ m o k x. going-start _ _ _ _ _ (volume-linked (start .pre .0) (start .pre .1)) (start .pre .0 .few) k (start .pre .1) x
 
 mul-p : tie.Need-mul-p Inv-loop μ-loop
 mul-p c =
-    omega (arith, queue-le ((c .before .loop .inv _ _ (c .before .before .before .before .before .before .before .before .before .before .before .before .pre .2) (c .before .before .before .before .before .before .visit .ensures)) .queue))
+    let start : tie.Start Inv-loop μ-loop = search in
+    let visit-ensures = (let p : tie.After-visit Inv-loop μ-loop = search in p .visit .ensures) in
+    let loop-inv = (let p : tie.At-loop Inv-loop μ-loop = search in p .loop .inv) in
+    omega (arith, queue-le ((loop-inv _ _ (start .pre .2) visit-ensures) .queue))
 
 slice-read-p : tie.Need-slice-read-p Inv-loop μ-loop
 slice-read-p c =
-    omega (arith, queue-le ((c .before .before .loop .inv _ _ (c .before .before .before .before .before .before .before .before .before .before .before .before .before .pre .2) (c .before .before .before .before .before .before .before .visit .ensures)) .queue), (c .before .before .loop .inv _ _ (c .before .before .before .before .before .before .before .before .before .before .before .before .before .pre .2) (c .before .before .before .before .before .before .before .visit .ensures)) .queue .len-o)
+    let start : tie.Start Inv-loop μ-loop = search in
+    let visit-ensures = (let p : tie.After-visit Inv-loop μ-loop = search in p .visit .ensures) in
+    let loop-inv = (let p : tie.At-loop Inv-loop μ-loop = search in p .loop .inv) in
+    omega (arith, queue-le ((loop-inv _ _ (start .pre .2) visit-ensures) .queue), (loop-inv _ _ (start .pre .2) visit-ensures) .queue .len-o)
 
 add-head : tie.Need-add-head Inv-loop μ-loop
 add-head c =
-    omega (arith, queue-le ((c .before .before .loop .inv _ _ (c .before .before .before .before .before .before .before .before .before .before .before .before .before .pre .2) (c .before .before .before .before .before .before .before .visit .ensures)) .queue))
+    let start : tie.Start Inv-loop μ-loop = search in
+    let visit-ensures = (let p : tie.After-visit Inv-loop μ-loop = search in p .visit .ensures) in
+    let loop-inv = (let p : tie.At-loop Inv-loop μ-loop = search in p .loop .inv) in
+    omega (arith, queue-le ((loop-inv _ _ (start .pre .2) visit-ensures) .queue))
 
 field-requires : tie.Need-field-requires Inv-loop μ-loop
 field-requires c κs =
-    (omega (arith, (c .before .before .loop .inv _ _ (c .before .before .before .before .before .before .before .before .before .before .before .before .before .pre .2) (c .before .before .before .before .before .before .before .visit .ensures)) .queue .queued _ (c .before .loop-test .taken) .0, c .before .before .before .before .before .before .before .before .before .before .before .before .before .pre .0 .few), omega arith, c .before .before .before .before .before .before .before .before .before .before .before .before .before .pre .0 .size)
+    let start : tie.Start Inv-loop μ-loop = search in
+    let visit-ensures = (let p : tie.After-visit Inv-loop μ-loop = search in p .visit .ensures) in
+    let loop-inv = (let p : tie.At-loop Inv-loop μ-loop = search in p .loop .inv) in
+    let loop-test-taken = (let p : tie.In-loop Inv-loop μ-loop = search in p .loop-test .taken) in
+    (omega (arith, (loop-inv _ _ (start .pre .2) visit-ensures) .queue .queued _ loop-test-taken .0, start .pre .0 .few), omega arith, start .pre .0 .size)
 
 visit-requires-2 : tie.Need-visit-requires-2 Inv-loop μ-loop
 visit-requires-2 c κs =
-    let q = (c .before .before .before .before .before .loop .inv _ _ (c .before .before .before .before .before .before .before .before .before .before .before .before .before .before .before .before .pre .2) (c .before .before .before .before .before .before .before .before .before .before .visit .ensures)) .queue in
-    let x = c .before .before .before .before .before .before .before .before .before .before .before .before .before .before .before .before .pre .0 .next-within _ (q .queued _ (c .before .before .before .before .loop-test .taken) .0) in
-    (q .len-m, q .len-o, omega (arith, x, c .before .before .field .ensures, c .before .before .before .before .before .before .before .before .before .before .before .before .before .before .before .before .pre .0 .few), queue-le q, queue-room q _ (omega (arith, x, c .before .before .field .ensures, c .before .before .before .before .before .before .before .before .before .before .before .before .before .before .before .before .pre .0 .few)))
+    let start : tie.Start Inv-loop μ-loop = search in
+    let visit-ensures = (let p : tie.After-visit Inv-loop μ-loop = search in p .visit .ensures) in
+    let loop-inv = (let p : tie.At-loop Inv-loop μ-loop = search in p .loop .inv) in
+    let loop-test-taken = (let p : tie.In-loop Inv-loop μ-loop = search in p .loop-test .taken) in
+    let field-ensures = (let p : tie.After-field Inv-loop μ-loop = search in p .field .ensures) in
+    let q = (loop-inv _ _ (start .pre .2) visit-ensures) .queue in
+    let x = start .pre .0 .next-within _ (q .queued _ loop-test-taken .0) in
+    (q .len-m, q .len-o, omega (arith, x, field-ensures, start .pre .0 .few), queue-le q, queue-room q _ (omega (arith, x, field-ensures, start .pre .0 .few)))
 
 field-requires-2 : tie.Need-field-requires-2 Inv-loop μ-loop
 field-requires-2 c κs =
-    (omega (arith, (c .before .before .before .before .before .before .before .before .before .before .loop .inv _ _ (c .before .before .before .before .before .before .before .before .before .before .before .before .before .before .before .before .before .before .before .before .before .pre .2) (c .before .before .before .before .before .before .before .before .before .before .before .before .before .before .before .visit .ensures)) .queue .queued _ (c .before .before .before .before .before .before .before .before .before .loop-test .taken) .0, c .before .before .before .before .before .before .before .before .before .before .before .before .before .before .before .before .before .before .before .before .before .pre .0 .few), omega arith, c .before .before .before .before .before .before .before .before .before .before .before .before .before .before .before .before .before .before .before .before .before .pre .0 .size)
+    let start : tie.Start Inv-loop μ-loop = search in
+    let visit-ensures = (let p : tie.After-visit Inv-loop μ-loop = search in p .visit .ensures) in
+    let loop-inv = (let p : tie.At-loop Inv-loop μ-loop = search in p .loop .inv) in
+    let loop-test-taken = (let p : tie.In-loop Inv-loop μ-loop = search in p .loop-test .taken) in
+    (omega (arith, (loop-inv _ _ (start .pre .2) visit-ensures) .queue .queued _ loop-test-taken .0, start .pre .0 .few), omega arith, start .pre .0 .size)
 
 visit-requires-3 : tie.Need-visit-requires-3 Inv-loop μ-loop
 visit-requires-3 c κs =
-    let q = going-mid _ _ _ _ _ (volume-linked (c .before .before .before .before .before .before .before .before .before .before .before .before .before .before .before .before .before .before .before .before .before .before .before .before .pre .0) (c .before .before .before .before .before .before .before .before .before .before .before .before .before .before .before .before .before .before .before .before .before .before .before .before .pre .1)) (c .before .before .before .before .before .before .before .before .before .before .before .before .before .before .before .before .before .before .before .before .before .before .before .before .pre .0 .few) (c .before .before .before .before .before .before .before .before .before .before .before .before .before .before .before .before .before .before .before .before .before .before .before .before .pre .2) (c .before .before .before .before .before .before .before .before .before .before .before .before .before .loop .inv _ _ (c .before .before .before .before .before .before .before .before .before .before .before .before .before .before .before .before .before .before .before .before .before .before .before .before .pre .2) (c .before .before .before .before .before .before .before .before .before .before .before .before .before .before .before .before .before .before .visit .ensures)) (c .before .before .before .before .before .before .before .before .before .before .before .before .before .before .before .before .before .before .before .before .before .before .before .before .pre .0 .next-within) (c .before .before .before .before .before .before .before .before .before .before .before .before .before .before .before .before .before .before .before .before .before .before .before .before .pre .0 .opposite-within) (c .before .before .before .before .before .before .before .before .before .before .before .before .loop-test .taken) (c .before .before .before .before .before .before .before .before .before .before .field .ensures) (c .before .before .before .before .before .before .before .visit2 .ensures) in
-    let x = c .before .before .before .before .before .before .before .before .before .before .before .before .before .before .before .before .before .before .before .before .before .before .before .before .pre .0 .opposite-within _ ((c .before .before .before .before .before .before .before .before .before .before .before .before .before .loop .inv _ _ (c .before .before .before .before .before .before .before .before .before .before .before .before .before .before .before .before .before .before .before .before .before .before .before .before .pre .2) (c .before .before .before .before .before .before .before .before .before .before .before .before .before .before .before .before .before .before .visit .ensures)) .queue .queued _ (c .before .before .before .before .before .before .before .before .before .before .before .before .loop-test .taken) .0) in
-    (q .len-m, q .len-o, omega (arith, x, c .before .before .field2 .ensures, c .before .before .before .before .before .before .before .before .before .before .before .before .before .before .before .before .before .before .before .before .before .before .before .before .pre .0 .few), queue-le q, queue-room q _ (omega (arith, x, c .before .before .field2 .ensures, c .before .before .before .before .before .before .before .before .before .before .before .before .before .before .before .before .before .before .before .before .before .before .before .before .pre .0 .few)))
+    let field2-ensures = (let p : tie.After-field2 Inv-loop μ-loop = search in p .field2 .ensures) in
+    let visit2-ensures = (let p : tie.After-visit2 Inv-loop μ-loop = search in p .visit2 .ensures) in
+    let field-ensures = (let p : tie.After-field Inv-loop μ-loop = search in p .field .ensures) in
+    let loop-test-taken = (let p : tie.In-loop Inv-loop μ-loop = search in p .loop-test .taken) in
+    let loop-inv = (let p : tie.At-loop Inv-loop μ-loop = search in p .loop .inv) in
+    let visit-ensures = (let p : tie.After-visit Inv-loop μ-loop = search in p .visit .ensures) in
+    let c : tie.After-visit Inv-loop μ-loop = search in
+    let start : tie.Start Inv-loop μ-loop = search in
+    let q = going-mid _ _ _ _ _ (volume-linked (start .pre .0) (start .pre .1)) (start .pre .0 .few) (start .pre .2) (loop-inv _ _ (start .pre .2) visit-ensures) (start .pre .0 .next-within) (start .pre .0 .opposite-within) loop-test-taken field-ensures visit2-ensures in
+    let x = start .pre .0 .opposite-within _ ((loop-inv _ _ (start .pre .2) visit-ensures) .queue .queued _ loop-test-taken .0) in
+    (q .len-m, q .len-o, omega (arith, x, field2-ensures, start .pre .0 .few), queue-le q, queue-room q _ (omega (arith, x, field2-ensures, start .pre .0 .few)))
 
 loop-less : tie.Need-loop-less Inv-loop μ-loop
 loop-less c =
-    omega (arith, queue-le ((c .before .before .before .before .before .before .before .before .before .before .before .before .before .before .before .before .before .before .loop .inv _ _ (c .before .before .before .before .before .before .before .before .before .before .before .before .before .before .before .before .before .before .before .before .before .before .before .before .before .before .before .before .before .pre .2) (c .before .before .before .before .before .before .before .before .before .before .before .before .before .before .before .before .before .before .before .before .before .before .before .visit .ensures)) .queue), c .before .before .before .before .before .before .before .before .before .before .before .before .before .before .before .before .before .loop-test .taken)
+    let loop-test-taken = (let p : tie.In-loop Inv-loop μ-loop = search in p .loop-test .taken) in
+    let loop-inv = (let p : tie.At-loop Inv-loop μ-loop = search in p .loop .inv) in
+    let c : tie.At-loop Inv-loop μ-loop = search in
+    let visit-ensures = (let p : tie.After-visit Inv-loop μ-loop = search in p .visit .ensures) in
+    let start : tie.Start Inv-loop μ-loop = search in
+    omega (arith, queue-le ((loop-inv _ _ (start .pre .2) visit-ensures) .queue), loop-test-taken)
 
 loop-again : tie.Need-loop-again Inv-loop μ-loop
 loop-again c =
-    λ m o k x. going-step _ _ _ _ _ (volume-linked (c .before .before .before .before .before .before .before .before .before .before .before .before .before .before .before .before .before .before .before .before .before .before .before .before .before .before .before .before .before .pre .0) (c .before .before .before .before .before .before .before .before .before .before .before .before .before .before .before .before .before .before .before .before .before .before .before .before .before .before .before .before .before .pre .1)) (c .before .before .before .before .before .before .before .before .before .before .before .before .before .before .before .before .before .before .before .before .before .before .before .before .before .before .before .before .before .pre .0 .few) k (c .before .before .before .before .before .before .before .before .before .before .before .before .before .before .before .before .before .before .loop .inv m o k x) (c .before .before .before .before .before .before .before .before .before .before .before .before .before .before .before .before .before .before .before .before .before .before .before .before .before .before .before .before .before .pre .0 .next-within) (c .before .before .before .before .before .before .before .before .before .before .before .before .before .before .before .before .before .before .before .before .before .before .before .before .before .before .before .before .before .pre .0 .opposite-within) (c .before .before .before .before .before .before .before .before .before .before .before .before .before .before .before .before .before .loop-test .taken) (c .before .before .before .before .before .before .before .before .before .before .before .before .before .before .before .field .ensures) (c .before .before .before .before .before .before .before .before .before .before .before .before .visit2 .ensures) (c .before .before .before .before .before .before .before .field2 .ensures) (c .before .before .before .before .visit3 .ensures)
+    let visit3-ensures = (let p : tie.After-visit3 Inv-loop μ-loop = search in p .visit3 .ensures) in
+    let field2-ensures = (let p : tie.After-field2 Inv-loop μ-loop = search in p .field2 .ensures) in
+    let visit2-ensures = (let p : tie.After-visit2 Inv-loop μ-loop = search in p .visit2 .ensures) in
+    let field-ensures = (let p : tie.After-field Inv-loop μ-loop = search in p .field .ensures) in
+    let loop-test-taken = (let p : tie.In-loop Inv-loop μ-loop = search in p .loop-test .taken) in
+    let loop-inv = (let p : tie.At-loop Inv-loop μ-loop = search in p .loop .inv) in
+    let c : tie.At-loop Inv-loop μ-loop = search in
+    let start : tie.Start Inv-loop μ-loop = search in
+    λ m o k x. going-step _ _ _ _ _ (volume-linked (start .pre .0) (start .pre .1)) (start .pre .0 .few) k (loop-inv m o k x) (start .pre .0 .next-within) (start .pre .0 .opposite-within) loop-test-taken field-ensures visit2-ensures field2-ensures visit3-ensures
 
 same-length : tie.Need-same-length Inv-loop μ-loop
 same-length c =
-    (c .before .loop .inv _ _ (c .before .before .before .before .before .before .before .before .before .before .before .before .pre .2) (c .before .before .before .before .before .before .visit .ensures)) .queue .len-o ∙ sym (c .before .before .before .before .before .before .before .before .before .before .before .before .pre .2 .len-order)
+    let start : tie.Start Inv-loop μ-loop = search in
+    let visit-ensures = (let p : tie.After-visit Inv-loop μ-loop = search in p .visit .ensures) in
+    let loop-inv = (let p : tie.At-loop Inv-loop μ-loop = search in p .loop .inv) in
+    (loop-inv _ _ (start .pre .2) visit-ensures) .queue .len-o ∙ sym (start .pre .2 .len-order)
 
 same-length-2 : tie.Need-same-length-2 Inv-loop μ-loop
 same-length-2 c =
-    (c .before .loop .inv _ _ (c .before .before .before .before .before .before .before .before .before .before .before .before .pre .2) (c .before .before .before .before .before .before .visit .ensures)) .queue .len-m ∙ sym (c .before .before .before .before .before .before .before .before .before .before .before .before .pre .2 .len-marks)
+    let start : tie.Start Inv-loop μ-loop = search in
+    let visit-ensures = (let p : tie.After-visit Inv-loop μ-loop = search in p .visit .ensures) in
+    let loop-inv = (let p : tie.At-loop Inv-loop μ-loop = search in p .loop .inv) in
+    (loop-inv _ _ (start .pre .2) visit-ensures) .queue .len-m ∙ sym (start .pre .2 .len-marks)
 
 returns : tie.Need-returns Inv-loop μ-loop
 returns c =
-    let l = c .before .before .before .before .before .before .before .before .before .before .before .before .pre .0 in
-    let v = volume-linked l (c .before .before .before .before .before .before .before .before .before .before .before .before .pre .1) in (
-      going-marks _ _ _ _ _ v (l .few) (c .before .before .before .before .before .before .before .before .before .before .before .before .pre .2) (c .before .loop .inv _ _ (c .before .before .before .before .before .before .before .before .before .before .before .before .pre .2) (c .before .before .before .before .before .before .visit .ensures)) (c .loop-test .left),
-      going-added _ _ _ _ _ v (l .few) (c .before .before .before .before .before .before .before .before .before .before .before .before .pre .2) (c .before .loop .inv _ _ (c .before .before .before .before .before .before .before .before .before .before .before .before .pre .2) (c .before .before .before .before .before .before .visit .ensures)) (c .loop-test .left) (volume-away l (c .before .before .before .before .before .before .before .before .before .before .before .before .pre .1) (c .before .before .before .before .before .before .before .before .before .before .before .before .pre .2) (c .before .before .before .before .before .before .before .before .before .before .before .before .pre .3)) (volume-below l (c .before .before .before .before .before .before .before .before .before .before .before .before .pre .1)),
+    let start : tie.Start Inv-loop μ-loop = search in
+    let visit-ensures = (let p : tie.After-visit Inv-loop μ-loop = search in p .visit .ensures) in
+    let loop-inv = (let p : tie.At-loop Inv-loop μ-loop = search in p .loop .inv) in
+    let l = start .pre .0 in
+    let v = volume-linked l (start .pre .1) in (
+      going-marks _ _ _ _ _ v (l .few) (start .pre .2) (loop-inv _ _ (start .pre .2) visit-ensures) (c .loop-test .left),
+      going-added _ _ _ _ _ v (l .few) (start .pre .2) (loop-inv _ _ (start .pre .2) visit-ensures) (c .loop-test .left) (volume-away l (start .pre .1) (start .pre .2) (start .pre .3)) (volume-below l (start .pre .1)),
     )
 
 pub add-volume-spec : {M : Type 1} → statement M

@@ -16,18 +16,23 @@ sizes-of-requires c κs = search needs
 
 shared-slice-read-n : tie.Need-shared-slice-read-n
 shared-slice-read-n c =
-    omega (arith, sited rack (c .before .before .before .before .before .args .block .now) (c .before .before .before .before .before .pre) .linked .size)
+    let start : tie.Start = search in
+    omega (arith, sited rack (start .args .block .now) (start .pre) .linked .size)
 
 slice-aggregate-count-of : tie.Need-slice-aggregate-count-of
 slice-aggregate-count-of c = search needs
 
 count-of-requires : tie.Need-count-of-requires
 count-of-requires c κs =
-    (sited rack (c .before .before .before .before .before .before .args .block .now) (c .before .before .before .before .before .before .pre) .linked .few, c .before .before .before .sizes-of .ensures .len)
+    let start : tie.Start = search in
+    let sizes-of-ensures = (let p : tie.After-sizes-of = search in p .sizes-of .ensures) in
+    (sited rack (start .args .block .now) (start .pre) .linked .few, sizes-of-ensures .len)
 
 returns : tie.Need-returns
 returns c =
-    picked-count (oracle-of (c .before .before .before .before .before .before .before .args .o)) (c .before .before .before .before .before .before .before .args .block .now) _ (c .before .before .before .before .before .before .before .pre) (c .before .before .before .before .sizes-of .ensures) (c .count-of .ensures)
+    let start : tie.Start = search in
+    let sizes-of-ensures = (let p : tie.After-sizes-of = search in p .sizes-of .ensures) in
+    picked-count (oracle-of (start .args .o)) (start .args .block .now) _ (start .pre) sizes-of-ensures (c .count-of .ensures)
 
 pub count-spec : {M : Type 1} → statement M
 count-spec =

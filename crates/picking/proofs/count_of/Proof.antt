@@ -32,28 +32,46 @@ add-p c = search needs
 
 loop-less : tie.Need-loop-less Inv-loop μ-loop
 loop-less c =
-    omega (arith, c .before .before .loop-test .taken)
+    let loop-test-taken = (let p : tie.In-loop Inv-loop μ-loop = search in p .loop-test .taken) in
+    omega (arith, loop-test-taken)
 
 loop-again : tie.Need-loop-again Inv-loop μ-loop
 loop-again c =
-    (omega (arith, c .before .before .loop-test .taken), count-no (λ x. ltb 0 (getD (c .before .before .before .before .args .sizes .now) x 0)) (c .before .before .before .loop .p) (c .before .before .before .loop .c) (c .before .before .before .loop .inv .1) (is-zero (c .before .before .before .before .args .sizes .now) (c .before .before .before .loop .p) _ refl (c .if1 .taken)))
+    let start : tie.Start Inv-loop μ-loop = search in
+    let loop-c = (let p : tie.At-loop Inv-loop μ-loop = search in p .loop .c) in
+    let loop-inv = (let p : tie.At-loop Inv-loop μ-loop = search in p .loop .inv) in
+    let loop-p = (let p : tie.At-loop Inv-loop μ-loop = search in p .loop .p) in
+    let loop-test-taken = (let p : tie.In-loop Inv-loop μ-loop = search in p .loop-test .taken) in
+    (omega (arith, loop-test-taken), count-no (λ x. ltb 0 (getD (start .args .sizes .now) x 0)) loop-p loop-c (loop-inv .1) (is-zero (start .args .sizes .now) loop-p _ refl (c .if1 .taken)))
 
 add-c : tie.Need-add-c Inv-loop μ-loop
 add-c c =
-    omega (arith, c .before .before .before .loop .inv .0, c .before .before .before .loop .inv .1, count-few (λ x. ltb 0 (getD (c .before .before .before .before .args .sizes .now) x 0)) (c .before .before .before .loop .p), c .before .before .before .before .pre .0)
+    let start : tie.Start Inv-loop μ-loop = search in
+    let loop-inv = (let p : tie.At-loop Inv-loop μ-loop = search in p .loop .inv) in
+    let loop-p = (let p : tie.At-loop Inv-loop μ-loop = search in p .loop .p) in
+    omega (arith, loop-inv .0, loop-inv .1, count-few (λ x. ltb 0 (getD (start .args .sizes .now) x 0)) loop-p, start .pre .0)
 
 loop-less-2 : tie.Need-loop-less-2 Inv-loop μ-loop
 loop-less-2 c =
-    omega (arith, c .before .before .loop-test .taken)
+    let loop-test-taken = (let p : tie.In-loop Inv-loop μ-loop = search in p .loop-test .taken) in
+    omega (arith, loop-test-taken)
 
 loop-again-2 : tie.Need-loop-again-2 Inv-loop μ-loop
 loop-again-2 c =
-    (omega (arith, c .before .before .loop-test .taken), count-yes (λ x. ltb 0 (getD (c .before .before .before .before .args .sizes .now) x 0)) (c .before .before .before .loop .p) (c .before .before .before .loop .c) (c .before .before .before .loop .inv .1) (not-zero (c .before .before .before .before .args .sizes .now) (c .before .before .before .loop .p) _ refl (c .if1 .left)))
+    let start : tie.Start Inv-loop μ-loop = search in
+    let loop-c = (let p : tie.At-loop Inv-loop μ-loop = search in p .loop .c) in
+    let loop-inv = (let p : tie.At-loop Inv-loop μ-loop = search in p .loop .inv) in
+    let loop-p = (let p : tie.At-loop Inv-loop μ-loop = search in p .loop .p) in
+    let loop-test-taken = (let p : tie.In-loop Inv-loop μ-loop = search in p .loop-test .taken) in
+    (omega (arith, loop-test-taken), count-yes (λ x. ltb 0 (getD (start .args .sizes .now) x 0)) loop-p loop-c (loop-inv .1) (not-zero (start .args .sizes .now) loop-p _ refl (c .if1 .left)))
 
 returns : tie.Need-returns Inv-loop μ-loop
 returns c =
-    let e : c .before .loop .p ≡ c .before .before .args .n = omega (arith, c .before .loop .inv .0, c .loop-test .left) in
-    c .before .loop .inv .1 ∙ ap (count-below (λ x. ltb 0 (getD (c .before .before .args .sizes .now) x 0))) e
+    let start : tie.Start Inv-loop μ-loop = search in
+    let loop-inv = (let p : tie.At-loop Inv-loop μ-loop = search in p .loop .inv) in
+    let loop-p = (let p : tie.At-loop Inv-loop μ-loop = search in p .loop .p) in
+    let e : loop-p ≡ start .args .n = omega (arith, loop-inv .0, c .loop-test .left) in
+    loop-inv .1 ∙ ap (count-below (λ x. ltb 0 (getD (start .args .sizes .now) x 0))) e
 
 pub count-of-spec : {M : Type 1} → statement M
 count-of-spec =

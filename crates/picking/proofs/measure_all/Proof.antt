@@ -19,51 +19,75 @@ abbrev μ-loop : tie.MeasureT-loop
 
 shared-slice-read-n : tie.Need-shared-slice-read-n Inv-loop μ-loop
 shared-slice-read-n c =
-    omega (arith, c .before .before .before .before .before .pre .0 .linked .size)
+    let start : tie.Start Inv-loop μ-loop = search in
+    omega (arith, start .pre .0 .linked .size)
 
 loop-holds : tie.Need-loop-holds Inv-loop μ-loop
 loop-holds c =
-    measuring-start _ _ _ _ _ (c .before .before .before .before .before .pre .1) (c .before .before .before .before .before .pre .3) (c .before .before .before .before .before .pre .2)
+    let start : tie.Start Inv-loop μ-loop = search in
+    measuring-start _ _ _ _ _ (start .pre .1) (start .pre .3) (start .pre .2)
 
 measure-requires : tie.Need-measure-requires Inv-loop μ-loop
 measure-requires c κs =
-    (c .before .before .before .before .before .before .before .before .before .pre .0, c .before .before .loop-test .taken, c .before .before .before .loop .inv .through)
+    let start : tie.Start Inv-loop μ-loop = search in
+    let loop-inv = (let p : tie.At-loop Inv-loop μ-loop = search in p .loop .inv) in
+    let loop-test-taken = (let p : tie.In-loop Inv-loop μ-loop = search in p .loop-test .taken) in
+    (start .pre .0, loop-test-taken, loop-inv .through)
 
 mul-sizes : tie.Need-mul-sizes Inv-loop μ-loop
 mul-sizes c =
-    omega (arith, c .before .before .before .before .before .before .before .loop-test .taken, c .before .before .before .before .before .before .before .before .before .before .before .before .before .before .pre .0 .linked .few)
+    let start : tie.Start Inv-loop μ-loop = search in
+    let loop-test-taken = (let p : tie.In-loop Inv-loop μ-loop = search in p .loop-test .taken) in
+    omega (arith, loop-test-taken, start .pre .0 .linked .few)
 
 slice-write-sizes : tie.Need-slice-write-sizes Inv-loop μ-loop
 slice-write-sizes c =
-    omega (arith, c .before .before .before .before .before .before .before .loop-test .taken, c .before .before .before .before .before .before .before .before .before .before .before .before .before .before .pre .0 .linked .few, c .before .before .before .before .before .before .before .before .loop .inv .len)
+    let start : tie.Start Inv-loop μ-loop = search in
+    let loop-inv = (let p : tie.At-loop Inv-loop μ-loop = search in p .loop .inv) in
+    let loop-test-taken = (let p : tie.In-loop Inv-loop μ-loop = search in p .loop-test .taken) in
+    omega (arith, loop-test-taken, start .pre .0 .linked .few, loop-inv .len)
 
 add-p : tie.Need-add-p Inv-loop μ-loop
 add-p c =
-    omega (arith, c .before .before .before .before .before .before .before .loop-test .taken, c .before .before .before .before .before .before .before .before .before .before .before .before .before .before .pre .0 .linked .few)
+    let start : tie.Start Inv-loop μ-loop = search in
+    let loop-test-taken = (let p : tie.In-loop Inv-loop μ-loop = search in p .loop-test .taken) in
+    omega (arith, loop-test-taken, start .pre .0 .linked .few)
 
 loop-less : tie.Need-loop-less Inv-loop μ-loop
 loop-less c =
-    omega (arith, c .before .before .before .before .before .before .before .loop-test .taken)
+    let loop-test-taken = (let p : tie.In-loop Inv-loop μ-loop = search in p .loop-test .taken) in
+    omega (arith, loop-test-taken)
 
 loop-again : tie.Need-loop-again Inv-loop μ-loop
 loop-again c =
-    measuring-next (c .before .before .before .before .before .before .before .before .loop .inv) (c .before .before .before .before .before .before .before .before .before .before .before .before .before .before .pre .0 .linked .few) (c .before .before .before .before .before .before .before .loop-test .taken) (c .before .before .before .before .measure .ensures .through) (c .before .before .before .before .measure .ensures .size-is)
+    let start : tie.Start Inv-loop μ-loop = search in
+    let loop-inv = (let p : tie.At-loop Inv-loop μ-loop = search in p .loop .inv) in
+    let loop-test-taken = (let p : tie.In-loop Inv-loop μ-loop = search in p .loop-test .taken) in
+    let measure-ensures = (let p : tie.After-measure Inv-loop μ-loop = search in p .measure .ensures) in
+    measuring-next loop-inv (start .pre .0 .linked .few) loop-test-taken (measure-ensures .through) (measure-ensures .size-is)
 
 same-length : tie.Need-same-length Inv-loop μ-loop
 same-length c =
-    c .before .loop .inv .len ∙ sym (c .before .before .before .before .before .before .before .pre .1)
+    let start : tie.Start Inv-loop μ-loop = search in
+    let loop-inv = (let p : tie.At-loop Inv-loop μ-loop = search in p .loop .inv) in
+    loop-inv .len ∙ sym (start .pre .1)
 
 same-length-2 : tie.Need-same-length-2 Inv-loop μ-loop
 same-length-2 c =
-    c .before .loop .inv .through .marking .len-order ∙ sym (c .before .before .before .before .before .before .before .pre .2)
+    let start : tie.Start Inv-loop μ-loop = search in
+    let loop-inv = (let p : tie.At-loop Inv-loop μ-loop = search in p .loop .inv) in
+    loop-inv .through .marking .len-order ∙ sym (start .pre .2)
 
 same-length-3 : tie.Need-same-length-3 Inv-loop μ-loop
 same-length-3 c =
-    c .before .loop .inv .through .marking .len-marks ∙ sym (ap length (c .before .before .before .before .before .before .before .pre .3) ∙ length-replicate {A = ℕ} room 0)
+    let start : tie.Start Inv-loop μ-loop = search in
+    let loop-inv = (let p : tie.At-loop Inv-loop μ-loop = search in p .loop .inv) in
+    loop-inv .through .marking .len-marks ∙ sym (ap length (start .pre .3) ∙ length-replicate {A = ℕ} room 0)
 
 returns : tie.Need-returns Inv-loop μ-loop
 returns c =
-    measured-all (c .before .loop .inv) (c .loop-test .left)
+    let loop-inv = (let p : tie.At-loop Inv-loop μ-loop = search in p .loop .inv) in
+    measured-all loop-inv (c .loop-test .left)
 
 pub measure-all-spec : {M : Type 1} → statement M
 measure-all-spec =

@@ -13,7 +13,8 @@ slice-aggregate-measure-all-2 c = search needs
 
 measure-all-requires : tie.Need-measure-all-requires
 measure-all-requires c κs =
-    (walkable (c .before .before .before .before .before .args .block .now) (c .before .before .before .before .before .pre .0), c .before .before .before .before .before .pre .1, refl, refl)
+    let start : tie.Start = search in
+    (walkable (start .args .block .now) (start .pre .0), start .pre .1, refl, refl)
 
 same-length : tie.Need-same-length
 same-length c = search needs

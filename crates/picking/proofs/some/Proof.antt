@@ -22,37 +22,53 @@ loop-holds c =
 
 mul-p : tie.Need-mul-p Inv-loop μ-loop
 mul-p c =
-    omega (arith, c .loop-test .taken, c .before .before .before .before .pre .2)
+    let start : tie.Start Inv-loop μ-loop = search in
+    omega (arith, c .loop-test .taken, start .pre .2)
 
 shared-slice-read-p : tie.Need-shared-slice-read-p Inv-loop μ-loop
 shared-slice-read-p c = search needs
 
 point-at-requires : tie.Need-point-at-requires Inv-loop μ-loop
 point-at-requires c κs =
-    let h = c .before .before .before .before .before .pre .3 _ (c .before .loop-test .taken) in
-    (omega (arith, h, c .before .before .before .before .before .pre .0 .linked .few), c .before .before .before .before .before .pre .0 .linked .size, c .before .before .before .before .before .pre .0 .finite-at _ h)
+    let start : tie.Start Inv-loop μ-loop = search in
+    let loop-test-taken = (let p : tie.In-loop Inv-loop μ-loop = search in p .loop-test .taken) in
+    let h = start .pre .3 _ loop-test-taken in
+    (omega (arith, h, start .pre .0 .linked .few), start .pre .0 .linked .size, start .pre .0 .finite-at _ h)
 
 holds-requires : tie.Need-holds-requires Inv-loop μ-loop
 holds-requires c κs = search needs
 
 returns : tie.Need-returns Inv-loop μ-loop
 returns c =
-    looked-found (c .before .before .before .before .before .loop .inv) (c .before .before .before .before .before .before .before .before .args .to) (c .before .before .before .before .loop-test .taken) (held (oracle-of (c .before .before .before .before .before .before .before .before .args .o)) (c .before .before .before .before .before .before .before .before .args .second) (c .before .before .before .before .before .before .before .before .args .block .now) _ (c .before .before .before .before .before .before .before .before .pre .0 .finite-at _ (c .before .before .before .before .before .before .before .before .pre .3 _ (c .before .before .before .before .loop-test .taken))) (c .before .before .point-at .ensures) (c .before .holds .ensures)) (c .if1 .taken)
+    let start : tie.Start Inv-loop μ-loop = search in
+    let loop-inv = (let p : tie.At-loop Inv-loop μ-loop = search in p .loop .inv) in
+    let loop-test-taken = (let p : tie.In-loop Inv-loop μ-loop = search in p .loop-test .taken) in
+    let point-at-ensures = (let p : tie.After-point-at Inv-loop μ-loop = search in p .point-at .ensures) in
+    let holds-ensures = (let p : tie.After-holds Inv-loop μ-loop = search in p .holds .ensures) in
+    looked-found loop-inv (start .args .to) loop-test-taken (held (oracle-of (start .args .o)) (start .args .second) (start .args .block .now) _ (start .pre .0 .finite-at _ (start .pre .3 _ loop-test-taken)) point-at-ensures holds-ensures) (c .if1 .taken)
 
 add-i : tie.Need-add-i Inv-loop μ-loop
 add-i c = search needs
 
 loop-less : tie.Need-loop-less Inv-loop μ-loop
 loop-less c =
-    omega (arith, c .before .before .before .before .loop-test .taken)
+    let loop-test-taken = (let p : tie.In-loop Inv-loop μ-loop = search in p .loop-test .taken) in
+    omega (arith, loop-test-taken)
 
 loop-again : tie.Need-loop-again Inv-loop μ-loop
 loop-again c =
-    looking-next (c .before .before .before .before .before .loop .inv) (held (oracle-of (c .before .before .before .before .before .before .before .before .args .o)) (c .before .before .before .before .before .before .before .before .args .second) (c .before .before .before .before .before .before .before .before .args .block .now) _ (c .before .before .before .before .before .before .before .before .pre .0 .finite-at _ (c .before .before .before .before .before .before .before .before .pre .3 _ (c .before .before .before .before .loop-test .taken))) (c .before .before .point-at .ensures) (c .before .holds .ensures)) (c .if1 .left)
+    let start : tie.Start Inv-loop μ-loop = search in
+    let loop-inv = (let p : tie.At-loop Inv-loop μ-loop = search in p .loop .inv) in
+    let loop-test-taken = (let p : tie.In-loop Inv-loop μ-loop = search in p .loop-test .taken) in
+    let point-at-ensures = (let p : tie.After-point-at Inv-loop μ-loop = search in p .point-at .ensures) in
+    let holds-ensures = (let p : tie.After-holds Inv-loop μ-loop = search in p .holds .ensures) in
+    looking-next loop-inv (held (oracle-of (start .args .o)) (start .args .second) (start .args .block .now) _ (start .pre .0 .finite-at _ (start .pre .3 _ loop-test-taken)) point-at-ensures holds-ensures) (c .if1 .left)
 
 returns-2 : tie.Need-returns-2 Inv-loop μ-loop
 returns-2 c =
-    looked-all (c .before .loop .inv) (c .before .before .before .before .args .to) (c .loop-test .left)
+    let start : tie.Start Inv-loop μ-loop = search in
+    let loop-inv = (let p : tie.At-loop Inv-loop μ-loop = search in p .loop .inv) in
+    looked-all loop-inv (start .args .to) (c .loop-test .left)
 
 pub some-spec : {M : Type 1} → statement M
 some-spec =

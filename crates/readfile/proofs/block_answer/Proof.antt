@@ -13,7 +13,8 @@ coordinates-finite-requires c κs = search needs
 returns : tie.Need-returns
 unfolding block-checks
 returns c =
-    alone _ (ask-no refl (said-no (c .before .coordinates-finite .ensures) (c .if1 .taken)) refl)
+    let coordinates-finite-ensures = (let p : tie.After-coordinates-finite = search in p .coordinates-finite .ensures) in
+    alone _ (ask-no refl (said-no coordinates-finite-ensures (c .if1 .taken)) refl)
 
 links-right-requires : tie.Need-links-right-requires
 links-right-requires c κs = search needs
@@ -21,19 +22,29 @@ links-right-requires c κs = search needs
 returns-2 : tie.Need-returns-2
 unfolding block-checks
 returns-2 c =
-    alone _ (ask-yes (said-yes (c .before .before .before .coordinates-finite .ensures) (c .before .before .if1 .left))
-    (ask-no refl (said-no (c .before .links-right .ensures) (c .if2 .taken)) refl))
+    let coordinates-finite-ensures = (let p : tie.After-coordinates-finite = search in p .coordinates-finite .ensures) in
+    let if1-left = (let p : tie.Else1 = search in p .if1 .left) in
+    let links-right-ensures = (let p : tie.After-links-right = search in p .links-right .ensures) in
+    alone _ (ask-yes (said-yes coordinates-finite-ensures if1-left)
+    (ask-no refl (said-no links-right-ensures (c .if2 .taken)) refl))
 
 thirds-right-requires : tie.Need-thirds-right-requires
 thirds-right-requires c κs =
-    (c .before .before .before .before .before .pre .0, c .before .before .before .before .before .pre .1, said-yes (c .before .links-right .ensures) (c .if2 .left))
+    let start : tie.Start = search in
+    let links-right-ensures = (let p : tie.After-links-right = search in p .links-right .ensures) in
+    (start .pre .0, start .pre .1, said-yes links-right-ensures (c .if2 .left))
 
 returns-3 : tie.Need-returns-3
 unfolding block-checks
 returns-3 c =
-    alone _ (ask-yes (said-yes (c .before .before .before .before .before .coordinates-finite .ensures) (c .before .before .before .before .if1 .left))
-    (ask-yes (said-yes (c .before .before .before .links-right .ensures) (c .before .before .if2 .left))
-    (ask-no refl (said-no (c .before .thirds-right .ensures) (c .if3 .taken)) refl)))
+    let coordinates-finite-ensures = (let p : tie.After-coordinates-finite = search in p .coordinates-finite .ensures) in
+    let if1-left = (let p : tie.Else1 = search in p .if1 .left) in
+    let links-right-ensures = (let p : tie.After-links-right = search in p .links-right .ensures) in
+    let if2-left = (let p : tie.Else2 = search in p .if2 .left) in
+    let thirds-right-ensures = (let p : tie.After-thirds-right = search in p .thirds-right .ensures) in
+    alone _ (ask-yes (said-yes coordinates-finite-ensures if1-left)
+    (ask-yes (said-yes links-right-ensures if2-left)
+    (ask-no refl (said-no thirds-right-ensures (c .if3 .taken)) refl)))
 
 labels-right-requires : tie.Need-labels-right-requires
 labels-right-requires c κs = search needs
@@ -41,32 +52,64 @@ labels-right-requires c κs = search needs
 returns-4 : tie.Need-returns-4
 unfolding block-checks
 returns-4 c =
-    alone _ (ask-yes (said-yes (c .before .before .before .before .before .before .before .coordinates-finite .ensures) (c .before .before .before .before .before .before .if1 .left))
-    (ask-yes (said-yes (c .before .before .before .before .before .links-right .ensures) (c .before .before .before .before .if2 .left))
-    (ask-yes (said-yes (c .before .before .before .thirds-right .ensures) (c .before .before .if3 .left))
-    (ask-no refl (said-no (c .before .labels-right .ensures) (c .if4 .taken)) refl))))
+    let coordinates-finite-ensures = (let p : tie.After-coordinates-finite = search in p .coordinates-finite .ensures) in
+    let if1-left = (let p : tie.Else1 = search in p .if1 .left) in
+    let links-right-ensures = (let p : tie.After-links-right = search in p .links-right .ensures) in
+    let if2-left = (let p : tie.Else2 = search in p .if2 .left) in
+    let thirds-right-ensures = (let p : tie.After-thirds-right = search in p .thirds-right .ensures) in
+    let if3-left = (let p : tie.Else3 = search in p .if3 .left) in
+    let labels-right-ensures = (let p : tie.After-labels-right = search in p .labels-right .ensures) in
+    alone _ (ask-yes (said-yes coordinates-finite-ensures if1-left)
+    (ask-yes (said-yes links-right-ensures if2-left)
+    (ask-yes (said-yes thirds-right-ensures if3-left)
+    (ask-no refl (said-no labels-right-ensures (c .if4 .taken)) refl))))
 
 points-agree-requires : tie.Need-points-agree-requires
 points-agree-requires c κs =
-    (c .before .before .before .before .before .before .before .before .before .pre .0, c .before .before .before .before .before .before .before .before .before .pre .1, said-yes (c .before .before .before .before .before .before .before .coordinates-finite .ensures) (c .before .before .before .before .before .before .if1 .left), said-yes (c .before .before .before .before .before .links-right .ensures) (c .before .before .before .before .if2 .left), said-yes (c .before .before .before .thirds-right .ensures) (c .before .before .if3 .left))
+    let start : tie.Start = search in
+    let coordinates-finite-ensures = (let p : tie.After-coordinates-finite = search in p .coordinates-finite .ensures) in
+    let if1-left = (let p : tie.Else1 = search in p .if1 .left) in
+    let links-right-ensures = (let p : tie.After-links-right = search in p .links-right .ensures) in
+    let if2-left = (let p : tie.Else2 = search in p .if2 .left) in
+    let thirds-right-ensures = (let p : tie.After-thirds-right = search in p .thirds-right .ensures) in
+    let if3-left = (let p : tie.Else3 = search in p .if3 .left) in
+    (start .pre .0, start .pre .1, said-yes coordinates-finite-ensures if1-left, said-yes links-right-ensures if2-left, said-yes thirds-right-ensures if3-left)
 
 returns-5 : tie.Need-returns-5
 unfolding block-checks
 returns-5 c =
-    alone _ (ask-yes (said-yes (c .before .before .before .before .before .before .before .before .before .coordinates-finite .ensures) (c .before .before .before .before .before .before .before .before .if1 .left))
-    (ask-yes (said-yes (c .before .before .before .before .before .before .before .links-right .ensures) (c .before .before .before .before .before .before .if2 .left))
-    (ask-yes (said-yes (c .before .before .before .before .before .thirds-right .ensures) (c .before .before .before .before .if3 .left))
-    (ask-yes (said-yes (c .before .before .before .labels-right .ensures) (c .before .before .if4 .left))
-    (ask-no refl (said-no (c .before .points-agree .ensures) (c .if5 .taken)) refl)))))
+    let coordinates-finite-ensures = (let p : tie.After-coordinates-finite = search in p .coordinates-finite .ensures) in
+    let if1-left = (let p : tie.Else1 = search in p .if1 .left) in
+    let links-right-ensures = (let p : tie.After-links-right = search in p .links-right .ensures) in
+    let if2-left = (let p : tie.Else2 = search in p .if2 .left) in
+    let thirds-right-ensures = (let p : tie.After-thirds-right = search in p .thirds-right .ensures) in
+    let if3-left = (let p : tie.Else3 = search in p .if3 .left) in
+    let labels-right-ensures = (let p : tie.After-labels-right = search in p .labels-right .ensures) in
+    let if4-left = (let p : tie.Else4 = search in p .if4 .left) in
+    let points-agree-ensures = (let p : tie.After-points-agree = search in p .points-agree .ensures) in
+    alone _ (ask-yes (said-yes coordinates-finite-ensures if1-left)
+    (ask-yes (said-yes links-right-ensures if2-left)
+    (ask-yes (said-yes thirds-right-ensures if3-left)
+    (ask-yes (said-yes labels-right-ensures if4-left)
+    (ask-no refl (said-no points-agree-ensures (c .if5 .taken)) refl)))))
 
 returns-6 : tie.Need-returns-6
 unfolding block-checks
 returns-6 c =
-    alone _ (ask-yes (said-yes (c .before .before .before .before .before .before .before .before .before .coordinates-finite .ensures) (c .before .before .before .before .before .before .before .before .if1 .left))
-    (ask-yes (said-yes (c .before .before .before .before .before .before .before .links-right .ensures) (c .before .before .before .before .before .before .if2 .left))
-    (ask-yes (said-yes (c .before .before .before .before .before .thirds-right .ensures) (c .before .before .before .before .if3 .left))
-    (ask-yes (said-yes (c .before .before .before .labels-right .ensures) (c .before .before .if4 .left))
-    (ask-yes (said-yes (c .before .points-agree .ensures) (c .if5 .left))
+    let coordinates-finite-ensures = (let p : tie.After-coordinates-finite = search in p .coordinates-finite .ensures) in
+    let if1-left = (let p : tie.Else1 = search in p .if1 .left) in
+    let links-right-ensures = (let p : tie.After-links-right = search in p .links-right .ensures) in
+    let if2-left = (let p : tie.Else2 = search in p .if2 .left) in
+    let thirds-right-ensures = (let p : tie.After-thirds-right = search in p .thirds-right .ensures) in
+    let if3-left = (let p : tie.Else3 = search in p .if3 .left) in
+    let labels-right-ensures = (let p : tie.After-labels-right = search in p .labels-right .ensures) in
+    let if4-left = (let p : tie.Else4 = search in p .if4 .left) in
+    let points-agree-ensures = (let p : tie.After-points-agree = search in p .points-agree .ensures) in
+    alone _ (ask-yes (said-yes coordinates-finite-ensures if1-left)
+    (ask-yes (said-yes links-right-ensures if2-left)
+    (ask-yes (said-yes thirds-right-ensures if3-left)
+    (ask-yes (said-yes labels-right-ensures if4-left)
+    (ask-yes (said-yes points-agree-ensures (c .if5 .left))
     (ask-end refl))))))
 
 pub block-answer-spec : {M : Type 1} → statement M

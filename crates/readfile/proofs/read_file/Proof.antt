@@ -21,16 +21,23 @@ read-image-requires c κs =
 
 returns-2 : tie.Need-returns-2
 returns-2 c =
-    layout-refused _ _ (c .before .before .before .before .if1 .left) (c .before .before .read-image .ensures) (c .if2 .taken)
+    let if1-left = (let p : tie.Else1 = search in p .if1 .left) in
+    let read-image-ensures = (let p : tie.After-read-image = search in p .read-image .ensures) in
+    layout-refused _ _ if1-left read-image-ensures (c .if2 .taken)
 
 slice-aggregate-block-answer : tie.Need-slice-aggregate-block-answer
 slice-aggregate-block-answer c = search needs
 
 block-answer-requires : tie.Need-block-answer-requires
-block-answer-requires c κs = (
-  image-long _ (c .before .before .before .before .before .before .before .before .args .block .now) (c .before .before .before .before .before .if1 .left) (c .before .before .before .read-image .ensures) (c .before .if2 .left) (bytes-are (c .before .before .before .before .before .before .before .before .args .file .now) (λ i. c .before .before .before .before .before .before .before .shared-slice-known .given i .fits)),
-  image-ranged _ (c .before .before .before .before .before .before .before .before .args .block .now) (c .before .before .before .before .before .if1 .left) (c .before .before .before .read-image .ensures) (c .before .if2 .left) (bytes-are (c .before .before .before .before .before .before .before .before .args .file .now) (λ i. c .before .before .before .before .before .before .before .shared-slice-known .given i .fits)),
-)
+block-answer-requires c κs =
+    let start : tie.Start = search in
+    let shared-slice-known-given = (let p : tie.After-shared-slice-known = search in p .shared-slice-known .given) in
+    let if1-left = (let p : tie.Else1 = search in p .if1 .left) in
+    let read-image-ensures = (let p : tie.After-read-image = search in p .read-image .ensures) in
+    let if2-left = (let p : tie.Else2 = search in p .if2 .left) in (
+      image-long _ (start .args .block .now) if1-left read-image-ensures if2-left (bytes-are (start .args .file .now) (λ i. shared-slice-known-given i .fits)),
+      image-ranged _ (start .args .block .now) if1-left read-image-ensures if2-left (bytes-are (start .args .file .now) (λ i. shared-slice-known-given i .fits)),
+    )
 
 enum-told : tie.Need-enum-told
 enum-told c = search needs
@@ -40,7 +47,12 @@ slice-aggregate-copy c = search needs
 
 copy-requires : tie.Need-copy-requires
 copy-requires c κs =
-    c .before .before .before .before .before .before .before .before .before .before .if1 .left ∙ sym (image-long _ (c .before .before .before .before .before .before .before .before .before .before .before .before .before .args .block .now) (c .before .before .before .before .before .before .before .before .before .before .if1 .left) (c .before .before .before .before .before .before .before .before .read-image .ensures) (c .before .before .before .before .before .before .if2 .left) (bytes-are (c .before .before .before .before .before .before .before .before .before .before .before .before .before .args .file .now) (λ i. c .before .before .before .before .before .before .before .before .before .before .before .before .shared-slice-known .given i .fits)))
+    let start : tie.Start = search in
+    let shared-slice-known-given = (let p : tie.After-shared-slice-known = search in p .shared-slice-known .given) in
+    let if1-left = (let p : tie.Else1 = search in p .if1 .left) in
+    let read-image-ensures = (let p : tie.After-read-image = search in p .read-image .ensures) in
+    let if2-left = (let p : tie.Else2 = search in p .if2 .left) in
+    if1-left ∙ sym (image-long _ (start .args .block .now) if1-left read-image-ensures if2-left (bytes-are (start .args .file .now) (λ i. shared-slice-known-given i .fits)))
 
 enum-known-r : tie.Need-enum-known-r
 enum-known-r c = search needs
@@ -50,13 +62,28 @@ same-length c = search needs
 
 returns-3 : tie.Need-returns-3
 returns-3 c =
-    block-served _ _ (c .before .before .before .before .before .before .before .before .before .before .before .before .before .if1 .left) (c .before .before .before .before .before .before .before .before .before .before .before .read-image .ensures) (c .before .before .before .before .before .before .before .before .before .if2 .left) (bytes-are (c .before .before .before .before .before .before .before .before .before .before .before .before .before .before .before .before .args .file .now) (λ i. c .before .before .before .before .before .before .before .before .before .before .before .before .before .before .before .shared-slice-known .given i .fits))
-    (ap answer-of (sym (c .before .before .before .before .before .enum-told .given .1)) ∙ c .before .before .before .before .before .before .before .block-answer .ensures) (c .before .before .copy .ensures)
+    let start : tie.Start = search in
+    let shared-slice-known-given = (let p : tie.After-shared-slice-known = search in p .shared-slice-known .given) in
+    let if1-left = (let p : tie.Else1 = search in p .if1 .left) in
+    let read-image-ensures = (let p : tie.After-read-image = search in p .read-image .ensures) in
+    let if2-left = (let p : tie.Else2 = search in p .if2 .left) in
+    let block-answer-ensures = (let p : tie.After-block-answer = search in p .block-answer .ensures) in
+    let enum-told-given = (let p : tie.After-enum-told = search in p .enum-told .given) in
+    let copy-ensures = (let p : tie.After-copy = search in p .copy .ensures) in
+    block-served _ _ if1-left read-image-ensures if2-left (bytes-are (start .args .file .now) (λ i. shared-slice-known-given i .fits))
+    (ap answer-of (sym (enum-told-given .1)) ∙ block-answer-ensures) copy-ensures
 
 returns-4 : tie.Need-returns-4
 returns-4 c =
-    block-refused _ _ (c .before .before .before .before .before .before .before .before .before .if1 .left) (c .before .before .before .before .before .before .before .read-image .ensures) (c .before .before .before .before .before .if2 .left) (bytes-are (c .before .before .before .before .before .before .before .before .before .before .before .before .args .file .now) (λ i. c .before .before .before .before .before .before .before .before .before .before .before .shared-slice-known .given i .fits))
-    (ap answer-of (sym (c .before .r .given .1)) ∙ c .before .before .before .block-answer .ensures)
+    let start : tie.Start = search in
+    let shared-slice-known-given = (let p : tie.After-shared-slice-known = search in p .shared-slice-known .given) in
+    let if1-left = (let p : tie.Else1 = search in p .if1 .left) in
+    let read-image-ensures = (let p : tie.After-read-image = search in p .read-image .ensures) in
+    let if2-left = (let p : tie.Else2 = search in p .if2 .left) in
+    let block-answer-ensures = (let p : tie.After-block-answer = search in p .block-answer .ensures) in
+    let r-given = (let p : tie.After-r = search in p .r .given) in
+    block-refused _ _ if1-left read-image-ensures if2-left (bytes-are (start .args .file .now) (λ i. shared-slice-known-given i .fits))
+    (ap answer-of (sym (r-given .1)) ∙ block-answer-ensures)
 
 pub read-file-spec : {M : Type 1} → statement M
 read-file-spec =

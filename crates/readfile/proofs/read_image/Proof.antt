@@ -13,11 +13,16 @@ same-length c = search needs
 
 returns : tie.Need-returns
 returns c =
-    image-refused (c .before .before .before .read-raw .ensures) (c .if1 .taken)
+    let read-raw-ensures = (let p : tie.After-read-raw = search in p .read-raw .ensures) in
+    image-refused read-raw-ensures (c .if1 .taken)
 
 resolve-requires : tie.Need-resolve-requires
 resolve-requires c κs =
-    let ready = raw-ready (c .before .before .before .before .read-raw .ensures) (c .before .if1 .left) (bytes-are (c .before .before .before .before .before .before .before .before .args .file .now) (λ i. c .before .before .before .before .before .before .before .shared-slice-known .given i .fits)) in
+    let start : tie.Start = search in
+    let shared-slice-known-given = (let p : tie.After-shared-slice-known = search in p .shared-slice-known .given) in
+    let read-raw-ensures = (let p : tie.After-read-raw = search in p .read-raw .ensures) in
+    let if1-left = (let p : tie.Else1 = search in p .if1 .left) in
+    let ready = raw-ready read-raw-ensures if1-left (bytes-are (start .args .file .now) (λ i. shared-slice-known-given i .fits)) in
     (ready .length-is, ready .few, ready .ascends)
 
 same-length-2 : tie.Need-same-length-2
@@ -25,7 +30,10 @@ same-length-2 c = search needs
 
 returns-2 : tie.Need-returns-2
 returns-2 c =
-    image-served (c .before .before .before .before .before .before .before .read-raw .ensures) (c .before .before .before .before .if1 .left) (c .before .before .resolve .ensures)
+    let read-raw-ensures = (let p : tie.After-read-raw = search in p .read-raw .ensures) in
+    let if1-left = (let p : tie.Else1 = search in p .if1 .left) in
+    let resolve-ensures = (let p : tie.After-resolve = search in p .resolve .ensures) in
+    image-served read-raw-ensures if1-left resolve-ensures
 
 pub read-image-spec : {M : Type 1} → statement M
 read-image-spec =

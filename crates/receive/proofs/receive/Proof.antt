@@ -18,7 +18,9 @@ same-length c = search needs
 
 returns-2 : tie.Need-returns-2
 returns-2 c =
-    image-refused _ _ (c .before .before .before .if1 .left) (said-no (c .before .is-sound .ensures) (c .if2 .taken))
+    let if1-left = (let p : tie.Else1 = search in p .if1 .left) in
+    let is-sound-ensures = (let p : tie.After-is-sound = search in p .is-sound .ensures) in
+    image-refused _ _ if1-left (said-no is-sound-ensures (c .if2 .taken))
 
 slice-aggregate-message-in : tie.Need-slice-aggregate-message-in
 slice-aggregate-message-in c = search needs
@@ -52,7 +54,11 @@ slice-aggregate-take-4 c = search needs
 
 take-requires : tie.Need-take-requires
 take-requires c κs =
-    (said-yes (c .before .before .before .before .before .before .before .before .before .before .before .before .before .before .before .before .before .before .is-sound .ensures) (c .before .before .before .before .before .before .before .before .before .before .before .before .before .before .before .before .before .if2 .left), c .before .before .before .before .before .before .before .before .before .before .before .before .message-in .ensures .sides, outline-of (c .before .before .before .before .before .before .f .given .1) (c .before .before .before .before .before .before .before .before .before .before .before .before .message-in .ensures))
+    let is-sound-ensures = (let p : tie.After-is-sound = search in p .is-sound .ensures) in
+    let if2-left = (let p : tie.Else2 = search in p .if2 .left) in
+    let message-in-ensures = (let p : tie.After-message-in = search in p .message-in .ensures) in
+    let f-given = (let p : tie.After-f = search in p .f .given) in
+    (said-yes is-sound-ensures if2-left, message-in-ensures .sides, outline-of (f-given .1) message-in-ensures)
 
 enum-known-u : tie.Need-enum-known-u
 enum-known-u c = search needs
@@ -65,21 +71,31 @@ same-length-2 c = search needs
 
 returns-3 : tie.Need-returns-3
 returns-3 c =
-    taken _ _ (c .before .before .before .before .before .before .before .before .before .f .given .1) (c .before .before .before .before .before .before .before .before .before .before .before .before .before .before .before .message-in .ensures) (c .before .before .take .ensures)
+    let message-in-ensures = (let p : tie.After-message-in = search in p .message-in .ensures) in
+    let f-given = (let p : tie.After-f = search in p .f .given) in
+    let take-ensures = (let p : tie.After-take = search in p .take .ensures) in
+    taken _ _ (f-given .1) message-in-ensures take-ensures
 
 same-length-3 : tie.Need-same-length-3
 same-length-3 c = search needs
 
 returns-4 : tie.Need-returns-4
 returns-4 c =
-    update-refused _ (said-yes (c .before .before .before .before .before .before .before .before .before .before .before .before .before .is-sound .ensures) (c .before .before .before .before .before .before .before .before .before .before .before .before .if2 .left)) (c .before .u .given .1) (c .before .before .before .before .before .before .before .message-in .ensures)
+    let is-sound-ensures = (let p : tie.After-is-sound = search in p .is-sound .ensures) in
+    let if2-left = (let p : tie.Else2 = search in p .if2 .left) in
+    let message-in-ensures = (let p : tie.After-message-in = search in p .message-in .ensures) in
+    let u-given = (let p : tie.After-u = search in p .u .given) in
+    update-refused _ (said-yes is-sound-ensures if2-left) (u-given .1) message-in-ensures
 
 same-length-4 : tie.Need-same-length-4
 same-length-4 c = search needs
 
 returns-5 : tie.Need-returns-5
 returns-5 c =
-    layout-refused _ (said-yes (c .before .before .before .before .before .before .before .before .before .before .before .before .is-sound .ensures) (c .before .before .before .before .before .before .before .before .before .before .before .if2 .left)) (c .enum-told .given .1) (c .before .before .before .before .before .before .message-in .ensures)
+    let is-sound-ensures = (let p : tie.After-is-sound = search in p .is-sound .ensures) in
+    let if2-left = (let p : tie.Else2 = search in p .if2 .left) in
+    let message-in-ensures = (let p : tie.After-message-in = search in p .message-in .ensures) in
+    layout-refused _ (said-yes is-sound-ensures if2-left) (c .enum-told .given .1) message-in-ensures
 
 pub receive-spec : {M : Type 1} → statement M
 receive-spec =

@@ -35,7 +35,8 @@ slice-aggregate-questions-8 c = search needs
 
 questions-requires : tie.Need-questions-requires
 questions-requires c κs =
-    ((c .before .before .before .before .before .before .before .before .before .before .before .before .before .before .before .pre .0, c .before .before .before .before .before .before .before .before .before .before .before .before .before .before .before .pre .1, c .before .before .before .before .before .before .before .before .before .before .before .before .before .before .before .pre .2), search needs)
+    let start : tie.Start = search in
+    ((start .pre .0, start .pre .1, start .pre .2), search needs)
 
 enum-known-r : tie.Need-enum-known-r
 enum-known-r c = search needs
@@ -63,23 +64,38 @@ slice-aggregate-join-6 c = search needs
 
 join-requires : tie.Need-join-requires
 join-requires c κs =
-    let y = asked-yes (c .before .before .before .before .before .before .before .before .before .before .before .before .before .before .before .before .before .questions .ensures .0) (c .before .before .before .before .before .before .before .enum-told .given .1) in
-    ((c .before .before .before .before .before .before .before .before .before .before .before .before .before .before .before .before .before .questions .ensures .1, c .before .before .before .before .before .before .before .before .before .before .before .before .before .before .before .before .before .questions .ensures .2), (y .3, y .4, y .5, may-join (c .before .before .before .before .before .before .before .before .before .before .before .before .before .before .before .before .before .before .before .before .before .before .before .before .before .before .before .before .before .before .before .before .before .pre .0) (let l = c .before .before .before .before .before .before .before .before .before .before .before .before .before .before .before .before .before .before .before .before .before .before .before .before .before .before .before .before .before .before .before .before .before .pre .1 .serial-size in let f = told-of (c .before .before .before .before .before .before .before .before .before .before .before .before .before .before .before .before .before .before .before .before .before .before .before .before .before .before .before .before .before .before .before .before .before .pre .2 .2) .few in omega (arith, l, f)) y (c .before .before .before .before .before .before .before .before .before .before .before .before .before .before .before .before .before .before .before .before .before .before .before .before .before .before .before .before .before .before .before .before .before .pre .2 .0) (c .before .before .before .before .before .before .before .before .before .before .before .before .before .before .before .before .before .before .before .before .before .before .before .before .before .before .before .before .before .before .before .before .before .pre .2 .1) (c .before .before .before .before .before .before .before .before .before .before .before .before .before .before .before .before .before .before .before .before .before .before .before .before .before .before .before .before .before .before .before .before .before .pre .2 .2), few-new (c .before .before .before .before .before .before .before .before .before .before .before .before .before .before .before .before .before .before .before .before .before .before .before .before .before .before .before .before .before .before .before .before .before .pre .0) (let l = c .before .before .before .before .before .before .before .before .before .before .before .before .before .before .before .before .before .before .before .before .before .before .before .before .before .before .before .before .before .before .before .before .before .pre .1 .serial-size in let f = told-of (c .before .before .before .before .before .before .before .before .before .before .before .before .before .before .before .before .before .before .before .before .before .before .before .before .before .before .before .before .before .before .before .before .before .pre .2 .2) .few in omega (arith, l, f)) y (c .before .before .before .before .before .before .before .before .before .before .before .before .before .before .before .before .before .before .before .before .before .before .before .before .before .before .before .before .before .before .before .before .before .pre .2 .0) (c .before .before .before .before .before .before .before .before .before .before .before .before .before .before .before .before .before .before .before .before .before .before .before .before .before .before .before .before .before .before .before .before .before .pre .2 .1) (c .before .before .before .before .before .before .before .before .before .before .before .before .before .before .before .before .before .before .before .before .before .before .before .before .before .before .before .before .before .before .before .before .before .pre .2 .2)))
+    let enum-told-given = (let p : tie.After-enum-told = search in p .enum-told .given) in
+    let questions-ensures = (let p : tie.After-questions = search in p .questions .ensures) in
+    let c : tie.After-questions = search in
+    let start : tie.Start = search in
+    let y = asked-yes (questions-ensures .0) (enum-told-given .1) in
+    ((questions-ensures .1, questions-ensures .2), (y .3, y .4, y .5, may-join (start .pre .0) (let l = start .pre .1 .serial-size in let f = told-of (start .pre .2 .2) .few in omega (arith, l, f)) y (start .pre .2 .0) (start .pre .2 .1) (start .pre .2 .2), few-new (start .pre .0) (let l = start .pre .1 .serial-size in let f = told-of (start .pre .2 .2) .few in omega (arith, l, f)) y (start .pre .2 .0) (start .pre .2 .1) (start .pre .2 .2)))
 
 same-length : tie.Need-same-length
 same-length c = search needs
 
 returns : tie.Need-returns
 returns c =
-    record { gives = λ t e w. transfer-refused (c .before .before .before .before .before .before .before .before .before .before .before .before .before .before .before .before .before .before .before .before .before .before .before .before .before .before .before .args .block .now) (c .before .before .before .before .before .before .before .before .before .before .before .before .before .before .before .before .before .before .before .before .before .before .before .before .before .before .before .pre .0) t (asked-no (c .before .before .before .before .before .before .before .before .before .before .before .questions .ensures .0) (c .before .r .given .1) t e w) }
+    let r-given = (let p : tie.After-r = search in p .r .given) in
+    let questions-ensures = (let p : tie.After-questions = search in p .questions .ensures) in
+    let c : tie.After-questions = search in
+    let start : tie.Start = search in
+    record { gives = λ t e w. transfer-refused (start .args .block .now) (start .pre .0) t (asked-no (questions-ensures .0) (r-given .1) t e w) }
 
 same-length-2 : tie.Need-same-length-2
 same-length-2 c = search needs
 
 returns-2 : tie.Need-returns-2
 returns-2 c =
-    let y = asked-yes (c .before .before .before .before .before .before .before .before .before .before .before .before .before .before .before .before .before .before .before .before .before .before .questions .ensures .0) (c .before .before .before .before .before .before .before .before .before .before .before .before .enum-told .given .1) in
-    record { gives = λ t e w. served-image (c .before .before .before .before .before .before .before .before .before .before .before .before .before .before .before .before .before .before .before .before .before .before .before .before .before .before .before .before .before .before .before .before .before .before .before .before .before .before .pre .0) (let l = c .before .before .before .before .before .before .before .before .before .before .before .before .before .before .before .before .before .before .before .before .before .before .before .before .before .before .before .before .before .before .before .before .before .before .before .before .before .before .pre .1 .serial-size in let f = told-of w .few in omega (arith, l, f)) y t e w (bytes-in (c .before .before .before .before .before .before .before .before .before .before .before .before .before .before .before .before .before .before .before .before .before .before .before .before .before .before .before .before .before .before .before .before .before .before .before .before .before .before .args .message .now) (λ i. fits-lt-pow (c .before .before .before .before .before .before .before .before .before .before .before .before .before .before .before .before .before .before .before .before .before .before .before .before .before .before .before .before .before .before .before .before .before .before .before .before .shared-slice-known .given i))) (c .before .before .before .before .join .ensures) }
+    let join-ensures = (let p : tie.After-join = search in p .join .ensures) in
+    let enum-told-given = (let p : tie.After-enum-told = search in p .enum-told .given) in
+    let c : tie.After-enum-told = search in
+    let questions-ensures = (let p : tie.After-questions = search in p .questions .ensures) in
+    let c : tie.After-questions = search in
+    let shared-slice-known-given = (let p : tie.After-shared-slice-known = search in p .shared-slice-known .given) in
+    let start : tie.Start = search in
+    let y = asked-yes (questions-ensures .0) (enum-told-given .1) in
+    record { gives = λ t e w. served-image (start .pre .0) (let l = start .pre .1 .serial-size in let f = told-of w .few in omega (arith, l, f)) y t e w (bytes-in (start .args .message .now) (λ i. fits-lt-pow (shared-slice-known-given i))) join-ensures }
 
 pub take-spec : {M : Type 1} → statement M
 take-spec =

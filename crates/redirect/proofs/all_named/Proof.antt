@@ -27,21 +27,33 @@ order-requires c κs = search needs
 
 returns : tie.Need-returns
 returns c =
-    not-apart (c .before .before .before .before .before .before .before .before .before .before .before .before .args .block .now) (c .before .before .before .before .before .before .before .before .before .before .before .before .args .from) _ (c .before .before .before .before .before .before .before .before .before .before .before .before .pre .0 .4) (c .before .before .before .before .before .before .before .read-codes .ensures) (c .before .before .before .order .ensures) (not-true _ (c .if1 .taken)) (ap length (c .before .before .before .before .before .before .before .before .before .before .before .before .pre .1) ∙ length-replicate {A = ℕ} room 4097)
+    let start : tie.Start = search in
+    let read-codes-ensures = (let p : tie.After-read-codes = search in p .read-codes .ensures) in
+    let order-ensures = (let p : tie.After-order = search in p .order .ensures) in
+    not-apart (start .args .block .now) (start .args .from) _ (start .pre .0 .4) read-codes-ensures order-ensures (not-true _ (c .if1 .taken)) (ap length (start .pre .1) ∙ length-replicate {A = ℕ} room 4097)
 
 slice-aggregate-each-named : tie.Need-slice-aggregate-each-named
 slice-aggregate-each-named c = search needs
 
 each-named-requires : tie.Need-each-named-requires
 each-named-requires c κs =
-    (c .before .before .before .before .before .before .before .before .before .before .before .before .before .before .pre .0 .0, c .before .before .before .before .before .before .before .before .before .before .before .before .before .before .pre .0 .1, c .before .before .before .before .before .before .before .before .before .before .before .before .before .before .pre .0 .2, apart-ready (c .before .before .before .before .before .before .before .before .before .before .before .before .before .before .args .block .now) (c .before .before .before .before .before .before .before .before .before .before .before .before .before .before .args .from) _ (c .before .before .before .before .before .before .before .before .before .before .before .before .before .before .pre .0 .4) (c .before .before .before .before .before .before .before .before .before .read-codes .ensures) (c .before .before .before .before .before .order .ensures) (not-false _ (c .before .before .if1 .left)), c .before .before .before .before .before .before .before .before .before .before .before .before .before .before .pre .1)
+    let start : tie.Start = search in
+    let read-codes-ensures = (let p : tie.After-read-codes = search in p .read-codes .ensures) in
+    let order-ensures = (let p : tie.After-order = search in p .order .ensures) in
+    let if1-left = (let p : tie.Else1 = search in p .if1 .left) in
+    (start .pre .0 .0, start .pre .0 .1, start .pre .0 .2, apart-ready (start .args .block .now) (start .args .from) _ (start .pre .0 .4) read-codes-ensures order-ensures (not-false _ if1-left), start .pre .1)
 
 same-length : tie.Need-same-length
 same-length c = search needs
 
 returns-2 : tie.Need-returns-2
 returns-2 c =
-    all-told (c .before .before .before .before .before .before .before .before .before .before .before .before .before .before .before .before .before .args .block .now) (c .before .before .before .before .before .before .before .before .before .before .before .before .before .before .before .before .before .args .from) _ (c .before .before .before .before .before .before .before .before .before .before .before .before .before .before .before .before .before .pre .0 .4) (c .before .before .before .before .before .before .before .before .before .before .before .before .read-codes .ensures) (c .before .before .before .before .before .before .before .before .order .ensures) (not-false _ (c .before .before .before .before .before .if1 .left)) (c .before .before .each-named .ensures)
+    let start : tie.Start = search in
+    let read-codes-ensures = (let p : tie.After-read-codes = search in p .read-codes .ensures) in
+    let order-ensures = (let p : tie.After-order = search in p .order .ensures) in
+    let if1-left = (let p : tie.Else1 = search in p .if1 .left) in
+    let each-named-ensures = (let p : tie.After-each-named = search in p .each-named .ensures) in
+    all-told (start .args .block .now) (start .args .from) _ (start .pre .0 .4) read-codes-ensures order-ensures (not-false _ if1-left) each-named-ensures
 
 pub all-named-spec : {M : Type 1} → statement M
 all-named-spec =

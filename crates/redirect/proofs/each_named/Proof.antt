@@ -10,7 +10,8 @@ slice-aggregate-index-faces c = search needs
 
 index-faces-requires : tie.Need-index-faces-requires
 index-faces-requires c κs =
-    (c .before .before .before .before .before .pre .0, c .before .before .before .before .before .pre .1, c .before .before .before .before .before .pre .2, c .before .before .before .before .before .pre .3, c .before .before .before .before .before .pre .4, search needs)
+    let start : tie.Start = search in
+    (start .pre .0, start .pre .1, start .pre .2, start .pre .3, start .pre .4, search needs)
 
 slice-aggregate-all-hit : tie.Need-slice-aggregate-all-hit
 slice-aggregate-all-hit c = search needs
@@ -23,7 +24,9 @@ same-length c = search needs
 
 returns : tie.Need-returns
 returns c =
-    each-named (c .before .before .before .before .before .before .before .before .before .before .before .args .block .now) (c .before .before .before .before .before .before .before .before .before .before .before .args .from) (c .before .before .before .before .before .before .before .before .before .before .before .pre .3) (c .before .before .before .before .before .before .before .before .before .before .before .pre .1) (c .before .before .before .before .before .index-faces .ensures .0) (c .before .before .before .before .before .index-faces .ensures .1) (c .all-hit .ensures)
+    let start : tie.Start = search in
+    let index-faces-ensures = (let p : tie.After-index-faces = search in p .index-faces .ensures) in
+    each-named (start .args .block .now) (start .args .from) (start .pre .3) (start .pre .1) (index-faces-ensures .0) (index-faces-ensures .1) (c .all-hit .ensures)
 
 pub each-named-spec : {M : Type 1} → statement M
 each-named-spec =

@@ -22,7 +22,8 @@ message-in-requires c κs = search needs
 
 returns : tie.Need-returns
 returns c =
-    kind-read (c .before .before .before .before .message-in .ensures)
+    let message-in-ensures = (let p : tie.After-message-in = search in p .message-in .ensures) in
+    kind-read message-in-ensures
 
 pub received-spec : {M : Type 1} → statement M
 received-spec =

@@ -18,7 +18,9 @@ same-length c = search needs
 
 returns-2 : tie.Need-returns-2
 returns-2 c =
-    image-refused _ _ (c .before .before .before .if1 .left) (said-no (c .before .is-sound .ensures) (c .if2 .taken))
+    let if1-left = (let p : tie.Else1 = search in p .if1 .left) in
+    let is-sound-ensures = (let p : tie.After-is-sound = search in p .is-sound .ensures) in
+    image-refused _ _ if1-left (said-no is-sound-ensures (c .if2 .taken))
 
 received-requires : tie.Need-received-requires
 received-requires c κs = search needs
@@ -31,7 +33,11 @@ enum-known-u c = search needs
 
 redirect-update-requires : tie.Need-redirect-update-requires
 redirect-update-requires c κs =
-    (said-yes (c .before .before .before .before .before .before .is-sound .ensures) (c .before .before .before .before .before .if2 .left), follows (c .before .before .u .given .1) (c .before .before .before .before .received .ensures))
+    let is-sound-ensures = (let p : tie.After-is-sound = search in p .is-sound .ensures) in
+    let if2-left = (let p : tie.Else2 = search in p .if2 .left) in
+    let received-ensures = (let p : tie.After-received = search in p .received .ensures) in
+    let u-given = (let p : tie.After-u = search in p .u .given) in
+    (said-yes is-sound-ensures if2-left, follows (u-given .1) received-ensures)
 
 enum-told : tie.Need-enum-told
 enum-told c = search needs
@@ -41,21 +47,31 @@ same-length-2 c = search needs
 
 returns-3 : tie.Need-returns-3
 returns-3 c =
-    transfer-refused _ (said-yes (c .before .before .before .before .before .is-sound .ensures) (c .before .before .before .before .if2 .left)) _ (c .before .f .given .1) (c .before .before .before .received .ensures)
+    let is-sound-ensures = (let p : tie.After-is-sound = search in p .is-sound .ensures) in
+    let if2-left = (let p : tie.Else2 = search in p .if2 .left) in
+    let received-ensures = (let p : tie.After-received = search in p .received .ensures) in
+    let f-given = (let p : tie.After-f = search in p .f .given) in
+    transfer-refused _ (said-yes is-sound-ensures if2-left) _ (f-given .1) received-ensures
 
 same-length-3 : tie.Need-same-length-3
 same-length-3 c = search needs
 
 returns-4 : tie.Need-returns-4
 returns-4 c =
-    update-told _ _ (c .before .before .before .before .before .u .given .1) (c .before .before .before .before .before .before .before .received .ensures) (c .before .before .redirect-update .ensures)
+    let received-ensures = (let p : tie.After-received = search in p .received .ensures) in
+    let u-given = (let p : tie.After-u = search in p .u .given) in
+    let redirect-update-ensures = (let p : tie.After-redirect-update = search in p .redirect-update .ensures) in
+    update-told _ _ (u-given .1) received-ensures redirect-update-ensures
 
 same-length-4 : tie.Need-same-length-4
 same-length-4 c = search needs
 
 returns-5 : tie.Need-returns-5
 returns-5 c =
-    layout-refused _ (said-yes (c .before .before .before .before .is-sound .ensures) (c .before .before .before .if2 .left)) _ (c .enum-told .given .1) (c .before .before .received .ensures)
+    let is-sound-ensures = (let p : tie.After-is-sound = search in p .is-sound .ensures) in
+    let if2-left = (let p : tie.Else2 = search in p .if2 .left) in
+    let received-ensures = (let p : tie.After-received = search in p .received .ensures) in
+    layout-refused _ (said-yes is-sound-ensures if2-left) _ (c .enum-told .given .1) received-ensures
 
 pub redirect-spec : {M : Type 1} → statement M
 redirect-spec =

@@ -7,26 +7,34 @@ use Rattle.release.proofs.let_go.Tie as tie
 
 slice-read-counter : tie.Need-slice-read-counter
 slice-read-counter c =
-    omega (arith, sewing _ (c .before .before .before .before .before .pre .0) (c .before .before .before .before .before .args .to) (c .before .before .before .before .before .pre .1 .serial) (c .before .before .before .before .before .pre .1 .departs) .size)
+    let start : tie.Start = search in
+    omega (arith, sewing _ (start .pre .0) (start .args .to) (start .pre .1 .serial) (start .pre .1 .departs) .size)
 
 add-counter : tie.Need-add-counter
 add-counter c =
-    omega (arith, c .before .before .before .before .before .pre .1 .departs .counter-fits)
+    let start : tie.Start = search in
+    omega (arith, start .pre .1 .departs .counter-fits)
 
 label-faces-requires : tie.Need-label-faces-requires
 label-faces-requires c κs =
-    (sewing _ (c .before .before .before .before .before .before .pre .0) (c .before .before .before .before .before .before .args .to) (c .before .before .before .before .before .before .pre .1 .serial) (c .before .before .before .before .before .before .pre .1 .departs), c .before .before .before .before .before .before .pre .1 .departs .survey .order, c .before .before .before .before .before .before .pre .1 .departs .to-block, labels-fit _ (c .before .before .before .before .before .before .pre .0) (c .before .before .before .before .before .before .args .to) (c .before .before .before .before .before .before .pre .1 .serial) (c .before .before .before .before .before .before .pre .1 .departs))
+    let start : tie.Start = search in
+    (sewing _ (start .pre .0) (start .args .to) (start .pre .1 .serial) (start .pre .1 .departs), start .pre .1 .departs .survey .order, start .pre .1 .departs .to-block, labels-fit _ (start .pre .0) (start .args .to) (start .pre .1 .serial) (start .pre .1 .departs))
 
 remove-requires : tie.Need-remove-requires
 remove-requires c κs =
-    ((bounded _ (c .before .before .before .before .before .before .before .before .before .before .pre .0) (c .before .before .before .before .before .before .before .before .before .before .args .to) (c .before .before .before .before .before .before .before .before .before .before .pre .1 .serial) (c .before .before .before .before .before .before .before .before .before .before .pre .1 .departs) (c .before .before .before .label-faces .ensures), c .before .before .before .before .before .before .before .before .before .before .pre .1 .departs .survey .volume-marked .size), rest-zero _ (c .before .before .before .before .before .before .before .before .before .before .pre .0) (c .before .before .before .before .before .before .before .before .before .before .args .to) (c .before .before .before .before .before .before .before .before .before .before .pre .1 .serial) (c .before .before .before .before .before .before .before .before .before .before .pre .1 .departs) (c .before .before .before .label-faces .ensures))
+    let start : tie.Start = search in
+    let label-faces-ensures = (let p : tie.After-label-faces = search in p .label-faces .ensures) in
+    ((bounded _ (start .pre .0) (start .args .to) (start .pre .1 .serial) (start .pre .1 .departs) label-faces-ensures, start .pre .1 .departs .survey .volume-marked .size), rest-zero _ (start .pre .0) (start .args .to) (start .pre .1 .serial) (start .pre .1 .departs) label-faces-ensures)
 
 same-length : tie.Need-same-length
 same-length c = search needs
 
 returns : tie.Need-returns
 returns c =
-    all-gone _ (c .before .before .before .before .before .before .before .before .before .before .before .before .before .pre .0) (c .before .before .before .before .before .before .before .before .before .before .before .before .before .args .to) (c .before .before .before .before .before .before .before .before .before .before .before .before .before .pre .1 .serial) (c .before .before .before .before .before .before .before .before .before .before .before .before .before .pre .1 .departs) (c .before .before .before .before .before .before .label-faces .ensures) (c .before .before .remove .ensures)
+    let start : tie.Start = search in
+    let label-faces-ensures = (let p : tie.After-label-faces = search in p .label-faces .ensures) in
+    let remove-ensures = (let p : tie.After-remove = search in p .remove .ensures) in
+    all-gone _ (start .pre .0) (start .args .to) (start .pre .1 .serial) (start .pre .1 .departs) label-faces-ensures remove-ensures
 
 pub let-go-spec : {M : Type 1} → statement M
 let-go-spec =

@@ -11,7 +11,8 @@ use Rattle.release.proofs.release.Tie as tie
 
 returns : tie.Need-returns
 returns c =
-    size-refused _ (c .before .before .args .to) (c .before .before .args .serial) (c .if1 .taken)
+    let start : tie.Start = search in
+    size-refused _ (start .args .to) (start .args .serial) (c .if1 .taken)
 
 is-sound-requires : tie.Need-is-sound-requires
 is-sound-requires c κs = search needs
@@ -21,7 +22,10 @@ same-length c = search needs
 
 returns-2 : tie.Need-returns-2
 returns-2 c =
-    image-refused _ (c .before .before .before .before .before .args .to) (c .before .before .before .before .before .args .serial) (c .before .before .before .if1 .left) (c .before .is-sound .ensures) (c .if2 .taken)
+    let start : tie.Start = search in
+    let if1-left = (let p : tie.Else1 = search in p .if1 .left) in
+    let is-sound-ensures = (let p : tie.After-is-sound = search in p .is-sound .ensures) in
+    image-refused _ (start .args .to) (start .args .serial) if1-left is-sound-ensures (c .if2 .taken)
 
 slice-aggregate-release-asked : tie.Need-slice-aggregate-release-asked
 slice-aggregate-release-asked c = search needs
@@ -46,7 +50,9 @@ slice-aggregate-release-asked-7 c = search needs
 
 release-asked-requires : tie.Need-release-asked-requires
 release-asked-requires c κs =
-    (said-yes (c .before .before .before .before .before .before .before .before .before .is-sound .ensures) (c .before .before .before .before .before .before .before .before .if2 .left), ((refl, length-replicate {A = ℕ} room 0, length-replicate {A = ℕ} room 0, refl), (refl, length-replicate {A = ℕ} room 0, refl)))
+    let is-sound-ensures = (let p : tie.After-is-sound = search in p .is-sound .ensures) in
+    let if2-left = (let p : tie.Else2 = search in p .if2 .left) in
+    (said-yes is-sound-ensures if2-left, ((refl, length-replicate {A = ℕ} room 0, length-replicate {A = ℕ} room 0, refl), (refl, length-replicate {A = ℕ} room 0, refl)))
 
 same-length-2 : tie.Need-same-length-2
 same-length-2 c = search needs

@@ -16,7 +16,11 @@ enum-known-counts c = search needs
 
 let-go-requires : tie.Need-let-go-requires
 let-go-requires c κs =
-    (c .before .before .before .before .before .before .before .before .before .before .before .before .before .before .before .before .before .before .before .before .before .before .before .before .before .before .before .before .before .before .before .before .before .before .before .before .before .before .pre .0, record { serial = c .before .before .before .before .before .before .before .before .before .before .before .before .before .before .before .before .before .before .before .before .before .before .before .before .before .before .before .before .before .before .before .before .before .before .before .before .before .before .args .serial; numbers = _; firsts = _; departs = departs-told (c .before .before .before .before .before .before .before .before .before .before .before .before .before .before .before .before .before .before .before .before .before .before .before .before .before .before .before .before .before .before .before .before .before .before .before .before .before .before .args .block .now) (c .before .before .before .before .before .before .before .before .before .before .before .before .before .before .before .before .before .before .before .before .before .before .before .before .before .before .before .before .before .before .before .before .before .before .before .before .before .before .args .to) (c .before .before .before .before .before .before .before .before .before .before .before .before .before .before .before .before .before .before .before .before .before .before .before .before .before .before .before .before .before .before .before .before .before .before .before .before .before .before .args .serial) _ _ _ _ _ (c .before .before .before .before .before .before .before .before .before .before .before .before .before .before .before .before .before .before .before .before .before .leaves .ensures .0) (c .before .before .before .before .before .counts .given .1) })
+    let counts-given = (let p : tie.After-counts = search in p .counts .given) in
+    let leaves-ensures = (let p : tie.After-leaves = search in p .leaves .ensures) in
+    let c : tie.After-leaves = search in
+    let start : tie.Start = search in
+    (start .pre .0, record { serial = start .args .serial; numbers = _; firsts = _; departs = departs-told (start .args .block .now) (start .args .to) (start .args .serial) _ _ _ _ _ (leaves-ensures .0) (counts-given .1) })
 
 same-length : tie.Need-same-length
 same-length c = search needs
@@ -44,7 +48,11 @@ same-length-8 c = search needs
 
 returns : tie.Need-returns
 returns c =
-    volume-refused (c .before .before .before .before .before .before .before .before .before .before .before .before .before .before .before .before .before .before .before .before .before .before .before .before .before .before .before .before .before .before .before .before .before .before .args .block .now) (c .before .before .before .before .before .before .before .before .before .before .before .before .before .before .before .before .before .before .before .before .before .before .before .before .before .before .before .before .before .before .before .before .before .before .args .to) (c .before .before .before .before .before .before .before .before .before .before .before .before .before .before .before .before .before .before .before .before .before .before .before .before .before .before .before .before .before .before .before .before .before .before .args .serial) (c .before .before .before .before .before .before .before .before .before .before .before .before .before .before .before .before .before .before .before .before .before .before .before .before .before .before .before .before .before .before .before .before .before .before .pre .0) (refused-told (c .before .before .before .before .before .before .before .before .before .before .before .before .before .before .before .before .before .before .before .before .before .before .before .before .before .before .before .before .before .before .before .before .before .before .args .block .now) (c .before .before .before .before .before .before .before .before .before .before .before .before .before .before .before .before .before .before .before .before .before .before .before .before .before .before .before .before .before .before .before .before .before .before .args .to) (c .before .before .before .before .before .before .before .before .before .before .before .before .before .before .before .before .before .before .before .before .before .before .before .before .before .before .before .before .before .before .before .before .before .before .args .serial) _ _ _ _ _ (c .before .before .before .before .before .before .before .before .before .before .before .before .before .before .before .before .before .leaves .ensures .0) (c .before .r .given .1))
+    let r-given = (let p : tie.After-r = search in p .r .given) in
+    let leaves-ensures = (let p : tie.After-leaves = search in p .leaves .ensures) in
+    let c : tie.After-leaves = search in
+    let start : tie.Start = search in
+    volume-refused (start .args .block .now) (start .args .to) (start .args .serial) (start .pre .0) (refused-told (start .args .block .now) (start .args .to) (start .args .serial) _ _ _ _ _ (leaves-ensures .0) (r-given .1))
 
 same-length-9 : tie.Need-same-length-9
 same-length-9 c = search needs
@@ -72,7 +80,13 @@ same-length-16 c = search needs
 
 returns-2 : tie.Need-returns-2
 returns-2 c =
-    volume-released (c .before .before .before .before .before .before .before .before .before .before .before .before .before .before .before .before .before .before .before .before .before .before .before .before .before .before .before .before .before .before .before .before .before .before .before .before .before .before .before .before .before .args .block .now) (c .before .before .before .before .before .before .before .before .before .before .before .before .before .before .before .before .before .before .before .before .before .before .before .before .before .before .before .before .before .before .before .before .before .before .before .before .before .before .before .before .before .args .to) (c .before .before .before .before .before .before .before .before .before .before .before .before .before .before .before .before .before .before .before .before .before .before .before .before .before .before .before .before .before .before .before .before .before .before .before .before .before .before .before .before .before .args .serial) (c .before .before .before .before .before .before .before .before .before .before .before .before .before .before .before .before .before .before .before .before .before .before .before .before .before .before .before .before .before .before .before .before .before .before .before .before .before .before .before .before .before .pre .0) (departs-told (c .before .before .before .before .before .before .before .before .before .before .before .before .before .before .before .before .before .before .before .before .before .before .before .before .before .before .before .before .before .before .before .before .before .before .before .before .before .before .before .before .before .args .block .now) (c .before .before .before .before .before .before .before .before .before .before .before .before .before .before .before .before .before .before .before .before .before .before .before .before .before .before .before .before .before .before .before .before .before .before .before .before .before .before .before .before .before .args .to) (c .before .before .before .before .before .before .before .before .before .before .before .before .before .before .before .before .before .before .before .before .before .before .before .before .before .before .before .before .before .before .before .before .before .before .before .before .before .before .before .before .before .args .serial) _ _ _ _ _ (c .before .before .before .before .before .before .before .before .before .before .before .before .before .before .before .before .before .before .before .before .before .before .before .before .leaves .ensures .0) (c .before .before .before .before .before .before .before .before .counts .given .1)) (c .before .before .let-go .ensures)
+    let let-go-ensures = (let p : tie.After-let-go = search in p .let-go .ensures) in
+    let counts-given = (let p : tie.After-counts = search in p .counts .given) in
+    let c : tie.After-counts = search in
+    let leaves-ensures = (let p : tie.After-leaves = search in p .leaves .ensures) in
+    let c : tie.After-leaves = search in
+    let start : tie.Start = search in
+    volume-released (start .args .block .now) (start .args .to) (start .args .serial) (start .pre .0) (departs-told (start .args .block .now) (start .args .to) (start .args .serial) _ _ _ _ _ (leaves-ensures .0) (counts-given .1)) let-go-ensures
 
 pub release-asked-spec : {M : Type 1} → statement M
 release-asked-spec =

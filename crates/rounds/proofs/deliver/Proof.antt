@@ -14,9 +14,11 @@ first-message-requires c κs = search needs
 
 slice-aggregate-receive-at : tie.Need-slice-aggregate-receive-at
 slice-aggregate-receive-at c =
-    let e = c .before .before .first-message .ensures in
-    let l = first-fits (c .before .before .before .before .before .args .sent .now) in
-    sym (length-take-le (c .before .before .first-message .result) (c .before .before .before .before .before .args .sent .now) (omega (arith, e, l)))
+    let start : tie.Start = search in
+    let first-message-result = (let p : tie.After-first-message = search in p .first-message .result) in
+    let e = (let p : tie.After-first-message = search in p .first-message .ensures) in
+    let l = first-fits (start .args .sent .now) in
+    sym (length-take-le first-message-result (start .args .sent .now) (omega (arith, e, l)))
 
 receive-at-requires : tie.Need-receive-at-requires
 receive-at-requires c κs = search needs
@@ -29,14 +31,16 @@ enum-told c = search needs
 
 sub-finish : tie.Need-sub-finish
 sub-finish c =
-    let e = c .before .before .before .before .before .before .before .before .first-message .ensures in
-    let l = first-fits (c .before .before .before .before .before .before .before .before .before .before .before .args .sent .now) in
+    let start : tie.Start = search in
+    let e = (let p : tie.After-first-message = search in p .first-message .ensures) in
+    let l = first-fits (start .args .sent .now) in
     omega (arith, e, l)
 
 part-finish-start : tie.Need-part-finish-start
 part-finish-start c =
-    let e = c .before .before .before .before .before .before .before .before .first-message .ensures in
-    let l = first-fits (c .before .before .before .before .before .before .before .before .before .before .before .args .sent .now) in
+    let start : tie.Start = search in
+    let e = (let p : tie.After-first-message = search in p .first-message .ensures) in
+    let l = first-fits (start .args .sent .now) in
     omega (arith, e, l)
 
 part-finish-end : tie.Need-part-finish-end
@@ -50,21 +54,41 @@ same-length c = search needs
 
 returns : tie.Need-returns
 returns c =
-    deliver-finished (c .before .before .before .before .before .before .before .before .before .before .before .before .before .before .before .before .args .mesh .now) (c .before .before .before .before .before .before .before .before .before .before .before .before .before .before .before .before .args .from) (c .before .before .before .before .before .before .before .before .before .before .before .before .before .before .before .before .args .to) (c .before .before .before .before .before .before .before .before .before .before .before .before .before .before .before .before .args .serial) (c .before .before .before .before .before .before .before .before .before .before .before .before .before .before .before .before .args .sent .now) (c .before .before .before .before .before .before .before .before .before .before .before .before .before .first-message .result) (c .before .before .before .before .before .before .before .before .before .before .before .before .before .first-message .ensures) (c .before .before .before .before .before .before .before .before .before .before .receive-at .result) (c .before .before .before .before .before .before .before .before .before .before .receive-at .ensures) (c .before .before .before .before .before .before .enum-told .given .1) (c .before .before .before .finish .ensures) (c .if1 .taken)
+    let start : tie.Start = search in
+    let first-message-ensures = (let p : tie.After-first-message = search in p .first-message .ensures) in
+    let first-message-result = (let p : tie.After-first-message = search in p .first-message .result) in
+    let receive-at-ensures = (let p : tie.After-receive-at = search in p .receive-at .ensures) in
+    let receive-at-result = (let p : tie.After-receive-at = search in p .receive-at .result) in
+    let enum-told-given = (let p : tie.After-enum-told = search in p .enum-told .given) in
+    let finish-ensures = (let p : tie.After-finish = search in p .finish .ensures) in
+    deliver-finished (start .args .mesh .now) (start .args .from) (start .args .to) (start .args .serial) (start .args .sent .now) first-message-result first-message-ensures receive-at-result receive-at-ensures (enum-told-given .1) finish-ensures (c .if1 .taken)
 
 same-length-2 : tie.Need-same-length-2
 same-length-2 c = search needs
 
 returns-2 : tie.Need-returns-2
 returns-2 c =
-    deliver-refused (c .before .before .before .before .before .before .before .before .before .before .before .args .mesh .now) (c .before .before .before .before .before .before .before .before .before .before .before .args .from) (c .before .before .before .before .before .before .before .before .before .before .before .args .to) (c .before .before .before .before .before .before .before .before .before .before .before .args .serial) (c .before .before .before .before .before .before .before .before .before .before .before .args .sent .now) (c .before .before .before .before .before .before .before .before .first-message .result) (c .before .before .before .before .before .before .before .before .first-message .ensures) (c .before .before .before .before .before .receive-at .result) (c .before .before .before .before .before .receive-at .ensures) _ (c .before .r .given .1)
+    let start : tie.Start = search in
+    let first-message-ensures = (let p : tie.After-first-message = search in p .first-message .ensures) in
+    let first-message-result = (let p : tie.After-first-message = search in p .first-message .result) in
+    let receive-at-ensures = (let p : tie.After-receive-at = search in p .receive-at .ensures) in
+    let receive-at-result = (let p : tie.After-receive-at = search in p .receive-at .result) in
+    let r-given = (let p : tie.After-r = search in p .r .given) in
+    deliver-refused (start .args .mesh .now) (start .args .from) (start .args .to) (start .args .serial) (start .args .sent .now) first-message-result first-message-ensures receive-at-result receive-at-ensures _ (r-given .1)
 
 same-length-3 : tie.Need-same-length-3
 same-length-3 c = search needs
 
 returns-3 : tie.Need-returns-3
 returns-3 c =
-    deliver-unfinished (c .before .before .before .before .before .before .before .before .before .before .before .before .before .before .before .before .args .mesh .now) (c .before .before .before .before .before .before .before .before .before .before .before .before .before .before .before .before .args .from) (c .before .before .before .before .before .before .before .before .before .before .before .before .before .before .before .before .args .to) (c .before .before .before .before .before .before .before .before .before .before .before .before .before .before .before .before .args .serial) (c .before .before .before .before .before .before .before .before .before .before .before .before .before .before .before .before .args .sent .now) (c .before .before .before .before .before .before .before .before .before .before .before .before .before .first-message .result) (c .before .before .before .before .before .before .before .before .before .before .before .before .before .first-message .ensures) (c .before .before .before .before .before .before .before .before .before .before .receive-at .result) (c .before .before .before .before .before .before .before .before .before .before .receive-at .ensures) (c .before .before .before .before .before .before .enum-told .given .1) (c .before .before .before .finish .ensures) (c .if1 .left)
+    let start : tie.Start = search in
+    let first-message-ensures = (let p : tie.After-first-message = search in p .first-message .ensures) in
+    let first-message-result = (let p : tie.After-first-message = search in p .first-message .result) in
+    let receive-at-ensures = (let p : tie.After-receive-at = search in p .receive-at .ensures) in
+    let receive-at-result = (let p : tie.After-receive-at = search in p .receive-at .result) in
+    let enum-told-given = (let p : tie.After-enum-told = search in p .enum-told .given) in
+    let finish-ensures = (let p : tie.After-finish = search in p .finish .ensures) in
+    deliver-unfinished (start .args .mesh .now) (start .args .from) (start .args .to) (start .args .serial) (start .args .sent .now) first-message-result first-message-ensures receive-at-result receive-at-ensures (enum-told-given .1) finish-ensures (c .if1 .left)
 
 pub deliver-spec : {M : Type 1} → statement M
 deliver-spec =

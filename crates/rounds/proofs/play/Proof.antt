@@ -9,7 +9,8 @@ use Rattle.rounds.proofs.play.Tie as tie
 
 returns : tie.Need-returns
 returns c =
-    nobody-here (c .before .before .before .args .mesh .now) (c .before .before .before .args .from) (c .before .before .before .args .to) (c .before .before .before .args .serial) (c .before .before .before .args .outbox .now) (c .if1 .taken)
+    let start : tie.Start = search in
+    nobody-here (start .args .mesh .now) (start .args .from) (start .args .to) (start .args .serial) (start .args .outbox .now) (c .if1 .taken)
 
 send-part-requires : tie.Need-send-part-requires
 send-part-requires c κs = search needs
@@ -22,11 +23,17 @@ enum-known-n c = search needs
 
 slice-reshare-prefix-deliver : tie.Need-slice-reshare-prefix-deliver
 slice-reshare-prefix-deliver c =
-    within-outbox _ (c .before .before .before .before .before .before .before .before .before .before .before .before .args .to) (c .before .before .before .before .before .before .before .before .before .before .before .before .args .serial) (c .before .before .before .before .before .before .before .before .before .before .before .before .args .outbox .now) (c .before .before .before .before .before .before .send-part .ensures) (c .before .before .n .given .1)
+    let start : tie.Start = search in
+    let send-part-ensures = (let p : tie.After-send-part = search in p .send-part .ensures) in
+    let n-given = (let p : tie.After-n = search in p .n .given) in
+    within-outbox _ (start .args .to) (start .args .serial) (start .args .outbox .now) send-part-ensures (n-given .1)
 
 slice-aggregate-deliver : tie.Need-slice-aggregate-deliver
 slice-aggregate-deliver c =
-    sym (length-take-le _ _ (within-outbox _ (c .before .before .before .before .before .before .before .before .before .before .before .before .before .args .to) (c .before .before .before .before .before .before .before .before .before .before .before .before .before .args .serial) (c .before .before .before .before .before .before .before .before .before .before .before .before .before .args .outbox .now) (c .before .before .before .before .before .before .before .send-part .ensures) (c .before .before .before .n .given .1)))
+    let start : tie.Start = search in
+    let send-part-ensures = (let p : tie.After-send-part = search in p .send-part .ensures) in
+    let n-given = (let p : tie.After-n = search in p .n .given) in
+    sym (length-take-le _ _ (within-outbox _ (start .args .to) (start .args .serial) (start .args .outbox .now) send-part-ensures (n-given .1)))
 
 deliver-requires : tie.Need-deliver-requires
 deliver-requires c κs = search needs
@@ -39,7 +46,11 @@ same-length-2 c = search needs
 
 returns-2 : tie.Need-returns-2
 returns-2 c =
-    refused-by-send (c .before .before .before .before .before .before .before .before .before .before .before .args .mesh .now) (c .before .before .before .before .before .before .before .before .before .before .before .args .from) (c .before .before .before .before .before .before .before .before .before .before .before .args .to) (c .before .before .before .before .before .before .before .before .before .before .before .args .serial) (c .before .before .before .before .before .before .before .before .before .before .before .args .outbox .now) (c .before .before .before .before .before .before .before .before .if1 .left) _ (c .before .before .before .before .before .send-part .ensures) (c .before .r .given .1)
+    let start : tie.Start = search in
+    let if1-left = (let p : tie.Else1 = search in p .if1 .left) in
+    let send-part-ensures = (let p : tie.After-send-part = search in p .send-part .ensures) in
+    let r-given = (let p : tie.After-r = search in p .r .given) in
+    refused-by-send (start .args .mesh .now) (start .args .from) (start .args .to) (start .args .serial) (start .args .outbox .now) if1-left _ send-part-ensures (r-given .1)
 
 same-length-3 : tie.Need-same-length-3
 same-length-3 c = search needs
@@ -49,7 +60,12 @@ same-length-4 c = search needs
 
 returns-3 : tie.Need-returns-3
 returns-3 c =
-    was-played (c .before .before .before .before .before .before .before .before .before .before .before .before .before .before .before .before .args .mesh .now) (c .before .before .before .before .before .before .before .before .before .before .before .before .before .before .before .before .args .from) (c .before .before .before .before .before .before .before .before .before .before .before .before .before .before .before .before .args .to) (c .before .before .before .before .before .before .before .before .before .before .before .before .before .before .before .before .args .serial) (c .before .before .before .before .before .before .before .before .before .before .before .before .before .before .before .before .args .outbox .now) (c .before .before .before .before .before .before .before .before .before .before .before .before .before .if1 .left) _ _ (c .before .before .before .before .before .before .before .before .before .before .send-part .ensures) (c .before .before .before .before .before .before .n .given .1) (c .before .before .deliver .ensures)
+    let start : tie.Start = search in
+    let if1-left = (let p : tie.Else1 = search in p .if1 .left) in
+    let send-part-ensures = (let p : tie.After-send-part = search in p .send-part .ensures) in
+    let n-given = (let p : tie.After-n = search in p .n .given) in
+    let deliver-ensures = (let p : tie.After-deliver = search in p .deliver .ensures) in
+    was-played (start .args .mesh .now) (start .args .from) (start .args .to) (start .args .serial) (start .args .outbox .now) if1-left _ _ send-part-ensures (n-given .1) deliver-ensures
 
 pub play-spec : {M : Type 1} → statement M
 play-spec =

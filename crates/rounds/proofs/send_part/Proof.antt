@@ -32,7 +32,9 @@ same-length c = search needs
 
 returns : tie.Need-returns
 returns c =
-    sent-part (c .before .before .before .before .before .before .before .args .mesh .now) (c .before .before .before .before .before .before .before .args .b) _ refl (c .before .before .before .before .before .before .before .args .to) (c .before .before .before .before .before .before .before .args .serial) (c .before .before .before .before .before .before .before .args .outbox .now) (c .before .before .send .ensures)
+    let start : tie.Start = search in
+    let send-ensures = (let p : tie.After-send = search in p .send .ensures) in
+    sent-part (start .args .mesh .now) (start .args .b) _ refl (start .args .to) (start .args .serial) (start .args .outbox .now) send-ensures
 
 pub send-part-spec : {M : Type 1} → statement M
 send-part-spec =

@@ -16,26 +16,43 @@ is-sound-requires c κs = search needs
 
 returns-2 : tie.Need-returns-2
 returns-2 c =
-    refused-image _ _ (c .before .before .if1 .left) (said-no (c .before .is-sound .ensures) (c .if2 .taken))
+    let if1-left = (let p : tie.Else1 = search in p .if1 .left) in
+    let is-sound-ensures = (let p : tie.After-is-sound = search in p .is-sound .ensures) in
+    refused-image _ _ if1-left (said-no is-sound-ensures (c .if2 .taken))
 
 count-file-requires : tie.Need-count-file-requires
 count-file-requires c κs =
-    said-yes (c .before .is-sound .ensures) (c .if2 .left)
+    let is-sound-ensures = (let p : tie.After-is-sound = search in p .is-sound .ensures) in
+    said-yes is-sound-ensures (c .if2 .left)
 
 returns-3 : tie.Need-returns-3
 returns-3 c =
-    refused-output _ _ (c .before .before .before .before .if1 .left) (said-yes (c .before .before .before .is-sound .ensures) (c .before .before .if2 .left)) (c .before .count-file .ensures) (c .if3 .taken)
+    let if1-left = (let p : tie.Else1 = search in p .if1 .left) in
+    let is-sound-ensures = (let p : tie.After-is-sound = search in p .is-sound .ensures) in
+    let if2-left = (let p : tie.Else2 = search in p .if2 .left) in
+    let count-file-ensures = (let p : tie.After-count-file = search in p .count-file .ensures) in
+    refused-output _ _ if1-left (said-yes is-sound-ensures if2-left) count-file-ensures (c .if3 .taken)
 
 put-file-requires : tie.Need-put-file-requires
 put-file-requires c κs =
-    (said-yes (c .before .before .before .before .is-sound .ensures) (c .before .before .before .if2 .left), omega (arith, c .before .before .count-file .ensures, c .before .if3 .left))
+    let is-sound-ensures = (let p : tie.After-is-sound = search in p .is-sound .ensures) in
+    let if2-left = (let p : tie.Else2 = search in p .if2 .left) in
+    let count-file-ensures = (let p : tie.After-count-file = search in p .count-file .ensures) in
+    let if3-left = (let p : tie.Else3 = search in p .if3 .left) in
+    (said-yes is-sound-ensures if2-left, omega (arith, count-file-ensures, if3-left))
 
 same-length : tie.Need-same-length
 same-length c = search needs
 
 returns-4 : tie.Need-returns-4
 returns-4 c =
-    served-file _ _ (c .before .before .before .before .before .before .before .before .if1 .left) (said-yes (c .before .before .before .before .before .before .before .is-sound .ensures) (c .before .before .before .before .before .before .if2 .left)) (c .before .before .before .before .before .count-file .ensures) (c .before .before .before .before .if3 .left) (c .before .before .put-file .ensures)
+    let if1-left = (let p : tie.Else1 = search in p .if1 .left) in
+    let is-sound-ensures = (let p : tie.After-is-sound = search in p .is-sound .ensures) in
+    let if2-left = (let p : tie.Else2 = search in p .if2 .left) in
+    let count-file-ensures = (let p : tie.After-count-file = search in p .count-file .ensures) in
+    let if3-left = (let p : tie.Else3 = search in p .if3 .left) in
+    let put-file-ensures = (let p : tie.After-put-file = search in p .put-file .ensures) in
+    served-file _ _ if1-left (said-yes is-sound-ensures if2-left) count-file-ensures if3-left put-file-ensures
 
 pub save-file-spec : {M : Type 1} → statement M
 save-file-spec =

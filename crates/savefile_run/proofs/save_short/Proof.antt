@@ -8,7 +8,9 @@ use Rattle.savefile_run.proofs.save_short.Statement.{statement}
 use Rattle.savefile_run.proofs.save_short.Tie as tie
 
 slice-aggregate-save : tie.Need-slice-aggregate-save
-slice-aggregate-save c = sym (length-take-le 32775 (c .before .before .before .before .args .block .now) (omega arith))
+slice-aggregate-save c =
+    let start : tie.Start = search in
+    sym (length-take-le 32775 (start .args .block .now) (omega arith))
 
 slice-aggregate-save-2 : tie.Need-slice-aggregate-save-2
 slice-aggregate-save-2 c = search needs

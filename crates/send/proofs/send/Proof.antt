@@ -14,7 +14,9 @@ is-sound-requires c κs = search needs
 
 returns-2 : tie.Need-returns-2
 returns-2 c =
-    refused-image _ _ _ _ (c .before .before .if1 .left) (said-no (c .before .is-sound .ensures) (c .if2 .taken))
+    let if1-left = (let p : tie.Else1 = search in p .if1 .left) in
+    let is-sound-ensures = (let p : tie.After-is-sound = search in p .is-sound .ensures) in
+    refused-image _ _ _ _ if1-left (said-no is-sound-ensures (c .if2 .taken))
 
 slice-aggregate-send-volume : tie.Need-slice-aggregate-send-volume
 slice-aggregate-send-volume c = search needs
@@ -45,14 +47,17 @@ slice-aggregate-send-volume-9 c = search needs
 
 send-volume-requires : tie.Need-send-volume-requires
 send-volume-requires c κs =
-    (said-yes (c .before .before .before .before .before .before .before .before .before .before .before .is-sound .ensures) (c .before .before .before .before .before .before .before .before .before .before .if2 .left), (search needs, (search needs, search needs)))
+    let is-sound-ensures = (let p : tie.After-is-sound = search in p .is-sound .ensures) in
+    let if2-left = (let p : tie.Else2 = search in p .if2 .left) in
+    (said-yes is-sound-ensures if2-left, (search needs, (search needs, search needs)))
 
 same-length : tie.Need-same-length
 same-length c = search needs
 
 returns-3 : tie.Need-returns-3
 returns-3 c =
-    c .before .before .before .before .before .before .before .before .before .before .before .send-volume .ensures
+    let send-volume-ensures = (let p : tie.After-send-volume = search in p .send-volume .ensures) in
+    send-volume-ensures
 
 pub send-spec : {M : Type 1} → statement M
 send-spec =

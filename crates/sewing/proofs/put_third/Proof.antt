@@ -16,7 +16,9 @@ same-length c = search needs
 
 returns : tie.Need-returns
 returns c =
-    rw (c .before .before .put-field2 .ensures, c .before .before .before .before .before .before .put-field .ensures) refl
+    let put-field-ensures = (let p : tie.After-put-field = search in p .put-field .ensures) in
+    let put-field2-ensures = (let p : tie.After-put-field2 = search in p .put-field2 .ensures) in
+    rw (put-field2-ensures, put-field-ensures) refl
 
 pub put-third-spec : {M : Type 1} → statement M
 put-third-spec = tie.close (tie.spec put-field-requires put-field-requires-2 same-length returns)

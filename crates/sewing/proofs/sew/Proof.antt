@@ -41,15 +41,22 @@ shared-slice-read-sew-at-2 c = search needs
 
 mul-sew-at-3 : tie.Need-mul-sew-at-3 Inv-loop μ-loop
 mul-sew-at-3 c =
-    let r = c .before .before .before .before .before .before .before .before .before .before .before .before .pre .6 .rank-below (c .before .before .before .before .before .loop .i) (omega arith) in let f = c .before .before .before .before .before .before .before .before .before .before .before .before .pre .6 .few in omega (arith, r, f)
+    let start : tie.Start Inv-loop μ-loop = search in
+    let loop-i = (let p : tie.At-loop Inv-loop μ-loop = search in p .loop .i) in
+    let r = start .pre .6 .rank-below loop-i (omega arith) in let f = start .pre .6 .few in omega (arith, r, f)
 
 shared-slice-read-sew-at-3 : tie.Need-shared-slice-read-sew-at-3 Inv-loop μ-loop
 shared-slice-read-sew-at-3 c =
-    let r = c .before .before .before .before .before .before .before .before .before .before .before .before .before .pre .6 .rank-below (c .before .before .before .before .before .before .loop .i) (omega arith) in let f = c .before .before .before .before .before .before .before .before .before .before .before .before .before .pre .6 .few in let n = c .before .before .before .before .before .before .before .before .before .before .before .before .before .pre .5 in omega (arith, r, f, n)
+    let start : tie.Start Inv-loop μ-loop = search in
+    let loop-i = (let p : tie.At-loop Inv-loop μ-loop = search in p .loop .i) in
+    let r = start .pre .6 .rank-below loop-i (omega arith) in let f = start .pre .6 .few in let n = start .pre .5 in omega (arith, r, f, n)
 
 sew-at-requires : tie.Need-sew-at-requires Inv-loop μ-loop
 sew-at-requires c κs =
-    (c .before .before .before .before .before .before .loop .inv .0 .size ∙ c .before .before .before .before .before .before .before .before .before .before .before .before .before .pre .0, c .before .before .before .before .before .before .before .before .before .before .before .before .before .pre .4, (let a = c .before .before .before .before .before .before .before .before .before .before .before .before .before .pre .6 .new-below (c .before .before .before .before .before .before .loop .i) (omega arith) in let f = c .before .before .before .before .before .before .before .before .before .before .before .before .before .pre .6 .fits in omega (arith, a, f)), (λ e. let a = c .before .before .before .before .before .before .before .before .before .before .before .before .before .pre .6 .link-below (c .before .before .before .before .before .before .loop .i) (omega arith) e in let f = c .before .before .before .before .before .before .before .before .before .before .before .before .before .pre .6 .fits in omega (arith, a, f)), (λ e. let a = c .before .before .before .before .before .before .before .before .before .before .before .before .before .pre .6 .old-below _ (c .before .before .before .before .before .before .before .before .before .before .before .before .before .pre .6 .link-below (c .before .before .before .before .before .before .loop .i) (omega arith) e) in let f = c .before .before .before .before .before .before .before .before .before .before .before .before .before .pre .6 .fits in omega (arith, a, f)))
+    let start : tie.Start Inv-loop μ-loop = search in
+    let loop-i = (let p : tie.At-loop Inv-loop μ-loop = search in p .loop .i) in
+    let loop-inv = (let p : tie.At-loop Inv-loop μ-loop = search in p .loop .inv) in
+    (loop-inv .0 .size ∙ start .pre .0, start .pre .4, (let a = start .pre .6 .new-below loop-i (omega arith) in let f = start .pre .6 .fits in omega (arith, a, f)), (λ e. let a = start .pre .6 .link-below loop-i (omega arith) e in let f = start .pre .6 .fits in omega (arith, a, f)), (λ e. let a = start .pre .6 .old-below _ (start .pre .6 .link-below loop-i (omega arith) e) in let f = start .pre .6 .fits in omega (arith, a, f)))
 
 add-i : tie.Need-add-i Inv-loop μ-loop
 add-i c = search needs
@@ -59,14 +66,18 @@ loop-less c = search needs
 
 loop-again : tie.Need-loop-again Inv-loop μ-loop
 loop-again c =
-    (sewn-more (c .before .before .before .before .before .before .before .before .before .before .before .before .before .before .before .before .pre .6) (c .before .before .before .before .before .before .before .before .before .loop .inv .0 .size ∙ c .before .before .before .before .before .before .before .before .before .before .before .before .before .before .before .before .pre .0) (c .before .before .before .before .before .before .before .before .before .loop .inv .0) (omega arith) (c .before .before .sew-at .ensures), omega arith)
+    let start : tie.Start Inv-loop μ-loop = search in
+    let loop-inv = (let p : tie.At-loop Inv-loop μ-loop = search in p .loop .inv) in
+    let sew-at-ensures = (let p : tie.After-sew-at Inv-loop μ-loop = search in p .sew-at .ensures) in
+    (sewn-more (start .pre .6) (loop-inv .0 .size ∙ start .pre .0) (loop-inv .0) (omega arith) sew-at-ensures, omega arith)
 
 same-length : tie.Need-same-length Inv-loop μ-loop
 same-length c = search needs
 
 returns : tie.Need-returns Inv-loop μ-loop
 returns c =
-    sewn-all (c .before .loop .inv .0) (omega (arith, c .before .loop .inv .1))
+    let loop-inv = (let p : tie.At-loop Inv-loop μ-loop = search in p .loop .inv) in
+    sewn-all (loop-inv .0) (omega (arith, loop-inv .1))
 
 pub sew-spec : {M : Type 1} → statement M
 sew-spec =

@@ -20,30 +20,43 @@ same-length c = search needs
 
 returns-2 : tie.Need-returns-2
 returns-2 c =
-    c .before .before .put-third .ensures ∙ at-critical _ _ _ _ _ (c .before .before .before .before .before .if1 .left) (c .before .before .before .before .if2 .taken)
+    let if1-left = (let p : tie.Else1 = search in p .if1 .left) in
+    let if2-taken = (let p : tie.Then2 = search in p .if2 .taken) in
+    let put-third-ensures = (let p : tie.After-put-third = search in p .put-third .ensures) in
+    put-third-ensures ∙ at-critical _ _ _ _ _ if1-left if2-taken
 
 mul-q : tie.Need-mul-q
 mul-q c =
-    let l = c .before .before .before .before .pre .3 (c .if2 .left) in omega (arith, l)
+    let start : tie.Start = search in
+    let l = start .pre .3 (c .if2 .left) in omega (arith, l)
 
 shared-slice-read-q : tie.Need-shared-slice-read-q
 shared-slice-read-q c =
-    let l = c .before .before .before .before .before .pre .3 (c .before .if2 .left) in let n = c .before .before .before .before .before .pre .1 in omega (arith, l, n)
+    let start : tie.Start = search in
+    let if2-left = (let p : tie.Else2 = search in p .if2 .left) in
+    let l = start .pre .3 if2-left in let n = start .pre .1 in omega (arith, l, n)
 
 put-third-requires-2 : tie.Need-put-third-requires-2
 put-third-requires-2 c κs =
-    (c .before .before .before .before .before .before .pre .2, c .before .before .before .before .before .before .pre .0)
+    let start : tie.Start = search in
+    (start .pre .2, start .pre .0)
 
 put-third-requires-3 : tie.Need-put-third-requires-3
 put-third-requires-3 c κs =
-    (c .before .before .before .before .before .before .before .before .before .before .pre .4 (c .before .before .before .before .before .before .if2 .left), ap length (c .before .before .before .put-third2 .ensures) ∙ third-length (c .before .before .before .before .before .before .before .before .before .before .args .block .now) (c .before .before .before .before .before .before .before .before .before .before .args .p) 1 (getD (c .before .before .before .before .before .before .before .before .before .before .args .old .now) (c .before .before .before .before .before .before .before .before .before .before .args .link) 0) ∙ c .before .before .before .before .before .before .before .before .before .before .pre .0)
+    let start : tie.Start = search in
+    let if2-left = (let p : tie.Else2 = search in p .if2 .left) in
+    let put-third2-ensures = (let p : tie.After-put-third2 = search in p .put-third2 .ensures) in
+    (start .pre .4 if2-left, ap length put-third2-ensures ∙ third-length (start .args .block .now) (start .args .p) 1 (getD (start .args .old .now) (start .args .link) 0) ∙ start .pre .0)
 
 same-length-2 : tie.Need-same-length-2
 same-length-2 c = search needs
 
 returns-3 : tie.Need-returns-3
 returns-3 c =
-    c .before .before .put-third3 .ensures ∙ rw (c .before .before .before .before .before .before .put-third2 .ensures) (at-sewn _ _ _ _ _ (c .before .before .before .before .before .before .before .before .before .if2 .left))
+    let if2-left = (let p : tie.Else2 = search in p .if2 .left) in
+    let put-third2-ensures = (let p : tie.After-put-third2 = search in p .put-third2 .ensures) in
+    let put-third3-ensures = (let p : tie.After-put-third3 = search in p .put-third3 .ensures) in
+    put-third3-ensures ∙ rw put-third2-ensures (at-sewn _ _ _ _ _ if2-left)
 
 pub sew-at-spec : {M : Type 1} → statement M
 sew-at-spec =

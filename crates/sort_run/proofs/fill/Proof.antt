@@ -36,7 +36,8 @@ loop-less c = search needs
 
 loop-again : tie.Need-loop-again Inv-loop μ-loop
 loop-again c =
-    simp length-set (c .before .before .loop .inv)
+    let loop-inv = (let p : tie.At-loop Inv-loop μ-loop = search in p .loop .inv) in
+    simp length-set loop-inv
 
 same-length : tie.Need-same-length Inv-loop μ-loop
 same-length c = search needs

@@ -29,14 +29,18 @@ shared-slice-read-counter c = search needs
 
 loop-holds : tie.Need-loop-holds Inv-loop μ-loop
 loop-holds c =
-    (passing-none _ _ _ _ (c .before .before .before .pre .2), refl, refl, refl)
+    let start : tie.Start Inv-loop μ-loop = search in
+    (passing-none _ _ _ _ (start .pre .2), refl, refl, refl)
 
 place-at-requires : tie.Need-place-at-requires Inv-loop μ-loop
 place-at-requires c κs = search needs
 
 returns : tie.Need-returns Inv-loop μ-loop
 returns c =
-    as-darts (test-no (c .before .before .before .loop .inv .0) (c .before .before .loop-test .taken) (place-no _ _ _ (c .before .place-at .ensures) (c .before .before .before .loop .inv .1) (not-true _ (c .if1 .taken))) refl)
+    let loop-inv = (let p : tie.At-loop Inv-loop μ-loop = search in p .loop .inv) in
+    let loop-test-taken = (let p : tie.In-loop Inv-loop μ-loop = search in p .loop-test .taken) in
+    let place-at-ensures = (let p : tie.After-place-at Inv-loop μ-loop = search in p .place-at .ensures) in
+    as-darts (test-no (loop-inv .0) loop-test-taken (place-no _ _ _ place-at-ensures (loop-inv .1) (not-true _ (c .if1 .taken))) refl)
 
 field-requires : tie.Need-field-requires Inv-loop μ-loop
 field-requires c κs = search needs
@@ -49,26 +53,51 @@ kind-right-requires c κs = search needs
 
 returns-2 : tie.Need-returns-2 Inv-loop μ-loop
 returns-2 c =
-    as-darts (test-no (c .before .before .before .before .before .before .before .loop .inv .0) (c .before .before .before .before .before .before .loop-test .taken) (kind-is _ _ _ (c .before .before .before .before .before .place-at .ensures) (c .before .before .before .before .before .before .before .loop .inv .1) (not-false _ (c .before .before .before .before .if1 .left)) (c .before .kind-right .ensures) (c .before .before .before .field .ensures) (c .before .before .field2 .ensures) (c .before .before .before .before .before .before .before .loop .inv .2) (c .before .before .before .before .before .before .before .loop .inv .3)) (not-true _ (c .if2 .taken)))
+    let loop-inv = (let p : tie.At-loop Inv-loop μ-loop = search in p .loop .inv) in
+    let loop-test-taken = (let p : tie.In-loop Inv-loop μ-loop = search in p .loop-test .taken) in
+    let place-at-ensures = (let p : tie.After-place-at Inv-loop μ-loop = search in p .place-at .ensures) in
+    let if1-left = (let p : tie.Else1 Inv-loop μ-loop = search in p .if1 .left) in
+    let field-ensures = (let p : tie.After-field Inv-loop μ-loop = search in p .field .ensures) in
+    let field2-ensures = (let p : tie.After-field2 Inv-loop μ-loop = search in p .field2 .ensures) in
+    let kind-right-ensures = (let p : tie.After-kind-right Inv-loop μ-loop = search in p .kind-right .ensures) in
+    as-darts (test-no (loop-inv .0) loop-test-taken (kind-is _ _ _ place-at-ensures (loop-inv .1) (not-false _ if1-left) kind-right-ensures field-ensures field2-ensures (loop-inv .2) (loop-inv .3)) (not-true _ (c .if2 .taken)))
 
 field-requires-3 : tie.Need-field-requires-3 Inv-loop μ-loop
 field-requires-3 c κs = search needs
 
 element-copy-out-if3 : tie.Need-element-copy-out-if3 Inv-loop μ-loop
 element-copy-out-if3 c =
-    let dart = kind-is _ _ _ (c .before .before .before .before .before .before .place-at .ensures) (c .before .before .before .before .before .before .before .before .loop .inv .1) (not-false _ (c .before .before .before .before .before .if1 .left)) (c .before .before .kind-right .ensures) (c .before .before .before .before .field .ensures) (c .before .before .before .field2 .ensures) (c .before .before .before .before .before .before .before .before .loop .inv .2) (c .before .before .before .before .before .before .before .before .loop .inv .3) in
-    let lt = next-below _ _ _ dart (not-false _ (c .before .if2 .left)) in
+    let loop-inv = (let p : tie.At-loop Inv-loop μ-loop = search in p .loop .inv) in
+    let place-at-ensures = (let p : tie.After-place-at Inv-loop μ-loop = search in p .place-at .ensures) in
+    let if1-left = (let p : tie.Else1 Inv-loop μ-loop = search in p .if1 .left) in
+    let field-ensures = (let p : tie.After-field Inv-loop μ-loop = search in p .field .ensures) in
+    let field2-ensures = (let p : tie.After-field2 Inv-loop μ-loop = search in p .field2 .ensures) in
+    let kind-right-ensures = (let p : tie.After-kind-right Inv-loop μ-loop = search in p .kind-right .ensures) in
+    let if2-left = (let p : tie.Else2 Inv-loop μ-loop = search in p .if2 .left) in
+    let dart = kind-is _ _ _ place-at-ensures (loop-inv .1) (not-false _ if1-left) kind-right-ensures field-ensures field2-ensures (loop-inv .2) (loop-inv .3) in
+    let lt = next-below _ _ _ dart (not-false _ if2-left) in
     omega (arith, lt, c .field3 .ensures)
 
 returns-3 : tie.Need-returns-3 Inv-loop μ-loop
 returns-3 c =
-    as-darts (mark-no (c .before .before .before .before .before .before .before .before .before .before .loop .inv .0) (c .before .before .before .before .before .before .before .before .before .loop-test .taken) (c .before .before .field3 .ensures) refl (c .if3 .taken))
+    let loop-inv = (let p : tie.At-loop Inv-loop μ-loop = search in p .loop .inv) in
+    let loop-test-taken = (let p : tie.In-loop Inv-loop μ-loop = search in p .loop-test .taken) in
+    let field3-ensures = (let p : tie.After-field3 Inv-loop μ-loop = search in p .field3 .ensures) in
+    as-darts (mark-no (loop-inv .0) loop-test-taken field3-ensures refl (c .if3 .taken))
 
 element-write-seen : tie.Need-element-write-seen Inv-loop μ-loop
 element-write-seen c =
-    let dart = kind-is _ _ _ (c .before .before .before .before .before .before .before .before .place-at .ensures) (c .before .before .before .before .before .before .before .before .before .before .loop .inv .1) (not-false _ (c .before .before .before .before .before .before .before .if1 .left)) (c .before .before .before .before .kind-right .ensures) (c .before .before .before .before .before .before .field .ensures) (c .before .before .before .before .before .field2 .ensures) (c .before .before .before .before .before .before .before .before .before .before .loop .inv .2) (c .before .before .before .before .before .before .before .before .before .before .loop .inv .3) in
-    let lt = next-below _ _ _ dart (not-false _ (c .before .before .before .if2 .left)) in
-    omega (arith, lt, c .before .before .field3 .ensures)
+    let loop-inv = (let p : tie.At-loop Inv-loop μ-loop = search in p .loop .inv) in
+    let place-at-ensures = (let p : tie.After-place-at Inv-loop μ-loop = search in p .place-at .ensures) in
+    let if1-left = (let p : tie.Else1 Inv-loop μ-loop = search in p .if1 .left) in
+    let field-ensures = (let p : tie.After-field Inv-loop μ-loop = search in p .field .ensures) in
+    let field2-ensures = (let p : tie.After-field2 Inv-loop μ-loop = search in p .field2 .ensures) in
+    let kind-right-ensures = (let p : tie.After-kind-right Inv-loop μ-loop = search in p .kind-right .ensures) in
+    let if2-left = (let p : tie.Else2 Inv-loop μ-loop = search in p .if2 .left) in
+    let field3-ensures = (let p : tie.After-field3 Inv-loop μ-loop = search in p .field3 .ensures) in
+    let dart = kind-is _ _ _ place-at-ensures (loop-inv .1) (not-false _ if1-left) kind-right-ensures field-ensures field2-ensures (loop-inv .2) (loop-inv .3) in
+    let lt = next-below _ _ _ dart (not-false _ if2-left) in
+    omega (arith, lt, field3-ensures)
 
 field-requires-4 : tie.Need-field-requires-4 Inv-loop μ-loop
 field-requires-4 c κs = search needs
@@ -81,13 +110,24 @@ loop-less c = search needs
 
 loop-again : tie.Need-loop-again Inv-loop μ-loop
 loop-again c =
-    let dart = kind-is _ _ _ (c .before .before .before .before .before .before .before .before .before .place-at .ensures) (c .before .before .before .before .before .before .before .before .before .before .before .loop .inv .1) (not-false _ (c .before .before .before .before .before .before .before .before .if1 .left)) (c .before .before .before .before .before .kind-right .ensures) (c .before .before .before .before .before .before .before .field .ensures) (c .before .before .before .before .before .before .field2 .ensures) (c .before .before .before .before .before .before .before .before .before .before .before .loop .inv .2) (c .before .before .before .before .before .before .before .before .before .before .before .loop .inv .3) in
-    let lt = next-below _ _ _ dart (not-false _ (c .before .before .before .before .if2 .left)) in
-    (passing-more (c .before .before .before .before .before .before .before .before .before .before .before .loop .inv .0) (c .before .before .before .before .before .before .before .before .before .before .loop-test .taken) dart (not-false _ (c .before .before .before .before .if2 .left)) (omega (arith, lt)) (c .before .before .before .field3 .ensures) (c .before .if3 .left), rw add-one (c .field4 .ensures), c .before .before .before .before .before .before .before .before .before .before .before .loop .inv .2, c .before .before .before .before .before .before .before .before .before .before .before .loop .inv .3)
+    let loop-inv = (let p : tie.At-loop Inv-loop μ-loop = search in p .loop .inv) in
+    let loop-test-taken = (let p : tie.In-loop Inv-loop μ-loop = search in p .loop-test .taken) in
+    let place-at-ensures = (let p : tie.After-place-at Inv-loop μ-loop = search in p .place-at .ensures) in
+    let if1-left = (let p : tie.Else1 Inv-loop μ-loop = search in p .if1 .left) in
+    let field-ensures = (let p : tie.After-field Inv-loop μ-loop = search in p .field .ensures) in
+    let field2-ensures = (let p : tie.After-field2 Inv-loop μ-loop = search in p .field2 .ensures) in
+    let kind-right-ensures = (let p : tie.After-kind-right Inv-loop μ-loop = search in p .kind-right .ensures) in
+    let if2-left = (let p : tie.Else2 Inv-loop μ-loop = search in p .if2 .left) in
+    let field3-ensures = (let p : tie.After-field3 Inv-loop μ-loop = search in p .field3 .ensures) in
+    let if3-left = (let p : tie.Else3 Inv-loop μ-loop = search in p .if3 .left) in
+    let dart = kind-is _ _ _ place-at-ensures (loop-inv .1) (not-false _ if1-left) kind-right-ensures field-ensures field2-ensures (loop-inv .2) (loop-inv .3) in
+    let lt = next-below _ _ _ dart (not-false _ if2-left) in
+    (passing-more (loop-inv .0) loop-test-taken dart (not-false _ if2-left) (omega (arith, lt)) field3-ensures if3-left, rw add-one (c .field4 .ensures), loop-inv .2, loop-inv .3)
 
 returns-4 : tie.Need-returns-4 Inv-loop μ-loop
 returns-4 c =
-    as-darts (passing-end (c .before .loop .inv .0) (c .loop-test .left))
+    let loop-inv = (let p : tie.At-loop Inv-loop μ-loop = search in p .loop .inv) in
+    as-darts (passing-end (loop-inv .0) (c .loop-test .left))
 
 pub darts-right-spec : {M : Type 1} → statement M
 darts-right-spec =

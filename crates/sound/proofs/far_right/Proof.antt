@@ -20,14 +20,18 @@ abbrev μ-loop : tie.MeasureT-loop
 
 loop-holds : tie.Need-loop-holds Inv-loop μ-loop
 loop-holds c =
-    (going-none _ _, gather-none _ _ _ (c .before .pre .3))
+    let start : tie.Start Inv-loop μ-loop = search in
+    (going-none _ _, gather-none _ _ _ (start .pre .3))
 
 far-at-requires : tie.Need-far-at-requires Inv-loop μ-loop
 far-at-requires c κs = search needs
 
 returns : tie.Need-returns Inv-loop μ-loop
 returns c =
-    (going-no (c .before .before .before .loop .inv .0) (c .before .before .loop-test .taken) (c .before .far-at .ensures) (not-true _ (c .if1 .taken)), ((λ e. absurd (false≢true e)), c .before .before .before .loop .inv .1 .len))
+    let loop-inv = (let p : tie.At-loop Inv-loop μ-loop = search in p .loop .inv) in
+    let loop-test-taken = (let p : tie.In-loop Inv-loop μ-loop = search in p .loop-test .taken) in
+    let far-at-ensures = (let p : tie.After-far-at Inv-loop μ-loop = search in p .far-at .ensures) in
+    (going-no (loop-inv .0) loop-test-taken far-at-ensures (not-true _ (c .if1 .taken)), ((λ e. absurd (false≢true e)), loop-inv .1 .len))
 
 put-label-requires : tie.Need-put-label-requires Inv-loop μ-loop
 put-label-requires c κs = search needs
@@ -40,12 +44,18 @@ loop-less c = search needs
 
 loop-again : tie.Need-loop-again Inv-loop μ-loop
 loop-again c =
-    (going-more (c .before .before .before .before .before .loop .inv .0) (c .before .before .before .before .loop-test .taken) (c .before .before .before .far-at .ensures) (not-false _ (c .before .before .if1 .left)), gather-more (c .before .before .before .before .before .loop .inv .1) (c .before .before .before .before .loop-test .taken) (c .before .before .before .before .before .before .before .pre .0) (c .put-label .ensures))
+    let start : tie.Start Inv-loop μ-loop = search in
+    let loop-inv = (let p : tie.At-loop Inv-loop μ-loop = search in p .loop .inv) in
+    let loop-test-taken = (let p : tie.In-loop Inv-loop μ-loop = search in p .loop-test .taken) in
+    let far-at-ensures = (let p : tie.After-far-at Inv-loop μ-loop = search in p .far-at .ensures) in
+    let if1-left = (let p : tie.Else1 Inv-loop μ-loop = search in p .if1 .left) in
+    (going-more (loop-inv .0) loop-test-taken far-at-ensures (not-false _ if1-left), gather-more (loop-inv .1) loop-test-taken (start .pre .0) (c .put-label .ensures))
 
 returns-2 : tie.Need-returns-2 Inv-loop μ-loop
 returns-2 c =
-    let e = gather-end (c .before .loop .inv .1) (c .loop-test .left) in
-    (going-end (c .before .loop .inv .0) (c .loop-test .left), ((λ _. (e .0, e .2)), e .1))
+    let loop-inv = (let p : tie.At-loop Inv-loop μ-loop = search in p .loop .inv) in
+    let e = gather-end (loop-inv .1) (c .loop-test .left) in
+    (going-end (loop-inv .0) (c .loop-test .left), ((λ _. (e .0, e .2)), e .1))
 
 pub far-right-spec : {M : Type 1} → statement M
 far-right-spec =

@@ -21,54 +21,87 @@ header-right-requires c κs =
 
 returns-2 : tie.Need-returns-2
 returns-2 c =
-    no-header _ (c .before .header-right .ensures) (not-true _ (c .if2 .taken))
+    let header-right-ensures = (let p : tie.After-header-right = search in p .header-right .ensures) in
+    no-header _ header-right-ensures (not-true _ (c .if2 .taken))
 
 shared-slice-read-n : tie.Need-shared-slice-read-n
 shared-slice-read-n c = search needs
 
 mul-zeros : tie.Need-mul-zeros
 mul-zeros c =
-    omega (arith, header-few _ (c .before .before .header-right .ensures) (not-false _ (c .before .if2 .left)))
+    let header-right-ensures = (let p : tie.After-header-right = search in p .header-right .ensures) in
+    let if2-left = (let p : tie.Else2 = search in p .if2 .left) in
+    omega (arith, header-few _ header-right-ensures (not-false _ if2-left))
 
 add-zeros : tie.Need-add-zeros
 add-zeros c =
-    omega (arith, header-few _ (c .before .before .header-right .ensures) (not-false _ (c .before .if2 .left)))
+    let header-right-ensures = (let p : tie.After-header-right = search in p .header-right .ensures) in
+    let if2-left = (let p : tie.Else2 = search in p .if2 .left) in
+    omega (arith, header-few _ header-right-ensures (not-false _ if2-left))
 
 zeros-requires : tie.Need-zeros-requires
 zeros-requires c κs =
-    omega (arith, header-few _ (c .before .before .header-right .ensures) (not-false _ (c .before .if2 .left)), c .before .before .before .if1 .left)
+    let if1-left = (let p : tie.Else1 = search in p .if1 .left) in
+    let header-right-ensures = (let p : tie.After-header-right = search in p .header-right .ensures) in
+    let if2-left = (let p : tie.Else2 = search in p .if2 .left) in
+    omega (arith, header-few _ header-right-ensures (not-false _ if2-left), if1-left)
 
 returns-3 : tie.Need-returns-3
 returns-3 c =
-    no-zeros _ (c .before .zeros .ensures) (not-true _ (c .if3 .taken))
+    let zeros-ensures = (let p : tie.After-zeros = search in p .zeros .ensures) in
+    no-zeros _ zeros-ensures (not-true _ (c .if3 .taken))
 
 darts-right-requires : tie.Need-darts-right-requires
 darts-right-requires c κs =
-    (header-few _ (c .before .before .before .before .before .header-right .ensures) (not-false _ (c .before .before .before .before .if2 .left)), c .before .before .before .before .before .before .if1 .left, refl)
+    let if1-left = (let p : tie.Else1 = search in p .if1 .left) in
+    let header-right-ensures = (let p : tie.After-header-right = search in p .header-right .ensures) in
+    let if2-left = (let p : tie.Else2 = search in p .if2 .left) in
+    (header-few _ header-right-ensures (not-false _ if2-left), if1-left, refl)
 
 returns-4 : tie.Need-returns-4
 returns-4 c =
-    no-darts _ (c .before .darts-right .ensures) (not-true _ (c .if4 .taken))
+    let darts-right-ensures = (let p : tie.After-darts-right = search in p .darts-right .ensures) in
+    no-darts _ darts-right-ensures (not-true _ (c .if4 .taken))
 
 far-right-requires : tie.Need-far-right-requires
 far-right-requires c κs =
-    (header-few _ (c .before .before .before .before .before .before .before .before .header-right .ensures) (not-false _ (c .before .before .before .before .before .before .before .if2 .left)), c .before .before .before .before .before .before .before .before .before .if1 .left, c .before .before .darts-right .ensures .0 (not-false _ (c .before .if4 .left)), length-replicate {A = ℕ} 4096 0)
+    let if1-left = (let p : tie.Else1 = search in p .if1 .left) in
+    let header-right-ensures = (let p : tie.After-header-right = search in p .header-right .ensures) in
+    let if2-left = (let p : tie.Else2 = search in p .if2 .left) in
+    let darts-right-ensures = (let p : tie.After-darts-right = search in p .darts-right .ensures) in
+    let if4-left = (let p : tie.Else4 = search in p .if4 .left) in
+    (header-few _ header-right-ensures (not-false _ if2-left), if1-left, darts-right-ensures .0 (not-false _ if4-left), length-replicate {A = ℕ} 4096 0)
 
 returns-5 : tie.Need-returns-5
 returns-5 c =
-    no-far _ (c .before .before .far-right .ensures .0) (not-true _ (c .if5 .taken))
+    let far-right-ensures = (let p : tie.After-far-right = search in p .far-right .ensures) in
+    no-far _ (far-right-ensures .0) (not-true _ (c .if5 .taken))
 
 slice-aggregate-apart : tie.Need-slice-aggregate-apart
 slice-aggregate-apart c = search needs
 
 apart-requires : tie.Need-apart-requires
 apart-requires c κs =
-    let k = c .before .before .before .far-right .ensures .1 in
-    (omega (arith, k .0 (not-false _ (c .before .if5 .left)) .0, header-few _ (c .before .before .before .before .before .before .before .before .before .before .before .before .header-right .ensures) (not-false _ (c .before .before .before .before .before .before .before .before .before .before .before .if2 .left))), k .1)
+    let header-right-ensures = (let p : tie.After-header-right = search in p .header-right .ensures) in
+    let if2-left = (let p : tie.Else2 = search in p .if2 .left) in
+    let far-right-ensures = (let p : tie.After-far-right = search in p .far-right .ensures) in
+    let if5-left = (let p : tie.Else5 = search in p .if5 .left) in
+    let k = far-right-ensures .1 in
+    (omega (arith, k .0 (not-false _ if5-left) .0, header-few _ header-right-ensures (not-false _ if2-left)), k .1)
 
 returns-6 : tie.Need-returns-6
 returns-6 c =
-    labels-last _ (c .before .before .before .before .before .before .before .before .before .before .before .before .before .before .before .if1 .left) (c .before .before .before .before .before .before .before .before .before .before .before .before .before .before .header-right .ensures) (not-false _ (c .before .before .before .before .before .before .before .before .before .before .before .before .before .if2 .left)) (c .before .before .before .before .before .before .before .before .before .before .before .zeros .ensures) (not-false _ (c .before .before .before .before .before .before .before .before .before .before .if3 .left)) (c .before .before .before .before .before .before .before .before .darts-right .ensures) (not-false _ (c .before .before .before .before .before .before .before .if4 .left)) (c .before .before .before .before .before .far-right .ensures .0) (not-false _ (c .before .before .before .if5 .left)) (c .before .apart .ensures ∙ ap distinct (c .before .before .before .before .before .far-right .ensures .1 .0 (not-false _ (c .before .before .before .if5 .left)) .1))
+    let if1-left = (let p : tie.Else1 = search in p .if1 .left) in
+    let header-right-ensures = (let p : tie.After-header-right = search in p .header-right .ensures) in
+    let if2-left = (let p : tie.Else2 = search in p .if2 .left) in
+    let zeros-ensures = (let p : tie.After-zeros = search in p .zeros .ensures) in
+    let if3-left = (let p : tie.Else3 = search in p .if3 .left) in
+    let darts-right-ensures = (let p : tie.After-darts-right = search in p .darts-right .ensures) in
+    let if4-left = (let p : tie.Else4 = search in p .if4 .left) in
+    let far-right-ensures = (let p : tie.After-far-right = search in p .far-right .ensures) in
+    let if5-left = (let p : tie.Else5 = search in p .if5 .left) in
+    let apart-ensures = (let p : tie.After-apart = search in p .apart .ensures) in
+    labels-last _ if1-left header-right-ensures (not-false _ if2-left) zeros-ensures (not-false _ if3-left) darts-right-ensures (not-false _ if4-left) (far-right-ensures .0) (not-false _ if5-left) (apart-ensures ∙ ap distinct (far-right-ensures .1 .0 (not-false _ if5-left) .1))
 
 pub is-sound-spec : {M : Type 1} → statement M
 is-sound-spec =

@@ -34,11 +34,13 @@ loop-less c = search needs
 
 loop-again : tie.Need-loop-again Inv-loop μ-loop
 loop-again c =
-    (omega arith, zeroing-more _ _ (c .before .before .loop .inv .1))
+    let loop-inv = (let p : tie.At-loop Inv-loop μ-loop = search in p .loop .inv) in
+    (omega arith, zeroing-more _ _ (loop-inv .1))
 
 returns : tie.Need-returns Inv-loop μ-loop
 returns c =
-    zeroing-end _ _ (c .before .loop .inv .1) (c .loop-test .left) (c .before .loop .inv .0)
+    let loop-inv = (let p : tie.At-loop Inv-loop μ-loop = search in p .loop .inv) in
+    zeroing-end _ _ (loop-inv .1) (c .loop-test .left) (loop-inv .0)
 
 pub zeros-spec : {M : Type 1} → statement M
 zeros-spec =

@@ -14,27 +14,43 @@ is-sound-requires c κs = search needs
 
 returns : tie.Need-returns
 returns c =
-    tally-unsound (c .before .before .before .args .block .now) (sym (c .before .is-sound .ensures) ∙ not-true _ (c .if1 .taken))
+    let start : tie.Start = search in
+    let is-sound-ensures = (let p : tie.After-is-sound = search in p .is-sound .ensures) in
+    tally-unsound (start .args .block .now) (sym is-sound-ensures ∙ not-true _ (c .if1 .taken))
 
 count-requires : tie.Need-count-requires
 count-requires c κs =
-    sym (c .before .is-sound .ensures) ∙ not-false _ (c .if1 .left)
+    let is-sound-ensures = (let p : tie.After-is-sound = search in p .is-sound .ensures) in
+    sym is-sound-ensures ∙ not-false _ (c .if1 .left)
 
 critical-faces-requires : tie.Need-critical-faces-requires
 critical-faces-requires c κs =
-    sym (c .before .before .is-sound .ensures) ∙ not-false _ (c .before .if1 .left)
+    let is-sound-ensures = (let p : tie.After-is-sound = search in p .is-sound .ensures) in
+    let if1-left = (let p : tie.Else1 = search in p .if1 .left) in
+    sym is-sound-ensures ∙ not-false _ if1-left
 
 shared-slice-read-t8 : tie.Need-shared-slice-read-t8
 shared-slice-read-t8 c =
-    omega (arith, sited rack (c .before .before .before .before .before .before .args .block .now) (sym (c .before .before .before .before .is-sound .ensures) ∙ not-false _ (c .before .before .before .if1 .left)) .linked .size)
+    let start : tie.Start = search in
+    let is-sound-ensures = (let p : tie.After-is-sound = search in p .is-sound .ensures) in
+    let if1-left = (let p : tie.Else1 = search in p .if1 .left) in
+    omega (arith, sited rack (start .args .block .now) (sym is-sound-ensures ∙ not-false _ if1-left) .linked .size)
 
 shared-slice-read-t12 : tie.Need-shared-slice-read-t12
 shared-slice-read-t12 c =
-    omega (arith, sited rack (c .before .before .before .before .before .before .before .args .block .now) (sym (c .before .before .before .before .before .is-sound .ensures) ∙ not-false _ (c .before .before .before .before .if1 .left)) .linked .size)
+    let start : tie.Start = search in
+    let is-sound-ensures = (let p : tie.After-is-sound = search in p .is-sound .ensures) in
+    let if1-left = (let p : tie.Else1 = search in p .if1 .left) in
+    omega (arith, sited rack (start .args .block .now) (sym is-sound-ensures ∙ not-false _ if1-left) .linked .size)
 
 returns-2 : tie.Need-returns-2
 returns-2 c =
-    tally-sound (c .before .before .before .before .before .before .before .args .block .now) (sym (c .before .before .before .before .before .is-sound .ensures) ∙ not-false _ (c .before .before .before .before .if1 .left)) (c .before .before .before .count .ensures .0) (c .before .before .critical-faces .ensures)
+    let start : tie.Start = search in
+    let is-sound-ensures = (let p : tie.After-is-sound = search in p .is-sound .ensures) in
+    let if1-left = (let p : tie.Else1 = search in p .if1 .left) in
+    let count-ensures = (let p : tie.After-count = search in p .count .ensures) in
+    let critical-faces-ensures = (let p : tie.After-critical-faces = search in p .critical-faces .ensures) in
+    tally-sound (start .args .block .now) (sym is-sound-ensures ∙ not-false _ if1-left) (count-ensures .0) critical-faces-ensures
 
 pub tally-spec : {M : Type 1} → statement M
 tally-spec =

@@ -14,14 +14,20 @@ slice-relend-prefix-change-on c = search needs
 
 slice-aggregate-change-on : tie.Need-slice-aggregate-change-on
 slice-aggregate-change-on c =
-    sym (length-take-le (c .before .before .before .short .result) (c .before .before .before .before .before .before .before .before .args .block .now) (c .before .before .if1 .taken))
+    let start : tie.Start = search in
+    let short-result = (let p : tie.After-short = search in p .short .result) in
+    let if1-taken = (let p : tie.Then1 = search in p .if1 .taken) in
+    sym (length-take-le short-result (start .args .block .now) if1-taken)
 
 slice-relend-prefix-change-on-2 : tie.Need-slice-relend-prefix-change-on-2
 slice-relend-prefix-change-on-2 c = search needs
 
 slice-aggregate-change-on-2 : tie.Need-slice-aggregate-change-on-2
 slice-aggregate-change-on-2 c =
-    sym (length-take-le (c .before .before .before .before .short .result) (c .before .before .before .before .before .before .before .before .before .args .told .now) (c .before .before .if2 .taken))
+    let start : tie.Start = search in
+    let short-result = (let p : tie.After-short = search in p .short .result) in
+    let if2-taken = (let p : tie.Then2 = search in p .if2 .taken) in
+    sym (length-take-le short-result (start .args .told .now) if2-taken)
 
 change-on-requires : tie.Need-change-on-requires
 change-on-requires c κs = search needs

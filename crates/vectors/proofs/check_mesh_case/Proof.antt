@@ -20,7 +20,10 @@ slice-relend-prefix-check-on c = search needs
 -- src/lib.rt:256:33
 slice-aggregate-check-on : tie.Need-slice-aggregate-check-on
 slice-aggregate-check-on c =
-    sym (length-take-le (c .before .before .short .result) (c .before .before .before .before .before .before .before .args .mesh .now) (c .before .if1 .taken))
+    let start : tie.Start = search in
+    let short-result = (let p : tie.After-short = search in p .short .result) in
+    let if1-taken = (let p : tie.Then1 = search in p .if1 .taken) in
+    sym (length-take-le short-result (start .args .mesh .now) if1-taken)
 
 -- src/lib.rt:256:9
 check-on-requires : tie.Need-check-on-requires

@@ -25,7 +25,10 @@ slice-relend-prefix-check-with c = search needs
 -- src/lib.rt:239:17
 slice-aggregate-check-with : tie.Need-slice-aggregate-check-with
 slice-aggregate-check-with c =
-    sym (length-take-le (c .before .before .before .before .short .result) (c .before .before .before .before .before .before .before .before .before .before .before .before .before .args .scratch .now) (c .before .before .before .if1 .taken))
+    let start : tie.Start = search in
+    let short-result = (let p : tie.After-short = search in p .short .result) in
+    let if1-taken = (let p : tie.Then1 = search in p .if1 .taken) in
+    sym (length-take-le short-result (start .args .scratch .now) if1-taken)
 
 -- src/lib.rt:240:17
 slice-relend-prefix-check-with-2 : tie.Need-slice-relend-prefix-check-with-2
@@ -34,7 +37,10 @@ slice-relend-prefix-check-with-2 c = search needs
 -- src/lib.rt:240:17
 slice-aggregate-check-with-2 : tie.Need-slice-aggregate-check-with-2
 slice-aggregate-check-with-2 c =
-    sym (length-take-le (c .before .before .before .before .before .short .result) (c .before .before .before .before .before .before .before .before .before .before .before .before .before .before .args .told .now) (c .before .before .before .if2 .taken))
+    let start : tie.Start = search in
+    let short-result = (let p : tie.After-short = search in p .short .result) in
+    let if2-taken = (let p : tie.Then2 = search in p .if2 .taken) in
+    sym (length-take-le short-result (start .args .told .now) if2-taken)
 
 -- src/lib.rt:235:13
 check-with-requires : tie.Need-check-with-requires

@@ -10,7 +10,8 @@ finite-word-requires c κs = search needs
 
 finite-float-requires : tie.Need-finite-float-requires
 finite-float-requires c κs =
-    sym (c .before .finite-word .ensures) ∙ c .if1 .taken
+    let finite-word-ensures = (let p : tie.After-finite-word = search in p .finite-word .ensures) in
+    sym finite-word-ensures ∙ c .if1 .taken
 
 returns : tie.Need-returns
 returns c = search needs

@@ -16,14 +16,20 @@ slice-relend-prefix-move-with c = search needs
 
 slice-aggregate-move-with : tie.Need-slice-aggregate-move-with
 slice-aggregate-move-with c =
-    sym (length-take-le (c .before .before .before .before .short .result) (c .before .before .before .before .before .before .before .before .before .before .before .before .before .args .scratch .now) (c .before .before .before .if1 .taken))
+    let start : tie.Start = search in
+    let short-result = (let p : tie.After-short = search in p .short .result) in
+    let if1-taken = (let p : tie.Then1 = search in p .if1 .taken) in
+    sym (length-take-le short-result (start .args .scratch .now) if1-taken)
 
 slice-relend-prefix-move-with-2 : tie.Need-slice-relend-prefix-move-with-2
 slice-relend-prefix-move-with-2 c = search needs
 
 slice-aggregate-move-with-2 : tie.Need-slice-aggregate-move-with-2
 slice-aggregate-move-with-2 c =
-    sym (length-take-le (c .before .before .before .before .before .short .result) (c .before .before .before .before .before .before .before .before .before .before .before .before .before .before .args .told .now) (c .before .before .before .if2 .taken))
+    let start : tie.Start = search in
+    let short-result = (let p : tie.After-short = search in p .short .result) in
+    let if2-taken = (let p : tie.Then2 = search in p .if2 .taken) in
+    sym (length-take-le short-result (start .args .told .now) if2-taken)
 
 move-with-requires : tie.Need-move-with-requires
 move-with-requires c κs = search needs

@@ -13,7 +13,10 @@ slice-relend-prefix-move-on c = search needs
 
 slice-aggregate-move-on : tie.Need-slice-aggregate-move-on
 slice-aggregate-move-on c =
-    sym (length-take-le (c .before .before .short .result) (c .before .before .before .before .before .before .before .args .mesh .now) (c .before .if1 .taken))
+    let start : tie.Start = search in
+    let short-result = (let p : tie.After-short = search in p .short .result) in
+    let if1-taken = (let p : tie.Then1 = search in p .if1 .taken) in
+    sym (length-take-le short-result (start .args .mesh .now) if1-taken)
 
 move-on-requires : tie.Need-move-on-requires
 move-on-requires c κs = search needs

@@ -14,7 +14,10 @@ slice-relend-prefix-write-from c = search needs
 
 slice-aggregate-write-from : tie.Need-slice-aggregate-write-from
 slice-aggregate-write-from c =
-    sym (length-take-le (c .before .before .short .result) (c .before .before .before .before .before .before .args .block .now) (c .before .if1 .taken))
+    let start : tie.Start = search in
+    let short-result = (let p : tie.After-short = search in p .short .result) in
+    let if1-taken = (let p : tie.Then1 = search in p .if1 .taken) in
+    sym (length-take-le short-result (start .args .block .now) if1-taken)
 
 write-from-requires : tie.Need-write-from-requires
 write-from-requires c κs = search needs

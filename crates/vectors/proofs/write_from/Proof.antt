@@ -29,7 +29,10 @@ slice-relend-prefix-write-on c = search needs
 
 slice-aggregate-write-on : tie.Need-slice-aggregate-write-on
 slice-aggregate-write-on c =
-    sym (length-take-le (c .before .before .before .short .result) (c .before .before .before .before .before .before .before .before .before .before .before .before .before .before .args .out .now) (c .before .before .if2 .taken))
+    let start : tie.Start = search in
+    let short-result = (let p : tie.After-short = search in p .short .result) in
+    let if2-taken = (let p : tie.Then2 = search in p .if2 .taken) in
+    sym (length-take-le short-result (start .args .out .now) if2-taken)
 
 write-on-requires : tie.Need-write-on-requires
 write-on-requires c κs = search needs

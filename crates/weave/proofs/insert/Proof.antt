@@ -40,7 +40,12 @@ same-length-3 c = search needs
 
 returns : tie.Need-returns
 returns c =
-    (all-woven (c .before .before .before .before .before .before .before .before .before .before .before .before .before .before .before .before .before .before .before .before .before .before .before .before .before .before .args .block .now) (c .before .before .before .before .before .before .before .before .before .before .before .before .before .before .before .before .before .before .before .before .before .before .before .before .before .before .args .draft .now) (getD (c .before .before .before .before .before .before .before .before .before .before .before .before .before .before .before .before .before .before .before .before .before .before .before .before .before .before .args .block .now) 2 0) (getD (c .before .before .before .before .before .before .before .before .before .before .before .before .before .before .before .before .before .before .before .before .before .before .before .before .before .before .args .draft .now) 2 0) (c .before .before .before .before .before .before .before .before .before .before .before .before .before .before .before .before .before .before .before .before .before .before .before .before .before .before .pre .0 .block .size) (c .before .before .before .before .before .before .merge .ensures) (c .before .before .write .ensures), ((c .before .before .before .before .before .before .before .before .before .before .before .before .before .before .tables .ensures .0, c .before .before .before .before .before .before .before .before .before .before .before .before .before .before .tables .ensures .1), (c .before .before .before .before .before .before .before .before .before .before .before .before .before .before .tables .ensures .2, c .before .before .before .before .before .before .before .before .before .before .before .before .before .before .tables .ensures .3)))
+    let write-ensures = (let p : tie.After-write = search in p .write .ensures) in
+    let merge-ensures = (let p : tie.After-merge = search in p .merge .ensures) in
+    let tables-ensures = (let p : tie.After-tables = search in p .tables .ensures) in
+    let c : tie.After-tables = search in
+    let start : tie.Start = search in
+    (all-woven (start .args .block .now) (start .args .draft .now) (getD (start .args .block .now) 2 0) (getD (start .args .draft .now) 2 0) (start .pre .0 .block .size) merge-ensures write-ensures, ((tables-ensures .0, tables-ensures .1), (tables-ensures .2, tables-ensures .3)))
 
 pub insert-spec : {M : Type 1} → statement M
 insert-spec =

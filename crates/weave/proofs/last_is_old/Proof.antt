@@ -10,7 +10,8 @@ returns c =
 
 returns-2 : tie.Need-returns-2
 returns-2 c =
-    last-none _ _ _ _ (c .before .if1 .left) (c .if2 .taken)
+    let if1-left = (let p : tie.Else1 = search in p .if1 .left) in
+    last-none _ _ _ _ if1-left (c .if2 .taken)
 
 sub-t7 : tie.Need-sub-t7
 sub-t7 c = search needs
@@ -26,7 +27,10 @@ field-requires-2 c κs = search needs
 
 returns-3 : tie.Need-returns-3
 returns-3 c =
-    last-both _ _ _ _ (c .before .before .before .if1 .left) (c .before .before .if2 .left) (c .before .field .ensures) (c .field2 .ensures)
+    let if1-left = (let p : tie.Else1 = search in p .if1 .left) in
+    let if2-left = (let p : tie.Else2 = search in p .if2 .left) in
+    let field-ensures = (let p : tie.After-field = search in p .field .ensures) in
+    last-both _ _ _ _ if1-left if2-left field-ensures (c .field2 .ensures)
 
 pub last-is-old-spec : {M : Type 1} → statement M
 last-is-old-spec =

@@ -22,68 +22,128 @@ loop-holds c =
 
 add-loop : tie.Need-add-loop Inv-loop μ-loop
 add-loop c =
-    omega (arith, c .loop .inv .i-le, c .loop .inv .j-le, c .before .before .before .before .before .pre .0 .0 .fits)
+    let start : tie.Start Inv-loop μ-loop = search in
+    omega (arith, c .loop .inv .i-le, c .loop .inv .j-le, start .pre .0 .0 .fits)
 
 add-t : tie.Need-add-t Inv-loop μ-loop
 add-t c =
-    omega (arith, c .before .loop .inv .i-le, c .before .loop .inv .j-le, c .before .before .before .before .before .before .pre .0 .0 .fits)
+    let start : tie.Start Inv-loop μ-loop = search in
+    let loop-inv = (let p : tie.At-loop Inv-loop μ-loop = search in p .loop .inv) in
+    omega (arith, loop-inv .i-le, loop-inv .j-le, start .pre .0 .0 .fits)
 
 sub-t : tie.Need-sub-t Inv-loop μ-loop
 sub-t c = search needs
 
 last-is-old-requires : tie.Need-last-is-old-requires Inv-loop μ-loop
 last-is-old-requires c κs =
-    (c .before .before .loop .inv .size ∙ c .before .before .before .before .before .before .before .pre .0 .0 .block .size, c .before .before .before .before .before .before .before .pre .0 .0 .draft .size, omega (arith, c .before .before .loop .inv .i-le, c .before .before .before .before .before .before .before .pre .0 .0 .block .few), omega (arith, c .before .before .loop .inv .j-le, c .before .before .before .before .before .before .before .pre .0 .0 .draft .few))
+    let start : tie.Start Inv-loop μ-loop = search in
+    let loop-inv = (let p : tie.At-loop Inv-loop μ-loop = search in p .loop .inv) in
+    (loop-inv .size ∙ start .pre .0 .0 .block .size, start .pre .0 .0 .draft .size, omega (arith, loop-inv .i-le, start .pre .0 .0 .block .few), omega (arith, loop-inv .j-le, start .pre .0 .0 .draft .few))
 
 sub-p : tie.Need-sub-p Inv-loop μ-loop
 sub-p c =
-    omega (arith, old-left (c .before .before .before .before .before .before .before .before .before .pre .0 .0) (c .before .before .before .before .loop .inv) (c .before .before .before .loop-test .taken) (c .before .last-is-old .ensures) (c .if1 .taken))
+    let start : tie.Start Inv-loop μ-loop = search in
+    let loop-inv = (let p : tie.At-loop Inv-loop μ-loop = search in p .loop .inv) in
+    let loop-test-taken = (let p : tie.In-loop Inv-loop μ-loop = search in p .loop-test .taken) in
+    let last-is-old-ensures = (let p : tie.After-last-is-old Inv-loop μ-loop = search in p .last-is-old .ensures) in
+    omega (arith, old-left (start .pre .0 .0) loop-inv loop-test-taken last-is-old-ensures (c .if1 .taken))
 
 record-at-requires : tie.Need-record-at-requires Inv-loop μ-loop
 record-at-requires c κs =
-    (omega (arith, c .before .before .before .before .before .loop .inv .i-le, c .before .before .before .before .before .before .before .before .before .before .pre .0 .0 .block .few, old-left (c .before .before .before .before .before .before .before .before .before .before .pre .0 .0) (c .before .before .before .before .before .loop .inv) (c .before .before .before .before .loop-test .taken) (c .before .before .last-is-old .ensures) (c .before .if1 .taken)), c .before .before .before .before .before .loop .inv .size ∙ c .before .before .before .before .before .before .before .before .before .before .pre .0 .0 .block .size)
+    let start : tie.Start Inv-loop μ-loop = search in
+    let loop-inv = (let p : tie.At-loop Inv-loop μ-loop = search in p .loop .inv) in
+    let loop-test-taken = (let p : tie.In-loop Inv-loop μ-loop = search in p .loop-test .taken) in
+    let last-is-old-ensures = (let p : tie.After-last-is-old Inv-loop μ-loop = search in p .last-is-old .ensures) in
+    let if1-taken = (let p : tie.Then1 Inv-loop μ-loop = search in p .if1 .taken) in
+    (omega (arith, loop-inv .i-le, start .pre .0 .0 .block .few, old-left (start .pre .0 .0) loop-inv loop-test-taken last-is-old-ensures if1-taken), loop-inv .size ∙ start .pre .0 .0 .block .size)
 
 put-moved-requires : tie.Need-put-moved-requires Inv-loop μ-loop
 put-moved-requires c κs =
-    let w = old-fits (c .before .before .before .before .before .before .before .before .before .before .before .before .pre .0 .0) (c .before .before .before .before .before .before .before .loop .inv) (c .before .before .before .before .before .before .loop-test .taken) (c .before .before .before .before .last-is-old .ensures) (c .before .before .before .if1 .taken) (c .before .record-at .ensures) in
-    (c .before .before .before .before .before .before .before .loop .inv .size ∙ c .before .before .before .before .before .before .before .before .before .before .before .before .pre .0 .0 .block .size, c .before .before .before .before .before .before .before .before .before .before .before .before .pre .0 .1, omega (arith, c .before .before .before .before .before .before .loop-test .taken, c .before .before .before .before .before .before .before .loop .inv .i-le, c .before .before .before .before .before .before .before .loop .inv .j-le, c .before .before .before .before .before .before .before .before .before .before .before .before .pre .0 .0 .fits), w .next, w .opposite, w .link)
+    let start : tie.Start Inv-loop μ-loop = search in
+    let loop-inv = (let p : tie.At-loop Inv-loop μ-loop = search in p .loop .inv) in
+    let loop-test-taken = (let p : tie.In-loop Inv-loop μ-loop = search in p .loop-test .taken) in
+    let last-is-old-ensures = (let p : tie.After-last-is-old Inv-loop μ-loop = search in p .last-is-old .ensures) in
+    let if1-taken = (let p : tie.Then1 Inv-loop μ-loop = search in p .if1 .taken) in
+    let record-at-ensures = (let p : tie.After-record-at Inv-loop μ-loop = search in p .record-at .ensures) in
+    let w = old-fits (start .pre .0 .0) loop-inv loop-test-taken last-is-old-ensures if1-taken record-at-ensures in
+    (loop-inv .size ∙ start .pre .0 .0 .block .size, start .pre .0 .1, omega (arith, loop-test-taken, loop-inv .i-le, loop-inv .j-le, start .pre .0 .0 .fits), w .next, w .opposite, w .link)
 
 loop-less : tie.Need-loop-less Inv-loop μ-loop
 loop-less c =
-    omega (arith, old-left (c .before .before .before .before .before .before .before .before .before .before .before .before .before .before .before .pre .0 .0) (c .before .before .before .before .before .before .before .before .before .before .loop .inv) (c .before .before .before .before .before .before .before .before .before .loop-test .taken) (c .before .before .before .before .before .before .before .last-is-old .ensures) (c .before .before .before .before .before .before .if1 .taken))
+    let start : tie.Start Inv-loop μ-loop = search in
+    let loop-inv = (let p : tie.At-loop Inv-loop μ-loop = search in p .loop .inv) in
+    let loop-test-taken = (let p : tie.In-loop Inv-loop μ-loop = search in p .loop-test .taken) in
+    let last-is-old-ensures = (let p : tie.After-last-is-old Inv-loop μ-loop = search in p .last-is-old .ensures) in
+    let if1-taken = (let p : tie.Then1 Inv-loop μ-loop = search in p .if1 .taken) in
+    omega (arith, old-left (start .pre .0 .0) loop-inv loop-test-taken last-is-old-ensures if1-taken)
 
 loop-again : tie.Need-loop-again Inv-loop μ-loop
 loop-again c =
-    old-turn (c .before .before .before .before .before .before .before .before .before .before .before .before .before .before .before .pre .0 .0) (c .before .before .before .before .before .before .before .before .before .before .loop .inv) (c .before .before .before .before .before .before .before .before .before .loop-test .taken) (c .before .before .before .before .before .before .before .last-is-old .ensures) (c .before .before .before .before .before .before .if1 .taken) (c .before .before .before .before .record-at .ensures) (c .before .before .before .before .before .before .before .before .before .before .before .before .before .before .before .args .old .now) (c .before .before .before .before .before .before .before .before .before .before .before .before .before .before .before .pre .1 .0) (c .before .before .put-moved .ensures)
+    let start : tie.Start Inv-loop μ-loop = search in
+    let loop-inv = (let p : tie.At-loop Inv-loop μ-loop = search in p .loop .inv) in
+    let loop-test-taken = (let p : tie.In-loop Inv-loop μ-loop = search in p .loop-test .taken) in
+    let last-is-old-ensures = (let p : tie.After-last-is-old Inv-loop μ-loop = search in p .last-is-old .ensures) in
+    let if1-taken = (let p : tie.Then1 Inv-loop μ-loop = search in p .if1 .taken) in
+    let record-at-ensures = (let p : tie.After-record-at Inv-loop μ-loop = search in p .record-at .ensures) in
+    let put-moved-ensures = (let p : tie.After-put-moved Inv-loop μ-loop = search in p .put-moved .ensures) in
+    old-turn (start .pre .0 .0) loop-inv loop-test-taken last-is-old-ensures if1-taken record-at-ensures (start .args .old .now) (start .pre .1 .0) put-moved-ensures
 
 sub-q : tie.Need-sub-q Inv-loop μ-loop
 sub-q c =
-    omega (arith, new-left (c .before .before .before .before .before .before .before .before .before .pre .0 .0) (c .before .before .before .before .loop .inv) (c .before .before .before .loop-test .taken) (c .before .last-is-old .ensures) (c .if1 .left))
+    let start : tie.Start Inv-loop μ-loop = search in
+    let loop-inv = (let p : tie.At-loop Inv-loop μ-loop = search in p .loop .inv) in
+    let loop-test-taken = (let p : tie.In-loop Inv-loop μ-loop = search in p .loop-test .taken) in
+    let last-is-old-ensures = (let p : tie.After-last-is-old Inv-loop μ-loop = search in p .last-is-old .ensures) in
+    omega (arith, new-left (start .pre .0 .0) loop-inv loop-test-taken last-is-old-ensures (c .if1 .left))
 
 record-at-requires-2 : tie.Need-record-at-requires-2 Inv-loop μ-loop
 record-at-requires-2 c κs =
-    (omega (arith, c .before .before .before .before .loop .inv .j-le, c .before .before .before .before .before .before .before .before .before .pre .0 .0 .draft .few, new-left (c .before .before .before .before .before .before .before .before .before .pre .0 .0) (c .before .before .before .before .loop .inv) (c .before .before .before .loop-test .taken) (c .before .last-is-old .ensures) (c .if1 .left)), c .before .before .before .before .before .before .before .before .before .pre .0 .0 .draft .size)
+    let start : tie.Start Inv-loop μ-loop = search in
+    let loop-inv = (let p : tie.At-loop Inv-loop μ-loop = search in p .loop .inv) in
+    let loop-test-taken = (let p : tie.In-loop Inv-loop μ-loop = search in p .loop-test .taken) in
+    let last-is-old-ensures = (let p : tie.After-last-is-old Inv-loop μ-loop = search in p .last-is-old .ensures) in
+    (omega (arith, loop-inv .j-le, start .pre .0 .0 .draft .few, new-left (start .pre .0 .0) loop-inv loop-test-taken last-is-old-ensures (c .if1 .left)), start .pre .0 .0 .draft .size)
 
 put-moved-requires-2 : tie.Need-put-moved-requires-2 Inv-loop μ-loop
 put-moved-requires-2 c κs =
-    let w = new-fits (c .before .before .before .before .before .before .before .before .before .before .before .pre .0 .0) (c .before .before .before .before .before .before .loop .inv) (c .before .before .before .before .before .loop-test .taken) (c .before .before .before .last-is-old .ensures) (c .before .before .if1 .left) (c .before .record-at2 .ensures) in
-    (c .before .before .before .before .before .before .loop .inv .size ∙ c .before .before .before .before .before .before .before .before .before .before .before .pre .0 .0 .block .size, c .before .before .before .before .before .before .before .before .before .before .before .pre .0 .2, omega (arith, c .before .before .before .before .before .loop-test .taken, c .before .before .before .before .before .before .loop .inv .i-le, c .before .before .before .before .before .before .loop .inv .j-le, c .before .before .before .before .before .before .before .before .before .before .before .pre .0 .0 .fits), w .next, w .opposite, w .link)
+    let start : tie.Start Inv-loop μ-loop = search in
+    let loop-inv = (let p : tie.At-loop Inv-loop μ-loop = search in p .loop .inv) in
+    let loop-test-taken = (let p : tie.In-loop Inv-loop μ-loop = search in p .loop-test .taken) in
+    let last-is-old-ensures = (let p : tie.After-last-is-old Inv-loop μ-loop = search in p .last-is-old .ensures) in
+    let if1-left = (let p : tie.Else1 Inv-loop μ-loop = search in p .if1 .left) in
+    let record-at2-ensures = (let p : tie.After-record-at2 Inv-loop μ-loop = search in p .record-at2 .ensures) in
+    let w = new-fits (start .pre .0 .0) loop-inv loop-test-taken last-is-old-ensures if1-left record-at2-ensures in
+    (loop-inv .size ∙ start .pre .0 .0 .block .size, start .pre .0 .2, omega (arith, loop-test-taken, loop-inv .i-le, loop-inv .j-le, start .pre .0 .0 .fits), w .next, w .opposite, w .link)
 
 loop-less-2 : tie.Need-loop-less-2 Inv-loop μ-loop
 loop-less-2 c =
-    omega (arith, new-left (c .before .before .before .before .before .before .before .before .before .before .before .before .before .before .pre .0 .0) (c .before .before .before .before .before .before .before .before .before .loop .inv) (c .before .before .before .before .before .before .before .before .loop-test .taken) (c .before .before .before .before .before .before .last-is-old .ensures) (c .before .before .before .before .before .if1 .left))
+    let start : tie.Start Inv-loop μ-loop = search in
+    let loop-inv = (let p : tie.At-loop Inv-loop μ-loop = search in p .loop .inv) in
+    let loop-test-taken = (let p : tie.In-loop Inv-loop μ-loop = search in p .loop-test .taken) in
+    let last-is-old-ensures = (let p : tie.After-last-is-old Inv-loop μ-loop = search in p .last-is-old .ensures) in
+    let if1-left = (let p : tie.Else1 Inv-loop μ-loop = search in p .if1 .left) in
+    omega (arith, new-left (start .pre .0 .0) loop-inv loop-test-taken last-is-old-ensures if1-left)
 
 loop-again-2 : tie.Need-loop-again-2 Inv-loop μ-loop
 loop-again-2 c =
-    new-turn (c .before .before .before .before .before .before .before .before .before .before .before .before .before .before .pre .0 .0) (c .before .before .before .before .before .before .before .before .before .loop .inv) (c .before .before .before .before .before .before .before .before .loop-test .taken) (c .before .before .before .before .before .before .last-is-old .ensures) (c .before .before .before .before .before .if1 .left) (c .before .before .before .before .record-at2 .ensures) (c .before .before .before .before .before .before .before .before .before .before .before .before .before .before .args .new .now) (c .before .before .before .before .before .before .before .before .before .before .before .before .before .before .pre .1 .1) (c .before .before .put-moved2 .ensures)
+    let start : tie.Start Inv-loop μ-loop = search in
+    let loop-inv = (let p : tie.At-loop Inv-loop μ-loop = search in p .loop .inv) in
+    let loop-test-taken = (let p : tie.In-loop Inv-loop μ-loop = search in p .loop-test .taken) in
+    let last-is-old-ensures = (let p : tie.After-last-is-old Inv-loop μ-loop = search in p .last-is-old .ensures) in
+    let if1-left = (let p : tie.Else1 Inv-loop μ-loop = search in p .if1 .left) in
+    let record-at2-ensures = (let p : tie.After-record-at2 Inv-loop μ-loop = search in p .record-at2 .ensures) in
+    let put-moved2-ensures = (let p : tie.After-put-moved2 Inv-loop μ-loop = search in p .put-moved2 .ensures) in
+    new-turn (start .pre .0 .0) loop-inv loop-test-taken last-is-old-ensures if1-left record-at2-ensures (start .args .new .now) (start .pre .1 .1) put-moved2-ensures
 
 same-length : tie.Need-same-length Inv-loop μ-loop
 same-length c =
-    c .before .loop .inv .size
+    let loop-inv = (let p : tie.At-loop Inv-loop μ-loop = search in p .loop .inv) in
+    loop-inv .size
 
 returns : tie.Need-returns Inv-loop μ-loop
 returns c =
-    weaving-end (c .before .loop .inv) (c .loop-test .left)
+    let loop-inv = (let p : tie.At-loop Inv-loop μ-loop = search in p .loop .inv) in
+    weaving-end loop-inv (c .loop-test .left)
 
 pub merge-spec : {M : Type 1} → statement M
 merge-spec =

@@ -21,7 +21,12 @@ same-length c = search needs
 
 returns : tie.Need-returns
 returns c =
-    stored-moved (c .before .before .before .before .before .before .before .before .before .args .block .now) (c .before .before .before .before .before .before .before .before .before .args .at) (c .before .before .before .before .before .before .before .before .before .args .r) (c .before .before .before .before .before .before .before .before .before .args .table .now) (c .before .before .before .before .before .before .moved .ensures) (c .before .before .before .before .before .moved2 .ensures) (c .before .before .before .before .moved-link .ensures) (c .before .before .put-record .ensures)
+    let start : tie.Start = search in
+    let moved-ensures = (let p : tie.After-moved = search in p .moved .ensures) in
+    let moved2-ensures = (let p : tie.After-moved2 = search in p .moved2 .ensures) in
+    let moved-link-ensures = (let p : tie.After-moved-link = search in p .moved-link .ensures) in
+    let put-record-ensures = (let p : tie.After-put-record = search in p .put-record .ensures) in
+    stored-moved (start .args .block .now) (start .args .at) (start .args .r) (start .args .table .now) moved-ensures moved2-ensures moved-link-ensures put-record-ensures
 
 pub put-moved-spec : {M : Type 1} → statement M
 put-moved-spec =

@@ -19,7 +19,8 @@ abbrev μ-loop : tie.MeasureT-loop
 
 loop-holds : tie.Need-loop-holds Inv-loop μ-loop
 loop-holds c =
-    placing-start (c .before .before .before .before .pre .1) (c .before .before .before .before .pre .2)
+    let start : tie.Start Inv-loop μ-loop = search in
+    placing-start (start .pre .1) (start .pre .2)
 
 add-loop : tie.Need-add-loop Inv-loop μ-loop
 add-loop c = search needs
@@ -35,7 +36,11 @@ last-is-old-requires c κs = search needs
 
 sub-p : tie.Need-sub-p Inv-loop μ-loop
 sub-p c =
-    omega (arith, last-yes (c .before .before .before .before .before .before .before .before .pre .0 .keys) (c .before .before .before .loop .inv .i-le) (c .before .before .before .loop .inv .j-le) (c .before .before .loop-test .taken) (sym (c .before .last-is-old .ensures) ∙ c .if1 .taken) .0)
+    let start : tie.Start Inv-loop μ-loop = search in
+    let loop-inv = (let p : tie.At-loop Inv-loop μ-loop = search in p .loop .inv) in
+    let loop-test-taken = (let p : tie.In-loop Inv-loop μ-loop = search in p .loop-test .taken) in
+    let last-is-old-ensures = (let p : tie.After-last-is-old Inv-loop μ-loop = search in p .last-is-old .ensures) in
+    omega (arith, last-yes (start .pre .0 .keys) (loop-inv .i-le) (loop-inv .j-le) loop-test-taken (sym last-is-old-ensures ∙ c .if1 .taken) .0)
 
 mul-old : tie.Need-mul-old Inv-loop μ-loop
 mul-old c = search needs
@@ -45,15 +50,26 @@ slice-write-old c = search needs
 
 loop-less : tie.Need-loop-less Inv-loop μ-loop
 loop-less c =
-    omega (arith, last-yes (c .before .before .before .before .before .before .before .before .pre .0 .keys) (c .before .before .before .loop .inv .i-le) (c .before .before .before .loop .inv .j-le) (c .before .before .loop-test .taken) (sym (c .before .last-is-old .ensures) ∙ c .if1 .taken) .0)
+    let start : tie.Start Inv-loop μ-loop = search in
+    let loop-inv = (let p : tie.At-loop Inv-loop μ-loop = search in p .loop .inv) in
+    let loop-test-taken = (let p : tie.In-loop Inv-loop μ-loop = search in p .loop-test .taken) in
+    let last-is-old-ensures = (let p : tie.After-last-is-old Inv-loop μ-loop = search in p .last-is-old .ensures) in
+    omega (arith, last-yes (start .pre .0 .keys) (loop-inv .i-le) (loop-inv .j-le) loop-test-taken (sym last-is-old-ensures ∙ c .if1 .taken) .0)
 
 loop-again : tie.Need-loop-again Inv-loop μ-loop
 loop-again c =
-    place-old (c .before .before .before .before .before .before .before .before .pre .0 .keys) (c .before .before .before .before .before .before .before .before .pre .0 .fits) (c .before .before .before .loop .inv) (c .before .before .loop-test .taken) (sym (c .before .last-is-old .ensures) ∙ c .if1 .taken)
+    let start : tie.Start Inv-loop μ-loop = search in
+    let loop-inv = (let p : tie.At-loop Inv-loop μ-loop = search in p .loop .inv) in
+    let loop-test-taken = (let p : tie.In-loop Inv-loop μ-loop = search in p .loop-test .taken) in
+    let last-is-old-ensures = (let p : tie.After-last-is-old Inv-loop μ-loop = search in p .last-is-old .ensures) in
+    place-old (start .pre .0 .keys) (start .pre .0 .fits) loop-inv loop-test-taken (sym last-is-old-ensures ∙ c .if1 .taken)
 
 sub-q : tie.Need-sub-q Inv-loop μ-loop
 sub-q c =
-    omega (arith, last-no (c .before .before .before .before .before .before .before .before .pre .0 .keys) (c .before .before .before .loop .inv .i-le) (c .before .before .before .loop .inv .j-le) (sym (c .before .last-is-old .ensures) ∙ c .if1 .left) .0)
+    let start : tie.Start Inv-loop μ-loop = search in
+    let loop-inv = (let p : tie.At-loop Inv-loop μ-loop = search in p .loop .inv) in
+    let last-is-old-ensures = (let p : tie.After-last-is-old Inv-loop μ-loop = search in p .last-is-old .ensures) in
+    omega (arith, last-no (start .pre .0 .keys) (loop-inv .i-le) (loop-inv .j-le) (sym last-is-old-ensures ∙ c .if1 .left) .0)
 
 mul-new : tie.Need-mul-new Inv-loop μ-loop
 mul-new c = search needs
@@ -63,11 +79,18 @@ slice-write-new c = search needs
 
 loop-less-2 : tie.Need-loop-less-2 Inv-loop μ-loop
 loop-less-2 c =
-    omega (arith, last-no (c .before .before .before .before .before .before .before .before .pre .0 .keys) (c .before .before .before .loop .inv .i-le) (c .before .before .before .loop .inv .j-le) (sym (c .before .last-is-old .ensures) ∙ c .if1 .left) .0)
+    let start : tie.Start Inv-loop μ-loop = search in
+    let loop-inv = (let p : tie.At-loop Inv-loop μ-loop = search in p .loop .inv) in
+    let last-is-old-ensures = (let p : tie.After-last-is-old Inv-loop μ-loop = search in p .last-is-old .ensures) in
+    omega (arith, last-no (start .pre .0 .keys) (loop-inv .i-le) (loop-inv .j-le) (sym last-is-old-ensures ∙ c .if1 .left) .0)
 
 loop-again-2 : tie.Need-loop-again-2 Inv-loop μ-loop
 loop-again-2 c =
-    place-new (c .before .before .before .before .before .before .before .before .pre .0 .keys) (c .before .before .before .before .before .before .before .before .pre .0 .fits) (c .before .before .before .loop .inv) (c .before .before .loop-test .taken) (sym (c .before .last-is-old .ensures) ∙ c .if1 .left)
+    let start : tie.Start Inv-loop μ-loop = search in
+    let loop-inv = (let p : tie.At-loop Inv-loop μ-loop = search in p .loop .inv) in
+    let loop-test-taken = (let p : tie.In-loop Inv-loop μ-loop = search in p .loop-test .taken) in
+    let last-is-old-ensures = (let p : tie.After-last-is-old Inv-loop μ-loop = search in p .last-is-old .ensures) in
+    place-new (start .pre .0 .keys) (start .pre .0 .fits) loop-inv loop-test-taken (sym last-is-old-ensures ∙ c .if1 .left)
 
 same-length : tie.Need-same-length Inv-loop μ-loop
 same-length c = search needs
@@ -77,7 +100,8 @@ same-length-2 c = search needs
 
 returns : tie.Need-returns Inv-loop μ-loop
 returns c =
-    placing-end (c .before .loop .inv) (c .loop-test .left)
+    let loop-inv = (let p : tie.At-loop Inv-loop μ-loop = search in p .loop .inv) in
+    placing-end loop-inv (c .loop-test .left)
 
 pub tables-spec : {M : Type 1} → statement M
 tables-spec =

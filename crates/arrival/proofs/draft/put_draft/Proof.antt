@@ -18,7 +18,8 @@ abbrev μ-loop : tie.MeasureT-loop
 
 loop-holds : tie.Need-loop-holds Inv-loop μ-loop
 loop-holds c =
-    drafting-none _ _ (c .before .before .before .before .before .before .before .before .pre .0 .6)
+    let start : tie.Start Inv-loop μ-loop = search in
+    drafting-none _ _ (start .pre .0 .6)
 
 record-of-requires : tie.Need-record-of-requires Inv-loop μ-loop
 record-of-requires c κs = search needs
@@ -34,7 +35,11 @@ loop-less c = search needs
 
 loop-again : tie.Need-loop-again Inv-loop μ-loop
 loop-again c =
-    drafting-more (c .before .before .before .before .before .before .loop .inv) (c .before .before .before .before .before .before .before .before .before .before .before .before .before .before .before .pre .1 .few) (omega arith) (c .before .before .before .before .record-of .ensures) (c .before .before .put-record .ensures)
+    let start : tie.Start Inv-loop μ-loop = search in
+    let loop-inv = (let p : tie.At-loop Inv-loop μ-loop = search in p .loop .inv) in
+    let record-of-ensures = (let p : tie.After-record-of Inv-loop μ-loop = search in p .record-of .ensures) in
+    let put-record-ensures = (let p : tie.After-put-record Inv-loop μ-loop = search in p .put-record .ensures) in
+    drafting-more loop-inv (start .pre .1 .few) (omega arith) record-of-ensures put-record-ensures
 
 set-count-requires : tie.Need-set-count-requires Inv-loop μ-loop
 set-count-requires c κs = search needs
@@ -44,7 +49,9 @@ same-length c = search needs
 
 returns : tie.Need-returns Inv-loop μ-loop
 returns c =
-    drafting-all (c .before .before .before .before .before .loop .inv) (omega arith) (c .before .before .set-count .ensures)
+    let loop-inv = (let p : tie.At-loop Inv-loop μ-loop = search in p .loop .inv) in
+    let set-count-ensures = (let p : tie.After-set-count Inv-loop μ-loop = search in p .set-count .ensures) in
+    drafting-all loop-inv (omega arith) set-count-ensures
 
 pub put-draft-spec : {M : Type 1} → statement M
 put-draft-spec =

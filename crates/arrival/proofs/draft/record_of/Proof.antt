@@ -9,17 +9,20 @@ use Rattle.arrival.proofs.draft.record_of.Tie as tie
 
 mul-i : tie.Need-mul-i
 mul-i c =
-    let f = c .before .before .before .before .before .before .before .pre .1 .few in omega (arith, f)
+    let start : tie.Start = search in
+    let f = start .pre .1 .few in omega (arith, f)
 
 shared-slice-read-i : tie.Need-shared-slice-read-i
 shared-slice-read-i c =
-    let f = c .before .before .before .before .before .before .before .before .pre .1 .few in omega (arith, f)
+    let start : tie.Start = search in
+    let f = start .pre .1 .few in omega (arith, f)
 
 next-index-requires : tie.Need-next-index-requires
 next-index-requires c κs =
-    let i = c .before .before .before .before .before .before .before .before .pre .1 .index-below (c .before .before .before .before .before .before .before .before .args .p) (c .before .before .before .before .before .before .before .before .pre .0 .6) in
-    let a = c .before .before .before .before .before .before .before .before .pre .1 .segs .start-le _ i in let e = c .before .before .before .before .before .before .before .before .pre .1 .segs .end-within _ i in let f = c .before .before .before .before .before .before .before .before .pre .1 .few in
-    (c .before .before .before .before .before .before .before .before .pre .0 .1, c .before .before .before .before .before .before .before .before .pre .0 .2, omega (arith, i, f), omega (arith, a, i, f), omega (arith, e, f))
+    let start : tie.Start = search in
+    let i = start .pre .1 .index-below (start .args .p) (start .pre .0 .6) in
+    let a = start .pre .1 .segs .start-le _ i in let e = start .pre .1 .segs .end-within _ i in let f = start .pre .1 .few in
+    (start .pre .0 .1, start .pre .0 .2, omega (arith, i, f), omega (arith, a, i, f), omega (arith, e, f))
 
 mul-other : tie.Need-mul-other
 mul-other c = search needs
@@ -35,81 +38,99 @@ shared-slice-read-point c = search needs
 
 mul-point-2 : tie.Need-mul-point-2
 mul-point-2 c =
-    let i = c .before .before .before .before .before .before .before .before .before .before .before .pre .1 .index-below (c .before .before .before .before .before .before .before .before .before .before .before .args .p) (c .before .before .before .before .before .before .before .before .before .before .before .pre .0 .6) in
-    let f = c .before .before .before .before .before .before .before .before .before .before .before .pre .1 .point-fits _ i in let g = c .before .before .before .before .before .before .before .before .before .before .before .pre .1 .few in
+    let start : tie.Start = search in
+    let i = start .pre .1 .index-below (start .args .p) (start .pre .0 .6) in
+    let f = start .pre .1 .point-fits _ i in let g = start .pre .1 .few in
     omega (arith, f)
 
 add-point : tie.Need-add-point
 add-point c =
-    let i = c .before .before .before .before .before .before .before .before .before .before .before .pre .1 .index-below (c .before .before .before .before .before .before .before .before .before .before .before .args .p) (c .before .before .before .before .before .before .before .before .before .before .before .pre .0 .6) in
-    let f = c .before .before .before .before .before .before .before .before .before .before .before .pre .1 .point-fits _ i in let g = c .before .before .before .before .before .before .before .before .before .before .before .pre .1 .few in
+    let start : tie.Start = search in
+    let i = start .pre .1 .index-below (start .args .p) (start .pre .0 .6) in
+    let f = start .pre .1 .point-fits _ i in let g = start .pre .1 .few in
     omega (arith, f)
 
 mul-t15 : tie.Need-mul-t15
 mul-t15 c =
-    let f = c .before .before .before .before .before .before .before .before .before .before .before .pre .1 .few in omega (arith, f)
+    let start : tie.Start = search in
+    let f = start .pre .1 .few in omega (arith, f)
 
 shared-slice-read-t17 : tie.Need-shared-slice-read-t17
 shared-slice-read-t17 c =
-    let f = c .before .before .before .before .before .before .before .before .before .before .before .before .pre .1 .few in omega (arith, f)
+    let start : tie.Start = search in
+    let f = start .pre .1 .few in omega (arith, f)
 
 mul-t20 : tie.Need-mul-t20
 mul-t20 c =
-    let i = c .before .before .before .before .before .before .before .before .before .before .before .before .pre .1 .index-below (c .before .before .before .before .before .before .before .before .before .before .before .before .args .p) (c .before .before .before .before .before .before .before .before .before .before .before .before .pre .0 .6) in
-    let n = next-below (c .before .before .before .before .before .before .before .before .before .before .before .before .pre .1 .segs) _ i in let f = c .before .before .before .before .before .before .before .before .before .before .before .before .pre .1 .few in
-    omega (arith, n, f, c .before .before .before .next-index .ensures)
+    let start : tie.Start = search in
+    let next-index-ensures = (let p : tie.After-next-index = search in p .next-index .ensures) in
+    let i = start .pre .1 .index-below (start .args .p) (start .pre .0 .6) in
+    let n = next-below (start .pre .1 .segs) _ i in let f = start .pre .1 .few in
+    omega (arith, n, f, next-index-ensures)
 
 shared-slice-read-t22 : tie.Need-shared-slice-read-t22
 shared-slice-read-t22 c =
-    let i = c .before .before .before .before .before .before .before .before .before .before .before .before .before .pre .1 .index-below (c .before .before .before .before .before .before .before .before .before .before .before .before .before .args .p) (c .before .before .before .before .before .before .before .before .before .before .before .before .before .pre .0 .6) in
-    let n = next-below (c .before .before .before .before .before .before .before .before .before .before .before .before .before .pre .1 .segs) _ i in let f = c .before .before .before .before .before .before .before .before .before .before .before .before .before .pre .1 .few in
-    omega (arith, n, f, c .before .before .before .before .next-index .ensures)
+    let start : tie.Start = search in
+    let next-index-ensures = (let p : tie.After-next-index = search in p .next-index .ensures) in
+    let i = start .pre .1 .index-below (start .args .p) (start .pre .0 .6) in
+    let n = next-below (start .pre .1 .segs) _ i in let f = start .pre .1 .few in
+    omega (arith, n, f, next-index-ensures)
 
 mul-t26 : tie.Need-mul-t26
 mul-t26 c =
-    let i = c .before .before .before .before .before .before .before .before .before .before .before .before .before .pre .1 .index-below (c .before .before .before .before .before .before .before .before .before .before .before .before .before .args .p) (c .before .before .before .before .before .before .before .before .before .before .before .before .before .pre .0 .6) in
-    let o = c .before .before .before .before .before .before .before .before .before .before .before .before .before .pre .1 .opposite-below _ i in let f = c .before .before .before .before .before .before .before .before .before .before .before .before .before .pre .1 .few in
+    let start : tie.Start = search in
+    let i = start .pre .1 .index-below (start .args .p) (start .pre .0 .6) in
+    let o = start .pre .1 .opposite-below _ i in let f = start .pre .1 .few in
     omega (arith, o, f)
 
 shared-slice-read-t28 : tie.Need-shared-slice-read-t28
 shared-slice-read-t28 c =
-    let i = c .before .before .before .before .before .before .before .before .before .before .before .before .before .before .pre .1 .index-below (c .before .before .before .before .before .before .before .before .before .before .before .before .before .before .args .p) (c .before .before .before .before .before .before .before .before .before .before .before .before .before .before .pre .0 .6) in
-    let o = c .before .before .before .before .before .before .before .before .before .before .before .before .before .before .pre .1 .opposite-below _ i in let f = c .before .before .before .before .before .before .before .before .before .before .before .before .before .before .pre .1 .few in
+    let start : tie.Start = search in
+    let i = start .pre .1 .index-below (start .args .p) (start .pre .0 .6) in
+    let o = start .pre .1 .opposite-below _ i in let f = start .pre .1 .few in
     omega (arith, o, f)
 
 word-at-requires : tie.Need-word-at-requires
 word-at-requires c κs =
-    let i = c .before .before .before .before .before .before .before .before .before .before .before .before .before .before .pre .1 .index-below (c .before .before .before .before .before .before .before .before .before .before .before .before .before .before .args .p) (c .before .before .before .before .before .before .before .before .before .before .before .before .before .before .pre .0 .6) in
-    let f = c .before .before .before .before .before .before .before .before .before .before .before .before .before .before .pre .1 .point-fits _ i in let g = c .before .before .before .before .before .before .before .before .before .before .before .before .before .before .pre .1 .few in
+    let start : tie.Start = search in
+    let i = start .pre .1 .index-below (start .args .p) (start .pre .0 .6) in
+    let f = start .pre .1 .point-fits _ i in let g = start .pre .1 .few in
     omega (arith, f)
 
 add-word-at : tie.Need-add-word-at
 add-word-at c =
-    let i = c .before .before .before .before .before .before .before .before .before .before .before .before .before .before .before .pre .1 .index-below (c .before .before .before .before .before .before .before .before .before .before .before .before .before .before .before .args .p) (c .before .before .before .before .before .before .before .before .before .before .before .before .before .before .before .pre .0 .6) in
-    let f = c .before .before .before .before .before .before .before .before .before .before .before .before .before .before .before .pre .1 .point-fits _ i in let g = c .before .before .before .before .before .before .before .before .before .before .before .before .before .before .before .pre .1 .few in
+    let start : tie.Start = search in
+    let i = start .pre .1 .index-below (start .args .p) (start .pre .0 .6) in
+    let f = start .pre .1 .point-fits _ i in let g = start .pre .1 .few in
     omega (arith, f)
 
 word-at-requires-2 : tie.Need-word-at-requires-2
 word-at-requires-2 c κs =
-    let i = c .before .before .before .before .before .before .before .before .before .before .before .before .before .before .before .pre .1 .index-below (c .before .before .before .before .before .before .before .before .before .before .before .before .before .before .before .args .p) (c .before .before .before .before .before .before .before .before .before .before .before .before .before .before .before .pre .0 .6) in
-    let f = c .before .before .before .before .before .before .before .before .before .before .before .before .before .before .before .pre .1 .point-fits _ i in let g = c .before .before .before .before .before .before .before .before .before .before .before .before .before .before .before .pre .1 .few in
+    let start : tie.Start = search in
+    let i = start .pre .1 .index-below (start .args .p) (start .pre .0 .6) in
+    let f = start .pre .1 .point-fits _ i in let g = start .pre .1 .few in
     omega (arith, f)
 
 add-word-at-2 : tie.Need-add-word-at-2
 add-word-at-2 c =
-    let i = c .before .before .before .before .before .before .before .before .before .before .before .before .before .before .before .before .pre .1 .index-below (c .before .before .before .before .before .before .before .before .before .before .before .before .before .before .before .before .args .p) (c .before .before .before .before .before .before .before .before .before .before .before .before .before .before .before .before .pre .0 .6) in
-    let f = c .before .before .before .before .before .before .before .before .before .before .before .before .before .before .before .before .pre .1 .point-fits _ i in let g = c .before .before .before .before .before .before .before .before .before .before .before .before .before .before .before .before .pre .1 .few in
+    let start : tie.Start = search in
+    let i = start .pre .1 .index-below (start .args .p) (start .pre .0 .6) in
+    let f = start .pre .1 .point-fits _ i in let g = start .pre .1 .few in
     omega (arith, f)
 
 word-at-requires-3 : tie.Need-word-at-requires-3
 word-at-requires-3 c κs =
-    let i = c .before .before .before .before .before .before .before .before .before .before .before .before .before .before .before .before .pre .1 .index-below (c .before .before .before .before .before .before .before .before .before .before .before .before .before .before .before .before .args .p) (c .before .before .before .before .before .before .before .before .before .before .before .before .before .before .before .before .pre .0 .6) in
-    let f = c .before .before .before .before .before .before .before .before .before .before .before .before .before .before .before .before .pre .1 .point-fits _ i in let g = c .before .before .before .before .before .before .before .before .before .before .before .before .before .before .before .before .pre .1 .few in
+    let start : tie.Start = search in
+    let i = start .pre .1 .index-below (start .args .p) (start .pre .0 .6) in
+    let f = start .pre .1 .point-fits _ i in let g = start .pre .1 .few in
     omega (arith, f)
 
 returns : tie.Need-returns
 returns c =
-    rw (c .before .before .before .before .before .before .before .before .next-index .ensures, c .before .before .word-at .ensures, c .before .word-at2 .ensures, c .word-at3 .ensures) refl
+    let next-index-ensures = (let p : tie.After-next-index = search in p .next-index .ensures) in
+    let word-at-ensures = (let p : tie.After-word-at = search in p .word-at .ensures) in
+    let word-at2-ensures = (let p : tie.After-word-at2 = search in p .word-at2 .ensures) in
+    rw (next-index-ensures, word-at-ensures, word-at2-ensures, c .word-at3 .ensures) refl
 
 pub record-of-spec : {M : Type 1} → statement M
 record-of-spec =

@@ -17,11 +17,16 @@ enum-told c = search needs
 
 returns : tie.Need-returns
 returns c =
-    absurd (word-there (c .before .before .before .before .args .message .now) (c .before .before .before .before .args .at) (c .before .before .before .before .pre) (sym (c .before .before .read-coordinate .ensures) ∙ c .enum-told .given .1))
+    let start : tie.Start = search in
+    let read-coordinate-ensures = (let p : tie.After-read-coordinate = search in p .read-coordinate .ensures) in
+    absurd (word-there (start .args .message .now) (start .args .at) (start .pre) (sym read-coordinate-ensures ∙ c .enum-told .given .1))
 
 returns-2 : tie.Need-returns-2
 returns-2 c =
-    word-value (c .before .before .before .before .before .args .message .now) (c .before .before .before .before .before .args .at) (c .before .before .before .before .before .pre) (sym (c .before .before .before .read-coordinate .ensures) ∙ c .before .w .given .1)
+    let start : tie.Start = search in
+    let read-coordinate-ensures = (let p : tie.After-read-coordinate = search in p .read-coordinate .ensures) in
+    let w-given = (let p : tie.After-w = search in p .w .given) in
+    word-value (start .args .message .now) (start .args .at) (start .pre) (sym read-coordinate-ensures ∙ w-given .1)
 
 pub word-at-spec : {M : Type 1} → statement M
 word-at-spec =

@@ -26,15 +26,18 @@ shared-slice-read-if1-2 c = search needs
 
 returns : tie.Need-returns
 returns c =
-    order-low (c .before .before .before .before .args .serial .now) (c .before .before .before .before .args .starts .now) (c .before .before .before .before .args .i) (omega arith)
+    let start : tie.Start = search in
+    order-low (start .args .serial .now) (start .args .starts .now) (start .args .i) (omega arith)
 
 returns-2 : tie.Need-returns-2
 returns-2 c =
-    order-inner (c .before .before .before .before .before .args .serial .now) (c .before .before .before .before .before .args .starts .now) (c .before .before .before .before .before .args .i) (omega arith) (c .if2 .taken)
+    let start : tie.Start = search in
+    order-inner (start .args .serial .now) (start .args .starts .now) (start .args .i) (omega arith) (c .if2 .taken)
 
 returns-3 : tie.Need-returns-3
 returns-3 c =
-    order-first (c .before .before .before .before .before .before .args .serial .now) (c .before .before .before .before .before .before .args .starts .now) (c .before .before .before .before .before .before .args .i) (omega arith) (c .if3 .taken)
+    let start : tie.Start = search in
+    order-first (start .args .serial .now) (start .args .starts .now) (start .args .i) (omega arith) (c .if3 .taken)
 
 sub-result : tie.Need-sub-result
 sub-result c = search needs
@@ -47,11 +50,13 @@ shared-slice-read-result c = search needs
 
 mul-result-2 : tie.Need-mul-result-2
 mul-result-2 c =
-    let r = c .before .before .before .before .before .before .before .pre .4 (omega arith) in omega arith
+    let start : tie.Start = search in
+    let r = start .pre .4 (omega arith) in omega arith
 
 shared-slice-read-result-2 : tie.Need-shared-slice-read-result-2
 shared-slice-read-result-2 c =
-    let r = c .before .before .before .before .before .before .before .before .pre .4 (omega arith) in omega arith
+    let start : tie.Start = search in
+    let r = start .pre .4 (omega arith) in omega arith
 
 mul-result-3 : tie.Need-mul-result-3
 mul-result-3 c = search needs
@@ -61,7 +66,9 @@ shared-slice-read-result-3 c = search needs
 
 returns-4 : tie.Need-returns-4
 returns-4 c =
-    order-start (c .before .before .before .before .before .before .before .before .before .args .serial .now) (c .before .before .before .before .before .before .before .before .before .args .starts .now) (c .before .before .before .before .before .before .before .before .before .args .i) (omega arith) (omega arith) (c .before .before .before .if3 .left)
+    let start : tie.Start = search in
+    let if3-left = (let p : tie.Else3 = search in p .if3 .left) in
+    order-start (start .args .serial .now) (start .args .starts .now) (start .args .i) (omega arith) (omega arith) if3-left
 
 pub order-at-spec : {M : Type 1} → statement M
 order-at-spec =

@@ -24,11 +24,16 @@ loop-holds c =
 
 order-at-requires : tie.Need-order-at-requires Inv-loop μ-loop
 order-at-requires c κs =
-    (c .before .before .before .before .pre .0, c .before .before .before .before .pre .1, omega arith, c .before .before .before .before .pre .3 (c .before .loop .i) (omega arith), (λ h. let r = c .before .before .before .before .pre .3 (c .before .loop .i - 1) (omega arith) in omega arith))
+    let start : tie.Start Inv-loop μ-loop = search in
+    let loop-i = (let p : tie.At-loop Inv-loop μ-loop = search in p .loop .i) in
+    (start .pre .0, start .pre .1, omega arith, start .pre .3 loop-i (omega arith), (λ h. let r = start .pre .3 (loop-i - 1) (omega arith) in omega arith))
 
 returns : tie.Need-returns Inv-loop μ-loop
 returns c =
-    passing-not (order-at (c .before .before .before .before .before .before .args .serial .now) (c .before .before .before .before .before .before .args .starts .now)) (c .before .before .before .loop .i) (c .before .before .before .before .before .before .args .k) (omega arith) (sym (c .before .order-at .ensures) ∙ not-true _ (c .if1 .taken))
+    let start : tie.Start Inv-loop μ-loop = search in
+    let loop-i = (let p : tie.At-loop Inv-loop μ-loop = search in p .loop .i) in
+    let order-at-ensures = (let p : tie.After-order-at Inv-loop μ-loop = search in p .order-at .ensures) in
+    passing-not (order-at (start .args .serial .now) (start .args .starts .now)) loop-i (start .args .k) (omega arith) (sym order-at-ensures ∙ not-true _ (c .if1 .taken))
 
 add-i : tie.Need-add-i Inv-loop μ-loop
 add-i c = search needs
@@ -38,11 +43,15 @@ loop-less c = search needs
 
 loop-again : tie.Need-loop-again Inv-loop μ-loop
 loop-again c =
-    passing-more (c .before .before .before .loop .inv) (sym (c .before .order-at .ensures) ∙ not-false _ (c .if1 .left))
+    let loop-inv = (let p : tie.At-loop Inv-loop μ-loop = search in p .loop .inv) in
+    let order-at-ensures = (let p : tie.After-order-at Inv-loop μ-loop = search in p .order-at .ensures) in
+    passing-more loop-inv (sym order-at-ensures ∙ not-false _ (c .if1 .left))
 
 returns-2 : tie.Need-returns-2 Inv-loop μ-loop
 returns-2 c =
-    passing-all {k = c .before .before .before .before .args .k} (c .before .loop .inv) (omega arith)
+    let start : tie.Start Inv-loop μ-loop = search in
+    let loop-inv = (let p : tie.At-loop Inv-loop μ-loop = search in p .loop .inv) in
+    passing-all {k = start .args .k} loop-inv (omega arith)
 
 pub ordered-spec : {M : Type 1} → statement M
 ordered-spec =

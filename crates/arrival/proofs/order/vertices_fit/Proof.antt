@@ -20,7 +20,8 @@ abbrev μ-loop : tie.MeasureT-loop
 
 returns : tie.Need-returns Inv-loop μ-loop
 returns c =
-    few-not (c .before .args .count) (c .before .args .k) _ (omega arith)
+    let start : tie.Start Inv-loop μ-loop = search in
+    few-not (start .args .count) (start .args .k) _ (omega arith)
 
 loop-holds : tie.Need-loop-holds Inv-loop μ-loop
 loop-holds c =
@@ -34,7 +35,9 @@ shared-slice-read-if2 c = search needs
 
 returns-2 : tie.Need-returns-2 Inv-loop μ-loop
 returns-2 c =
-    few-then (c .before .before .before .before .before .args .count) (c .before .before .before .before .before .args .k) _ (omega arith) (passing-not (λ j. ltb (getD (c .before .before .before .before .before .args .vertex .now) j 0) (c .before .before .before .before .before .args .count)) (c .before .before .before .loop .i) (c .before .before .before .before .before .args .k) (omega arith) (le-ltb (getD (c .before .before .before .before .before .args .vertex .now) (c .before .before .before .loop .i) 0) (c .before .before .before .before .before .args .count) (omega arith)))
+    let start : tie.Start Inv-loop μ-loop = search in
+    let loop-i = (let p : tie.At-loop Inv-loop μ-loop = search in p .loop .i) in
+    few-then (start .args .count) (start .args .k) _ (omega arith) (passing-not (λ j. ltb (getD (start .args .vertex .now) j 0) (start .args .count)) loop-i (start .args .k) (omega arith) (le-ltb (getD (start .args .vertex .now) loop-i 0) (start .args .count) (omega arith)))
 
 add-i : tie.Need-add-i Inv-loop μ-loop
 add-i c = search needs
@@ -44,11 +47,16 @@ loop-less c = search needs
 
 loop-again : tie.Need-loop-again Inv-loop μ-loop
 loop-again c =
-    passing-more (c .before .before .before .loop .inv) (lt-ltb (getD (c .before .before .before .before .before .args .vertex .now) (c .before .before .before .loop .i) 0) (c .before .before .before .before .before .args .count) (omega arith))
+    let start : tie.Start Inv-loop μ-loop = search in
+    let loop-i = (let p : tie.At-loop Inv-loop μ-loop = search in p .loop .i) in
+    let loop-inv = (let p : tie.At-loop Inv-loop μ-loop = search in p .loop .inv) in
+    passing-more loop-inv (lt-ltb (getD (start .args .vertex .now) loop-i 0) (start .args .count) (omega arith))
 
 returns-3 : tie.Need-returns-3 Inv-loop μ-loop
 returns-3 c =
-    few-then (c .before .before .before .args .count) (c .before .before .before .args .k) _ (omega arith) (passing-all {k = c .before .before .before .args .k} (c .before .loop .inv) (omega arith))
+    let start : tie.Start Inv-loop μ-loop = search in
+    let loop-inv = (let p : tie.At-loop Inv-loop μ-loop = search in p .loop .inv) in
+    few-then (start .args .count) (start .args .k) _ (omega arith) (passing-all {k = start .args .k} loop-inv (omega arith))
 
 pub vertices-fit-spec : {M : Type 1} → statement M
 vertices-fit-spec =

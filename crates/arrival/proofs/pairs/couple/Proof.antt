@@ -20,7 +20,8 @@ add-result-2 c = search needs
 
 returns : tie.Need-returns
 returns c =
-    couple-round (c .before .args .a) (c .before .args .c) (c .if1 .taken)
+    let start : tie.Start = search in
+    couple-round (start .args .a) (start .args .c) (c .if1 .taken)
 
 mul-result-3 : tie.Need-mul-result-3
 mul-result-3 c = search needs
@@ -33,7 +34,8 @@ mul-result-4 c = search needs
 
 returns-2 : tie.Need-returns-2
 returns-2 c =
-    couple-kept (c .before .args .a) (c .before .args .c) (omega (arith, c .if1 .left))
+    let start : tie.Start = search in
+    couple-kept (start .args .a) (start .args .c) (omega (arith, c .if1 .left))
 
 pub couple-spec : {M : Type 1} → statement M
 couple-spec =

@@ -26,11 +26,16 @@ add-if1 c = search needs
 
 same-length : tie.Need-same-length Inv-loop μ-loop
 same-length c =
-    c .before .before .loop .inv .len ∙ sym (c .before .before .before .pre .0 .2)
+    let start : tie.Start Inv-loop μ-loop = search in
+    let loop-inv = (let p : tie.At-loop Inv-loop μ-loop = search in p .loop .inv) in
+    loop-inv .len ∙ sym (start .pre .0 .2)
 
 returns : tie.Need-returns Inv-loop μ-loop
 returns c =
-    (coupling-not (c .before .before .before .pre .0 .3) (c .before .before .loop .inv) (c .before .loop-test .taken) (λ l. absurd (omega (arith, l, c .if1 .taken))), c .before .before .loop .inv .len)
+    let start : tie.Start Inv-loop μ-loop = search in
+    let loop-inv = (let p : tie.At-loop Inv-loop μ-loop = search in p .loop .inv) in
+    let loop-test-taken = (let p : tie.In-loop Inv-loop μ-loop = search in p .loop-test .taken) in
+    (coupling-not (start .pre .0 .3) loop-inv loop-test-taken (λ l. absurd (omega (arith, l, c .if1 .taken))), loop-inv .len)
 
 mul-a : tie.Need-mul-a Inv-loop μ-loop
 mul-a c = search needs
@@ -49,44 +54,59 @@ shared-slice-read-b c = search needs
 
 same-length-2 : tie.Need-same-length-2 Inv-loop μ-loop
 same-length-2 c =
-    c .before .before .before .before .before .loop .inv .len ∙ sym (c .before .before .before .before .before .before .pre .0 .2)
+    let start : tie.Start Inv-loop μ-loop = search in
+    let loop-inv = (let p : tie.At-loop Inv-loop μ-loop = search in p .loop .inv) in
+    loop-inv .len ∙ sym (start .pre .0 .2)
 
 returns-2 : tie.Need-returns-2 Inv-loop μ-loop
 returns-2 c =
-    (coupling-not (c .before .before .before .before .before .before .pre .0 .3) (c .before .before .before .before .before .loop .inv) (c .before .before .before .before .loop-test .taken) (λ l e. c .if2 .taken (omega (arith, e))), c .before .before .before .before .before .loop .inv .len)
+    let start : tie.Start Inv-loop μ-loop = search in
+    let loop-inv = (let p : tie.At-loop Inv-loop μ-loop = search in p .loop .inv) in
+    let loop-test-taken = (let p : tie.In-loop Inv-loop μ-loop = search in p .loop-test .taken) in
+    (coupling-not (start .pre .0 .3) loop-inv loop-test-taken (λ l e. c .if2 .taken (omega (arith, e))), loop-inv .len)
 
 mul-opposite : tie.Need-mul-opposite Inv-loop μ-loop
 mul-opposite c = search needs
 
 slice-write-opposite : tie.Need-slice-write-opposite Inv-loop μ-loop
 slice-write-opposite c =
-    omega (arith, c .before .before .before .before .before .loop .inv .len)
+    let loop-inv = (let p : tie.At-loop Inv-loop μ-loop = search in p .loop .inv) in
+    omega (arith, loop-inv .len)
 
 mul-opposite-2 : tie.Need-mul-opposite-2 Inv-loop μ-loop
 mul-opposite-2 c = search needs
 
 slice-write-opposite-2 : tie.Need-slice-write-opposite-2 Inv-loop μ-loop
 slice-write-opposite-2 c =
-    simp length-set (omega (arith, c .before .before .before .before .before .loop .inv .len))
+    let loop-inv = (let p : tie.At-loop Inv-loop μ-loop = search in p .loop .inv) in
+    simp length-set (omega (arith, loop-inv .len))
 
 add-r : tie.Need-add-r Inv-loop μ-loop
 add-r c = search needs
 
 loop-less : tie.Need-loop-less Inv-loop μ-loop
 loop-less c =
-    omega (arith, c .before .before .before .before .loop-test .taken)
+    let loop-test-taken = (let p : tie.In-loop Inv-loop μ-loop = search in p .loop-test .taken) in
+    omega (arith, loop-test-taken)
 
 loop-again : tie.Need-loop-again Inv-loop μ-loop
 loop-again c =
-    coupling-more (c .before .before .before .before .before .before .pre .0 .3) (c .before .before .before .before .before .loop .inv) (c .before .before .before .before .loop-test .taken) (omega (arith, c .before .before .before .before .loop-test .taken, c .before .before .before .if1 .left)) (c .before .before .before .before .before .before .pre .1) (omega (arith, c .if2 .left)) refl refl
+    let start : tie.Start Inv-loop μ-loop = search in
+    let loop-inv = (let p : tie.At-loop Inv-loop μ-loop = search in p .loop .inv) in
+    let loop-test-taken = (let p : tie.In-loop Inv-loop μ-loop = search in p .loop-test .taken) in
+    let if1-left = (let p : tie.Else1 Inv-loop μ-loop = search in p .if1 .left) in
+    coupling-more (start .pre .0 .3) loop-inv loop-test-taken (omega (arith, loop-test-taken, if1-left)) (start .pre .1) (omega (arith, c .if2 .left)) refl refl
 
 same-length-3 : tie.Need-same-length-3 Inv-loop μ-loop
 same-length-3 c =
-    c .before .loop .inv .len ∙ sym (c .before .before .pre .0 .2)
+    let start : tie.Start Inv-loop μ-loop = search in
+    let loop-inv = (let p : tie.At-loop Inv-loop μ-loop = search in p .loop .inv) in
+    loop-inv .len ∙ sym (start .pre .0 .2)
 
 returns-3 : tie.Need-returns-3 Inv-loop μ-loop
 returns-3 c =
-    (coupling-all (c .before .loop .inv) (c .loop-test .left), c .before .loop .inv .len)
+    let loop-inv = (let p : tie.At-loop Inv-loop μ-loop = search in p .loop .inv) in
+    (coupling-all loop-inv (c .loop-test .left), loop-inv .len)
 
 pub couples-spec : {M : Type 1} → statement M
 couples-spec =

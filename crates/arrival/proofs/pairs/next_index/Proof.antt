@@ -26,14 +26,16 @@ add-if1-2 c = search needs
 
 returns : tie.Need-returns
 returns c =
-    next-last (c .before .before .before .args .starts .now) (c .before .before .before .args .sizes .now) (c .before .before .before .args .i) (omega arith)
+    let start : tie.Start = search in
+    next-last (start .args .starts .now) (start .args .sizes .now) (start .args .i) (omega arith)
 
 add-result : tie.Need-add-result
 add-result c = search needs
 
 returns-2 : tie.Need-returns-2
 returns-2 c =
-    next-inner (c .before .before .before .args .starts .now) (c .before .before .before .args .sizes .now) (c .before .before .before .args .i) (λ e. c .if1 .left (omega (arith, e)))
+    let start : tie.Start = search in
+    next-inner (start .args .starts .now) (start .args .sizes .now) (start .args .i) (λ e. c .if1 .left (omega (arith, e)))
 
 pub next-index-spec : {M : Type 1} → statement M
 next-index-spec =

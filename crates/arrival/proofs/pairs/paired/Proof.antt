@@ -17,7 +17,9 @@ put-pairs-requires c κs = search needs
 
 returns : tie.Need-returns
 returns c =
-    (paired-ends (c .before .before .before .before .before .before .before .before .args .vertex .now) (c .before .before .before .before .before .before .before .before .args .starts .now) (c .before .before .before .before .before .before .before .before .args .sizes .now) (c .before .before .before .before .before .before .before .before .args .k) (sym (c .before .before .put-pairs .ensures .0) ∙ not-true _ (c .if1 .taken)), c .before .before .before .before .before .before .before .before .pre .0 .3)
+    let start : tie.Start = search in
+    let put-pairs-ensures = (let p : tie.After-put-pairs = search in p .put-pairs .ensures) in
+    (paired-ends (start .args .vertex .now) (start .args .starts .now) (start .args .sizes .now) (start .args .k) (sym (put-pairs-ensures .0) ∙ not-true _ (c .if1 .taken)), start .pre .0 .3)
 
 slice-aggregate-rank : tie.Need-slice-aggregate-rank
 slice-aggregate-rank c = search needs
@@ -33,26 +35,43 @@ slice-aggregate-rank-4 c = search needs
 
 rank-requires : tie.Need-rank-requires
 rank-requires c κs =
-    ((c .before .before .before .before .before .before .before .before .before .before .before .before .pre .0 .4, c .before .before .before .before .before .before .before .before .before .before .before .before .pre .0 .5, (let l = c .before .before .before .before .before .before .put-pairs .ensures .2 in let f = c .before .before .before .before .before .before .before .before .before .before .before .before .pre .0 .5 in omega (arith, l, f)), pair-fits (c .before .before .before .before .before .before .before .before .before .before .before .before .args .vertex .now) (c .before .before .before .before .before .before .before .before .before .before .before .before .args .starts .now) (c .before .before .before .before .before .before .before .before .before .before .before .before .args .sizes .now) (c .before .before .before .before .before .before .before .before .before .before .before .before .args .k) (c .before .before .before .before .before .before .before .before .before .before .before .before .pre .1 .0) (c .before .before .before .before .before .before .before .before .before .before .before .before .pre .1 .1) (c .before .before .before .before .before .before .put-pairs .last .1 .1 .1 .1 .0) (c .before .before .before .before .before .before .put-pairs .ensures .1)), search needs)
+    let start : tie.Start = search in
+    let put-pairs-ensures = (let p : tie.After-put-pairs = search in p .put-pairs .ensures) in
+    let put-pairs-last = (let p : tie.After-put-pairs = search in p .put-pairs .last) in
+    ((start .pre .0 .4, start .pre .0 .5, (let l = put-pairs-ensures .2 in let f = start .pre .0 .5 in omega (arith, l, f)), pair-fits (start .args .vertex .now) (start .args .starts .now) (start .args .sizes .now) (start .args .k) (start .pre .1 .0) (start .pre .1 .1) (put-pairs-last .1 .1 .1 .1 .0) (put-pairs-ensures .1)), search needs)
 
 returns-2 : tie.Need-returns-2
 returns-2 c =
-    (paired-twice (c .before .before .before .before .before .before .before .before .before .before .before .before .before .before .before .before .before .args .vertex .now) (c .before .before .before .before .before .before .before .before .before .before .before .before .before .before .before .before .before .args .starts .now) (c .before .before .before .before .before .before .before .before .before .before .before .before .before .before .before .before .before .args .sizes .now) (c .before .before .before .before .before .before .before .before .before .before .before .before .before .before .before .before .before .args .k) (c .before .before .before .before .before .before .before .before .before .before .before .before .before .before .before .before .before .pre .1 .0) (c .before .before .before .before .before .before .before .before .before .before .before .before .before .before .before .before .before .pre .1 .1) (c .before .before .before .before .before .before .before .before .before .before .before .put-pairs .last .1 .1 .1 .1 .0) (c .before .before .before .before .before .before .before .before .before .before .before .put-pairs .ensures .1) (sym (c .before .before .before .before .rank .ensures .0) ∙ not-true _ (c .if2 .taken)), c .before .before .before .before .before .before .before .before .before .before .before .before .before .before .before .before .before .pre .0 .3)
+    let start : tie.Start = search in
+    let put-pairs-ensures = (let p : tie.After-put-pairs = search in p .put-pairs .ensures) in
+    let put-pairs-last = (let p : tie.After-put-pairs = search in p .put-pairs .last) in
+    let rank-ensures = (let p : tie.After-rank = search in p .rank .ensures) in
+    (paired-twice (start .args .vertex .now) (start .args .starts .now) (start .args .sizes .now) (start .args .k) (start .pre .1 .0) (start .pre .1 .1) (put-pairs-last .1 .1 .1 .1 .0) (put-pairs-ensures .1) (sym (rank-ensures .0) ∙ not-true _ (c .if2 .taken)), start .pre .0 .3)
 
 slice-aggregate-couples : tie.Need-slice-aggregate-couples
 slice-aggregate-couples c = search needs
 
 couples-requires : tie.Need-couples-requires
 couples-requires c κs =
-    let w = c .before .before .before .before .before .before .rank .ensures .1 .0 (not-false _ (c .before .before .if2 .left)) in
-    ((c .before .before .before .before .before .before .before .before .before .before .before .before .before .before .before .before .before .before .before .pre .0 .5, c .before .before .before .before .before .before .rank .ensures .1 .1, c .before .before .before .before .before .before .before .before .before .before .before .before .before .before .before .before .before .before .before .pre .0 .3, w .ascends), ranked-apart w)
+    let start : tie.Start = search in
+    let rank-ensures = (let p : tie.After-rank = search in p .rank .ensures) in
+    let if2-left = (let p : tie.Else2 = search in p .if2 .left) in
+    let w = rank-ensures .1 .0 (not-false _ if2-left) in
+    ((start .pre .0 .5, rank-ensures .1 .1, start .pre .0 .3, w .ascends), ranked-apart w)
 
 same-length : tie.Need-same-length
 same-length c = search needs
 
 returns-3 : tie.Need-returns-3
 returns-3 c =
-    (paired-found (c .before .before .before .before .before .before .before .before .before .before .before .before .before .before .before .before .before .before .before .before .before .before .args .vertex .now) (c .before .before .before .before .before .before .before .before .before .before .before .before .before .before .before .before .before .before .before .before .before .before .args .starts .now) (c .before .before .before .before .before .before .before .before .before .before .before .before .before .before .before .before .before .before .before .before .before .before .args .sizes .now) (c .before .before .before .before .before .before .before .before .before .before .before .before .before .before .before .before .before .before .before .before .before .before .args .k) (c .before .before .before .before .before .before .before .before .before .before .before .before .before .before .before .before .before .before .before .before .before .before .pre .1 .0) (c .before .before .before .before .before .before .before .before .before .before .before .before .before .before .before .before .before .before .before .before .before .before .pre .1 .1) (c .before .before .before .before .before .before .before .before .before .before .before .before .before .before .before .before .put-pairs .last .1 .1 .1 .1 .0) (c .before .before .before .before .before .before .before .before .before .before .before .before .before .before .before .before .put-pairs .ensures .1) (sym (c .before .before .before .before .before .before .before .before .before .before .before .before .before .before .before .before .put-pairs .ensures .0) ∙ not-false _ (c .before .before .before .before .before .before .before .before .before .before .before .before .before .before .if1 .left)) (sym (c .before .before .before .before .before .before .before .before .before .rank .ensures .0) ∙ not-false _ (c .before .before .before .before .before .if2 .left)) (c .before .before .before .before .before .before .before .before .before .rank .ensures .1 .0 (not-false _ (c .before .before .before .before .before .if2 .left))) (c .before .before .couples .ensures .0), c .before .before .couples .ensures .1)
+    let start : tie.Start = (let c : tie.After-put-pairs = search in search) in
+    let put-pairs-ensures = (let p : tie.After-put-pairs = search in p .put-pairs .ensures) in
+    let put-pairs-last = (let p : tie.After-put-pairs = search in p .put-pairs .last) in
+    let if1-left = (let p : tie.Else1 = search in p .if1 .left) in
+    let rank-ensures = (let p : tie.After-rank = search in p .rank .ensures) in
+    let if2-left = (let p : tie.Else2 = search in p .if2 .left) in
+    let couples-ensures = (let p : tie.After-couples = search in p .couples .ensures) in
+    (paired-found (start .args .vertex .now) (start .args .starts .now) (start .args .sizes .now) (start .args .k) (start .pre .1 .0) (start .pre .1 .1) (put-pairs-last .1 .1 .1 .1 .0) (put-pairs-ensures .1) (sym (put-pairs-ensures .0) ∙ not-false _ if1-left) (sym (rank-ensures .0) ∙ not-false _ if2-left) (rank-ensures .1 .0 (not-false _ if2-left)) (couples-ensures .0), couples-ensures .1)
 
 pub paired-spec : {M : Type 1} → statement M
 paired-spec =

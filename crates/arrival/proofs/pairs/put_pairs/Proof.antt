@@ -19,11 +19,14 @@ abbrev μ-loop : tie.MeasureT-loop
 
 loop-holds : tie.Need-loop-holds Inv-loop μ-loop
 loop-holds c =
-    pairing-none _ _ _ _ (c .before .before .before .before .pre .0 .3)
+    let start : tie.Start Inv-loop μ-loop = search in
+    pairing-none _ _ _ _ (start .pre .0 .3)
 
 next-index-requires : tie.Need-next-index-requires Inv-loop μ-loop
 next-index-requires c κs =
-    (c .before .before .before .before .before .before .pre .0 .1, c .before .before .before .before .before .before .pre .0 .2, omega arith, (let r = c .before .before .before .before .before .before .pre .1 .0 .start-le (c .before .loop .i) (omega arith) in omega arith), (let r = c .before .before .before .before .before .before .pre .1 .0 .end-within (c .before .loop .i) (omega arith) in omega arith))
+    let start : tie.Start Inv-loop μ-loop = search in
+    let loop-i = (let p : tie.At-loop Inv-loop μ-loop = search in p .loop .i) in
+    (start .pre .0 .1, start .pre .0 .2, omega arith, (let r = start .pre .1 .0 .start-le loop-i (omega arith) in omega arith), (let r = start .pre .1 .0 .end-within loop-i (omega arith) in omega arith))
 
 mul-ok : tie.Need-mul-ok Inv-loop μ-loop
 mul-ok c = search needs
@@ -33,11 +36,17 @@ shared-slice-read-ok c = search needs
 
 mul-ok-2 : tie.Need-mul-ok-2 Inv-loop μ-loop
 mul-ok-2 c =
-    let n = next-below (c .before .before .before .before .before .before .before .before .pre .1 .0) (c .before .before .before .loop .i) (omega arith) in omega (arith, n, c .before .next-index .ensures)
+    let start : tie.Start Inv-loop μ-loop = search in
+    let loop-i = (let p : tie.At-loop Inv-loop μ-loop = search in p .loop .i) in
+    let next-index-ensures = (let p : tie.After-next-index Inv-loop μ-loop = search in p .next-index .ensures) in
+    let n = next-below (start .pre .1 .0) loop-i (omega arith) in omega (arith, n, next-index-ensures)
 
 shared-slice-read-ok-2 : tie.Need-shared-slice-read-ok-2 Inv-loop μ-loop
 shared-slice-read-ok-2 c =
-    let n = next-below (c .before .before .before .before .before .before .before .before .before .pre .1 .0) (c .before .before .before .before .loop .i) (omega arith) in omega (arith, n, c .before .before .next-index .ensures)
+    let start : tie.Start Inv-loop μ-loop = search in
+    let loop-i = (let p : tie.At-loop Inv-loop μ-loop = search in p .loop .i) in
+    let next-index-ensures = (let p : tie.After-next-index Inv-loop μ-loop = search in p .next-index .ensures) in
+    let n = next-below (start .pre .1 .0) loop-i (omega arith) in omega (arith, n, next-index-ensures)
 
 mul-couple : tie.Need-mul-couple Inv-loop μ-loop
 mul-couple c = search needs
@@ -47,15 +56,26 @@ shared-slice-read-couple c = search needs
 
 mul-couple-2 : tie.Need-mul-couple-2 Inv-loop μ-loop
 mul-couple-2 c =
-    let n = next-below (c .before .before .before .before .before .before .before .before .before .before .pre .1 .0) (c .before .before .before .before .before .loop .i) (omega arith) in omega (arith, n, c .before .before .before .next-index .ensures)
+    let start : tie.Start Inv-loop μ-loop = search in
+    let loop-i = (let p : tie.At-loop Inv-loop μ-loop = search in p .loop .i) in
+    let next-index-ensures = (let p : tie.After-next-index Inv-loop μ-loop = search in p .next-index .ensures) in
+    let n = next-below (start .pre .1 .0) loop-i (omega arith) in omega (arith, n, next-index-ensures)
 
 shared-slice-read-couple-2 : tie.Need-shared-slice-read-couple-2 Inv-loop μ-loop
 shared-slice-read-couple-2 c =
-    let n = next-below (c .before .before .before .before .before .before .before .before .before .before .before .pre .1 .0) (c .before .before .before .before .before .before .loop .i) (omega arith) in omega (arith, n, c .before .before .before .before .next-index .ensures)
+    let start : tie.Start Inv-loop μ-loop = search in
+    let loop-i = (let p : tie.At-loop Inv-loop μ-loop = search in p .loop .i) in
+    let next-index-ensures = (let p : tie.After-next-index Inv-loop μ-loop = search in p .next-index .ensures) in
+    let n = next-below (start .pre .1 .0) loop-i (omega arith) in omega (arith, n, next-index-ensures)
 
 couple-requires : tie.Need-couple-requires Inv-loop μ-loop
 couple-requires c κs =
-    (c .before .before .before .before .before .before .before .before .before .before .before .pre .1 .1 (c .before .before .before .before .before .before .loop .i) (c .before .before .before .before .before .loop-test .taken), c .before .before .before .before .before .before .before .before .before .before .before .pre .1 .1 (c .before .before .before .before .next-index .result) (let n = next-below (c .before .before .before .before .before .before .before .before .before .before .before .pre .1 .0) (c .before .before .before .before .before .before .loop .i) (omega arith) in omega (arith, n, c .before .before .before .before .next-index .ensures)))
+    let start : tie.Start Inv-loop μ-loop = search in
+    let loop-i = (let p : tie.At-loop Inv-loop μ-loop = search in p .loop .i) in
+    let loop-test-taken = (let p : tie.In-loop Inv-loop μ-loop = search in p .loop-test .taken) in
+    let next-index-ensures = (let p : tie.After-next-index Inv-loop μ-loop = search in p .next-index .ensures) in
+    let next-index-result = (let p : tie.After-next-index Inv-loop μ-loop = search in p .next-index .result) in
+    (start .pre .1 .1 loop-i loop-test-taken, start .pre .1 .1 next-index-result (let n = next-below (start .pre .1 .0) loop-i (omega arith) in omega (arith, n, next-index-ensures)))
 
 mul-pairs : tie.Need-mul-pairs Inv-loop μ-loop
 mul-pairs c = search needs
@@ -71,14 +91,17 @@ loop-less c = search needs
 
 loop-again : tie.Need-loop-again Inv-loop μ-loop
 loop-again c =
-    pairing-more (c .before .before .before .before .before .before .before .loop .inv) (omega arith) (omega arith) (c .couple .ensures ∙ rw (c .before .before .before .before .before .next-index .ensures) refl) (rw (c .before .before .before .before .before .next-index .ensures) refl)
+    let loop-inv = (let p : tie.At-loop Inv-loop μ-loop = search in p .loop .inv) in
+    let next-index-ensures = (let p : tie.After-next-index Inv-loop μ-loop = search in p .next-index .ensures) in
+    pairing-more loop-inv (omega arith) (omega arith) (c .couple .ensures ∙ rw next-index-ensures refl) (rw next-index-ensures refl)
 
 same-length : tie.Need-same-length Inv-loop μ-loop
 same-length c = search needs
 
 returns : tie.Need-returns Inv-loop μ-loop
 returns c =
-    pairing-all (c .before .loop .inv) (omega arith)
+    let loop-inv = (let p : tie.At-loop Inv-loop μ-loop = search in p .loop .inv) in
+    pairing-all loop-inv (omega arith)
 
 pub put-pairs-spec : {M : Type 1} → statement M
 put-pairs-spec =

@@ -34,11 +34,18 @@ shared-slice-read-gap-of c = search needs
 
 gap-of-requires : tie.Need-gap-of-requires Inv-loop μ-loop
 gap-of-requires c κs =
-    (c .before .before .before .before .before .pre .0, c .before .before .before .before .before .pre .1, c .before .before .before .before .before .pre .2, c .before .before .before .before .before .pre .3, c .before .before .before .before .before .pre .4, c .before .before .before .before .before .pre .7 (c .before .before .loop .i) (c .before .loop-test .taken), c .before .before .loop .inv .0)
+    let start : tie.Start Inv-loop μ-loop = search in
+    let loop-i = (let p : tie.At-loop Inv-loop μ-loop = search in p .loop .i) in
+    let loop-inv = (let p : tie.At-loop Inv-loop μ-loop = search in p .loop .inv) in
+    let loop-test-taken = (let p : tie.In-loop Inv-loop μ-loop = search in p .loop-test .taken) in
+    (start .pre .0, start .pre .1, start .pre .2, start .pre .3, start .pre .4, start .pre .7 loop-i loop-test-taken, loop-inv .0)
 
 returns : tie.Need-returns Inv-loop μ-loop
 returns c =
-    passing-not (λ j. leb 1 (getD (c .before .before .before .before .before .before .before .args .serial .now) j 0) && not (held (block-in (c .before .before .before .before .before .before .before .args .block .now) .darts) (getD (c .before .before .before .before .before .before .before .args .serial .now) j 0))) (c .before .before .before .before .loop .i) (c .before .before .before .before .before .before .before .args .k) (omega arith) (sym (c .before .gap-of .ensures) ∙ lt-leb _ _ (c .if1 .taken))
+    let start : tie.Start Inv-loop μ-loop = search in
+    let loop-i = (let p : tie.At-loop Inv-loop μ-loop = search in p .loop .i) in
+    let gap-of-ensures = (let p : tie.After-gap-of Inv-loop μ-loop = search in p .gap-of .ensures) in
+    passing-not (λ j. leb 1 (getD (start .args .serial .now) j 0) && not (held (block-in (start .args .block .now) .darts) (getD (start .args .serial .now) j 0))) loop-i (start .args .k) (omega arith) (sym gap-of-ensures ∙ lt-leb _ _ (c .if1 .taken))
 
 add-i : tie.Need-add-i Inv-loop μ-loop
 add-i c = search needs
@@ -48,11 +55,17 @@ loop-less c = search needs
 
 loop-again : tie.Need-loop-again Inv-loop μ-loop
 loop-again c =
-    (omega arith, passing-more (c .before .before .before .before .loop .inv .1) (sym (c .before .gap-of .ensures) ∙ le-leb (c .before .gap-of .result) (c .before .before .before .before .before .before .before .args .n) (omega (arith, c .if1 .left))))
+    let start : tie.Start Inv-loop μ-loop = search in
+    let loop-inv = (let p : tie.At-loop Inv-loop μ-loop = search in p .loop .inv) in
+    let gap-of-ensures = (let p : tie.After-gap-of Inv-loop μ-loop = search in p .gap-of .ensures) in
+    let gap-of-result = (let p : tie.After-gap-of Inv-loop μ-loop = search in p .gap-of .result) in
+    (omega arith, passing-more (loop-inv .1) (sym gap-of-ensures ∙ le-leb gap-of-result (start .args .n) (omega (arith, c .if1 .left))))
 
 returns-2 : tie.Need-returns-2 Inv-loop μ-loop
 returns-2 c =
-    passing-all {k = c .before .before .before .before .args .k} (c .before .loop .inv .1) (omega arith)
+    let start : tie.Start Inv-loop μ-loop = search in
+    let loop-inv = (let p : tie.At-loop Inv-loop μ-loop = search in p .loop .inv) in
+    passing-all {k = start .args .k} (loop-inv .1) (omega arith)
 
 pub all-new-spec : {M : Type 1} → statement M
 all-new-spec =

@@ -14,18 +14,24 @@ add-result c = search needs
 
 returns : tie.Need-returns
 returns c =
-    gap-zero (c .before .before .args .block .now) {n = c .before .before .args .n} {r = c .before .before .args .n + 1} (c .if1 .taken) (omega arith)
+    let start : tie.Start = search in
+    gap-zero (start .args .block .now) {n = start .args .n} {r = start .args .n + 1} (c .if1 .taken) (omega arith)
 
 in-gap-requires : tie.Need-in-gap-requires
 in-gap-requires c κs = search needs
 
 returns-2 : tie.Need-returns-2
 returns-2 c =
-    gap-new (c .before .before .before .before .args .block .now) (c .before .before .if1 .left) (c .before .before .before .before .pre .0) (c .before .in-gap .ensures .0 (c .if2 .taken)) (c .before .before .before .before .pre .6)
+    let start : tie.Start = search in
+    let if1-left = (let p : tie.Else1 = search in p .if1 .left) in
+    let in-gap-ensures = (let p : tie.After-in-gap = search in p .in-gap .ensures) in
+    gap-new (start .args .block .now) if1-left (start .pre .0) (in-gap-ensures .0 (c .if2 .taken)) (start .pre .6)
 
 last-of-requires : tie.Need-last-of-requires
 last-of-requires c κs =
-    (c .before .in-gap .ensures .1 (c .if2 .left), c .before .before .before .before .pre .1, c .before .before .before .before .pre .2, c .before .before .before .before .pre .3, c .before .before .before .before .pre .4, c .before .before .before .before .pre .5)
+    let start : tie.Start = search in
+    let in-gap-ensures = (let p : tie.After-in-gap = search in p .in-gap .ensures) in
+    (in-gap-ensures .1 (c .if2 .left), start .pre .1, start .pre .2, start .pre .3, start .pre .4, start .pre .5)
 
 field-requires : tie.Need-field-requires
 field-requires c κs = search needs
@@ -35,18 +41,32 @@ add-result-2 c = search needs
 
 returns-3 : tie.Need-returns-3
 returns-3 c =
-    gap-held (c .before .before .before .before .before .before .before .args .block .now) (c .before .before .before .before .before .if1 .left) (c .before .before .before .before .before .before .before .pre .0) (c .before .before .before .before .before .before .before .pre .3) (c .before .before .last-of .ensures .0) (sym (c .before .field .ensures) ∙ c .if3 .taken) (omega arith)
+    let start : tie.Start = search in
+    let if1-left = (let p : tie.Else1 = search in p .if1 .left) in
+    let last-of-ensures = (let p : tie.After-last-of = search in p .last-of .ensures) in
+    let field-ensures = (let p : tie.After-field = search in p .field .ensures) in
+    gap-held (start .args .block .now) if1-left (start .pre .0) (start .pre .3) (last-of-ensures .0) (sym field-ensures ∙ c .if3 .taken) (omega arith)
 
 add-result-3 : tie.Need-add-result-3
 add-result-3 c = search needs
 
 returns-4 : tie.Need-returns-4
 returns-4 c =
-    gap-new (c .before .before .before .before .before .before .before .before .args .block .now) (c .before .before .before .before .before .before .if1 .left) (c .before .before .before .before .before .before .before .before .pre .0) (λ p h e. c .before .if3 .left (c .before .before .field .ensures ∙ sym (ap (column (c .before .before .before .before .before .before .before .before .args .block .now) 0) (c .before .before .before .last-of .ensures .1 p h e)) ∙ e)) (omega (arith, c .before .before .before .last-of .ensures .0))
+    let start : tie.Start = search in
+    let if1-left = (let p : tie.Else1 = search in p .if1 .left) in
+    let last-of-ensures = (let p : tie.After-last-of = search in p .last-of .ensures) in
+    let field-ensures = (let p : tie.After-field = search in p .field .ensures) in
+    let if3-left = (let p : tie.Else3 = search in p .if3 .left) in
+    gap-new (start .args .block .now) if1-left (start .pre .0) (λ p h e. if3-left (field-ensures ∙ sym (ap (column (start .args .block .now) 0) (last-of-ensures .1 p h e)) ∙ e)) (omega (arith, last-of-ensures .0))
 
 returns-5 : tie.Need-returns-5
 returns-5 c =
-    gap-new (c .before .before .before .before .before .before .before .before .args .block .now) (c .before .before .before .before .before .before .if1 .left) (c .before .before .before .before .before .before .before .before .pre .0) (λ p h e. c .before .if3 .left (c .before .before .field .ensures ∙ sym (ap (column (c .before .before .before .before .before .before .before .before .args .block .now) 0) (c .before .before .before .last-of .ensures .1 p h e)) ∙ e)) (omega (arith, c .before .before .before .last-of .ensures .0))
+    let start : tie.Start = search in
+    let if1-left = (let p : tie.Else1 = search in p .if1 .left) in
+    let last-of-ensures = (let p : tie.After-last-of = search in p .last-of .ensures) in
+    let field-ensures = (let p : tie.After-field = search in p .field .ensures) in
+    let if3-left = (let p : tie.Else3 = search in p .if3 .left) in
+    gap-new (start .args .block .now) if1-left (start .pre .0) (λ p h e. if3-left (field-ensures ∙ sym (ap (column (start .args .block .now) 0) (last-of-ensures .1 p h e)) ∙ e)) (omega (arith, last-of-ensures .0))
 
 pub gap-of-spec : {M : Type 1} → statement M
 gap-of-spec =

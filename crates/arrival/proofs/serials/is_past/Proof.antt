@@ -19,7 +19,9 @@ field-requires c κs = search needs
 
 returns-2 : tie.Need-returns-2
 returns-2 c =
-    (λ e h. let l = ltb-true (c .field .result) (c .before .before .before .args .serial) e in omega (arith, l, c .field .ensures), λ e. omega (arith, c .before .if1 .left))
+    let start : tie.Start = search in
+    let if1-left = (let p : tie.Else1 = search in p .if1 .left) in
+    (λ e h. let l = ltb-true (c .field .result) (start .args .serial) e in omega (arith, l, c .field .ensures), λ e. omega (arith, if1-left))
 
 pub is-past-spec : {M : Type 1} → statement M
 is-past-spec = tie.close (tie.spec returns sub-t6 field-requires returns-2)

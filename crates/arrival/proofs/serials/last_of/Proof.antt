@@ -19,7 +19,8 @@ abbrev μ-loop : tie.MeasureT-loop
 
 loop-holds : tie.Need-loop-holds Inv-loop μ-loop
 loop-holds c =
-    halving-start _ _ _ (c .before .pre .0)
+    let start : tie.Start Inv-loop μ-loop = search in
+    halving-start _ _ _ (start .pre .0)
 
 add-t9 : tie.Need-add-t9 Inv-loop μ-loop
 add-t9 c = search needs
@@ -29,7 +30,10 @@ field-requires c κs = search needs
 
 up-requires : tie.Need-up-requires Inv-loop μ-loop
 up-requires c κs =
-    (omega arith, (let small = c .before .before .before .before .pre .4 (c .before .before .loop .low + c .before .before .loop .left / 2) (omega arith) in omega (arith, small, c .field .ensures)), (let small = c .before .before .before .before .pre .5 in omega (arith, small)))
+    let start : tie.Start Inv-loop μ-loop = search in
+    let loop-left = (let p : tie.At-loop Inv-loop μ-loop = search in p .loop .left) in
+    let loop-low = (let p : tie.At-loop Inv-loop μ-loop = search in p .loop .low) in
+    (omega arith, (let small = start .pre .4 (loop-low + loop-left / 2) (omega arith) in omega (arith, small, c .field .ensures)), (let small = start .pre .5 in omega (arith, small)))
 
 sub-left : tie.Need-sub-left Inv-loop μ-loop
 sub-left c = search needs
@@ -39,11 +43,16 @@ loop-less c = search needs
 
 loop-again : tie.Need-loop-again Inv-loop μ-loop
 loop-again c =
-    halving-on (c .before .before .before .before .before .pre .3) (c .before .before .before .loop .inv) (c .before .before .loop-test .taken) (c .before .field .ensures) (c .up .ensures)
+    let start : tie.Start Inv-loop μ-loop = search in
+    let loop-inv = (let p : tie.At-loop Inv-loop μ-loop = search in p .loop .inv) in
+    let loop-test-taken = (let p : tie.In-loop Inv-loop μ-loop = search in p .loop-test .taken) in
+    let field-ensures = (let p : tie.After-field Inv-loop μ-loop = search in p .field .ensures) in
+    halving-on (start .pre .3) loop-inv loop-test-taken field-ensures (c .up .ensures)
 
 returns : tie.Need-returns Inv-loop μ-loop
 returns c =
-    (omega arith, λ p h e. let k = c .before .loop .inv .within p h e in omega (arith, k .0, k .1, c .loop-test .left))
+    let loop-inv = (let p : tie.At-loop Inv-loop μ-loop = search in p .loop .inv) in
+    (omega arith, λ p h e. let k = loop-inv .within p h e in omega (arith, k .0, k .1, c .loop-test .left))
 
 pub last-of-spec : {M : Type 1} → statement M
 last-of-spec =

@@ -13,21 +13,28 @@ points-finite-requires c κs = search needs
 
 returns : tie.Need-returns
 returns c =
-    (not-finite (sym (c .before .points-finite .ensures) ∙ not-true _ (c .if1 .taken)), c .before .before .before .before .before .before .before .pre .1 .1, c .before .before .before .before .before .before .before .pre .1 .2)
+    let start : tie.Start = search in
+    let points-finite-ensures = (let p : tie.After-points-finite = search in p .points-finite .ensures) in
+    (not-finite (sym points-finite-ensures ∙ not-true _ (c .if1 .taken)), start .pre .1 .1, start .pre .1 .2)
 
 all-new-requires : tie.Need-all-new-requires
 all-new-requires c κs = search needs
 
 returns-2 : tie.Need-returns-2
 returns-2 c =
-    (not-new (sym (c .before .before .before .points-finite .ensures) ∙ not-false _ (c .before .before .if1 .left)) (sym (c .before .all-new .ensures) ∙ not-true _ (c .if2 .taken)), c .before .before .before .before .before .before .before .before .before .pre .1 .1, c .before .before .before .before .before .before .before .before .before .pre .1 .2)
+    let start : tie.Start = search in
+    let points-finite-ensures = (let p : tie.After-points-finite = search in p .points-finite .ensures) in
+    let if1-left = (let p : tie.Else1 = search in p .if1 .left) in
+    let all-new-ensures = (let p : tie.After-all-new = search in p .all-new .ensures) in
+    (not-new (sym points-finite-ensures ∙ not-false _ if1-left) (sym all-new-ensures ∙ not-true _ (c .if2 .taken)), start .pre .1 .1, start .pre .1 .2)
 
 slice-aggregate-rank : tie.Need-slice-aggregate-rank
 slice-aggregate-rank c = search needs
 
 rank-requires : tie.Need-rank-requires
 rank-requires c κs =
-    ((c .before .before .before .before .before .before .before .before .before .before .before .before .pre .1 .3, c .before .before .before .before .before .before .before .before .before .before .before .before .pre .1 .4, (let l = c .before .before .before .before .before .before .before .before .before .before .before .before .pre .1 .0 in let f = c .before .before .before .before .before .before .before .before .before .before .before .before .pre .1 .4 in omega (arith, l, f)), (λ i h. let b = c .before .before .before .before .before .before .before .before .before .before .before .before .pre .1 .6 i h in omega (arith, b))), (c .before .before .before .before .before .before .before .before .before .before .before .before .pre .1 .1, search needs, c .before .before .before .before .before .before .before .before .before .before .before .before .pre .1 .2))
+    let start : tie.Start = search in
+    ((start .pre .1 .3, start .pre .1 .4, (let l = start .pre .1 .0 in let f = start .pre .1 .4 in omega (arith, l, f)), (λ i h. let b = start .pre .1 .6 i h in omega (arith, b))), (start .pre .1 .1, search needs, start .pre .1 .2))
 
 same-length : tie.Need-same-length
 same-length c = search needs
@@ -37,7 +44,12 @@ same-length-2 c = search needs
 
 returns-3 : tie.Need-returns-3
 returns-3 c =
-    (new-ranked (sym (c .before .before .before .before .before .before .before .before .before .before .before .before .points-finite .ensures) ∙ not-false _ (c .before .before .before .before .before .before .before .before .before .before .before .if1 .left)) (sym (c .before .before .before .before .before .before .before .before .before .before .all-new .ensures) ∙ not-false _ (c .before .before .before .before .before .before .before .before .before .if2 .left)) (c .before .before .before .before .before .rank .ensures .0) (c .before .before .before .before .before .rank .ensures .1 .0), c .before .before .before .before .before .rank .ensures .1 .1, c .before .before .before .before .before .rank .ensures .1 .2)
+    let points-finite-ensures = (let p : tie.After-points-finite = search in p .points-finite .ensures) in
+    let if1-left = (let p : tie.Else1 = search in p .if1 .left) in
+    let all-new-ensures = (let p : tie.After-all-new = search in p .all-new .ensures) in
+    let if2-left = (let p : tie.Else2 = search in p .if2 .left) in
+    let rank-ensures = (let p : tie.After-rank = search in p .rank .ensures) in
+    (new-ranked (sym points-finite-ensures ∙ not-false _ if1-left) (sym all-new-ensures ∙ not-false _ if2-left) (rank-ensures .0) (rank-ensures .1 .0), rank-ensures .1 .1, rank-ensures .1 .2)
 
 pub new-serials-spec : {M : Type 1} → statement M
 new-serials-spec =

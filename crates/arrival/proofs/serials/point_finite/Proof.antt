@@ -33,7 +33,12 @@ finite-word-requires-3 c κs = search needs
 returns : tie.Need-returns
 unfolding finite
 returns c =
-    rw (c .before .before .before .before .finite-word .ensures, c .before .before .finite-word2 .ensures, c .finite-word3 .ensures, c .before .before .before .before .before .word-at .ensures, c .before .before .before .word-at2 .ensures, c .before .word-at3 .ensures) refl
+    let word-at-ensures = (let p : tie.After-word-at = search in p .word-at .ensures) in
+    let finite-word-ensures = (let p : tie.After-finite-word = search in p .finite-word .ensures) in
+    let word-at2-ensures = (let p : tie.After-word-at2 = search in p .word-at2 .ensures) in
+    let finite-word2-ensures = (let p : tie.After-finite-word2 = search in p .finite-word2 .ensures) in
+    let word-at3-ensures = (let p : tie.After-word-at3 = search in p .word-at3 .ensures) in
+    rw (finite-word-ensures, finite-word2-ensures, c .finite-word3 .ensures, word-at-ensures, word-at2-ensures, word-at3-ensures) refl
 
 pub point-finite-spec : {M : Type 1} → statement M
 point-finite-spec =

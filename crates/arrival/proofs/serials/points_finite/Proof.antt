@@ -35,7 +35,10 @@ point-finite-requires c κs = search needs
 
 returns : tie.Need-returns Inv-loop μ-loop
 returns c =
-    passing-not (λ i. finite (point-in (c .before .before .before .before .before .args .message .now) (c .before .before .before .before .before .args .from + 24 * i))) (c .before .before .before .loop .j) (c .before .before .before .before .before .args .count) (omega arith) (sym (c .before .point-finite .ensures) ∙ not-true _ (c .if1 .taken)) ∙ sym (points-tested (c .before .before .before .before .before .args .message .now) (c .before .before .before .before .before .args .from) (c .before .before .before .before .before .args .count))
+    let start : tie.Start Inv-loop μ-loop = search in
+    let loop-j = (let p : tie.At-loop Inv-loop μ-loop = search in p .loop .j) in
+    let point-finite-ensures = (let p : tie.After-point-finite Inv-loop μ-loop = search in p .point-finite .ensures) in
+    passing-not (λ i. finite (point-in (start .args .message .now) (start .args .from + 24 * i))) loop-j (start .args .count) (omega arith) (sym point-finite-ensures ∙ not-true _ (c .if1 .taken)) ∙ sym (points-tested (start .args .message .now) (start .args .from) (start .args .count))
 
 add-j : tie.Need-add-j Inv-loop μ-loop
 add-j c = search needs
@@ -45,11 +48,15 @@ loop-less c = search needs
 
 loop-again : tie.Need-loop-again Inv-loop μ-loop
 loop-again c =
-    passing-more (c .before .before .before .loop .inv) (sym (c .before .point-finite .ensures) ∙ not-false _ (c .if1 .left))
+    let loop-inv = (let p : tie.At-loop Inv-loop μ-loop = search in p .loop .inv) in
+    let point-finite-ensures = (let p : tie.After-point-finite Inv-loop μ-loop = search in p .point-finite .ensures) in
+    passing-more loop-inv (sym point-finite-ensures ∙ not-false _ (c .if1 .left))
 
 returns-2 : tie.Need-returns-2 Inv-loop μ-loop
 returns-2 c =
-    passing-all {k = c .before .before .before .args .count} (c .before .loop .inv) (omega arith) ∙ sym (points-tested (c .before .before .before .args .message .now) (c .before .before .before .args .from) (c .before .before .before .args .count))
+    let start : tie.Start Inv-loop μ-loop = search in
+    let loop-inv = (let p : tie.At-loop Inv-loop μ-loop = search in p .loop .inv) in
+    passing-all {k = start .args .count} loop-inv (omega arith) ∙ sym (points-tested (start .args .message .now) (start .args .from) (start .args .count))
 
 pub points-finite-spec : {M : Type 1} → statement M
 points-finite-spec =

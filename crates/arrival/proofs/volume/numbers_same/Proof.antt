@@ -36,15 +36,21 @@ shared-slice-read-if1-2 c = search needs
 
 mul-if1-3 : tie.Need-mul-if1-3 Inv-loop μ-loop
 mul-if1-3 c =
-    let r = c .before .before .before .before .pre .4 (c .before .before .before .loop .i) (omega arith) in omega (arith, r)
+    let start : tie.Start Inv-loop μ-loop = search in
+    let loop-i = (let p : tie.At-loop Inv-loop μ-loop = search in p .loop .i) in
+    let r = start .pre .4 loop-i (omega arith) in omega (arith, r)
 
 shared-slice-read-if1-3 : tie.Need-shared-slice-read-if1-3 Inv-loop μ-loop
 shared-slice-read-if1-3 c =
-    let r = c .before .before .before .before .before .pre .4 (c .before .before .before .before .loop .i) (omega arith) in omega (arith, r)
+    let start : tie.Start Inv-loop μ-loop = search in
+    let loop-i = (let p : tie.At-loop Inv-loop μ-loop = search in p .loop .i) in
+    let r = start .pre .4 loop-i (omega arith) in omega (arith, r)
 
 returns : tie.Need-returns Inv-loop μ-loop
 returns c =
-    passing-not (λ j. eqb (getD (c .before .before .before .before .before .before .args .vertex .now) j 0) (getD (c .before .before .before .before .before .before .args .numbers .now) (getD (c .before .before .before .before .before .before .args .ranks .now) j 0) 0)) (c .before .before .before .before .before .loop .i) (c .before .before .before .before .before .before .args .k) (omega arith) (ne-eqb _ _ (c .if1 .taken))
+    let start : tie.Start Inv-loop μ-loop = search in
+    let loop-i = (let p : tie.At-loop Inv-loop μ-loop = search in p .loop .i) in
+    passing-not (λ j. eqb (getD (start .args .vertex .now) j 0) (getD (start .args .numbers .now) (getD (start .args .ranks .now) j 0) 0)) loop-i (start .args .k) (omega arith) (ne-eqb _ _ (c .if1 .taken))
 
 add-i : tie.Need-add-i Inv-loop μ-loop
 add-i c = search needs
@@ -54,11 +60,14 @@ loop-less c = search needs
 
 loop-again : tie.Need-loop-again Inv-loop μ-loop
 loop-again c =
-    passing-more (c .before .before .before .before .before .loop .inv) (eq-eqb _ _ (c .if1 .left))
+    let loop-inv = (let p : tie.At-loop Inv-loop μ-loop = search in p .loop .inv) in
+    passing-more loop-inv (eq-eqb _ _ (c .if1 .left))
 
 returns-2 : tie.Need-returns-2 Inv-loop μ-loop
 returns-2 c =
-    passing-all {k = c .before .before .args .k} (c .before .loop .inv) (omega arith)
+    let start : tie.Start Inv-loop μ-loop = search in
+    let loop-inv = (let p : tie.At-loop Inv-loop μ-loop = search in p .loop .inv) in
+    passing-all {k = start .args .k} loop-inv (omega arith)
 
 pub numbers-same-spec : {M : Type 1} → statement M
 numbers-same-spec =

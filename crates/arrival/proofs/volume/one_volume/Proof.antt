@@ -16,7 +16,8 @@ same-length c = search needs
 
 returns : tie.Need-returns
 returns c =
-    (rw (c .before .before .before .volume .ensures .1 .0) refl, c .before .before .before .volume .ensures .1 .1 .size)
+    let volume-ensures = (let p : tie.After-volume = search in p .volume .ensures) in
+    (rw (volume-ensures .1 .0) refl, volume-ensures .1 .1 .size)
 
 pub one-volume-spec : {M : Type 1} → statement M
 one-volume-spec = tie.close (tie.spec slice-aggregate-volume volume-requires same-length returns)

@@ -12,46 +12,75 @@ use Rattle.arrival.proofs.volume.volume_right.Tie as tie
 
 returns : tie.Need-returns
 returns c =
-    ((λ t w. hollow-no w (c .if1 .taken)), ((λ y. absurd (true≢false (sym y))), c .before .before .before .before .before .before .before .before .before .before .before .before .pre .0 .6, c .before .before .before .before .before .before .before .before .before .before .before .before .pre .0 .7, c .before .before .before .before .before .before .before .before .before .before .before .before .pre .0 .8, c .before .before .before .before .before .before .before .before .before .before .before .before .pre .0 .9))
+    let start : tie.Start = search in
+    ((λ t w. hollow-no w (c .if1 .taken)), ((λ y. absurd (true≢false (sym y))), start .pre .0 .6, start .pre .0 .7, start .pre .0 .8, start .pre .0 .9))
 
 ordered-requires : tie.Need-ordered-requires
 ordered-requires c κs =
-    (c .before .before .before .before .before .before .before .before .before .before .before .before .pre .0 .1, c .before .before .before .before .before .before .before .before .before .before .before .before .pre .0 .2, (c .before .before .before .before .before .before .before .before .before .before .before .before .pre .1 .1 .1) .few, segs (c .before .before .before .before .before .before .before .before .before .before .before .before .pre .1 .1 .1) .start-le)
+    let start : tie.Start = search in
+    (start .pre .0 .1, start .pre .0 .2, (start .pre .1 .1 .1) .few, segs (start .pre .1 .1 .1) .start-le)
 
 returns-2 : tie.Need-returns-2
 returns-2 c =
-    ((λ t w. order-no w (sym (c .before .ordered .ensures) ∙ not-true _ (c .if2 .taken))), ((λ y. absurd (true≢false (sym y))), c .before .before .before .before .before .before .before .before .before .before .before .before .before .before .pre .0 .6, c .before .before .before .before .before .before .before .before .before .before .before .before .before .before .pre .0 .7, c .before .before .before .before .before .before .before .before .before .before .before .before .before .before .pre .0 .8, c .before .before .before .before .before .before .before .before .before .before .before .before .before .before .pre .0 .9))
+    let start : tie.Start = search in
+    let ordered-ensures = (let p : tie.After-ordered = search in p .ordered .ensures) in
+    ((λ t w. order-no w (sym ordered-ensures ∙ not-true _ (c .if2 .taken))), ((λ y. absurd (true≢false (sym y))), start .pre .0 .6, start .pre .0 .7, start .pre .0 .8, start .pre .0 .9))
 
 vertices-fit-requires : tie.Need-vertices-fit-requires
 vertices-fit-requires c κs =
-    (c .before .before .before .before .before .before .before .before .before .before .before .before .before .before .pre .0 .0, (c .before .before .before .before .before .before .before .before .before .before .before .before .before .before .pre .1 .1 .1) .few)
+    let start : tie.Start = search in
+    (start .pre .0 .0, (start .pre .1 .1 .1) .few)
 
 returns-3 : tie.Need-returns-3
 returns-3 c =
-    ((λ t w. fit-no w (sym (c .before .vertices-fit .ensures) ∙ not-true _ (c .if3 .taken))), ((λ y. absurd (true≢false (sym y))), c .before .before .before .before .before .before .before .before .before .before .before .before .before .before .before .before .pre .0 .6, c .before .before .before .before .before .before .before .before .before .before .before .before .before .before .before .before .pre .0 .7, c .before .before .before .before .before .before .before .before .before .before .before .before .before .before .before .before .pre .0 .8, c .before .before .before .before .before .before .before .before .before .before .before .before .before .before .before .before .pre .0 .9))
+    let start : tie.Start = search in
+    let vertices-fit-ensures = (let p : tie.After-vertices-fit = search in p .vertices-fit .ensures) in
+    ((λ t w. fit-no w (sym vertices-fit-ensures ∙ not-true _ (c .if3 .taken))), ((λ y. absurd (true≢false (sym y))), start .pre .0 .6, start .pre .0 .7, start .pre .0 .8, start .pre .0 .9))
 
 paired-requires : tie.Need-paired-requires
 paired-requires c κs =
-    ((c .before .before .before .before .before .before .before .before .before .before .before .before .before .before .before .before .before .pre .0 .0, c .before .before .before .before .before .before .before .before .before .before .before .before .before .before .before .before .before .pre .0 .2, c .before .before .before .before .before .before .before .before .before .before .before .before .before .before .before .before .before .pre .0 .3, c .before .before .before .before .before .before .before .before .before .before .before .before .before .before .before .before .before .pre .0 .6, (c .before .before .before .before .before .before .before .before .before .before .before .before .before .before .before .before .before .pre .1 .1 .1) .some-darts, (c .before .before .before .before .before .before .before .before .before .before .before .before .before .before .before .before .before .pre .1 .1 .1) .few), (segs (c .before .before .before .before .before .before .before .before .before .before .before .before .before .before .before .before .before .pre .1 .1 .1), small (c .before .before .before .before .before .before .before .before .before .before .before .before .before .before .before .before .before .pre .1 .1 .1) (sym (c .before .before .vertices-fit .ensures) ∙ not-false _ (c .before .if3 .left))))
+    let start : tie.Start = search in
+    let vertices-fit-ensures = (let p : tie.After-vertices-fit = search in p .vertices-fit .ensures) in
+    let if3-left = (let p : tie.Else3 = search in p .if3 .left) in
+    ((start .pre .0 .0, start .pre .0 .2, start .pre .0 .3, start .pre .0 .6, (start .pre .1 .1 .1) .some-darts, (start .pre .1 .1 .1) .few), (segs (start .pre .1 .1 .1), small (start .pre .1 .1 .1) (sym vertices-fit-ensures ∙ not-false _ if3-left)))
 
 same-length : tie.Need-same-length
 same-length c = search needs
 
 returns-4 : tie.Need-returns-4
 returns-4 c =
-    ((λ t w. paired-no w (sym (c .before .before .before .before .before .before .vertices-fit .ensures) ∙ not-false _ (c .before .before .before .before .before .if3 .left)) (c .before .before .before .paired .ensures .0) (not-true _ (c .if4 .taken))), ((λ y. absurd (true≢false (sym y))), c .before .before .before .paired .ensures .1, c .before .before .before .before .before .before .before .before .before .before .before .before .before .before .before .before .before .before .before .before .before .pre .0 .7, c .before .before .before .before .before .before .before .before .before .before .before .before .before .before .before .before .before .before .before .before .before .pre .0 .8, c .before .before .before .before .before .before .before .before .before .before .before .before .before .before .before .before .before .before .before .before .before .pre .0 .9))
+    let start : tie.Start = search in
+    let vertices-fit-ensures = (let p : tie.After-vertices-fit = search in p .vertices-fit .ensures) in
+    let if3-left = (let p : tie.Else3 = search in p .if3 .left) in
+    let paired-ensures = (let p : tie.After-paired = search in p .paired .ensures) in
+    ((λ t w. paired-no w (sym vertices-fit-ensures ∙ not-false _ if3-left) (paired-ensures .0) (not-true _ (c .if4 .taken))), ((λ y. absurd (true≢false (sym y))), paired-ensures .1, start .pre .0 .7, start .pre .0 .8, start .pre .0 .9))
 
 put-draft-requires : tie.Need-put-draft-requires
 put-draft-requires c κs =
-    ((c .before .before .before .before .before .before .before .before .before .before .before .before .before .before .before .before .before .before .before .before .before .before .before .pre .0 .0, c .before .before .before .before .before .before .before .before .before .before .before .before .before .before .before .before .before .before .before .before .before .before .before .pre .0 .2, c .before .before .before .before .before .before .before .before .before .before .before .before .before .before .before .before .before .before .before .before .before .before .before .pre .0 .3, c .before .before .before .before .before .before .before .before .before .before .before .before .before .before .before .before .before .before .before .before .before .before .before .pre .0 .4, c .before .before .before .before .before .before .before .before .before .before .before .before .before .before .before .before .before .before .before .before .before .before .before .pre .0 .5, c .before .before .before .before .before .paired .ensures .1, c .before .before .before .before .before .before .before .before .before .before .before .before .before .before .before .before .before .before .before .before .before .before .before .pre .0 .7), draftable (c .before .before .before .before .before .before .before .before .before .before .before .before .before .before .before .before .before .before .before .before .before .before .before .pre .1 .1 .1) (sym (c .before .before .before .before .before .before .before .before .vertices-fit .ensures) ∙ not-false _ (c .before .before .before .before .before .before .before .if3 .left)) (c .before .before .before .before .before .before .before .before .before .before .before .before .before .before .before .before .before .before .before .before .before .before .before .pre .1 .0) (c .before .before .before .before .before .paired .ensures .0) (not-false _ (c .before .before .if4 .left)))
+    let if4-left = (let p : tie.Else4 = search in p .if4 .left) in
+    let paired-ensures = (let p : tie.After-paired = search in p .paired .ensures) in
+    let if3-left = (let p : tie.Else3 = search in p .if3 .left) in
+    let vertices-fit-ensures = (let p : tie.After-vertices-fit = search in p .vertices-fit .ensures) in
+    let c : tie.After-vertices-fit = search in
+    let start : tie.Start = search in
+    ((start .pre .0 .0, start .pre .0 .2, start .pre .0 .3, start .pre .0 .4, start .pre .0 .5, paired-ensures .1, start .pre .0 .7), draftable (start .pre .1 .1 .1) (sym vertices-fit-ensures ∙ not-false _ if3-left) (start .pre .1 .0) (paired-ensures .0) (not-false _ if4-left))
 
 shared-slice-read-one-volume : tie.Need-shared-slice-read-one-volume
 shared-slice-read-one-volume c =
-    let l = c .before .before .before .before .before .before .before .before .before .before .before .before .before .before .before .before .before .before .before .before .before .before .before .before .before .before .before .before .pre .0 .5 in omega (arith, l)
+    let c : tie.After-shared-slice-known7 = search in
+    let start : tie.Start = search in
+    let l = start .pre .0 .5 in omega (arith, l)
 
 one-volume-requires : tie.Need-one-volume-requires
 one-volume-requires c κs =
-    (links (draft-of (c .before .before .before .before .before .before .before .before .before .before .before .before .before .before .before .before .before .before .before .before .before .before .before .before .before .before .before .before .before .pre .1 .1 .1) (sym (c .before .before .before .before .before .before .before .before .before .before .before .before .before .before .vertices-fit .ensures) ∙ not-false _ (c .before .before .before .before .before .before .before .before .before .before .before .before .before .if3 .left)) (c .before .before .before .before .before .before .before .before .before .before .before .before .before .before .before .before .before .before .before .before .before .before .before .before .before .before .before .before .before .pre .1 .0) (c .before .before .before .before .before .before .before .before .before .before .before .paired .ensures .0) (not-false _ (c .before .before .before .before .before .before .before .before .if4 .left)) (c .before .before .before .before .before .put-draft .ensures)), c .before .before .before .before .before .before .before .before .before .before .before .before .before .before .before .before .before .before .before .before .before .before .before .before .before .before .before .before .before .pre .1 .0 .rank-below 0 ((c .before .before .before .before .before .before .before .before .before .before .before .before .before .before .before .before .before .before .before .before .before .before .before .before .before .before .before .before .before .pre .1 .1 .1) .some-darts), c .before .before .before .before .before .before .before .before .before .before .before .before .before .before .before .before .before .before .before .before .before .before .before .before .before .before .before .before .before .pre .0 .8)
+    let put-draft-ensures = (let p : tie.After-put-draft = search in p .put-draft .ensures) in
+    let if4-left = (let p : tie.Else4 = search in p .if4 .left) in
+    let paired-ensures = (let p : tie.After-paired = search in p .paired .ensures) in
+    let if3-left = (let p : tie.Else3 = search in p .if3 .left) in
+    let vertices-fit-ensures = (let p : tie.After-vertices-fit = search in p .vertices-fit .ensures) in
+    let c : tie.After-vertices-fit = search in
+    let start : tie.Start = search in
+    (links (draft-of (start .pre .1 .1 .1) (sym vertices-fit-ensures ∙ not-false _ if3-left) (start .pre .1 .0) (paired-ensures .0) (not-false _ if4-left) put-draft-ensures), start .pre .1 .0 .rank-below 0 ((start .pre .1 .1 .1) .some-darts), start .pre .0 .8)
 
 same-length-2 : tie.Need-same-length-2
 same-length-2 c = search needs
@@ -64,11 +93,28 @@ same-length-4 c = search needs
 
 returns-5 : tie.Need-returns-5
 returns-5 c =
-    ((λ t w. volume-no w (sym (c .before .before .before .before .before .before .before .before .before .before .before .before .before .before .before .before .before .before .vertices-fit .ensures) ∙ not-false _ (c .before .before .before .before .before .before .before .before .before .before .before .before .before .before .before .before .before .if3 .left)) (draft-of w (sym (c .before .before .before .before .before .before .before .before .before .before .before .before .before .before .before .before .before .before .vertices-fit .ensures) ∙ not-false _ (c .before .before .before .before .before .before .before .before .before .before .before .before .before .before .before .before .before .if3 .left)) (c .before .before .before .before .before .before .before .before .before .before .before .before .before .before .before .before .before .before .before .before .before .before .before .before .before .before .before .before .before .before .before .before .before .pre .1 .0) (c .before .before .before .before .before .before .before .before .before .before .before .before .before .before .before .paired .ensures .0) (not-false _ (c .before .before .before .before .before .before .before .before .before .before .before .before .if4 .left)) (c .before .before .before .before .before .before .before .before .before .put-draft .ensures)) (sym (c .before .before .before .one-volume .ensures .0) ∙ not-true _ (c .if5 .taken))), ((λ y. absurd (true≢false (sym y))), c .before .before .before .before .before .before .before .before .before .before .before .before .before .before .before .paired .ensures .1, c .before .before .before .before .before .before .before .before .before .put-draft .ensures .size, c .before .before .before .one-volume .ensures .1, c .before .before .before .before .before .before .before .before .before .before .before .before .before .before .before .before .before .before .before .before .before .before .before .before .before .before .before .before .before .before .before .before .before .pre .0 .9))
+    let if5-taken = (let p : tie.Then5 = search in p .if5 .taken) in
+    let one-volume-ensures = (let p : tie.After-one-volume = search in p .one-volume .ensures) in
+    let put-draft-ensures = (let p : tie.After-put-draft = search in p .put-draft .ensures) in
+    let if4-left = (let p : tie.Else4 = search in p .if4 .left) in
+    let paired-ensures = (let p : tie.After-paired = search in p .paired .ensures) in
+    let if3-left = (let p : tie.Else3 = search in p .if3 .left) in
+    let vertices-fit-ensures = (let p : tie.After-vertices-fit = search in p .vertices-fit .ensures) in
+    let c : tie.After-vertices-fit = search in
+    let start : tie.Start = search in
+    ((λ t w. volume-no w (sym vertices-fit-ensures ∙ not-false _ if3-left) (draft-of w (sym vertices-fit-ensures ∙ not-false _ if3-left) (start .pre .1 .0) (paired-ensures .0) (not-false _ if4-left) put-draft-ensures) (sym (one-volume-ensures .0) ∙ not-true _ if5-taken)), ((λ y. absurd (true≢false (sym y))), paired-ensures .1, put-draft-ensures .size, one-volume-ensures .1, start .pre .0 .9))
 
 numbered-requires : tie.Need-numbered-requires
 numbered-requires c κs =
-    (links (draft-of (c .before .before .before .before .before .before .before .before .before .before .before .before .before .before .before .before .before .before .before .before .before .before .before .before .before .before .before .before .before .before .before .before .before .before .before .before .pre .1 .1 .1) (sym (c .before .before .before .before .before .before .before .before .before .before .before .before .before .before .before .before .before .before .before .before .before .vertices-fit .ensures) ∙ not-false _ (c .before .before .before .before .before .before .before .before .before .before .before .before .before .before .before .before .before .before .before .before .if3 .left)) (c .before .before .before .before .before .before .before .before .before .before .before .before .before .before .before .before .before .before .before .before .before .before .before .before .before .before .before .before .before .before .before .before .before .before .before .before .pre .1 .0) (c .before .before .before .before .before .before .before .before .before .before .before .before .before .before .before .before .before .before .paired .ensures .0) (not-false _ (c .before .before .before .before .before .before .before .before .before .before .before .before .before .before .before .if4 .left)) (c .before .before .before .before .before .before .before .before .before .before .before .before .put-draft .ensures)), c .before .before .before .before .before .before .before .before .before .before .before .before .before .before .before .before .before .before .before .before .before .before .before .before .before .before .before .before .before .before .before .before .before .before .before .before .pre .0 .0, c .before .before .before .before .before .before .before .before .before .before .before .before .before .before .before .before .before .before .before .before .before .before .before .before .before .before .before .before .before .before .before .before .before .before .before .before .pre .0 .5, (c .before .before .before .before .before .before .before .before .before .before .before .before .before .before .before .before .before .before .before .before .before .before .before .before .before .before .before .before .before .before .before .before .before .before .before .before .pre .1 .1 .1) .few, c .before .before .before .before .before .before .before .before .before .before .before .before .before .before .before .before .before .before .before .before .before .before .before .before .before .before .before .before .before .before .before .before .before .before .before .before .pre .1 .0 .rank-below, c .before .before .before .before .before .before .one-volume .ensures .1, c .before .before .before .before .before .before .before .before .before .before .before .before .before .before .before .before .before .before .before .before .before .before .before .before .before .before .before .before .before .before .before .before .before .before .before .before .pre .0 .9)
+    let one-volume-ensures = (let p : tie.After-one-volume = search in p .one-volume .ensures) in
+    let put-draft-ensures = (let p : tie.After-put-draft = search in p .put-draft .ensures) in
+    let if4-left = (let p : tie.Else4 = search in p .if4 .left) in
+    let paired-ensures = (let p : tie.After-paired = search in p .paired .ensures) in
+    let if3-left = (let p : tie.Else3 = search in p .if3 .left) in
+    let c : tie.Else3 = search in
+    let vertices-fit-ensures = (let p : tie.After-vertices-fit = search in p .vertices-fit .ensures) in
+    let start : tie.Start = search in
+    (links (draft-of (start .pre .1 .1 .1) (sym vertices-fit-ensures ∙ not-false _ if3-left) (start .pre .1 .0) (paired-ensures .0) (not-false _ if4-left) put-draft-ensures), start .pre .0 .0, start .pre .0 .5, (start .pre .1 .1 .1) .few, start .pre .1 .0 .rank-below, one-volume-ensures .1, start .pre .0 .9)
 
 same-length-5 : tie.Need-same-length-5
 same-length-5 c = search needs
@@ -84,7 +130,21 @@ same-length-8 c = search needs
 
 returns-6 : tie.Need-returns-6
 returns-6 c =
-    ((λ t w. c .before .before .before .before .numbered .ensures .0 .result ∙ numbers-tell w (sym (c .before .before .before .before .before .before .before .before .before .before .before .before .before .before .before .before .before .before .before .before .before .before .before .before .before .before .vertices-fit .ensures) ∙ not-false _ (c .before .before .before .before .before .before .before .before .before .before .before .before .before .before .before .before .before .before .before .before .before .before .before .before .before .if3 .left)) (draft-of w (sym (c .before .before .before .before .before .before .before .before .before .before .before .before .before .before .before .before .before .before .before .before .before .before .before .before .before .before .vertices-fit .ensures) ∙ not-false _ (c .before .before .before .before .before .before .before .before .before .before .before .before .before .before .before .before .before .before .before .before .before .before .before .before .before .if3 .left)) (c .before .before .before .before .before .before .before .before .before .before .before .before .before .before .before .before .before .before .before .before .before .before .before .before .before .before .before .before .before .before .before .before .before .before .before .before .before .before .before .before .before .pre .1 .0) (c .before .before .before .before .before .before .before .before .before .before .before .before .before .before .before .before .before .before .before .before .before .before .before .paired .ensures .0) (not-false _ (c .before .before .before .before .before .before .before .before .before .before .before .before .before .before .before .before .before .before .before .before .if4 .left)) (c .before .before .before .before .before .before .before .before .before .before .before .before .before .before .before .before .before .put-draft .ensures)) (let l = c .before .before .before .before .before .before .before .before .before .before .before .before .before .before .before .before .before .before .before .before .before .before .before .before .before .before .before .before .before .before .before .before .before .before .before .before .before .before .before .before .before .pre .0 .5 in let f = w .few in omega (arith, l, f)) (c .before .before .before .before .numbered .ensures .0 .numbered) (order-yes w (c .before .before .before .before .before .before .before .before .before .before .before .before .before .before .before .before .before .before .before .before .before .before .before .before .before .before .before .before .before .if1 .left) (sym (c .before .before .before .before .before .before .before .before .before .before .before .before .before .before .before .before .before .before .before .before .before .before .before .before .before .before .before .before .ordered .ensures) ∙ not-false _ (c .before .before .before .before .before .before .before .before .before .before .before .before .before .before .before .before .before .before .before .before .before .before .before .before .before .before .before .if2 .left))) (paired-yes w (sym (c .before .before .before .before .before .before .before .before .before .before .before .before .before .before .before .before .before .before .before .before .before .before .before .before .before .before .vertices-fit .ensures) ∙ not-false _ (c .before .before .before .before .before .before .before .before .before .before .before .before .before .before .before .before .before .before .before .before .before .before .before .before .before .if3 .left)) (c .before .before .before .before .before .before .before .before .before .before .before .before .before .before .before .before .before .before .before .before .before .before .before .before .before .before .before .before .before .before .before .before .before .before .before .before .before .before .before .before .before .pre .1 .0) (c .before .before .before .before .before .before .before .before .before .before .before .before .before .before .before .before .before .before .before .before .before .before .before .paired .ensures .0) (not-false _ (c .before .before .before .before .before .before .before .before .before .before .before .before .before .before .before .before .before .before .before .before .if4 .left))) (sym (c .before .before .before .before .before .before .before .before .before .before .before .one-volume .ensures .0) ∙ not-false _ (c .before .before .before .before .before .before .before .before .if5 .left))), ((λ y. (draft-of (c .before .before .before .before .before .before .before .before .before .before .before .before .before .before .before .before .before .before .before .before .before .before .before .before .before .before .before .before .before .before .before .before .before .before .before .before .before .before .before .before .before .pre .1 .1 .1) (sym (c .before .before .before .before .before .before .before .before .before .before .before .before .before .before .before .before .before .before .before .before .before .before .before .before .before .before .vertices-fit .ensures) ∙ not-false _ (c .before .before .before .before .before .before .before .before .before .before .before .before .before .before .before .before .before .before .before .before .before .before .before .before .before .if3 .left)) (c .before .before .before .before .before .before .before .before .before .before .before .before .before .before .before .before .before .before .before .before .before .before .before .before .before .before .before .before .before .before .before .before .before .before .before .before .before .before .before .before .before .pre .1 .0) (c .before .before .before .before .before .before .before .before .before .before .before .before .before .before .before .before .before .before .before .before .before .before .before .paired .ensures .0) (not-false _ (c .before .before .before .before .before .before .before .before .before .before .before .before .before .before .before .before .before .before .before .before .if4 .left)) (c .before .before .before .before .before .before .before .before .before .before .before .before .before .before .before .before .before .put-draft .ensures))), c .before .before .before .before .before .before .before .before .before .before .before .before .before .before .before .before .before .before .before .before .before .before .before .paired .ensures .1, c .before .before .before .before .before .before .before .before .before .before .before .before .before .before .before .before .before .put-draft .ensures .size, c .before .before .before .before .numbered .ensures .1, c .before .before .before .before .numbered .ensures .2))
+    let numbered-ensures = (let p : tie.After-numbered = search in p .numbered .ensures) in
+    let if5-left = (let p : tie.Else5 = search in p .if5 .left) in
+    let one-volume-ensures = (let p : tie.After-one-volume = search in p .one-volume .ensures) in
+    let put-draft-ensures = (let p : tie.After-put-draft = search in p .put-draft .ensures) in
+    let if4-left = (let p : tie.Else4 = search in p .if4 .left) in
+    let c : tie.Else4 = search in
+    let paired-ensures = (let p : tie.After-paired = search in p .paired .ensures) in
+    let if3-left = (let p : tie.Else3 = search in p .if3 .left) in
+    let vertices-fit-ensures = (let p : tie.After-vertices-fit = search in p .vertices-fit .ensures) in
+    let if2-left = (let p : tie.Else2 = search in p .if2 .left) in
+    let ordered-ensures = (let p : tie.After-ordered = search in p .ordered .ensures) in
+    let if1-left = (let p : tie.Else1 = search in p .if1 .left) in
+    let c : tie.Else1 = search in
+    let start : tie.Start = search in
+    ((λ t w. numbered-ensures .0 .result ∙ numbers-tell w (sym vertices-fit-ensures ∙ not-false _ if3-left) (draft-of w (sym vertices-fit-ensures ∙ not-false _ if3-left) (start .pre .1 .0) (paired-ensures .0) (not-false _ if4-left) put-draft-ensures) (let l = start .pre .0 .5 in let f = w .few in omega (arith, l, f)) (numbered-ensures .0 .numbered) (order-yes w if1-left (sym ordered-ensures ∙ not-false _ if2-left)) (paired-yes w (sym vertices-fit-ensures ∙ not-false _ if3-left) (start .pre .1 .0) (paired-ensures .0) (not-false _ if4-left)) (sym (one-volume-ensures .0) ∙ not-false _ if5-left)), ((λ y. (draft-of (start .pre .1 .1 .1) (sym vertices-fit-ensures ∙ not-false _ if3-left) (start .pre .1 .0) (paired-ensures .0) (not-false _ if4-left) put-draft-ensures)), paired-ensures .1, put-draft-ensures .size, numbered-ensures .1, numbered-ensures .2))
 
 pub volume-right-spec : {M : Type 1} → statement M
 volume-right-spec =

@@ -22,99 +22,176 @@ abbrev μ-loop : tie.MeasureT-loop
 
 shared-slice-read-n : tie.Need-shared-slice-read-n Inv-loop μ-loop
 shared-slice-read-n c =
-    omega (arith, sited rack (c .before .before .before .before .before .before .before .before .before .before .args .block .now) (c .before .before .before .before .before .before .before .before .before .before .pre .0 .0) .linked .size)
+    let start : tie.Start Inv-loop μ-loop = search in
+    omega (arith, sited rack (start .args .block .now) (start .pre .0 .0) .linked .size)
 
 loop-holds : tie.Need-loop-holds Inv-loop μ-loop
 loop-holds c =
-    (trying-start _ _ _ (c .before .before .before .before .before .before .before .before .before .before .pre .0 .3), c .before .before .before .before .before .before .before .before .before .before .pre .1)
+    let start : tie.Start Inv-loop μ-loop = search in
+    (trying-start _ _ _ (start .pre .0 .3), start .pre .1)
 
 add-i : tie.Need-add-i Inv-loop μ-loop
 add-i c =
-    omega (arith, c .loop-test .taken, sited rack (c .before .before .before .before .before .before .before .before .before .before .before .before .args .block .now) (c .before .before .before .before .before .before .before .before .before .before .before .before .pre .0 .0) .linked .few)
+    let start : tie.Start Inv-loop μ-loop = search in
+    omega (arith, c .loop-test .taken, sited rack (start .args .block .now) (start .pre .0 .0) .linked .few)
 
 mul-s : tie.Need-mul-s Inv-loop μ-loop
 mul-s c =
-    omega (arith, c .loop-test .taken, sited rack (c .before .before .before .before .before .before .before .before .before .before .before .before .args .block .now) (c .before .before .before .before .before .before .before .before .before .before .before .before .pre .0 .0) .linked .few)
+    let start : tie.Start Inv-loop μ-loop = search in
+    omega (arith, c .loop-test .taken, sited rack (start .args .block .now) (start .pre .0 .0) .linked .few)
 
 slice-read-s : tie.Need-slice-read-s Inv-loop μ-loop
 slice-read-s c =
-    omega (arith, c .before .loop-test .taken, sited rack (c .before .before .before .before .before .before .before .before .before .before .before .before .before .args .block .now) (c .before .before .before .before .before .before .before .before .before .before .before .before .before .pre .0 .0) .linked .few, c .before .before .loop .inv .0 .untried .len)
+    let start : tie.Start Inv-loop μ-loop = search in
+    let loop-inv = (let p : tie.At-loop Inv-loop μ-loop = search in p .loop .inv) in
+    let loop-test-taken = (let p : tie.In-loop Inv-loop μ-loop = search in p .loop-test .taken) in
+    omega (arith, loop-test-taken, sited rack (start .args .block .now) (start .pre .0 .0) .linked .few, loop-inv .0 .untried .len)
 
 loop-less : tie.Need-loop-less Inv-loop μ-loop
 loop-less c =
-    omega (arith, c .before .before .loop-test .taken)
+    let loop-test-taken = (let p : tie.In-loop Inv-loop μ-loop = search in p .loop-test .taken) in
+    omega (arith, loop-test-taken)
 
 loop-again : tie.Need-loop-again Inv-loop μ-loop
 loop-again c =
-    (trying-none (c .before .before .before .loop .inv .0) (c .before .before .loop-test .taken) refl (c .if1 .taken), c .before .before .before .loop .inv .1)
+    let loop-inv = (let p : tie.At-loop Inv-loop μ-loop = search in p .loop .inv) in
+    let loop-test-taken = (let p : tie.In-loop Inv-loop μ-loop = search in p .loop-test .taken) in
+    (trying-none (loop-inv .0) loop-test-taken refl (c .if1 .taken), loop-inv .1)
 
 loop-less-2 : tie.Need-loop-less-2 Inv-loop μ-loop
 loop-less-2 c =
-    omega (arith, c .before .before .before .loop-test .taken)
+    let loop-test-taken = (let p : tie.In-loop Inv-loop μ-loop = search in p .loop-test .taken) in
+    omega (arith, loop-test-taken)
 
 loop-again-2 : tie.Need-loop-again-2 Inv-loop μ-loop
 loop-again-2 c =
-    (trying-large (c .before .before .before .before .loop .inv .0) (c .before .before .before .loop-test .taken) refl (c .if2 .taken), c .before .before .before .before .loop .inv .1)
+    let loop-inv = (let p : tie.At-loop Inv-loop μ-loop = search in p .loop .inv) in
+    let loop-test-taken = (let p : tie.In-loop Inv-loop μ-loop = search in p .loop-test .taken) in
+    (trying-large (loop-inv .0) loop-test-taken refl (c .if2 .taken), loop-inv .1)
 
 field-requires : tie.Need-field-requires Inv-loop μ-loop
 field-requires c κs =
-    (omega (arith, c .before .before .before .loop-test .taken, sited rack (c .before .before .before .before .before .before .before .before .before .before .before .before .before .before .before .args .block .now) (c .before .before .before .before .before .before .before .before .before .before .before .before .before .before .before .pre .0 .0) .linked .few), omega arith, sited rack (c .before .before .before .before .before .before .before .before .before .before .before .before .before .before .before .args .block .now) (c .before .before .before .before .before .before .before .before .before .before .before .before .before .before .before .pre .0 .0) .linked .size)
+    let start : tie.Start Inv-loop μ-loop = search in
+    let loop-test-taken = (let p : tie.In-loop Inv-loop μ-loop = search in p .loop-test .taken) in
+    (omega (arith, loop-test-taken, sited rack (start .args .block .now) (start .pre .0 .0) .linked .few), omega arith, sited rack (start .args .block .now) (start .pre .0 .0) .linked .size)
 
 may-leave-requires : tie.Need-may-leave-requires Inv-loop μ-loop
 may-leave-requires c κs =
-    ((c .before .before .before .before .before .before .before .before .before .before .before .before .before .before .before .before .before .before .before .before .before .before .before .pre .0 .0, c .before .before .before .before .before .before .before .before .before .before .before .before .before .before .before .before .before .before .before .before .before .before .before .pre .0 .1, c .before .before .before .before .before .before .before .before .before .before .before .before .before .before .before .before .before .before .before .before .before .before .before .pre .0 .2), c .before .before .before .before .before .before .before .before .before .before .before .before .loop .inv .1)
+    let loop-inv = (let p : tie.At-loop Inv-loop μ-loop = search in p .loop .inv) in
+    let c : tie.At-loop Inv-loop μ-loop = search in
+    let start : tie.Start Inv-loop μ-loop = search in
+    ((start .pre .0 .0, start .pre .0 .1, start .pre .0 .2), loop-inv .1)
 
 same-length : tie.Need-same-length Inv-loop μ-loop
 same-length c =
-    c .before .before .before .before .before .before .before .before .before .before .before .before .before .before .before .before .before .before .before .before .before .before .before .before .before .before .before .before .loop .inv .0 .untried .len ∙ sym (c .before .before .before .before .before .before .before .before .before .before .before .before .before .before .before .before .before .before .before .before .before .before .before .before .before .before .before .before .before .before .before .before .before .before .before .before .before .before .before .pre .0 .3)
+    let c : tie.After-may-leave-arg2 Inv-loop μ-loop = search in
+    let loop-inv = (let p : tie.At-loop Inv-loop μ-loop = search in p .loop .inv) in
+    let start : tie.Start Inv-loop μ-loop = search in
+    loop-inv .0 .untried .len ∙ sym (start .pre .0 .3)
 
 same-length-2 : tie.Need-same-length-2 Inv-loop μ-loop
 same-length-2 c =
-    c .before .before .before .before .before .before .before .before .before .before .before .before .before .before .marks .given ∙ ap length (c .before .before .before .before .before .before .before .before .before .before .before .before .before .before .before .before .before .before .before .before .before .before .before .before .before .before .before .before .loop .inv .1 .unmarked ∙ sym (c .before .before .before .before .before .before .before .before .before .before .before .before .before .before .before .before .before .before .before .before .before .before .before .before .before .before .before .before .before .before .before .before .before .before .before .before .before .before .before .pre .1 .unmarked))
+    let marks-given = (let p : tie.After-marks Inv-loop μ-loop = search in p .marks .given) in
+    let c : tie.After-marks Inv-loop μ-loop = search in
+    let loop-inv = (let p : tie.At-loop Inv-loop μ-loop = search in p .loop .inv) in
+    let c : tie.At-loop Inv-loop μ-loop = search in
+    let start : tie.Start Inv-loop μ-loop = search in
+    marks-given ∙ ap length (loop-inv .1 .unmarked ∙ sym (start .pre .1 .unmarked))
 
 same-length-3 : tie.Need-same-length-3 Inv-loop μ-loop
 same-length-3 c =
-    c .before .before .before .before .before .before .before .before .before .before .before .before .order .given ∙ c .before .before .before .before .before .before .before .before .before .before .before .before .before .before .before .before .before .before .before .before .before .before .before .before .before .before .before .before .loop .inv .1 .order-size ∙ sym (c .before .before .before .before .before .before .before .before .before .before .before .before .before .before .before .before .before .before .before .before .before .before .before .before .before .before .before .before .before .before .before .before .before .before .before .before .before .before .before .pre .1 .order-size)
+    let order-given = (let p : tie.After-order Inv-loop μ-loop = search in p .order .given) in
+    let c : tie.After-order Inv-loop μ-loop = search in
+    let loop-inv = (let p : tie.At-loop Inv-loop μ-loop = search in p .loop .inv) in
+    let c : tie.At-loop Inv-loop μ-loop = search in
+    let start : tie.Start Inv-loop μ-loop = search in
+    order-given ∙ loop-inv .1 .order-size ∙ sym (start .pre .1 .order-size)
 
 same-length-4 : tie.Need-same-length-4 Inv-loop μ-loop
 same-length-4 c =
-    c .before .before .before .before .before .before .before .before .before .before .starts .given ∙ c .before .before .before .before .before .before .before .before .before .before .before .before .before .before .before .before .before .before .before .before .before .before .before .before .before .before .before .before .loop .inv .1 .starts-size ∙ sym (c .before .before .before .before .before .before .before .before .before .before .before .before .before .before .before .before .before .before .before .before .before .before .before .before .before .before .before .before .before .before .before .before .before .before .before .before .before .before .before .pre .1 .starts-size)
+    let starts-given = (let p : tie.After-starts Inv-loop μ-loop = search in p .starts .given) in
+    let c : tie.After-starts Inv-loop μ-loop = search in
+    let loop-inv = (let p : tie.At-loop Inv-loop μ-loop = search in p .loop .inv) in
+    let c : tie.At-loop Inv-loop μ-loop = search in
+    let start : tie.Start Inv-loop μ-loop = search in
+    starts-given ∙ loop-inv .1 .starts-size ∙ sym (start .pre .1 .starts-size)
 
 same-length-5 : tie.Need-same-length-5 Inv-loop μ-loop
 same-length-5 c =
-    c .before .before .before .before .before .before .before .before .seen .given ∙ ap length (c .before .before .before .before .before .before .before .before .before .before .before .before .before .before .before .before .before .before .before .before .before .before .before .before .before .before .before .before .loop .inv .1 .unseen ∙ sym (c .before .before .before .before .before .before .before .before .before .before .before .before .before .before .before .before .before .before .before .before .before .before .before .before .before .before .before .before .before .before .before .before .before .before .before .before .before .before .before .pre .1 .unseen))
+    let seen-given = (let p : tie.After-seen Inv-loop μ-loop = search in p .seen .given) in
+    let c : tie.After-seen Inv-loop μ-loop = search in
+    let loop-inv = (let p : tie.At-loop Inv-loop μ-loop = search in p .loop .inv) in
+    let c : tie.At-loop Inv-loop μ-loop = search in
+    let start : tie.Start Inv-loop μ-loop = search in
+    seen-given ∙ ap length (loop-inv .1 .unseen ∙ sym (start .pre .1 .unseen))
 
 same-length-6 : tie.Need-same-length-6 Inv-loop μ-loop
 same-length-6 c =
-    c .before .before .before .before .before .before .numbers .given ∙ c .before .before .before .before .before .before .before .before .before .before .before .before .before .before .before .before .before .before .before .before .before .before .before .before .before .before .before .before .loop .inv .1 .numbers-size ∙ sym (c .before .before .before .before .before .before .before .before .before .before .before .before .before .before .before .before .before .before .before .before .before .before .before .before .before .before .before .before .before .before .before .before .before .before .before .before .before .before .before .pre .1 .numbers-size)
+    let numbers-given = (let p : tie.After-numbers Inv-loop μ-loop = search in p .numbers .given) in
+    let c : tie.After-numbers Inv-loop μ-loop = search in
+    let c : tie.In-loop Inv-loop μ-loop = search in
+    let loop-inv = (let p : tie.At-loop Inv-loop μ-loop = search in p .loop .inv) in
+    let start : tie.Start Inv-loop μ-loop = search in
+    numbers-given ∙ loop-inv .1 .numbers-size ∙ sym (start .pre .1 .numbers-size)
 
 same-length-7 : tie.Need-same-length-7 Inv-loop μ-loop
 same-length-7 c =
-    c .before .before .before .before .firsts .given ∙ c .before .before .before .before .before .before .before .before .before .before .before .before .before .before .before .before .before .before .before .before .before .before .before .before .before .before .before .before .loop .inv .1 .firsts-size ∙ sym (c .before .before .before .before .before .before .before .before .before .before .before .before .before .before .before .before .before .before .before .before .before .before .before .before .before .before .before .before .before .before .before .before .before .before .before .before .before .before .before .pre .1 .firsts-size)
+    let firsts-given = (let p : tie.After-firsts Inv-loop μ-loop = search in p .firsts .given) in
+    let c : tie.After-firsts Inv-loop μ-loop = search in
+    let c : tie.Else1 Inv-loop μ-loop = search in
+    let loop-inv = (let p : tie.At-loop Inv-loop μ-loop = search in p .loop .inv) in
+    let start : tie.Start Inv-loop μ-loop = search in
+    firsts-given ∙ loop-inv .1 .firsts-size ∙ sym (start .pre .1 .firsts-size)
 
 same-length-8 : tie.Need-same-length-8 Inv-loop μ-loop
 same-length-8 c =
-    c .before .before .stamps .given ∙ c .before .before .before .before .before .before .before .before .before .before .before .before .before .before .before .before .before .before .before .before .before .before .before .before .before .before .before .before .loop .inv .1 .stamps-size ∙ sym (c .before .before .before .before .before .before .before .before .before .before .before .before .before .before .before .before .before .before .before .before .before .before .before .before .before .before .before .before .before .before .before .before .before .before .before .before .before .before .before .pre .1 .stamps-size)
+    let stamps-given = (let p : tie.After-stamps Inv-loop μ-loop = search in p .stamps .given) in
+    let c : tie.After-stamps Inv-loop μ-loop = search in
+    let c : tie.After-field Inv-loop μ-loop = search in
+    let loop-inv = (let p : tie.At-loop Inv-loop μ-loop = search in p .loop .inv) in
+    let start : tie.Start Inv-loop μ-loop = search in
+    stamps-given ∙ loop-inv .1 .stamps-size ∙ sym (start .pre .1 .stamps-size)
 
 returns : tie.Need-returns Inv-loop μ-loop
 returns c =
-    (c .before .before .before .before .before .before .before .before .before .before .before .before .before .before .before .before .before .before .before .before .before .before .before .field .ensures ∙ tried-found (c .before .before .before .before .before .before .before .before .before .before .before .before .before .before .before .before .before .before .before .before .before .before .before .before .before .before .before .before .loop .inv .0) (c .before .before .before .before .before .before .before .before .before .before .before .before .before .before .before .before .before .before .before .before .before .before .before .before .before .before .before .loop-test .taken) refl (c .before .before .before .before .before .before .before .before .before .before .before .before .before .before .before .before .before .before .before .before .before .before .before .before .before .if1 .left) (c .before .before .before .before .before .before .before .before .before .before .before .before .before .before .before .before .before .before .before .before .before .before .before .before .if2 .left) (ap (can-leave (c .before .before .before .before .before .before .before .before .before .before .before .before .before .before .before .before .before .before .before .before .before .before .before .before .before .before .before .before .before .before .before .before .before .before .before .before .before .before .before .args .block .now)) (sym (c .before .before .before .before .before .before .before .before .before .before .before .before .before .before .before .before .before .before .before .before .before .before .before .field .ensures)) ∙ sym (c .before .before .before .before .before .before .before .before .before .before .before .before .before .before .before .may-leave .ensures .0) ∙ c .if3 .taken), c .before .before .before .before .before .before .before .before .before .before .before .before .before .before .before .before .before .before .before .before .before .before .before .before .before .before .before .before .loop .inv .0 .untried)
+    let start : tie.Start Inv-loop μ-loop = (let c : tie.After-may-leave Inv-loop μ-loop = search in let c : tie.At-loop Inv-loop μ-loop = search in search) in
+    let loop-inv = (let c : tie.After-may-leave Inv-loop μ-loop = search in let p : tie.At-loop Inv-loop μ-loop = search in p .loop .inv) in
+    let loop-test-taken = (let c : tie.After-may-leave Inv-loop μ-loop = search in let p : tie.In-loop Inv-loop μ-loop = search in p .loop-test .taken) in
+    let if1-left = (let c : tie.After-may-leave Inv-loop μ-loop = search in let p : tie.Else1 Inv-loop μ-loop = search in p .if1 .left) in
+    let if2-left = (let c : tie.After-may-leave Inv-loop μ-loop = search in let p : tie.Else2 Inv-loop μ-loop = search in p .if2 .left) in
+    let field-ensures = (let c : tie.After-may-leave Inv-loop μ-loop = search in let p : tie.After-field Inv-loop μ-loop = search in p .field .ensures) in
+    let may-leave-ensures = (let p : tie.After-may-leave Inv-loop μ-loop = search in p .may-leave .ensures) in
+    (field-ensures ∙ tried-found (loop-inv .0) loop-test-taken refl if1-left if2-left (ap (can-leave (start .args .block .now)) (sym field-ensures) ∙ sym (may-leave-ensures .0) ∙ c .if3 .taken), loop-inv .0 .untried)
 
 mul-sizes : tie.Need-mul-sizes Inv-loop μ-loop
 mul-sizes c =
-    omega (arith, c .before .before .before .before .before .before .before .before .before .before .before .before .before .before .before .before .before .before .before .before .before .before .before .before .before .before .before .loop-test .taken, sited rack (c .before .before .before .before .before .before .before .before .before .before .before .before .before .before .before .before .before .before .before .before .before .before .before .before .before .before .before .before .before .before .before .before .before .before .before .before .before .before .before .args .block .now) (c .before .before .before .before .before .before .before .before .before .before .before .before .before .before .before .before .before .before .before .before .before .before .before .before .before .before .before .before .before .before .before .before .before .before .before .before .before .before .before .pre .0 .0) .linked .few)
+    let c : tie.After-may-leave-arg2 Inv-loop μ-loop = search in
+    let loop-test-taken = (let p : tie.In-loop Inv-loop μ-loop = search in p .loop-test .taken) in
+    let start : tie.Start Inv-loop μ-loop = search in
+    omega (arith, loop-test-taken, sited rack (start .args .block .now) (start .pre .0 .0) .linked .few)
 
 slice-write-sizes : tie.Need-slice-write-sizes Inv-loop μ-loop
 slice-write-sizes c =
-    omega (arith, c .before .before .before .before .before .before .before .before .before .before .before .before .before .before .before .before .before .before .before .before .before .before .before .before .before .before .before .loop-test .taken, sited rack (c .before .before .before .before .before .before .before .before .before .before .before .before .before .before .before .before .before .before .before .before .before .before .before .before .before .before .before .before .before .before .before .before .before .before .before .before .before .before .before .args .block .now) (c .before .before .before .before .before .before .before .before .before .before .before .before .before .before .before .before .before .before .before .before .before .before .before .before .before .before .before .before .before .before .before .before .before .before .before .before .before .before .before .pre .0 .0) .linked .few, c .before .before .before .before .before .before .before .before .before .before .before .before .before .before .before .before .before .before .before .before .before .before .before .before .before .before .before .before .loop .inv .0 .untried .len)
+    let c : tie.After-may-leave-arg2 Inv-loop μ-loop = search in
+    let loop-test-taken = (let p : tie.In-loop Inv-loop μ-loop = search in p .loop-test .taken) in
+    let loop-inv = (let p : tie.At-loop Inv-loop μ-loop = search in p .loop .inv) in
+    let start : tie.Start Inv-loop μ-loop = search in
+    omega (arith, loop-test-taken, sited rack (start .args .block .now) (start .pre .0 .0) .linked .few, loop-inv .0 .untried .len)
 
 loop-less-3 : tie.Need-loop-less-3 Inv-loop μ-loop
 loop-less-3 c =
-    omega (arith, c .before .before .before .before .before .before .before .before .before .before .before .before .before .before .before .before .before .before .before .before .before .before .before .before .before .before .before .loop-test .taken)
+    let c : tie.After-may-leave-arg Inv-loop μ-loop = search in
+    let loop-test-taken = (let p : tie.In-loop Inv-loop μ-loop = search in p .loop-test .taken) in
+    omega (arith, loop-test-taken)
 
 loop-again-3 : tie.Need-loop-again-3 Inv-loop μ-loop
 loop-again-3 c =
-    (trying-strike (c .before .before .before .before .before .before .before .before .before .before .before .before .before .before .before .before .before .before .before .before .before .before .before .before .before .before .before .before .loop .inv .0) (sited rack (c .before .before .before .before .before .before .before .before .before .before .before .before .before .before .before .before .before .before .before .before .before .before .before .before .before .before .before .before .before .before .before .before .before .before .before .before .before .before .before .args .block .now) (c .before .before .before .before .before .before .before .before .before .before .before .before .before .before .before .before .before .before .before .before .before .before .before .before .before .before .before .before .before .before .before .before .before .before .before .before .before .before .before .pre .0 .0) .linked .few) (c .before .before .before .before .before .before .before .before .before .before .before .before .before .before .before .before .before .before .before .before .before .before .before .before .before .before .before .loop-test .taken) (ap (can-leave (c .before .before .before .before .before .before .before .before .before .before .before .before .before .before .before .before .before .before .before .before .before .before .before .before .before .before .before .before .before .before .before .before .before .before .before .before .before .before .before .args .block .now)) (sym (c .before .before .before .before .before .before .before .before .before .before .before .before .before .before .before .before .before .before .before .before .before .before .before .field .ensures)) ∙ sym (c .before .before .before .before .before .before .before .before .before .before .before .before .before .before .before .may-leave .ensures .0) ∙ c .if3 .left), c .before .before .before .before .before .before .before .before .before .before .before .before .before .before .before .may-leave .ensures .1 (c .if3 .left))
+    let start : tie.Start Inv-loop μ-loop = (let c : tie.After-may-leave Inv-loop μ-loop = search in let c : tie.At-loop Inv-loop μ-loop = search in search) in
+    let loop-inv = (let c : tie.After-may-leave Inv-loop μ-loop = search in let p : tie.At-loop Inv-loop μ-loop = search in p .loop .inv) in
+    let loop-test-taken = (let c : tie.After-may-leave Inv-loop μ-loop = search in let p : tie.In-loop Inv-loop μ-loop = search in p .loop-test .taken) in
+    let field-ensures = (let c : tie.After-may-leave Inv-loop μ-loop = search in let p : tie.After-field Inv-loop μ-loop = search in p .field .ensures) in
+    let may-leave-ensures = (let p : tie.After-may-leave Inv-loop μ-loop = search in p .may-leave .ensures) in
+    (trying-strike (loop-inv .0) (sited rack (start .args .block .now) (start .pre .0 .0) .linked .few) loop-test-taken (ap (can-leave (start .args .block .now)) (sym field-ensures) ∙ sym (may-leave-ensures .0) ∙ c .if3 .left), may-leave-ensures .1 (c .if3 .left))
 
 same-length-9 : tie.Need-same-length-9 Inv-loop μ-loop
 same-length-9 c = search needs
@@ -142,7 +219,8 @@ same-length-16 c = search needs
 
 returns-2 : tie.Need-returns-2 Inv-loop μ-loop
 returns-2 c =
-    (tried-all (c .before .loop .inv .0) (c .loop-test .left), c .before .loop .inv .0 .untried)
+    let loop-inv = (let p : tie.At-loop Inv-loop μ-loop = search in p .loop .inv) in
+    (tried-all (loop-inv .0) (c .loop-test .left), loop-inv .0 .untried)
 
 pub first-asked-spec : {M : Type 1} → statement M
 first-asked-spec =

@@ -8,8 +8,9 @@ use Rattle.balance.proofs.leaving.may_leave.Tie as tie
 
 leaves-requires : tie.Need-leaves-requires
 leaves-requires c κs =
-    let a = c .before .before .before .before .before .before .before .before .before .before .before .before .before .before .before .pre .1 in
-    (c .before .before .before .before .before .before .before .before .before .before .before .before .before .before .before .pre .0 .0, ((a .unmarked, a .order-size, a .starts-size, a .unseen), (a .numbers-size, a .firsts-size, a .stamps-size)))
+    let start : tie.Start = search in
+    let a = start .pre .1 in
+    (start .pre .0 .0, ((a .unmarked, a .order-size, a .starts-size, a .unseen), (a .numbers-size, a .firsts-size, a .stamps-size)))
 
 enum-told : tie.Need-enum-told
 enum-told c = search needs
@@ -40,7 +41,11 @@ same-length-7 c = search needs
 
 returns : tie.Need-returns
 returns c =
-    (leaves-yes (c .before .before .before .before .before .before .before .before .before .before .before .before .before .before .before .before .before .before .before .before .before .before .before .before .before .before .before .before .before .before .before .before .args .block .now) (c .before .before .before .before .before .before .before .before .before .before .before .before .before .before .before .before .before .before .before .before .before .before .before .before .before .before .before .before .before .before .before .before .args .to) (c .before .before .before .before .before .before .before .before .before .before .before .before .before .before .before .before .before .before .before .before .before .before .before .before .before .before .before .before .before .before .before .before .args .serial) (c .before .before .before .before .before .before .before .before .before .before .before .before .before .before .before .before .before .before .before .before .before .before .before .before .before .before .before .before .before .before .before .before .pre .0 .1) (c .before .before .before .before .before .before .before .before .before .before .before .before .before .before .before .before .before .before .before .before .before .before .before .before .before .before .before .before .before .before .before .before .pre .0 .2) (departs-told (c .before .before .before .before .before .before .before .before .before .before .before .before .before .before .before .before .before .before .before .before .before .before .before .before .before .before .before .before .before .before .before .before .args .block .now) (c .before .before .before .before .before .before .before .before .before .before .before .before .before .before .before .before .before .before .before .before .before .before .before .before .before .before .before .before .before .before .before .before .args .to) (c .before .before .before .before .before .before .before .before .before .before .before .before .before .before .before .before .before .before .before .before .before .before .before .before .before .before .before .before .before .before .before .before .args .serial) _ _ _ _ _ (c .before .before .before .before .before .before .before .before .before .before .before .before .before .before .before .before .leaves .ensures .0) (c .enum-told .given .1) .asked), λ e. absurd (true≢false e))
+    let enum-told-given = (let p : tie.After-enum-told = search in p .enum-told .given) in
+    let leaves-ensures = (let p : tie.After-leaves = search in p .leaves .ensures) in
+    let c : tie.After-leaves = search in
+    let start : tie.Start = search in
+    (leaves-yes (start .args .block .now) (start .args .to) (start .args .serial) (start .pre .0 .1) (start .pre .0 .2) (departs-told (start .args .block .now) (start .args .to) (start .args .serial) _ _ _ _ _ (leaves-ensures .0) (enum-told-given .1) .asked), λ e. absurd (true≢false e))
 
 same-length-8 : tie.Need-same-length-8
 same-length-8 c = search needs
@@ -65,9 +70,13 @@ same-length-14 c = search needs
 
 returns-2 : tie.Need-returns-2
 returns-2 c =
-    let a = c .before .before .before .before .before .before .before .before .before .before .before .before .before .before .before .before .before .before .before .before .before .before .before .before .before .before .before .before .before .before .before .before .pre .1 in
-    let f = forgotten-told _ _ (c .before .before .before .before .before .before .before .before .before .before .before .before .before .before .before .before .leaves .ensures .1) (c .enum-told2 .given .1) in (
-      leaves-no (c .before .before .before .before .before .before .before .before .before .before .before .before .before .before .before .before .before .before .before .before .before .before .before .before .before .before .before .before .before .before .before .before .args .block .now) (c .before .before .before .before .before .before .before .before .before .before .before .before .before .before .before .before .before .before .before .before .before .before .before .before .before .before .before .before .before .before .before .before .args .to) (c .before .before .before .before .before .before .before .before .before .before .before .before .before .before .before .before .before .before .before .before .before .before .before .before .before .before .before .before .before .before .before .before .args .serial) (c .before .before .before .before .before .before .before .before .before .before .before .before .before .before .before .before .before .before .before .before .before .before .before .before .before .before .before .before .before .before .before .before .pre .0 .1) (c .before .before .before .before .before .before .before .before .before .before .before .before .before .before .before .before .before .before .before .before .before .before .before .before .before .before .before .before .before .before .before .before .pre .0 .2) _ (refused-told (c .before .before .before .before .before .before .before .before .before .before .before .before .before .before .before .before .before .before .before .before .before .before .before .before .before .before .before .before .before .before .before .before .args .block .now) (c .before .before .before .before .before .before .before .before .before .before .before .before .before .before .before .before .before .before .before .before .before .before .before .before .before .before .before .before .before .before .before .before .args .to) (c .before .before .before .before .before .before .before .before .before .before .before .before .before .before .before .before .before .before .before .before .before .before .before .before .before .before .before .before .before .before .before .before .args .serial) _ _ _ _ _ (c .before .before .before .before .before .before .before .before .before .before .before .before .before .before .before .before .leaves .ensures .0) (c .enum-told2 .given .1)),
+    let enum-told2-given = (let p : tie.After-enum-told2 = search in p .enum-told2 .given) in
+    let leaves-ensures = (let p : tie.After-leaves = search in p .leaves .ensures) in
+    let c : tie.After-leaves = search in
+    let start : tie.Start = search in
+    let a = start .pre .1 in
+    let f = forgotten-told _ _ (leaves-ensures .1) (enum-told2-given .1) in (
+      leaves-no (start .args .block .now) (start .args .to) (start .args .serial) (start .pre .0 .1) (start .pre .0 .2) _ (refused-told (start .args .block .now) (start .args .to) (start .args .serial) _ _ _ _ _ (leaves-ensures .0) (enum-told2-given .1)),
       λ e. record { unmarked = f .0; order-size = search needs; starts-size = search needs; unseen = f .1; numbers-size = search needs; firsts-size = search needs; stamps-size = search needs },
     )
 

@@ -34,7 +34,8 @@ part-count-end c = search needs
 
 count-requires : tie.Need-count-requires
 count-requires c κs =
-    subst (λ (l : List ℕ). is-image rack l ≡ true) (sym (part-is (c .before .before .args .mesh .now) (c .before .before .args .i) _ refl)) (c .before .before .pre .0 .image (c .before .before .args .i) (c .before .before .pre .1))
+    let start : tie.Start = search in
+    subst (λ (l : List ℕ). is-image rack l ≡ true) (sym (part-is (start .args .mesh .now) (start .args .i) _ refl)) (start .pre .0 .image (start .args .i) (start .pre .1))
 
 cast-result : tie.Need-cast-result
 cast-result c =
@@ -42,7 +43,8 @@ cast-result c =
 
 returns : tie.Need-returns
 returns c =
-    (c .count .ensures .0 ∙ ap (λ (l : List ℕ). length (picked (oracle-of (c .before .before .before .args .o)) (block-in l .darts))) (part-is (c .before .before .before .args .mesh .now) (c .before .before .before .args .i) _ refl), c .count .ensures .1)
+    let start : tie.Start = search in
+    (c .count .ensures .0 ∙ ap (λ (l : List ℕ). length (picked (oracle-of (start .args .o)) (block-in l .darts))) (part-is (start .args .mesh .now) (start .args .i) _ refl), c .count .ensures .1)
 
 pub count-part-spec : {M : Type 1} → statement M
 count-part-spec =

@@ -22,31 +22,44 @@ loop-holds c =
 
 count-part-requires : tie.Need-count-part-requires Inv-loop μ-loop
 count-part-requires c κs =
-    (c .before .before .before .pre, c .loop-test .taken)
+    let start : tie.Start Inv-loop μ-loop = search in
+    (start .pre, c .loop-test .taken)
 
 mul-c : tie.Need-mul-c Inv-loop μ-loop
 mul-c c =
-    omega (arith, c .before .loop-test .taken, c .before .before .before .before .pre .few)
+    let start : tie.Start Inv-loop μ-loop = search in
+    let loop-test-taken = (let p : tie.In-loop Inv-loop μ-loop = search in p .loop-test .taken) in
+    omega (arith, loop-test-taken, start .pre .few)
 
 array-write-c : tie.Need-array-write-c Inv-loop μ-loop
 array-write-c c =
-    omega (arith, c .before .loop-test .taken, c .before .before .before .before .pre .few, c .before .before .loop .inv .size)
+    let start : tie.Start Inv-loop μ-loop = search in
+    let loop-inv = (let p : tie.At-loop Inv-loop μ-loop = search in p .loop .inv) in
+    let loop-test-taken = (let p : tie.In-loop Inv-loop μ-loop = search in p .loop-test .taken) in
+    omega (arith, loop-test-taken, start .pre .few, loop-inv .size)
 
 add-i : tie.Need-add-i Inv-loop μ-loop
 add-i c =
-    omega (arith, c .before .loop-test .taken, c .before .before .before .before .pre .few)
+    let start : tie.Start Inv-loop μ-loop = search in
+    let loop-test-taken = (let p : tie.In-loop Inv-loop μ-loop = search in p .loop-test .taken) in
+    omega (arith, loop-test-taken, start .pre .few)
 
 loop-less : tie.Need-loop-less Inv-loop μ-loop
 loop-less c =
-    omega (arith, c .before .loop-test .taken)
+    let loop-test-taken = (let p : tie.In-loop Inv-loop μ-loop = search in p .loop-test .taken) in
+    omega (arith, loop-test-taken)
 
 loop-again : tie.Need-loop-again Inv-loop μ-loop
 loop-again c =
-    filling-next (c .before .before .loop .inv) (c .before .before .before .before .pre .few) (c .before .loop-test .taken) (c .count-part .ensures .0)
+    let start : tie.Start Inv-loop μ-loop = search in
+    let loop-inv = (let p : tie.At-loop Inv-loop μ-loop = search in p .loop .inv) in
+    let loop-test-taken = (let p : tie.In-loop Inv-loop μ-loop = search in p .loop-test .taken) in
+    filling-next loop-inv (start .pre .few) loop-test-taken (c .count-part .ensures .0)
 
 returns : tie.Need-returns Inv-loop μ-loop
 returns c =
-    record { size = c .before .loop .inv .size; entry = filled (c .before .loop .inv) (c .loop-test .left) }
+    let loop-inv = (let p : tie.At-loop Inv-loop μ-loop = search in p .loop .inv) in
+    record { size = loop-inv .size; entry = filled loop-inv (c .loop-test .left) }
 
 pub counts-spec : {M : Type 1} → statement M
 counts-spec =

@@ -25,40 +25,56 @@ loop-holds c =
 
 mul-surplus-of : tie.Need-mul-surplus-of Inv-loop μ-loop
 mul-surplus-of c =
-    omega (arith, c .loop-test .taken, c .before .before .pre .0)
+    let start : tie.Start Inv-loop μ-loop = search in
+    omega (arith, c .loop-test .taken, start .pre .0)
 
 array-read-surplus-of : tie.Need-array-read-surplus-of Inv-loop μ-loop
 array-read-surplus-of c =
-    let n : length (c .before .before .args .t1) ≡ 16 = c .before .before .good .0 .1 .0 .1 in
-    omega (arith, c .loop-test .taken, c .before .before .pre .0)
+    let start : tie.Start Inv-loop μ-loop = search in
+    let n : length (start .args .t1) ≡ 16 = start .good .0 .1 .0 .1 in
+    omega (arith, c .loop-test .taken, start .pre .0)
 
 surplus-of-requires : tie.Need-surplus-of-requires Inv-loop μ-loop
 surplus-of-requires c κs =
-    (omega (arith, c .before .before .pre .2 (c .before .loop .i) (c .loop-test .taken)), c .before .before .pre .1)
+    let start : tie.Start Inv-loop μ-loop = search in
+    let loop-i = (let p : tie.At-loop Inv-loop μ-loop = search in p .loop .i) in
+    (omega (arith, start .pre .2 loop-i (c .loop-test .taken)), start .pre .1)
 
 mul-s : tie.Need-mul-s Inv-loop μ-loop
 mul-s c =
-    omega (arith, c .before .loop-test .taken, c .before .before .before .pre .0)
+    let start : tie.Start Inv-loop μ-loop = search in
+    let loop-test-taken = (let p : tie.In-loop Inv-loop μ-loop = search in p .loop-test .taken) in
+    omega (arith, loop-test-taken, start .pre .0)
 
 array-set-from-s : tie.Need-array-set-from-s Inv-loop μ-loop
 array-set-from-s c =
-    omega (arith, c .before .loop-test .taken, c .before .before .before .pre .0, c .before .before .loop .inv .size)
+    let start : tie.Start Inv-loop μ-loop = search in
+    let loop-inv = (let p : tie.At-loop Inv-loop μ-loop = search in p .loop .inv) in
+    let loop-test-taken = (let p : tie.In-loop Inv-loop μ-loop = search in p .loop-test .taken) in
+    omega (arith, loop-test-taken, start .pre .0, loop-inv .size)
 
 add-i : tie.Need-add-i Inv-loop μ-loop
 add-i c =
-    omega (arith, c .before .loop-test .taken, c .before .before .before .pre .0)
+    let start : tie.Start Inv-loop μ-loop = search in
+    let loop-test-taken = (let p : tie.In-loop Inv-loop μ-loop = search in p .loop-test .taken) in
+    omega (arith, loop-test-taken, start .pre .0)
 
 loop-less : tie.Need-loop-less Inv-loop μ-loop
 loop-less c =
-    omega (arith, c .before .loop-test .taken)
+    let loop-test-taken = (let p : tie.In-loop Inv-loop μ-loop = search in p .loop-test .taken) in
+    omega (arith, loop-test-taken)
 
 loop-again : tie.Need-loop-again Inv-loop μ-loop
 loop-again c =
-    filling-next (c .before .before .loop .inv) (c .before .before .before .pre .0) (c .before .loop-test .taken) (toZ-ofZ w32 (c .surplus-of .result) (search needs) ∙ c .surplus-of .ensures)
+    let start : tie.Start Inv-loop μ-loop = search in
+    let loop-inv = (let p : tie.At-loop Inv-loop μ-loop = search in p .loop .inv) in
+    let loop-test-taken = (let p : tie.In-loop Inv-loop μ-loop = search in p .loop-test .taken) in
+    filling-next loop-inv (start .pre .0) loop-test-taken (toZ-ofZ w32 (c .surplus-of .result) (search needs) ∙ c .surplus-of .ensures)
 
 returns : tie.Need-returns Inv-loop μ-loop
 returns c =
-    (c .before .loop .inv .size, filled (c .before .loop .inv) (c .loop-test .left))
+    let loop-inv = (let p : tie.At-loop Inv-loop μ-loop = search in p .loop .inv) in
+    (loop-inv .size, filled loop-inv (c .loop-test .left))
 
 pub less-mean-spec : {M : Type 1} → statement M
 less-mean-spec =

@@ -27,37 +27,53 @@ loop-holds c =
 
 mul-x : tie.Need-mul-x Inv-loop μ-loop
 mul-x c =
-    omega (arith, c .loop-test .taken, c .before .before .pre)
+    let start : tie.Start Inv-loop μ-loop = search in
+    omega (arith, c .loop-test .taken, start .pre)
 
 array-copy-out-x : tie.Need-array-copy-out-x Inv-loop μ-loop
 array-copy-out-x c =
-    let n : length (c .before .before .args .t1) ≡ 16 = c .before .before .good .0 .1 .0 .1 in
-    omega (arith, c .loop-test .taken, c .before .before .pre)
+    let start : tie.Start Inv-loop μ-loop = search in
+    let n : length (start .args .t1) ≡ 16 = start .good .0 .1 .0 .1 in
+    omega (arith, c .loop-test .taken, start .pre)
 
 is-below-requires : tie.Need-is-below-requires Inv-loop μ-loop
 is-below-requires c κs = search needs
 
 returns : tie.Need-returns Inv-loop μ-loop
 returns c =
-    let e : toZ w32 (ofZ w32 (getD (c .before .before .before .before .before .args .t1) (c .before .before .before .before .loop .i) (pos 0))) ≡ getD (c .before .before .before .before .before .args .t1) (c .before .before .before .before .loop .i) (pos 0) = toZ-ofZ w32 (getD (c .before .before .before .before .before .args .t1) (c .before .before .before .before .loop .i) (pos 0)) (search needs) in
-    sought (c .before .before .before .before .loop .inv) (c .before .before .before .before .before .args .k) (c .before .before .before .loop-test .taken) (ap is-below (sym e) ∙ sym (c .before .is-below .ensures) ∙ c .if1 .taken)
+    let start : tie.Start Inv-loop μ-loop = search in
+    let loop-i = (let p : tie.At-loop Inv-loop μ-loop = search in p .loop .i) in
+    let loop-inv = (let p : tie.At-loop Inv-loop μ-loop = search in p .loop .inv) in
+    let loop-test-taken = (let p : tie.In-loop Inv-loop μ-loop = search in p .loop-test .taken) in
+    let is-below-ensures = (let p : tie.After-is-below Inv-loop μ-loop = search in p .is-below .ensures) in
+    let e : toZ w32 (ofZ w32 (getD (start .args .t1) loop-i (pos 0))) ≡ getD (start .args .t1) loop-i (pos 0) = toZ-ofZ w32 (getD (start .args .t1) loop-i (pos 0)) (search needs) in
+    sought loop-inv (start .args .k) loop-test-taken (ap is-below (sym e) ∙ sym is-below-ensures ∙ c .if1 .taken)
 
 add-i : tie.Need-add-i Inv-loop μ-loop
 add-i c =
-    omega (arith, c .before .before .before .loop-test .taken, c .before .before .before .before .before .pre)
+    let start : tie.Start Inv-loop μ-loop = search in
+    let loop-test-taken = (let p : tie.In-loop Inv-loop μ-loop = search in p .loop-test .taken) in
+    omega (arith, loop-test-taken, start .pre)
 
 loop-less : tie.Need-loop-less Inv-loop μ-loop
 loop-less c =
-    omega (arith, c .before .before .before .loop-test .taken)
+    let loop-test-taken = (let p : tie.In-loop Inv-loop μ-loop = search in p .loop-test .taken) in
+    omega (arith, loop-test-taken)
 
 loop-again : tie.Need-loop-again Inv-loop μ-loop
 loop-again c =
-    let e : toZ w32 (ofZ w32 (getD (c .before .before .before .before .before .args .t1) (c .before .before .before .before .loop .i) (pos 0))) ≡ getD (c .before .before .before .before .before .args .t1) (c .before .before .before .before .loop .i) (pos 0) = toZ-ofZ w32 (getD (c .before .before .before .before .before .args .t1) (c .before .before .before .before .loop .i) (pos 0)) (search needs) in
-    seeking-next (c .before .before .before .before .loop .inv) (ap is-below (sym e) ∙ sym (c .before .is-below .ensures) ∙ c .if1 .left)
+    let start : tie.Start Inv-loop μ-loop = search in
+    let loop-i = (let p : tie.At-loop Inv-loop μ-loop = search in p .loop .i) in
+    let loop-inv = (let p : tie.At-loop Inv-loop μ-loop = search in p .loop .inv) in
+    let is-below-ensures = (let p : tie.After-is-below Inv-loop μ-loop = search in p .is-below .ensures) in
+    let e : toZ w32 (ofZ w32 (getD (start .args .t1) loop-i (pos 0))) ≡ getD (start .args .t1) loop-i (pos 0) = toZ-ofZ w32 (getD (start .args .t1) loop-i (pos 0)) (search needs) in
+    seeking-next loop-inv (ap is-below (sym e) ∙ sym is-below-ensures ∙ c .if1 .left)
 
 returns-2 : tie.Need-returns-2 Inv-loop μ-loop
 returns-2 c =
-    sought-all (c .before .loop .inv) (c .before .before .args .k) (c .loop-test .left)
+    let start : tie.Start Inv-loop μ-loop = search in
+    let loop-inv = (let p : tie.At-loop Inv-loop μ-loop = search in p .loop .inv) in
+    sought-all loop-inv (start .args .k) (c .loop-test .left)
 
 pub some-below-spec : {M : Type 1} → statement M
 some-below-spec =

@@ -12,7 +12,8 @@ counts-requires c κs = search needs
 
 total-requires : tie.Need-total-requires
 total-requires c κs =
-    (c .before .before .pre .few, counted-small (c .before .before .pre) (c .counts .ensures))
+    let start : tie.Start = search in
+    (start .pre .few, counted-small (start .pre) (c .counts .ensures))
 
 cast-mean : tie.Need-cast-mean
 cast-mean c = search needs
@@ -22,11 +23,16 @@ div-mean c = search needs
 
 less-mean-requires : tie.Need-less-mean-requires
 less-mean-requires c κs =
-    (c .before .before .before .pre .few, mean-small (c .total .result) _ (c .total .ensures .1), counted-small (c .before .before .before .pre) (c .before .counts .ensures))
+    let start : tie.Start = search in
+    let counts-ensures = (let p : tie.After-counts = search in p .counts .ensures) in
+    (start .pre .few, mean-small (c .total .result) _ (c .total .ensures .1), counted-small (start .pre) counts-ensures)
 
 returns : tie.Need-returns
 returns c =
-    surpluses-told (oracle-of (c .before .before .before .before .args .o)) (c .before .before .before .before .args .mesh .now) (c .before .before .counts .ensures) (c .before .total .ensures .0) refl (c .less-mean .ensures .0) (c .less-mean .ensures .1)
+    let start : tie.Start = search in
+    let counts-ensures = (let p : tie.After-counts = search in p .counts .ensures) in
+    let total-ensures = (let p : tie.After-total = search in p .total .ensures) in
+    surpluses-told (oracle-of (start .args .o)) (start .args .mesh .now) counts-ensures (total-ensures .0) refl (c .less-mean .ensures .0) (c .less-mean .ensures .1)
 
 pub surpluses-spec : {M : Type 1} → statement M
 surpluses-spec =

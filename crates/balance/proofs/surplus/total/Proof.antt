@@ -21,20 +21,26 @@ loop-holds c =
 
 mul-t : tie.Need-mul-t Inv-loop μ-loop
 mul-t c =
-    omega (arith, c .loop-test .taken, c .before .before .pre .0)
+    let start : tie.Start Inv-loop μ-loop = search in
+    omega (arith, c .loop-test .taken, start .pre .0)
 
 array-read-t : tie.Need-array-read-t Inv-loop μ-loop
 array-read-t c =
-    let n : length (c .before .before .args .t1) ≡ 16 = c .before .before .good .0 .1 .0 .1 in
-    omega (arith, c .loop-test .taken, c .before .before .pre .0)
+    let start : tie.Start Inv-loop μ-loop = search in
+    let n : length (start .args .t1) ≡ 16 = start .good .0 .1 .0 .1 in
+    omega (arith, c .loop-test .taken, start .pre .0)
 
 add-t : tie.Need-add-t Inv-loop μ-loop
 add-t c =
-    omega (arith, c .loop-test .taken, c .before .before .pre .0, c .before .before .pre .1 (c .before .loop .i) (c .loop-test .taken), c .before .loop .inv .small-sum)
+    let start : tie.Start Inv-loop μ-loop = search in
+    let loop-i = (let p : tie.At-loop Inv-loop μ-loop = search in p .loop .i) in
+    let loop-inv = (let p : tie.At-loop Inv-loop μ-loop = search in p .loop .inv) in
+    omega (arith, c .loop-test .taken, start .pre .0, start .pre .1 loop-i (c .loop-test .taken), loop-inv .small-sum)
 
 add-i : tie.Need-add-i Inv-loop μ-loop
 add-i c =
-    omega (arith, c .loop-test .taken, c .before .before .pre .0)
+    let start : tie.Start Inv-loop μ-loop = search in
+    omega (arith, c .loop-test .taken, start .pre .0)
 
 loop-less : tie.Need-loop-less Inv-loop μ-loop
 loop-less c =
@@ -42,11 +48,16 @@ loop-less c =
 
 loop-again : tie.Need-loop-again Inv-loop μ-loop
 loop-again c =
-    summing-next (c .before .loop .inv) (c .loop-test .taken) (c .before .before .pre .1 (c .before .loop .i) (c .loop-test .taken))
+    let start : tie.Start Inv-loop μ-loop = search in
+    let loop-i = (let p : tie.At-loop Inv-loop μ-loop = search in p .loop .i) in
+    let loop-inv = (let p : tie.At-loop Inv-loop μ-loop = search in p .loop .inv) in
+    summing-next loop-inv (c .loop-test .taken) (start .pre .1 loop-i (c .loop-test .taken))
 
 returns : tie.Need-returns Inv-loop μ-loop
 returns c =
-    summed (c .before .loop .inv) (c .loop-test .left) (c .before .before .pre .0)
+    let start : tie.Start Inv-loop μ-loop = search in
+    let loop-inv = (let p : tie.At-loop Inv-loop μ-loop = search in p .loop .inv) in
+    summed loop-inv (c .loop-test .left) (start .pre .0)
 
 pub total-spec : {M : Type 1} → statement M
 total-spec =

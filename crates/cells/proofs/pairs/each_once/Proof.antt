@@ -24,47 +24,71 @@ abbrev μ-loop : tie.MeasureT-loop
 
 loop-holds : tie.Need-loop-holds Inv-loop μ-loop
 loop-holds c =
-    (omega arith, ap length (c .before .before .before .before .pre .2) ∙ length-replicate {A = ℕ} (c .before .before .before .before .args .count) 0, clear-stamps (c .before .before .before .before .args .count) (c .before .before .before .before .args .stamps .now) (c .before .before .before .before .pre .2), λ k h. absurd (omega arith))
+    let start : tie.Start Inv-loop μ-loop = search in
+    (omega arith, ap length (start .pre .2) ∙ length-replicate {A = ℕ} (start .args .count) 0, clear-stamps (start .args .count) (start .args .stamps .now) (start .pre .2), λ k h. absurd (omega arith))
 
 mul-p : tie.Need-mul-p Inv-loop μ-loop
 mul-p c =
-    omega (arith, c .loop-test .taken, c .before .before .before .before .before .before .pre .1 .count-few)
+    let start : tie.Start Inv-loop μ-loop = search in
+    omega (arith, c .loop-test .taken, start .pre .1 .count-few)
 
 shared-slice-read-p : tie.Need-shared-slice-read-p Inv-loop μ-loop
 shared-slice-read-p c =
-    omega (arith, c .before .loop-test .taken, c .before .before .before .before .before .before .before .pre .1 .count-few, c .before .before .before .before .before .before .before .pre .1 .firsts-size)
+    let start : tie.Start Inv-loop μ-loop = search in
+    let loop-test-taken = (let p : tie.In-loop Inv-loop μ-loop = search in p .loop-test .taken) in
+    omega (arith, loop-test-taken, start .pre .1 .count-few, start .pre .1 .firsts-size)
 
 ends-differ-requires : tie.Need-ends-differ-requires Inv-loop μ-loop
 ends-differ-requires c κs =
-    ((c .before .before .before .before .before .before .before .before .pre .0, c .before .before .before .before .before .before .before .before .pre .1 .first-below _ (c .before .before .loop-test .taken), omega (arith, c .before .before .loop-test .taken, c .before .before .before .loop .inv .1), c .before .before .before .before .before .before .before .before .pre .1 .numbers-size, omega (arith, c .before .before .before .loop .inv .1, c .before .before .before .before .before .before .before .before .pre .1 .count-few)), (λ q k. rw (c .before .before .before .loop .inv .1) (c .before .before .before .before .before .before .before .before .pre .1 .end-below _ (c .before .before .loop-test .taken) q k), c .before .before .before .loop .inv .2))
+    let start : tie.Start Inv-loop μ-loop = search in
+    let loop-inv = (let p : tie.At-loop Inv-loop μ-loop = search in p .loop .inv) in
+    let loop-test-taken = (let p : tie.In-loop Inv-loop μ-loop = search in p .loop-test .taken) in
+    ((start .pre .0, start .pre .1 .first-below _ loop-test-taken, omega (arith, loop-test-taken, loop-inv .1), start .pre .1 .numbers-size, omega (arith, loop-inv .1, start .pre .1 .count-few)), (λ q k. rw (loop-inv .1) (start .pre .1 .end-below _ loop-test-taken q k), loop-inv .2))
 
 same-length : tie.Need-same-length Inv-loop μ-loop
 same-length c =
-    c .before .before .before .ends-differ .ensures .1 .1 ∙ c .before .before .before .before .before .before .before .loop .inv .1 ∙ sym (ap length (c .before .before .before .before .before .before .before .before .before .before .before .before .pre .2) ∙ length-replicate {A = ℕ} (c .before .before .before .before .before .before .before .before .before .before .before .before .args .count) 0)
+    let start : tie.Start Inv-loop μ-loop = search in
+    let loop-inv = (let p : tie.At-loop Inv-loop μ-loop = search in p .loop .inv) in
+    let ends-differ-ensures = (let p : tie.After-ends-differ Inv-loop μ-loop = search in p .ends-differ .ensures) in
+    ends-differ-ensures .1 .1 ∙ loop-inv .1 ∙ sym (ap length (start .pre .2) ∙ length-replicate {A = ℕ} (start .args .count) 0)
 
 returns : tie.Need-returns Inv-loop μ-loop
 returns c =
-    ends-not _ _ _ _ _ (c .before .before .before .before .before .before .before .loop .a) (c .before .before .before .before .before .before .loop-test .taken) (sym (c .before .before .before .ends-differ .ensures .0) ∙ not-true _ (c .if1 .taken))
+    let loop-a = (let p : tie.At-loop Inv-loop μ-loop = search in p .loop .a) in
+    let loop-test-taken = (let p : tie.In-loop Inv-loop μ-loop = search in p .loop-test .taken) in
+    let ends-differ-ensures = (let p : tie.After-ends-differ Inv-loop μ-loop = search in p .ends-differ .ensures) in
+    ends-not _ _ _ _ _ loop-a loop-test-taken (sym (ends-differ-ensures .0) ∙ not-true _ (c .if1 .taken))
 
 add-a : tie.Need-add-a Inv-loop μ-loop
 add-a c =
-    omega (arith, c .before .before .before .before .before .before .loop-test .taken, c .before .before .before .before .before .before .before .before .before .before .before .before .pre .1 .count-few)
+    let start : tie.Start Inv-loop μ-loop = search in
+    let loop-test-taken = (let p : tie.In-loop Inv-loop μ-loop = search in p .loop-test .taken) in
+    omega (arith, loop-test-taken, start .pre .1 .count-few)
 
 loop-less : tie.Need-loop-less Inv-loop μ-loop
 loop-less c =
-    omega (arith, c .before .before .before .before .before .before .loop-test .taken)
+    let loop-test-taken = (let p : tie.In-loop Inv-loop μ-loop = search in p .loop-test .taken) in
+    omega (arith, loop-test-taken)
 
 loop-again : tie.Need-loop-again Inv-loop μ-loop
 loop-again c =
-    (omega (arith, c .before .before .before .before .before .before .loop-test .taken), c .before .before .before .ends-differ .ensures .1 .1 ∙ c .before .before .before .before .before .before .before .loop .inv .1, c .before .before .before .ends-differ .ensures .1 .0, true-more (λ k. distinct (k ∷ ends-of (column (c .before .before .before .before .before .before .before .before .before .before .before .before .args .block .now) 1) (column (c .before .before .before .before .before .before .before .before .before .before .before .before .args .block .now) 2) (c .before .before .before .before .before .before .before .before .before .before .before .before .args .numbers .now) (getD (c .before .before .before .before .before .before .before .before .before .before .before .before .args .firsts .now) k 0))) (c .before .before .before .before .before .before .before .loop .a) (c .before .before .before .before .before .before .before .loop .inv .3) (sym (c .before .before .before .ends-differ .ensures .0) ∙ not-false _ (c .if1 .left)))
+    let start : tie.Start Inv-loop μ-loop = search in
+    let loop-a = (let p : tie.At-loop Inv-loop μ-loop = search in p .loop .a) in
+    let loop-inv = (let p : tie.At-loop Inv-loop μ-loop = search in p .loop .inv) in
+    let loop-test-taken = (let p : tie.In-loop Inv-loop μ-loop = search in p .loop-test .taken) in
+    let ends-differ-ensures = (let p : tie.After-ends-differ Inv-loop μ-loop = search in p .ends-differ .ensures) in
+    (omega (arith, loop-test-taken), ends-differ-ensures .1 .1 ∙ loop-inv .1, ends-differ-ensures .1 .0, true-more (λ k. distinct (k ∷ ends-of (column (start .args .block .now) 1) (column (start .args .block .now) 2) (start .args .numbers .now) (getD (start .args .firsts .now) k 0))) loop-a (loop-inv .3) (sym (ends-differ-ensures .0) ∙ not-false _ (c .if1 .left)))
 
 same-length-2 : tie.Need-same-length-2 Inv-loop μ-loop
 same-length-2 c =
-    c .before .loop .inv .1 ∙ sym (ap length (c .before .before .before .before .before .before .pre .2) ∙ length-replicate {A = ℕ} (c .before .before .before .before .before .before .args .count) 0)
+    let start : tie.Start Inv-loop μ-loop = search in
+    let loop-inv = (let p : tie.At-loop Inv-loop μ-loop = search in p .loop .inv) in
+    loop-inv .1 ∙ sym (ap length (start .pre .2) ∙ length-replicate {A = ℕ} (start .args .count) 0)
 
 returns-2 : tie.Need-returns-2 Inv-loop μ-loop
 returns-2 c =
-    ends-all _ _ _ _ _ (λ k h. c .before .loop .inv .3 k (omega (arith, c .loop-test .left)))
+    let loop-inv = (let p : tie.At-loop Inv-loop μ-loop = search in p .loop .inv) in
+    ends-all _ _ _ _ _ (λ k h. loop-inv .3 k (omega (arith, c .loop-test .left)))
 
 pub each-once-spec : {M : Type 1} → statement M
 each-once-spec =

@@ -30,87 +30,137 @@ stamp-requires c κs = search needs
 
 loop-holds : tie.Need-loop-holds Inv-loop μ-loop
 loop-holds c =
-    let l = c .before .before .before .before .before .before .before .pre .0 .0 in
+    let start : tie.Start Inv-loop μ-loop = search in
+    let stamp-ensures = (let p : tie.After-stamp Inv-loop μ-loop = search in p .stamp .ensures) in
+    let l = start .pre .0 .0 in
     record {
-      going = going-start (round (l .few) (step-within _ _ _ (l .few) (l .next-within) (l .next-apart) (l .opposite-within) (l .opposite-apart)) (step-apart _ _ _ (l .few) (l .next-within) (l .next-apart) (l .opposite-within) (l .opposite-apart)) _ (c .before .before .before .before .before .before .before .pre .0 .1)) (c .before .before .before .before .before .before .before .pre .0 .1);
+      going = going-start (round (l .few) (step-within _ _ _ (l .few) (l .next-within) (l .next-apart) (l .opposite-within) (l .opposite-apart)) (step-apart _ _ _ (l .few) (l .next-within) (l .next-apart) (l .opposite-within) (l .opposite-apart)) _ (start .pre .0 .1)) (start .pre .0 .1);
       differ = refl;
-      stamped = stamped-first (c .before .before .before .before .before .before .before .args .stamps .now) (c .before .before .before .before .before .before .before .pre .0 .2) (c .before .before .before .before .before .before .before .pre .1 .1) (c .before .before .stamp .ensures .1);
+      stamped = stamped-first (start .args .stamps .now) (start .pre .0 .2) (start .pre .1 .1) (stamp-ensures .1);
     }
 
 field-requires : tie.Need-field-requires Inv-loop μ-loop
 field-requires c κs =
-    (omega (arith, c .loop .inv .going .below, c .before .before .before .before .before .before .before .before .pre .0 .0 .few), omega arith, c .before .before .before .before .before .before .before .before .pre .0 .0 .size)
+    let start : tie.Start Inv-loop μ-loop = search in
+    (omega (arith, c .loop .inv .going .below, start .pre .0 .0 .few), omega arith, start .pre .0 .0 .size)
 
 mul-b : tie.Need-mul-b Inv-loop μ-loop
 mul-b c =
-    omega (arith, c .field .ensures, c .before .before .before .before .before .before .before .before .before .pre .0 .0 .next-within _ (c .before .loop .inv .going .below), c .before .before .before .before .before .before .before .before .before .pre .0 .0 .few)
+    let start : tie.Start Inv-loop μ-loop = search in
+    let loop-inv = (let p : tie.At-loop Inv-loop μ-loop = search in p .loop .inv) in
+    omega (arith, c .field .ensures, start .pre .0 .0 .next-within _ (loop-inv .going .below), start .pre .0 .0 .few)
 
 shared-slice-read-b : tie.Need-shared-slice-read-b Inv-loop μ-loop
 shared-slice-read-b c =
-    omega (arith, c .before .field .ensures, c .before .before .before .before .before .before .before .before .before .before .pre .0 .0 .next-within _ (c .before .before .loop .inv .going .below), c .before .before .before .before .before .before .before .before .before .before .pre .0 .0 .few, c .before .before .before .before .before .before .before .before .before .before .pre .0 .3)
+    let start : tie.Start Inv-loop μ-loop = search in
+    let loop-inv = (let p : tie.At-loop Inv-loop μ-loop = search in p .loop .inv) in
+    let field-ensures = (let p : tie.After-field Inv-loop μ-loop = search in p .field .ensures) in
+    omega (arith, field-ensures, start .pre .0 .0 .next-within _ (loop-inv .going .below), start .pre .0 .0 .few, start .pre .0 .3)
 
 stamp-requires-2 : tie.Need-stamp-requires-2 Inv-loop μ-loop
 unfolding ring
 stamp-requires-2 c κs =
-    let l = c .before .before .before .before .before .before .before .before .before .before .before .pre .0 .0 in
+    let start : tie.Start Inv-loop μ-loop = search in
+    let stamp-ensures = (let p : tie.After-stamp Inv-loop μ-loop = search in p .stamp .ensures) in
+    let loop-inv = (let p : tie.At-loop Inv-loop μ-loop = search in p .loop .inv) in
+    let field-ensures = (let p : tie.After-field Inv-loop μ-loop = search in p .field .ensures) in
+    let l = start .pre .0 .0 in
     let w = step-within _ _ _ (l .few) (l .next-within) (l .next-apart) (l .opposite-within) (l .opposite-apart) in
-    let r = round (l .few) w (step-apart _ _ _ (l .few) (l .next-within) (l .next-apart) (l .opposite-within) (l .opposite-apart)) _ (c .before .before .before .before .before .before .before .before .before .before .before .pre .0 .1) in
-    (omega (arith, c .before .before .before .loop .inv .stamped .size, ap length (c .before .before .before .before .before .before .stamp .ensures .1) ∙ length-set (c .before .before .before .before .before .before .before .before .before .before .before .args .stamps .now) _ _, c .before .before .before .before .before .before .before .before .before .before .before .pre .0 .4), omega (arith, c .before .before .before .loop .inv .stamped .size, ap length (c .before .before .before .before .before .before .stamp .ensures .1) ∙ length-set (c .before .before .before .before .before .before .before .before .before .before .before .args .stamps .now) _ _, ap (λ (z : ℕ). getD (c .before .before .before .before .before .before .before .before .before .before .before .args .numbers .now) z 0) (c .before .before .field .ensures), c .before .before .before .before .before .before .before .before .before .before .before .pre .1 .0 _ (going-in r (c .before .before .before .loop .inv .going))))
+    let r = round (l .few) w (step-apart _ _ _ (l .few) (l .next-within) (l .next-apart) (l .opposite-within) (l .opposite-apart)) _ (start .pre .0 .1) in
+    (omega (arith, loop-inv .stamped .size, ap length (stamp-ensures .1) ∙ length-set (start .args .stamps .now) _ _, start .pre .0 .4), omega (arith, loop-inv .stamped .size, ap length (stamp-ensures .1) ∙ length-set (start .args .stamps .now) _ _, ap (λ (z : ℕ). getD (start .args .numbers .now) z 0) field-ensures, start .pre .1 .0 _ (going-in r (loop-inv .going))))
 
 same-length : tie.Need-same-length Inv-loop μ-loop
 same-length c =
-    stamped-size _ (c .before .before .before .before .before .before .before .loop .inv .stamped) (c .before .before .before .stamp2 .ensures .1) ∙ ap length (c .before .before .before .before .before .before .before .before .before .before .stamp .ensures .1) ∙ length-set (c .before .before .before .before .before .before .before .before .before .before .before .before .before .before .before .args .stamps .now) _ _
+    let start : tie.Start Inv-loop μ-loop = search in
+    let stamp-ensures = (let p : tie.After-stamp Inv-loop μ-loop = search in p .stamp .ensures) in
+    let loop-inv = (let p : tie.At-loop Inv-loop μ-loop = search in p .loop .inv) in
+    let stamp2-ensures = (let p : tie.After-stamp2 Inv-loop μ-loop = search in p .stamp2 .ensures) in
+    stamped-size _ (loop-inv .stamped) (stamp2-ensures .1) ∙ ap length (stamp-ensures .1) ∙ length-set (start .args .stamps .now) _ _
 
 returns : tie.Need-returns Inv-loop μ-loop
 unfolding ring
 returns c =
-    let l = c .before .before .before .before .before .before .before .before .before .before .before .before .before .before .before .pre .0 .0 in
+    let start : tie.Start Inv-loop μ-loop = search in
+    let stamp-ensures = (let p : tie.After-stamp Inv-loop μ-loop = search in p .stamp .ensures) in
+    let stamp-last = (let p : tie.After-stamp Inv-loop μ-loop = search in p .stamp .last) in
+    let loop-inv = (let p : tie.At-loop Inv-loop μ-loop = search in p .loop .inv) in
+    let field-ensures = (let p : tie.After-field Inv-loop μ-loop = search in p .field .ensures) in
+    let field-result = (let p : tie.After-field Inv-loop μ-loop = search in p .field .result) in
+    let stamp2-ensures = (let p : tie.After-stamp2 Inv-loop μ-loop = search in p .stamp2 .ensures) in
+    let l = start .pre .0 .0 in
     let w = step-within _ _ _ (l .few) (l .next-within) (l .next-apart) (l .opposite-within) (l .opposite-apart) in
-    let r = round (l .few) w (step-apart _ _ _ (l .few) (l .next-within) (l .next-apart) (l .opposite-within) (l .opposite-apart)) _ (c .before .before .before .before .before .before .before .before .before .before .before .before .before .before .before .pre .0 .1) in
-    let e = ap (λ (z : ℕ). getD (c .before .before .before .before .before .before .before .before .before .before .before .before .before .before .before .args .numbers .now) z 0) (c .before .before .before .before .before .before .field .ensures) in
-    let small : getD (c .before .before .before .before .before .before .before .before .before .before .before .before .before .before .before .args .numbers .now) (c .before .before .before .before .before .before .field .result) 0 < length (c .before .before .before .before .before .before .before .before .before .before .stamp .last .0) = omega (arith, e, ap length (c .before .before .before .before .before .before .before .before .before .before .stamp .ensures .1) ∙ length-set (c .before .before .before .before .before .before .before .before .before .before .before .before .before .before .before .args .stamps .now) _ _, c .before .before .before .before .before .before .before .before .before .before .before .before .before .before .before .pre .1 .0 _ (going-in r (c .before .before .before .before .before .before .before .loop .inv .going))) in
-    let s = stamped-next (c .before .before .before .before .before .before .before .loop .inv .stamped) small (c .before .before .before .stamp2 .ensures .1) in
-    (ending-twice w r (c .before .before .before .before .before .before .before .loop .inv) e small (sym (c .before .before .before .stamp2 .ensures .0) ∙ not-true _ (c .if1 .taken)), (s .bound, s .size ∙ ap length (c .before .before .before .before .before .before .before .before .before .before .stamp .ensures .1) ∙ length-set (c .before .before .before .before .before .before .before .before .before .before .before .before .before .before .before .args .stamps .now) _ _))
+    let r = round (l .few) w (step-apart _ _ _ (l .few) (l .next-within) (l .next-apart) (l .opposite-within) (l .opposite-apart)) _ (start .pre .0 .1) in
+    let e = ap (λ (z : ℕ). getD (start .args .numbers .now) z 0) field-ensures in
+    let small : getD (start .args .numbers .now) field-result 0 < length (stamp-last .0) = omega (arith, e, ap length (stamp-ensures .1) ∙ length-set (start .args .stamps .now) _ _, start .pre .1 .0 _ (going-in r (loop-inv .going))) in
+    let s = stamped-next (loop-inv .stamped) small (stamp2-ensures .1) in
+    (ending-twice w r loop-inv e small (sym (stamp2-ensures .0) ∙ not-true _ (c .if1 .taken)), (s .bound, s .size ∙ ap length (stamp-ensures .1) ∙ length-set (start .args .stamps .now) _ _))
 
 add-steps : tie.Need-add-steps Inv-loop μ-loop
 add-steps c =
-    let l = c .before .before .before .before .before .before .before .before .before .before .before .before .before .before .before .pre .0 .0 in
+    let start : tie.Start Inv-loop μ-loop = search in
+    let loop-inv = (let p : tie.At-loop Inv-loop μ-loop = search in p .loop .inv) in
+    let l = start .pre .0 .0 in
     let w = step-within _ _ _ (l .few) (l .next-within) (l .next-apart) (l .opposite-within) (l .opposite-apart) in
     let a = step-apart _ _ _ (l .few) (l .next-within) (l .next-apart) (l .opposite-within) (l .opposite-apart) in
-    omega (arith, c .before .before .before .before .before .before .before .loop .inv .going .less, round (l .few) w a (c .before .before .before .before .before .before .before .before .before .before .before .before .before .before .before .args .start) (c .before .before .before .before .before .before .before .before .before .before .before .before .before .before .before .pre .0 .1) .few)
+    omega (arith, loop-inv .going .less, round (l .few) w a (start .args .start) (start .pre .0 .1) .few)
 
 ring-step-requires : tie.Need-ring-step-requires Inv-loop μ-loop
 ring-step-requires c κs =
-    (c .before .before .before .before .before .before .before .before .before .before .before .before .before .before .before .pre .0 .0, c .before .before .before .before .before .before .before .loop .inv .going .below)
+    let start : tie.Start Inv-loop μ-loop = search in
+    let loop-inv = (let p : tie.At-loop Inv-loop μ-loop = search in p .loop .inv) in
+    (start .pre .0 .0, loop-inv .going .below)
 
 same-length-2 : tie.Need-same-length-2 Inv-loop μ-loop
 same-length-2 c =
-    stamped-size _ (c .before .before .before .before .before .before .before .before .before .loop .inv .stamped) (c .before .before .before .before .before .stamp2 .ensures .1) ∙ ap length (c .before .before .before .before .before .before .before .before .before .before .before .before .stamp .ensures .1) ∙ length-set (c .before .before .before .before .before .before .before .before .before .before .before .before .before .before .before .before .before .args .stamps .now) _ _
+    let start : tie.Start Inv-loop μ-loop = search in
+    let stamp-ensures = (let p : tie.After-stamp Inv-loop μ-loop = search in p .stamp .ensures) in
+    let loop-inv = (let p : tie.At-loop Inv-loop μ-loop = search in p .loop .inv) in
+    let stamp2-ensures = (let p : tie.After-stamp2 Inv-loop μ-loop = search in p .stamp2 .ensures) in
+    stamped-size _ (loop-inv .stamped) (stamp2-ensures .1) ∙ ap length (stamp-ensures .1) ∙ length-set (start .args .stamps .now) _ _
 
 returns-2 : tie.Need-returns-2 Inv-loop μ-loop
 unfolding ring
 returns-2 c =
-    let l = c .before .before .before .before .before .before .before .before .before .before .before .before .before .before .before .before .before .pre .0 .0 in
+    let start : tie.Start Inv-loop μ-loop = search in
+    let stamp-ensures = (let p : tie.After-stamp Inv-loop μ-loop = search in p .stamp .ensures) in
+    let stamp-last = (let p : tie.After-stamp Inv-loop μ-loop = search in p .stamp .last) in
+    let loop-inv = (let p : tie.At-loop Inv-loop μ-loop = search in p .loop .inv) in
+    let field-ensures = (let p : tie.After-field Inv-loop μ-loop = search in p .field .ensures) in
+    let field-result = (let p : tie.After-field Inv-loop μ-loop = search in p .field .result) in
+    let stamp2-ensures = (let p : tie.After-stamp2 Inv-loop μ-loop = search in p .stamp2 .ensures) in
+    let if1-left = (let p : tie.Else1 Inv-loop μ-loop = search in p .if1 .left) in
+    let ring-step-ensures = (let p : tie.After-ring-step Inv-loop μ-loop = search in p .ring-step .ensures) in
+    let l = start .pre .0 .0 in
     let w = step-within _ _ _ (l .few) (l .next-within) (l .next-apart) (l .opposite-within) (l .opposite-apart) in
-    let r = round (l .few) w (step-apart _ _ _ (l .few) (l .next-within) (l .next-apart) (l .opposite-within) (l .opposite-apart)) _ (c .before .before .before .before .before .before .before .before .before .before .before .before .before .before .before .before .before .pre .0 .1) in
-    let e = ap (λ (z : ℕ). getD (c .before .before .before .before .before .before .before .before .before .before .before .before .before .before .before .before .before .args .numbers .now) z 0) (c .before .before .before .before .before .before .before .before .field .ensures) in
-    let small : getD (c .before .before .before .before .before .before .before .before .before .before .before .before .before .before .before .before .before .args .numbers .now) (c .before .before .before .before .before .before .before .before .field .result) 0 < length (c .before .before .before .before .before .before .before .before .before .before .before .before .stamp .last .0) = omega (arith, e, ap length (c .before .before .before .before .before .before .before .before .before .before .before .before .stamp .ensures .1) ∙ length-set (c .before .before .before .before .before .before .before .before .before .before .before .before .before .before .before .before .before .args .stamps .now) _ _, c .before .before .before .before .before .before .before .before .before .before .before .before .before .before .before .before .before .pre .1 .0 _ (going-in r (c .before .before .before .before .before .before .before .before .before .loop .inv .going))) in
-    let s = stamped-next (c .before .before .before .before .before .before .before .before .before .loop .inv .stamped) small (c .before .before .before .before .before .stamp2 .ensures .1) in
-    (ending-all w r (c .before .before .before .before .before .before .before .before .before .loop .inv) e small (sym (c .before .before .before .before .before .stamp2 .ensures .0) ∙ not-false _ (c .before .before .if1 .left)) (c .before .ring-step .ensures) (c .if2 .taken), (s .bound, s .size ∙ ap length (c .before .before .before .before .before .before .before .before .before .before .before .before .stamp .ensures .1) ∙ length-set (c .before .before .before .before .before .before .before .before .before .before .before .before .before .before .before .before .before .args .stamps .now) _ _))
+    let r = round (l .few) w (step-apart _ _ _ (l .few) (l .next-within) (l .next-apart) (l .opposite-within) (l .opposite-apart)) _ (start .pre .0 .1) in
+    let e = ap (λ (z : ℕ). getD (start .args .numbers .now) z 0) field-ensures in
+    let small : getD (start .args .numbers .now) field-result 0 < length (stamp-last .0) = omega (arith, e, ap length (stamp-ensures .1) ∙ length-set (start .args .stamps .now) _ _, start .pre .1 .0 _ (going-in r (loop-inv .going))) in
+    let s = stamped-next (loop-inv .stamped) small (stamp2-ensures .1) in
+    (ending-all w r loop-inv e small (sym (stamp2-ensures .0) ∙ not-false _ if1-left) ring-step-ensures (c .if2 .taken), (s .bound, s .size ∙ ap length (stamp-ensures .1) ∙ length-set (start .args .stamps .now) _ _))
 
 loop-less : tie.Need-loop-less Inv-loop μ-loop
 loop-less c =
-    omega (arith, c .before .before .before .before .before .before .before .before .before .loop .inv .going .less)
+    let loop-inv = (let p : tie.At-loop Inv-loop μ-loop = search in p .loop .inv) in
+    omega (arith, loop-inv .going .less)
 
 loop-again : tie.Need-loop-again Inv-loop μ-loop
 unfolding ring
 loop-again c =
-    let l = c .before .before .before .before .before .before .before .before .before .before .before .before .before .before .before .before .before .pre .0 .0 in
+    let start : tie.Start Inv-loop μ-loop = search in
+    let stamp-ensures = (let p : tie.After-stamp Inv-loop μ-loop = search in p .stamp .ensures) in
+    let stamp-last = (let p : tie.After-stamp Inv-loop μ-loop = search in p .stamp .last) in
+    let loop-inv = (let p : tie.At-loop Inv-loop μ-loop = search in p .loop .inv) in
+    let field-ensures = (let p : tie.After-field Inv-loop μ-loop = search in p .field .ensures) in
+    let field-result = (let p : tie.After-field Inv-loop μ-loop = search in p .field .result) in
+    let stamp2-ensures = (let p : tie.After-stamp2 Inv-loop μ-loop = search in p .stamp2 .ensures) in
+    let if1-left = (let p : tie.Else1 Inv-loop μ-loop = search in p .if1 .left) in
+    let ring-step-ensures = (let p : tie.After-ring-step Inv-loop μ-loop = search in p .ring-step .ensures) in
+    let l = start .pre .0 .0 in
     let w = step-within _ _ _ (l .few) (l .next-within) (l .next-apart) (l .opposite-within) (l .opposite-apart) in
-    let r = round (l .few) w (step-apart _ _ _ (l .few) (l .next-within) (l .next-apart) (l .opposite-within) (l .opposite-apart)) _ (c .before .before .before .before .before .before .before .before .before .before .before .before .before .before .before .before .before .pre .0 .1) in
-    let e = ap (λ (z : ℕ). getD (c .before .before .before .before .before .before .before .before .before .before .before .before .before .before .before .before .before .args .numbers .now) z 0) (c .before .before .before .before .before .before .before .before .field .ensures) in
-    let small : getD (c .before .before .before .before .before .before .before .before .before .before .before .before .before .before .before .before .before .args .numbers .now) (c .before .before .before .before .before .before .before .before .field .result) 0 < length (c .before .before .before .before .before .before .before .before .before .before .before .before .stamp .last .0) = omega (arith, e, ap length (c .before .before .before .before .before .before .before .before .before .before .before .before .stamp .ensures .1) ∙ length-set (c .before .before .before .before .before .before .before .before .before .before .before .before .before .before .before .before .before .args .stamps .now) _ _, c .before .before .before .before .before .before .before .before .before .before .before .before .before .before .before .before .before .pre .1 .0 _ (going-in r (c .before .before .before .before .before .before .before .before .before .loop .inv .going))) in
-    ending-more w r (c .before .before .before .before .before .before .before .before .before .loop .inv) e small (sym (c .before .before .before .before .before .stamp2 .ensures .0) ∙ not-false _ (c .before .before .if1 .left)) (c .before .before .before .before .before .stamp2 .ensures .1) (going-next w r (c .before .before .before .before .before .before .before .before .before .loop .inv .going) (c .before .ring-step .ensures) (c .if2 .left))
+    let r = round (l .few) w (step-apart _ _ _ (l .few) (l .next-within) (l .next-apart) (l .opposite-within) (l .opposite-apart)) _ (start .pre .0 .1) in
+    let e = ap (λ (z : ℕ). getD (start .args .numbers .now) z 0) field-ensures in
+    let small : getD (start .args .numbers .now) field-result 0 < length (stamp-last .0) = omega (arith, e, ap length (stamp-ensures .1) ∙ length-set (start .args .stamps .now) _ _, start .pre .1 .0 _ (going-in r (loop-inv .going))) in
+    ending-more w r loop-inv e small (sym (stamp2-ensures .0) ∙ not-false _ if1-left) (stamp2-ensures .1) (going-next w r (loop-inv .going) ring-step-ensures (c .if2 .left))
 
 pub ends-differ-spec : {M : Type 1} → statement M
 ends-differ-spec =

@@ -18,7 +18,9 @@ clear-requires c κs = search needs
 
 each-once-requires : tie.Need-each-once-requires
 each-once-requires c κs =
-    (c .before .before .before .before .before .before .before .before .before .pre .0, c .before .before .before .before .before .before .before .before .before .pre .1, part-cleared (c .before .before .before .before .before .before .before .before .before .args .stamps .now) (c .before .before .before .before .before .before .before .before .before .args .count) (c .before .before .before .before .before .before .before .before .before .pre .2) (c .before .before .clear .ensures))
+    let start : tie.Start = search in
+    let clear-ensures = (let p : tie.After-clear = search in p .clear .ensures) in
+    (start .pre .0, start .pre .1, part-cleared (start .args .stamps .now) (start .args .count) (start .pre .2) clear-ensures)
 
 same-length : tie.Need-same-length
 same-length c = search needs

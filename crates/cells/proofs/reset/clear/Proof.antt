@@ -22,14 +22,18 @@ loop-holds c =
 
 mul-table : tie.Need-mul-table Inv-loop μ-loop
 mul-table c =
-    omega (arith, c .loop-test .taken, c .before .loop .inv .len, c .before .before .pre)
+    let start : tie.Start Inv-loop μ-loop = search in
+    let loop-inv = (let p : tie.At-loop Inv-loop μ-loop = search in p .loop .inv) in
+    omega (arith, c .loop-test .taken, loop-inv .len, start .pre)
 
 slice-write-table : tie.Need-slice-write-table Inv-loop μ-loop
 slice-write-table c = search needs
 
 add-i : tie.Need-add-i Inv-loop μ-loop
 add-i c =
-    omega (arith, c .loop-test .taken, c .before .loop .inv .len, c .before .before .pre)
+    let start : tie.Start Inv-loop μ-loop = search in
+    let loop-inv = (let p : tie.At-loop Inv-loop μ-loop = search in p .loop .inv) in
+    omega (arith, c .loop-test .taken, loop-inv .len, start .pre)
 
 loop-less : tie.Need-loop-less Inv-loop μ-loop
 loop-less c =
@@ -37,15 +41,18 @@ loop-less c =
 
 loop-again : tie.Need-loop-again Inv-loop μ-loop
 loop-again c =
-    clear-more (c .before .loop .inv) (c .loop-test .taken)
+    let loop-inv = (let p : tie.At-loop Inv-loop μ-loop = search in p .loop .inv) in
+    clear-more loop-inv (c .loop-test .taken)
 
 same-length : tie.Need-same-length Inv-loop μ-loop
 same-length c =
-    c .before .loop .inv .len
+    let loop-inv = (let p : tie.At-loop Inv-loop μ-loop = search in p .loop .inv) in
+    loop-inv .len
 
 returns : tie.Need-returns Inv-loop μ-loop
 returns c =
-    clear-all (c .before .loop .inv) (c .loop-test .left)
+    let loop-inv = (let p : tie.At-loop Inv-loop μ-loop = search in p .loop .inv) in
+    clear-all loop-inv (c .loop-test .left)
 
 pub clear-spec : {M : Type 1} → statement M
 clear-spec =

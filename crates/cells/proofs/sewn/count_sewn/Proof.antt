@@ -27,53 +27,85 @@ loop-holds c =
 
 mul-i : tie.Need-mul-i Inv-loop μ-loop
 mul-i c =
-    omega (arith, c .loop-test .taken, in-order-few (c .before .before .before .before .before .before .pre .2) .1)
+    let start : tie.Start Inv-loop μ-loop = search in
+    omega (arith, c .loop-test .taken, in-order-few (start .pre .2) .1)
 
 shared-slice-read-i : tie.Need-shared-slice-read-i Inv-loop μ-loop
 shared-slice-read-i c =
-    omega (arith, c .before .loop-test .taken, in-order-few (c .before .before .before .before .before .before .before .pre .2) .1, c .before .before .before .before .before .before .before .pre .2 .starts-size)
+    let start : tie.Start Inv-loop μ-loop = search in
+    let loop-test-taken = (let p : tie.In-loop Inv-loop μ-loop = search in p .loop-test .taken) in
+    omega (arith, loop-test-taken, in-order-few (start .pre .2) .1, start .pre .2 .starts-size)
 
 mul-p : tie.Need-mul-p Inv-loop μ-loop
 mul-p c =
-    omega (arith, start-place _ (column (c .before .before .before .before .before .before .before .args .block .now) 1) (c .before .before .before .before .before .before .before .args .marks .now) (c .before .before .before .before .before .before .before .pre .0 .few) (c .before .before .before .before .before .before .before .pre .0 .next-within) (c .before .before .before .before .before .before .before .pre .0 .next-apart) (c .before .before .before .before .before .before .before .pre .2) (c .before .before .loop .f) (c .before .loop-test .taken) .0, in-order-few (c .before .before .before .before .before .before .before .pre .2) .0)
+    let start : tie.Start Inv-loop μ-loop = search in
+    let loop-f = (let p : tie.At-loop Inv-loop μ-loop = search in p .loop .f) in
+    let loop-test-taken = (let p : tie.In-loop Inv-loop μ-loop = search in p .loop-test .taken) in
+    omega (arith, start-place _ (column (start .args .block .now) 1) (start .args .marks .now) (start .pre .0 .few) (start .pre .0 .next-within) (start .pre .0 .next-apart) (start .pre .2) loop-f loop-test-taken .0, in-order-few (start .pre .2) .0)
 
 shared-slice-read-p : tie.Need-shared-slice-read-p Inv-loop μ-loop
 shared-slice-read-p c =
-    omega (arith, start-place _ (column (c .before .before .before .before .before .before .before .before .args .block .now) 1) (c .before .before .before .before .before .before .before .before .args .marks .now) (c .before .before .before .before .before .before .before .before .pre .0 .few) (c .before .before .before .before .before .before .before .before .pre .0 .next-within) (c .before .before .before .before .before .before .before .before .pre .0 .next-apart) (c .before .before .before .before .before .before .before .before .pre .2) (c .before .before .before .loop .f) (c .before .before .loop-test .taken) .0, in-order-few (c .before .before .before .before .before .before .before .before .pre .2) .0, c .before .before .before .before .before .before .before .before .pre .2 .out-size)
+    let start : tie.Start Inv-loop μ-loop = search in
+    let loop-f = (let p : tie.At-loop Inv-loop μ-loop = search in p .loop .f) in
+    let loop-test-taken = (let p : tie.In-loop Inv-loop μ-loop = search in p .loop-test .taken) in
+    omega (arith, start-place _ (column (start .args .block .now) 1) (start .args .marks .now) (start .pre .0 .few) (start .pre .0 .next-within) (start .pre .0 .next-apart) (start .pre .2) loop-f loop-test-taken .0, in-order-few (start .pre .2) .0, start .pre .2 .out-size)
 
 add-f : tie.Need-add-f Inv-loop μ-loop
 add-f c =
-    omega (arith, c .before .before .loop-test .taken, in-order-few (c .before .before .before .before .before .before .before .before .pre .2) .1)
+    let start : tie.Start Inv-loop μ-loop = search in
+    let loop-test-taken = (let p : tie.In-loop Inv-loop μ-loop = search in p .loop-test .taken) in
+    omega (arith, loop-test-taken, in-order-few (start .pre .2) .1)
 
 sewn-away-requires : tie.Need-sewn-away-requires Inv-loop μ-loop
 sewn-away-requires c κs =
-    (c .before .before .before .before .before .before .before .before .pre .0, c .before .before .before .before .before .before .before .before .pre .1, start-place _ (column (c .before .before .before .before .before .before .before .before .args .block .now) 1) (c .before .before .before .before .before .before .before .before .args .marks .now) (c .before .before .before .before .before .before .before .before .pre .0 .few) (c .before .before .before .before .before .before .before .before .pre .0 .next-within) (c .before .before .before .before .before .before .before .before .pre .0 .next-apart) (c .before .before .before .before .before .before .before .before .pre .2) (c .before .before .before .loop .f) (c .before .before .loop-test .taken) .2)
+    let start : tie.Start Inv-loop μ-loop = search in
+    let loop-f = (let p : tie.At-loop Inv-loop μ-loop = search in p .loop .f) in
+    let loop-test-taken = (let p : tie.In-loop Inv-loop μ-loop = search in p .loop-test .taken) in
+    (start .pre .0, start .pre .1, start-place _ (column (start .args .block .now) 1) (start .args .marks .now) (start .pre .0 .few) (start .pre .0 .next-within) (start .pre .0 .next-apart) (start .pre .2) loop-f loop-test-taken .2)
 
 loop-less : tie.Need-loop-less Inv-loop μ-loop
 loop-less c =
-    omega (arith, c .before .before .before .before .loop-test .taken)
+    let loop-test-taken = (let p : tie.In-loop Inv-loop μ-loop = search in p .loop-test .taken) in
+    omega (arith, loop-test-taken)
 
 loop-again : tie.Need-loop-again Inv-loop μ-loop
 loop-again c =
-    let at = start-place _ (column (c .before .before .before .before .before .before .before .before .before .before .args .block .now) 1) (c .before .before .before .before .before .before .before .before .before .before .args .marks .now) (c .before .before .before .before .before .before .before .before .before .before .pre .0 .few) (c .before .before .before .before .before .before .before .before .before .before .pre .0 .next-within) (c .before .before .before .before .before .before .before .before .before .before .pre .0 .next-apart) (c .before .before .before .before .before .before .before .before .before .before .pre .2) (c .before .before .before .before .before .loop .f) (c .before .before .before .before .loop-test .taken) .1 in
-    (omega (arith, c .before .before .before .before .loop-test .taken), omega (arith, c .before .before .before .before .before .loop .inv .1), count-skip (λ l. sewn-out (c .before .before .before .before .before .before .before .before .before .before .args .block .now) (c .before .before .before .before .before .before .before .before .before .before .args .marks .now) (start-of l)) (faces (column (c .before .before .before .before .before .before .before .before .before .before .args .block .now) 1) (marked (c .before .before .before .before .before .before .before .before .before .before .args .n) (c .before .before .before .before .before .before .before .before .before .before .args .marks .now))) (c .before .before .before .before .before .loop .f) _ (c .before .before .before .before .before .loop .inv .2) (omega (arith, c .before .before .before .before .loop-test .taken, c .before .before .before .before .before .before .before .before .before .before .pre .2 .count-is)) (sym (c .before .sewn-away .ensures ∙ ap (sewn-out (c .before .before .before .before .before .before .before .before .before .before .args .block .now) (c .before .before .before .before .before .before .before .before .before .before .args .marks .now)) at) ∙ not-true _ (c .if1 .taken)))
+    let start : tie.Start Inv-loop μ-loop = search in
+    let loop-f = (let p : tie.At-loop Inv-loop μ-loop = search in p .loop .f) in
+    let loop-inv = (let p : tie.At-loop Inv-loop μ-loop = search in p .loop .inv) in
+    let loop-test-taken = (let p : tie.In-loop Inv-loop μ-loop = search in p .loop-test .taken) in
+    let sewn-away-ensures = (let p : tie.After-sewn-away Inv-loop μ-loop = search in p .sewn-away .ensures) in
+    let at = start-place _ (column (start .args .block .now) 1) (start .args .marks .now) (start .pre .0 .few) (start .pre .0 .next-within) (start .pre .0 .next-apart) (start .pre .2) loop-f loop-test-taken .1 in
+    (omega (arith, loop-test-taken), omega (arith, loop-inv .1), count-skip (λ l. sewn-out (start .args .block .now) (start .args .marks .now) (start-of l)) (faces (column (start .args .block .now) 1) (marked (start .args .n) (start .args .marks .now))) loop-f _ (loop-inv .2) (omega (arith, loop-test-taken, start .pre .2 .count-is)) (sym (sewn-away-ensures ∙ ap (sewn-out (start .args .block .now) (start .args .marks .now)) at) ∙ not-true _ (c .if1 .taken)))
 
 add-sewn : tie.Need-add-sewn Inv-loop μ-loop
 add-sewn c =
-    omega (arith, c .before .before .before .before .before .loop .inv .1, c .before .before .before .before .loop-test .taken, in-order-few (c .before .before .before .before .before .before .before .before .before .before .pre .2) .1)
+    let start : tie.Start Inv-loop μ-loop = search in
+    let loop-inv = (let p : tie.At-loop Inv-loop μ-loop = search in p .loop .inv) in
+    let loop-test-taken = (let p : tie.In-loop Inv-loop μ-loop = search in p .loop-test .taken) in
+    omega (arith, loop-inv .1, loop-test-taken, in-order-few (start .pre .2) .1)
 
 loop-less-2 : tie.Need-loop-less-2 Inv-loop μ-loop
 loop-less-2 c =
-    omega (arith, c .before .before .before .before .loop-test .taken)
+    let loop-test-taken = (let p : tie.In-loop Inv-loop μ-loop = search in p .loop-test .taken) in
+    omega (arith, loop-test-taken)
 
 loop-again-2 : tie.Need-loop-again-2 Inv-loop μ-loop
 loop-again-2 c =
-    let at = start-place _ (column (c .before .before .before .before .before .before .before .before .before .before .args .block .now) 1) (c .before .before .before .before .before .before .before .before .before .before .args .marks .now) (c .before .before .before .before .before .before .before .before .before .before .pre .0 .few) (c .before .before .before .before .before .before .before .before .before .before .pre .0 .next-within) (c .before .before .before .before .before .before .before .before .before .before .pre .0 .next-apart) (c .before .before .before .before .before .before .before .before .before .before .pre .2) (c .before .before .before .before .before .loop .f) (c .before .before .before .before .loop-test .taken) .1 in
-    (omega (arith, c .before .before .before .before .loop-test .taken), omega (arith, c .before .before .before .before .before .loop .inv .1), count-one (λ l. sewn-out (c .before .before .before .before .before .before .before .before .before .before .args .block .now) (c .before .before .before .before .before .before .before .before .before .before .args .marks .now) (start-of l)) (faces (column (c .before .before .before .before .before .before .before .before .before .before .args .block .now) 1) (marked (c .before .before .before .before .before .before .before .before .before .before .args .n) (c .before .before .before .before .before .before .before .before .before .before .args .marks .now))) (c .before .before .before .before .before .loop .f) _ (c .before .before .before .before .before .loop .inv .2) (omega (arith, c .before .before .before .before .loop-test .taken, c .before .before .before .before .before .before .before .before .before .before .pre .2 .count-is)) (sym (c .before .sewn-away .ensures ∙ ap (sewn-out (c .before .before .before .before .before .before .before .before .before .before .args .block .now) (c .before .before .before .before .before .before .before .before .before .before .args .marks .now)) at) ∙ not-false _ (c .if1 .left)))
+    let start : tie.Start Inv-loop μ-loop = search in
+    let loop-f = (let p : tie.At-loop Inv-loop μ-loop = search in p .loop .f) in
+    let loop-inv = (let p : tie.At-loop Inv-loop μ-loop = search in p .loop .inv) in
+    let loop-test-taken = (let p : tie.In-loop Inv-loop μ-loop = search in p .loop-test .taken) in
+    let sewn-away-ensures = (let p : tie.After-sewn-away Inv-loop μ-loop = search in p .sewn-away .ensures) in
+    let at = start-place _ (column (start .args .block .now) 1) (start .args .marks .now) (start .pre .0 .few) (start .pre .0 .next-within) (start .pre .0 .next-apart) (start .pre .2) loop-f loop-test-taken .1 in
+    (omega (arith, loop-test-taken), omega (arith, loop-inv .1), count-one (λ l. sewn-out (start .args .block .now) (start .args .marks .now) (start-of l)) (faces (column (start .args .block .now) 1) (marked (start .args .n) (start .args .marks .now))) loop-f _ (loop-inv .2) (omega (arith, loop-test-taken, start .pre .2 .count-is)) (sym (sewn-away-ensures ∙ ap (sewn-out (start .args .block .now) (start .args .marks .now)) at) ∙ not-false _ (c .if1 .left)))
 
 returns : tie.Need-returns Inv-loop μ-loop
 returns c =
-    count-all (λ l. sewn-out (c .before .before .before .before .before .before .args .block .now) (c .before .before .before .before .before .before .args .marks .now) (start-of l)) (faces (column (c .before .before .before .before .before .before .args .block .now) 1) (marked (c .before .before .before .before .before .before .args .n) (c .before .before .before .before .before .before .args .marks .now))) (c .before .loop .f) _ (c .before .loop .inv .2) (omega (arith, c .loop-test .left, c .before .before .before .before .before .before .pre .2 .count-is))
+    let start : tie.Start Inv-loop μ-loop = search in
+    let loop-f = (let p : tie.At-loop Inv-loop μ-loop = search in p .loop .f) in
+    let loop-inv = (let p : tie.At-loop Inv-loop μ-loop = search in p .loop .inv) in
+    count-all (λ l. sewn-out (start .args .block .now) (start .args .marks .now) (start-of l)) (faces (column (start .args .block .now) 1) (marked (start .args .n) (start .args .marks .now))) loop-f _ (loop-inv .2) (omega (arith, c .loop-test .left, start .pre .2 .count-is))
 
 pub count-sewn-spec : {M : Type 1} → statement M
 count-sewn-spec =

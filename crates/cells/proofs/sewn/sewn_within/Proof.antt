@@ -24,35 +24,53 @@ loop-holds c =
 
 mul-p : tie.Need-mul-p Inv-loop μ-loop
 mul-p c =
-    omega (arith, c .loop-test .taken, c .before .before .before .before .before .pre .1 .0)
+    let start : tie.Start Inv-loop μ-loop = search in
+    omega (arith, c .loop-test .taken, start .pre .1 .0)
 
 shared-slice-read-p : tie.Need-shared-slice-read-p Inv-loop μ-loop
 shared-slice-read-p c =
-    omega (arith, c .before .loop-test .taken, c .before .before .before .before .before .before .pre .1 .1)
+    let start : tie.Start Inv-loop μ-loop = search in
+    let loop-test-taken = (let p : tie.In-loop Inv-loop μ-loop = search in p .loop-test .taken) in
+    omega (arith, loop-test-taken, start .pre .1 .1)
 
 sewn-at-requires : tie.Need-sewn-at-requires Inv-loop μ-loop
 sewn-at-requires c κs =
-    (c .before .before .before .before .before .before .pre .0 .0, c .before .before .before .before .before .before .pre .0 .1, c .before .before .before .before .before .before .pre .1 .2 _ (c .before .loop-test .taken))
+    let start : tie.Start Inv-loop μ-loop = search in
+    let loop-test-taken = (let p : tie.In-loop Inv-loop μ-loop = search in p .loop-test .taken) in
+    (start .pre .0 .0, start .pre .0 .1, start .pre .1 .2 _ loop-test-taken)
 
 returns : tie.Need-returns Inv-loop μ-loop
 returns c =
-    some-first (sewn-in (c .before .before .before .before .before .before .before .before .args .block .now) (c .before .before .before .before .before .before .before .before .args .marks .now)) (c .before .before .before .before .before .before .before .before .args .order .now) (c .before .before .before .before .before .before .before .before .args .darts) (c .before .before .before .before .loop .i) (c .before .before .before .loop-test .taken) (c .before .before .before .before .before .before .before .before .pre .1 .1) (sym (c .before .sewn-at .ensures) ∙ c .if1 .taken)
+    let start : tie.Start Inv-loop μ-loop = search in
+    let loop-i = (let p : tie.At-loop Inv-loop μ-loop = search in p .loop .i) in
+    let loop-test-taken = (let p : tie.In-loop Inv-loop μ-loop = search in p .loop-test .taken) in
+    let sewn-at-ensures = (let p : tie.After-sewn-at Inv-loop μ-loop = search in p .sewn-at .ensures) in
+    some-first (sewn-in (start .args .block .now) (start .args .marks .now)) (start .args .order .now) (start .args .darts) loop-i loop-test-taken (start .pre .1 .1) (sym sewn-at-ensures ∙ c .if1 .taken)
 
 add-i : tie.Need-add-i Inv-loop μ-loop
 add-i c =
-    omega (arith, c .before .before .before .loop-test .taken, c .before .before .before .before .before .before .before .before .pre .1 .0)
+    let start : tie.Start Inv-loop μ-loop = search in
+    let loop-test-taken = (let p : tie.In-loop Inv-loop μ-loop = search in p .loop-test .taken) in
+    omega (arith, loop-test-taken, start .pre .1 .0)
 
 loop-less : tie.Need-loop-less Inv-loop μ-loop
 loop-less c =
-    omega (arith, c .before .before .before .loop-test .taken)
+    let loop-test-taken = (let p : tie.In-loop Inv-loop μ-loop = search in p .loop-test .taken) in
+    omega (arith, loop-test-taken)
 
 loop-again : tie.Need-loop-again Inv-loop μ-loop
 loop-again c =
-    (omega (arith, c .before .before .before .loop-test .taken), none-more (λ k. sewn-in (c .before .before .before .before .before .before .before .before .args .block .now) (c .before .before .before .before .before .before .before .before .args .marks .now) (getD (c .before .before .before .before .before .before .before .before .args .order .now) k 0)) _ (c .before .before .before .before .loop .inv .1) (sym (c .before .sewn-at .ensures) ∙ c .if1 .left))
+    let start : tie.Start Inv-loop μ-loop = search in
+    let loop-inv = (let p : tie.At-loop Inv-loop μ-loop = search in p .loop .inv) in
+    let loop-test-taken = (let p : tie.In-loop Inv-loop μ-loop = search in p .loop-test .taken) in
+    let sewn-at-ensures = (let p : tie.After-sewn-at Inv-loop μ-loop = search in p .sewn-at .ensures) in
+    (omega (arith, loop-test-taken), none-more (λ k. sewn-in (start .args .block .now) (start .args .marks .now) (getD (start .args .order .now) k 0)) _ (loop-inv .1) (sym sewn-at-ensures ∙ c .if1 .left))
 
 returns-2 : tie.Need-returns-2 Inv-loop μ-loop
 returns-2 c =
-    none-first (sewn-in (c .before .before .before .before .before .args .block .now) (c .before .before .before .before .before .args .marks .now)) (c .before .before .before .before .before .args .order .now) (c .before .before .before .before .before .args .darts) (λ k h. c .before .loop .inv .1 k (omega (arith, c .loop-test .left))) (c .before .before .before .before .before .pre .1 .1)
+    let start : tie.Start Inv-loop μ-loop = search in
+    let loop-inv = (let p : tie.At-loop Inv-loop μ-loop = search in p .loop .inv) in
+    none-first (sewn-in (start .args .block .now) (start .args .marks .now)) (start .args .order .now) (start .args .darts) (λ k h. loop-inv .1 k (omega (arith, c .loop-test .left))) (start .pre .1 .1)
 
 pub sewn-within-spec : {M : Type 1} → statement M
 sewn-within-spec =

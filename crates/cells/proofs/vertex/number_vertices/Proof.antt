@@ -8,11 +8,14 @@ use Rattle.cells.proofs.vertex.number_vertices.Tie as tie
 
 unnumber-requires : tie.Need-unnumber-requires
 unnumber-requires c κs =
-    (c .before .before .before .before .before .pre .0 .1, c .before .before .before .before .before .pre .0 .2, c .before .before .before .before .before .pre .1 .0, λ k h. omega (arith, c .before .before .before .before .before .pre .0 .3 k h, c .before .before .before .before .before .pre .0 .0 .few))
+    let start : tie.Start = search in
+    (start .pre .0 .1, start .pre .0 .2, start .pre .1 .0, λ k h. omega (arith, start .pre .0 .3 k h, start .pre .0 .0 .few))
 
 number-all-requires : tie.Need-number-all-requires
 number-all-requires c κs =
-    (c .before .before .before .before .before .before .before .before .before .before .pre .0, (c .before .before .before .before .unnumber .ensures .size ∙ c .before .before .before .before .before .before .before .before .before .before .pre .1 .0, painted-in (c .before .before .before .before .unnumber .ensures), c .before .before .before .before .before .before .before .before .before .before .pre .1 .1))
+    let start : tie.Start = search in
+    let unnumber-ensures = (let p : tie.After-unnumber = search in p .unnumber .ensures) in
+    (start .pre .0, (unnumber-ensures .size ∙ start .pre .1 .0, painted-in unnumber-ensures, start .pre .1 .1))
 
 same-length : tie.Need-same-length
 same-length c = search needs

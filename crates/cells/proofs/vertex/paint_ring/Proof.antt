@@ -22,49 +22,62 @@ abbrev μ-loop : tie.MeasureT-loop
 
 loop-holds : tie.Need-loop-holds Inv-loop μ-loop
 loop-holds c =
-    let l = c .before .before .pre .0 in
-    (going-start (round (l .few) (step-within _ _ _ (l .few) (l .next-within) (l .next-apart) (l .opposite-within) (l .opposite-apart)) (step-apart _ _ _ (l .few) (l .next-within) (l .next-apart) (l .opposite-within) (l .opposite-apart)) _ (c .before .before .pre .1)) (c .before .before .pre .1), paint-none _ _)
+    let start : tie.Start Inv-loop μ-loop = search in
+    let l = start .pre .0 in
+    (going-start (round (l .few) (step-within _ _ _ (l .few) (l .next-within) (l .next-apart) (l .opposite-within) (l .opposite-apart)) (step-apart _ _ _ (l .few) (l .next-within) (l .next-apart) (l .opposite-within) (l .opposite-apart)) _ (start .pre .1)) (start .pre .1), paint-none _ _)
 
 mul-numbers : tie.Need-mul-numbers Inv-loop μ-loop
 mul-numbers c =
-    omega (arith, c .loop .inv .0 .below, c .before .before .before .pre .0 .few)
+    let start : tie.Start Inv-loop μ-loop = search in
+    omega (arith, c .loop .inv .0 .below, start .pre .0 .few)
 
 slice-write-numbers : tie.Need-slice-write-numbers Inv-loop μ-loop
 slice-write-numbers c =
-    omega (arith, c .loop .inv .0 .below, c .before .before .before .pre .0 .few, c .loop .inv .1 .size, c .before .before .before .pre .2)
+    let start : tie.Start Inv-loop μ-loop = search in
+    omega (arith, c .loop .inv .0 .below, start .pre .0 .few, c .loop .inv .1 .size, start .pre .2)
 
 add-steps : tie.Need-add-steps Inv-loop μ-loop
 add-steps c =
-    let l = c .before .before .before .pre .0 in
+    let start : tie.Start Inv-loop μ-loop = search in
+    let l = start .pre .0 in
     let w = step-within _ _ _ (l .few) (l .next-within) (l .next-apart) (l .opposite-within) (l .opposite-apart) in
     let a = step-apart _ _ _ (l .few) (l .next-within) (l .next-apart) (l .opposite-within) (l .opposite-apart) in
-    omega (arith, c .loop .inv .0 .less, round (l .few) w a (c .before .before .before .args .start) (c .before .before .before .pre .1) .few)
+    omega (arith, c .loop .inv .0 .less, round (l .few) w a (start .args .start) (start .pre .1) .few)
 
 ring-step-requires : tie.Need-ring-step-requires Inv-loop μ-loop
 ring-step-requires c κs =
-    (c .before .before .before .pre .0, c .loop .inv .0 .below)
+    let start : tie.Start Inv-loop μ-loop = search in
+    (start .pre .0, c .loop .inv .0 .below)
 
 same-length : tie.Need-same-length Inv-loop μ-loop
 same-length c =
-    simp length-set (c .before .before .loop .inv .1 .size)
+    let loop-inv = (let p : tie.At-loop Inv-loop μ-loop = search in p .loop .inv) in
+    simp length-set (loop-inv .1 .size)
 
 returns : tie.Need-returns Inv-loop μ-loop
 unfolding ring
 returns c =
-    let l = c .before .before .before .before .before .pre .0 in
+    let start : tie.Start Inv-loop μ-loop = search in
+    let loop-inv = (let p : tie.At-loop Inv-loop μ-loop = search in p .loop .inv) in
+    let ring-step-ensures = (let p : tie.After-ring-step Inv-loop μ-loop = search in p .ring-step .ensures) in
+    let l = start .pre .0 in
     let w = step-within _ _ _ (l .few) (l .next-within) (l .next-apart) (l .opposite-within) (l .opposite-apart) in
-    paint-last w (round (l .few) w (step-apart _ _ _ (l .few) (l .next-within) (l .next-apart) (l .opposite-within) (l .opposite-apart)) _ (c .before .before .before .before .before .pre .1)) (c .before .before .loop .inv .0) (c .before .before .loop .inv .1) (omega (arith, c .before .before .loop .inv .0 .below, l .few, c .before .before .before .before .before .pre .2)) (c .before .ring-step .ensures) (c .if1 .taken)
+    paint-last w (round (l .few) w (step-apart _ _ _ (l .few) (l .next-within) (l .next-apart) (l .opposite-within) (l .opposite-apart)) _ (start .pre .1)) (loop-inv .0) (loop-inv .1) (omega (arith, loop-inv .0 .below, l .few, start .pre .2)) ring-step-ensures (c .if1 .taken)
 
 loop-less : tie.Need-loop-less Inv-loop μ-loop
 loop-less c =
-    omega (arith, c .before .before .loop .inv .0 .less)
+    let loop-inv = (let p : tie.At-loop Inv-loop μ-loop = search in p .loop .inv) in
+    omega (arith, loop-inv .0 .less)
 
 loop-again : tie.Need-loop-again Inv-loop μ-loop
 loop-again c =
-    let l = c .before .before .before .before .before .pre .0 in
+    let start : tie.Start Inv-loop μ-loop = search in
+    let loop-inv = (let p : tie.At-loop Inv-loop μ-loop = search in p .loop .inv) in
+    let ring-step-ensures = (let p : tie.After-ring-step Inv-loop μ-loop = search in p .ring-step .ensures) in
+    let l = start .pre .0 in
     let w = step-within _ _ _ (l .few) (l .next-within) (l .next-apart) (l .opposite-within) (l .opposite-apart) in
-    let r = round (l .few) w (step-apart _ _ _ (l .few) (l .next-within) (l .next-apart) (l .opposite-within) (l .opposite-apart)) _ (c .before .before .before .before .before .pre .1) in
-    (going-next w r (c .before .before .loop .inv .0) (c .before .ring-step .ensures) (c .if1 .left), paint-next w r (c .before .before .loop .inv .0) (c .before .before .loop .inv .1) (omega (arith, c .before .before .loop .inv .0 .below, l .few, c .before .before .before .before .before .pre .2)))
+    let r = round (l .few) w (step-apart _ _ _ (l .few) (l .next-within) (l .next-apart) (l .opposite-within) (l .opposite-apart)) _ (start .pre .1) in
+    (going-next w r (loop-inv .0) ring-step-ensures (c .if1 .left), paint-next w r (loop-inv .0) (loop-inv .1) (omega (arith, loop-inv .0 .below, l .few, start .pre .2)))
 
 pub paint-ring-spec : {M : Type 1} → statement M
 paint-ring-spec =

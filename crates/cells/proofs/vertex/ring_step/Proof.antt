@@ -11,11 +11,14 @@ field-requires c κs = search needs
 
 field-requires-2 : tie.Need-field-requires-2
 field-requires-2 c κs =
-    (omega (arith, c .field .ensures, c .before .before .pre .0 .opposite-within _ (c .before .before .pre .1), c .before .before .pre .0 .few), omega arith, c .before .before .pre .0 .size)
+    let start : tie.Start = search in
+    (omega (arith, c .field .ensures, start .pre .0 .opposite-within _ (start .pre .1), start .pre .0 .few), omega arith, start .pre .0 .size)
 
 returns : tie.Need-returns
 returns c =
-    c .field2 .ensures ∙ ap (column (c .before .before .before .args .block .now) 1) (c .before .field .ensures)
+    let start : tie.Start = search in
+    let field-ensures = (let p : tie.After-field = search in p .field .ensures) in
+    c .field2 .ensures ∙ ap (column (start .args .block .now) 1) field-ensures
 
 pub ring-step-spec : {M : Type 1} → statement M
 ring-step-spec = tie.close (tie.spec field-requires field-requires-2 returns)

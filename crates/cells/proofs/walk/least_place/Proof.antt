@@ -21,7 +21,8 @@ shared-slice-read-low c = search needs
 
 loop-holds : tie.Need-loop-holds Inv-loop μ-loop
 loop-holds c =
-    (omega (arith, c .before .pre .0), lowest-first (c .before .args .order .now) (omega (arith, c .before .pre .0, c .before .pre .2)))
+    let start : tie.Start Inv-loop μ-loop = search in
+    (omega (arith, start .pre .0), lowest-first (start .args .order .now) (omega (arith, start .pre .0, start .pre .2)))
 
 mul-p : tie.Need-mul-p Inv-loop μ-loop
 mul-p c = search needs
@@ -34,23 +35,36 @@ add-i c = search needs
 
 loop-less : tie.Need-loop-less Inv-loop μ-loop
 loop-less c =
-    omega (arith, c .before .before .loop-test .taken)
+    let loop-test-taken = (let p : tie.In-loop Inv-loop μ-loop = search in p .loop-test .taken) in
+    omega (arith, loop-test-taken)
 
 loop-again : tie.Need-loop-again Inv-loop μ-loop
 loop-again c =
-    (omega (arith, c .before .before .loop-test .taken), lower-next (c .before .before .before .before .before .args .order .now) (c .before .before .before .loop .i) (c .before .before .before .loop .inv .1) (omega (arith, c .before .before .loop-test .taken, c .before .before .before .before .before .pre .2)) refl (c .if1 .taken))
+    let start : tie.Start Inv-loop μ-loop = search in
+    let loop-i = (let p : tie.At-loop Inv-loop μ-loop = search in p .loop .i) in
+    let loop-inv = (let p : tie.At-loop Inv-loop μ-loop = search in p .loop .inv) in
+    let loop-test-taken = (let p : tie.In-loop Inv-loop μ-loop = search in p .loop-test .taken) in
+    (omega (arith, loop-test-taken), lower-next (start .args .order .now) loop-i (loop-inv .1) (omega (arith, loop-test-taken, start .pre .2)) refl (c .if1 .taken))
 
 loop-less-2 : tie.Need-loop-less-2 Inv-loop μ-loop
 loop-less-2 c =
-    omega (arith, c .before .before .loop-test .taken)
+    let loop-test-taken = (let p : tie.In-loop Inv-loop μ-loop = search in p .loop-test .taken) in
+    omega (arith, loop-test-taken)
 
 loop-again-2 : tie.Need-loop-again-2 Inv-loop μ-loop
 loop-again-2 c =
-    (omega (arith, c .before .before .loop-test .taken), higher-next (c .before .before .before .before .before .args .order .now) (c .before .before .before .loop .i) (c .before .before .before .loop .inv .1) (omega (arith, c .before .before .loop-test .taken, c .before .before .before .before .before .pre .2)) refl (omega (arith, c .if1 .left)))
+    let start : tie.Start Inv-loop μ-loop = search in
+    let loop-i = (let p : tie.At-loop Inv-loop μ-loop = search in p .loop .i) in
+    let loop-inv = (let p : tie.At-loop Inv-loop μ-loop = search in p .loop .inv) in
+    let loop-test-taken = (let p : tie.In-loop Inv-loop μ-loop = search in p .loop-test .taken) in
+    (omega (arith, loop-test-taken), higher-next (start .args .order .now) loop-i (loop-inv .1) (omega (arith, loop-test-taken, start .pre .2)) refl (omega (arith, c .if1 .left)))
 
 returns : tie.Need-returns Inv-loop μ-loop
 returns c =
-    lowest-all (c .before .before .before .args .order .now) (c .before .loop .i) (c .before .before .before .args .count) (c .before .loop .inv .1) (c .before .loop .inv .0) (c .loop-test .left)
+    let start : tie.Start Inv-loop μ-loop = search in
+    let loop-i = (let p : tie.At-loop Inv-loop μ-loop = search in p .loop .i) in
+    let loop-inv = (let p : tie.At-loop Inv-loop μ-loop = search in p .loop .inv) in
+    lowest-all (start .args .order .now) loop-i (start .args .count) (loop-inv .1) (loop-inv .0) (c .loop-test .left)
 
 pub least-place-spec : {M : Type 1} → statement M
 least-place-spec =

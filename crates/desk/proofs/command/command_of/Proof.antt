@@ -15,7 +15,8 @@ same-requires c κs = search needs
 returns : tie.Need-returns
 unfolding command-in bytes
 returns c =
-    rw (sym (c .before .same .ensures) ∙ c .if1 .taken)
+    let same-ensures = (let p : tie.After-same = search in p .same .ensures) in
+    rw (sym same-ensures ∙ c .if1 .taken)
 
 slice-aggregate-same-2 : tie.Need-slice-aggregate-same-2
 slice-aggregate-same-2 c = search needs
@@ -26,7 +27,10 @@ same-requires-2 c κs = search needs
 returns-2 : tie.Need-returns-2
 unfolding command-in bytes
 returns-2 c =
-    rw (sym (c .before .before .before .before .same .ensures) ∙ c .before .before .before .if1 .left, sym (c .before .same2 .ensures) ∙ c .if2 .taken)
+    let same-ensures = (let p : tie.After-same = search in p .same .ensures) in
+    let if1-left = (let p : tie.Else1 = search in p .if1 .left) in
+    let same2-ensures = (let p : tie.After-same2 = search in p .same2 .ensures) in
+    rw (sym same-ensures ∙ if1-left, sym same2-ensures ∙ c .if2 .taken)
 
 slice-aggregate-same-3 : tie.Need-slice-aggregate-same-3
 slice-aggregate-same-3 c = search needs
@@ -37,7 +41,12 @@ same-requires-3 c κs = search needs
 returns-3 : tie.Need-returns-3
 unfolding command-in bytes
 returns-3 c =
-    rw (sym (c .before .before .before .before .before .before .before .same .ensures) ∙ c .before .before .before .before .before .before .if1 .left, sym (c .before .before .before .before .same2 .ensures) ∙ c .before .before .before .if2 .left, sym (c .before .same3 .ensures) ∙ c .if3 .taken)
+    let same-ensures = (let p : tie.After-same = search in p .same .ensures) in
+    let if1-left = (let p : tie.Else1 = search in p .if1 .left) in
+    let same2-ensures = (let p : tie.After-same2 = search in p .same2 .ensures) in
+    let if2-left = (let p : tie.Else2 = search in p .if2 .left) in
+    let same3-ensures = (let p : tie.After-same3 = search in p .same3 .ensures) in
+    rw (sym same-ensures ∙ if1-left, sym same2-ensures ∙ if2-left, sym same3-ensures ∙ c .if3 .taken)
 
 slice-aggregate-same-4 : tie.Need-slice-aggregate-same-4
 slice-aggregate-same-4 c = search needs
@@ -48,7 +57,14 @@ same-requires-4 c κs = search needs
 returns-4 : tie.Need-returns-4
 unfolding command-in bytes
 returns-4 c =
-    rw (sym (c .before .before .before .before .before .before .before .before .before .before .same .ensures) ∙ c .before .before .before .before .before .before .before .before .before .if1 .left, sym (c .before .before .before .before .before .before .before .same2 .ensures) ∙ c .before .before .before .before .before .before .if2 .left, sym (c .before .before .before .before .same3 .ensures) ∙ c .before .before .before .if3 .left, sym (c .before .same4 .ensures) ∙ c .if4 .taken)
+    let same-ensures = (let p : tie.After-same = search in p .same .ensures) in
+    let if1-left = (let p : tie.Else1 = search in p .if1 .left) in
+    let same2-ensures = (let p : tie.After-same2 = search in p .same2 .ensures) in
+    let if2-left = (let p : tie.Else2 = search in p .if2 .left) in
+    let same3-ensures = (let p : tie.After-same3 = search in p .same3 .ensures) in
+    let if3-left = (let p : tie.Else3 = search in p .if3 .left) in
+    let same4-ensures = (let p : tie.After-same4 = search in p .same4 .ensures) in
+    rw (sym same-ensures ∙ if1-left, sym same2-ensures ∙ if2-left, sym same3-ensures ∙ if3-left, sym same4-ensures ∙ c .if4 .taken)
 
 slice-aggregate-same-5 : tie.Need-slice-aggregate-same-5
 slice-aggregate-same-5 c = search needs
@@ -59,7 +75,16 @@ same-requires-5 c κs = search needs
 returns-5 : tie.Need-returns-5
 unfolding command-in bytes
 returns-5 c =
-    rw (sym (c .before .before .before .before .before .before .before .before .before .before .before .before .before .same .ensures) ∙ c .before .before .before .before .before .before .before .before .before .before .before .before .if1 .left, sym (c .before .before .before .before .before .before .before .before .before .before .same2 .ensures) ∙ c .before .before .before .before .before .before .before .before .before .if2 .left, sym (c .before .before .before .before .before .before .before .same3 .ensures) ∙ c .before .before .before .before .before .before .if3 .left, sym (c .before .before .before .before .same4 .ensures) ∙ c .before .before .before .if4 .left, sym (c .before .same5 .ensures) ∙ c .if5 .taken)
+    let same-ensures = (let p : tie.After-same = search in p .same .ensures) in
+    let if1-left = (let p : tie.Else1 = search in p .if1 .left) in
+    let same2-ensures = (let p : tie.After-same2 = search in p .same2 .ensures) in
+    let if2-left = (let p : tie.Else2 = search in p .if2 .left) in
+    let same3-ensures = (let p : tie.After-same3 = search in p .same3 .ensures) in
+    let if3-left = (let p : tie.Else3 = search in p .if3 .left) in
+    let same4-ensures = (let p : tie.After-same4 = search in p .same4 .ensures) in
+    let if4-left = (let p : tie.Else4 = search in p .if4 .left) in
+    let same5-ensures = (let p : tie.After-same5 = search in p .same5 .ensures) in
+    rw (sym same-ensures ∙ if1-left, sym same2-ensures ∙ if2-left, sym same3-ensures ∙ if3-left, sym same4-ensures ∙ if4-left, sym same5-ensures ∙ c .if5 .taken)
 
 slice-aggregate-same-6 : tie.Need-slice-aggregate-same-6
 slice-aggregate-same-6 c = search needs
@@ -70,12 +95,34 @@ same-requires-6 c κs = search needs
 returns-6 : tie.Need-returns-6
 unfolding command-in bytes
 returns-6 c =
-    rw (sym (c .before .before .before .before .before .before .before .before .before .before .before .before .before .before .before .before .same .ensures) ∙ c .before .before .before .before .before .before .before .before .before .before .before .before .before .before .before .if1 .left, sym (c .before .before .before .before .before .before .before .before .before .before .before .before .before .same2 .ensures) ∙ c .before .before .before .before .before .before .before .before .before .before .before .before .if2 .left, sym (c .before .before .before .before .before .before .before .before .before .before .same3 .ensures) ∙ c .before .before .before .before .before .before .before .before .before .if3 .left, sym (c .before .before .before .before .before .before .before .same4 .ensures) ∙ c .before .before .before .before .before .before .if4 .left, sym (c .before .before .before .before .same5 .ensures) ∙ c .before .before .before .if5 .left, sym (c .before .same6 .ensures) ∙ c .if6 .taken)
+    let same-ensures = (let p : tie.After-same = search in p .same .ensures) in
+    let if1-left = (let p : tie.Else1 = search in p .if1 .left) in
+    let same2-ensures = (let p : tie.After-same2 = search in p .same2 .ensures) in
+    let if2-left = (let p : tie.Else2 = search in p .if2 .left) in
+    let same3-ensures = (let p : tie.After-same3 = search in p .same3 .ensures) in
+    let if3-left = (let p : tie.Else3 = search in p .if3 .left) in
+    let same4-ensures = (let p : tie.After-same4 = search in p .same4 .ensures) in
+    let if4-left = (let p : tie.Else4 = search in p .if4 .left) in
+    let same5-ensures = (let p : tie.After-same5 = search in p .same5 .ensures) in
+    let if5-left = (let p : tie.Else5 = search in p .if5 .left) in
+    let same6-ensures = (let p : tie.After-same6 = search in p .same6 .ensures) in
+    rw (sym same-ensures ∙ if1-left, sym same2-ensures ∙ if2-left, sym same3-ensures ∙ if3-left, sym same4-ensures ∙ if4-left, sym same5-ensures ∙ if5-left, sym same6-ensures ∙ c .if6 .taken)
 
 returns-7 : tie.Need-returns-7
 unfolding command-in bytes
 returns-7 c =
-    rw (sym (c .before .before .before .before .before .before .before .before .before .before .before .before .before .before .before .before .same .ensures) ∙ c .before .before .before .before .before .before .before .before .before .before .before .before .before .before .before .if1 .left, sym (c .before .before .before .before .before .before .before .before .before .before .before .before .before .same2 .ensures) ∙ c .before .before .before .before .before .before .before .before .before .before .before .before .if2 .left, sym (c .before .before .before .before .before .before .before .before .before .before .same3 .ensures) ∙ c .before .before .before .before .before .before .before .before .before .if3 .left, sym (c .before .before .before .before .before .before .before .same4 .ensures) ∙ c .before .before .before .before .before .before .if4 .left, sym (c .before .before .before .before .same5 .ensures) ∙ c .before .before .before .if5 .left, sym (c .before .same6 .ensures) ∙ c .if6 .left)
+    let same-ensures = (let p : tie.After-same = search in p .same .ensures) in
+    let if1-left = (let p : tie.Else1 = search in p .if1 .left) in
+    let same2-ensures = (let p : tie.After-same2 = search in p .same2 .ensures) in
+    let if2-left = (let p : tie.Else2 = search in p .if2 .left) in
+    let same3-ensures = (let p : tie.After-same3 = search in p .same3 .ensures) in
+    let if3-left = (let p : tie.Else3 = search in p .if3 .left) in
+    let same4-ensures = (let p : tie.After-same4 = search in p .same4 .ensures) in
+    let if4-left = (let p : tie.Else4 = search in p .if4 .left) in
+    let same5-ensures = (let p : tie.After-same5 = search in p .same5 .ensures) in
+    let if5-left = (let p : tie.Else5 = search in p .if5 .left) in
+    let same6-ensures = (let p : tie.After-same6 = search in p .same6 .ensures) in
+    rw (sym same-ensures ∙ if1-left, sym same2-ensures ∙ if2-left, sym same3-ensures ∙ if3-left, sym same4-ensures ∙ if4-left, sym same5-ensures ∙ if5-left, sym same6-ensures ∙ c .if6 .left)
 
 pub command-of-spec : {M : Type 1} → statement M
 command-of-spec =

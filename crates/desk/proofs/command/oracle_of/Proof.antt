@@ -15,7 +15,8 @@ same-requires c κs = search needs
 returns : tie.Need-returns
 unfolding oracle-word-in bytes
 returns c =
-    rw (sym (c .before .same .ensures) ∙ c .if1 .taken)
+    let same-ensures = (let p : tie.After-same = search in p .same .ensures) in
+    rw (sym same-ensures ∙ c .if1 .taken)
 
 slice-aggregate-same-2 : tie.Need-slice-aggregate-same-2
 slice-aggregate-same-2 c = search needs
@@ -26,7 +27,10 @@ same-requires-2 c κs = search needs
 returns-2 : tie.Need-returns-2
 unfolding oracle-word-in bytes
 returns-2 c =
-    rw (sym (c .before .before .before .before .same .ensures) ∙ c .before .before .before .if1 .left, sym (c .before .same2 .ensures) ∙ c .if2 .taken)
+    let same-ensures = (let p : tie.After-same = search in p .same .ensures) in
+    let if1-left = (let p : tie.Else1 = search in p .if1 .left) in
+    let same2-ensures = (let p : tie.After-same2 = search in p .same2 .ensures) in
+    rw (sym same-ensures ∙ if1-left, sym same2-ensures ∙ c .if2 .taken)
 
 slice-aggregate-same-3 : tie.Need-slice-aggregate-same-3
 slice-aggregate-same-3 c = search needs
@@ -37,12 +41,22 @@ same-requires-3 c κs = search needs
 returns-3 : tie.Need-returns-3
 unfolding oracle-word-in bytes
 returns-3 c =
-    rw (sym (c .before .before .before .before .before .before .before .same .ensures) ∙ c .before .before .before .before .before .before .if1 .left, sym (c .before .before .before .before .same2 .ensures) ∙ c .before .before .before .if2 .left, sym (c .before .same3 .ensures) ∙ c .if3 .taken)
+    let same-ensures = (let p : tie.After-same = search in p .same .ensures) in
+    let if1-left = (let p : tie.Else1 = search in p .if1 .left) in
+    let same2-ensures = (let p : tie.After-same2 = search in p .same2 .ensures) in
+    let if2-left = (let p : tie.Else2 = search in p .if2 .left) in
+    let same3-ensures = (let p : tie.After-same3 = search in p .same3 .ensures) in
+    rw (sym same-ensures ∙ if1-left, sym same2-ensures ∙ if2-left, sym same3-ensures ∙ c .if3 .taken)
 
 returns-4 : tie.Need-returns-4
 unfolding oracle-word-in bytes
 returns-4 c =
-    rw (sym (c .before .before .before .before .before .before .before .same .ensures) ∙ c .before .before .before .before .before .before .if1 .left, sym (c .before .before .before .before .same2 .ensures) ∙ c .before .before .before .if2 .left, sym (c .before .same3 .ensures) ∙ c .if3 .left)
+    let same-ensures = (let p : tie.After-same = search in p .same .ensures) in
+    let if1-left = (let p : tie.Else1 = search in p .if1 .left) in
+    let same2-ensures = (let p : tie.After-same2 = search in p .same2 .ensures) in
+    let if2-left = (let p : tie.Else2 = search in p .if2 .left) in
+    let same3-ensures = (let p : tie.After-same3 = search in p .same3 .ensures) in
+    rw (sym same-ensures ∙ if1-left, sym same2-ensures ∙ if2-left, sym same3-ensures ∙ c .if3 .left)
 
 pub oracle-of-spec : {M : Type 1} → statement M
 oracle-of-spec =

@@ -25,7 +25,8 @@ sub-result c = search needs
 
 returns-2 : tie.Need-returns-2
 returns-2 c =
-    blank-is (c .before .before .before .before .args .line .now) (c .before .before .before .before .args .at) (c .leading .result) (c .leading .ensures .0)
+    let start : tie.Start = search in
+    blank-is (start .args .line .now) (start .args .at) (c .leading .result) (c .leading .ensures .0)
 
 pub is-rest-blank-spec : {M : Type 1} → statement M
 is-rest-blank-spec =

@@ -14,7 +14,8 @@ ones-requires c κs = search needs
 returns : tie.Need-returns
 unfolding block-name bytes
 returns c =
-    rw (c .before .tens .ensures, c .ones .ensures)
+    let tens-ensures = (let p : tie.After-tens = search in p .tens .ensures) in
+    rw (tens-ensures, c .ones .ensures)
 
 pub block-spec : {M : Type 1} → statement M
 block-spec = tie.close (tie.spec tens-requires ones-requires returns)

@@ -20,7 +20,8 @@ abbrev μ-loop : tie.MeasureT-loop
 
 loop-holds : tie.Need-loop-holds Inv-loop μ-loop
 loop-holds c =
-    (omega arith, leading-start (belongs (c .before .args .kind)) _)
+    let start : tie.Start Inv-loop μ-loop = search in
+    (omega arith, leading-start (belongs (start .args .kind)) _)
 
 shared-slice-read-belongs : tie.Need-shared-slice-read-belongs Inv-loop μ-loop
 shared-slice-read-belongs c = search needs
@@ -30,7 +31,11 @@ belongs-requires c κs = search needs
 
 returns : tie.Need-returns Inv-loop μ-loop
 returns c =
-    (sym (leading-stop (belongs (c .before .before .before .before .before .before .args .kind)) (c .before .before .before .before .before .before .args .text .now) (c .before .before .before .before .loop .i) (omega arith) (sym (c .before .belongs .ensures) ∙ not-true _ (c .if1 .taken))) ∙ c .before .before .before .before .loop .inv .1, omega arith)
+    let start : tie.Start Inv-loop μ-loop = search in
+    let loop-i = (let p : tie.At-loop Inv-loop μ-loop = search in p .loop .i) in
+    let loop-inv = (let p : tie.At-loop Inv-loop μ-loop = search in p .loop .inv) in
+    let belongs-ensures = (let p : tie.After-belongs Inv-loop μ-loop = search in p .belongs .ensures) in
+    (sym (leading-stop (belongs (start .args .kind)) (start .args .text .now) loop-i (omega arith) (sym belongs-ensures ∙ not-true _ (c .if1 .taken))) ∙ loop-inv .1, omega arith)
 
 add-i : tie.Need-add-i Inv-loop μ-loop
 add-i c = search needs
@@ -40,11 +45,18 @@ loop-less c = search needs
 
 loop-again : tie.Need-loop-again Inv-loop μ-loop
 loop-again c =
-    (omega arith, sym (leading-on (belongs (c .before .before .before .before .before .before .args .kind)) (c .before .before .before .before .before .before .args .text .now) (c .before .before .before .before .loop .i) (omega arith) (sym (c .before .belongs .ensures) ∙ not-false _ (c .if1 .left))) ∙ c .before .before .before .before .loop .inv .1)
+    let start : tie.Start Inv-loop μ-loop = search in
+    let loop-i = (let p : tie.At-loop Inv-loop μ-loop = search in p .loop .i) in
+    let loop-inv = (let p : tie.At-loop Inv-loop μ-loop = search in p .loop .inv) in
+    let belongs-ensures = (let p : tie.After-belongs Inv-loop μ-loop = search in p .belongs .ensures) in
+    (omega arith, sym (leading-on (belongs (start .args .kind)) (start .args .text .now) loop-i (omega arith) (sym belongs-ensures ∙ not-false _ (c .if1 .left))) ∙ loop-inv .1)
 
 returns-2 : tie.Need-returns-2 Inv-loop μ-loop
 returns-2 c =
-    (sym (leading-end (belongs (c .before .before .before .args .kind)) (c .before .before .before .args .text .now) (c .before .loop .i) (omega arith)) ∙ c .before .loop .inv .1, omega arith)
+    let start : tie.Start Inv-loop μ-loop = search in
+    let loop-i = (let p : tie.At-loop Inv-loop μ-loop = search in p .loop .i) in
+    let loop-inv = (let p : tie.At-loop Inv-loop μ-loop = search in p .loop .inv) in
+    (sym (leading-end (belongs (start .args .kind)) (start .args .text .now) loop-i (omega arith)) ∙ loop-inv .1, omega arith)
 
 pub leading-spec : {M : Type 1} → statement M
 leading-spec =

@@ -34,14 +34,20 @@ is-digit-requires c κs = search needs
 
 returns-2 : tie.Need-returns-2 Inv-loop μ-loop
 returns-2 c =
-    sym (digits-no-digit (c .before .before .before .before .before .before .before .args .text .now) (c .before .before .before .before .loop .n) (c .before .before .before .before .loop .i) (omega arith) (sym (c .before .is-digit .ensures) ∙ not-true _ (c .if2 .taken))) ∙ c .before .before .before .before .loop .inv .2
+    let start : tie.Start Inv-loop μ-loop = search in
+    let loop-i = (let p : tie.At-loop Inv-loop μ-loop = search in p .loop .i) in
+    let loop-inv = (let p : tie.At-loop Inv-loop μ-loop = search in p .loop .inv) in
+    let loop-n = (let p : tie.At-loop Inv-loop μ-loop = search in p .loop .n) in
+    let is-digit-ensures = (let p : tie.After-is-digit Inv-loop μ-loop = search in p .is-digit .ensures) in
+    sym (digits-no-digit (start .args .text .now) loop-n loop-i (omega arith) (sym is-digit-ensures ∙ not-true _ (c .if2 .taken))) ∙ loop-inv .2
 
 mul-v : tie.Need-mul-v Inv-loop μ-loop
 mul-v c = search needs
 
 digit-requires : tie.Need-digit-requires Inv-loop μ-loop
 digit-requires c κs =
-    sym (c .before .is-digit .ensures) ∙ not-false _ (c .if2 .left)
+    let is-digit-ensures = (let p : tie.After-is-digit Inv-loop μ-loop = search in p .is-digit .ensures) in
+    sym is-digit-ensures ∙ not-false _ (c .if2 .left)
 
 add-v : tie.Need-add-v Inv-loop μ-loop
 add-v c =
@@ -49,7 +55,15 @@ add-v c =
 
 returns-3 : tie.Need-returns-3 Inv-loop μ-loop
 returns-3 c =
-    sym (digits-too-many (c .before .before .before .before .before .before .before .before .before .args .text .now) (c .before .before .before .before .before .before .loop .n) (c .before .before .before .before .before .before .loop .i) (10 * c .before .before .before .before .before .before .loop .n + c .before .digit .result) (omega arith) (sym (c .before .before .before .is-digit .ensures) ∙ not-false _ (c .before .before .if2 .left)) (omega (arith, c .before .digit .ensures .0)) (omega arith)) ∙ c .before .before .before .before .before .before .loop .inv .2
+    let start : tie.Start Inv-loop μ-loop = search in
+    let loop-i = (let p : tie.At-loop Inv-loop μ-loop = search in p .loop .i) in
+    let loop-inv = (let p : tie.At-loop Inv-loop μ-loop = search in p .loop .inv) in
+    let loop-n = (let p : tie.At-loop Inv-loop μ-loop = search in p .loop .n) in
+    let is-digit-ensures = (let p : tie.After-is-digit Inv-loop μ-loop = search in p .is-digit .ensures) in
+    let if2-left = (let p : tie.Else2 Inv-loop μ-loop = search in p .if2 .left) in
+    let digit-ensures = (let p : tie.After-digit Inv-loop μ-loop = search in p .digit .ensures) in
+    let digit-result = (let p : tie.After-digit Inv-loop μ-loop = search in p .digit .result) in
+    sym (digits-too-many (start .args .text .now) loop-n loop-i (10 * loop-n + digit-result) (omega arith) (sym is-digit-ensures ∙ not-false _ if2-left) (omega (arith, digit-ensures .0)) (omega arith)) ∙ loop-inv .2
 
 add-i : tie.Need-add-i Inv-loop μ-loop
 add-i c = search needs
@@ -60,11 +74,23 @@ loop-less c =
 
 loop-again : tie.Need-loop-again Inv-loop μ-loop
 loop-again c =
-    (omega arith, omega (arith, c .if3 .left), sym (digits-on (c .before .before .before .before .before .before .before .before .before .args .text .now) (c .before .before .before .before .before .before .loop .n) (c .before .before .before .before .before .before .loop .i) (10 * c .before .before .before .before .before .before .loop .n + c .before .digit .result) (omega arith) (sym (c .before .before .before .is-digit .ensures) ∙ not-false _ (c .before .before .if2 .left)) (omega (arith, c .before .digit .ensures .0)) (omega arith)) ∙ c .before .before .before .before .before .before .loop .inv .2)
+    let start : tie.Start Inv-loop μ-loop = search in
+    let loop-i = (let p : tie.At-loop Inv-loop μ-loop = search in p .loop .i) in
+    let loop-inv = (let p : tie.At-loop Inv-loop μ-loop = search in p .loop .inv) in
+    let loop-n = (let p : tie.At-loop Inv-loop μ-loop = search in p .loop .n) in
+    let is-digit-ensures = (let p : tie.After-is-digit Inv-loop μ-loop = search in p .is-digit .ensures) in
+    let if2-left = (let p : tie.Else2 Inv-loop μ-loop = search in p .if2 .left) in
+    let digit-ensures = (let p : tie.After-digit Inv-loop μ-loop = search in p .digit .ensures) in
+    let digit-result = (let p : tie.After-digit Inv-loop μ-loop = search in p .digit .result) in
+    (omega arith, omega (arith, c .if3 .left), sym (digits-on (start .args .text .now) loop-n loop-i (10 * loop-n + digit-result) (omega arith) (sym is-digit-ensures ∙ not-false _ if2-left) (omega (arith, digit-ensures .0)) (omega arith)) ∙ loop-inv .2)
 
 returns-4 : tie.Need-returns-4 Inv-loop μ-loop
 returns-4 c =
-    sym (digits-end (c .before .before .before .before .args .text .now) (c .before .loop .n) (c .before .loop .i) (omega arith)) ∙ c .before .loop .inv .2
+    let start : tie.Start Inv-loop μ-loop = search in
+    let loop-i = (let p : tie.At-loop Inv-loop μ-loop = search in p .loop .i) in
+    let loop-inv = (let p : tie.At-loop Inv-loop μ-loop = search in p .loop .inv) in
+    let loop-n = (let p : tie.At-loop Inv-loop μ-loop = search in p .loop .n) in
+    sym (digits-end (start .args .text .now) loop-n loop-i (omega arith)) ∙ loop-inv .2
 
 pub number-in-spec : {M : Type 1} → statement M
 number-in-spec =

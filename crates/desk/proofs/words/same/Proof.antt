@@ -33,7 +33,10 @@ shared-slice-read-if2-2 c = search needs
 
 returns-2 : tie.Need-returns-2 Inv-loop μ-loop
 returns-2 c =
-    sym (same-stop (c .before .before .before .before .before .before .args .one .now) (c .before .before .before .before .before .before .args .other .now) (c .before .before .before .before .loop .i) (omega arith) (omega (arith, c .before .before .before .before .loop .inv .1)) (c .if2 .taken)) ∙ c .before .before .before .before .loop .inv .2
+    let start : tie.Start Inv-loop μ-loop = search in
+    let loop-i = (let p : tie.At-loop Inv-loop μ-loop = search in p .loop .i) in
+    let loop-inv = (let p : tie.At-loop Inv-loop μ-loop = search in p .loop .inv) in
+    sym (same-stop (start .args .one .now) (start .args .other .now) loop-i (omega arith) (omega (arith, loop-inv .1)) (c .if2 .taken)) ∙ loop-inv .2
 
 add-i : tie.Need-add-i Inv-loop μ-loop
 add-i c = search needs
@@ -44,11 +47,17 @@ loop-less c =
 
 loop-again : tie.Need-loop-again Inv-loop μ-loop
 loop-again c =
-    (omega arith, c .before .before .before .before .loop .inv .1, sym (same-on (c .before .before .before .before .before .before .args .one .now) (c .before .before .before .before .before .before .args .other .now) (c .before .before .before .before .loop .i) (omega arith) (omega (arith, c .before .before .before .before .loop .inv .1)) (c .if2 .left)) ∙ c .before .before .before .before .loop .inv .2)
+    let start : tie.Start Inv-loop μ-loop = search in
+    let loop-i = (let p : tie.At-loop Inv-loop μ-loop = search in p .loop .i) in
+    let loop-inv = (let p : tie.At-loop Inv-loop μ-loop = search in p .loop .inv) in
+    (omega arith, loop-inv .1, sym (same-on (start .args .one .now) (start .args .other .now) loop-i (omega arith) (omega (arith, loop-inv .1)) (c .if2 .left)) ∙ loop-inv .2)
 
 returns-3 : tie.Need-returns-3 Inv-loop μ-loop
 returns-3 c =
-    sym (same-end (c .before .before .before .args .one .now) (c .before .before .before .args .other .now) (c .before .loop .i) (omega arith) (omega (arith, c .before .loop .inv .1))) ∙ c .before .loop .inv .2
+    let start : tie.Start Inv-loop μ-loop = search in
+    let loop-i = (let p : tie.At-loop Inv-loop μ-loop = search in p .loop .i) in
+    let loop-inv = (let p : tie.At-loop Inv-loop μ-loop = search in p .loop .inv) in
+    sym (same-end (start .args .one .now) (start .args .other .now) loop-i (omega arith) (omega (arith, loop-inv .1))) ∙ loop-inv .2
 
 pub same-spec : {M : Type 1} → statement M
 same-spec =

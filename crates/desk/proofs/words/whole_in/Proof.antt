@@ -33,11 +33,18 @@ enum-told c = search needs
 
 returns-2 : tie.Need-returns-2
 returns-2 c =
-    whole-minus (c .before .before .before .before .before .before .before .before .before .args .text .now) _ (omega arith) (c .before .before .before .before .before .if2 .taken) (sym (c .before .n .given .1) ∙ c .before .before .before .number-in .ensures)
+    let start : tie.Start = search in
+    let if2-taken = (let p : tie.Then2 = search in p .if2 .taken) in
+    let number-in-ensures = (let p : tie.After-number-in = search in p .number-in .ensures) in
+    let n-given = (let p : tie.After-n = search in p .n .given) in
+    whole-minus (start .args .text .now) _ (omega arith) if2-taken (sym (n-given .1) ∙ number-in-ensures)
 
 returns-3 : tie.Need-returns-3
 returns-3 c =
-    whole-minus (c .before .before .before .before .before .before .before .before .args .text .now) _ (omega arith) (c .before .before .before .before .if2 .taken) (sym (c .enum-told .given .1) ∙ c .before .before .number-in .ensures)
+    let start : tie.Start = search in
+    let if2-taken = (let p : tie.Then2 = search in p .if2 .taken) in
+    let number-in-ensures = (let p : tie.After-number-in = search in p .number-in .ensures) in
+    whole-minus (start .args .text .now) _ (omega arith) if2-taken (sym (c .enum-told .given .1) ∙ number-in-ensures)
 
 number-in-requires-2 : tie.Need-number-in-requires-2
 number-in-requires-2 c κs = search needs
@@ -50,11 +57,18 @@ enum-told-2 c = search needs
 
 returns-4 : tie.Need-returns-4
 returns-4 c =
-    whole-plus (c .before .before .before .before .before .before .before .before .args .text .now) _ (omega arith) (c .before .before .before .before .if2 .left) (sym (c .before .n2 .given .1) ∙ c .before .before .before .number-in2 .ensures)
+    let start : tie.Start = search in
+    let if2-left = (let p : tie.Else2 = search in p .if2 .left) in
+    let number-in2-ensures = (let p : tie.After-number-in2 = search in p .number-in2 .ensures) in
+    let n2-given = (let p : tie.After-n2 = search in p .n2 .given) in
+    whole-plus (start .args .text .now) _ (omega arith) if2-left (sym (n2-given .1) ∙ number-in2-ensures)
 
 returns-5 : tie.Need-returns-5
 returns-5 c =
-    whole-plus (c .before .before .before .before .before .before .before .args .text .now) _ (omega arith) (c .before .before .before .if2 .left) (sym (c .enum-told2 .given .1) ∙ c .before .before .number-in2 .ensures)
+    let start : tie.Start = search in
+    let if2-left = (let p : tie.Else2 = search in p .if2 .left) in
+    let number-in2-ensures = (let p : tie.After-number-in2 = search in p .number-in2 .ensures) in
+    whole-plus (start .args .text .now) _ (omega arith) if2-left (sym (c .enum-told2 .given .1) ∙ number-in2-ensures)
 
 pub whole-in-spec : {M : Type 1} → statement M
 whole-in-spec =

@@ -25,7 +25,8 @@ enum-told c = search needs
 -- src/faces.rt:28:9
 returns : tie.Need-returns
 returns c =
-    record { said = (dart-none _ (bad-at group _ _ (sym (c .enum-told .given .1) ∙ c .before .before .read-group .ensures)), refl, refl) }
+    let read-group-ensures = (let p : tie.After-read-group = search in p .read-group .ensures) in
+    record { said = (dart-none _ (bad-at group _ _ (sym (c .enum-told .given .1) ∙ read-group-ensures)), refl, refl) }
 
 -- src/faces.rt:30:32
 read-serial-requires : tie.Need-read-serial-requires
@@ -42,7 +43,10 @@ enum-told-2 c = search needs
 -- src/faces.rt:31:9
 returns-2 : tie.Need-returns-2
 returns-2 c =
-    record { said = (dart-half (took-group (sym (c .before .before .before .before .v .given .1) ∙ c .before .before .before .before .before .before .read-group .ensures)) (bad-at serial _ _ (sym (c .enum-told2 .given .1) ∙ c .before .before .read-serial .ensures)), refl, refl) }
+    let read-group-ensures = (let p : tie.After-read-group = search in p .read-group .ensures) in
+    let v-given = (let p : tie.After-v = search in p .v .given) in
+    let read-serial-ensures = (let p : tie.After-read-serial = search in p .read-serial .ensures) in
+    record { said = (dart-half (took-group (sym (v-given .1) ∙ read-group-ensures)) (bad-at serial _ _ (sym (c .enum-told2 .given .1) ∙ read-serial-ensures)), refl, refl) }
 
 -- src/faces.rt:33:5
 mul-vertex : tie.Need-mul-vertex
@@ -71,7 +75,11 @@ same-length-2 c = search needs
 -- src/faces.rt:23:1
 returns-3 : tie.Need-returns-3
 returns-3 c =
-    record { said = (_, dart-took (took-group (sym (c .before .before .before .before .before .v .given .1) ∙ c .before .before .before .before .before .before .before .read-group .ensures)) (took-serial (sym (c .before .x .given .1) ∙ c .before .before .before .read-serial .ensures)), refl, refl) }
+    let read-group-ensures = (let p : tie.After-read-group = search in p .read-group .ensures) in
+    let v-given = (let p : tie.After-v = search in p .v .given) in
+    let read-serial-ensures = (let p : tie.After-read-serial = search in p .read-serial .ensures) in
+    let x-given = (let p : tie.After-x = search in p .x .given) in
+    record { said = (_, dart-took (took-group (sym (v-given .1) ∙ read-group-ensures)) (took-serial (sym (x-given .1) ∙ read-serial-ensures)), refl, refl) }
 
 pub read-dart-spec : {M : Type 1} → statement M
 read-dart-spec =

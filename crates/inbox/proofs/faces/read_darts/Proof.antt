@@ -20,7 +20,8 @@ abbrev μ-loop : tie.MeasureT-loop
 -- src/faces.rt:55:5
 loop-holds : tie.Need-loop-holds Inv-loop μ-loop
 loop-holds c =
-    darts-start (c .before .before .before .before .before .pre .0) (c .before .before .before .before .before .pre .2)
+    let start : tie.Start Inv-loop μ-loop = search in
+    darts-start (start .pre .0) (start .pre .2)
 
 -- src/faces.rt:55:15
 add-loop : tie.Need-add-loop Inv-loop μ-loop
@@ -57,7 +58,11 @@ same-length-4 c = search needs
 -- src/faces.rt:57:13
 returns : tie.Need-returns Inv-loop μ-loop
 returns c =
-    darts-stop (c .before .before .before .before .before .before .before .before .before .before .before .before .before .before .before .before .pre .1) (c .before .before .before .before .before .before .before .before .before .before .loop .inv) (c .enum-told .given .1) (omega (arith, c .before .before .before .before .before .before .before .before .before .loop-test .taken)) (c .before .before .before .before .before .before .read-dart .ensures)
+    let start : tie.Start Inv-loop μ-loop = search in
+    let loop-inv = (let p : tie.At-loop Inv-loop μ-loop = search in p .loop .inv) in
+    let loop-test-taken = (let p : tie.In-loop Inv-loop μ-loop = search in p .loop-test .taken) in
+    let read-dart-ensures = (let p : tie.After-read-dart Inv-loop μ-loop = search in p .read-dart .ensures) in
+    darts-stop (start .pre .1) loop-inv (c .enum-told .given .1) (omega (arith, loop-test-taken)) read-dart-ensures
 
 -- src/faces.rt:59:9
 mul-starts : tie.Need-mul-starts Inv-loop μ-loop
@@ -86,7 +91,12 @@ loop-less c = search needs
 -- src/faces.rt:55:5
 loop-again : tie.Need-loop-again Inv-loop μ-loop
 loop-again c =
-    darts-more (c .before .before .before .before .before .before .before .before .before .before .before .before .before .before .before .before .before .pre .1) (c .before .before .before .before .before .before .before .before .before .before .before .loop .inv) (c .before .x .given .1) (omega (arith, c .before .before .before .before .before .before .before .before .before .before .loop-test .taken)) (c .before .before .before .before .before .before .before .read-dart .ensures)
+    let start : tie.Start Inv-loop μ-loop = search in
+    let loop-inv = (let p : tie.At-loop Inv-loop μ-loop = search in p .loop .inv) in
+    let loop-test-taken = (let p : tie.In-loop Inv-loop μ-loop = search in p .loop-test .taken) in
+    let read-dart-ensures = (let p : tie.After-read-dart Inv-loop μ-loop = search in p .read-dart .ensures) in
+    let x-given = (let p : tie.After-x Inv-loop μ-loop = search in p .x .given) in
+    darts-more (start .pre .1) loop-inv (x-given .1) (omega (arith, loop-test-taken)) read-dart-ensures
 
 -- src/faces.rt:39:1
 same-length-5 : tie.Need-same-length-5 Inv-loop μ-loop
@@ -107,7 +117,9 @@ same-length-8 c = search needs
 -- src/faces.rt:39:1
 returns-2 : tie.Need-returns-2 Inv-loop μ-loop
 returns-2 c =
-    darts-end (c .before .before .before .before .before .before .before .pre .1) (c .before .loop .inv) refl (omega (arith, c .loop-test .left))
+    let start : tie.Start Inv-loop μ-loop = search in
+    let loop-inv = (let p : tie.At-loop Inv-loop μ-loop = search in p .loop .inv) in
+    darts-end (start .pre .1) loop-inv refl (omega (arith, c .loop-test .left))
 
 pub read-darts-spec : {M : Type 1} → statement M
 read-darts-spec =

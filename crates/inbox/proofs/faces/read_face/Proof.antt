@@ -27,7 +27,9 @@ enum-told c = search needs
 -- src/faces.rt:81:9
 returns : tie.Need-returns
 returns c =
-    face-none (c .before .before .before .before .before .before .before .before .args .s .now) (c .before .before .before .before .before .before .before .before .args .at) (bad-at group _ _ (sym (c .enum-told .given .1) ∙ c .before .before .read-group .ensures)) (c .before .before .before .before .before .before .before .before .pre .1)
+    let start : tie.Start = search in
+    let read-group-ensures = (let p : tie.After-read-group = search in p .read-group .ensures) in
+    face-none (start .args .s .now) (start .args .at) (bad-at group _ _ (sym (c .enum-told .given .1) ∙ read-group-ensures)) (start .pre .1)
 
 -- src/faces.rt:83:16
 sub-room : tie.Need-sub-room
@@ -36,12 +38,19 @@ sub-room c = search needs
 -- src/faces.rt:85:9
 returns-2 : tie.Need-returns-2
 returns-2 c =
-    face-large _ (took-group (sym (c .before .before .n .given .1) ∙ c .before .before .before .before .read-group .ensures)) (omega (arith, c .if1 .taken)) (c .before .before .before .before .before .before .before .before .before .before .pre .1)
+    let start : tie.Start = search in
+    let read-group-ensures = (let p : tie.After-read-group = search in p .read-group .ensures) in
+    let n-given = (let p : tie.After-n = search in p .n .given) in
+    face-large _ (took-group (sym (n-given .1) ∙ read-group-ensures)) (omega (arith, c .if1 .taken)) (start .pre .1)
 
 -- src/faces.rt:87:5
 read-darts-requires : tie.Need-read-darts-requires
 read-darts-requires c κs =
-    (took-group (sym (c .before .before .before .before .before .before .n .given .1) ∙ c .before .before .before .before .before .before .before .before .read-group .ensures) .within, omega (arith, c .before .before .before .before .if1 .left), c .before .before .before .before .before .before .before .before .before .before .before .before .before .before .pre .1)
+    let start : tie.Start = search in
+    let read-group-ensures = (let p : tie.After-read-group = search in p .read-group .ensures) in
+    let n-given = (let p : tie.After-n = search in p .n .given) in
+    let if1-left = (let p : tie.Else1 = search in p .if1 .left) in
+    (took-group (sym (n-given .1) ∙ read-group-ensures) .within, omega (arith, if1-left), start .pre .1)
 
 -- src/faces.rt:68:1
 same-length : tie.Need-same-length
@@ -62,7 +71,13 @@ same-length-4 c = search needs
 -- src/faces.rt:68:1
 returns-3 : tie.Need-returns-3
 returns-3 c =
-    face-read (c .before .before .before .before .before .before .before .before .before .before .before .before .before .before .before .before .before .before .before .before .before .before .before .args .start) (took-group (sym (c .before .before .before .before .before .before .before .before .before .before .before .before .before .before .before .n .given .1) ∙ c .before .before .before .before .before .before .before .before .before .before .before .before .before .before .before .before .before .read-group .ensures)) (omega (arith, c .before .before .before .before .before .before .before .before .before .before .before .before .before .if1 .left)) (c .before .before .before .before .before .before .before .before .read-darts .ensures)
+    let read-darts-ensures = (let p : tie.After-read-darts = search in p .read-darts .ensures) in
+    let if1-left = (let p : tie.Else1 = search in p .if1 .left) in
+    let n-given = (let p : tie.After-n = search in p .n .given) in
+    let read-group-ensures = (let p : tie.After-read-group = search in p .read-group .ensures) in
+    let c : tie.After-read-group = search in
+    let start : tie.Start = search in
+    face-read (start .args .start) (took-group (sym (n-given .1) ∙ read-group-ensures)) (omega (arith, if1-left)) read-darts-ensures
 
 pub read-face-spec : {M : Type 1} → statement M
 read-face-spec =

@@ -19,12 +19,14 @@ abbrev μ-loop : tie.MeasureT-loop
 -- src/faces.rt:116:5
 loop-holds : tie.Need-loop-holds Inv-loop μ-loop
 loop-holds c =
-    reading-start _ _ _ (c .before .before .before .before .before .pre .0) (c .before .before .before .before .before .pre .1)
+    let start : tie.Start Inv-loop μ-loop = search in
+    reading-start _ _ _ (start .pre .0) (start .pre .1)
 
 -- src/faces.rt:117:36
 read-face-requires : tie.Need-read-face-requires Inv-loop μ-loop
 read-face-requires c κs =
-    (c .before .before .before .before .before .loop .inv .few, c .before .before .before .before .before .loop .inv .sides)
+    let loop-inv = (let p : tie.At-loop Inv-loop μ-loop = search in p .loop .inv) in
+    (loop-inv .few, loop-inv .sides)
 
 -- src/faces.rt:117:25
 enum-known-n : tie.Need-enum-known-n Inv-loop μ-loop
@@ -53,12 +55,17 @@ same-length-4 c = search needs
 -- src/faces.rt:118:13
 returns : tie.Need-returns Inv-loop μ-loop
 returns c =
-    reading-stop _ _ _ (c .before .before .before .before .before .before .before .before .before .before .before .before .before .before .before .before .loop .inv) (c .enum-told .given .1) (omega (arith, c .before .before .before .before .before .before .before .before .before .before .before .before .before .before .before .loop-test .taken)) (c .before .before .before .before .before .before .before .before .before .before .read-face .ensures) _ refl
+    let loop-inv = (let p : tie.At-loop Inv-loop μ-loop = search in p .loop .inv) in
+    let loop-test-taken = (let p : tie.In-loop Inv-loop μ-loop = search in p .loop-test .taken) in
+    let read-face-ensures = (let p : tie.After-read-face Inv-loop μ-loop = search in p .read-face .ensures) in
+    reading-stop _ _ _ loop-inv (c .enum-told .given .1) (omega (arith, loop-test-taken)) read-face-ensures _ refl
 
 -- src/faces.rt:126:9
 add-darts : tie.Need-add-darts Inv-loop μ-loop
 add-darts c =
-    omega (arith, face-fits (c .before .n .given .1) (c .before .before .before .before .before .before .before .before .before .before .before .read-face .ensures))
+    let read-face-ensures = (let p : tie.After-read-face Inv-loop μ-loop = search in p .read-face .ensures) in
+    let n-given = (let p : tie.After-n Inv-loop μ-loop = search in p .n .given) in
+    omega (arith, face-fits (n-given .1) read-face-ensures)
 
 -- src/faces.rt:128:9
 sub-left : tie.Need-sub-left Inv-loop μ-loop
@@ -71,7 +78,11 @@ loop-less c = search needs
 -- src/faces.rt:116:5
 loop-again : tie.Need-loop-again Inv-loop μ-loop
 loop-again c =
-    reading-more _ _ _ (c .before .before .before .before .before .before .before .before .before .before .before .before .before .before .before .before .before .loop .inv) (c .before .n .given .1) (omega (arith, c .before .before .before .before .before .before .before .before .before .before .before .before .before .before .before .before .loop-test .taken)) (c .before .before .before .before .before .before .before .before .before .before .before .read-face .ensures)
+    let loop-inv = (let p : tie.At-loop Inv-loop μ-loop = search in p .loop .inv) in
+    let loop-test-taken = (let p : tie.In-loop Inv-loop μ-loop = search in p .loop-test .taken) in
+    let read-face-ensures = (let p : tie.After-read-face Inv-loop μ-loop = search in p .read-face .ensures) in
+    let n-given = (let p : tie.After-n Inv-loop μ-loop = search in p .n .given) in
+    reading-more _ _ _ loop-inv (n-given .1) (omega (arith, loop-test-taken)) read-face-ensures
 
 -- src/faces.rt:99:1
 same-length-5 : tie.Need-same-length-5 Inv-loop μ-loop
@@ -92,7 +103,8 @@ same-length-8 c = search needs
 -- src/faces.rt:99:1
 returns-2 : tie.Need-returns-2 Inv-loop μ-loop
 returns-2 c =
-    reading-end _ _ _ (c .before .loop .inv) (omega (arith, c .loop-test .left)) _ refl refl refl refl
+    let loop-inv = (let p : tie.At-loop Inv-loop μ-loop = search in p .loop .inv) in
+    reading-end _ _ _ loop-inv (omega (arith, c .loop-test .left)) _ refl refl refl refl
 
 pub read-faces-spec : {M : Type 1} → statement M
 read-faces-spec =

@@ -27,22 +27,29 @@ enum-told c = search needs
 -- src/faces.rt:13:9
 returns : tie.Need-returns
 returns c =
-    record { said = counted-none point _ (bad-at group _ _ (sym (c .enum-told .given .1) ∙ c .before .before .read-group .ensures)) }
+    let read-group-ensures = (let p : tie.After-read-group = search in p .read-group .ensures) in
+    record { said = counted-none point _ (bad-at group _ _ (sym (c .enum-told .given .1) ∙ read-group-ensures)) }
 
 -- src/faces.rt:15:16
 sub-room : tie.Need-sub-room
 sub-room c =
-    omega (arith, took-group (sym (c .before .n .given .1) ∙ c .before .before .before .read-group .ensures) .within)
+    let read-group-ensures = (let p : tie.After-read-group = search in p .read-group .ensures) in
+    let n-given = (let p : tie.After-n = search in p .n .given) in
+    omega (arith, took-group (sym (n-given .1) ∙ read-group-ensures) .within)
 
 -- src/faces.rt:17:9
 returns-2 : tie.Need-returns-2
 returns-2 c =
-    points-bad (took-group (sym (c .before .before .n .given .1) ∙ c .before .before .before .before .read-group .ensures)) (omega (arith, c .if1 .taken, took-group (sym (c .before .before .n .given .1) ∙ c .before .before .before .before .read-group .ensures) .within))
+    let read-group-ensures = (let p : tie.After-read-group = search in p .read-group .ensures) in
+    let n-given = (let p : tie.After-n = search in p .n .given) in
+    points-bad (took-group (sym (n-given .1) ∙ read-group-ensures)) (omega (arith, c .if1 .taken, took-group (sym (n-given .1) ∙ read-group-ensures) .within))
 
 -- src/faces.rt:9:1
 returns-3 : tie.Need-returns-3
 returns-3 c =
-    points-read (took-group (sym (c .before .before .n .given .1) ∙ c .before .before .before .before .read-group .ensures)) (omega (arith, c .if1 .left, took-group (sym (c .before .before .n .given .1) ∙ c .before .before .before .before .read-group .ensures) .within))
+    let read-group-ensures = (let p : tie.After-read-group = search in p .read-group .ensures) in
+    let n-given = (let p : tie.After-n = search in p .n .given) in
+    points-read (took-group (sym (n-given .1) ∙ read-group-ensures)) (omega (arith, c .if1 .left, took-group (sym (n-given .1) ∙ read-group-ensures) .within))
 
 pub read-points-spec : {M : Type 1} → statement M
 read-points-spec =

@@ -32,12 +32,17 @@ no-counted-requires c κs = search needs
 -- src/message.rt:94:9
 returns : tie.Need-returns
 returns c =
-    counted-bad part2 (c .before .before .before .before .before .args .s .now) (c .before .before .before .before .before .args .at) (c .no-counted .ensures) (bad-at group _ _ (sym (c .before .enum-told .given .1) ∙ c .before .before .before .read-group .ensures))
+    let start : tie.Start = search in
+    let read-group-ensures = (let p : tie.After-read-group = search in p .read-group .ensures) in
+    let enum-told-given = (let p : tie.After-enum-told = search in p .enum-told .given) in
+    counted-bad part2 (start .args .s .now) (start .args .at) (c .no-counted .ensures) (bad-at group _ _ (sym (enum-told-given .1) ∙ read-group-ensures))
 
 -- src/message.rt:96:32
 pass-parts2-requires : tie.Need-pass-parts2-requires
 pass-parts2-requires c κs =
-    took-group (sym (c .before .count .given .1) ∙ c .before .before .before .read-group .ensures) .within
+    let read-group-ensures = (let p : tie.After-read-group = search in p .read-group .ensures) in
+    let count-given = (let p : tie.After-count = search in p .count .given) in
+    took-group (sym (count-given .1) ∙ read-group-ensures) .within
 
 -- src/message.rt:96:21
 enum-known-n : tie.Need-enum-known-n
@@ -54,12 +59,20 @@ no-counted-requires-2 c κs = search needs
 -- src/message.rt:97:9
 returns-2 : tie.Need-returns-2
 returns-2 c =
-    counted-short part2 (c .no-counted2 .ensures) (took-group (sym (c .before .before .before .before .before .count .given .1) ∙ c .before .before .before .before .before .before .before .read-group .ensures)) (c .before .enum-told2 .given .1) (c .before .before .before .pass-parts2 .ensures)
+    let read-group-ensures = (let p : tie.After-read-group = search in p .read-group .ensures) in
+    let count-given = (let p : tie.After-count = search in p .count .given) in
+    let pass-parts2-ensures = (let p : tie.After-pass-parts2 = search in p .pass-parts2 .ensures) in
+    let enum-told2-given = (let p : tie.After-enum-told2 = search in p .enum-told2 .given) in
+    counted-short part2 (c .no-counted2 .ensures) (took-group (sym (count-given .1) ∙ read-group-ensures)) (enum-told2-given .1) pass-parts2-ensures
 
 -- src/message.rt:90:1
 returns-3 : tie.Need-returns-3
 returns-3 c =
-    counted-good part2 (took-group (sym (c .before .before .before .before .before .count .given .1) ∙ c .before .before .before .before .before .before .before .read-group .ensures)) (c .before .n .given .1) (c .before .before .before .pass-parts2 .ensures)
+    let read-group-ensures = (let p : tie.After-read-group = search in p .read-group .ensures) in
+    let count-given = (let p : tie.After-count = search in p .count .given) in
+    let pass-parts2-ensures = (let p : tie.After-pass-parts2 = search in p .pass-parts2 .ensures) in
+    let n-given = (let p : tie.After-n = search in p .n .given) in
+    counted-good part2 (took-group (sym (count-given .1) ∙ read-group-ensures)) (n-given .1) pass-parts2-ensures
 
 pub counted2-spec : {M : Type 1} → statement M
 counted2-spec =

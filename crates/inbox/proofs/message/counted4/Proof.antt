@@ -32,12 +32,18 @@ no-counted-requires c κs = search needs
 -- src/message.rt:131:9
 returns : tie.Need-returns
 returns c =
-    λ fs z. counted-bad (part4 fs) (c .before .before .before .before .before .before .args .s .now) (c .before .before .before .before .before .before .args .at) (c .no-counted .ensures) (bad-at group _ _ (sym (c .before .enum-told .given .1) ∙ c .before .before .before .read-group .ensures))
+    let start : tie.Start = search in
+    let read-group-ensures = (let p : tie.After-read-group = search in p .read-group .ensures) in
+    let enum-told-given = (let p : tie.After-enum-told = search in p .enum-told .given) in
+    λ fs z. counted-bad (part4 fs) (start .args .s .now) (start .args .at) (c .no-counted .ensures) (bad-at group _ _ (sym (enum-told-given .1) ∙ read-group-ensures))
 
 -- src/message.rt:133:32
 pass-parts4-requires : tie.Need-pass-parts4-requires
 pass-parts4-requires c κs =
-    (took-group (sym (c .before .count .given .1) ∙ c .before .before .before .read-group .ensures) .within, c .before .before .before .before .before .before .pre)
+    let start : tie.Start = search in
+    let read-group-ensures = (let p : tie.After-read-group = search in p .read-group .ensures) in
+    let count-given = (let p : tie.After-count = search in p .count .given) in
+    (took-group (sym (count-given .1) ∙ read-group-ensures) .within, start .pre)
 
 -- src/message.rt:133:21
 enum-known-n : tie.Need-enum-known-n
@@ -54,12 +60,20 @@ no-counted-requires-2 c κs = search needs
 -- src/message.rt:134:9
 returns-2 : tie.Need-returns-2
 returns-2 c =
-    λ fs z. counted-short (part4 fs) (c .no-counted2 .ensures) (took-group (sym (c .before .before .before .before .before .count .given .1) ∙ c .before .before .before .before .before .before .before .read-group .ensures)) (c .before .enum-told2 .given .1) (c .before .before .before .pass-parts4 .ensures fs z)
+    let read-group-ensures = (let p : tie.After-read-group = search in p .read-group .ensures) in
+    let count-given = (let p : tie.After-count = search in p .count .given) in
+    let pass-parts4-ensures = (let p : tie.After-pass-parts4 = search in p .pass-parts4 .ensures) in
+    let enum-told2-given = (let p : tie.After-enum-told2 = search in p .enum-told2 .given) in
+    λ fs z. counted-short (part4 fs) (c .no-counted2 .ensures) (took-group (sym (count-given .1) ∙ read-group-ensures)) (enum-told2-given .1) (pass-parts4-ensures fs z)
 
 -- src/message.rt:126:1
 returns-3 : tie.Need-returns-3
 returns-3 c =
-    λ fs z. counted-good (part4 fs) (took-group (sym (c .before .before .before .before .before .count .given .1) ∙ c .before .before .before .before .before .before .before .read-group .ensures)) (c .before .n .given .1) (c .before .before .before .pass-parts4 .ensures fs z)
+    let read-group-ensures = (let p : tie.After-read-group = search in p .read-group .ensures) in
+    let count-given = (let p : tie.After-count = search in p .count .given) in
+    let pass-parts4-ensures = (let p : tie.After-pass-parts4 = search in p .pass-parts4 .ensures) in
+    let n-given = (let p : tie.After-n = search in p .n .given) in
+    λ fs z. counted-good (part4 fs) (took-group (sym (count-given .1) ∙ read-group-ensures)) (n-given .1) (pass-parts4-ensures fs z)
 
 pub counted4-spec : {M : Type 1} → statement M
 counted4-spec =

@@ -26,22 +26,30 @@ enum-told c = search needs
 -- src/message.rt:19:9
 returns : tie.Need-returns
 returns c =
-    frame-none (c .before .before .before .before .args .s .now) (bad-at group _ _ (sym (c .enum-told .given .1) ∙ c .before .before .read-group .ensures))
+    let start : tie.Start = search in
+    let read-group-ensures = (let p : tie.After-read-group = search in p .read-group .ensures) in
+    frame-none (start .args .s .now) (bad-at group _ _ (sym (c .enum-told .given .1) ∙ read-group-ensures))
 
 -- src/message.rt:21:16
 sub-rest : tie.Need-sub-rest
 sub-rest c =
-    omega (arith, took-group (sym (c .before .n .given .1) ∙ c .before .before .before .read-group .ensures) .within)
+    let read-group-ensures = (let p : tie.After-read-group = search in p .read-group .ensures) in
+    let n-given = (let p : tie.After-n = search in p .n .given) in
+    omega (arith, took-group (sym (n-given .1) ∙ read-group-ensures) .within)
 
 -- src/message.rt:23:9
 returns-2 : tie.Need-returns-2
 returns-2 c =
-    frame-wrong (took-group (sym (c .before .before .n .given .1) ∙ c .before .before .before .before .read-group .ensures)) (c .if1 .taken)
+    let read-group-ensures = (let p : tie.After-read-group = search in p .read-group .ensures) in
+    let n-given = (let p : tie.After-n = search in p .n .given) in
+    frame-wrong (took-group (sym (n-given .1) ∙ read-group-ensures)) (c .if1 .taken)
 
 -- src/message.rt:15:1
 returns-3 : tie.Need-returns-3
 returns-3 c =
-    frame-right (took-group (sym (c .before .before .n .given .1) ∙ c .before .before .before .before .read-group .ensures)) (c .if1 .left)
+    let read-group-ensures = (let p : tie.After-read-group = search in p .read-group .ensures) in
+    let n-given = (let p : tie.After-n = search in p .n .given) in
+    frame-right (took-group (sym (n-given .1) ∙ read-group-ensures)) (c .if1 .left)
 
 pub read-frame-spec : {M : Type 1} → statement M
 read-frame-spec =

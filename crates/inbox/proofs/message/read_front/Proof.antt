@@ -27,7 +27,10 @@ no-front-requires c κs = search needs
 -- src/message.rt:203:9
 returns : tie.Need-returns
 returns c =
-    front-bad (c .before .before .before .before .before .before .before .before .before .pre) (c .no-front .ensures) (no-head (not-true _ (c .before .if1 .taken)) (c .before .before .before .read-head .ensures))
+    let start : tie.Start = search in
+    let read-head-ensures = (let p : tie.After-read-head = search in p .read-head .ensures) in
+    let if1-taken = (let p : tie.Then1 = search in p .if1 .taken) in
+    front-bad (start .pre) (c .no-front .ensures) (no-head (not-true _ if1-taken) read-head-ensures)
 
 -- src/message.rt:205:41
 read-points-requires : tie.Need-read-points-requires
@@ -48,17 +51,26 @@ no-front-requires-2 c κs = search needs
 -- src/message.rt:206:9
 returns-2 : tie.Need-returns-2
 returns-2 c =
-    front-bad (c .before .before .before .before .before .before .before .before .before .before .before .before .pre) (c .no-front2 .ensures) (no-points (c .before .before .before .before .before .before .read-head .ensures .yes (not-false _ (c .before .before .before .before .if1 .left))) (c .before .enum-told .given .1) (c .before .before .before .read-points .ensures))
+    let start : tie.Start = search in
+    let read-head-ensures = (let p : tie.After-read-head = search in p .read-head .ensures) in
+    let if1-left = (let p : tie.Else1 = search in p .if1 .left) in
+    let read-points-ensures = (let p : tie.After-read-points = search in p .read-points .ensures) in
+    let enum-told-given = (let p : tie.After-enum-told = search in p .enum-told .given) in
+    front-bad (start .pre) (c .no-front2 .ensures) (no-points (read-head-ensures .yes (not-false _ if1-left)) (enum-told-given .1) read-points-ensures)
 
 -- src/message.rt:208:68
 mul-read-group : tie.Need-mul-read-group
 mul-read-group c =
-    omega (arith, took-points (c .before .vertices .given .1) (c .before .before .before .read-points .ensures) .within)
+    let read-points-ensures = (let p : tie.After-read-points = search in p .read-points .ensures) in
+    let vertices-given = (let p : tie.After-vertices = search in p .vertices .given) in
+    omega (arith, took-points (vertices-given .1) read-points-ensures .within)
 
 -- src/message.rt:208:59
 add-read-group : tie.Need-add-read-group
 add-read-group c =
-    omega (arith, took-points (c .before .vertices .given .1) (c .before .before .before .read-points .ensures) .within)
+    let read-points-ensures = (let p : tie.After-read-points = search in p .read-points .ensures) in
+    let vertices-given = (let p : tie.After-vertices = search in p .vertices .given) in
+    omega (arith, took-points (vertices-given .1) read-points-ensures .within)
 
 -- src/message.rt:208:37
 read-group-requires : tie.Need-read-group-requires
@@ -79,12 +91,22 @@ no-front-requires-3 c κs = search needs
 -- src/message.rt:209:9
 returns-3 : tie.Need-returns-3
 returns-3 c =
-    front-bad (c .before .before .before .before .before .before .before .before .before .before .before .before .before .before .before .before .pre) (c .no-front3 .ensures) (no-count _ _ (c .before .before .before .before .before .before .before .before .before .before .read-head .ensures .yes (not-false _ (c .before .before .before .before .before .before .before .before .if1 .left))) (took-points (c .before .before .before .before .before .vertices .given .1) (c .before .before .before .before .before .before .before .read-points .ensures)) (bad-at group _ _ (sym (c .before .enum-told2 .given .1) ∙ c .before .before .before .read-group .ensures)))
+    let start : tie.Start = search in
+    let read-head-ensures = (let p : tie.After-read-head = search in p .read-head .ensures) in
+    let if1-left = (let p : tie.Else1 = search in p .if1 .left) in
+    let read-points-ensures = (let p : tie.After-read-points = search in p .read-points .ensures) in
+    let vertices-given = (let p : tie.After-vertices = search in p .vertices .given) in
+    let read-group-ensures = (let p : tie.After-read-group = search in p .read-group .ensures) in
+    let enum-told2-given = (let p : tie.After-enum-told2 = search in p .enum-told2 .given) in
+    front-bad (start .pre) (c .no-front3 .ensures) (no-count _ _ (read-head-ensures .yes (not-false _ if1-left)) (took-points (vertices-given .1) read-points-ensures) (bad-at group _ _ (sym (enum-told2-given .1) ∙ read-group-ensures)))
 
 -- src/message.rt:211:9
 read-faces-requires : tie.Need-read-faces-requires
 read-faces-requires c κs =
-    (took-group (sym (c .before .before .before .before .before .count .given .1) ∙ c .before .before .before .before .before .before .before .read-group .ensures) .within, c .before .before .before .before .before .before .before .before .before .before .before .before .before .before .before .before .before .before .before .before .pre)
+    let start : tie.Start = search in
+    let read-group-ensures = (let p : tie.After-read-group = search in p .read-group .ensures) in
+    let count-given = (let p : tie.After-count = search in p .count .given) in
+    (took-group (sym (count-given .1) ∙ read-group-ensures) .within, start .pre)
 
 -- src/message.rt:190:1
 same-length : tie.Need-same-length
@@ -105,7 +127,15 @@ same-length-4 c = search needs
 -- src/message.rt:190:1
 returns-4 : tie.Need-returns-4
 returns-4 c =
-    front-read _ _ (c .before .before .before .before .before .before .before .before .before .before .before .before .before .before .before .before .before .before .before .before .before .before .before .read-head .ensures .yes (not-false _ (c .before .before .before .before .before .before .before .before .before .before .before .before .before .before .before .before .before .before .before .before .before .if1 .left))) (took-points (c .before .before .before .before .before .before .before .before .before .before .before .before .before .before .before .before .before .before .vertices .given .1) (c .before .before .before .before .before .before .before .before .before .before .before .before .before .before .before .before .before .before .before .before .read-points .ensures)) (took-group (sym (c .before .before .before .before .before .before .before .before .before .before .before .before .before .before .count .given .1) ∙ c .before .before .before .before .before .before .before .before .before .before .before .before .before .before .before .before .read-group .ensures)) (c .before .before .before .before .before .before .before .before .read-faces .ensures)
+    let read-faces-ensures = (let p : tie.After-read-faces = search in p .read-faces .ensures) in
+    let count-given = (let p : tie.After-count = search in p .count .given) in
+    let read-group-ensures = (let p : tie.After-read-group = search in p .read-group .ensures) in
+    let vertices-given = (let p : tie.After-vertices = search in p .vertices .given) in
+    let read-points-ensures = (let p : tie.After-read-points = search in p .read-points .ensures) in
+    let if1-left = (let p : tie.Else1 = search in p .if1 .left) in
+    let c : tie.Else1 = search in
+    let read-head-ensures = (let p : tie.After-read-head = search in p .read-head .ensures) in
+    front-read _ _ (read-head-ensures .yes (not-false _ if1-left)) (took-points (vertices-given .1) read-points-ensures) (took-group (sym (count-given .1) ∙ read-group-ensures)) read-faces-ensures
 
 pub read-front-spec : {M : Type 1} → statement M
 read-front-spec =

@@ -32,7 +32,10 @@ no-head-requires c κs = search needs
 -- src/message.rt:51:9
 returns : tie.Need-returns
 returns c =
-    head-bad (c .no-head .ensures) (kind-none _ (c .before .before .before .before .before .args .s .now) (c .before .before .before .before .before .args .at) (bad-at group _ _ (sym (c .before .enum-told .given .1) ∙ c .before .before .before .read-group .ensures)))
+    let start : tie.Start = search in
+    let read-group-ensures = (let p : tie.After-read-group = search in p .read-group .ensures) in
+    let enum-told-given = (let p : tie.After-enum-told = search in p .enum-told .given) in
+    head-bad (c .no-head .ensures) (kind-none _ (start .args .s .now) (start .args .at) (bad-at group _ _ (sym (enum-told-given .1) ∙ read-group-ensures)))
 
 -- src/message.rt:54:9
 no-head-requires-2 : tie.Need-no-head-requires-2
@@ -41,7 +44,10 @@ no-head-requires-2 c κs = search needs
 -- src/message.rt:54:9
 returns-2 : tie.Need-returns-2
 returns-2 c =
-    head-bad (c .no-head2 .ensures) (kind-other _ (took-group (sym (c .before .before .before .k .given .1) ∙ c .before .before .before .before .before .read-group .ensures)) (λ e. c .before .if1 .taken (sym e)))
+    let read-group-ensures = (let p : tie.After-read-group = search in p .read-group .ensures) in
+    let k-given = (let p : tie.After-k = search in p .k .given) in
+    let if1-taken = (let p : tie.Then1 = search in p .if1 .taken) in
+    head-bad (c .no-head2 .ensures) (kind-other _ (took-group (sym (k-given .1) ∙ read-group-ensures)) (λ e. if1-taken (sym e)))
 
 -- src/message.rt:56:36
 read-at-most-requires : tie.Need-read-at-most-requires
@@ -62,7 +68,12 @@ no-head-requires-3 c κs = search needs
 -- src/message.rt:57:9
 returns-3 : tie.Need-returns-3
 returns-3 c =
-    head-bad (c .no-head3 .ensures) (no-from _ (took-kind (took-group (sym (c .before .before .before .before .before .before .k .given .1) ∙ c .before .before .before .before .before .before .before .before .read-group .ensures)) (c .before .before .before .before .if1 .left)) (bad-at (at-most 15) _ _ (sym (c .before .enum-told2 .given .1) ∙ c .before .before .before .read-at-most .ensures)))
+    let read-group-ensures = (let p : tie.After-read-group = search in p .read-group .ensures) in
+    let k-given = (let p : tie.After-k = search in p .k .given) in
+    let if1-left = (let p : tie.Else1 = search in p .if1 .left) in
+    let read-at-most-ensures = (let p : tie.After-read-at-most = search in p .read-at-most .ensures) in
+    let enum-told2-given = (let p : tie.After-enum-told2 = search in p .enum-told2 .given) in
+    head-bad (c .no-head3 .ensures) (no-from _ (took-kind (took-group (sym (k-given .1) ∙ read-group-ensures)) if1-left) (bad-at (at-most 15) _ _ (sym (enum-told2-given .1) ∙ read-at-most-ensures)))
 
 -- src/message.rt:59:33
 read-at-most-requires-2 : tie.Need-read-at-most-requires-2
@@ -83,12 +94,26 @@ no-head-requires-4 c κs = search needs
 -- src/message.rt:60:9
 returns-4 : tie.Need-returns-4
 returns-4 c =
-    head-bad (c .no-head4 .ensures) (no-to _ _ _ (took-kind (took-group (sym (c .before .before .before .before .before .before .before .before .before .before .k .given .1) ∙ c .before .before .before .before .before .before .before .before .before .before .before .before .read-group .ensures)) (c .before .before .before .before .before .before .before .before .if1 .left)) (took-at-most 15 (sym (c .before .before .before .before .before .from .given .1) ∙ c .before .before .before .before .before .before .before .read-at-most .ensures)) (bad-at (at-most 15) _ _ (sym (c .before .enum-told3 .given .1) ∙ c .before .before .before .read-at-most2 .ensures)))
+    let read-group-ensures = (let p : tie.After-read-group = search in p .read-group .ensures) in
+    let k-given = (let p : tie.After-k = search in p .k .given) in
+    let if1-left = (let p : tie.Else1 = search in p .if1 .left) in
+    let read-at-most-ensures = (let p : tie.After-read-at-most = search in p .read-at-most .ensures) in
+    let from-given = (let p : tie.After-from = search in p .from .given) in
+    let read-at-most2-ensures = (let p : tie.After-read-at-most2 = search in p .read-at-most2 .ensures) in
+    let enum-told3-given = (let p : tie.After-enum-told3 = search in p .enum-told3 .given) in
+    head-bad (c .no-head4 .ensures) (no-to _ _ _ (took-kind (took-group (sym (k-given .1) ∙ read-group-ensures)) if1-left) (took-at-most 15 (sym (from-given .1) ∙ read-at-most-ensures)) (bad-at (at-most 15) _ _ (sym (enum-told3-given .1) ∙ read-at-most2-ensures)))
 
 -- src/message.rt:47:1
 returns-5 : tie.Need-returns-5
 returns-5 c =
-    head-good _ refl (record { past = _; after = _; kind-read = took-kind (took-group (sym (c .before .before .before .before .before .before .before .before .before .before .k .given .1) ∙ c .before .before .before .before .before .before .before .before .before .before .before .before .read-group .ensures)) (c .before .before .before .before .before .before .before .before .if1 .left); from-read = took-at-most 15 (sym (c .before .before .before .before .before .from .given .1) ∙ c .before .before .before .before .before .before .before .read-at-most .ensures); to-read = took-at-most 15 (sym (c .before .to .given .1) ∙ c .before .before .before .read-at-most2 .ensures) })
+    let read-group-ensures = (let p : tie.After-read-group = search in p .read-group .ensures) in
+    let k-given = (let p : tie.After-k = search in p .k .given) in
+    let if1-left = (let p : tie.Else1 = search in p .if1 .left) in
+    let read-at-most-ensures = (let p : tie.After-read-at-most = search in p .read-at-most .ensures) in
+    let from-given = (let p : tie.After-from = search in p .from .given) in
+    let read-at-most2-ensures = (let p : tie.After-read-at-most2 = search in p .read-at-most2 .ensures) in
+    let to-given = (let p : tie.After-to = search in p .to .given) in
+    head-good _ refl (record { past = _; after = _; kind-read = took-kind (took-group (sym (k-given .1) ∙ read-group-ensures)) if1-left; from-read = took-at-most 15 (sym (from-given .1) ∙ read-at-most-ensures); to-read = took-at-most 15 (sym (to-given .1) ∙ read-at-most2-ensures) })
 
 pub read-head-spec : {M : Type 1} → statement M
 read-head-spec =

@@ -19,7 +19,8 @@ abbrev μ-loop : tie.MeasureT-loop
 -- src/parts.rt:75:5
 loop-holds : tie.Need-loop-holds Inv-loop μ-loop
 loop-holds c =
-    passing-start label (c .before .pre)
+    let start : tie.Start Inv-loop μ-loop = search in
+    passing-start label (start .pre)
 
 -- src/parts.rt:76:39
 read-label-requires : tie.Need-read-label-requires Inv-loop μ-loop
@@ -36,7 +37,10 @@ enum-told c = search needs
 -- src/parts.rt:77:13
 returns : tie.Need-returns Inv-loop μ-loop
 returns c =
-    passing-stop label (c .before .before .before .before .loop .inv) (c .enum-told .given .1) (omega (arith, c .before .before .before .loop-test .taken)) (label-pass _ _ (c .before .before .read-label .ensures))
+    let loop-inv = (let p : tie.At-loop Inv-loop μ-loop = search in p .loop .inv) in
+    let loop-test-taken = (let p : tie.In-loop Inv-loop μ-loop = search in p .loop-test .taken) in
+    let read-label-ensures = (let p : tie.After-read-label Inv-loop μ-loop = search in p .read-label .ensures) in
+    passing-stop label loop-inv (c .enum-told .given .1) (omega (arith, loop-test-taken)) (label-pass _ _ read-label-ensures)
 
 -- src/parts.rt:80:9
 sub-left : tie.Need-sub-left Inv-loop μ-loop
@@ -49,12 +53,17 @@ loop-less c = search needs
 -- src/parts.rt:75:5
 loop-again : tie.Need-loop-again Inv-loop μ-loop
 loop-again c =
-    passing-more label (c .before .before .before .before .before .loop .inv) (c .before .code .given .1) (omega (arith, c .before .before .before .before .loop-test .taken)) (label-pass _ _ (c .before .before .before .read-label .ensures))
+    let loop-inv = (let p : tie.At-loop Inv-loop μ-loop = search in p .loop .inv) in
+    let loop-test-taken = (let p : tie.In-loop Inv-loop μ-loop = search in p .loop-test .taken) in
+    let read-label-ensures = (let p : tie.After-read-label Inv-loop μ-loop = search in p .read-label .ensures) in
+    let code-given = (let p : tie.After-code Inv-loop μ-loop = search in p .code .given) in
+    passing-more label loop-inv (code-given .1) (omega (arith, loop-test-taken)) (label-pass _ _ read-label-ensures)
 
 -- src/parts.rt:68:1
 returns-2 : tie.Need-returns-2 Inv-loop μ-loop
 returns-2 c =
-    passing-end label (c .before .loop .inv) (omega (arith, c .loop-test .left))
+    let loop-inv = (let p : tie.At-loop Inv-loop μ-loop = search in p .loop .inv) in
+    passing-end label loop-inv (omega (arith, c .loop-test .left))
 
 pub pass-labels-spec : {M : Type 1} → statement M
 pass-labels-spec =

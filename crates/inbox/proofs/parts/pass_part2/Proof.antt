@@ -23,7 +23,9 @@ enum-told c = search needs
 -- src/parts.rt:16:9
 returns : tie.Need-returns
 returns c =
-    part2-none (c .before .before .before .before .args .s .now) (c .before .before .before .before .args .at) (no-label _ _ (sym (c .enum-told .given .1) ∙ c .before .before .read-label .ensures))
+    let start : tie.Start = search in
+    let read-label-ensures = (let p : tie.After-read-label = search in p .read-label .ensures) in
+    part2-none (start .args .s .now) (start .args .at) (no-label _ _ (sym (c .enum-told .given .1) ∙ read-label-ensures))
 
 -- src/parts.rt:18:5
 read-group-requires : tie.Need-read-group-requires
@@ -32,7 +34,9 @@ read-group-requires c κs = search needs
 -- src/parts.rt:12:1
 returns-2 : tie.Need-returns-2
 returns-2 c =
-    part2-pass (took-label (sym (c .before .before .code .given .1) ∙ c .before .before .before .before .read-label .ensures)) (group-pass _ _ (c .read-group .ensures))
+    let read-label-ensures = (let p : tie.After-read-label = search in p .read-label .ensures) in
+    let code-given = (let p : tie.After-code = search in p .code .given) in
+    part2-pass (took-label (sym (code-given .1) ∙ read-label-ensures)) (group-pass _ _ (c .read-group .ensures))
 
 pub pass-part2-spec : {M : Type 1} → statement M
 pass-part2-spec =

@@ -25,7 +25,9 @@ enum-told c = search needs
 -- src/parts.rt:26:9
 returns : tie.Need-returns
 returns c =
-    part3-none (c .before .before .before .before .args .s .now) (c .before .before .before .before .args .at) (bad-at group _ _ (sym (c .enum-told .given .1) ∙ c .before .before .read-group .ensures))
+    let start : tie.Start = search in
+    let read-group-ensures = (let p : tie.After-read-group = search in p .read-group .ensures) in
+    part3-none (start .args .s .now) (start .args .at) (bad-at group _ _ (sym (c .enum-told .given .1) ∙ read-group-ensures))
 
 -- src/parts.rt:28:5
 read-group-requires-2 : tie.Need-read-group-requires-2
@@ -34,7 +36,9 @@ read-group-requires-2 c κs = search needs
 -- src/parts.rt:22:1
 returns-2 : tie.Need-returns-2
 returns-2 c =
-    part3-pass (took-group (sym (c .before .before .number .given .1) ∙ c .before .before .before .before .read-group .ensures)) (group-pass _ _ (c .read-group2 .ensures))
+    let read-group-ensures = (let p : tie.After-read-group = search in p .read-group .ensures) in
+    let number-given = (let p : tie.After-number = search in p .number .given) in
+    part3-pass (took-group (sym (number-given .1) ∙ read-group-ensures)) (group-pass _ _ (c .read-group2 .ensures))
 
 pub pass-part3-spec : {M : Type 1} → statement M
 pass-part3-spec =

@@ -28,12 +28,16 @@ enum-told c = search needs
 -- src/parts.rt:91:9
 returns : tie.Need-returns
 returns c =
-    λ fs z. part4-none fs (c .before .before .before .before .before .args .s .now) (c .before .before .before .before .before .args .at) (bad-at group _ _ (sym (c .enum-told .given .1) ∙ c .before .before .read-group .ensures))
+    let start : tie.Start = search in
+    let read-group-ensures = (let p : tie.After-read-group = search in p .read-group .ensures) in
+    λ fs z. part4-none fs (start .args .s .now) (start .args .at) (bad-at group _ _ (sym (c .enum-told .given .1) ∙ read-group-ensures))
 
 -- src/parts.rt:94:9
 returns-2 : tie.Need-returns-2
 returns-2 c =
-    λ fs z. part4-outside fs (took-group (sym (c .before .before .index .given .1) ∙ c .before .before .before .before .read-group .ensures)) z (omega (arith, c .if1 .taken))
+    let read-group-ensures = (let p : tie.After-read-group = search in p .read-group .ensures) in
+    let index-given = (let p : tie.After-index = search in p .index .given) in
+    λ fs z. part4-outside fs (took-group (sym (index-given .1) ∙ read-group-ensures)) z (omega (arith, c .if1 .taken))
 
 -- src/parts.rt:96:36
 read-at-most-requires : tie.Need-read-at-most-requires
@@ -50,7 +54,11 @@ enum-told-2 c = search needs
 -- src/parts.rt:97:9
 returns-3 : tie.Need-returns-3
 returns-3 c =
-    λ fs z. part4-alone fs (took-group (sym (c .before .before .before .before .before .index .given .1) ∙ c .before .before .before .before .before .before .before .read-group .ensures)) z (omega (arith, c .before .before .before .if1 .left)) (bad-at (at-most 15) _ _ (sym (c .enum-told2 .given .1) ∙ c .before .before .read-at-most .ensures))
+    let read-group-ensures = (let p : tie.After-read-group = search in p .read-group .ensures) in
+    let index-given = (let p : tie.After-index = search in p .index .given) in
+    let if1-left = (let p : tie.Else1 = search in p .if1 .left) in
+    let read-at-most-ensures = (let p : tie.After-read-at-most = search in p .read-at-most .ensures) in
+    λ fs z. part4-alone fs (took-group (sym (index-given .1) ∙ read-group-ensures)) z (omega (arith, if1-left)) (bad-at (at-most 15) _ _ (sym (c .enum-told2 .given .1) ∙ read-at-most-ensures))
 
 -- src/parts.rt:99:16
 mul-size : tie.Need-mul-size
@@ -63,12 +71,19 @@ shared-slice-read-size c = search needs
 -- src/parts.rt:100:5
 pass-labels-requires : tie.Need-pass-labels-requires
 pass-labels-requires c κs =
-    took-at-most 15 (sym (c .before .before .other .given .1) ∙ c .before .before .before .before .read-at-most .ensures) .within
+    let read-at-most-ensures = (let p : tie.After-read-at-most = search in p .read-at-most .ensures) in
+    let other-given = (let p : tie.After-other = search in p .other .given) in
+    took-at-most 15 (sym (other-given .1) ∙ read-at-most-ensures) .within
 
 -- src/parts.rt:86:1
 returns-4 : tie.Need-returns-4
 returns-4 c =
-    λ fs z. part4-pass fs (took-group (sym (c .before .before .before .before .before .before .before .before .index .given .1) ∙ c .before .before .before .before .before .before .before .before .before .before .read-group .ensures)) z (omega (arith, c .before .before .before .before .before .before .if1 .left)) (took-at-most 15 (sym (c .before .before .before .other .given .1) ∙ c .before .before .before .before .before .read-at-most .ensures)) refl (c .pass-labels .ensures)
+    let read-group-ensures = (let p : tie.After-read-group = search in p .read-group .ensures) in
+    let index-given = (let p : tie.After-index = search in p .index .given) in
+    let if1-left = (let p : tie.Else1 = search in p .if1 .left) in
+    let read-at-most-ensures = (let p : tie.After-read-at-most = search in p .read-at-most .ensures) in
+    let other-given = (let p : tie.After-other = search in p .other .given) in
+    λ fs z. part4-pass fs (took-group (sym (index-given .1) ∙ read-group-ensures)) z (omega (arith, if1-left)) (took-at-most 15 (sym (other-given .1) ∙ read-at-most-ensures)) refl (c .pass-labels .ensures)
 
 pub pass-part4-spec : {M : Type 1} → statement M
 pass-part4-spec =

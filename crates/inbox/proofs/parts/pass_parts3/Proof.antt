@@ -19,7 +19,8 @@ abbrev μ-loop : tie.MeasureT-loop
 -- src/parts.rt:57:5
 loop-holds : tie.Need-loop-holds Inv-loop μ-loop
 loop-holds c =
-    passing-start part3 (c .before .pre)
+    let start : tie.Start Inv-loop μ-loop = search in
+    passing-start part3 (start .pre)
 
 -- src/parts.rt:58:40
 pass-part3-requires : tie.Need-pass-part3-requires Inv-loop μ-loop
@@ -36,7 +37,10 @@ enum-told c = search needs
 -- src/parts.rt:59:13
 returns : tie.Need-returns Inv-loop μ-loop
 returns c =
-    passing-stop part3 (c .before .before .before .before .loop .inv) (c .enum-told .given .1) (omega (arith, c .before .before .before .loop-test .taken)) (c .before .before .pass-part3 .ensures)
+    let loop-inv = (let p : tie.At-loop Inv-loop μ-loop = search in p .loop .inv) in
+    let loop-test-taken = (let p : tie.In-loop Inv-loop μ-loop = search in p .loop-test .taken) in
+    let pass-part3-ensures = (let p : tie.After-pass-part3 Inv-loop μ-loop = search in p .pass-part3 .ensures) in
+    passing-stop part3 loop-inv (c .enum-told .given .1) (omega (arith, loop-test-taken)) pass-part3-ensures
 
 -- src/parts.rt:62:9
 sub-left : tie.Need-sub-left Inv-loop μ-loop
@@ -49,12 +53,17 @@ loop-less c = search needs
 -- src/parts.rt:57:5
 loop-again : tie.Need-loop-again Inv-loop μ-loop
 loop-again c =
-    passing-more part3 (c .before .before .before .before .before .loop .inv) (c .before .index .given .1) (omega (arith, c .before .before .before .before .loop-test .taken)) (c .before .before .before .pass-part3 .ensures)
+    let loop-inv = (let p : tie.At-loop Inv-loop μ-loop = search in p .loop .inv) in
+    let loop-test-taken = (let p : tie.In-loop Inv-loop μ-loop = search in p .loop-test .taken) in
+    let pass-part3-ensures = (let p : tie.After-pass-part3 Inv-loop μ-loop = search in p .pass-part3 .ensures) in
+    let index-given = (let p : tie.After-index Inv-loop μ-loop = search in p .index .given) in
+    passing-more part3 loop-inv (index-given .1) (omega (arith, loop-test-taken)) pass-part3-ensures
 
 -- src/parts.rt:50:1
 returns-2 : tie.Need-returns-2 Inv-loop μ-loop
 returns-2 c =
-    passing-end part3 (c .before .loop .inv) (omega (arith, c .loop-test .left))
+    let loop-inv = (let p : tie.At-loop Inv-loop μ-loop = search in p .loop .inv) in
+    passing-end part3 loop-inv (omega (arith, c .loop-test .left))
 
 pub pass-parts3-spec : {M : Type 1} → statement M
 pass-parts3-spec =

@@ -21,7 +21,8 @@ abbrev μ-loop : tie.MeasureT-loop
 -- src/parts.rt:111:5
 loop-holds : tie.Need-loop-holds Inv-loop μ-loop
 loop-holds c =
-    λ fs z. passing-start (part4 fs) (c .before .before .pre .0)
+    let start : tie.Start Inv-loop μ-loop = search in
+    λ fs z. passing-start (part4 fs) (start .pre .0)
 
 -- src/parts.rt:112:40
 pass-part4-requires : tie.Need-pass-part4-requires Inv-loop μ-loop
@@ -38,7 +39,10 @@ enum-told c = search needs
 -- src/parts.rt:113:13
 returns : tie.Need-returns Inv-loop μ-loop
 returns c =
-    λ fs z. passing-stop (part4 fs) (c .before .before .before .before .loop .inv fs z) (c .enum-told .given .1) (omega (arith, c .before .before .before .loop-test .taken)) (c .before .before .pass-part4 .ensures fs z)
+    let loop-inv = (let p : tie.At-loop Inv-loop μ-loop = search in p .loop .inv) in
+    let loop-test-taken = (let p : tie.In-loop Inv-loop μ-loop = search in p .loop-test .taken) in
+    let pass-part4-ensures = (let p : tie.After-pass-part4 Inv-loop μ-loop = search in p .pass-part4 .ensures) in
+    λ fs z. passing-stop (part4 fs) (loop-inv fs z) (c .enum-told .given .1) (omega (arith, loop-test-taken)) (pass-part4-ensures fs z)
 
 -- src/parts.rt:116:9
 sub-left : tie.Need-sub-left Inv-loop μ-loop
@@ -51,12 +55,17 @@ loop-less c = search needs
 -- src/parts.rt:111:5
 loop-again : tie.Need-loop-again Inv-loop μ-loop
 loop-again c =
-    λ fs z. passing-more (part4 fs) (c .before .before .before .before .before .loop .inv fs z) (c .before .index .given .1) (omega (arith, c .before .before .before .before .loop-test .taken)) (c .before .before .before .pass-part4 .ensures fs z)
+    let loop-inv = (let p : tie.At-loop Inv-loop μ-loop = search in p .loop .inv) in
+    let loop-test-taken = (let p : tie.In-loop Inv-loop μ-loop = search in p .loop-test .taken) in
+    let pass-part4-ensures = (let p : tie.After-pass-part4 Inv-loop μ-loop = search in p .pass-part4 .ensures) in
+    let index-given = (let p : tie.After-index Inv-loop μ-loop = search in p .index .given) in
+    λ fs z. passing-more (part4 fs) (loop-inv fs z) (index-given .1) (omega (arith, loop-test-taken)) (pass-part4-ensures fs z)
 
 -- src/parts.rt:104:1
 returns-2 : tie.Need-returns-2 Inv-loop μ-loop
 returns-2 c =
-    λ fs z. passing-end (part4 fs) (c .before .loop .inv fs z) (omega (arith, c .loop-test .left))
+    let loop-inv = (let p : tie.At-loop Inv-loop μ-loop = search in p .loop .inv) in
+    λ fs z. passing-end (part4 fs) (loop-inv fs z) (omega (arith, c .loop-test .left))
 
 pub pass-parts4-spec : {M : Type 1} → statement M
 pass-parts4-spec =

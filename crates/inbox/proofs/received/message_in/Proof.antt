@@ -17,7 +17,9 @@ enum-told c = search needs
 
 returns : tie.Need-returns
 returns c =
-    no-frame (c .before .before .before .before .before .before .before .before .pre) (c .enum-told .given .1) (c .before .before .read-frame .ensures)
+    let start : tie.Start = search in
+    let read-frame-ensures = (let p : tie.After-read-frame = search in p .read-frame .ensures) in
+    no-frame (start .pre) (c .enum-told .given .1) read-frame-ensures
 
 read-front-requires : tie.Need-read-front-requires
 read-front-requires c κs = search needs
@@ -39,12 +41,17 @@ same-length-4 c = search needs
 
 returns-2 : tie.Need-returns-2
 returns-2 c =
-    let front = c .before .before .before .before .before .before .before .before .before .before .before .read-front .ensures in
-    other-read (c .before .before .before .before .before .before .before .before .before .before .before .before .before .before .before .before .before .n .given .1) (c .before .before .before .before .before .before .before .before .before .before .before .before .before .before .before .before .before .before .before .read-frame .ensures) (front .sides) (front-missing front (not-true _ (c .before .if1 .taken))) (c .update-from .ensures)
+    let read-frame-ensures = (let p : tie.After-read-frame = search in p .read-frame .ensures) in
+    let n-given = (let p : tie.After-n = search in p .n .given) in
+    let if1-taken = (let p : tie.Then1 = search in p .if1 .taken) in
+    let front = (let p : tie.After-read-front = search in p .read-front .ensures) in
+    other-read (n-given .1) read-frame-ensures (front .sides) (front-missing front (not-true _ if1-taken)) (c .update-from .ensures)
 
 read-tail-requires : tie.Need-read-tail-requires
 read-tail-requires c κs =
-    front-fits (c .before .before .before .before .before .before .before .before .before .before .before .read-front .ensures) (not-false _ (c .before .if1 .left))
+    let read-front-ensures = (let p : tie.After-read-front = search in p .read-front .ensures) in
+    let if1-left = (let p : tie.Else1 = search in p .if1 .left) in
+    front-fits read-front-ensures (not-false _ if1-left)
 
 update-from-requires-2 : tie.Need-update-from-requires-2
 update-from-requires-2 c κs = search needs
@@ -63,9 +70,18 @@ same-length-8 c = search needs
 
 returns-3 : tie.Need-returns-3
 returns-3 c =
-    let front = c .before .before .before .before .before .before .before .before .before .before .before .before .before .before .before .read-front .ensures in
-    let there = not-false _ (c .before .before .before .before .before .if1 .left) in
-    other-read (c .before .before .before .before .before .before .before .before .before .before .before .before .before .before .before .before .before .before .before .before .before .n .given .1) (c .before .before .before .before .before .before .before .before .before .before .before .before .before .before .before .before .before .before .before .before .before .before .before .read-frame .ensures) (front .sides) (tail-missing front there (c .before .before .before .read-tail .ensures (front .yes there .fs) (front-sized front there)) (not-true _ (c .before .if2 .taken))) (c .update-from2 .ensures)
+    let update-from2-ensures = (let p : tie.After-update-from2 = search in p .update-from2 .ensures) in
+    let if2-taken = (let p : tie.Then2 = search in p .if2 .taken) in
+    let read-tail-ensures = (let p : tie.After-read-tail = search in p .read-tail .ensures) in
+    let if1-left = (let p : tie.Else1 = search in p .if1 .left) in
+    let c : tie.Else1 = search in
+    let read-front-ensures = (let p : tie.After-read-front = search in p .read-front .ensures) in
+    let c : tie.After-read-front = search in
+    let n-given = (let p : tie.After-n = search in p .n .given) in
+    let read-frame-ensures = (let p : tie.After-read-frame = search in p .read-frame .ensures) in
+    let front = read-front-ensures in
+    let there = not-false _ if1-left in
+    other-read (n-given .1) read-frame-ensures (front .sides) (tail-missing front there (read-tail-ensures (front .yes there .fs) (front-sized front there)) (not-true _ if2-taken)) update-from2-ensures
 
 same-length-9 : tie.Need-same-length-9
 same-length-9 c = search needs
@@ -81,9 +97,16 @@ same-length-12 c = search needs
 
 returns-4 : tie.Need-returns-4
 returns-4 c =
-    let front = c .before .before .before .before .before .before .before .before .before .before .before .before .before .before .read-front .ensures in
-    let there = not-false _ (c .before .before .before .before .if1 .left) in
-    transfer-read (c .before .before .before .before .before .before .before .before .before .before .before .before .before .before .before .before .before .before .before .before .n .given .1) (c .before .before .before .before .before .before .before .before .before .before .before .before .before .before .before .before .before .before .before .before .before .before .read-frame .ensures) front there (c .before .before .read-tail .ensures (front .yes there .fs) (front-sized front there)) (not-false _ (c .if2 .left))
+    let if2-left = (let p : tie.Else2 = search in p .if2 .left) in
+    let read-tail-ensures = (let p : tie.After-read-tail = search in p .read-tail .ensures) in
+    let if1-left = (let p : tie.Else1 = search in p .if1 .left) in
+    let read-front-ensures = (let p : tie.After-read-front = search in p .read-front .ensures) in
+    let c : tie.After-read-front = search in
+    let n-given = (let p : tie.After-n = search in p .n .given) in
+    let read-frame-ensures = (let p : tie.After-read-frame = search in p .read-frame .ensures) in
+    let front = read-front-ensures in
+    let there = not-false _ if1-left in
+    transfer-read (n-given .1) read-frame-ensures front there (read-tail-ensures (front .yes there .fs) (front-sized front there)) (not-false _ if2-left)
 
 pub message-in-spec : {M : Type 1} → statement M
 message-in-spec =

@@ -11,11 +11,13 @@ read-update-requires c κs = search needs
 
 returns : tie.Need-returns
 returns c =
-    told-none (c .before .before .read-update .ensures) (not-true _ (c .if1 .taken))
+    let read-update-ensures = (let p : tie.After-read-update = search in p .read-update .ensures) in
+    told-none read-update-ensures (not-true _ (c .if1 .taken))
 
 returns-2 : tie.Need-returns-2
 returns-2 c =
-    told-update (c .before .before .read-update .ensures) (not-false _ (c .if1 .left))
+    let read-update-ensures = (let p : tie.After-read-update = search in p .read-update .ensures) in
+    told-update read-update-ensures (not-false _ (c .if1 .left))
 
 pub update-from-spec : {M : Type 1} → statement M
 update-from-spec = tie.close (tie.spec read-update-requires returns returns-2)

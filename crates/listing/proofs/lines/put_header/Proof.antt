@@ -18,56 +18,80 @@ put-text-requires c κs = search needs
 
 shared-slice-read-put-decimal : tie.Need-shared-slice-read-put-decimal
 shared-slice-read-put-decimal c =
-    omega (arith, image-size (c .before .before .before .before .before .before .before .before .before .args .block .now) (c .before .before .before .before .before .before .before .before .before .pre .0))
+    let start : tie.Start = search in
+    omega (arith, image-size (start .args .block .now) (start .pre .0))
 
 put-decimal-requires : tie.Need-put-decimal-requires
 put-decimal-requires c κs =
-    let p = stored-past 6 (c .before .before .before .before .put-text .ensures) (omega arith) in
-    (number-small (c .before .before .before .before .before .before .before .before .before .args .block .now) (c .before .before .before .before .before .before .before .before .before .pre .0), omega (arith, block-short (c .before .before .before .before .before .before .before .before .before .args .block .now) (c .before .before .before .before .before .before .before .before .before .pre .0), c .before .before .before .before .before .before .before .before .before .pre .1))
+    let start : tie.Start = search in
+    let put-text-ensures = (let p : tie.After-put-text = search in p .put-text .ensures) in
+    let p = stored-past 6 put-text-ensures (omega arith) in
+    (number-small (start .args .block .now) (start .pre .0), omega (arith, block-short (start .args .block .now) (start .pre .0), start .pre .1))
 
 slice-aggregate-put-text-2 : tie.Need-slice-aggregate-put-text-2
 slice-aggregate-put-text-2 c = search needs
 
 put-text-requires-2 : tie.Need-put-text-requires-2
 put-text-requires-2 c κs =
-    let p = stored-past 6 (c .before .before .before .before .before .before .before .before .before .put-text .ensures) (omega arith) in
-    let q = stored-past 2 (c .before .before .before .before .put-decimal .ensures) (block-short (c .before .before .before .before .before .before .before .before .before .before .before .before .before .before .args .block .now) (c .before .before .before .before .before .before .before .before .before .before .before .before .before .before .pre .0)) in
-    omega (arith, c .before .before .before .before .before .before .before .before .before .before .before .before .before .before .pre .1)
+    let start : tie.Start = search in
+    let put-text-ensures = (let p : tie.After-put-text = search in p .put-text .ensures) in
+    let put-decimal-ensures = (let p : tie.After-put-decimal = search in p .put-decimal .ensures) in
+    let p = stored-past 6 put-text-ensures (omega arith) in
+    let q = stored-past 2 put-decimal-ensures (block-short (start .args .block .now) (start .pre .0)) in
+    omega (arith, start .pre .1)
 
 shared-slice-read-put-decimal-2 : tie.Need-shared-slice-read-put-decimal-2
 shared-slice-read-put-decimal-2 c =
-    omega (arith, image-size (c .before .before .before .before .before .before .before .before .before .before .before .before .before .before .before .before .before .before .before .args .block .now) (c .before .before .before .before .before .before .before .before .before .before .before .before .before .before .before .before .before .before .before .pre .0))
+    let start : tie.Start = search in
+    omega (arith, image-size (start .args .block .now) (start .pre .0))
 
 put-decimal-requires-2 : tie.Need-put-decimal-requires-2
 put-decimal-requires-2 c κs =
-    let p = stored-past 6 (c .before .before .before .before .before .before .before .before .before .before .before .before .before .before .put-text .ensures) (omega arith) in
-    let q = stored-past 2 (c .before .before .before .before .before .before .before .before .before .put-decimal .ensures) (block-short (c .before .before .before .before .before .before .before .before .before .before .before .before .before .before .before .before .before .before .before .args .block .now) (c .before .before .before .before .before .before .before .before .before .before .before .before .before .before .before .before .before .before .before .pre .0)) in
-    let r = stored-past 7 (c .before .before .before .before .put-text2 .ensures) (omega arith) in
-    (omega (arith, count-small (c .before .before .before .before .before .before .before .before .before .before .before .before .before .before .before .before .before .before .before .args .block .now) (c .before .before .before .before .before .before .before .before .before .before .before .before .before .before .before .before .before .before .before .pre .0)), omega (arith, count-short (c .before .before .before .before .before .before .before .before .before .before .before .before .before .before .before .before .before .before .before .args .block .now) (c .before .before .before .before .before .before .before .before .before .before .before .before .before .before .before .before .before .before .before .pre .0), c .before .before .before .before .before .before .before .before .before .before .before .before .before .before .before .before .before .before .before .pre .1))
+    let start : tie.Start = search in
+    let put-text-ensures = (let p : tie.After-put-text = search in p .put-text .ensures) in
+    let put-decimal-ensures = (let p : tie.After-put-decimal = search in p .put-decimal .ensures) in
+    let put-text2-ensures = (let p : tie.After-put-text2 = search in p .put-text2 .ensures) in
+    let p = stored-past 6 put-text-ensures (omega arith) in
+    let q = stored-past 2 put-decimal-ensures (block-short (start .args .block .now) (start .pre .0)) in
+    let r = stored-past 7 put-text2-ensures (omega arith) in
+    (omega (arith, count-small (start .args .block .now) (start .pre .0)), omega (arith, count-short (start .args .block .now) (start .pre .0), start .pre .1))
 
 slice-aggregate-put-text-3 : tie.Need-slice-aggregate-put-text-3
 slice-aggregate-put-text-3 c = search needs
 
 put-text-requires-3 : tie.Need-put-text-requires-3
 put-text-requires-3 c κs =
-    let p = stored-past 6 (c .before .before .before .before .before .before .before .before .before .before .before .before .before .before .before .before .before .before .before .put-text .ensures) (omega arith) in
-    let q = stored-past 2 (c .before .before .before .before .before .before .before .before .before .before .before .before .before .before .put-decimal .ensures) (block-short (c .before .before .before .before .before .before .before .before .before .before .before .before .before .before .before .before .before .before .before .before .before .before .before .before .args .block .now) (c .before .before .before .before .before .before .before .before .before .before .before .before .before .before .before .before .before .before .before .before .before .before .before .before .pre .0)) in
-    let r = stored-past 7 (c .before .before .before .before .before .before .before .before .before .put-text2 .ensures) (omega arith) in
-    let s = stored-past 4 (c .before .before .before .before .put-decimal2 .ensures) (count-short (c .before .before .before .before .before .before .before .before .before .before .before .before .before .before .before .before .before .before .before .before .before .before .before .before .args .block .now) (c .before .before .before .before .before .before .before .before .before .before .before .before .before .before .before .before .before .before .before .before .before .before .before .before .pre .0)) in
-    omega (arith, c .before .before .before .before .before .before .before .before .before .before .before .before .before .before .before .before .before .before .before .before .before .before .before .before .pre .1)
+    let start : tie.Start = (let c : tie.After-put-text = search in search) in
+    let put-text-ensures = (let p : tie.After-put-text = search in p .put-text .ensures) in
+    let put-decimal-ensures = (let p : tie.After-put-decimal = search in p .put-decimal .ensures) in
+    let put-text2-ensures = (let p : tie.After-put-text2 = search in p .put-text2 .ensures) in
+    let put-decimal2-ensures = (let p : tie.After-put-decimal2 = search in p .put-decimal2 .ensures) in
+    let p = stored-past 6 put-text-ensures (omega arith) in
+    let q = stored-past 2 put-decimal-ensures (block-short (start .args .block .now) (start .pre .0)) in
+    let r = stored-past 7 put-text2-ensures (omega arith) in
+    let s = stored-past 4 put-decimal2-ensures (count-short (start .args .block .now) (start .pre .0)) in
+    omega (arith, start .pre .1)
 
 shared-slice-read-put-number : tie.Need-shared-slice-read-put-number
 shared-slice-read-put-number c =
-    omega (arith, image-size (c .before .before .before .before .before .before .before .before .before .before .before .before .before .before .before .before .before .before .before .before .before .before .before .before .before .before .before .before .before .args .block .now) (c .before .before .before .before .before .before .before .before .before .before .before .before .before .before .before .before .before .before .before .before .before .before .before .before .before .before .before .before .before .pre .0))
+    let c : tie.After-put-decimal-arg = search in
+    let start : tie.Start = search in
+    omega (arith, image-size (start .args .block .now) (start .pre .0))
 
 put-number-requires : tie.Need-put-number-requires
 put-number-requires c κs =
-    let p = stored-past 6 (c .before .before .before .before .before .before .before .before .before .before .before .before .before .before .before .before .before .before .before .before .before .before .before .before .put-text .ensures) (omega arith) in
-    let q = stored-past 2 (c .before .before .before .before .before .before .before .before .before .before .before .before .before .before .before .before .before .before .before .put-decimal .ensures) (block-short (c .before .before .before .before .before .before .before .before .before .before .before .before .before .before .before .before .before .before .before .before .before .before .before .before .before .before .before .before .before .args .block .now) (c .before .before .before .before .before .before .before .before .before .before .before .before .before .before .before .before .before .before .before .before .before .before .before .before .before .before .before .before .before .pre .0)) in
-    let r = stored-past 7 (c .before .before .before .before .before .before .before .before .before .before .before .before .before .before .put-text2 .ensures) (omega arith) in
-    let s = stored-past 4 (c .before .before .before .before .before .before .before .before .before .put-decimal2 .ensures) (count-short (c .before .before .before .before .before .before .before .before .before .before .before .before .before .before .before .before .before .before .before .before .before .before .before .before .before .before .before .before .before .args .block .now) (c .before .before .before .before .before .before .before .before .before .before .before .before .before .before .before .before .before .before .before .before .before .before .before .before .before .before .before .before .before .pre .0)) in
-    let t = stored-past 9 (c .before .before .before .before .put-text3 .ensures) (omega arith) in
-    (counter-small (c .before .before .before .before .before .before .before .before .before .before .before .before .before .before .before .before .before .before .before .before .before .before .before .before .before .before .before .before .before .args .block .now) (c .before .before .before .before .before .before .before .before .before .before .before .before .before .before .before .before .before .before .before .before .before .before .before .before .before .before .before .before .before .pre .0), omega (arith, counter-short (c .before .before .before .before .before .before .before .before .before .before .before .before .before .before .before .before .before .before .before .before .before .before .before .before .before .before .before .before .before .args .block .now) (c .before .before .before .before .before .before .before .before .before .before .before .before .before .before .before .before .before .before .before .before .before .before .before .before .before .before .before .before .before .pre .0), c .before .before .before .before .before .before .before .before .before .before .before .before .before .before .before .before .before .before .before .before .before .before .before .before .before .before .before .before .before .pre .1))
+    let start : tie.Start = (let c : tie.After-put-decimal = search in search) in
+    let put-text-ensures = (let c : tie.After-put-decimal = search in let p : tie.After-put-text = search in p .put-text .ensures) in
+    let put-decimal-ensures = (let p : tie.After-put-decimal = search in p .put-decimal .ensures) in
+    let put-text2-ensures = (let p : tie.After-put-text2 = search in p .put-text2 .ensures) in
+    let put-decimal2-ensures = (let p : tie.After-put-decimal2 = search in p .put-decimal2 .ensures) in
+    let put-text3-ensures = (let p : tie.After-put-text3 = search in p .put-text3 .ensures) in
+    let p = stored-past 6 put-text-ensures (omega arith) in
+    let q = stored-past 2 put-decimal-ensures (block-short (start .args .block .now) (start .pre .0)) in
+    let r = stored-past 7 put-text2-ensures (omega arith) in
+    let s = stored-past 4 put-decimal2-ensures (count-short (start .args .block .now) (start .pre .0)) in
+    let t = stored-past 9 put-text3-ensures (omega arith) in
+    (counter-small (start .args .block .now) (start .pre .0), omega (arith, counter-short (start .args .block .now) (start .pre .0), start .pre .1))
 
 same-length : tie.Need-same-length
 same-length c = search needs
@@ -75,7 +99,15 @@ same-length c = search needs
 returns : tie.Need-returns
 unfolding bytes
 returns c =
-    rw (header-parts (c .before .before .before .before .before .before .before .before .before .before .before .before .before .before .before .before .before .before .before .before .before .before .before .before .before .before .before .before .before .before .before .before .args .block .now)) (stored-then (stored-then (stored-then (stored-then (stored-then (c .before .before .before .before .before .before .before .before .before .before .before .before .before .before .before .before .before .before .before .before .before .before .before .before .before .before .before .put-text .ensures) (c .before .before .before .before .before .before .before .before .before .before .before .before .before .before .before .before .before .before .before .before .before .before .put-decimal .ensures)) (c .before .before .before .before .before .before .before .before .before .before .before .before .before .before .before .before .before .put-text2 .ensures)) (c .before .before .before .before .before .before .before .before .before .before .before .before .put-decimal2 .ensures)) (c .before .before .before .before .before .before .before .put-text3 .ensures)) (c .before .before .put-number .ensures))
+    let put-number-ensures = (let p : tie.After-put-number = search in p .put-number .ensures) in
+    let put-text3-ensures = (let p : tie.After-put-text3 = search in p .put-text3 .ensures) in
+    let put-decimal2-ensures = (let p : tie.After-put-decimal2 = search in p .put-decimal2 .ensures) in
+    let put-text2-ensures = (let p : tie.After-put-text2 = search in p .put-text2 .ensures) in
+    let c : tie.After-put-text2 = search in
+    let put-decimal-ensures = (let p : tie.After-put-decimal = search in p .put-decimal .ensures) in
+    let put-text-ensures = (let p : tie.After-put-text = search in p .put-text .ensures) in
+    let start : tie.Start = search in
+    rw (header-parts (start .args .block .now)) (stored-then (stored-then (stored-then (stored-then (stored-then put-text-ensures put-decimal-ensures) put-text2-ensures) put-decimal2-ensures) put-text3-ensures) put-number-ensures)
 
 pub put-header-spec : {M : Type 1} → statement M
 put-header-spec =

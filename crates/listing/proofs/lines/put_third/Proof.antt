@@ -24,7 +24,9 @@ same-length c = search needs
 returns : tie.Need-returns
 unfolding bytes
 returns c =
-    rw (free-text _ _ (c .before .before .before .before .before .if1 .taken)) (c .before .before .put-text .ensures)
+    let if1-taken = (let p : tie.Then1 = search in p .if1 .taken) in
+    let put-text-ensures = (let p : tie.After-put-text = search in p .put-text .ensures) in
+    rw (free-text _ _ if1-taken) put-text-ensures
 
 slice-aggregate-put-text-2 : tie.Need-slice-aggregate-put-text-2
 slice-aggregate-put-text-2 c = search needs
@@ -34,9 +36,12 @@ put-text-requires-2 c κs = search needs
 
 put-decimal-requires : tie.Need-put-decimal-requires
 put-decimal-requires c κs =
-    let h = c .before .before .before .before .before .before .before .before .before .pre .0 .sewn-small (c .before .before .before .before .before .before .if2 .taken) in
-    let p = stored-past 5 (c .before .before .before .put-text2 .ensures) (omega arith) in
-    (h, omega (arith, decimal-ten (c .before .before .before .before .before .before .before .before .before .args .named) h, c .before .before .before .before .before .before .before .before .before .pre .1))
+    let start : tie.Start = search in
+    let if2-taken = (let p : tie.Then2 = search in p .if2 .taken) in
+    let put-text2-ensures = (let p : tie.After-put-text2 = search in p .put-text2 .ensures) in
+    let h = start .pre .0 .sewn-small if2-taken in
+    let p = stored-past 5 put-text2-ensures (omega arith) in
+    (h, omega (arith, decimal-ten (start .args .named) h, start .pre .1))
 
 same-length-2 : tie.Need-same-length-2
 same-length-2 c = search needs
@@ -44,7 +49,10 @@ same-length-2 c = search needs
 returns-2 : tie.Need-returns-2
 unfolding bytes
 returns-2 c =
-    rw (sewn-text _ _ (c .before .before .before .before .before .before .before .before .before .if2 .taken)) (stored-then (c .before .before .before .before .before .before .put-text2 .ensures) (c .before .before .put-decimal .ensures))
+    let if2-taken = (let p : tie.Then2 = search in p .if2 .taken) in
+    let put-text2-ensures = (let p : tie.After-put-text2 = search in p .put-text2 .ensures) in
+    let put-decimal-ensures = (let p : tie.After-put-decimal = search in p .put-decimal .ensures) in
+    rw (sewn-text _ _ if2-taken) (stored-then put-text2-ensures put-decimal-ensures)
 
 slice-aggregate-put-text-3 : tie.Need-slice-aggregate-put-text-3
 slice-aggregate-put-text-3 c = search needs
@@ -54,41 +62,60 @@ put-text-requires-3 c κs = search needs
 
 put-number-requires : tie.Need-put-number-requires
 put-number-requires c κs =
-    let p = stored-past 5 (c .before .before .before .put-text3 .ensures) (omega arith) in
-    (omega (arith, c .before .before .before .before .before .before .before .before .before .pre .0 .other-small), omega (arith, other-short (c .before .before .before .before .before .before .before .before .before .pre .0), c .before .before .before .before .before .before .before .before .before .pre .1))
+    let start : tie.Start = search in
+    let put-text3-ensures = (let p : tie.After-put-text3 = search in p .put-text3 .ensures) in
+    let p = stored-past 5 put-text3-ensures (omega arith) in
+    (omega (arith, start .pre .0 .other-small), omega (arith, other-short (start .pre .0), start .pre .1))
 
 maker-of-requires : tie.Need-maker-of-requires
 maker-of-requires c κs = search needs
 
 put-number-requires-2 : tie.Need-put-number-requires-2
 put-number-requires-2 c κs =
-    let p = stored-past 5 (c .before .before .before .before .before .before .before .before .put-text3 .ensures) (omega arith) in
-    let q = stored-past 3 (c .before .before .before .before .put-number .ensures) (ended-most 2 ((c .before .before .before .before .before .before .before .before .before .before .before .before .before .before .args .kind) / 4) 32 (other-short (c .before .before .before .before .before .before .before .before .before .before .before .before .before .before .pre .0))) in
-    rw (c .maker-of .ensures) (omega (arith, c .before .before .before .before .before .before .before .before .before .before .before .before .before .before .pre .0 .named-small), omega (arith, maker-short (c .before .before .before .before .before .before .before .before .before .before .before .before .before .before .pre .0), c .before .before .before .before .before .before .before .before .before .before .before .before .before .before .pre .1))
+    let start : tie.Start = search in
+    let put-text3-ensures = (let p : tie.After-put-text3 = search in p .put-text3 .ensures) in
+    let put-number-ensures = (let p : tie.After-put-number = search in p .put-number .ensures) in
+    let p = stored-past 5 put-text3-ensures (omega arith) in
+    let q = stored-past 3 put-number-ensures (ended-most 2 ((start .args .kind) / 4) 32 (other-short (start .pre .0))) in
+    rw (c .maker-of .ensures) (omega (arith, start .pre .0 .named-small), omega (arith, maker-short (start .pre .0), start .pre .1))
 
 number-of-requires : tie.Need-number-of-requires
 number-of-requires c κs = search needs
 
 put-number-requires-3 : tie.Need-put-number-requires-3
 put-number-requires-3 c κs =
-    let p = stored-past 5 (c .before .before .before .before .before .before .before .before .before .before .before .before .before .put-text3 .ensures) (omega arith) in
-    let q = stored-past 3 (c .before .before .before .before .before .before .before .before .before .put-number .ensures) (ended-most 2 ((c .before .before .before .before .before .before .before .before .before .before .before .before .before .before .before .before .before .before .before .args .kind) / 4) 32 (other-short (c .before .before .before .before .before .before .before .before .before .before .before .before .before .before .before .before .before .before .before .pre .0))) in
-    let m = rw (c .before .before .before .before .before .maker-of .ensures) at (c .before .before .before .before .put-number2 .ensures) in
-    let r = stored-past 3 m (ended-most 2 (label-in (c .before .before .before .before .before .before .before .before .before .before .before .before .before .before .before .before .before .before .before .args .named) .maker) 46 (maker-short (c .before .before .before .before .before .before .before .before .before .before .before .before .before .before .before .before .before .before .before .pre .0))) in
-    rw (c .number-of .ensures) (omega arith, omega (arith, number-short (c .before .before .before .before .before .before .before .before .before .before .before .before .before .before .before .before .before .before .before .pre .0), c .before .before .before .before .before .before .before .before .before .before .before .before .before .before .before .before .before .before .before .pre .1))
+    let start : tie.Start = search in
+    let put-text3-ensures = (let p : tie.After-put-text3 = search in p .put-text3 .ensures) in
+    let put-number-ensures = (let p : tie.After-put-number = search in p .put-number .ensures) in
+    let maker-of-ensures = (let p : tie.After-maker-of = search in p .maker-of .ensures) in
+    let put-number2-ensures = (let p : tie.After-put-number2 = search in p .put-number2 .ensures) in
+    let p = stored-past 5 put-text3-ensures (omega arith) in
+    let q = stored-past 3 put-number-ensures (ended-most 2 ((start .args .kind) / 4) 32 (other-short (start .pre .0))) in
+    let m = rw maker-of-ensures at put-number2-ensures in
+    let r = stored-past 3 m (ended-most 2 (label-in (start .args .named) .maker) 46 (maker-short (start .pre .0))) in
+    rw (c .number-of .ensures) (omega arith, omega (arith, number-short (start .pre .0), start .pre .1))
 
 position-of-requires : tie.Need-position-of-requires
 position-of-requires c κs = search needs
 
 put-decimal-requires-2 : tie.Need-put-decimal-requires-2
 put-decimal-requires-2 c κs =
-    let p = stored-past 5 (c .before .before .before .before .before .before .before .before .before .before .before .before .before .before .before .before .before .before .put-text3 .ensures) (omega arith) in
-    let q = stored-past 3 (c .before .before .before .before .before .before .before .before .before .before .before .before .before .before .put-number .ensures) (ended-most 2 ((c .before .before .before .before .before .before .before .before .before .before .before .before .before .before .before .before .before .before .before .before .before .before .before .before .args .kind) / 4) 32 (other-short (c .before .before .before .before .before .before .before .before .before .before .before .before .before .before .before .before .before .before .before .before .before .before .before .before .pre .0))) in
-    let m = rw (c .before .before .before .before .before .before .before .before .before .before .maker-of .ensures) at (c .before .before .before .before .before .before .before .before .before .put-number2 .ensures) in
-    let r = stored-past 3 m (ended-most 2 (label-in (c .before .before .before .before .before .before .before .before .before .before .before .before .before .before .before .before .before .before .before .before .before .before .before .before .args .named) .maker) 46 (maker-short (c .before .before .before .before .before .before .before .before .before .before .before .before .before .before .before .before .before .before .before .before .before .before .before .before .pre .0))) in
-    let n = rw (c .before .before .before .before .before .number-of .ensures) at (c .before .before .before .before .put-number3 .ensures) in
-    let s = stored-past 11 n (ended-most 10 (label-in (c .before .before .before .before .before .before .before .before .before .before .before .before .before .before .before .before .before .before .before .before .before .before .before .before .args .named) .number) 46 (number-short (c .before .before .before .before .before .before .before .before .before .before .before .before .before .before .before .before .before .before .before .before .before .before .before .before .pre .0))) in
-    rw (c .position-of .ensures) (omega arith, omega (arith, position-short (c .before .before .before .before .before .before .before .before .before .before .before .before .before .before .before .before .before .before .before .before .before .before .before .before .pre .0), c .before .before .before .before .before .before .before .before .before .before .before .before .before .before .before .before .before .before .before .before .before .before .before .before .pre .1))
+    let position-of-ensures = (let p : tie.After-position-of = search in p .position-of .ensures) in
+    let put-number3-ensures = (let p : tie.After-put-number3 = search in p .put-number3 .ensures) in
+    let number-of-ensures = (let p : tie.After-number-of = search in p .number-of .ensures) in
+    let put-number2-ensures = (let p : tie.After-put-number2 = search in p .put-number2 .ensures) in
+    let maker-of-ensures = (let p : tie.After-maker-of = search in p .maker-of .ensures) in
+    let put-number-ensures = (let p : tie.After-put-number = search in p .put-number .ensures) in
+    let put-text3-ensures = (let p : tie.After-put-text3 = search in p .put-text3 .ensures) in
+    let c : tie.After-put-text3 = search in
+    let start : tie.Start = search in
+    let p = stored-past 5 put-text3-ensures (omega arith) in
+    let q = stored-past 3 put-number-ensures (ended-most 2 ((start .args .kind) / 4) 32 (other-short (start .pre .0))) in
+    let m = rw maker-of-ensures at put-number2-ensures in
+    let r = stored-past 3 m (ended-most 2 (label-in (start .args .named) .maker) 46 (maker-short (start .pre .0))) in
+    let n = rw number-of-ensures at put-number3-ensures in
+    let s = stored-past 11 n (ended-most 10 (label-in (start .args .named) .number) 46 (number-short (start .pre .0))) in
+    rw position-of-ensures (omega arith, omega (arith, position-short (start .pre .0), start .pre .1))
 
 same-length-3 : tie.Need-same-length-3
 same-length-3 c = search needs
@@ -96,10 +123,20 @@ same-length-3 c = search needs
 returns-3 : tie.Need-returns-3
 unfolding bytes
 returns-3 c =
-    let m = rw (c .before .before .before .before .before .before .before .before .before .before .before .before .before .maker-of .ensures) at (c .before .before .before .before .before .before .before .before .before .before .before .before .put-number2 .ensures) in
-    let n = rw (c .before .before .before .before .before .before .before .before .number-of .ensures) at (c .before .before .before .before .before .before .before .put-number3 .ensures) in
-    let o = rw (c .before .before .before .position-of .ensures) at (c .before .before .put-decimal2 .ensures) in
-    rw (crit-text _ _ (c .before .before .before .before .before .before .before .before .before .before .before .before .before .before .before .before .before .before .before .before .before .before .before .before .before .if1 .left) (c .before .before .before .before .before .before .before .before .before .before .before .before .before .before .before .before .before .before .before .before .before .before .before .before .if2 .left)) (stored-then (stored-then (stored-then (stored-then (c .before .before .before .before .before .before .before .before .before .before .before .before .before .before .before .before .before .before .before .before .before .put-text3 .ensures) (c .before .before .before .before .before .before .before .before .before .before .before .before .before .before .before .before .before .put-number .ensures)) m) n) o)
+    let if1-left = (let c : tie.After-put-number = search in let p : tie.Else1 = search in p .if1 .left) in
+    let if2-left = (let c : tie.After-put-number = search in let p : tie.Else2 = search in p .if2 .left) in
+    let put-text3-ensures = (let c : tie.After-put-number = search in let p : tie.After-put-text3 = search in p .put-text3 .ensures) in
+    let put-number-ensures = (let p : tie.After-put-number = search in p .put-number .ensures) in
+    let maker-of-ensures = (let p : tie.After-maker-of = search in p .maker-of .ensures) in
+    let put-number2-ensures = (let p : tie.After-put-number2 = search in p .put-number2 .ensures) in
+    let number-of-ensures = (let p : tie.After-number-of = search in p .number-of .ensures) in
+    let put-number3-ensures = (let p : tie.After-put-number3 = search in p .put-number3 .ensures) in
+    let position-of-ensures = (let p : tie.After-position-of = search in p .position-of .ensures) in
+    let put-decimal2-ensures = (let p : tie.After-put-decimal2 = search in p .put-decimal2 .ensures) in
+    let m = rw maker-of-ensures at put-number2-ensures in
+    let n = rw number-of-ensures at put-number3-ensures in
+    let o = rw position-of-ensures at put-decimal2-ensures in
+    rw (crit-text _ _ if1-left if2-left) (stored-then (stored-then (stored-then (stored-then put-text3-ensures put-number-ensures) m) n) o)
 
 pub put-third-spec : {M : Type 1} → statement M
 put-third-spec =

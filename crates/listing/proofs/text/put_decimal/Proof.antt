@@ -22,15 +22,18 @@ digit-count-requires c κs = search needs
 
 add-next : tie.Need-add-next Inv-loop μ-loop
 add-next c =
-    omega (arith, c .before .before .pre .1, c .digit-count .ensures)
+    let start : tie.Start Inv-loop μ-loop = search in
+    omega (arith, start .pre .1, c .digit-count .ensures)
 
 loop-holds : tie.Need-loop-holds Inv-loop μ-loop
 loop-holds c =
-    spelling-start _ _ _ _ (c .before .before .pre .0) (ap (λ (k : ℕ). c .before .before .args .at + k) (c .digit-count .ensures)) (c .before .before .pre .1)
+    let start : tie.Start Inv-loop μ-loop = search in
+    spelling-start _ _ _ _ (start .pre .0) (ap (λ (k : ℕ). start .args .at + k) (c .digit-count .ensures)) (start .pre .1)
 
 sub-p : tie.Need-sub-p Inv-loop μ-loop
 sub-p c =
-    omega (arith, some-left (c .before .loop .inv))
+    let loop-inv = (let p : tie.At-loop Inv-loop μ-loop = search in p .loop .inv) in
+    omega (arith, some-left loop-inv)
 
 add-out : tie.Need-add-out Inv-loop μ-loop
 add-out c = search needs
@@ -40,14 +43,16 @@ cast-out c = search needs
 
 slice-write-out : tie.Need-slice-write-out Inv-loop μ-loop
 slice-write-out c =
-    omega (arith, some-left (c .before .loop .inv), c .before .loop .inv .room)
+    let loop-inv = (let p : tie.At-loop Inv-loop μ-loop = search in p .loop .inv) in
+    omega (arith, some-left loop-inv, loop-inv .room)
 
 loop-less : tie.Need-loop-less Inv-loop μ-loop
 loop-less c = search needs
 
 loop-again : tie.Need-loop-again Inv-loop μ-loop
 loop-again c =
-    spelling-step (c .before .loop .inv) (c .loop-test .taken)
+    let loop-inv = (let p : tie.At-loop Inv-loop μ-loop = search in p .loop .inv) in
+    spelling-step loop-inv (c .loop-test .taken)
 
 add-out-2 : tie.Need-add-out-2 Inv-loop μ-loop
 add-out-2 c = search needs
@@ -57,19 +62,27 @@ cast-out-2 c = search needs
 
 sub-out : tie.Need-sub-out Inv-loop μ-loop
 sub-out c =
-    omega (arith, some-left (c .before .loop .inv))
+    let loop-inv = (let p : tie.At-loop Inv-loop μ-loop = search in p .loop .inv) in
+    omega (arith, some-left loop-inv)
 
 slice-write-out-2 : tie.Need-slice-write-out-2 Inv-loop μ-loop
 slice-write-out-2 c =
-    omega (arith, some-left (c .before .loop .inv), c .before .loop .inv .room)
+    let loop-inv = (let p : tie.At-loop Inv-loop μ-loop = search in p .loop .inv) in
+    omega (arith, some-left loop-inv, loop-inv .room)
 
 same-length : tie.Need-same-length Inv-loop μ-loop
 same-length c =
-    stored-length (spelling-end (c .before .loop .inv) (c .loop-test .left) (ap (λ (k : ℕ). c .before .before .before .before .args .at + k) (c .before .before .digit-count .ensures)))
+    let start : tie.Start Inv-loop μ-loop = search in
+    let digit-count-ensures = (let p : tie.After-digit-count Inv-loop μ-loop = search in p .digit-count .ensures) in
+    let loop-inv = (let p : tie.At-loop Inv-loop μ-loop = search in p .loop .inv) in
+    stored-length (spelling-end loop-inv (c .loop-test .left) (ap (λ (k : ℕ). start .args .at + k) digit-count-ensures))
 
 returns : tie.Need-returns Inv-loop μ-loop
 returns c =
-    spelling-end (c .before .loop .inv) (c .loop-test .left) (ap (λ (k : ℕ). c .before .before .before .before .args .at + k) (c .before .before .digit-count .ensures))
+    let start : tie.Start Inv-loop μ-loop = search in
+    let digit-count-ensures = (let p : tie.After-digit-count Inv-loop μ-loop = search in p .digit-count .ensures) in
+    let loop-inv = (let p : tie.At-loop Inv-loop μ-loop = search in p .loop .inv) in
+    spelling-end loop-inv (c .loop-test .left) (ap (λ (k : ℕ). start .args .at + k) digit-count-ensures)
 
 pub put-decimal-spec : {M : Type 1} → statement M
 put-decimal-spec =

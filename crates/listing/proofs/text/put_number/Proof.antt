@@ -16,7 +16,9 @@ same-length c = search needs
 
 returns : tie.Need-returns
 returns c =
-    stored-then (c .before .before .before .before .before .before .put-decimal .ensures) (c .before .before .put-byte .ensures)
+    let put-decimal-ensures = (let p : tie.After-put-decimal = search in p .put-decimal .ensures) in
+    let put-byte-ensures = (let p : tie.After-put-byte = search in p .put-byte .ensures) in
+    stored-then put-decimal-ensures put-byte-ensures
 
 pub put-number-spec : {M : Type 1} → statement M
 put-number-spec = tie.close (tie.spec put-decimal-requires put-byte-requires same-length returns)

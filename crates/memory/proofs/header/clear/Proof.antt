@@ -35,15 +35,18 @@ loop-less c =
 
 loop-again : tie.Need-loop-again Inv-loop μ-loop
 loop-again c =
-    clear-more (c .before .loop .inv) (c .loop-test .taken)
+    let loop-inv = (let p : tie.At-loop Inv-loop μ-loop = search in p .loop .inv) in
+    clear-more loop-inv (c .loop-test .taken)
 
 same-length : tie.Need-same-length Inv-loop μ-loop
 same-length c =
-    c .before .loop .inv .len
+    let loop-inv = (let p : tie.At-loop Inv-loop μ-loop = search in p .loop .inv) in
+    loop-inv .len
 
 returns : tie.Need-returns Inv-loop μ-loop
 returns c =
-    clear-all (c .before .loop .inv) (c .loop-test .left)
+    let loop-inv = (let p : tie.At-loop Inv-loop μ-loop = search in p .loop .inv) in
+    clear-all loop-inv (c .loop-test .left)
 
 pub clear-spec : {M : Type 1} → statement M
 clear-spec =

@@ -22,7 +22,8 @@ same-length c = search needs
 
 returns-3 : tie.Need-returns-3
 returns-3 c =
-    served-empty _ _ (omega arith) (omega arith) (c .before .before .make-empty .ensures)
+    let make-empty-ensures = (let p : tie.After-make-empty = search in p .make-empty .ensures) in
+    served-empty _ _ (omega arith) (omega arith) make-empty-ensures
 
 pub empty-spec : {M : Type 1} → statement M
 empty-spec = tie.close (tie.spec returns returns-2 make-empty-requires same-length returns-3)

@@ -19,9 +19,11 @@ same-length c = search needs
 
 returns : tie.Need-returns
 returns c =
-    let start = c .before .before .before .before .before .before .before .before .before .before in
-    let zeros = c .before .before .before .before .before .before .before .clear .ensures in
-    empty-image _ (start .args .block .now) (start .pre) zeros (c .before .before .before .before .empty .ensures) (c .before .before .write .ensures)
+    let empty-ensures = (let p : tie.After-empty = search in p .empty .ensures) in
+    let write-ensures = (let p : tie.After-write = search in p .write .ensures) in
+    let start : tie.Start = search in
+    let zeros = (let p : tie.After-clear = search in p .clear .ensures) in
+    empty-image _ (start .args .block .now) (start .pre) zeros empty-ensures write-ensures
 
 pub make-empty-spec : {M : Type 1} → statement M
 make-empty-spec =

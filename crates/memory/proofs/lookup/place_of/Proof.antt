@@ -38,12 +38,13 @@ loop-less c = search needs
 
 loop-again : tie.Need-loop-again Inv-loop μ-loop
 loop-again c =
-    let start = c .before .before .before .before .before .before in
-    let turn = c .before .before .before in
-    let test = c .before .before in
+    let field-ensures = (let p : tie.After-field Inv-loop μ-loop = search in p .field .ensures) in
+    let start : tie.Start Inv-loop μ-loop = search in
+    let turn : tie.At-loop Inv-loop μ-loop = search in
+    let test : tie.In-loop Inv-loop μ-loop = search in
     ⊎-elim
-    (λ w. rw (w .1) (halving-up (start .pre .2) (turn .loop .inv) (test .loop-test .taken) (c .before .field .ensures) (omega (arith, w .0 .taken))))
-    (λ w. rw (w .1) (halving-down (start .pre .2) (turn .loop .inv) (test .loop-test .taken) (c .before .field .ensures) (omega (arith, w .0 .left))))
+    (λ w. rw (w .1) (halving-up (start .pre .2) (turn .loop .inv) (test .loop-test .taken) field-ensures (omega (arith, w .0 .taken))))
+    (λ w. rw (w .1) (halving-down (start .pre .2) (turn .loop .inv) (test .loop-test .taken) field-ensures (omega (arith, w .0 .left))))
     (c .if2 .came)
 
 field-requires-2 : tie.Need-field-requires-2 Inv-loop μ-loop
@@ -51,11 +52,14 @@ field-requires-2 c κs = search needs
 
 returns-2 : tie.Need-returns-2 Inv-loop μ-loop
 returns-2 c =
-    place-found _ _ _ _ (c .before .before .before .before .before .before .pre .2) (omega arith) (cc)
+    let start : tie.Start Inv-loop μ-loop = search in
+    place-found _ _ _ _ (start .pre .2) (omega arith) (cc)
 
 returns-3 : tie.Need-returns-3 Inv-loop μ-loop
 returns-3 c =
-    halving-end (c .before .before .before .loop .inv) (c .before .before .loop-test .left) (λ e. c .if3 .left (cc))
+    let loop-inv = (let p : tie.At-loop Inv-loop μ-loop = search in p .loop .inv) in
+    let loop-test-left = (let p : tie.After-loop Inv-loop μ-loop = search in p .loop-test .left) in
+    halving-end loop-inv loop-test-left (λ e. c .if3 .left (cc))
 
 pub place-of-spec : {M : Type 1} → statement M
 place-of-spec =

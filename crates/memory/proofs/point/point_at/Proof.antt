@@ -15,12 +15,17 @@ field-requires-3 c κs = search needs
 
 point-of-requires : tie.Need-point-of-requires
 point-of-requires c κs =
-    let start = c .before .before .before .before in
-    (rw (c .before .before .field .ensures) (start .pre .2 .on-x), rw (c .before .field2 .ensures) (start .pre .2 .on-y), rw (c .field3 .ensures) (start .pre .2 .on-z))
+    let field-ensures = (let p : tie.After-field = search in p .field .ensures) in
+    let field2-ensures = (let p : tie.After-field2 = search in p .field2 .ensures) in
+    let start : tie.Start = search in
+    (rw field-ensures (start .pre .2 .on-x), rw field2-ensures (start .pre .2 .on-y), rw (c .field3 .ensures) (start .pre .2 .on-z))
 
 returns : tie.Need-returns
 returns c =
-    rw (c .point-of .ensures, c .before .before .before .field .ensures, c .before .before .field2 .ensures, c .before .field3 .ensures)
+    let field-ensures = (let p : tie.After-field = search in p .field .ensures) in
+    let field2-ensures = (let p : tie.After-field2 = search in p .field2 .ensures) in
+    let field3-ensures = (let p : tie.After-field3 = search in p .field3 .ensures) in
+    rw (c .point-of .ensures, field-ensures, field2-ensures, field3-ensures)
 
 pub point-at-spec : {M : Type 1} → statement M
 point-at-spec =

@@ -27,7 +27,12 @@ pattern-requires-6 c κs = search needs
 returns : tie.Need-returns
 unfolding same-point
 returns c =
-    rw (c .before .before .before .before .before .pattern .ensures, c .before .before .before .before .pattern2 .ensures, c .before .before .before .pattern3 .ensures, c .before .before .pattern4 .ensures, c .before .pattern5 .ensures, c .pattern6 .ensures) refl
+    let pattern-ensures = (let p : tie.After-pattern = search in p .pattern .ensures) in
+    let pattern2-ensures = (let p : tie.After-pattern2 = search in p .pattern2 .ensures) in
+    let pattern3-ensures = (let p : tie.After-pattern3 = search in p .pattern3 .ensures) in
+    let pattern4-ensures = (let p : tie.After-pattern4 = search in p .pattern4 .ensures) in
+    let pattern5-ensures = (let p : tie.After-pattern5 = search in p .pattern5 .ensures) in
+    rw (pattern-ensures, pattern2-ensures, pattern3-ensures, pattern4-ensures, pattern5-ensures, c .pattern6 .ensures) refl
 
 pub same-point-spec : {M : Type 1} → statement M
 same-point-spec =

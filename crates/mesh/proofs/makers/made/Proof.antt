@@ -7,11 +7,14 @@ use Rattle.mesh.proofs.makers.made.Tie as tie
 
 returns : tie.Need-returns
 returns c =
-    made-easy (c .before .args .mesh .now) (c .before .args .kind) (c .before .args .link) (c .if1 .taken)
+    let start : tie.Start = search in
+    made-easy (start .args .mesh .now) (start .args .kind) (start .args .link) (c .if1 .taken)
 
 returns-2 : tie.Need-returns-2
 returns-2 c =
-    made-unknown (c .before .before .args .mesh .now) (c .before .before .args .kind) (c .before .before .args .link) (c .before .if1 .left) (c .if2 .taken)
+    let start : tie.Start = search in
+    let if1-left = (let p : tie.Else1 = search in p .if1 .left) in
+    made-unknown (start .args .mesh .now) (start .args .kind) (start .args .link) if1-left (c .if2 .taken)
 
 mul-result : tie.Need-mul-result
 mul-result c = search needs
@@ -27,7 +30,10 @@ shared-slice-read-result c = search needs
 
 returns-3 : tie.Need-returns-3
 returns-3 c =
-    made-known (c .before .before .before .args .mesh .now) (c .before .before .before .args .kind) (c .before .before .before .args .link) (c .before .before .if1 .left) (c .before .if2 .left)
+    let start : tie.Start = search in
+    let if1-left = (let p : tie.Else1 = search in p .if1 .left) in
+    let if2-left = (let p : tie.Else2 = search in p .if2 .left) in
+    made-known (start .args .mesh .now) (start .args .kind) (start .args .link) if1-left if2-left
 
 pub made-spec : {M : Type 1} → statement M
 made-spec =

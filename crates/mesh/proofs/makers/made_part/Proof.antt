@@ -28,11 +28,13 @@ part-made-darts-end c = search needs
 
 made-darts-requires : tie.Need-made-darts-requires
 made-darts-requires c κs =
-    part-small (c .before .before .args .mesh .now) (c .before .before .args .i) (part-is (c .before .before .args .mesh .now) (c .before .before .args .i) _ refl) (c .before .before .pre .0) (c .before .before .pre .1)
+    let start : tie.Start = search in
+    part-small (start .args .mesh .now) (start .args .i) (part-is (start .args .mesh .now) (start .args .i) _ refl) (start .pre .0) (start .pre .1)
 
 returns : tie.Need-returns
 returns c =
-    c .made-darts .ensures ∙ ap (made-block (c .before .before .before .args .mesh .now)) (part-is (c .before .before .before .args .mesh .now) (c .before .before .before .args .i) _ refl)
+    let start : tie.Start = search in
+    c .made-darts .ensures ∙ ap (made-block (start .args .mesh .now)) (part-is (start .args .mesh .now) (start .args .i) _ refl)
 
 pub made-part-spec : {M : Type 1} → statement M
 made-part-spec =

@@ -25,11 +25,16 @@ loop-holds c =
 
 made-part-requires : tie.Need-made-part-requires Inv-loop μ-loop
 made-part-requires c κs =
-    (c .loop-test .taken, roomy (c .before .before .before .args .mesh .now) (c .before .before .before .pre))
+    let start : tie.Start Inv-loop μ-loop = search in
+    (c .loop-test .taken, roomy (start .args .mesh .now) (start .pre))
 
 returns : tie.Need-returns Inv-loop μ-loop
 returns c =
-    going-no (c .before .before .before .loop .inv) (c .before .before .loop-test .taken) (c .before .made-part .ensures) (not-true _ (c .if1 .taken)) ∙ makers-are (c .before .before .before .before .before .args .mesh .now)
+    let start : tie.Start Inv-loop μ-loop = search in
+    let loop-inv = (let p : tie.At-loop Inv-loop μ-loop = search in p .loop .inv) in
+    let loop-test-taken = (let p : tie.In-loop Inv-loop μ-loop = search in p .loop-test .taken) in
+    let made-part-ensures = (let p : tie.After-made-part Inv-loop μ-loop = search in p .made-part .ensures) in
+    going-no loop-inv loop-test-taken made-part-ensures (not-true _ (c .if1 .taken)) ∙ makers-are (start .args .mesh .now)
 
 add-i : tie.Need-add-i Inv-loop μ-loop
 add-i c = search needs
@@ -39,11 +44,16 @@ loop-less c = search needs
 
 loop-again : tie.Need-loop-again Inv-loop μ-loop
 loop-again c =
-    going-more (c .before .before .before .loop .inv) (c .before .before .loop-test .taken) (c .before .made-part .ensures) (not-false _ (c .if1 .left))
+    let loop-inv = (let p : tie.At-loop Inv-loop μ-loop = search in p .loop .inv) in
+    let loop-test-taken = (let p : tie.In-loop Inv-loop μ-loop = search in p .loop-test .taken) in
+    let made-part-ensures = (let p : tie.After-made-part Inv-loop μ-loop = search in p .made-part .ensures) in
+    going-more loop-inv loop-test-taken made-part-ensures (not-false _ (c .if1 .left))
 
 returns-2 : tie.Need-returns-2 Inv-loop μ-loop
 returns-2 c =
-    going-end (c .before .loop .inv) (c .loop-test .left) ∙ makers-are (c .before .before .before .args .mesh .now)
+    let start : tie.Start Inv-loop μ-loop = search in
+    let loop-inv = (let p : tie.At-loop Inv-loop μ-loop = search in p .loop .inv) in
+    going-end loop-inv (c .loop-test .left) ∙ makers-are (start .args .mesh .now)
 
 pub makers-right-spec : {M : Type 1} → statement M
 makers-right-spec =

@@ -31,19 +31,23 @@ add-i c = search needs
 
 loop-less : tie.Need-loop-less Inv-loop μ-loop
 loop-less c =
-    omega (arith, c .before .loop .inv .len)
+    let loop-inv = (let p : tie.At-loop Inv-loop μ-loop = search in p .loop .inv) in
+    omega (arith, loop-inv .len)
 
 loop-again : tie.Need-loop-again Inv-loop μ-loop
 loop-again c =
-    clearing-more (c .before .loop .inv) (c .loop-test .taken)
+    let loop-inv = (let p : tie.At-loop Inv-loop μ-loop = search in p .loop .inv) in
+    clearing-more loop-inv (c .loop-test .taken)
 
 same-length : tie.Need-same-length Inv-loop μ-loop
 same-length c =
-    c .before .loop .inv .len
+    let loop-inv = (let p : tie.At-loop Inv-loop μ-loop = search in p .loop .inv) in
+    loop-inv .len
 
 returns : tie.Need-returns Inv-loop μ-loop
 returns c =
-    clearing-end (c .before .loop .inv) (c .loop-test .left)
+    let loop-inv = (let p : tie.At-loop Inv-loop μ-loop = search in p .loop .inv) in
+    clearing-end loop-inv (c .loop-test .left)
 
 pub clear-spec : {M : Type 1} → statement M
 clear-spec =

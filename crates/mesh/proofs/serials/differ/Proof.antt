@@ -23,8 +23,9 @@ slice-aggregate-distinct-2 c =
 
 distinct-requires : tie.Need-distinct-requires
 distinct-requires c κs =
-    let a = length-take-le (c .before .before .before .before .args .c) (c .before .before .before .before .args .keys .now) (omega arith) in
-    let b = length-take-le (c .before .before .before .before .args .c) (c .before .before .before .before .args .other .now) (omega arith) in
+    let start : tie.Start = search in
+    let a = length-take-le (start .args .c) (start .args .keys .now) (omega arith) in
+    let b = length-take-le (start .args .c) (start .args .other .now) (omega arith) in
     b ∙ sym a
 
 same-length : tie.Need-same-length

@@ -27,14 +27,17 @@ part-put-serials-end c = search needs
 
 put-serials-requires : tie.Need-put-serials-requires
 put-serials-requires c κs =
-    part-asked (c .before .before .before .before .args .mesh .now) (c .before .before .before .before .args .i) (part-is (c .before .before .before .before .args .mesh .now) (c .before .before .before .before .args .i) _ refl) (c .before .before .before .before .pre .0) (c .before .before .before .before .pre .1) (c .before .before .before .before .args .at) (c .before .before .before .before .pre .2)
+    let start : tie.Start = search in
+    part-asked (start .args .mesh .now) (start .args .i) (part-is (start .args .mesh .now) (start .args .i) _ refl) (start .pre .0) (start .pre .1) (start .args .at) (start .pre .2)
 
 same-length : tie.Need-same-length
 same-length c = search needs
 
 returns : tie.Need-returns
 returns c =
-    part-told (c .before .before .before .before .before .before .before .args .mesh .now) (c .before .before .before .before .before .before .before .args .i) (part-is (c .before .before .before .before .before .before .before .args .mesh .now) (c .before .before .before .before .before .before .before .args .i) _ refl) (c .before .before .before .before .before .before .before .pre .0) (c .before .before .before .before .before .before .before .pre .1) (c .before .before .put-serials .ensures .0) (c .before .before .put-serials .ensures .1)
+    let start : tie.Start = search in
+    let put-serials-ensures = (let p : tie.After-put-serials = search in p .put-serials .ensures) in
+    part-told (start .args .mesh .now) (start .args .i) (part-is (start .args .mesh .now) (start .args .i) _ refl) (start .pre .0) (start .pre .1) (put-serials-ensures .0) (put-serials-ensures .1)
 
 pub put-part-spec : {M : Type 1} → statement M
 put-part-spec =

@@ -42,18 +42,23 @@ loop-less c = search needs
 
 loop-again : tie.Need-loop-again Inv-loop μ-loop
 loop-again c =
-    putting-more (c .before .before .loop .inv) (c .before .loop-test .taken) (c .before .before .before .before .before .before .pre .2) (c .field .ensures)
+    let start : tie.Start Inv-loop μ-loop = search in
+    let loop-inv = (let p : tie.At-loop Inv-loop μ-loop = search in p .loop .inv) in
+    let loop-test-taken = (let p : tie.In-loop Inv-loop μ-loop = search in p .loop-test .taken) in
+    putting-more loop-inv loop-test-taken (start .pre .2) (c .field .ensures)
 
 add-result : tie.Need-add-result Inv-loop μ-loop
 add-result c = search needs
 
 same-length : tie.Need-same-length Inv-loop μ-loop
 same-length c =
-    c .before .loop .inv .len
+    let loop-inv = (let p : tie.At-loop Inv-loop μ-loop = search in p .loop .inv) in
+    loop-inv .len
 
 returns : tie.Need-returns Inv-loop μ-loop
 returns c =
-    (refl, putting-end (c .before .loop .inv) (c .loop-test .left))
+    let loop-inv = (let p : tie.At-loop Inv-loop μ-loop = search in p .loop .inv) in
+    (refl, putting-end loop-inv (c .loop-test .left))
 
 pub put-serials-spec : {M : Type 1} → statement M
 put-serials-spec =

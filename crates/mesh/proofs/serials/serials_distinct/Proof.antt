@@ -9,7 +9,8 @@ use Rattle.mesh.proofs.serials.serials_distinct.Tie as tie
 
 gather-requires : tie.Need-gather-requires
 gather-requires c κs =
-    (few-blocks (c .before .before .before .args .mesh .now) (c .before .before .before .pre .2), roomy (c .before .before .before .args .mesh .now) (c .before .before .before .pre .1), scratch-length (c .before .before .before .args .mesh .now) (c .before .before .before .args .scratch .now) (c .before .before .before .pre .0))
+    let start : tie.Start = search in
+    (few-blocks (start .args .mesh .now) (start .pre .2), roomy (start .args .mesh .now) (start .pre .1), scratch-length (start .args .mesh .now) (start .args .scratch .now) (start .pre .0))
 
 apart-requires : tie.Need-apart-requires
 apart-requires c κs = search needs
@@ -21,10 +22,14 @@ same-length : tie.Need-same-length
 same-length c = search needs
 
 returns : tie.Need-returns
-returns c = (
-  c .before .before .before .before .before .before .apart .ensures .0 ∙ ap distinct (c .before .before .before .before .before .before .before .before .before .before .gather .ensures .2) ∙ gathered-all (c .before .before .before .before .before .before .before .before .before .before .before .before .before .before .args .mesh .now),
-  cleared-again (c .before .before .before .before .before .before .before .before .before .before .before .before .before .before .args .scratch .now) (scratch-zero (c .before .before .before .before .before .before .before .before .before .before .before .before .before .before .args .mesh .now) (c .before .before .before .before .before .before .before .before .before .before .before .before .before .before .args .scratch .now) (c .before .before .before .before .before .before .before .before .before .before .before .before .before .before .pre .0)) (c .before .before .before .before .before .before .apart .ensures .1 ∙ sym (scratch-length (c .before .before .before .before .before .before .before .before .before .before .before .before .before .before .args .mesh .now) (c .before .before .before .before .before .before .before .before .before .before .before .before .before .before .args .scratch .now) (c .before .before .before .before .before .before .before .before .before .before .before .before .before .before .pre .0))) (c .before .before .clear .ensures),
-)
+returns c =
+    let start : tie.Start = search in
+    let gather-ensures = (let p : tie.After-gather = search in p .gather .ensures) in
+    let apart-ensures = (let p : tie.After-apart = search in p .apart .ensures) in
+    let clear-ensures = (let p : tie.After-clear = search in p .clear .ensures) in (
+      apart-ensures .0 ∙ ap distinct (gather-ensures .2) ∙ gathered-all (start .args .mesh .now),
+      cleared-again (start .args .scratch .now) (scratch-zero (start .args .mesh .now) (start .args .scratch .now) (start .pre .0)) (apart-ensures .1 ∙ sym (scratch-length (start .args .mesh .now) (start .args .scratch .now) (start .pre .0))) clear-ensures,
+    )
 
 pub serials-distinct-spec : {M : Type 1} → statement M
 serials-distinct-spec =

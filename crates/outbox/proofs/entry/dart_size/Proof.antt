@@ -17,11 +17,15 @@ serial-count-requires c κs = search needs
 
 add-result : tie.Need-add-result
 add-result c =
-    omega (arith, c .before .group-count .ensures, c .serial-count .ensures, count-most (c .before .before .args .vertex) (c .before .before .pre .0), serial-most (c .before .before .args .serial) (c .before .before .pre .1))
+    let start : tie.Start = search in
+    let group-count-ensures = (let p : tie.After-group-count = search in p .group-count .ensures) in
+    omega (arith, group-count-ensures, c .serial-count .ensures, count-most (start .args .vertex) (start .pre .0), serial-most (start .args .serial) (start .pre .1))
 
 returns : tie.Need-returns
 returns c =
-    omega (arith, c .before .group-count .ensures, c .serial-count .ensures, dart-length (c .before .before .args .vertex) (c .before .before .args .serial), group-length (c .before .before .args .vertex) (c .before .before .pre .0))
+    let start : tie.Start = search in
+    let group-count-ensures = (let p : tie.After-group-count = search in p .group-count .ensures) in
+    omega (arith, group-count-ensures, c .serial-count .ensures, dart-length (start .args .vertex) (start .args .serial), group-length (start .args .vertex) (start .pre .0))
 
 pub dart-size-spec : {M : Type 1} → statement M
 dart-size-spec =

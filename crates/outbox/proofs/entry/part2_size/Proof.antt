@@ -19,11 +19,15 @@ group-count-requires c κs = search needs
 
 add-result : tie.Need-add-result
 add-result c =
-    omega (arith, c .before .label-count .ensures, c .group-count .ensures, label-most (c .before .before .args .code) (omega arith), count-most (c .before .before .args .index .0) (c .before .before .pre))
+    let start : tie.Start = search in
+    let label-count-ensures = (let p : tie.After-label-count = search in p .label-count .ensures) in
+    omega (arith, label-count-ensures, c .group-count .ensures, label-most (start .args .code) (omega arith), count-most (start .args .index .0) (start .pre))
 
 returns : tie.Need-returns
 returns c =
-    omega (arith, c .before .label-count .ensures, c .group-count .ensures, part2-length (label-in (c .before .before .args .code)) (c .before .before .args .index .0), group-length (c .before .before .args .index .0) (c .before .before .pre))
+    let start : tie.Start = search in
+    let label-count-ensures = (let p : tie.After-label-count = search in p .label-count .ensures) in
+    omega (arith, label-count-ensures, c .group-count .ensures, part2-length (label-in (start .args .code)) (start .args .index .0), group-length (start .args .index .0) (start .pre))
 
 pub part2-size-spec : {M : Type 1} → statement M
 part2-size-spec =

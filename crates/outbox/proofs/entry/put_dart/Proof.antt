@@ -11,18 +11,24 @@ cast-put-group c = search needs
 
 put-group-requires : tie.Need-put-group-requires
 put-group-requires c κs =
-    omega (arith, c .before .before .pre .2, dart-length (c .before .before .args .vertex) (c .before .before .args .serial))
+    let start : tie.Start = search in
+    omega (arith, start .pre .2, dart-length (start .args .vertex) (start .args .serial))
 
 put-serial-requires : tie.Need-put-serial-requires
 put-serial-requires c κs =
-    (c .before .before .before .before .before .before .pre .1, room-after (c .before .before .before .put-group .ensures) _ (omega (arith, c .before .before .before .before .before .before .pre .2, dart-length (c .before .before .before .before .before .before .args .vertex) (c .before .before .before .before .before .before .args .serial))))
+    let start : tie.Start = search in
+    let put-group-ensures = (let p : tie.After-put-group = search in p .put-group .ensures) in
+    (start .pre .1, room-after put-group-ensures _ (omega (arith, start .pre .2, dart-length (start .args .vertex) (start .args .serial))))
 
 same-length : tie.Need-same-length
 same-length c = search needs
 
 returns : tie.Need-returns
 returns c =
-    stored-as (dart-bytes (record { vertex = (c .before .before .before .before .before .before .before .before .before .args .vertex); serial = (c .before .before .before .before .before .before .before .before .before .args .serial) })) (stored-then (c .before .before .before .before .before .before .put-group .ensures) (c .before .before .put-serial .ensures))
+    let start : tie.Start = search in
+    let put-group-ensures = (let p : tie.After-put-group = search in p .put-group .ensures) in
+    let put-serial-ensures = (let p : tie.After-put-serial = search in p .put-serial .ensures) in
+    stored-as (dart-bytes (record { vertex = (start .args .vertex); serial = (start .args .serial) })) (stored-then put-group-ensures put-serial-ensures)
 
 pub put-dart-spec : {M : Type 1} → statement M
 put-dart-spec =

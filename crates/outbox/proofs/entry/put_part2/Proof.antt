@@ -9,21 +9,27 @@ use Rattle.outbox.proofs.entry.put_part2.Tie as tie
 
 put-label-requires : tie.Need-put-label-requires
 put-label-requires c κs =
-    omega (arith, c .before .before .pre .1, part2-length (label-in (c .before .before .args .code)) (c .before .before .args .index .0))
+    let start : tie.Start = search in
+    omega (arith, start .pre .1, part2-length (label-in (start .args .code)) (start .args .index .0))
 
 cast-put-group : tie.Need-cast-put-group
 cast-put-group c = search needs
 
 put-group-requires : tie.Need-put-group-requires
 put-group-requires c κs =
-    room-after (c .before .before .before .put-label .ensures) _ (omega (arith, c .before .before .before .before .before .before .pre .1, part2-length (label-in (c .before .before .before .before .before .before .args .code)) (c .before .before .before .before .before .before .args .index .0)))
+    let start : tie.Start = search in
+    let put-label-ensures = (let p : tie.After-put-label = search in p .put-label .ensures) in
+    room-after put-label-ensures _ (omega (arith, start .pre .1, part2-length (label-in (start .args .code)) (start .args .index .0)))
 
 same-length : tie.Need-same-length
 same-length c = search needs
 
 returns : tie.Need-returns
 returns c =
-    stored-as (part2-bytes (record { label = label-in (c .before .before .before .before .before .before .before .before .before .args .code); index = (c .before .before .before .before .before .before .before .before .before .args .index .0) })) (stored-then (c .before .before .before .before .before .before .put-label .ensures) (c .before .before .put-group .ensures))
+    let start : tie.Start = search in
+    let put-label-ensures = (let p : tie.After-put-label = search in p .put-label .ensures) in
+    let put-group-ensures = (let p : tie.After-put-group = search in p .put-group .ensures) in
+    stored-as (part2-bytes (record { label = label-in (start .args .code); index = (start .args .index .0) })) (stored-then put-label-ensures put-group-ensures)
 
 pub put-part2-spec : {M : Type 1} → statement M
 put-part2-spec =

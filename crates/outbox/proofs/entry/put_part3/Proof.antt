@@ -11,21 +11,27 @@ cast-put-group c = search needs
 
 put-group-requires : tie.Need-put-group-requires
 put-group-requires c κs =
-    omega (arith, c .before .before .pre .2, part3-length (c .before .before .args .number) (c .before .before .args .index .0))
+    let start : tie.Start = search in
+    omega (arith, start .pre .2, part3-length (start .args .number) (start .args .index .0))
 
 cast-put-group-2 : tie.Need-cast-put-group-2
 cast-put-group-2 c = search needs
 
 put-group-requires-2 : tie.Need-put-group-requires-2
 put-group-requires-2 c κs =
-    room-after (c .before .before .before .put-group .ensures) _ (omega (arith, c .before .before .before .before .before .before .pre .2, part3-length (c .before .before .before .before .before .before .args .number) (c .before .before .before .before .before .before .args .index .0)))
+    let start : tie.Start = search in
+    let put-group-ensures = (let p : tie.After-put-group = search in p .put-group .ensures) in
+    room-after put-group-ensures _ (omega (arith, start .pre .2, part3-length (start .args .number) (start .args .index .0)))
 
 same-length : tie.Need-same-length
 same-length c = search needs
 
 returns : tie.Need-returns
 returns c =
-    stored-as (part3-bytes (record { number = (c .before .before .before .before .before .before .before .before .before .args .number); index = (c .before .before .before .before .before .before .before .before .before .args .index .0) })) (stored-then (c .before .before .before .before .before .before .put-group .ensures) (c .before .before .put-group2 .ensures))
+    let start : tie.Start = search in
+    let put-group-ensures = (let p : tie.After-put-group = search in p .put-group .ensures) in
+    let put-group2-ensures = (let p : tie.After-put-group2 = search in p .put-group2 .ensures) in
+    stored-as (part3-bytes (record { number = (start .args .number); index = (start .args .index .0) })) (stored-then put-group-ensures put-group2-ensures)
 
 pub put-part3-spec : {M : Type 1} → statement M
 put-part3-spec =

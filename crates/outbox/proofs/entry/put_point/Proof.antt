@@ -23,18 +23,33 @@ put-coordinate-requires c κs = search needs
 
 put-coordinate-requires-2 : tie.Need-put-coordinate-requires-2
 put-coordinate-requires-2 c κs =
-    room-after (c .before .before .before .put-coordinate .ensures) 8 (omega (arith, c .before .before .before .before .before .before .before .before .before .pre .1, coordinate-length (c .before .before .before .before .before .before .before .pattern .result)))
+    let start : tie.Start = search in
+    let pattern-result = (let p : tie.After-pattern = search in p .pattern .result) in
+    let put-coordinate-ensures = (let p : tie.After-put-coordinate = search in p .put-coordinate .ensures) in
+    room-after put-coordinate-ensures 8 (omega (arith, start .pre .1, coordinate-length pattern-result))
 
 put-coordinate-requires-3 : tie.Need-put-coordinate-requires-3
 put-coordinate-requires-3 c κs =
-    room-after (c .before .before .before .put-coordinate2 .ensures) 8 (omega (arith, c .before .before .before .before .before .before .before .before .before .before .before .before .before .pre .1, stored-length (c .before .before .before .before .before .before .before .put-coordinate .ensures), c .before .before .before .before .before .before .before .put-coordinate .ensures .past, coordinate-length (c .before .before .before .before .before .before .before .before .before .before .before .pattern .result), coordinate-length (c .before .before .before .before .before .before .before .before .before .before .pattern2 .result)))
+    let start : tie.Start = search in
+    let pattern-result = (let p : tie.After-pattern = search in p .pattern .result) in
+    let pattern2-result = (let p : tie.After-pattern2 = search in p .pattern2 .result) in
+    let put-coordinate-ensures = (let p : tie.After-put-coordinate = search in p .put-coordinate .ensures) in
+    let put-coordinate2-ensures = (let p : tie.After-put-coordinate2 = search in p .put-coordinate2 .ensures) in
+    room-after put-coordinate2-ensures 8 (omega (arith, start .pre .1, stored-length put-coordinate-ensures, put-coordinate-ensures .past, coordinate-length pattern-result, coordinate-length pattern2-result))
 
 same-length : tie.Need-same-length
 same-length c = search needs
 
 returns : tie.Need-returns
 returns c =
-    stored-as (point-words (patterns (c .before .before .before .before .before .before .before .before .before .before .before .before .before .before .before .before .args .p)) (c .before .before .before .before .before .before .before .before .before .before .before .before .before .before .pattern .ensures) (c .before .before .before .before .before .before .before .before .before .before .before .before .before .pattern2 .ensures) (c .before .before .before .before .before .before .before .before .before .before .before .before .pattern3 .ensures)) (stored-then (c .before .before .before .before .before .before .before .before .before .before .put-coordinate .ensures) (stored-then (c .before .before .before .before .before .before .put-coordinate2 .ensures) (c .before .before .put-coordinate3 .ensures)))
+    let start : tie.Start = search in
+    let pattern-ensures = (let p : tie.After-pattern = search in p .pattern .ensures) in
+    let pattern2-ensures = (let p : tie.After-pattern2 = search in p .pattern2 .ensures) in
+    let pattern3-ensures = (let p : tie.After-pattern3 = search in p .pattern3 .ensures) in
+    let put-coordinate-ensures = (let p : tie.After-put-coordinate = search in p .put-coordinate .ensures) in
+    let put-coordinate2-ensures = (let p : tie.After-put-coordinate2 = search in p .put-coordinate2 .ensures) in
+    let put-coordinate3-ensures = (let p : tie.After-put-coordinate3 = search in p .put-coordinate3 .ensures) in
+    stored-as (point-words (patterns (start .args .p)) pattern-ensures pattern2-ensures pattern3-ensures) (stored-then put-coordinate-ensures (stored-then put-coordinate2-ensures put-coordinate3-ensures))
 
 pub put-point-spec : {M : Type 1} → statement M
 put-point-spec =

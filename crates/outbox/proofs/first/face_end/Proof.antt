@@ -19,11 +19,14 @@ shared-slice-read-result c = search needs
 
 returns : tie.Need-returns
 returns c =
-    ends-next (c .before .before .args .starts .now) _ _ _ (c .before .if1 .taken)
+    let start : tie.Start = search in
+    let if1-taken = (let p : tie.Then1 = search in p .if1 .taken) in
+    ends-next (start .args .starts .now) _ _ _ if1-taken
 
 returns-2 : tie.Need-returns-2
 returns-2 c =
-    ends-last (c .before .args .starts .now) (c .before .args .count) (c .before .args .darts) (c .before .args .f) (omega (arith, c .if1 .left))
+    let start : tie.Start = search in
+    ends-last (start .args .starts .now) (start .args .count) (start .args .darts) (start .args .f) (omega (arith, c .if1 .left))
 
 pub face-end-spec : {M : Type 1} → statement M
 face-end-spec =

@@ -14,15 +14,20 @@ group-count-requires c κs = search needs
 
 darts-size-requires : tie.Need-darts-size-requires
 darts-size-requires c κs =
-    (c .before .before .before .before .pre .0, omega (arith, c .before .before .before .before .pre .1, face-length (c .before .before .before .before .args .block .now) (c .before .before .before .before .args .numbers .now) (c .before .before .before .before .args .order .now) (c .before .before .before .before .args .start) (c .before .before .before .before .args .size)))
+    let start : tie.Start = search in
+    (start .pre .0, omega (arith, start .pre .1, face-length (start .args .block .now) (start .args .numbers .now) (start .args .order .now) (start .args .start) (start .args .size)))
 
 add-result : tie.Need-add-result
 add-result c =
-    omega (arith, c .before .group-count .ensures, c .darts-size .ensures, c .before .before .before .before .before .pre .1, face-length (c .before .before .before .before .before .args .block .now) (c .before .before .before .before .before .args .numbers .now) (c .before .before .before .before .before .args .order .now) (c .before .before .before .before .before .args .start) (c .before .before .before .before .before .args .size), group-length (c .before .before .before .before .before .args .size) (omega (arith, c .before .before .before .before .before .pre .0 .0 .few)))
+    let start : tie.Start = search in
+    let group-count-ensures = (let p : tie.After-group-count = search in p .group-count .ensures) in
+    omega (arith, group-count-ensures, c .darts-size .ensures, start .pre .1, face-length (start .args .block .now) (start .args .numbers .now) (start .args .order .now) (start .args .start) (start .args .size), group-length (start .args .size) (omega (arith, start .pre .0 .0 .few)))
 
 returns : tie.Need-returns
 returns c =
-    omega (arith, c .before .group-count .ensures, c .darts-size .ensures, face-length (c .before .before .before .before .before .args .block .now) (c .before .before .before .before .before .args .numbers .now) (c .before .before .before .before .before .args .order .now) (c .before .before .before .before .before .args .start) (c .before .before .before .before .before .args .size), group-length (c .before .before .before .before .before .args .size) (omega (arith, c .before .before .before .before .before .pre .0 .0 .few)))
+    let start : tie.Start = search in
+    let group-count-ensures = (let p : tie.After-group-count = search in p .group-count .ensures) in
+    omega (arith, group-count-ensures, c .darts-size .ensures, face-length (start .args .block .now) (start .args .numbers .now) (start .args .order .now) (start .args .start) (start .args .size), group-length (start .args .size) (omega (arith, start .pre .0 .0 .few)))
 
 pub face-size-spec : {M : Type 1} → statement M
 face-size-spec =

@@ -21,7 +21,8 @@ abbrev μ-loop : tie.MeasureT-loop
 
 loop-holds : tie.Need-loop-holds Inv-loop μ-loop
 loop-holds c =
-    counting-start _ _ (c .before .before .before .before .pre .1)
+    let start : tie.Start Inv-loop μ-loop = search in
+    counting-start _ _ (start .pre .1)
 
 mul-start : tie.Need-mul-start Inv-loop μ-loop
 mul-start c = search needs
@@ -34,30 +35,51 @@ face-end-requires c κs = search needs
 
 sub-face-size : tie.Need-sub-face-size Inv-loop μ-loop
 sub-face-size c =
-    start-le (c .before .before .before .before .before .before .before .before .pre .0 .2) (c .before .before .before .loop .f) (c .face-end .result) (c .before .before .loop-test .taken) (c .face-end .ensures)
+    let start : tie.Start Inv-loop μ-loop = search in
+    let loop-f = (let p : tie.At-loop Inv-loop μ-loop = search in p .loop .f) in
+    let loop-test-taken = (let p : tie.In-loop Inv-loop μ-loop = search in p .loop-test .taken) in
+    start-le (start .pre .0 .2) loop-f (c .face-end .result) loop-test-taken (c .face-end .ensures)
 
 face-size-requires : tie.Need-face-size-requires Inv-loop μ-loop
 face-size-requires c κs =
-    ((listed-part (c .before .before .before .before .before .before .before .before .pre .0 .0) _ (end-le (c .before .before .before .before .before .before .before .before .pre .0 .2) (c .before .before .before .loop .f) (c .face-end .result) (c .before .before .loop-test .taken) (c .face-end .ensures)), vertexed-part (c .before .before .before .before .before .before .before .before .pre .0 .1) _ (end-le (c .before .before .before .before .before .before .before .before .pre .0 .2) (c .before .before .before .loop .f) (c .face-end .result) (c .before .before .loop-test .taken) (c .face-end .ensures))), omega (arith, ap length (faces-is (c .before .before .before .before .before .before .before .before .args .block .now) (c .before .before .before .before .before .before .before .before .args .numbers .now) (c .before .before .before .before .before .before .before .before .args .order .now) (c .before .before .before .before .before .before .before .before .args .starts .now) (c .before .before .before .before .before .before .before .before .args .darts) (c .before .before .before .before .before .before .before .before .args .count) (c .before .before .before .loop .f) (c .face-end .result) (c .face-end .ensures)), counting-one (c .before .before .before .loop .inv) (c .before .before .loop-test .taken)))
+    let start : tie.Start Inv-loop μ-loop = search in
+    let loop-f = (let p : tie.At-loop Inv-loop μ-loop = search in p .loop .f) in
+    let loop-inv = (let p : tie.At-loop Inv-loop μ-loop = search in p .loop .inv) in
+    let loop-test-taken = (let p : tie.In-loop Inv-loop μ-loop = search in p .loop-test .taken) in
+    ((listed-part (start .pre .0 .0) _ (end-le (start .pre .0 .2) loop-f (c .face-end .result) loop-test-taken (c .face-end .ensures)), vertexed-part (start .pre .0 .1) _ (end-le (start .pre .0 .2) loop-f (c .face-end .result) loop-test-taken (c .face-end .ensures))), omega (arith, ap length (faces-is (start .args .block .now) (start .args .numbers .now) (start .args .order .now) (start .args .starts .now) (start .args .darts) (start .args .count) loop-f (c .face-end .result) (c .face-end .ensures)), counting-one loop-inv loop-test-taken))
 
 add-bytes : tie.Need-add-bytes Inv-loop μ-loop
 add-bytes c =
-    omega (arith, c .face-size .ensures, ap length (faces-is (c .before .before .before .before .before .before .before .before .before .args .block .now) (c .before .before .before .before .before .before .before .before .before .args .numbers .now) (c .before .before .before .before .before .before .before .before .before .args .order .now) (c .before .before .before .before .before .before .before .before .before .args .starts .now) (c .before .before .before .before .before .before .before .before .before .args .darts) (c .before .before .before .before .before .before .before .before .before .args .count) (c .before .before .before .before .loop .f) (c .before .face-end .result) (c .before .face-end .ensures)), counting-small (c .before .before .before .before .loop .inv) (c .before .before .before .loop-test .taken))
+    let start : tie.Start Inv-loop μ-loop = search in
+    let loop-f = (let p : tie.At-loop Inv-loop μ-loop = search in p .loop .f) in
+    let loop-inv = (let p : tie.At-loop Inv-loop μ-loop = search in p .loop .inv) in
+    let loop-test-taken = (let p : tie.In-loop Inv-loop μ-loop = search in p .loop-test .taken) in
+    let face-end-ensures = (let p : tie.After-face-end Inv-loop μ-loop = search in p .face-end .ensures) in
+    let face-end-result = (let p : tie.After-face-end Inv-loop μ-loop = search in p .face-end .result) in
+    omega (arith, c .face-size .ensures, ap length (faces-is (start .args .block .now) (start .args .numbers .now) (start .args .order .now) (start .args .starts .now) (start .args .darts) (start .args .count) loop-f face-end-result face-end-ensures), counting-small loop-inv loop-test-taken)
 
 add-f : tie.Need-add-f Inv-loop μ-loop
 add-f c = search needs
 
 loop-less : tie.Need-loop-less Inv-loop μ-loop
 loop-less c =
-    omega (arith, c .before .before .before .loop-test .taken)
+    let loop-test-taken = (let p : tie.In-loop Inv-loop μ-loop = search in p .loop-test .taken) in
+    omega (arith, loop-test-taken)
 
 loop-again : tie.Need-loop-again Inv-loop μ-loop
 loop-again c =
-    counting-step (c .before .before .before .before .loop .inv) (c .before .before .before .loop-test .taken) (c .face-size .ensures ∙ sym (ap length (faces-is (c .before .before .before .before .before .before .before .before .before .args .block .now) (c .before .before .before .before .before .before .before .before .before .args .numbers .now) (c .before .before .before .before .before .before .before .before .before .args .order .now) (c .before .before .before .before .before .before .before .before .before .args .starts .now) (c .before .before .before .before .before .before .before .before .before .args .darts) (c .before .before .before .before .before .before .before .before .before .args .count) (c .before .before .before .before .loop .f) (c .before .face-end .result) (c .before .face-end .ensures))))
+    let start : tie.Start Inv-loop μ-loop = search in
+    let loop-f = (let p : tie.At-loop Inv-loop μ-loop = search in p .loop .f) in
+    let loop-inv = (let p : tie.At-loop Inv-loop μ-loop = search in p .loop .inv) in
+    let loop-test-taken = (let p : tie.In-loop Inv-loop μ-loop = search in p .loop-test .taken) in
+    let face-end-ensures = (let p : tie.After-face-end Inv-loop μ-loop = search in p .face-end .ensures) in
+    let face-end-result = (let p : tie.After-face-end Inv-loop μ-loop = search in p .face-end .result) in
+    counting-step loop-inv loop-test-taken (c .face-size .ensures ∙ sym (ap length (faces-is (start .args .block .now) (start .args .numbers .now) (start .args .order .now) (start .args .starts .now) (start .args .darts) (start .args .count) loop-f face-end-result face-end-ensures)))
 
 returns : tie.Need-returns Inv-loop μ-loop
 returns c =
-    counting-end (c .before .loop .inv) (omega (arith, c .loop-test .left))
+    let loop-inv = (let p : tie.At-loop Inv-loop μ-loop = search in p .loop .inv) in
+    counting-end loop-inv (omega (arith, c .loop-test .left))
 
 pub faces-size-spec : {M : Type 1} → statement M
 faces-size-spec =

@@ -22,7 +22,8 @@ abbrev μ-loop : tie.MeasureT-loop
 
 loop-holds : tie.Need-loop-holds Inv-loop μ-loop
 loop-holds c =
-    running-start _ _ _ _ (c .before .before .before .before .pre .1)
+    let start : tie.Start Inv-loop μ-loop = search in
+    running-start _ _ _ _ (start .pre .1)
 
 add-p : tie.Need-add-p Inv-loop μ-loop
 add-p c = search needs
@@ -35,38 +36,61 @@ shared-slice-read-p c = search needs
 
 mul-put-dart : tie.Need-mul-put-dart Inv-loop μ-loop
 mul-put-dart c =
-    omega (arith, c .before .before .before .before .before .before .before .before .pre .0 .0 .below (c .before .before .before .before .before .before .before .before .args .start + c .before .before .before .loop .k) (omega (arith, c .before .before .loop-test .taken)))
+    let start : tie.Start Inv-loop μ-loop = search in
+    let loop-k = (let p : tie.At-loop Inv-loop μ-loop = search in p .loop .k) in
+    let loop-test-taken = (let p : tie.In-loop Inv-loop μ-loop = search in p .loop-test .taken) in
+    omega (arith, start .pre .0 .0 .below (start .args .start + loop-k) (omega (arith, loop-test-taken)))
 
 shared-slice-read-put-dart : tie.Need-shared-slice-read-put-dart Inv-loop μ-loop
 shared-slice-read-put-dart c =
-    omega (arith, c .before .before .before .before .before .before .before .before .before .pre .0 .0 .below (c .before .before .before .before .before .before .before .before .before .args .start + c .before .before .before .before .loop .k) (omega (arith, c .before .before .before .loop-test .taken)), c .before .before .before .before .before .before .before .before .before .pre .0 .1 .numbers-size)
+    let start : tie.Start Inv-loop μ-loop = search in
+    let loop-k = (let p : tie.At-loop Inv-loop μ-loop = search in p .loop .k) in
+    let loop-test-taken = (let p : tie.In-loop Inv-loop μ-loop = search in p .loop-test .taken) in
+    omega (arith, start .pre .0 .0 .below (start .args .start + loop-k) (omega (arith, loop-test-taken)), start .pre .0 .1 .numbers-size)
 
 field-requires : tie.Need-field-requires Inv-loop μ-loop
 field-requires c κs =
-    (c .before .before .before .before .before .before .before .before .before .pre .0 .0 .below (c .before .before .before .before .before .before .before .before .before .args .start + c .before .before .before .before .loop .k) (omega (arith, c .before .before .before .loop-test .taken)), omega arith, c .before .before .before .before .before .before .before .before .before .pre .0 .0 .memory)
+    let start : tie.Start Inv-loop μ-loop = search in
+    let loop-k = (let p : tie.At-loop Inv-loop μ-loop = search in p .loop .k) in
+    let loop-test-taken = (let p : tie.In-loop Inv-loop μ-loop = search in p .loop-test .taken) in
+    (start .pre .0 .0 .below (start .args .start + loop-k) (omega (arith, loop-test-taken)), omega arith, start .pre .0 .0 .memory)
 
 put-dart-requires : tie.Need-put-dart-requires Inv-loop μ-loop
 put-dart-requires c κs =
-    (omega (arith, c .before .before .before .before .before .before .before .before .before .before .pre .0 .1 .number-small (c .before .before .before .before .before .before .before .before .before .before .args .start + c .before .before .before .before .before .loop .k) (omega (arith, c .before .before .before .before .loop-test .taken))), omega (arith, c .before .before .before .before .before .before .before .before .before .before .pre .0 .0 .serial-small (c .before .before .before .before .before .before .before .before .before .before .args .start + c .before .before .before .before .before .loop .k) (omega (arith, c .before .before .before .before .loop-test .taken)), c .field .ensures), omega (arith, ap length (dart-is (c .before .before .before .before .before .before .before .before .before .before .args .block .now) (c .before .before .before .before .before .before .before .before .before .before .args .numbers .now) (c .before .before .before .before .before .before .before .before .before .before .args .order .now) (c .before .before .before .before .before .before .before .before .before .before .args .start) (c .before .before .before .before .before .loop .k) (c .field .result) (c .field .ensures)), running-space (c .before .before .before .before .before .loop .inv) (c .before .before .before .before .loop-test .taken)))
+    let start : tie.Start Inv-loop μ-loop = search in
+    let loop-inv = (let p : tie.At-loop Inv-loop μ-loop = search in p .loop .inv) in
+    let loop-k = (let p : tie.At-loop Inv-loop μ-loop = search in p .loop .k) in
+    let loop-test-taken = (let p : tie.In-loop Inv-loop μ-loop = search in p .loop-test .taken) in
+    (omega (arith, start .pre .0 .1 .number-small (start .args .start + loop-k) (omega (arith, loop-test-taken))), omega (arith, start .pre .0 .0 .serial-small (start .args .start + loop-k) (omega (arith, loop-test-taken)), c .field .ensures), omega (arith, ap length (dart-is (start .args .block .now) (start .args .numbers .now) (start .args .order .now) (start .args .start) loop-k (c .field .result) (c .field .ensures)), running-space loop-inv loop-test-taken))
 
 add-k : tie.Need-add-k Inv-loop μ-loop
 add-k c = search needs
 
 loop-less : tie.Need-loop-less Inv-loop μ-loop
 loop-less c =
-    omega (arith, c .before .before .before .before .before .before .before .loop-test .taken)
+    let loop-test-taken = (let p : tie.In-loop Inv-loop μ-loop = search in p .loop-test .taken) in
+    omega (arith, loop-test-taken)
 
 loop-again : tie.Need-loop-again Inv-loop μ-loop
 loop-again c =
-    running-step (c .before .before .before .before .before .before .before .before .loop .inv) (c .before .before .before .before .before .before .before .loop-test .taken) (stored-as (dart-is (c .before .before .before .before .before .before .before .before .before .before .before .before .before .args .block .now) (c .before .before .before .before .before .before .before .before .before .before .before .before .before .args .numbers .now) (c .before .before .before .before .before .before .before .before .before .before .before .before .before .args .order .now) (c .before .before .before .before .before .before .before .before .before .before .before .before .before .args .start) (c .before .before .before .before .before .before .before .before .loop .k) (c .before .before .before .field .result) (c .before .before .before .field .ensures)) (c .before .before .put-dart .ensures))
+    let start : tie.Start Inv-loop μ-loop = search in
+    let loop-inv = (let p : tie.At-loop Inv-loop μ-loop = search in p .loop .inv) in
+    let loop-k = (let p : tie.At-loop Inv-loop μ-loop = search in p .loop .k) in
+    let loop-test-taken = (let p : tie.In-loop Inv-loop μ-loop = search in p .loop-test .taken) in
+    let field-ensures = (let p : tie.After-field Inv-loop μ-loop = search in p .field .ensures) in
+    let field-result = (let p : tie.After-field Inv-loop μ-loop = search in p .field .result) in
+    let put-dart-ensures = (let p : tie.After-put-dart Inv-loop μ-loop = search in p .put-dart .ensures) in
+    running-step loop-inv loop-test-taken (stored-as (dart-is (start .args .block .now) (start .args .numbers .now) (start .args .order .now) (start .args .start) loop-k field-result field-ensures) put-dart-ensures)
 
 same-length : tie.Need-same-length Inv-loop μ-loop
 same-length c =
-    running-size (c .before .loop .inv)
+    let loop-inv = (let p : tie.At-loop Inv-loop μ-loop = search in p .loop .inv) in
+    running-size loop-inv
 
 returns : tie.Need-returns Inv-loop μ-loop
 returns c =
-    running-end (c .before .loop .inv) (omega (arith, c .loop-test .left))
+    let loop-inv = (let p : tie.At-loop Inv-loop μ-loop = search in p .loop .inv) in
+    running-end loop-inv (omega (arith, c .loop-test .left))
 
 pub put-darts-spec : {M : Type 1} → statement M
 put-darts-spec =

@@ -12,18 +12,24 @@ cast-put-group c = search needs
 
 put-group-requires : tie.Need-put-group-requires
 put-group-requires c κs =
-    omega (arith, c .before .before .before .before .before .pre .1, face-length (c .before .before .before .before .before .args .block .now) (c .before .before .before .before .before .args .numbers .now) (c .before .before .before .before .before .args .order .now) (c .before .before .before .before .before .args .start) (c .before .before .before .before .before .args .size))
+    let start : tie.Start = search in
+    omega (arith, start .pre .1, face-length (start .args .block .now) (start .args .numbers .now) (start .args .order .now) (start .args .start) (start .args .size))
 
 put-darts-requires : tie.Need-put-darts-requires
 put-darts-requires c κs =
-    (c .before .before .before .before .before .before .before .before .before .pre .0, room-after (c .before .before .before .put-group .ensures) _ (omega (arith, c .before .before .before .before .before .before .before .before .before .pre .1, face-length (c .before .before .before .before .before .before .before .before .before .args .block .now) (c .before .before .before .before .before .before .before .before .before .args .numbers .now) (c .before .before .before .before .before .before .before .before .before .args .order .now) (c .before .before .before .before .before .before .before .before .before .args .start) (c .before .before .before .before .before .before .before .before .before .args .size))))
+    let start : tie.Start = search in
+    let put-group-ensures = (let p : tie.After-put-group = search in p .put-group .ensures) in
+    (start .pre .0, room-after put-group-ensures _ (omega (arith, start .pre .1, face-length (start .args .block .now) (start .args .numbers .now) (start .args .order .now) (start .args .start) (start .args .size))))
 
 same-length : tie.Need-same-length
 same-length c = search needs
 
 returns : tie.Need-returns
 returns c =
-    stored-as (face-of (c .before .before .before .before .before .before .before .before .before .before .before .before .args .block .now) (c .before .before .before .before .before .before .before .before .before .before .before .before .args .numbers .now) (c .before .before .before .before .before .before .before .before .before .before .before .before .args .order .now) (c .before .before .before .before .before .before .before .before .before .before .before .before .args .start) (c .before .before .before .before .before .before .before .before .before .before .before .before .args .size)) (stored-then (c .before .before .before .before .before .before .put-group .ensures) (c .before .before .put-darts .ensures))
+    let start : tie.Start = search in
+    let put-group-ensures = (let p : tie.After-put-group = search in p .put-group .ensures) in
+    let put-darts-ensures = (let p : tie.After-put-darts = search in p .put-darts .ensures) in
+    stored-as (face-of (start .args .block .now) (start .args .numbers .now) (start .args .order .now) (start .args .start) (start .args .size)) (stored-then put-group-ensures put-darts-ensures)
 
 pub put-face-spec : {M : Type 1} → statement M
 put-face-spec =

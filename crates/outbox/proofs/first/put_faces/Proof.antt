@@ -22,7 +22,8 @@ abbrev μ-loop : tie.MeasureT-loop
 
 loop-holds : tie.Need-loop-holds Inv-loop μ-loop
 loop-holds c =
-    running-start _ _ _ _ (c .before .before .before .before .before .pre .1)
+    let start : tie.Start Inv-loop μ-loop = search in
+    running-start _ _ _ _ (start .pre .1)
 
 mul-start : tie.Need-mul-start Inv-loop μ-loop
 mul-start c = search needs
@@ -35,30 +36,49 @@ face-end-requires c κs = search needs
 
 sub-put-face : tie.Need-sub-put-face Inv-loop μ-loop
 sub-put-face c =
-    start-le (c .before .before .before .before .before .before .before .before .before .pre .0 .2) (c .before .before .before .loop .f) (c .face-end .result) (c .before .before .loop-test .taken) (c .face-end .ensures)
+    let start : tie.Start Inv-loop μ-loop = search in
+    let loop-f = (let p : tie.At-loop Inv-loop μ-loop = search in p .loop .f) in
+    let loop-test-taken = (let p : tie.In-loop Inv-loop μ-loop = search in p .loop-test .taken) in
+    start-le (start .pre .0 .2) loop-f (c .face-end .result) loop-test-taken (c .face-end .ensures)
 
 put-face-requires : tie.Need-put-face-requires Inv-loop μ-loop
 put-face-requires c κs =
-    ((listed-part (c .before .before .before .before .before .before .before .before .before .before .pre .0 .0) _ (end-le (c .before .before .before .before .before .before .before .before .before .before .pre .0 .2) (c .before .before .before .before .loop .f) (c .before .face-end .result) (c .before .before .before .loop-test .taken) (c .before .face-end .ensures)), vertexed-part (c .before .before .before .before .before .before .before .before .before .before .pre .0 .1) _ (end-le (c .before .before .before .before .before .before .before .before .before .before .pre .0 .2) (c .before .before .before .before .loop .f) (c .before .face-end .result) (c .before .before .before .loop-test .taken) (c .before .face-end .ensures))), omega (arith, ap length (faces-is (c .before .before .before .before .before .before .before .before .before .before .args .block .now) (c .before .before .before .before .before .before .before .before .before .before .args .numbers .now) (c .before .before .before .before .before .before .before .before .before .before .args .order .now) (c .before .before .before .before .before .before .before .before .before .before .args .starts .now) (c .before .before .before .before .before .before .before .before .before .before .args .darts) (c .before .before .before .before .before .before .before .before .before .before .args .count) (c .before .before .before .before .loop .f) (c .before .face-end .result) (c .before .face-end .ensures)), running-space (c .before .before .before .before .loop .inv) (c .before .before .before .loop-test .taken)))
+    let start : tie.Start Inv-loop μ-loop = search in
+    let loop-f = (let p : tie.At-loop Inv-loop μ-loop = search in p .loop .f) in
+    let loop-inv = (let p : tie.At-loop Inv-loop μ-loop = search in p .loop .inv) in
+    let loop-test-taken = (let p : tie.In-loop Inv-loop μ-loop = search in p .loop-test .taken) in
+    let face-end-ensures = (let p : tie.After-face-end Inv-loop μ-loop = search in p .face-end .ensures) in
+    let face-end-result = (let p : tie.After-face-end Inv-loop μ-loop = search in p .face-end .result) in
+    ((listed-part (start .pre .0 .0) _ (end-le (start .pre .0 .2) loop-f face-end-result loop-test-taken face-end-ensures), vertexed-part (start .pre .0 .1) _ (end-le (start .pre .0 .2) loop-f face-end-result loop-test-taken face-end-ensures)), omega (arith, ap length (faces-is (start .args .block .now) (start .args .numbers .now) (start .args .order .now) (start .args .starts .now) (start .args .darts) (start .args .count) loop-f face-end-result face-end-ensures), running-space loop-inv loop-test-taken))
 
 add-f : tie.Need-add-f Inv-loop μ-loop
 add-f c = search needs
 
 loop-less : tie.Need-loop-less Inv-loop μ-loop
 loop-less c =
-    omega (arith, c .before .before .before .before .before .before .loop-test .taken)
+    let loop-test-taken = (let p : tie.In-loop Inv-loop μ-loop = search in p .loop-test .taken) in
+    omega (arith, loop-test-taken)
 
 loop-again : tie.Need-loop-again Inv-loop μ-loop
 loop-again c =
-    running-step (c .before .before .before .before .before .before .before .loop .inv) (c .before .before .before .before .before .before .loop-test .taken) (stored-as (faces-is (c .before .before .before .before .before .before .before .before .before .before .before .before .before .args .block .now) (c .before .before .before .before .before .before .before .before .before .before .before .before .before .args .numbers .now) (c .before .before .before .before .before .before .before .before .before .before .before .before .before .args .order .now) (c .before .before .before .before .before .before .before .before .before .before .before .before .before .args .starts .now) (c .before .before .before .before .before .before .before .before .before .before .before .before .before .args .darts) (c .before .before .before .before .before .before .before .before .before .before .before .before .before .args .count) (c .before .before .before .before .before .before .before .loop .f) (c .before .before .before .before .face-end .result) (c .before .before .before .before .face-end .ensures)) (c .before .before .put-face .ensures))
+    let start : tie.Start Inv-loop μ-loop = search in
+    let loop-f = (let p : tie.At-loop Inv-loop μ-loop = search in p .loop .f) in
+    let loop-inv = (let p : tie.At-loop Inv-loop μ-loop = search in p .loop .inv) in
+    let loop-test-taken = (let p : tie.In-loop Inv-loop μ-loop = search in p .loop-test .taken) in
+    let face-end-ensures = (let p : tie.After-face-end Inv-loop μ-loop = search in p .face-end .ensures) in
+    let face-end-result = (let p : tie.After-face-end Inv-loop μ-loop = search in p .face-end .result) in
+    let put-face-ensures = (let p : tie.After-put-face Inv-loop μ-loop = search in p .put-face .ensures) in
+    running-step loop-inv loop-test-taken (stored-as (faces-is (start .args .block .now) (start .args .numbers .now) (start .args .order .now) (start .args .starts .now) (start .args .darts) (start .args .count) loop-f face-end-result face-end-ensures) put-face-ensures)
 
 same-length : tie.Need-same-length Inv-loop μ-loop
 same-length c =
-    running-size (c .before .loop .inv)
+    let loop-inv = (let p : tie.At-loop Inv-loop μ-loop = search in p .loop .inv) in
+    running-size loop-inv
 
 returns : tie.Need-returns Inv-loop μ-loop
 returns c =
-    running-end (c .before .loop .inv) (omega (arith, c .loop-test .left))
+    let loop-inv = (let p : tie.At-loop Inv-loop μ-loop = search in p .loop .inv) in
+    running-end loop-inv (omega (arith, c .loop-test .left))
 
 pub put-faces-spec : {M : Type 1} → statement M
 put-faces-spec =

@@ -20,7 +20,8 @@ abbrev μ-loop : tie.MeasureT-loop
 
 loop-holds : tie.Need-loop-holds Inv-loop μ-loop
 loop-holds c =
-    running-start _ _ _ _ (c .before .before .before .pre .1)
+    let start : tie.Start Inv-loop μ-loop = search in
+    running-start _ _ _ _ (start .pre .1)
 
 mul-p : tie.Need-mul-p Inv-loop μ-loop
 mul-p c = search needs
@@ -30,30 +31,47 @@ shared-slice-read-p c = search needs
 
 point-at-requires : tie.Need-point-at-requires Inv-loop μ-loop
 point-at-requires c κs =
-    (c .before .before .before .before .before .before .before .pre .0 .below (c .before .before .before .loop .k) (c .before .before .loop-test .taken), c .before .before .before .before .before .before .before .pre .0 .memory, c .before .before .before .before .before .before .before .pre .0 .finite (c .before .before .before .loop .k) (c .before .before .loop-test .taken))
+    let start : tie.Start Inv-loop μ-loop = search in
+    let loop-k = (let p : tie.At-loop Inv-loop μ-loop = search in p .loop .k) in
+    let loop-test-taken = (let p : tie.In-loop Inv-loop μ-loop = search in p .loop-test .taken) in
+    (start .pre .0 .below loop-k loop-test-taken, start .pre .0 .memory, start .pre .0 .finite loop-k loop-test-taken)
 
 put-point-requires : tie.Need-put-point-requires Inv-loop μ-loop
 put-point-requires c κs =
-    (point-fine (c .before .before .before .before .before .before .before .before .args .block .now) (c .before .before .before .before .before .before .before .before .args .firsts .now) (c .before .before .before .before .loop .k) (c .point-at .result) (c .point-at .ensures) (c .before .before .before .before .before .before .before .before .pre .0 .finite (c .before .before .before .before .loop .k) (c .before .before .before .loop-test .taken)), omega (arith, running-space (c .before .before .before .before .loop .inv) (c .before .before .before .loop-test .taken), point-put-length (c .before .before .before .before .before .before .before .before .args .block .now) (c .before .before .before .before .before .before .before .before .args .firsts .now) (c .before .before .before .before .loop .k)))
+    let start : tie.Start Inv-loop μ-loop = search in
+    let loop-inv = (let p : tie.At-loop Inv-loop μ-loop = search in p .loop .inv) in
+    let loop-k = (let p : tie.At-loop Inv-loop μ-loop = search in p .loop .k) in
+    let loop-test-taken = (let p : tie.In-loop Inv-loop μ-loop = search in p .loop-test .taken) in
+    (point-fine (start .args .block .now) (start .args .firsts .now) loop-k (c .point-at .result) (c .point-at .ensures) (start .pre .0 .finite loop-k loop-test-taken), omega (arith, running-space loop-inv loop-test-taken, point-put-length (start .args .block .now) (start .args .firsts .now) loop-k))
 
 add-k : tie.Need-add-k Inv-loop μ-loop
 add-k c = search needs
 
 loop-less : tie.Need-loop-less Inv-loop μ-loop
 loop-less c =
-    omega (arith, c .before .before .before .before .before .before .loop-test .taken)
+    let loop-test-taken = (let p : tie.In-loop Inv-loop μ-loop = search in p .loop-test .taken) in
+    omega (arith, loop-test-taken)
 
 loop-again : tie.Need-loop-again Inv-loop μ-loop
 loop-again c =
-    running-step (c .before .before .before .before .before .before .before .loop .inv) (c .before .before .before .before .before .before .loop-test .taken) (stored-as (point-is (c .before .before .before .before .before .before .before .before .before .before .before .args .block .now) (c .before .before .before .before .before .before .before .before .before .before .before .args .firsts .now) (c .before .before .before .before .before .before .before .loop .k) (c .before .before .before .point-at .result) (c .before .before .before .point-at .ensures) (c .before .before .before .before .before .before .before .before .before .before .before .pre .0 .finite (c .before .before .before .before .before .before .before .loop .k) (c .before .before .before .before .before .before .loop-test .taken))) (c .before .before .put-point .ensures))
+    let start : tie.Start Inv-loop μ-loop = search in
+    let loop-inv = (let p : tie.At-loop Inv-loop μ-loop = search in p .loop .inv) in
+    let loop-k = (let p : tie.At-loop Inv-loop μ-loop = search in p .loop .k) in
+    let loop-test-taken = (let p : tie.In-loop Inv-loop μ-loop = search in p .loop-test .taken) in
+    let point-at-ensures = (let p : tie.After-point-at Inv-loop μ-loop = search in p .point-at .ensures) in
+    let point-at-result = (let p : tie.After-point-at Inv-loop μ-loop = search in p .point-at .result) in
+    let put-point-ensures = (let p : tie.After-put-point Inv-loop μ-loop = search in p .put-point .ensures) in
+    running-step loop-inv loop-test-taken (stored-as (point-is (start .args .block .now) (start .args .firsts .now) loop-k point-at-result point-at-ensures (start .pre .0 .finite loop-k loop-test-taken)) put-point-ensures)
 
 same-length : tie.Need-same-length Inv-loop μ-loop
 same-length c =
-    running-size (c .before .loop .inv)
+    let loop-inv = (let p : tie.At-loop Inv-loop μ-loop = search in p .loop .inv) in
+    running-size loop-inv
 
 returns : tie.Need-returns Inv-loop μ-loop
 returns c =
-    running-end (c .before .loop .inv) (omega (arith, c .loop-test .left))
+    let loop-inv = (let p : tie.At-loop Inv-loop μ-loop = search in p .loop .inv) in
+    running-end loop-inv (omega (arith, c .loop-test .left))
 
 pub put-points-spec : {M : Type 1} → statement M
 put-points-spec =

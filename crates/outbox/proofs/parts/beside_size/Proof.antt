@@ -6,31 +6,46 @@ use Rattle.outbox.proofs.parts.beside_size.Tie as tie
 
 mul-p : tie.Need-mul-p
 mul-p c =
-    omega (arith, c .before .before .pre .0 .0 .few, c .before .before .pre .0 .1)
+    let start : tie.Start = search in
+    omega (arith, start .pre .0 .0 .few, start .pre .0 .1)
 
 shared-slice-read-p : tie.Need-shared-slice-read-p
 shared-slice-read-p c =
-    omega (arith, c .before .before .before .pre .0 .0 .few, c .before .before .before .pre .0 .0 .order-size, c .before .before .before .pre .0 .1)
+    let start : tie.Start = search in
+    omega (arith, start .pre .0 .0 .few, start .pre .0 .0 .order-size, start .pre .0 .1)
 
 field-requires : tie.Need-field-requires
 field-requires c κs =
-    (c .before .before .before .pre .0 .0 .below (c .before .before .before .args .start) (omega (arith, c .before .before .before .pre .0 .1)), omega arith, c .before .before .before .pre .0 .0 .memory)
+    let start : tie.Start = search in
+    (start .pre .0 .0 .below (start .args .start) (omega (arith, start .pre .0 .1)), omega arith, start .pre .0 .0 .memory)
 
 part4-size-requires : tie.Need-part4-size-requires
 part4-size-requires c κs =
-    (omega (arith, c .before .before .before .before .pre .0 .0 .few), omega (arith, c .field .ensures, c .before .before .before .before .pre .0 .0 .other-small (c .before .before .before .before .args .start) (omega (arith, c .before .before .before .before .pre .0 .1))))
+    let start : tie.Start = search in
+    (omega (arith, start .pre .0 .0 .few), omega (arith, c .field .ensures, start .pre .0 .0 .other-small (start .args .start) (omega (arith, start .pre .0 .1))))
 
 labels-size-requires : tie.Need-labels-size-requires
 labels-size-requires c κs =
-    (c .before .before .before .before .before .pre .0 .0, omega (arith, c .before .before .before .before .before .pre .1, beside-length (c .before .before .before .before .before .args .block .now) (c .before .before .before .before .before .args .order .now) (c .before .before .before .before .before .args .start) (c .before .before .before .before .before .args .size) (c .before .field .result) (c .before .field .ensures)))
+    let start : tie.Start = search in
+    let field-ensures = (let p : tie.After-field = search in p .field .ensures) in
+    let field-result = (let p : tie.After-field = search in p .field .result) in
+    (start .pre .0 .0, omega (arith, start .pre .1, beside-length (start .args .block .now) (start .args .order .now) (start .args .start) (start .args .size) field-result field-ensures))
 
 add-result : tie.Need-add-result
 add-result c =
-    omega (arith, c .before .before .before .before .before .before .pre .1, c .before .part4-size .ensures, c .labels-size .ensures, beside-length (c .before .before .before .before .before .before .args .block .now) (c .before .before .before .before .before .before .args .order .now) (c .before .before .before .before .before .before .args .start) (c .before .before .before .before .before .before .args .size) (c .before .before .field .result) (c .before .before .field .ensures))
+    let start : tie.Start = search in
+    let field-ensures = (let p : tie.After-field = search in p .field .ensures) in
+    let field-result = (let p : tie.After-field = search in p .field .result) in
+    let part4-size-ensures = (let p : tie.After-part4-size = search in p .part4-size .ensures) in
+    omega (arith, start .pre .1, part4-size-ensures, c .labels-size .ensures, beside-length (start .args .block .now) (start .args .order .now) (start .args .start) (start .args .size) field-result field-ensures)
 
 returns : tie.Need-returns
 returns c =
-    omega (arith, c .before .part4-size .ensures, c .labels-size .ensures, beside-length (c .before .before .before .before .before .before .args .block .now) (c .before .before .before .before .before .before .args .order .now) (c .before .before .before .before .before .before .args .start) (c .before .before .before .before .before .before .args .size) (c .before .before .field .result) (c .before .before .field .ensures))
+    let start : tie.Start = search in
+    let field-ensures = (let p : tie.After-field = search in p .field .ensures) in
+    let field-result = (let p : tie.After-field = search in p .field .result) in
+    let part4-size-ensures = (let p : tie.After-part4-size = search in p .part4-size .ensures) in
+    omega (arith, part4-size-ensures, c .labels-size .ensures, beside-length (start .args .block .now) (start .args .order .now) (start .args .start) (start .args .size) field-result field-ensures)
 
 pub beside-size-spec : {M : Type 1} → statement M
 beside-size-spec =

@@ -22,67 +22,118 @@ abbrev μ-loop : tie.MeasureT-loop
 
 loop-holds : tie.Need-loop-holds Inv-loop μ-loop
 loop-holds c =
-    (counting-start _ _ (c .before .before .before .pre .1), tally-start _)
+    let start : tie.Start Inv-loop μ-loop = search in
+    (counting-start _ _ (start .pre .1), tally-start _)
 
 mul-i : tie.Need-mul-i Inv-loop μ-loop
 mul-i c =
-    omega (arith, c .loop-test .taken, c .before .before .before .before .before .pre .0 .1 .few)
+    let start : tie.Start Inv-loop μ-loop = search in
+    omega (arith, c .loop-test .taken, start .pre .0 .1 .few)
 
 shared-slice-read-i : tie.Need-shared-slice-read-i Inv-loop μ-loop
 shared-slice-read-i c =
-    omega (arith, c .before .loop-test .taken, c .before .before .before .before .before .before .pre .0 .1 .few, c .before .before .before .before .before .before .pre .0 .1 .starts-size)
+    let start : tie.Start Inv-loop μ-loop = search in
+    let loop-test-taken = (let p : tie.In-loop Inv-loop μ-loop = search in p .loop-test .taken) in
+    omega (arith, loop-test-taken, start .pre .0 .1 .few, start .pre .0 .1 .starts-size)
 
 mul-p : tie.Need-mul-p Inv-loop μ-loop
 mul-p c =
-    omega (arith, c .before .before .before .before .before .before .pre .0 .1 .index-small (c .before .before .loop .f) (c .before .loop-test .taken))
+    let start : tie.Start Inv-loop μ-loop = search in
+    let loop-f = (let p : tie.At-loop Inv-loop μ-loop = search in p .loop .f) in
+    let loop-test-taken = (let p : tie.In-loop Inv-loop μ-loop = search in p .loop-test .taken) in
+    omega (arith, start .pre .0 .1 .index-small loop-f loop-test-taken)
 
 shared-slice-read-p : tie.Need-shared-slice-read-p Inv-loop μ-loop
 shared-slice-read-p c =
-    omega (arith, c .before .before .before .before .before .before .before .pre .0 .1 .index-small (c .before .before .before .loop .f) (c .before .before .loop-test .taken), c .before .before .before .before .before .before .before .pre .0 .1 .order-size)
+    let start : tie.Start Inv-loop μ-loop = search in
+    let loop-f = (let p : tie.At-loop Inv-loop μ-loop = search in p .loop .f) in
+    let loop-test-taken = (let p : tie.In-loop Inv-loop μ-loop = search in p .loop-test .taken) in
+    omega (arith, start .pre .0 .1 .index-small loop-f loop-test-taken, start .pre .0 .1 .order-size)
 
 add-f : tie.Need-add-f Inv-loop μ-loop
 add-f c =
-    omega (arith, c .before .before .loop-test .taken, c .before .before .before .before .before .before .before .pre .0 .1 .few)
+    let start : tie.Start Inv-loop μ-loop = search in
+    let loop-test-taken = (let p : tie.In-loop Inv-loop μ-loop = search in p .loop-test .taken) in
+    omega (arith, loop-test-taken, start .pre .0 .1 .few)
 
 critical-with-requires : tie.Need-critical-with-requires Inv-loop μ-loop
 critical-with-requires c κs =
-    (c .before .before .before .before .before .before .before .pre .0 .0, c .before .before .before .before .before .before .before .pre .0 .1 .place-below (c .before .before .before .loop .f) (c .before .before .loop-test .taken), c .before .before .before .before .before .before .before .pre .0 .2)
+    let start : tie.Start Inv-loop μ-loop = search in
+    let loop-f = (let p : tie.At-loop Inv-loop μ-loop = search in p .loop .f) in
+    let loop-test-taken = (let p : tie.In-loop Inv-loop μ-loop = search in p .loop-test .taken) in
+    (start .pre .0 .0, start .pre .0 .1 .place-below loop-f loop-test-taken, start .pre .0 .2)
 
 loop-less : tie.Need-loop-less Inv-loop μ-loop
 loop-less c =
-    omega (arith, c .before .before .before .before .loop-test .taken)
+    let loop-test-taken = (let p : tie.In-loop Inv-loop μ-loop = search in p .loop-test .taken) in
+    omega (arith, loop-test-taken)
 
 loop-again : tie.Need-loop-again Inv-loop μ-loop
 loop-again c =
-    (counting-skip ((c .before .before .before .before .before .loop .inv) .0) (c .before .before .before .before .loop-test .taken) (part2-none (c .before .before .before .before .before .before .before .before .before .args .block .now) (c .before .before .before .before .before .before .before .before .before .args .to) (c .before .before .before .before .before .before .before .before .before .args .order .now) (c .before .before .before .before .before .before .before .before .before .args .starts .now) (c .before .before .before .before .before .loop .f) (said-no (c .before .critical-with .ensures) (c .if1 .taken))), (c .before .before .before .before .before .loop .inv) .1 ∙ sym (tally-no (in-part2 (c .before .before .before .before .before .before .before .before .before .args .block .now) (c .before .before .before .before .before .before .before .before .before .args .to) (c .before .before .before .before .before .before .before .before .before .args .order .now) (c .before .before .before .before .before .before .before .before .before .args .starts .now)) (c .before .before .before .before .before .loop .f) (said-no (c .before .critical-with .ensures) (c .if1 .taken))))
+    let start : tie.Start Inv-loop μ-loop = search in
+    let loop-f = (let p : tie.At-loop Inv-loop μ-loop = search in p .loop .f) in
+    let loop-inv = (let p : tie.At-loop Inv-loop μ-loop = search in p .loop .inv) in
+    let loop-test-taken = (let p : tie.In-loop Inv-loop μ-loop = search in p .loop-test .taken) in
+    let critical-with-ensures = (let p : tie.After-critical-with Inv-loop μ-loop = search in p .critical-with .ensures) in
+    (counting-skip (loop-inv .0) loop-test-taken (part2-none (start .args .block .now) (start .args .to) (start .args .order .now) (start .args .starts .now) loop-f (said-no critical-with-ensures (c .if1 .taken))), loop-inv .1 ∙ sym (tally-no (in-part2 (start .args .block .now) (start .args .to) (start .args .order .now) (start .args .starts .now)) loop-f (said-no critical-with-ensures (c .if1 .taken))))
 
 add-entries : tie.Need-add-entries Inv-loop μ-loop
 add-entries c =
-    omega (arith, (c .before .before .before .before .before .loop .inv) .1, tally-le (in-part2 (c .before .before .before .before .before .before .before .before .before .args .block .now) (c .before .before .before .before .before .before .before .before .before .args .to) (c .before .before .before .before .before .before .before .before .before .args .order .now) (c .before .before .before .before .before .before .before .before .before .args .starts .now)) (c .before .before .before .before .before .loop .f), c .before .before .before .before .loop-test .taken, c .before .before .before .before .before .before .before .before .before .pre .0 .1 .few)
+    let start : tie.Start Inv-loop μ-loop = search in
+    let loop-f = (let p : tie.At-loop Inv-loop μ-loop = search in p .loop .f) in
+    let loop-inv = (let p : tie.At-loop Inv-loop μ-loop = search in p .loop .inv) in
+    let loop-test-taken = (let p : tie.In-loop Inv-loop μ-loop = search in p .loop-test .taken) in
+    omega (arith, loop-inv .1, tally-le (in-part2 (start .args .block .now) (start .args .to) (start .args .order .now) (start .args .starts .now)) loop-f, loop-test-taken, start .pre .0 .1 .few)
 
 field-requires : tie.Need-field-requires Inv-loop μ-loop
 field-requires c κs =
-    (c .before .before .before .before .before .before .before .before .before .pre .0 .1 .place-below (c .before .before .before .before .before .loop .f) (c .before .before .before .before .loop-test .taken), omega arith, c .before .before .before .before .before .before .before .before .before .pre .0 .0)
+    let start : tie.Start Inv-loop μ-loop = search in
+    let loop-f = (let p : tie.At-loop Inv-loop μ-loop = search in p .loop .f) in
+    let loop-test-taken = (let p : tie.In-loop Inv-loop μ-loop = search in p .loop-test .taken) in
+    (start .pre .0 .1 .place-below loop-f loop-test-taken, omega arith, start .pre .0 .0)
 
 part2-size-requires : tie.Need-part2-size-requires Inv-loop μ-loop
 part2-size-requires c κs =
-    omega (arith, c .before .before .before .before .before .before .before .before .before .before .pre .0 .1 .index-small (c .before .before .before .before .before .before .loop .f) (c .before .before .before .before .before .loop-test .taken))
+    let start : tie.Start Inv-loop μ-loop = search in
+    let loop-f = (let p : tie.At-loop Inv-loop μ-loop = search in p .loop .f) in
+    let loop-test-taken = (let p : tie.In-loop Inv-loop μ-loop = search in p .loop-test .taken) in
+    omega (arith, start .pre .0 .1 .index-small loop-f loop-test-taken)
 
 add-bytes : tie.Need-add-bytes Inv-loop μ-loop
 add-bytes c =
-    omega (arith, c .part2-size .ensures, ap length (part2-one (c .before .before .before .before .before .before .before .before .before .before .before .args .block .now) (c .before .before .before .before .before .before .before .before .before .before .before .args .to) (c .before .before .before .before .before .before .before .before .before .before .before .args .order .now) (c .before .before .before .before .before .before .before .before .before .before .before .args .starts .now) (c .before .before .before .before .before .before .before .loop .f) (c .before .field .result) (said-yes (c .before .before .before .critical-with .ensures) (c .before .before .if1 .left)) (c .before .field .ensures)), counting-small ((c .before .before .before .before .before .before .before .loop .inv) .0) (c .before .before .before .before .before .before .loop-test .taken))
+    let start : tie.Start Inv-loop μ-loop = search in
+    let loop-f = (let p : tie.At-loop Inv-loop μ-loop = search in p .loop .f) in
+    let loop-inv = (let p : tie.At-loop Inv-loop μ-loop = search in p .loop .inv) in
+    let loop-test-taken = (let p : tie.In-loop Inv-loop μ-loop = search in p .loop-test .taken) in
+    let critical-with-ensures = (let p : tie.After-critical-with Inv-loop μ-loop = search in p .critical-with .ensures) in
+    let if1-left = (let p : tie.Else1 Inv-loop μ-loop = search in p .if1 .left) in
+    let field-ensures = (let p : tie.After-field Inv-loop μ-loop = search in p .field .ensures) in
+    let field-result = (let p : tie.After-field Inv-loop μ-loop = search in p .field .result) in
+    omega (arith, c .part2-size .ensures, ap length (part2-one (start .args .block .now) (start .args .to) (start .args .order .now) (start .args .starts .now) loop-f field-result (said-yes critical-with-ensures if1-left) field-ensures), counting-small (loop-inv .0) loop-test-taken)
 
 loop-less-2 : tie.Need-loop-less-2 Inv-loop μ-loop
 loop-less-2 c =
-    omega (arith, c .before .before .before .before .before .before .loop-test .taken)
+    let loop-test-taken = (let p : tie.In-loop Inv-loop μ-loop = search in p .loop-test .taken) in
+    omega (arith, loop-test-taken)
 
 loop-again-2 : tie.Need-loop-again-2 Inv-loop μ-loop
 loop-again-2 c =
-    (counting-step ((c .before .before .before .before .before .before .before .loop .inv) .0) (c .before .before .before .before .before .before .loop-test .taken) (c .part2-size .ensures ∙ sym (ap length (part2-one (c .before .before .before .before .before .before .before .before .before .before .before .args .block .now) (c .before .before .before .before .before .before .before .before .before .before .before .args .to) (c .before .before .before .before .before .before .before .before .before .before .before .args .order .now) (c .before .before .before .before .before .before .before .before .before .before .before .args .starts .now) (c .before .before .before .before .before .before .before .loop .f) (c .before .field .result) (said-yes (c .before .before .before .critical-with .ensures) (c .before .before .if1 .left)) (c .before .field .ensures)))), omega (arith, (c .before .before .before .before .before .before .before .loop .inv) .1, tally-yes (in-part2 (c .before .before .before .before .before .before .before .before .before .before .before .args .block .now) (c .before .before .before .before .before .before .before .before .before .before .before .args .to) (c .before .before .before .before .before .before .before .before .before .before .before .args .order .now) (c .before .before .before .before .before .before .before .before .before .before .before .args .starts .now)) (c .before .before .before .before .before .before .before .loop .f) (said-yes (c .before .before .before .critical-with .ensures) (c .before .before .if1 .left))))
+    let start : tie.Start Inv-loop μ-loop = search in
+    let loop-f = (let p : tie.At-loop Inv-loop μ-loop = search in p .loop .f) in
+    let loop-inv = (let p : tie.At-loop Inv-loop μ-loop = search in p .loop .inv) in
+    let loop-test-taken = (let p : tie.In-loop Inv-loop μ-loop = search in p .loop-test .taken) in
+    let critical-with-ensures = (let p : tie.After-critical-with Inv-loop μ-loop = search in p .critical-with .ensures) in
+    let if1-left = (let p : tie.Else1 Inv-loop μ-loop = search in p .if1 .left) in
+    let field-ensures = (let p : tie.After-field Inv-loop μ-loop = search in p .field .ensures) in
+    let field-result = (let p : tie.After-field Inv-loop μ-loop = search in p .field .result) in
+    (counting-step (loop-inv .0) loop-test-taken (c .part2-size .ensures ∙ sym (ap length (part2-one (start .args .block .now) (start .args .to) (start .args .order .now) (start .args .starts .now) loop-f field-result (said-yes critical-with-ensures if1-left) field-ensures))), omega (arith, loop-inv .1, tally-yes (in-part2 (start .args .block .now) (start .args .to) (start .args .order .now) (start .args .starts .now)) loop-f (said-yes critical-with-ensures if1-left)))
 
 returns : tie.Need-returns Inv-loop μ-loop
 returns c =
-    (let e : c .before .loop .f ≡ c .before .before .before .before .before .args .count = omega (arith, c .loop-test .left, (c .before .loop .inv) .0 .k-le) in (c .before .loop .inv) .1 ∙ ap (tally (in-part2 (c .before .before .before .before .before .args .block .now) (c .before .before .before .before .before .args .to) (c .before .before .before .before .before .args .order .now) (c .before .before .before .before .before .args .starts .now))) e, counting-end ((c .before .loop .inv) .0) (omega (arith, c .loop-test .left)))
+    let start : tie.Start Inv-loop μ-loop = search in
+    let loop-f = (let p : tie.At-loop Inv-loop μ-loop = search in p .loop .f) in
+    let loop-inv = (let p : tie.At-loop Inv-loop μ-loop = search in p .loop .inv) in
+    (let e : loop-f ≡ start .args .count = omega (arith, c .loop-test .left, loop-inv .0 .k-le) in loop-inv .1 ∙ ap (tally (in-part2 (start .args .block .now) (start .args .to) (start .args .order .now) (start .args .starts .now))) e, counting-end (loop-inv .0) (omega (arith, c .loop-test .left)))
 
 pub part2-tally-spec : {M : Type 1} → statement M
 part2-tally-spec =

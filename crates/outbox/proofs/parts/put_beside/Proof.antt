@@ -9,30 +9,45 @@ use Rattle.outbox.proofs.parts.put_beside.Tie as tie
 
 mul-p : tie.Need-mul-p
 mul-p c =
-    omega (arith, c .before .before .before .pre .0 .0 .few, c .before .before .before .pre .0 .1)
+    let start : tie.Start = search in
+    omega (arith, start .pre .0 .0 .few, start .pre .0 .1)
 
 shared-slice-read-p : tie.Need-shared-slice-read-p
 shared-slice-read-p c =
-    omega (arith, c .before .before .before .before .pre .0 .0 .few, c .before .before .before .before .pre .0 .0 .order-size, c .before .before .before .before .pre .0 .1)
+    let start : tie.Start = search in
+    omega (arith, start .pre .0 .0 .few, start .pre .0 .0 .order-size, start .pre .0 .1)
 
 field-requires : tie.Need-field-requires
 field-requires c κs =
-    (c .before .before .before .before .pre .0 .0 .below (c .before .before .before .before .args .start) (omega (arith, c .before .before .before .before .pre .0 .1)), omega arith, c .before .before .before .before .pre .0 .0 .memory)
+    let start : tie.Start = search in
+    (start .pre .0 .0 .below (start .args .start) (omega (arith, start .pre .0 .1)), omega arith, start .pre .0 .0 .memory)
 
 put-part4-requires : tie.Need-put-part4-requires
 put-part4-requires c κs =
-    (omega (arith, c .before .before .before .before .before .before .pre .0 .0 .few), omega (arith, c .before .field .ensures, c .before .before .before .before .before .before .pre .0 .0 .other-small (c .before .before .before .before .before .before .args .start) (omega (arith, c .before .before .before .before .before .before .pre .0 .1))), omega (arith, c .before .before .before .before .before .before .pre .1, beside-length (c .before .before .before .before .before .before .args .block .now) (c .before .before .before .before .before .before .args .order .now) (c .before .before .before .before .before .before .args .start) (c .before .before .before .before .before .before .args .size) (c .before .field .result) (c .before .field .ensures)))
+    let start : tie.Start = search in
+    let field-ensures = (let p : tie.After-field = search in p .field .ensures) in
+    let field-result = (let p : tie.After-field = search in p .field .result) in
+    (omega (arith, start .pre .0 .0 .few), omega (arith, field-ensures, start .pre .0 .0 .other-small (start .args .start) (omega (arith, start .pre .0 .1))), omega (arith, start .pre .1, beside-length (start .args .block .now) (start .args .order .now) (start .args .start) (start .args .size) field-result field-ensures))
 
 put-labels-requires : tie.Need-put-labels-requires
 put-labels-requires c κs =
-    (c .before .before .before .before .before .before .before .before .before .before .pre .0 .0, room-after (c .before .before .before .put-part4 .ensures) _ (omega (arith, c .before .before .before .before .before .before .before .before .before .before .pre .1, beside-length (c .before .before .before .before .before .before .before .before .before .before .args .block .now) (c .before .before .before .before .before .before .before .before .before .before .args .order .now) (c .before .before .before .before .before .before .before .before .before .before .args .start) (c .before .before .before .before .before .before .before .before .before .before .args .size) (c .before .before .before .before .before .field .result) (c .before .before .before .before .before .field .ensures))))
+    let start : tie.Start = search in
+    let field-ensures = (let p : tie.After-field = search in p .field .ensures) in
+    let field-result = (let p : tie.After-field = search in p .field .result) in
+    let put-part4-ensures = (let p : tie.After-put-part4 = search in p .put-part4 .ensures) in
+    (start .pre .0 .0, room-after put-part4-ensures _ (omega (arith, start .pre .1, beside-length (start .args .block .now) (start .args .order .now) (start .args .start) (start .args .size) field-result field-ensures)))
 
 same-length : tie.Need-same-length
 same-length c = search needs
 
 returns : tie.Need-returns
 returns c =
-    stored-as (beside-of (c .before .before .before .before .before .before .before .before .before .before .before .before .before .args .block .now) (c .before .before .before .before .before .before .before .before .before .before .before .before .before .args .order .now) (c .before .before .before .before .before .before .before .before .before .before .before .before .before .args .start) (c .before .before .before .before .before .before .before .before .before .before .before .before .before .args .size) (c .before .before .before .before .before .before .before .before .field .result) (c .before .before .before .before .before .before .before .before .field .ensures)) (stored-then (c .before .before .before .before .before .before .put-part4 .ensures) (c .before .before .put-labels .ensures))
+    let start : tie.Start = search in
+    let field-ensures = (let p : tie.After-field = search in p .field .ensures) in
+    let field-result = (let p : tie.After-field = search in p .field .result) in
+    let put-part4-ensures = (let p : tie.After-put-part4 = search in p .put-part4 .ensures) in
+    let put-labels-ensures = (let p : tie.After-put-labels = search in p .put-labels .ensures) in
+    stored-as (beside-of (start .args .block .now) (start .args .order .now) (start .args .start) (start .args .size) field-result field-ensures) (stored-then put-part4-ensures put-labels-ensures)
 
 pub put-beside-spec : {M : Type 1} → statement M
 put-beside-spec =

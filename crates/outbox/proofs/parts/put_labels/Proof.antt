@@ -22,7 +22,8 @@ abbrev μ-loop : tie.MeasureT-loop
 
 loop-holds : tie.Need-loop-holds Inv-loop μ-loop
 loop-holds c =
-    running-start _ _ _ _ (c .before .before .before .pre .1)
+    let start : tie.Start Inv-loop μ-loop = search in
+    running-start _ _ _ _ (start .pre .1)
 
 add-p : tie.Need-add-p Inv-loop μ-loop
 add-p c = search needs
@@ -35,30 +36,47 @@ shared-slice-read-p c = search needs
 
 field-requires : tie.Need-field-requires Inv-loop μ-loop
 field-requires c κs =
-    (c .before .before .before .before .before .before .before .pre .0 .below (c .before .before .before .before .before .before .before .args .start + c .before .before .before .loop .k) (omega (arith, c .before .before .loop-test .taken)), omega arith, c .before .before .before .before .before .before .before .pre .0 .memory)
+    let start : tie.Start Inv-loop μ-loop = search in
+    let loop-k = (let p : tie.At-loop Inv-loop μ-loop = search in p .loop .k) in
+    let loop-test-taken = (let p : tie.In-loop Inv-loop μ-loop = search in p .loop-test .taken) in
+    (start .pre .0 .below (start .args .start + loop-k) (omega (arith, loop-test-taken)), omega arith, start .pre .0 .memory)
 
 put-label-requires : tie.Need-put-label-requires Inv-loop μ-loop
 put-label-requires c κs =
-    omega (arith, ap length (label-is (c .before .before .before .before .before .before .before .before .args .block .now) (c .before .before .before .before .before .before .before .before .args .order .now) (c .before .before .before .before .before .before .before .before .args .start) (c .before .before .before .before .loop .k) (c .field .result) (c .field .ensures)), running-space (c .before .before .before .before .loop .inv) (c .before .before .before .loop-test .taken))
+    let start : tie.Start Inv-loop μ-loop = search in
+    let loop-inv = (let p : tie.At-loop Inv-loop μ-loop = search in p .loop .inv) in
+    let loop-k = (let p : tie.At-loop Inv-loop μ-loop = search in p .loop .k) in
+    let loop-test-taken = (let p : tie.In-loop Inv-loop μ-loop = search in p .loop-test .taken) in
+    omega (arith, ap length (label-is (start .args .block .now) (start .args .order .now) (start .args .start) loop-k (c .field .result) (c .field .ensures)), running-space loop-inv loop-test-taken)
 
 add-k : tie.Need-add-k Inv-loop μ-loop
 add-k c = search needs
 
 loop-less : tie.Need-loop-less Inv-loop μ-loop
 loop-less c =
-    omega (arith, c .before .before .before .before .before .before .loop-test .taken)
+    let loop-test-taken = (let p : tie.In-loop Inv-loop μ-loop = search in p .loop-test .taken) in
+    omega (arith, loop-test-taken)
 
 loop-again : tie.Need-loop-again Inv-loop μ-loop
 loop-again c =
-    running-step (c .before .before .before .before .before .before .before .loop .inv) (c .before .before .before .before .before .before .loop-test .taken) (stored-as (label-is (c .before .before .before .before .before .before .before .before .before .before .before .args .block .now) (c .before .before .before .before .before .before .before .before .before .before .before .args .order .now) (c .before .before .before .before .before .before .before .before .before .before .before .args .start) (c .before .before .before .before .before .before .before .loop .k) (c .before .before .before .field .result) (c .before .before .before .field .ensures)) (c .before .before .put-label .ensures))
+    let start : tie.Start Inv-loop μ-loop = search in
+    let loop-inv = (let p : tie.At-loop Inv-loop μ-loop = search in p .loop .inv) in
+    let loop-k = (let p : tie.At-loop Inv-loop μ-loop = search in p .loop .k) in
+    let loop-test-taken = (let p : tie.In-loop Inv-loop μ-loop = search in p .loop-test .taken) in
+    let field-ensures = (let p : tie.After-field Inv-loop μ-loop = search in p .field .ensures) in
+    let field-result = (let p : tie.After-field Inv-loop μ-loop = search in p .field .result) in
+    let put-label-ensures = (let p : tie.After-put-label Inv-loop μ-loop = search in p .put-label .ensures) in
+    running-step loop-inv loop-test-taken (stored-as (label-is (start .args .block .now) (start .args .order .now) (start .args .start) loop-k field-result field-ensures) put-label-ensures)
 
 same-length : tie.Need-same-length Inv-loop μ-loop
 same-length c =
-    running-size (c .before .loop .inv)
+    let loop-inv = (let p : tie.At-loop Inv-loop μ-loop = search in p .loop .inv) in
+    running-size loop-inv
 
 returns : tie.Need-returns Inv-loop μ-loop
 returns c =
-    running-end (c .before .loop .inv) (omega (arith, c .loop-test .left))
+    let loop-inv = (let p : tie.At-loop Inv-loop μ-loop = search in p .loop .inv) in
+    running-end loop-inv (omega (arith, c .loop-test .left))
 
 pub put-labels-spec : {M : Type 1} → statement M
 put-labels-spec =

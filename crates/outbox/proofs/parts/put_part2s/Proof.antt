@@ -22,63 +22,105 @@ abbrev μ-loop : tie.MeasureT-loop
 
 loop-holds : tie.Need-loop-holds Inv-loop μ-loop
 loop-holds c =
-    running-start _ _ _ _ (c .before .before .before .before .pre .1)
+    let start : tie.Start Inv-loop μ-loop = search in
+    running-start _ _ _ _ (start .pre .1)
 
 mul-i : tie.Need-mul-i Inv-loop μ-loop
 mul-i c =
-    omega (arith, c .loop-test .taken, c .before .before .before .before .before .before .pre .0 .1 .few)
+    let start : tie.Start Inv-loop μ-loop = search in
+    omega (arith, c .loop-test .taken, start .pre .0 .1 .few)
 
 shared-slice-read-i : tie.Need-shared-slice-read-i Inv-loop μ-loop
 shared-slice-read-i c =
-    omega (arith, c .before .loop-test .taken, c .before .before .before .before .before .before .before .pre .0 .1 .few, c .before .before .before .before .before .before .before .pre .0 .1 .starts-size)
+    let start : tie.Start Inv-loop μ-loop = search in
+    let loop-test-taken = (let p : tie.In-loop Inv-loop μ-loop = search in p .loop-test .taken) in
+    omega (arith, loop-test-taken, start .pre .0 .1 .few, start .pre .0 .1 .starts-size)
 
 mul-p : tie.Need-mul-p Inv-loop μ-loop
 mul-p c =
-    omega (arith, c .before .before .before .before .before .before .before .pre .0 .1 .index-small (c .before .before .loop .f) (c .before .loop-test .taken))
+    let start : tie.Start Inv-loop μ-loop = search in
+    let loop-f = (let p : tie.At-loop Inv-loop μ-loop = search in p .loop .f) in
+    let loop-test-taken = (let p : tie.In-loop Inv-loop μ-loop = search in p .loop-test .taken) in
+    omega (arith, start .pre .0 .1 .index-small loop-f loop-test-taken)
 
 shared-slice-read-p : tie.Need-shared-slice-read-p Inv-loop μ-loop
 shared-slice-read-p c =
-    omega (arith, c .before .before .before .before .before .before .before .before .pre .0 .1 .index-small (c .before .before .before .loop .f) (c .before .before .loop-test .taken), c .before .before .before .before .before .before .before .before .pre .0 .1 .order-size)
+    let start : tie.Start Inv-loop μ-loop = search in
+    let loop-f = (let p : tie.At-loop Inv-loop μ-loop = search in p .loop .f) in
+    let loop-test-taken = (let p : tie.In-loop Inv-loop μ-loop = search in p .loop-test .taken) in
+    omega (arith, start .pre .0 .1 .index-small loop-f loop-test-taken, start .pre .0 .1 .order-size)
 
 add-f : tie.Need-add-f Inv-loop μ-loop
 add-f c =
-    omega (arith, c .before .before .loop-test .taken, c .before .before .before .before .before .before .before .before .pre .0 .1 .few)
+    let start : tie.Start Inv-loop μ-loop = search in
+    let loop-test-taken = (let p : tie.In-loop Inv-loop μ-loop = search in p .loop-test .taken) in
+    omega (arith, loop-test-taken, start .pre .0 .1 .few)
 
 critical-with-requires : tie.Need-critical-with-requires Inv-loop μ-loop
 critical-with-requires c κs =
-    (c .before .before .before .before .before .before .before .before .pre .0 .0, c .before .before .before .before .before .before .before .before .pre .0 .1 .place-below (c .before .before .before .loop .f) (c .before .before .loop-test .taken), c .before .before .before .before .before .before .before .before .pre .0 .2)
+    let start : tie.Start Inv-loop μ-loop = search in
+    let loop-f = (let p : tie.At-loop Inv-loop μ-loop = search in p .loop .f) in
+    let loop-test-taken = (let p : tie.In-loop Inv-loop μ-loop = search in p .loop-test .taken) in
+    (start .pre .0 .0, start .pre .0 .1 .place-below loop-f loop-test-taken, start .pre .0 .2)
 
 loop-less : tie.Need-loop-less Inv-loop μ-loop
 loop-less c =
-    omega (arith, c .before .before .before .before .loop-test .taken)
+    let loop-test-taken = (let p : tie.In-loop Inv-loop μ-loop = search in p .loop-test .taken) in
+    omega (arith, loop-test-taken)
 
 loop-again : tie.Need-loop-again Inv-loop μ-loop
 loop-again c =
-    running-skip (c .before .before .before .before .before .loop .inv) (c .before .before .before .before .loop-test .taken) (part2-none (c .before .before .before .before .before .before .before .before .before .before .args .block .now) (c .before .before .before .before .before .before .before .before .before .before .args .to) (c .before .before .before .before .before .before .before .before .before .before .args .order .now) (c .before .before .before .before .before .before .before .before .before .before .args .starts .now) (c .before .before .before .before .before .loop .f) (said-no (c .before .critical-with .ensures) (c .if1 .taken)))
+    let start : tie.Start Inv-loop μ-loop = search in
+    let loop-f = (let p : tie.At-loop Inv-loop μ-loop = search in p .loop .f) in
+    let loop-inv = (let p : tie.At-loop Inv-loop μ-loop = search in p .loop .inv) in
+    let loop-test-taken = (let p : tie.In-loop Inv-loop μ-loop = search in p .loop-test .taken) in
+    let critical-with-ensures = (let p : tie.After-critical-with Inv-loop μ-loop = search in p .critical-with .ensures) in
+    running-skip loop-inv loop-test-taken (part2-none (start .args .block .now) (start .args .to) (start .args .order .now) (start .args .starts .now) loop-f (said-no critical-with-ensures (c .if1 .taken)))
 
 field-requires : tie.Need-field-requires Inv-loop μ-loop
 field-requires c κs =
-    (c .before .before .before .before .before .before .before .before .before .before .before .pre .0 .1 .place-below (c .before .before .before .before .before .before .loop .f) (c .before .before .before .before .before .loop-test .taken), omega arith, c .before .before .before .before .before .before .before .before .before .before .before .pre .0 .0)
+    let start : tie.Start Inv-loop μ-loop = search in
+    let loop-f = (let p : tie.At-loop Inv-loop μ-loop = search in p .loop .f) in
+    let loop-test-taken = (let p : tie.In-loop Inv-loop μ-loop = search in p .loop-test .taken) in
+    (start .pre .0 .1 .place-below loop-f loop-test-taken, omega arith, start .pre .0 .0)
 
 put-part2-requires : tie.Need-put-part2-requires Inv-loop μ-loop
 put-part2-requires c κs =
-    (omega (arith, c .before .before .before .before .before .before .before .before .before .before .before .before .pre .0 .1 .index-small (c .before .before .before .before .before .before .before .loop .f) (c .before .before .before .before .before .before .loop-test .taken)), omega (arith, ap length (part2-one (c .before .before .before .before .before .before .before .before .before .before .before .before .args .block .now) (c .before .before .before .before .before .before .before .before .before .before .before .before .args .to) (c .before .before .before .before .before .before .before .before .before .before .before .before .args .order .now) (c .before .before .before .before .before .before .before .before .before .before .before .before .args .starts .now) (c .before .before .before .before .before .before .before .loop .f) (c .field .result) (said-yes (c .before .before .before .critical-with .ensures) (c .before .before .if1 .left)) (c .field .ensures)), running-space (c .before .before .before .before .before .before .before .loop .inv) (c .before .before .before .before .before .before .loop-test .taken)))
+    let start : tie.Start Inv-loop μ-loop = search in
+    let loop-f = (let p : tie.At-loop Inv-loop μ-loop = search in p .loop .f) in
+    let loop-inv = (let p : tie.At-loop Inv-loop μ-loop = search in p .loop .inv) in
+    let loop-test-taken = (let p : tie.In-loop Inv-loop μ-loop = search in p .loop-test .taken) in
+    let critical-with-ensures = (let p : tie.After-critical-with Inv-loop μ-loop = search in p .critical-with .ensures) in
+    let if1-left = (let p : tie.Else1 Inv-loop μ-loop = search in p .if1 .left) in
+    (omega (arith, start .pre .0 .1 .index-small loop-f loop-test-taken), omega (arith, ap length (part2-one (start .args .block .now) (start .args .to) (start .args .order .now) (start .args .starts .now) loop-f (c .field .result) (said-yes critical-with-ensures if1-left) (c .field .ensures)), running-space loop-inv loop-test-taken))
 
 loop-less-2 : tie.Need-loop-less-2 Inv-loop μ-loop
 loop-less-2 c =
-    omega (arith, c .before .before .before .before .before .before .before .before .before .loop-test .taken)
+    let loop-test-taken = (let p : tie.In-loop Inv-loop μ-loop = search in p .loop-test .taken) in
+    omega (arith, loop-test-taken)
 
 loop-again-2 : tie.Need-loop-again-2 Inv-loop μ-loop
 loop-again-2 c =
-    running-step (c .before .before .before .before .before .before .before .before .before .before .loop .inv) (c .before .before .before .before .before .before .before .before .before .loop-test .taken) (stored-as (part2-one (c .before .before .before .before .before .before .before .before .before .before .before .before .before .before .before .args .block .now) (c .before .before .before .before .before .before .before .before .before .before .before .before .before .before .before .args .to) (c .before .before .before .before .before .before .before .before .before .before .before .before .before .before .before .args .order .now) (c .before .before .before .before .before .before .before .before .before .before .before .before .before .before .before .args .starts .now) (c .before .before .before .before .before .before .before .before .before .before .loop .f) (c .before .before .before .field .result) (said-yes (c .before .before .before .before .before .before .critical-with .ensures) (c .before .before .before .before .before .if1 .left)) (c .before .before .before .field .ensures)) (c .before .before .put-part2 .ensures))
+    let start : tie.Start Inv-loop μ-loop = search in
+    let loop-f = (let p : tie.At-loop Inv-loop μ-loop = search in p .loop .f) in
+    let loop-inv = (let p : tie.At-loop Inv-loop μ-loop = search in p .loop .inv) in
+    let loop-test-taken = (let p : tie.In-loop Inv-loop μ-loop = search in p .loop-test .taken) in
+    let critical-with-ensures = (let p : tie.After-critical-with Inv-loop μ-loop = search in p .critical-with .ensures) in
+    let if1-left = (let p : tie.Else1 Inv-loop μ-loop = search in p .if1 .left) in
+    let field-ensures = (let p : tie.After-field Inv-loop μ-loop = search in p .field .ensures) in
+    let field-result = (let p : tie.After-field Inv-loop μ-loop = search in p .field .result) in
+    let put-part2-ensures = (let p : tie.After-put-part2 Inv-loop μ-loop = search in p .put-part2 .ensures) in
+    running-step loop-inv loop-test-taken (stored-as (part2-one (start .args .block .now) (start .args .to) (start .args .order .now) (start .args .starts .now) loop-f field-result (said-yes critical-with-ensures if1-left) field-ensures) put-part2-ensures)
 
 same-length : tie.Need-same-length Inv-loop μ-loop
 same-length c =
-    running-size (c .before .loop .inv)
+    let loop-inv = (let p : tie.At-loop Inv-loop μ-loop = search in p .loop .inv) in
+    running-size loop-inv
 
 returns : tie.Need-returns Inv-loop μ-loop
 returns c =
-    running-end (c .before .loop .inv) (omega (arith, c .loop-test .left))
+    let loop-inv = (let p : tie.At-loop Inv-loop μ-loop = search in p .loop .inv) in
+    running-end loop-inv (omega (arith, c .loop-test .left))
 
 pub put-part2s-spec : {M : Type 1} → statement M
 put-part2s-spec =

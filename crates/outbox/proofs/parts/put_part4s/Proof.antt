@@ -22,67 +22,115 @@ abbrev μ-loop : tie.MeasureT-loop
 
 loop-holds : tie.Need-loop-holds Inv-loop μ-loop
 loop-holds c =
-    running-start _ _ _ _ (c .before .before .before .before .pre .1)
+    let start : tie.Start Inv-loop μ-loop = search in
+    running-start _ _ _ _ (start .pre .1)
 
 mul-start : tie.Need-mul-start Inv-loop μ-loop
 mul-start c =
-    omega (arith, c .loop-test .taken, c .before .before .before .before .before .before .pre .0 .1 .few)
+    let start : tie.Start Inv-loop μ-loop = search in
+    omega (arith, c .loop-test .taken, start .pre .0 .1 .few)
 
 shared-slice-read-start : tie.Need-shared-slice-read-start Inv-loop μ-loop
 shared-slice-read-start c =
-    omega (arith, c .before .loop-test .taken, c .before .before .before .before .before .before .before .pre .0 .1 .few, c .before .before .before .before .before .before .before .pre .0 .1 .starts-size)
+    let start : tie.Start Inv-loop μ-loop = search in
+    let loop-test-taken = (let p : tie.In-loop Inv-loop μ-loop = search in p .loop-test .taken) in
+    omega (arith, loop-test-taken, start .pre .0 .1 .few, start .pre .0 .1 .starts-size)
 
 face-end-requires : tie.Need-face-end-requires Inv-loop μ-loop
 face-end-requires c κs =
-    (c .before .before .before .before .before .before .before .pre .0 .1 .starts-size, omega (arith, c .before .before .before .before .before .before .before .pre .0 .1 .few), (c .before .loop-test .taken))
+    let start : tie.Start Inv-loop μ-loop = search in
+    let loop-test-taken = (let p : tie.In-loop Inv-loop μ-loop = search in p .loop-test .taken) in
+    (start .pre .0 .1 .starts-size, omega (arith, start .pre .0 .1 .few), loop-test-taken)
 
 mul-p : tie.Need-mul-p Inv-loop μ-loop
 mul-p c =
-    omega (arith, c .before .before .before .before .before .before .before .before .pre .0 .1 .below (c .before .before .before .loop .f) (c .before .before .loop-test .taken), c .before .before .before .before .before .before .before .before .pre .0 .0 .few)
+    let start : tie.Start Inv-loop μ-loop = search in
+    let loop-f = (let p : tie.At-loop Inv-loop μ-loop = search in p .loop .f) in
+    let loop-test-taken = (let p : tie.In-loop Inv-loop μ-loop = search in p .loop-test .taken) in
+    omega (arith, start .pre .0 .1 .below loop-f loop-test-taken, start .pre .0 .0 .few)
 
 shared-slice-read-p : tie.Need-shared-slice-read-p Inv-loop μ-loop
 shared-slice-read-p c =
-    omega (arith, c .before .before .before .before .before .before .before .before .before .pre .0 .1 .below (c .before .before .before .before .loop .f) (c .before .before .before .loop-test .taken), c .before .before .before .before .before .before .before .before .before .pre .0 .0 .few, c .before .before .before .before .before .before .before .before .before .pre .0 .0 .order-size)
+    let start : tie.Start Inv-loop μ-loop = search in
+    let loop-f = (let p : tie.At-loop Inv-loop μ-loop = search in p .loop .f) in
+    let loop-test-taken = (let p : tie.In-loop Inv-loop μ-loop = search in p .loop-test .taken) in
+    omega (arith, start .pre .0 .1 .below loop-f loop-test-taken, start .pre .0 .0 .few, start .pre .0 .0 .order-size)
 
 add-f : tie.Need-add-f Inv-loop μ-loop
 add-f c =
-    omega (arith, c .before .before .before .loop-test .taken, c .before .before .before .before .before .before .before .before .before .pre .0 .1 .few)
+    let start : tie.Start Inv-loop μ-loop = search in
+    let loop-test-taken = (let p : tie.In-loop Inv-loop μ-loop = search in p .loop-test .taken) in
+    omega (arith, loop-test-taken, start .pre .0 .1 .few)
 
 critical-beside-requires : tie.Need-critical-beside-requires Inv-loop μ-loop
 critical-beside-requires c κs =
-    (c .before .before .before .before .before .before .before .before .before .pre .0 .0 .memory, c .before .before .before .before .before .before .before .before .before .pre .0 .0 .below (getD (c .before .before .before .before .before .before .before .before .before .args .starts .now) (c .before .before .before .before .loop .f) 0) (c .before .before .before .before .before .before .before .before .before .pre .0 .1 .below (c .before .before .before .before .loop .f) (c .before .before .before .loop-test .taken)), c .before .before .before .before .before .before .before .before .before .pre .0 .2)
+    let start : tie.Start Inv-loop μ-loop = search in
+    let loop-f = (let p : tie.At-loop Inv-loop μ-loop = search in p .loop .f) in
+    let loop-test-taken = (let p : tie.In-loop Inv-loop μ-loop = search in p .loop-test .taken) in
+    (start .pre .0 .0 .memory, start .pre .0 .0 .below (getD (start .args .starts .now) loop-f 0) (start .pre .0 .1 .below loop-f loop-test-taken), start .pre .0 .2)
 
 loop-less : tie.Need-loop-less Inv-loop μ-loop
 loop-less c =
-    omega (arith, c .before .before .before .before .before .loop-test .taken)
+    let loop-test-taken = (let p : tie.In-loop Inv-loop μ-loop = search in p .loop-test .taken) in
+    omega (arith, loop-test-taken)
 
 loop-again : tie.Need-loop-again Inv-loop μ-loop
 loop-again c =
-    running-skip (c .before .before .before .before .before .before .loop .inv) (c .before .before .before .before .before .loop-test .taken) (part4-none (c .before .before .before .before .before .before .before .before .before .before .before .args .block .now) (c .before .before .before .before .before .before .before .before .before .before .before .args .to) (c .before .before .before .before .before .before .before .before .before .before .before .args .order .now) (c .before .before .before .before .before .before .before .before .before .before .before .args .starts .now) (c .before .before .before .before .before .before .loop .f) (c .before .before .before .before .before .before .before .before .before .before .before .args .darts) (c .before .before .before .before .before .before .before .before .before .before .before .args .count) (said-no (c .before .critical-beside .ensures) (c .if1 .taken)))
+    let start : tie.Start Inv-loop μ-loop = search in
+    let loop-f = (let p : tie.At-loop Inv-loop μ-loop = search in p .loop .f) in
+    let loop-inv = (let p : tie.At-loop Inv-loop μ-loop = search in p .loop .inv) in
+    let loop-test-taken = (let p : tie.In-loop Inv-loop μ-loop = search in p .loop-test .taken) in
+    let critical-beside-ensures = (let p : tie.After-critical-beside Inv-loop μ-loop = search in p .critical-beside .ensures) in
+    running-skip loop-inv loop-test-taken (part4-none (start .args .block .now) (start .args .to) (start .args .order .now) (start .args .starts .now) loop-f (start .args .darts) (start .args .count) (said-no critical-beside-ensures (c .if1 .taken)))
 
 sub-put-beside : tie.Need-sub-put-beside Inv-loop μ-loop
 sub-put-beside c =
-    start-le (c .before .before .before .before .before .before .before .before .before .before .before .pre .0 .1) (c .before .before .before .before .before .before .loop .f) (c .before .before .before .face-end .result) (c .before .before .before .before .before .loop-test .taken) (c .before .before .before .face-end .ensures)
+    let start : tie.Start Inv-loop μ-loop = search in
+    let loop-f = (let p : tie.At-loop Inv-loop μ-loop = search in p .loop .f) in
+    let loop-test-taken = (let p : tie.In-loop Inv-loop μ-loop = search in p .loop-test .taken) in
+    let face-end-ensures = (let p : tie.After-face-end Inv-loop μ-loop = search in p .face-end .ensures) in
+    let face-end-result = (let p : tie.After-face-end Inv-loop μ-loop = search in p .face-end .result) in
+    start-le (start .pre .0 .1) loop-f face-end-result loop-test-taken face-end-ensures
 
 put-beside-requires : tie.Need-put-beside-requires Inv-loop μ-loop
 put-beside-requires c κs =
-    ((listed-part (c .before .before .before .before .before .before .before .before .before .before .before .before .pre .0 .0) _ (end-le (c .before .before .before .before .before .before .before .before .before .before .before .before .pre .0 .1) (c .before .before .before .before .before .before .before .loop .f) (c .before .before .before .before .face-end .result) (c .before .before .before .before .before .before .loop-test .taken) (c .before .before .before .before .face-end .ensures)), some-darts (c .before .before .before .before .before .before .before .before .before .before .before .before .pre .0 .1) (c .before .before .before .before .before .before .before .loop .f) (c .before .before .before .before .face-end .result) (c .before .before .before .before .before .before .loop-test .taken) (c .before .before .before .before .face-end .ensures)), omega (arith, ap length (part4-one (c .before .before .before .before .before .before .before .before .before .before .before .before .args .block .now) (c .before .before .before .before .before .before .before .before .before .before .before .before .args .to) (c .before .before .before .before .before .before .before .before .before .before .before .before .args .order .now) (c .before .before .before .before .before .before .before .before .before .before .before .before .args .starts .now) (c .before .before .before .before .before .before .before .loop .f) (c .before .before .before .before .before .before .before .before .before .before .before .before .args .darts) (c .before .before .before .before .before .before .before .before .before .before .before .before .args .count) (c .before .before .before .before .face-end .result) (said-yes (c .before .before .critical-beside .ensures) (c .before .if1 .left)) (c .before .before .before .before .face-end .ensures)), running-space (c .before .before .before .before .before .before .before .loop .inv) (c .before .before .before .before .before .before .loop-test .taken)))
+    let start : tie.Start Inv-loop μ-loop = search in
+    let loop-f = (let p : tie.At-loop Inv-loop μ-loop = search in p .loop .f) in
+    let loop-inv = (let p : tie.At-loop Inv-loop μ-loop = search in p .loop .inv) in
+    let loop-test-taken = (let p : tie.In-loop Inv-loop μ-loop = search in p .loop-test .taken) in
+    let face-end-ensures = (let p : tie.After-face-end Inv-loop μ-loop = search in p .face-end .ensures) in
+    let face-end-result = (let p : tie.After-face-end Inv-loop μ-loop = search in p .face-end .result) in
+    let critical-beside-ensures = (let p : tie.After-critical-beside Inv-loop μ-loop = search in p .critical-beside .ensures) in
+    let if1-left = (let p : tie.Else1 Inv-loop μ-loop = search in p .if1 .left) in
+    ((listed-part (start .pre .0 .0) _ (end-le (start .pre .0 .1) loop-f face-end-result loop-test-taken face-end-ensures), some-darts (start .pre .0 .1) loop-f face-end-result loop-test-taken face-end-ensures), omega (arith, ap length (part4-one (start .args .block .now) (start .args .to) (start .args .order .now) (start .args .starts .now) loop-f (start .args .darts) (start .args .count) face-end-result (said-yes critical-beside-ensures if1-left) face-end-ensures), running-space loop-inv loop-test-taken))
 
 loop-less-2 : tie.Need-loop-less-2 Inv-loop μ-loop
 loop-less-2 c =
-    omega (arith, c .before .before .before .before .before .before .before .before .before .loop-test .taken)
+    let loop-test-taken = (let p : tie.In-loop Inv-loop μ-loop = search in p .loop-test .taken) in
+    omega (arith, loop-test-taken)
 
 loop-again-2 : tie.Need-loop-again-2 Inv-loop μ-loop
 loop-again-2 c =
-    running-step (c .before .before .before .before .before .before .before .before .before .before .loop .inv) (c .before .before .before .before .before .before .before .before .before .loop-test .taken) (stored-as (part4-one (c .before .before .before .before .before .before .before .before .before .before .before .before .before .before .before .args .block .now) (c .before .before .before .before .before .before .before .before .before .before .before .before .before .before .before .args .to) (c .before .before .before .before .before .before .before .before .before .before .before .before .before .before .before .args .order .now) (c .before .before .before .before .before .before .before .before .before .before .before .before .before .before .before .args .starts .now) (c .before .before .before .before .before .before .before .before .before .before .loop .f) (c .before .before .before .before .before .before .before .before .before .before .before .before .before .before .before .args .darts) (c .before .before .before .before .before .before .before .before .before .before .before .before .before .before .before .args .count) (c .before .before .before .before .before .before .before .face-end .result) (said-yes (c .before .before .before .before .before .critical-beside .ensures) (c .before .before .before .before .if1 .left)) (c .before .before .before .before .before .before .before .face-end .ensures)) (c .before .before .put-beside .ensures))
+    let start : tie.Start Inv-loop μ-loop = search in
+    let loop-f = (let p : tie.At-loop Inv-loop μ-loop = search in p .loop .f) in
+    let loop-inv = (let p : tie.At-loop Inv-loop μ-loop = search in p .loop .inv) in
+    let loop-test-taken = (let p : tie.In-loop Inv-loop μ-loop = search in p .loop-test .taken) in
+    let face-end-ensures = (let p : tie.After-face-end Inv-loop μ-loop = search in p .face-end .ensures) in
+    let face-end-result = (let p : tie.After-face-end Inv-loop μ-loop = search in p .face-end .result) in
+    let critical-beside-ensures = (let p : tie.After-critical-beside Inv-loop μ-loop = search in p .critical-beside .ensures) in
+    let if1-left = (let p : tie.Else1 Inv-loop μ-loop = search in p .if1 .left) in
+    let put-beside-ensures = (let p : tie.After-put-beside Inv-loop μ-loop = search in p .put-beside .ensures) in
+    running-step loop-inv loop-test-taken (stored-as (part4-one (start .args .block .now) (start .args .to) (start .args .order .now) (start .args .starts .now) loop-f (start .args .darts) (start .args .count) face-end-result (said-yes critical-beside-ensures if1-left) face-end-ensures) put-beside-ensures)
 
 same-length : tie.Need-same-length Inv-loop μ-loop
 same-length c =
-    running-size (c .before .loop .inv)
+    let loop-inv = (let p : tie.At-loop Inv-loop μ-loop = search in p .loop .inv) in
+    running-size loop-inv
 
 returns : tie.Need-returns Inv-loop μ-loop
 returns c =
-    running-end (c .before .loop .inv) (omega (arith, c .loop-test .left))
+    let loop-inv = (let p : tie.At-loop Inv-loop μ-loop = search in p .loop .inv) in
+    running-end loop-inv (omega (arith, c .loop-test .left))
 
 pub put-part4s-spec : {M : Type 1} → statement M
 put-part4s-spec =

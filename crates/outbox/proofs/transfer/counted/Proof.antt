@@ -13,11 +13,13 @@ group-count-requires c κs = search needs
 
 add-result : tie.Need-add-result
 add-result c =
-    omega (arith, c .group-count .ensures, count-most (c .before .args .entries) (c .before .pre .0), c .before .pre .1)
+    let start : tie.Start = search in
+    omega (arith, c .group-count .ensures, count-most (start .args .entries) (start .pre .0), start .pre .1)
 
 returns : tie.Need-returns
 returns c =
-    (omega (arith, c .group-count .ensures, group-length (c .before .args .entries) (c .before .pre .0)), omega (arith, c .group-count .ensures, count-most (c .before .args .entries) (c .before .pre .0)))
+    let start : tie.Start = search in
+    (omega (arith, c .group-count .ensures, group-length (start .args .entries) (start .pre .0)), omega (arith, c .group-count .ensures, count-most (start .args .entries) (start .pre .0)))
 
 pub counted-spec : {M : Type 1} → statement M
 counted-spec = tie.close (tie.spec cast-group-count group-count-requires add-result returns)

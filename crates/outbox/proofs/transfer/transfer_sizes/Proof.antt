@@ -12,7 +12,7 @@ use Rattle.outbox.proofs.transfer.transfer_sizes.Tie as tie
 
 shared-slice-read-n : tie.Need-shared-slice-read-n
 shared-slice-read-n c =
-    let st = c .before .before .before .before .before .before in
+    let st : tie.Start = search in
     let m = st .args .block .now in
     let ok = st .pre .0 in
     let sv = st .pre .1 .0 .1 in
@@ -20,7 +20,7 @@ shared-slice-read-n c =
 
 faces-size-requires : tie.Need-faces-size-requires
 faces-size-requires c κs =
-    let st = c .before .before .before .before .before .before in
+    let st : tie.Start = search in
     let m = st .args .block .now in
     let ok = st .pre .0 in
     let sv = st .pre .1 .0 .1 in
@@ -29,7 +29,7 @@ faces-size-requires c κs =
 
 part2-tally-requires : tie.Need-part2-tally-requires
 part2-tally-requires c κs =
-    let st = c .before .before .before .before .before .before .before in
+    let st : tie.Start = search in
     let m = st .args .block .now in
     let ok = st .pre .0 in
     let sv = st .pre .1 .0 .1 in
@@ -38,7 +38,7 @@ part2-tally-requires c κs =
 
 shared-slice-read-part3-size : tie.Need-shared-slice-read-part3-size
 shared-slice-read-part3-size c =
-    let st = c .before .before .before .before .before .before .before .before .before in
+    let st : tie.Start = search in
     let m = st .args .block .now in
     let ok = st .pre .0 in
     let sv = st .pre .1 .0 .1 in
@@ -46,7 +46,7 @@ shared-slice-read-part3-size c =
 
 part3-size-requires : tie.Need-part3-size-requires
 part3-size-requires c κs =
-    let st = c .before .before .before .before .before .before .before .before .before in
+    let st : tie.Start = search in
     let m = st .args .block .now in
     let ok = st .pre .0 in
     let sv = st .pre .1 .0 .1 in
@@ -55,7 +55,7 @@ part3-size-requires c κs =
 
 part4-tally-requires : tie.Need-part4-tally-requires
 part4-tally-requires c κs =
-    let st = c .before .before .before .before .before .before .before .before .before .before in
+    let st : tie.Start = search in
     let m = st .args .block .now in
     let ok = st .pre .0 in
     let sv = st .pre .1 .0 .1 in
@@ -64,7 +64,7 @@ part4-tally-requires c κs =
 
 mul-counted : tie.Need-mul-counted
 mul-counted c =
-    let st = c .before .before .before .before .before .before .before .before .before .before .before .before in
+    let st : tie.Start = search in
     let m = st .args .block .now in
     let ok = st .pre .0 in
     let sv = st .pre .1 .0 .1 in
@@ -73,7 +73,7 @@ mul-counted c =
 
 counted-requires : tie.Need-counted-requires
 counted-requires c κs =
-    let st = c .before .before .before .before .before .before .before .before .before .before .before .before in
+    let st : tie.Start = search in
     let m = st .args .block .now in
     let ok = st .pre .0 in
     let sv = st .pre .1 .0 .1 in
@@ -82,7 +82,7 @@ counted-requires c κs =
 
 add-part1 : tie.Need-add-part1
 add-part1 c =
-    let st = c .before .before .before .before .before .before .before .before .before .before .before .before .before in
+    let st : tie.Start = search in
     let m = st .args .block .now in
     let ok = st .pre .0 in
     let sv = st .pre .1 .0 .1 in
@@ -91,94 +91,153 @@ add-part1 c =
 
 counted-requires-2 : tie.Need-counted-requires-2
 counted-requires-2 c κs =
-    let st = c .before .before .before .before .before .before .before .before .before .before .before .before .before in
+    let faces-size-ensures = (let p : tie.After-faces-size = search in p .faces-size .ensures) in
+    let st : tie.Start = search in
     let m = st .args .block .now in
     let ok = st .pre .0 in
     let sv = st .pre .1 .0 .1 in
     let b = bounds m ok (st .args .to) sv in
-    (omega (arith, b .faces-few, b .faces-bytes, c .before .before .before .before .before .before .faces-size .ensures), omega (arith, b .faces-few, b .faces-bytes, c .before .before .before .before .before .before .faces-size .ensures))
+    (omega (arith, b .faces-few, b .faces-bytes, faces-size-ensures), omega (arith, b .faces-few, b .faces-bytes, faces-size-ensures))
 
 add-part1-2 : tie.Need-add-part1-2
 add-part1-2 c =
-    let st = c .before .before .before .before .before .before .before .before .before .before .before .before .before .before in
+    let faces-size-ensures = (let p : tie.After-faces-size = search in p .faces-size .ensures) in
+    let counted-ensures = (let p : tie.After-counted = search in p .counted .ensures) in
+    let st : tie.Start = search in
     let m = st .args .block .now in
     let ok = st .pre .0 in
     let sv = st .pre .1 .0 .1 in
     let b = bounds m ok (st .args .to) sv in
-    omega (arith, c .before .counted .ensures .1, b .vertices-few, c .counted2 .ensures .1, b .faces-few, b .faces-bytes, c .before .before .before .before .before .before .before .faces-size .ensures)
+    omega (arith, counted-ensures .1, b .vertices-few, c .counted2 .ensures .1, b .faces-few, b .faces-bytes, faces-size-ensures)
 
 counted-requires-3 : tie.Need-counted-requires-3
 counted-requires-3 c κs =
-    let st = c .before .before .before .before .before .before .before .before .before .before .before .before .before .before in
+    let part2-tally-ensures = (let p : tie.After-part2-tally = search in p .part2-tally .ensures) in
+    let st : tie.Start = search in
     let m = st .args .block .now in
     let ok = st .pre .0 in
     let sv = st .pre .1 .0 .1 in
     let b = bounds m ok (st .args .to) sv in
-    (omega (arith, b .two-few, b .two-bytes, c .before .before .before .before .before .before .part2-tally .ensures .0, c .before .before .before .before .before .before .part2-tally .ensures .1), omega (arith, b .two-few, b .two-bytes, c .before .before .before .before .before .before .part2-tally .ensures .0, c .before .before .before .before .before .before .part2-tally .ensures .1))
+    (omega (arith, b .two-few, b .two-bytes, part2-tally-ensures .0, part2-tally-ensures .1), omega (arith, b .two-few, b .two-bytes, part2-tally-ensures .0, part2-tally-ensures .1))
 
 counted-requires-4 : tie.Need-counted-requires-4
 counted-requires-4 c κs =
-    let st = c .before .before .before .before .before .before .before .before .before .before .before .before .before .before .before in
+    let part3-size-ensures = (let p : tie.After-part3-size = search in p .part3-size .ensures) in
+    let c : tie.After-part3-size = search in
+    let start : tie.Start = search in
+    let st = start in
     let m = st .args .block .now in
     let ok = st .pre .0 in
     let sv = st .pre .1 .0 .1 in
     let b = bounds m ok (st .args .to) sv in
-    (omega (arith, b .sewn-few, b .three-bytes, c .before .before .before .before .before .part3-size .ensures), omega (arith, b .sewn-few, b .three-bytes, c .before .before .before .before .before .part3-size .ensures))
+    (omega (arith, b .sewn-few, b .three-bytes, part3-size-ensures), omega (arith, b .sewn-few, b .three-bytes, part3-size-ensures))
 
 add-part23 : tie.Need-add-part23
 add-part23 c =
-    let st = c .before .before .before .before .before .before .before .before .before .before .before .before .before .before .before .before in
+    let counted4-ensures = (let p : tie.After-counted4 = search in p .counted4 .ensures) in
+    let counted3-ensures = (let p : tie.After-counted3 = search in p .counted3 .ensures) in
+    let part3-size-ensures = (let p : tie.After-part3-size = search in p .part3-size .ensures) in
+    let part2-tally-ensures = (let p : tie.After-part2-tally = search in p .part2-tally .ensures) in
+    let c : tie.After-part2-tally = search in
+    let start : tie.Start = search in
+    let st = start in
     let m = st .args .block .now in
     let ok = st .pre .0 in
     let sv = st .pre .1 .0 .1 in
     let b = bounds m ok (st .args .to) sv in
-    omega (arith, c .before .counted3 .ensures .1, b .two-few, b .two-bytes, c .before .before .before .before .before .before .before .before .part2-tally .ensures .0, c .before .before .before .before .before .before .before .before .part2-tally .ensures .1, c .counted4 .ensures .1, b .sewn-few, b .three-bytes, c .before .before .before .before .before .before .part3-size .ensures)
+    omega (arith, counted3-ensures .1, b .two-few, b .two-bytes, part2-tally-ensures .0, part2-tally-ensures .1, counted4-ensures .1, b .sewn-few, b .three-bytes, part3-size-ensures)
 
 add-rest : tie.Need-add-rest
 add-rest c =
-    let st = c .before .before .before .before .before .before .before .before .before .before .before .before .before .before .before .before in
+    let counted4-ensures = (let p : tie.After-counted4 = search in p .counted4 .ensures) in
+    let counted3-ensures = (let p : tie.After-counted3 = search in p .counted3 .ensures) in
+    let counted2-ensures = (let p : tie.After-counted2 = search in p .counted2 .ensures) in
+    let counted-ensures = (let p : tie.After-counted = search in p .counted .ensures) in
+    let part3-size-ensures = (let p : tie.After-part3-size = search in p .part3-size .ensures) in
+    let part2-tally-ensures = (let p : tie.After-part2-tally = search in p .part2-tally .ensures) in
+    let faces-size-ensures = (let p : tie.After-faces-size = search in p .faces-size .ensures) in
+    let c : tie.After-faces-size = search in
+    let start : tie.Start = search in
+    let st = start in
     let m = st .args .block .now in
     let ok = st .pre .0 in
     let sv = st .pre .1 .0 .1 in
     let b = bounds m ok (st .args .to) sv in
-    omega (arith, c .before .before .before .counted .ensures .1, b .vertices-few, c .before .before .counted2 .ensures .1, b .faces-few, b .faces-bytes, c .before .before .before .before .before .before .before .before .before .faces-size .ensures, c .before .counted3 .ensures .1, b .two-few, b .two-bytes, c .before .before .before .before .before .before .before .before .part2-tally .ensures .0, c .before .before .before .before .before .before .before .before .part2-tally .ensures .1, c .counted4 .ensures .1, b .sewn-few, b .three-bytes, c .before .before .before .before .before .before .part3-size .ensures)
+    omega (arith, counted-ensures .1, b .vertices-few, counted2-ensures .1, b .faces-few, b .faces-bytes, faces-size-ensures, counted3-ensures .1, b .two-few, b .two-bytes, part2-tally-ensures .0, part2-tally-ensures .1, counted4-ensures .1, b .sewn-few, b .three-bytes, part3-size-ensures)
 
 counted-requires-5 : tie.Need-counted-requires-5
 counted-requires-5 c κs =
-    let st = c .before .before .before .before .before .before .before .before .before .before .before .before .before .before .before .before in
+    let part4-tally-ensures = (let p : tie.After-part4-tally = search in p .part4-tally .ensures) in
+    let c : tie.After-part4-tally = search in
+    let start : tie.Start = search in
+    let st = start in
     let m = st .args .block .now in
     let ok = st .pre .0 in
     let sv = st .pre .1 .0 .1 in
     let b = bounds m ok (st .args .to) sv in
-    (omega (arith, b .four-few, b .four-bytes, c .before .before .before .before .before .part4-tally .ensures .0, c .before .before .before .before .before .part4-tally .ensures .1), omega (arith, b .four-few, b .four-bytes, c .before .before .before .before .before .part4-tally .ensures .0, c .before .before .before .before .before .part4-tally .ensures .1))
+    (omega (arith, b .four-few, b .four-bytes, part4-tally-ensures .0, part4-tally-ensures .1), omega (arith, b .four-few, b .four-bytes, part4-tally-ensures .0, part4-tally-ensures .1))
 
 add-rest-2 : tie.Need-add-rest-2
 add-rest-2 c =
-    let st = c .before .before .before .before .before .before .before .before .before .before .before .before .before .before .before .before .before in
+    let counted5-ensures = (let p : tie.After-counted5 = search in p .counted5 .ensures) in
+    let counted4-ensures = (let p : tie.After-counted4 = search in p .counted4 .ensures) in
+    let counted3-ensures = (let p : tie.After-counted3 = search in p .counted3 .ensures) in
+    let counted2-ensures = (let p : tie.After-counted2 = search in p .counted2 .ensures) in
+    let counted-ensures = (let p : tie.After-counted = search in p .counted .ensures) in
+    let part4-tally-ensures = (let p : tie.After-part4-tally = search in p .part4-tally .ensures) in
+    let part3-size-ensures = (let p : tie.After-part3-size = search in p .part3-size .ensures) in
+    let part2-tally-ensures = (let p : tie.After-part2-tally = search in p .part2-tally .ensures) in
+    let faces-size-ensures = (let p : tie.After-faces-size = search in p .faces-size .ensures) in
+    let c : tie.After-faces-size = search in
+    let start : tie.Start = search in
+    let st = start in
     let m = st .args .block .now in
     let ok = st .pre .0 in
     let sv = st .pre .1 .0 .1 in
     let b = bounds m ok (st .args .to) sv in
-    omega (arith, c .before .before .before .before .counted .ensures .1, b .vertices-few, c .before .before .before .counted2 .ensures .1, b .faces-few, b .faces-bytes, c .before .before .before .before .before .before .before .before .before .before .faces-size .ensures, c .before .before .counted3 .ensures .1, b .two-few, b .two-bytes, c .before .before .before .before .before .before .before .before .before .part2-tally .ensures .0, c .before .before .before .before .before .before .before .before .before .part2-tally .ensures .1, c .before .counted4 .ensures .1, b .sewn-few, b .three-bytes, c .before .before .before .before .before .before .before .part3-size .ensures, c .counted5 .ensures .1, b .four-few, b .four-bytes, c .before .before .before .before .before .before .part4-tally .ensures .0, c .before .before .before .before .before .before .part4-tally .ensures .1)
+    omega (arith, counted-ensures .1, b .vertices-few, counted2-ensures .1, b .faces-few, b .faces-bytes, faces-size-ensures, counted3-ensures .1, b .two-few, b .two-bytes, part2-tally-ensures .0, part2-tally-ensures .1, counted4-ensures .1, b .sewn-few, b .three-bytes, part3-size-ensures, counted5-ensures .1, b .four-few, b .four-bytes, part4-tally-ensures .0, part4-tally-ensures .1)
 
 counted-requires-6 : tie.Need-counted-requires-6
 counted-requires-6 c κs =
-    let st = c .before .before .before .before .before .before .before .before .before .before .before .before .before .before .before .before .before in
+    let counted5-ensures = (let p : tie.After-counted5 = search in p .counted5 .ensures) in
+    let counted4-ensures = (let p : tie.After-counted4 = search in p .counted4 .ensures) in
+    let counted3-ensures = (let p : tie.After-counted3 = search in p .counted3 .ensures) in
+    let counted2-ensures = (let p : tie.After-counted2 = search in p .counted2 .ensures) in
+    let counted-ensures = (let p : tie.After-counted = search in p .counted .ensures) in
+    let part4-tally-ensures = (let p : tie.After-part4-tally = search in p .part4-tally .ensures) in
+    let part3-size-ensures = (let p : tie.After-part3-size = search in p .part3-size .ensures) in
+    let part2-tally-ensures = (let p : tie.After-part2-tally = search in p .part2-tally .ensures) in
+    let faces-size-ensures = (let p : tie.After-faces-size = search in p .faces-size .ensures) in
+    let c : tie.After-faces-size = search in
+    let start : tie.Start = search in
+    let st = start in
     let m = st .args .block .now in
     let ok = st .pre .0 in
     let sv = st .pre .1 .0 .1 in
     let b = bounds m ok (st .args .to) sv in
-    (omega (arith, c .before .before .before .before .counted .ensures .1, b .vertices-few, c .before .before .before .counted2 .ensures .1, b .faces-few, b .faces-bytes, c .before .before .before .before .before .before .before .before .before .before .faces-size .ensures, c .before .before .counted3 .ensures .1, b .two-few, b .two-bytes, c .before .before .before .before .before .before .before .before .before .part2-tally .ensures .0, c .before .before .before .before .before .before .before .before .before .part2-tally .ensures .1, c .before .counted4 .ensures .1, b .sewn-few, b .three-bytes, c .before .before .before .before .before .before .before .part3-size .ensures, c .counted5 .ensures .1, b .four-few, b .four-bytes, c .before .before .before .before .before .before .part4-tally .ensures .0, c .before .before .before .before .before .before .part4-tally .ensures .1), omega (arith, c .before .before .before .before .counted .ensures .1, b .vertices-few, c .before .before .before .counted2 .ensures .1, b .faces-few, b .faces-bytes, c .before .before .before .before .before .before .before .before .before .before .faces-size .ensures, c .before .before .counted3 .ensures .1, b .two-few, b .two-bytes, c .before .before .before .before .before .before .before .before .before .part2-tally .ensures .0, c .before .before .before .before .before .before .before .before .before .part2-tally .ensures .1, c .before .counted4 .ensures .1, b .sewn-few, b .three-bytes, c .before .before .before .before .before .before .before .part3-size .ensures, c .counted5 .ensures .1, b .four-few, b .four-bytes, c .before .before .before .before .before .before .part4-tally .ensures .0, c .before .before .before .before .before .before .part4-tally .ensures .1))
+    (omega (arith, counted-ensures .1, b .vertices-few, counted2-ensures .1, b .faces-few, b .faces-bytes, faces-size-ensures, counted3-ensures .1, b .two-few, b .two-bytes, part2-tally-ensures .0, part2-tally-ensures .1, counted4-ensures .1, b .sewn-few, b .three-bytes, part3-size-ensures, counted5-ensures .1, b .four-few, b .four-bytes, part4-tally-ensures .0, part4-tally-ensures .1), omega (arith, counted-ensures .1, b .vertices-few, counted2-ensures .1, b .faces-few, b .faces-bytes, faces-size-ensures, counted3-ensures .1, b .two-few, b .two-bytes, part2-tally-ensures .0, part2-tally-ensures .1, counted4-ensures .1, b .sewn-few, b .three-bytes, part3-size-ensures, counted5-ensures .1, b .four-few, b .four-bytes, part4-tally-ensures .0, part4-tally-ensures .1))
 
 returns : tie.Need-returns
 returns c =
+    let counted6-ensures = (let p : tie.After-counted6 = search in p .counted6 .ensures) in
+    let counted5-ensures = (let p : tie.After-counted5 = search in p .counted5 .ensures) in
+    let counted4-ensures = (let p : tie.After-counted4 = search in p .counted4 .ensures) in
+    let counted3-ensures = (let p : tie.After-counted3 = search in p .counted3 .ensures) in
+    let counted2-ensures = (let p : tie.After-counted2 = search in p .counted2 .ensures) in
+    let counted-ensures = (let p : tie.After-counted = search in p .counted .ensures) in
+    let part4-tally-ensures = (let p : tie.After-part4-tally = search in p .part4-tally .ensures) in
+    let part3-size-ensures = (let p : tie.After-part3-size = search in p .part3-size .ensures) in
+    let part2-tally-ensures = (let p : tie.After-part2-tally = search in p .part2-tally .ensures) in
+    let faces-size-ensures = (let p : tie.After-faces-size = search in p .faces-size .ensures) in
+    let c : tie.After-faces-size = search in
+    let start : tie.Start = search in
     λ firsts s.
-    let st = c .before .before .before .before .before .before .before .before .before .before .before .before .before .before .before .before .before .before in
+    let st = start in
     let m = st .args .block .now in
     let ok = st .pre .0 in
     let sv = st .pre .1 .0 .1 in
     let b = bounds m ok (st .args .to) sv in
-    sized m ok (st .args .to) s _ (c .before .before .before .before .before .before .before .before .before .before .part2-tally .ensures .0) (c .before .before .before .before .before .before .before .part4-tally .ensures .0) (omega (arith, rest-length m ok (st .args .to) s (st .pre .1 .1 .0), c .before .before .before .before .before .counted .ensures .0, c .before .before .before .before .counted2 .ensures .0, c .before .before .before .counted3 .ensures .0, c .before .before .counted4 .ensures .0, c .before .counted5 .ensures .0, c .before .before .before .before .before .before .before .before .before .before .before .faces-size .ensures, c .before .before .before .before .before .before .before .before .before .before .part2-tally .ensures .1, c .before .before .before .before .before .before .before .before .part3-size .ensures, c .before .before .before .before .before .before .before .part4-tally .ensures .1, ap (λ (n : ℕ). length (group .put n)) (c .before .before .before .before .before .before .before .before .before .before .part2-tally .ensures .0), ap (λ (n : ℕ). length (group .put n)) (sewn-tally m ok (st .args .to) s), ap (λ (n : ℕ). length (group .put n)) (c .before .before .before .before .before .before .before .part4-tally .ensures .0))) (c .counted6 .ensures .0) (omega (arith, c .counted6 .ensures .1, c .before .before .before .before .before .counted .ensures .1, b .vertices-few, c .before .before .before .before .counted2 .ensures .1, b .faces-few, b .faces-bytes, c .before .before .before .before .before .before .before .before .before .before .before .faces-size .ensures, c .before .before .before .counted3 .ensures .1, b .two-few, b .two-bytes, c .before .before .before .before .before .before .before .before .before .before .part2-tally .ensures .0, c .before .before .before .before .before .before .before .before .before .before .part2-tally .ensures .1, c .before .before .counted4 .ensures .1, b .sewn-few, b .three-bytes, c .before .before .before .before .before .before .before .before .part3-size .ensures, c .before .counted5 .ensures .1, b .four-few, b .four-bytes, c .before .before .before .before .before .before .before .part4-tally .ensures .0, c .before .before .before .before .before .before .before .part4-tally .ensures .1))
+    sized m ok (st .args .to) s _ (part2-tally-ensures .0) (part4-tally-ensures .0) (omega (arith, rest-length m ok (st .args .to) s (st .pre .1 .1 .0), counted-ensures .0, counted2-ensures .0, counted3-ensures .0, counted4-ensures .0, counted5-ensures .0, faces-size-ensures, part2-tally-ensures .1, part3-size-ensures, part4-tally-ensures .1, ap (λ (n : ℕ). length (group .put n)) (part2-tally-ensures .0), ap (λ (n : ℕ). length (group .put n)) (sewn-tally m ok (st .args .to) s), ap (λ (n : ℕ). length (group .put n)) (part4-tally-ensures .0))) (counted6-ensures .0) (omega (arith, counted6-ensures .1, counted-ensures .1, b .vertices-few, counted2-ensures .1, b .faces-few, b .faces-bytes, faces-size-ensures, counted3-ensures .1, b .two-few, b .two-bytes, part2-tally-ensures .0, part2-tally-ensures .1, counted4-ensures .1, b .sewn-few, b .three-bytes, part3-size-ensures, counted5-ensures .1, b .four-few, b .four-bytes, part4-tally-ensures .0, part4-tally-ensures .1))
 
 pub transfer-sizes-spec : {M : Type 1} → statement M
 transfer-sizes-spec =

@@ -18,11 +18,15 @@ abbrev μ-loop : tie.MeasureT-loop
 
 loop-holds : tie.Need-loop-holds Inv-loop μ-loop
 loop-holds c =
-    table-none (c .before .before .pre .0) (c .before .before .pre .1)
+    let start : tie.Start Inv-loop μ-loop = search in
+    table-none (start .pre .0) (start .pre .1)
 
 fill-part-requires : tie.Need-fill-part-requires Inv-loop μ-loop
 fill-part-requires c κs =
-    (c .before .before .before .before .before .pre .0, c .before .loop-test .taken, c .before .before .loop .inv)
+    let start : tie.Start Inv-loop μ-loop = search in
+    let loop-inv = (let p : tie.At-loop Inv-loop μ-loop = search in p .loop .inv) in
+    let loop-test-taken = (let p : tie.In-loop Inv-loop μ-loop = search in p .loop-test .taken) in
+    (start .pre .0, loop-test-taken, loop-inv)
 
 add-i : tie.Need-add-i Inv-loop μ-loop
 add-i c = search needs
@@ -32,15 +36,20 @@ loop-less c = search needs
 
 loop-again : tie.Need-loop-again Inv-loop μ-loop
 loop-again c =
-    c .before .before .fill-part .ensures
+    let fill-part-ensures = (let p : tie.After-fill-part Inv-loop μ-loop = search in p .fill-part .ensures) in
+    fill-part-ensures
 
 same-length : tie.Need-same-length Inv-loop μ-loop
 same-length c =
-    c .before .loop .inv .len ∙ sym (c .before .before .before .before .pre .1)
+    let start : tie.Start Inv-loop μ-loop = search in
+    let loop-inv = (let p : tie.At-loop Inv-loop μ-loop = search in p .loop .inv) in
+    loop-inv .len ∙ sym (start .pre .1)
 
 returns : tie.Need-returns Inv-loop μ-loop
 returns c =
-    table-all (c .before .before .before .before .pre .0) (c .before .loop .inv) (c .loop-test .left)
+    let start : tie.Start Inv-loop μ-loop = search in
+    let loop-inv = (let p : tie.At-loop Inv-loop μ-loop = search in p .loop .inv) in
+    table-all (start .pre .0) loop-inv (c .loop-test .left)
 
 pub fill-spec : {M : Type 1} → statement M
 fill-spec =

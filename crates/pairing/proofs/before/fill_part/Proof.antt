@@ -32,47 +32,68 @@ shared-slice-read-n c = search needs
 
 loop-holds : tie.Need-loop-holds Inv-loop μ-loop
 loop-holds c =
-    record { size = word-in (c .before .before .before .args .mesh .now) (c .before .before .before .args .i) 2 (omega arith); filled = c .before .before .before .pre .2 }
+    let start : tie.Start Inv-loop μ-loop = search in
+    record { size = word-in (start .args .mesh .now) (start .args .i) 2 (omega arith); filled = start .pre .2 }
 
 next-place-requires : tie.Need-next-place-requires Inv-loop μ-loop
 next-place-requires c κs =
-    (c .before .before .before .before .before .pre .0, c .before .before .before .before .before .pre .1, filling-lt (c .before .loop .inv) (c .loop-test .taken))
+    let start : tie.Start Inv-loop μ-loop = search in
+    let loop-inv = (let p : tie.At-loop Inv-loop μ-loop = search in p .loop .inv) in
+    (start .pre .0, start .pre .1, filling-lt loop-inv (c .loop-test .taken))
 
 mul-table : tie.Need-mul-table Inv-loop μ-loop
 mul-table c =
-    omega (arith, few (c .before .before .before .before .before .before .pre .0), c .before .before .before .before .before .before .pre .1)
+    let start : tie.Start Inv-loop μ-loop = search in
+    omega (arith, few (start .pre .0), start .pre .1)
 
 add-table : tie.Need-add-table Inv-loop μ-loop
 add-table c =
-    omega (arith, few (c .before .before .before .before .before .before .pre .0), c .before .before .before .before .before .before .pre .1, c .next-place .ensures .1)
+    let start : tie.Start Inv-loop μ-loop = search in
+    omega (arith, few (start .pre .0), start .pre .1, c .next-place .ensures .1)
 
 mul-table-2 : tie.Need-mul-table-2 Inv-loop μ-loop
 mul-table-2 c =
-    omega (arith, few (c .before .before .before .before .before .before .pre .0), c .before .before .before .before .before .before .pre .1, c .next-place .ensures .1)
+    let start : tie.Start Inv-loop μ-loop = search in
+    omega (arith, few (start .pre .0), start .pre .1, c .next-place .ensures .1)
 
 slice-write-table : tie.Need-slice-write-table Inv-loop μ-loop
 slice-write-table c =
-    write-lt (c .before .before .before .before .before .before .pre .0) (c .before .before .loop .inv .filled) (c .before .before .before .before .before .before .pre .1) (filling-lt (c .before .before .loop .inv) (c .before .loop-test .taken)) (c .next-place .ensures .0)
+    let start : tie.Start Inv-loop μ-loop = search in
+    let loop-inv = (let p : tie.At-loop Inv-loop μ-loop = search in p .loop .inv) in
+    let loop-test-taken = (let p : tie.In-loop Inv-loop μ-loop = search in p .loop-test .taken) in
+    write-lt (start .pre .0) (loop-inv .filled) (start .pre .1) (filling-lt loop-inv loop-test-taken) (c .next-place .ensures .0)
 
 add-p : tie.Need-add-p Inv-loop μ-loop
 add-p c =
-    omega (arith, place-in (c .before .before .before .before .before .before .pre .0) (c .before .before .before .before .before .before .args .i) (c .before .before .loop .p) (c .before .before .before .before .before .before .pre .1) (filling-lt (c .before .before .loop .inv) (c .before .loop-test .taken)))
+    let start : tie.Start Inv-loop μ-loop = search in
+    let loop-inv = (let p : tie.At-loop Inv-loop μ-loop = search in p .loop .inv) in
+    let loop-p = (let p : tie.At-loop Inv-loop μ-loop = search in p .loop .p) in
+    let loop-test-taken = (let p : tie.In-loop Inv-loop μ-loop = search in p .loop-test .taken) in
+    omega (arith, place-in (start .pre .0) (start .args .i) loop-p (start .pre .1) (filling-lt loop-inv loop-test-taken))
 
 loop-less : tie.Need-loop-less Inv-loop μ-loop
 loop-less c =
-    omega (arith, c .before .loop-test .taken)
+    let loop-test-taken = (let p : tie.In-loop Inv-loop μ-loop = search in p .loop-test .taken) in
+    omega (arith, loop-test-taken)
 
 loop-again : tie.Need-loop-again Inv-loop μ-loop
 loop-again c =
-    record { size = c .before .before .loop .inv .size; filled = table-more (c .before .before .before .before .before .before .pre .0) (c .before .before .loop .inv .filled) (c .before .before .before .before .before .before .pre .1) (filling-lt (c .before .before .loop .inv) (c .before .loop-test .taken)) (c .next-place .ensures .0) }
+    let start : tie.Start Inv-loop μ-loop = search in
+    let loop-inv = (let p : tie.At-loop Inv-loop μ-loop = search in p .loop .inv) in
+    let loop-test-taken = (let p : tie.In-loop Inv-loop μ-loop = search in p .loop-test .taken) in
+    record { size = loop-inv .size; filled = table-more (start .pre .0) (loop-inv .filled) (start .pre .1) (filling-lt loop-inv loop-test-taken) (c .next-place .ensures .0) }
 
 same-length : tie.Need-same-length Inv-loop μ-loop
 same-length c =
-    c .before .loop .inv .filled .len ∙ sym (c .before .before .before .before .before .pre .2 .len)
+    let start : tie.Start Inv-loop μ-loop = search in
+    let loop-inv = (let p : tie.At-loop Inv-loop μ-loop = search in p .loop .inv) in
+    loop-inv .filled .len ∙ sym (start .pre .2 .len)
 
 returns : tie.Need-returns Inv-loop μ-loop
 returns c =
-    table-first (c .before .before .before .before .before .pre .0) (c .before .loop .inv .filled) (filling-end (c .before .loop .inv) (c .loop-test .left))
+    let start : tie.Start Inv-loop μ-loop = search in
+    let loop-inv = (let p : tie.At-loop Inv-loop μ-loop = search in p .loop .inv) in
+    table-first (start .pre .0) (loop-inv .filled) (filling-end loop-inv (c .loop-test .left))
 
 pub fill-part-spec : {M : Type 1} → statement M
 fill-part-spec =

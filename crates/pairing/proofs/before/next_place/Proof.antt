@@ -12,15 +12,18 @@ mul-word c = search needs
 
 add-word : tie.Need-add-word
 add-word c =
-    omega (arith, place-in (c .before .pre .0) (c .before .args .i) (c .before .args .p) (c .before .pre .1) (c .before .pre .2), few (c .before .pre .0), c .before .pre .1)
+    let start : tie.Start = search in
+    omega (arith, place-in (start .pre .0) (start .args .i) (start .args .p) (start .pre .1) (start .pre .2), few (start .pre .0), start .pre .1)
 
 word-requires : tie.Need-word-requires
 word-requires c κs =
-    number-held (c .before .args .mesh .now) (c .before .args .i) (c .before .args .p) (c .before .pre .1) (place-in (c .before .pre .0) (c .before .args .i) (c .before .args .p) (c .before .pre .1) (c .before .pre .2))
+    let start : tie.Start = search in
+    number-held (start .args .mesh .now) (start .args .i) (start .args .p) (start .pre .1) (place-in (start .pre .0) (start .args .i) (start .args .p) (start .pre .1) (start .pre .2))
 
 returns : tie.Need-returns
 returns c =
-    next-told (c .before .before .pre .0) (c .before .before .args .i) (c .before .before .args .p) (c .before .before .pre .1) (c .before .before .pre .2) (c .word .ensures)
+    let start : tie.Start = search in
+    next-told (start .pre .0) (start .args .i) (start .args .p) (start .pre .1) (start .pre .2) (c .word .ensures)
 
 pub next-place-spec : {M : Type 1} → statement M
 next-place-spec =

@@ -13,7 +13,9 @@ side-requires-2 c κs = search needs
 
 returns : tie.Need-returns
 returns c =
-    labels-told (c .before .before .before .before .args .mesh .now) (c .before .before .before .before .args .table .now) (c .before .before .before .before .args .x) (c .before .before .before .before .args .y) (c .before .side .ensures) (c .side2 .ensures)
+    let start : tie.Start = search in
+    let side-ensures = (let p : tie.After-side = search in p .side .ensures) in
+    labels-told (start .args .mesh .now) (start .args .table .now) (start .args .x) (start .args .y) side-ensures (c .side2 .ensures)
 
 pub labels-pair-spec : {M : Type 1} → statement M
 labels-pair-spec =

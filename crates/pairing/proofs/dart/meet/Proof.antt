@@ -14,25 +14,38 @@ word-requires c κs = search needs
 
 word-requires-2 : tie.Need-word-requires-2
 word-requires-2 c κs =
-    read-next (c .before .before .before .pre .0) (c .before .before .before .pre .2) (c .before .next .ensures) 5 (omega arith)
+    let start : tie.Start = search in
+    let next-ensures = (let p : tie.After-next = search in p .next .ensures) in
+    read-next (start .pre .0) (start .pre .2) next-ensures 5 (omega arith)
 
 word-requires-3 : tie.Need-word-requires-3
 word-requires-3 c κs = search needs
 
 word-requires-4 : tie.Need-word-requires-4
 word-requires-4 c κs =
-    read-next (c .before .before .before .before .before .pre .0) (c .before .before .before .before .before .pre .2) (c .before .before .before .next .ensures) 6 (omega arith)
+    let start : tie.Start = search in
+    let next-ensures = (let p : tie.After-next = search in p .next .ensures) in
+    read-next (start .pre .0) (start .pre .2) next-ensures 6 (omega arith)
 
 word-requires-5 : tie.Need-word-requires-5
 word-requires-5 c κs = search needs
 
 word-requires-6 : tie.Need-word-requires-6
 word-requires-6 c κs =
-    read-next (c .before .before .before .before .before .before .before .pre .0) (c .before .before .before .before .before .before .before .pre .2) (c .before .before .before .before .before .next .ensures) 7 (omega arith)
+    let start : tie.Start = search in
+    let next-ensures = (let p : tie.After-next = search in p .next .ensures) in
+    read-next (start .pre .0) (start .pre .2) next-ensures 7 (omega arith)
 
 returns : tie.Need-returns
 returns c =
-    meet-told (c .before .before .before .before .before .before .before .before .args .mesh .now) (c .before .before .before .before .before .before .before .before .args .g) (c .before .before .before .before .before .before .before .before .args .h) (c .before .before .before .before .before .before .next .ensures) (c .before .before .before .before .before .word .ensures) (c .before .before .before .before .word2 .ensures) (c .before .before .before .word3 .ensures) (c .before .before .word4 .ensures) (c .before .word5 .ensures) (c .word6 .ensures)
+    let start : tie.Start = search in
+    let next-ensures = (let p : tie.After-next = search in p .next .ensures) in
+    let word-ensures = (let p : tie.After-word = search in p .word .ensures) in
+    let word2-ensures = (let p : tie.After-word2 = search in p .word2 .ensures) in
+    let word3-ensures = (let p : tie.After-word3 = search in p .word3 .ensures) in
+    let word4-ensures = (let p : tie.After-word4 = search in p .word4 .ensures) in
+    let word5-ensures = (let p : tie.After-word5 = search in p .word5 .ensures) in
+    meet-told (start .args .mesh .now) (start .args .g) (start .args .h) next-ensures word-ensures word2-ensures word3-ensures word4-ensures word5-ensures (c .word6 .ensures)
 
 pub meet-spec : {M : Type 1} → statement M
 meet-spec =

@@ -16,11 +16,13 @@ word-requires c κs = search needs
 
 add-result : tie.Need-add-result
 add-result c =
-    omega (arith, c .word .ensures, next-small (c .before .before .pre .0) (c .before .before .pre .1), number-small (c .before .before .pre .0) (c .before .before .pre .1))
+    let start : tie.Start = search in
+    omega (arith, c .word .ensures, next-small (start .pre .0) (start .pre .1), number-small (start .pre .0) (start .pre .1))
 
 returns : tie.Need-returns
 returns c =
-    ap (λ (x : ℕ). c .before .before .args .g / 4096 * 4096 + x) (c .word .ensures)
+    let start : tie.Start = search in
+    ap (λ (x : ℕ). start .args .g / 4096 * 4096 + x) (c .word .ensures)
 
 pub next-spec : {M : Type 1} → statement M
 next-spec =

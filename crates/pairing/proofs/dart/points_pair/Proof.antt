@@ -13,7 +13,9 @@ meet-requires-2 c κs = search needs
 
 returns : tie.Need-returns
 returns c =
-    points-told (c .before .before .before .args .mesh .now) (c .before .before .before .args .x) (c .before .before .before .args .y) (c .before .meet .ensures) (c .meet2 .ensures)
+    let start : tie.Start = search in
+    let meet-ensures = (let p : tie.After-meet = search in p .meet .ensures) in
+    points-told (start .args .mesh .now) (start .args .x) (start .args .y) meet-ensures (c .meet2 .ensures)
 
 pub points-pair-spec : {M : Type 1} → statement M
 points-pair-spec =

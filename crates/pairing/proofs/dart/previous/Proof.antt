@@ -14,11 +14,13 @@ mul-result-2 c = search needs
 
 shared-slice-read-result : tie.Need-shared-slice-read-result
 shared-slice-read-result c =
-    omega (arith, number-small (c .before .pre .0) (c .before .pre .2), c .before .pre .1 .len)
+    let start : tie.Start = search in
+    omega (arith, number-small (start .pre .0) (start .pre .2), start .pre .1 .len)
 
 add-result : tie.Need-add-result
 add-result c =
-    omega (arith, before-small (c .before .pre .0) (c .before .pre .2) (c .before .pre .1), number-small (c .before .pre .0) (c .before .pre .2))
+    let start : tie.Start = search in
+    omega (arith, before-small (start .pre .0) (start .pre .2) (start .pre .1), number-small (start .pre .0) (start .pre .2))
 
 returns : tie.Need-returns
 returns c = search needs

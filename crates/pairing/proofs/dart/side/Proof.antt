@@ -14,18 +14,25 @@ next-requires c κs = search needs
 
 word-requires-2 : tie.Need-word-requires-2
 word-requires-2 c κs =
-    read-next (c .before .before .before .before .pre .0) (c .before .before .before .before .pre .2) (c .next .ensures) 4 (omega arith)
+    let start : tie.Start = search in
+    read-next (start .pre .0) (start .pre .2) (c .next .ensures) 4 (omega arith)
 
 previous-requires : tie.Need-previous-requires
 previous-requires c κs = search needs
 
 word-requires-3 : tie.Need-word-requires-3
 word-requires-3 c κs =
-    read-before (c .before .before .before .before .before .before .pre .0) (c .before .before .before .before .before .before .pre .3) (c .before .before .before .before .before .before .pre .1) (c .previous .ensures) 4 (omega arith)
+    let start : tie.Start = search in
+    read-before (start .pre .0) (start .pre .3) (start .pre .1) (c .previous .ensures) 4 (omega arith)
 
 returns : tie.Need-returns
 returns c =
-    side-told (c .before .before .before .before .before .before .before .args .mesh .now) (c .before .before .before .before .before .before .before .args .table .now) (c .before .before .before .before .before .before .before .args .g) (c .before .before .before .before .before .before .before .args .h) (c .before .before .before .before .word .ensures) (c .before .before .before .next .ensures) (c .before .before .word2 .ensures) (c .before .previous .ensures) (c .word3 .ensures)
+    let start : tie.Start = search in
+    let word-ensures = (let p : tie.After-word = search in p .word .ensures) in
+    let next-ensures = (let p : tie.After-next = search in p .next .ensures) in
+    let word2-ensures = (let p : tie.After-word2 = search in p .word2 .ensures) in
+    let previous-ensures = (let p : tie.After-previous = search in p .previous .ensures) in
+    side-told (start .args .mesh .now) (start .args .table .now) (start .args .g) (start .args .h) word-ensures next-ensures word2-ensures previous-ensures (c .word3 .ensures)
 
 pub side-spec : {M : Type 1} → statement M
 side-spec =

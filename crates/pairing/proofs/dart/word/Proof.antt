@@ -28,7 +28,8 @@ shared-slice-read-result c = search needs
 
 returns : tie.Need-returns
 returns c =
-    word-read (c .before .args .mesh .now) (c .before .args .g) (c .before .args .f) (c .before .pre .1)
+    let start : tie.Start = search in
+    word-read (start .args .mesh .now) (start .args .g) (start .args .f) (start .pre .1)
 
 pub word-spec : {M : Type 1} → statement M
 word-spec =

@@ -18,11 +18,15 @@ abbrev μ-loop : tie.MeasureT-loop
 
 loop-holds : tie.Need-loop-holds Inv-loop μ-loop
 loop-holds c =
-    gathering-none (c .before .before .pre .1)
+    let start : tie.Start Inv-loop μ-loop = search in
+    gathering-none (start .pre .1)
 
 put-part-requires : tie.Need-put-part-requires Inv-loop μ-loop
 put-part-requires c κs =
-    (c .before .before .before .before .before .pre .0, c .before .loop-test .taken, gathering-room (c .before .before .loop .inv) (c .before .loop-test .taken) (few (c .before .before .before .before .before .pre .0)))
+    let start : tie.Start Inv-loop μ-loop = search in
+    let loop-inv = (let p : tie.At-loop Inv-loop μ-loop = search in p .loop .inv) in
+    let loop-test-taken = (let p : tie.In-loop Inv-loop μ-loop = search in p .loop-test .taken) in
+    (start .pre .0, loop-test-taken, gathering-room loop-inv loop-test-taken (few (start .pre .0)))
 
 add-i : tie.Need-add-i Inv-loop μ-loop
 add-i c = search needs
@@ -32,15 +36,22 @@ loop-less c = search needs
 
 loop-again : tie.Need-loop-again Inv-loop μ-loop
 loop-again c =
-    gathering-more (c .before .before .before .before .before .loop .inv) (c .before .before .before .before .loop-test .taken) (c .before .before .put-part .ensures .0) (c .before .before .put-part .ensures .1)
+    let loop-inv = (let p : tie.At-loop Inv-loop μ-loop = search in p .loop .inv) in
+    let loop-test-taken = (let p : tie.In-loop Inv-loop μ-loop = search in p .loop-test .taken) in
+    let put-part-ensures = (let p : tie.After-put-part Inv-loop μ-loop = search in p .put-part .ensures) in
+    gathering-more loop-inv loop-test-taken (put-part-ensures .0) (put-part-ensures .1)
 
 same-length : tie.Need-same-length Inv-loop μ-loop
 same-length c =
-    c .before .loop .inv .len ∙ sym (c .before .before .before .before .pre .1)
+    let start : tie.Start Inv-loop μ-loop = search in
+    let loop-inv = (let p : tie.At-loop Inv-loop μ-loop = search in p .loop .inv) in
+    loop-inv .len ∙ sym (start .pre .1)
 
 returns : tie.Need-returns Inv-loop μ-loop
 returns c =
-    gathering-end (c .before .loop .inv) (c .loop-test .left) (few (c .before .before .before .before .pre .0))
+    let start : tie.Start Inv-loop μ-loop = search in
+    let loop-inv = (let p : tie.At-loop Inv-loop μ-loop = search in p .loop .inv) in
+    gathering-end loop-inv (c .loop-test .left) (few (start .pre .0))
 
 pub gather-spec : {M : Type 1} → statement M
 gather-spec =

@@ -24,8 +24,9 @@ slice-aggregate-sort-2 c =
 
 sort-requires : tie.Need-sort-requires
 sort-requires c κs =
-    let a = length-take-le (c .before .before .before .before .args .c) (c .before .before .before .before .args .keys .now) (omega arith) in
-    let b = length-take-le (c .before .before .before .before .args .c) (c .before .before .before .before .args .other .now) (omega arith) in
+    let start : tie.Start = search in
+    let a = length-take-le (start .args .c) (start .args .keys .now) (omega arith) in
+    let b = length-take-le (start .args .c) (start .args .other .now) (omega arith) in
     b ∙ sym a
 
 same-length : tie.Need-same-length
@@ -36,7 +37,9 @@ same-length-2 c = search needs
 
 returns : tie.Need-returns
 returns c =
-    (sorted-front (c .before .before .before .before .before .before .before .before .before .args .keys .now) (c .before .before .before .before .before .before .before .before .before .args .c) (c .before .before .before .before .before .before .before .before .before .pre .0) (c .before .before .before .before .sort .ensures), search needs, search needs)
+    let start : tie.Start = search in
+    let sort-ensures = (let p : tie.After-sort = search in p .sort .ensures) in
+    (sorted-front (start .args .keys .now) (start .args .c) (start .pre .0) sort-ensures, search needs, search needs)
 
 pub order-spec : {M : Type 1} → statement M
 order-spec =

@@ -12,14 +12,19 @@ field-requires c κs = search needs
 
 returns : tie.Need-returns
 returns c =
-    key-none (c .before .before .before .before .args .block .now) (c .before .before .before .before .args .i) (c .before .before .before .before .args .p) (c .before .before .before .before .args .at) (c .before .before .before .before .args .out .now) (c .before .field .ensures) (c .if1 .taken)
+    let start : tie.Start = search in
+    let field-ensures = (let p : tie.After-field = search in p .field .ensures) in
+    key-none (start .args .block .now) (start .args .i) (start .args .p) (start .args .at) (start .args .out .now) field-ensures (c .if1 .taken)
 
 field-requires-2 : tie.Need-field-requires-2
 field-requires-2 c κs = search needs
 
 mul-out : tie.Need-mul-out
 mul-out c =
-    omega (arith, code-fits (c .before .before .before .before .before .args .block .now) (c .before .before .before .before .before .args .p) (c .before .before .before .before .before .pre .2) (c .before .before .before .before .before .pre .4) (c .before .before .field .ensures) (c .before .if1 .left) (c .field2 .ensures))
+    let start : tie.Start = search in
+    let field-ensures = (let p : tie.After-field = search in p .field .ensures) in
+    let if1-left = (let p : tie.Else1 = search in p .if1 .left) in
+    omega (arith, code-fits (start .args .block .now) (start .args .p) (start .pre .2) (start .pre .4) field-ensures if1-left (c .field2 .ensures))
 
 mul-out-2 : tie.Need-mul-out-2
 mul-out-2 c = search needs
@@ -29,7 +34,10 @@ add-out c = search needs
 
 add-out-2 : tie.Need-add-out-2
 add-out-2 c =
-    omega (arith, code-fits (c .before .before .before .before .before .args .block .now) (c .before .before .before .before .before .args .p) (c .before .before .before .before .before .pre .2) (c .before .before .before .before .before .pre .4) (c .before .before .field .ensures) (c .before .if1 .left) (c .field2 .ensures))
+    let start : tie.Start = search in
+    let field-ensures = (let p : tie.After-field = search in p .field .ensures) in
+    let if1-left = (let p : tie.Else1 = search in p .if1 .left) in
+    omega (arith, code-fits (start .args .block .now) (start .args .p) (start .pre .2) (start .pre .4) field-ensures if1-left (c .field2 .ensures))
 
 mul-out-3 : tie.Need-mul-out-3
 mul-out-3 c = search needs
@@ -45,7 +53,10 @@ same-length c = search needs
 
 returns-2 : tie.Need-returns-2
 returns-2 c =
-    key-put (c .before .before .before .before .before .args .block .now) (c .before .before .before .before .before .args .i) (c .before .before .before .before .before .args .p) (c .before .before .before .before .before .args .at) (c .before .before .before .before .before .args .out .now) (c .before .before .before .before .before .pre .5) (c .before .before .field .ensures) (c .before .if1 .left) (c .field2 .ensures)
+    let start : tie.Start = search in
+    let field-ensures = (let p : tie.After-field = search in p .field .ensures) in
+    let if1-left = (let p : tie.Else1 = search in p .if1 .left) in
+    key-put (start .args .block .now) (start .args .i) (start .args .p) (start .args .at) (start .args .out .now) (start .pre .5) field-ensures if1-left (c .field2 .ensures)
 
 pub put-key-spec : {M : Type 1} → statement M
 put-key-spec =

@@ -23,7 +23,10 @@ loop-holds c =
 
 put-key-requires : tie.Need-put-key-requires Inv-loop μ-loop
 put-key-requires c κs =
-    (c .before .before .before .before .before .before .pre .0, c .before .before .before .before .before .before .pre .1, c .before .before .before .before .before .before .pre .2, c .before .before .before .before .before .before .pre .3, c .before .loop-test .taken, putting-room (c .before .before .loop .inv) (c .before .loop-test .taken) (c .before .before .before .before .before .before .pre .1) (c .before .before .before .before .before .before .pre .4))
+    let start : tie.Start Inv-loop μ-loop = search in
+    let loop-inv = (let p : tie.At-loop Inv-loop μ-loop = search in p .loop .inv) in
+    let loop-test-taken = (let p : tie.In-loop Inv-loop μ-loop = search in p .loop-test .taken) in
+    (start .pre .0, start .pre .1, start .pre .2, start .pre .3, loop-test-taken, putting-room loop-inv loop-test-taken (start .pre .1) (start .pre .4))
 
 add-p : tie.Need-add-p Inv-loop μ-loop
 add-p c = search needs
@@ -33,15 +36,21 @@ loop-less c = search needs
 
 loop-again : tie.Need-loop-again Inv-loop μ-loop
 loop-again c =
-    putting-more (c .before .before .before .before .before .loop .inv) (c .before .before .before .before .loop-test .taken) (c .before .before .put-key .ensures .0) (c .before .before .put-key .ensures .1)
+    let loop-inv = (let p : tie.At-loop Inv-loop μ-loop = search in p .loop .inv) in
+    let loop-test-taken = (let p : tie.In-loop Inv-loop μ-loop = search in p .loop-test .taken) in
+    let put-key-ensures = (let p : tie.After-put-key Inv-loop μ-loop = search in p .put-key .ensures) in
+    putting-more loop-inv loop-test-taken (put-key-ensures .0) (put-key-ensures .1)
 
 same-length : tie.Need-same-length Inv-loop μ-loop
 same-length c =
-    c .before .loop .inv .done .len
+    let loop-inv = (let p : tie.At-loop Inv-loop μ-loop = search in p .loop .inv) in
+    loop-inv .done .len
 
 returns : tie.Need-returns Inv-loop μ-loop
 returns c =
-    putting-end (c .before .loop .inv) (c .loop-test .left) (c .before .before .before .before .before .pre .1)
+    let start : tie.Start Inv-loop μ-loop = search in
+    let loop-inv = (let p : tie.At-loop Inv-loop μ-loop = search in p .loop .inv) in
+    putting-end loop-inv (c .loop-test .left) (start .pre .1)
 
 pub put-keys-spec : {M : Type 1} → statement M
 put-keys-spec =

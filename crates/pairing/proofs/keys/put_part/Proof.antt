@@ -28,14 +28,17 @@ part-put-keys-end c = search needs
 
 put-keys-requires : tie.Need-put-keys-requires
 put-keys-requires c κs =
-    part-asked (c .before .before .before .before .args .mesh .now) (c .before .before .before .before .args .i) (part-is (c .before .before .before .before .args .mesh .now) (c .before .before .before .before .args .i) _ refl) (c .before .before .before .before .pre .0) (c .before .before .before .before .pre .1) (c .before .before .before .before .args .at) (length (c .before .before .before .before .args .out .now)) (c .before .before .before .before .pre .2)
+    let start : tie.Start = search in
+    part-asked (start .args .mesh .now) (start .args .i) (part-is (start .args .mesh .now) (start .args .i) _ refl) (start .pre .0) (start .pre .1) (start .args .at) (length (start .args .out .now)) (start .pre .2)
 
 same-length : tie.Need-same-length
 same-length c = search needs
 
 returns : tie.Need-returns
 returns c =
-    part-told (c .before .before .before .before .before .before .before .args .mesh .now) (c .before .before .before .before .before .before .before .args .i) (part-is (c .before .before .before .before .before .before .before .args .mesh .now) (c .before .before .before .before .before .before .before .args .i) _ refl) (c .before .before .before .before .before .before .before .pre .0) (c .before .before .before .before .before .before .before .pre .1) (c .before .before .put-keys .ensures)
+    let start : tie.Start = search in
+    let put-keys-ensures = (let p : tie.After-put-keys = search in p .put-keys .ensures) in
+    part-told (start .args .mesh .now) (start .args .i) (part-is (start .args .mesh .now) (start .args .i) _ refl) (start .pre .0) (start .pre .1) put-keys-ensures
 
 pub put-part-spec : {M : Type 1} → statement M
 put-part-spec =

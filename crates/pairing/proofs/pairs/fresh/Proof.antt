@@ -8,7 +8,8 @@ use Rattle.pairing.proofs.pairs.fresh.Tie as tie
 
 returns : tie.Need-returns
 returns c =
-    fresh-end (c .before .args .x / 65536) (c .before .args .keys .now) (c .before .args .t) (c .if1 .taken)
+    let start : tie.Start = search in
+    fresh-end (start .args .x / 65536) (start .args .keys .now) (start .args .t) (c .if1 .taken)
 
 mul-result : tie.Need-mul-result
 mul-result c = search needs
@@ -18,7 +19,9 @@ shared-slice-read-result c = search needs
 
 returns-2 : tie.Need-returns-2
 returns-2 c =
-    fresh-there (c .before .before .args .x / 65536) (c .before .before .args .keys .now) (c .before .before .args .t) (c .before .if1 .left)
+    let start : tie.Start = search in
+    let if1-left = (let p : tie.Else1 = search in p .if1 .left) in
+    fresh-there (start .args .x / 65536) (start .args .keys .now) (start .args .t) if1-left
 
 pub fresh-spec : {M : Type 1} → statement M
 fresh-spec =

@@ -26,11 +26,16 @@ sub-loop c = search needs
 
 two-requires : tie.Need-two-requires Inv-loop μ-loop
 two-requires c κs =
-    (c .before .before .before .before .before .pre .0, c .before .before .before .before .before .pre .1, c .before .before .before .before .before .pre .2, two-there (length (c .before .before .before .before .before .args .keys .now)) (c .before .loop .t) (c .loop-test .taken))
+    let start : tie.Start Inv-loop μ-loop = search in
+    let loop-t = (let p : tie.At-loop Inv-loop μ-loop = search in p .loop .t) in
+    (start .pre .0, start .pre .1, start .pre .2, two-there (length (start .args .keys .now)) loop-t (c .loop-test .taken))
 
 returns : tie.Need-returns Inv-loop μ-loop
 returns c =
-    pairs-no (c .before .before .before .loop .inv) (c .before .before .loop-test .taken) (c .before .two .ensures) (not-true _ (c .if1 .taken))
+    let loop-inv = (let p : tie.At-loop Inv-loop μ-loop = search in p .loop .inv) in
+    let loop-test-taken = (let p : tie.In-loop Inv-loop μ-loop = search in p .loop-test .taken) in
+    let two-ensures = (let p : tie.After-two Inv-loop μ-loop = search in p .two .ensures) in
+    pairs-no loop-inv loop-test-taken two-ensures (not-true _ (c .if1 .taken))
 
 add-t : tie.Need-add-t Inv-loop μ-loop
 add-t c = search needs
@@ -40,11 +45,15 @@ loop-less c = search needs
 
 loop-again : tie.Need-loop-again Inv-loop μ-loop
 loop-again c =
-    pairs-more (c .before .before .before .loop .inv) (c .before .before .loop-test .taken) (c .before .two .ensures) (not-false _ (c .if1 .left))
+    let loop-inv = (let p : tie.At-loop Inv-loop μ-loop = search in p .loop .inv) in
+    let loop-test-taken = (let p : tie.In-loop Inv-loop μ-loop = search in p .loop-test .taken) in
+    let two-ensures = (let p : tie.After-two Inv-loop μ-loop = search in p .two .ensures) in
+    pairs-more loop-inv loop-test-taken two-ensures (not-false _ (c .if1 .left))
 
 returns-2 : tie.Need-returns-2 Inv-loop μ-loop
 returns-2 c =
-    pairs-end (c .before .loop .inv) (c .loop-test .left)
+    let loop-inv = (let p : tie.At-loop Inv-loop μ-loop = search in p .loop .inv) in
+    pairs-end loop-inv (c .loop-test .left)
 
 pub labels-spec : {M : Type 1} → statement M
 labels-spec =

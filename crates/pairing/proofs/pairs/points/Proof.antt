@@ -41,11 +41,17 @@ shared-slice-read-points-pair-2 c = search needs
 
 points-pair-requires : tie.Need-points-pair-requires Inv-loop μ-loop
 points-pair-requires c κs =
-    (c .before .before .before .before .before .before .pre .0, c .before .before .before .before .before .before .pre .1 (c .before .before .before .loop .t) (first-of (length (c .before .before .before .before .before .before .args .keys .now)) (c .before .before .before .loop .t) (two-there (length (c .before .before .before .before .before .before .args .keys .now)) (c .before .before .before .loop .t) (c .before .before .loop-test .taken))), c .before .before .before .before .before .before .pre .1 (c .before .before .before .loop .t + 1) (two-there (length (c .before .before .before .before .before .before .args .keys .now)) (c .before .before .before .loop .t) (c .before .before .loop-test .taken)))
+    let start : tie.Start Inv-loop μ-loop = search in
+    let loop-t = (let p : tie.At-loop Inv-loop μ-loop = search in p .loop .t) in
+    let loop-test-taken = (let p : tie.In-loop Inv-loop μ-loop = search in p .loop-test .taken) in
+    (start .pre .0, start .pre .1 loop-t (first-of (length (start .args .keys .now)) loop-t (two-there (length (start .args .keys .now)) loop-t loop-test-taken)), start .pre .1 (loop-t + 1) (two-there (length (start .args .keys .now)) loop-t loop-test-taken))
 
 returns : tie.Need-returns Inv-loop μ-loop
 returns c =
-    each-no (c .before .before .before .before .before .loop .inv) (c .before .before .before .before .loop-test .taken) (c .before .points-pair .ensures) (not-true _ (c .if1 .taken))
+    let loop-inv = (let p : tie.At-loop Inv-loop μ-loop = search in p .loop .inv) in
+    let loop-test-taken = (let p : tie.In-loop Inv-loop μ-loop = search in p .loop-test .taken) in
+    let points-pair-ensures = (let p : tie.After-points-pair Inv-loop μ-loop = search in p .points-pair .ensures) in
+    each-no loop-inv loop-test-taken points-pair-ensures (not-true _ (c .if1 .taken))
 
 add-t : tie.Need-add-t Inv-loop μ-loop
 add-t c = search needs
@@ -55,11 +61,15 @@ loop-less c = search needs
 
 loop-again : tie.Need-loop-again Inv-loop μ-loop
 loop-again c =
-    each-more (c .before .before .before .before .before .loop .inv) (c .before .before .before .before .loop-test .taken) (c .before .points-pair .ensures) (not-false _ (c .if1 .left))
+    let loop-inv = (let p : tie.At-loop Inv-loop μ-loop = search in p .loop .inv) in
+    let loop-test-taken = (let p : tie.In-loop Inv-loop μ-loop = search in p .loop-test .taken) in
+    let points-pair-ensures = (let p : tie.After-points-pair Inv-loop μ-loop = search in p .points-pair .ensures) in
+    each-more loop-inv loop-test-taken points-pair-ensures (not-false _ (c .if1 .left))
 
 returns-2 : tie.Need-returns-2 Inv-loop μ-loop
 returns-2 c =
-    each-end (c .before .loop .inv) (c .loop-test .left)
+    let loop-inv = (let p : tie.At-loop Inv-loop μ-loop = search in p .loop .inv) in
+    each-end loop-inv (c .loop-test .left)
 
 pub points-spec : {M : Type 1} → statement M
 points-spec =

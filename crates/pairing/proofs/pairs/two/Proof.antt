@@ -31,11 +31,14 @@ fresh-requires c κs = search needs
 
 labels-pair-requires : tie.Need-labels-pair-requires
 labels-pair-requires c κs =
-    (c .before .before .before .before .before .before .pre .0, c .before .before .before .before .before .before .pre .1, c .before .before .before .before .before .before .pre .2 (c .before .before .before .before .before .before .args .t) (first-of (length (c .before .before .before .before .before .before .args .keys .now)) (c .before .before .before .before .before .before .args .t) (c .before .before .before .before .before .before .pre .3)), c .before .before .before .before .before .before .pre .2 (c .before .before .before .before .before .before .args .t + 1) (c .before .before .before .before .before .before .pre .3))
+    let start : tie.Start = search in
+    (start .pre .0, start .pre .1, start .pre .2 (start .args .t) (first-of (length (start .args .keys .now)) (start .args .t) (start .pre .3)), start .pre .2 (start .args .t + 1) (start .pre .3))
 
 returns : tie.Need-returns
 returns c =
-    two-told (label-pair (c .before .before .before .before .before .before .before .args .mesh .now) (c .before .before .before .before .before .before .before .args .table .now)) (getD (c .before .before .before .before .before .before .before .args .keys .now) (c .before .before .before .before .before .before .before .args .t) 0) (getD (c .before .before .before .before .before .before .before .args .keys .now) (c .before .before .before .before .before .before .before .args .t + 1) 0) (drop (c .before .before .before .before .before .before .before .args .t + 2) (c .before .before .before .before .before .before .before .args .keys .now)) (c .before .fresh .ensures) (c .labels-pair .ensures)
+    let start : tie.Start = search in
+    let fresh-ensures = (let p : tie.After-fresh = search in p .fresh .ensures) in
+    two-told (label-pair (start .args .mesh .now) (start .args .table .now)) (getD (start .args .keys .now) (start .args .t) 0) (getD (start .args .keys .now) (start .args .t + 1) 0) (drop (start .args .t + 2) (start .args .keys .now)) fresh-ensures (c .labels-pair .ensures)
 
 pub two-spec : {M : Type 1} → statement M
 two-spec =

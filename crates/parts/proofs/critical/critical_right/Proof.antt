@@ -16,11 +16,16 @@ few-requires c κs = search needs
 
 returns : tie.Need-returns
 returns c =
-    (many-no (c .before .before .before .before .before .before .before .before .before .before .args .block .now) (c .before .before .before .before .before .before .before .before .before .before .args .message .now) (c .before .before .before .before .before .before .before .before .before .before .args .starts .now) (c .before .before .before .before .before .before .before .before .before .before .args .sizes .now) (c .before .before .before .before .before .before .before .before .before .before .args .k) (c .before .before .before .before .before .before .before .before .before .before .args .from) (c .before .before .before .before .before .before .before .before .before .before .args .to) (c .before .before .before .before .before .before .before .before .before .before .args .tail) (c .before .before .before .before .before .before .before .before .before .before .pre .0 .8) (sym (c .before .few .ensures) ∙ not-true _ (c .if1 .taken)), c .before .before .before .before .before .before .before .before .before .before .pre .0 .3, c .before .before .before .before .before .before .before .before .before .before .pre .0 .4, (ap length (c .before .before .before .before .before .before .before .before .before .before .pre .0 .5) ∙ refl), (ap length (c .before .before .before .before .before .before .before .before .before .before .pre .0 .6) ∙ refl))
+    let start : tie.Start = search in
+    let few-ensures = (let p : tie.After-few = search in p .few .ensures) in
+    (many-no (start .args .block .now) (start .args .message .now) (start .args .starts .now) (start .args .sizes .now) (start .args .k) (start .args .from) (start .args .to) (start .args .tail) (start .pre .0 .8) (sym few-ensures ∙ not-true _ (c .if1 .taken)), start .pre .0 .3, start .pre .0 .4, (ap length (start .pre .0 .5) ∙ refl), (ap length (start .pre .0 .6) ∙ refl))
 
 read-part2-requires : tie.Need-read-part2-requires
 read-part2-requires c κs =
-    ((let r = c .before .before .before .before .before .before .before .before .before .before .before .before .pre .1 .3 .part2-in in let a = r .onward in let b = r .within in omega (arith, a, b)), few2 (c .before .before .before .before .before .before .before .before .before .before .before .before .args .tail) (sym (c .before .before .before .few .ensures) ∙ not-false _ (c .before .before .if1 .left)), c .before .before .before .before .before .before .before .before .before .before .before .before .pre .0 .3, c .before .before .before .before .before .before .before .before .before .before .before .before .pre .0 .4)
+    let start : tie.Start = search in
+    let few-ensures = (let p : tie.After-few = search in p .few .ensures) in
+    let if1-left = (let p : tie.Else1 = search in p .if1 .left) in
+    ((let r = start .pre .1 .3 .part2-in in let a = r .onward in let b = r .within in omega (arith, a, b)), few2 (start .args .tail) (sym few-ensures ∙ not-false _ if1-left), start .pre .0 .3, start .pre .0 .4)
 
 slice-aggregate-read-part3 : tie.Need-slice-aggregate-read-part3
 slice-aggregate-read-part3 c = search needs
@@ -30,7 +35,10 @@ slice-aggregate-read-part3-2 c = search needs
 
 read-part3-requires : tie.Need-read-part3-requires
 read-part3-requires c κs =
-    ((let r = c .before .before .before .before .before .before .before .before .before .before .before .before .before .before .before .before .before .before .before .pre .1 .3 .part3-in in let a = r .onward in let b = r .within in omega (arith, a, b)), few3 (c .before .before .before .before .before .before .before .before .before .before .before .before .before .before .before .before .before .before .before .args .tail) (sym (c .before .before .before .before .before .before .before .before .before .before .few .ensures) ∙ not-false _ (c .before .before .before .before .before .before .before .before .before .if1 .left)), refl, refl)
+    let start : tie.Start = search in
+    let few-ensures = (let p : tie.After-few = search in p .few .ensures) in
+    let if1-left = (let p : tie.Else1 = search in p .if1 .left) in
+    ((let r = start .pre .1 .3 .part3-in in let a = r .onward in let b = r .within in omega (arith, a, b)), few3 (start .args .tail) (sym few-ensures ∙ not-false _ if1-left), refl, refl)
 
 slice-aggregate-read-part4 : tie.Need-slice-aggregate-read-part4
 slice-aggregate-read-part4 c = search needs
@@ -43,7 +51,11 @@ slice-aggregate-read-part4-3 c = search needs
 
 read-part4-requires : tie.Need-read-part4-requires
 read-part4-requires c κs =
-    ((let r = c .before .before .before .before .before .before .before .before .before .before .before .before .before .before .before .before .before .before .before .before .before .before .before .before .before .pre .1 .3 .part4-in in let a = r .onward in let b = r .within in omega (arith, a, b)), few4 (c .before .before .before .before .before .before .before .before .before .before .before .before .before .before .before .before .before .before .before .before .before .before .before .before .before .args .tail) (sym (c .before .before .before .before .before .before .before .before .before .before .before .before .before .before .before .before .few .ensures) ∙ not-false _ (c .before .before .before .before .before .before .before .before .before .before .before .before .before .before .before .if1 .left)), (let n = c .before .before .before .before .before .before .before .before .before .before .before .before .before .before .before .before .before .before .before .before .before .before .before .before .before .pre .0 .2 in let h = c .before .before .before .before .before .before .before .before .before .before .before .before .before .before .before .before .before .before .before .before .before .before .before .before .before .pre .0 .8 in omega (arith, n, h)), refl, refl, refl)
+    let if1-left = (let p : tie.Else1 = search in p .if1 .left) in
+    let few-ensures = (let p : tie.After-few = search in p .few .ensures) in
+    let c : tie.After-few = search in
+    let start : tie.Start = search in
+    ((let r = start .pre .1 .3 .part4-in in let a = r .onward in let b = r .within in omega (arith, a, b)), few4 (start .args .tail) (sym few-ensures ∙ not-false _ if1-left), (let n = start .pre .0 .2 in let h = start .pre .0 .8 in omega (arith, n, h)), refl, refl, refl)
 
 slice-aggregate-entries-fit : tie.Need-slice-aggregate-entries-fit
 slice-aggregate-entries-fit c = search needs
@@ -59,7 +71,14 @@ slice-aggregate-entries-fit-4 c = search needs
 
 entries-fit-requires : tie.Need-entries-fit-requires
 entries-fit-requires c κs =
-    (c .before .before .before .before .before .before .before .before .before .before .before .before .before .before .before .before .before .before .before .before .before .read-part2 .ensures .second-size, c .before .before .before .before .before .before .before .before .before .before .before .before .before .before .read-part3 .ensures .second-size, c .before .before .before .before .before .before .before .before .before .before .before .before .before .before .read-part3 .ensures .first-size, c .before .before .before .before .before .before .before .before .read-part4 .ensures .0, c .before .before .before .before .before .before .before .before .read-part4 .ensures .1, c .before .before .before .before .before .before .before .before .before .before .before .before .before .before .before .before .before .before .before .before .before .before .before .before .before .before .before .before .before .before .before .before .before .before .pre .0 .1, few2 (c .before .before .before .before .before .before .before .before .before .before .before .before .before .before .before .before .before .before .before .before .before .before .before .before .before .before .before .before .before .before .before .before .before .before .args .tail) (sym (c .before .before .before .before .before .before .before .before .before .before .before .before .before .before .before .before .before .before .before .before .before .before .before .before .before .few .ensures) ∙ not-false _ (c .before .before .before .before .before .before .before .before .before .before .before .before .before .before .before .before .before .before .before .before .before .before .before .before .if1 .left)), few3 (c .before .before .before .before .before .before .before .before .before .before .before .before .before .before .before .before .before .before .before .before .before .before .before .before .before .before .before .before .before .before .before .before .before .before .args .tail) (sym (c .before .before .before .before .before .before .before .before .before .before .before .before .before .before .before .before .before .before .before .before .before .before .before .before .before .few .ensures) ∙ not-false _ (c .before .before .before .before .before .before .before .before .before .before .before .before .before .before .before .before .before .before .before .before .before .before .before .before .if1 .left)), few4 (c .before .before .before .before .before .before .before .before .before .before .before .before .before .before .before .before .before .before .before .before .before .before .before .before .before .before .before .before .before .before .before .before .before .before .args .tail) (sym (c .before .before .before .before .before .before .before .before .before .before .before .before .before .before .before .before .before .before .before .before .before .before .before .before .before .few .ensures) ∙ not-false _ (c .before .before .before .before .before .before .before .before .before .before .before .before .before .before .before .before .before .before .before .before .before .before .before .before .if1 .left)), c .before .before .before .before .before .before .before .before .before .before .before .before .before .before .before .before .before .before .before .before .before .before .before .before .before .before .before .before .before .before .before .before .before .before .pre .0 .8)
+    let read-part4-ensures = (let p : tie.After-read-part4 = search in p .read-part4 .ensures) in
+    let read-part3-ensures = (let p : tie.After-read-part3 = search in p .read-part3 .ensures) in
+    let c : tie.After-read-part3 = search in
+    let read-part2-ensures = (let p : tie.After-read-part2 = search in p .read-part2 .ensures) in
+    let if1-left = (let p : tie.Else1 = search in p .if1 .left) in
+    let few-ensures = (let p : tie.After-few = search in p .few .ensures) in
+    let start : tie.Start = search in
+    (read-part2-ensures .second-size, read-part3-ensures .second-size, read-part3-ensures .first-size, read-part4-ensures .0, read-part4-ensures .1, start .pre .0 .1, few2 (start .args .tail) (sym few-ensures ∙ not-false _ if1-left), few3 (start .args .tail) (sym few-ensures ∙ not-false _ if1-left), few4 (start .args .tail) (sym few-ensures ∙ not-false _ if1-left), start .pre .0 .8)
 
 same-length : tie.Need-same-length
 same-length c = search needs
@@ -69,7 +88,16 @@ same-length-2 c = search needs
 
 returns-2 : tie.Need-returns-2
 returns-2 c =
-    (entries-no (c .before .before .before .before .before .before .before .before .before .before .before .before .before .before .before .before .before .before .before .before .before .before .before .before .before .before .before .before .before .before .before .before .before .before .before .before .args .block .now) (c .before .before .before .before .before .before .before .before .before .before .before .before .before .before .before .before .before .before .before .before .before .before .before .before .before .before .before .before .before .before .before .before .before .before .before .before .args .starts .now) (c .before .before .before .before .before .before .before .before .before .before .before .before .before .before .before .before .before .before .before .before .before .before .before .before .before .before .before .before .before .before .before .before .before .before .before .before .args .from) (c .before .before .before .before .before .before .before .before .before .before .before .before .before .before .before .before .before .before .before .before .before .before .before .before .before .before .before .before .before .before .before .before .before .before .before .before .args .to) (c .before .before .before .before .before .before .before .before .before .before .before .before .before .before .before .before .before .before .before .before .before .before .before .before .before .before .before .before .before .before .before .before .before .before .before .before .args .tail) (sym (c .before .before .before .before .before .before .before .before .before .before .before .before .before .before .before .before .before .before .before .before .before .before .before .before .before .before .before .few .ensures) ∙ not-false _ (c .before .before .before .before .before .before .before .before .before .before .before .before .before .before .before .before .before .before .before .before .before .before .before .before .before .before .if1 .left)) (c .before .before .before .before .before .before .before .before .before .before .before .before .before .before .before .before .before .before .before .before .before .before .before .read-part2 .ensures) (c .before .before .before .before .before .before .before .before .before .before .before .before .before .before .before .before .read-part3 .ensures) (c .before .before .before .before .before .before .before .before .before .before .read-part4 .ensures) (sym (c .before .entries-fit .ensures) ∙ not-true _ (c .if2 .taken)), c .before .before .before .before .before .before .before .before .before .before .before .before .before .before .before .before .before .before .before .before .before .before .before .read-part2 .ensures .first-size, c .before .before .before .before .before .before .before .before .before .before .before .before .before .before .before .before .before .before .before .before .before .before .before .read-part2 .ensures .second-size, (ap length (c .before .before .before .before .before .before .before .before .before .before .before .before .before .before .before .before .before .before .before .before .before .before .before .before .before .before .before .before .before .before .before .before .before .before .before .before .pre .0 .5) ∙ refl), (ap length (c .before .before .before .before .before .before .before .before .before .before .before .before .before .before .before .before .before .before .before .before .before .before .before .before .before .before .before .before .before .before .before .before .before .before .before .before .pre .0 .6) ∙ refl))
+    let if2-taken = (let p : tie.Then2 = search in p .if2 .taken) in
+    let entries-fit-ensures = (let p : tie.After-entries-fit = search in p .entries-fit .ensures) in
+    let read-part4-ensures = (let p : tie.After-read-part4 = search in p .read-part4 .ensures) in
+    let read-part3-ensures = (let p : tie.After-read-part3 = search in p .read-part3 .ensures) in
+    let c : tie.After-read-part3 = search in
+    let read-part2-ensures = (let p : tie.After-read-part2 = search in p .read-part2 .ensures) in
+    let if1-left = (let p : tie.Else1 = search in p .if1 .left) in
+    let few-ensures = (let p : tie.After-few = search in p .few .ensures) in
+    let start : tie.Start = search in
+    (entries-no (start .args .block .now) (start .args .starts .now) (start .args .from) (start .args .to) (start .args .tail) (sym few-ensures ∙ not-false _ if1-left) read-part2-ensures read-part3-ensures read-part4-ensures (sym entries-fit-ensures ∙ not-true _ if2-taken), read-part2-ensures .first-size, read-part2-ensures .second-size, (ap length (start .pre .0 .5) ∙ refl), (ap length (start .pre .0 .6) ∙ refl))
 
 slice-aggregate-put-part3 : tie.Need-slice-aggregate-put-part3
 slice-aggregate-put-part3 c = search needs
@@ -79,7 +107,16 @@ slice-aggregate-put-part3-2 c = search needs
 
 put-part3-requires : tie.Need-put-part3-requires
 put-part3-requires c κs =
-    ((c .before .before .before .before .before .before .before .before .before .before .before .before .before .before .before .before .before .before .before .before .read-part3 .ensures .second-size, c .before .before .before .before .before .before .before .before .before .before .before .before .before .before .before .before .before .before .before .before .read-part3 .ensures .first-size, c .before .before .before .before .before .before .before .before .before .before .before .before .before .before .before .before .before .before .before .before .before .before .before .before .before .before .before .before .before .before .before .before .before .before .before .before .before .before .before .before .pre .0 .2, (ap length (c .before .before .before .before .before .before .before .before .before .before .before .before .before .before .before .before .before .before .before .before .before .before .before .before .before .before .before .before .before .before .before .before .before .before .before .before .before .before .before .before .pre .0 .5) ∙ refl), (ap length (c .before .before .before .before .before .before .before .before .before .before .before .before .before .before .before .before .before .before .before .before .before .before .before .before .before .before .before .before .before .before .before .before .before .before .before .before .before .before .before .before .pre .0 .6) ∙ refl)), (put-spans3 (c .before .before .before .before .before .before .before .before .before .before .before .before .before .before .before .before .before .before .before .before .before .before .before .before .before .before .before .before .before .before .before .before .before .before .before .before .before .before .before .before .args .block .now) (c .before .before .before .before .before .before .before .before .before .before .before .before .before .before .before .before .before .before .before .before .before .before .before .before .before .before .before .before .before .before .before .before .before .before .before .before .before .before .before .before .args .starts .now) (c .before .before .before .before .before .before .before .before .before .before .before .before .before .before .before .before .before .before .before .before .before .before .before .before .before .before .before .before .before .before .before .before .before .before .before .before .before .before .before .before .args .from) (c .before .before .before .before .before .before .before .before .before .before .before .before .before .before .before .before .before .before .before .before .before .before .before .before .before .before .before .before .before .before .before .before .before .before .before .before .before .before .before .before .args .to) (c .before .before .before .before .before .before .before .before .before .before .before .before .before .before .before .before .before .before .before .before .before .before .before .before .before .before .before .before .before .before .before .before .before .before .before .before .before .before .before .before .args .tail) (sym (c .before .before .before .before .before .before .before .before .before .before .before .before .before .before .before .before .before .before .before .before .before .before .before .before .before .before .before .before .before .before .before .few .ensures) ∙ not-false _ (c .before .before .before .before .before .before .before .before .before .before .before .before .before .before .before .before .before .before .before .before .before .before .before .before .before .before .before .before .before .before .if1 .left)) (c .before .before .before .before .before .before .before .before .before .before .before .before .before .before .before .before .before .before .before .before .before .before .before .before .before .before .before .read-part2 .ensures) (c .before .before .before .before .before .before .before .before .before .before .before .before .before .before .before .before .before .before .before .before .read-part3 .ensures) (c .before .before .before .before .before .before .before .before .before .before .before .before .before .before .read-part4 .ensures) (c .before .before .before .before .before .before .before .before .before .before .before .before .before .before .before .before .before .before .before .before .before .before .before .before .before .before .before .before .before .before .before .before .before .before .before .before .before .before .before .before .pre .0 .8) (sym (c .before .before .before .before .before .entries-fit .ensures) ∙ not-false _ (c .before .before .before .before .if2 .left)) (c .before .before .before .before .before .before .before .before .before .before .before .before .before .before .before .before .before .before .before .before .before .before .before .before .before .before .before .before .before .before .before .before .before .before .before .before .before .before .before .before .pre .1 .3), few3 (c .before .before .before .before .before .before .before .before .before .before .before .before .before .before .before .before .before .before .before .before .before .before .before .before .before .before .before .before .before .before .before .before .before .before .before .before .before .before .before .before .args .tail) (sym (c .before .before .before .before .before .before .before .before .before .before .before .before .before .before .before .before .before .before .before .before .before .before .before .before .before .before .before .before .before .before .before .few .ensures) ∙ not-false _ (c .before .before .before .before .before .before .before .before .before .before .before .before .before .before .before .before .before .before .before .before .before .before .before .before .before .before .before .before .before .before .if1 .left)), c .before .before .before .before .before .before .before .before .before .before .before .before .before .before .before .before .before .before .before .before .before .before .before .before .before .before .before .before .before .before .before .before .before .before .before .before .before .before .before .before .pre .0 .9, put-numbers (c .before .before .before .before .before .before .before .before .before .before .before .before .before .before .before .before .before .before .before .before .before .before .before .before .before .before .before .before .before .before .before .before .before .before .before .before .before .before .before .before .args .block .now) (c .before .before .before .before .before .before .before .before .before .before .before .before .before .before .before .before .before .before .before .before .before .before .before .before .before .before .before .before .before .before .before .before .before .before .before .before .before .before .before .before .args .starts .now) (c .before .before .before .before .before .before .before .before .before .before .before .before .before .before .before .before .before .before .before .before .before .before .before .before .before .before .before .before .before .before .before .before .before .before .before .before .before .before .before .before .args .from) (c .before .before .before .before .before .before .before .before .before .before .before .before .before .before .before .before .before .before .before .before .before .before .before .before .before .before .before .before .before .before .before .before .before .before .before .before .before .before .before .before .args .to) (c .before .before .before .before .before .before .before .before .before .before .before .before .before .before .before .before .before .before .before .before .before .before .before .before .before .before .before .before .before .before .before .before .before .before .before .before .before .before .before .before .args .tail) (sym (c .before .before .before .before .before .before .before .before .before .before .before .before .before .before .before .before .before .before .before .before .before .before .before .before .before .before .before .before .before .before .before .few .ensures) ∙ not-false _ (c .before .before .before .before .before .before .before .before .before .before .before .before .before .before .before .before .before .before .before .before .before .before .before .before .before .before .before .before .before .before .if1 .left)) (c .before .before .before .before .before .before .before .before .before .before .before .before .before .before .before .before .before .before .before .before .before .before .before .before .before .before .before .read-part2 .ensures) (c .before .before .before .before .before .before .before .before .before .before .before .before .before .before .before .before .before .before .before .before .read-part3 .ensures) (c .before .before .before .before .before .before .before .before .before .before .before .before .before .before .read-part4 .ensures) (c .before .before .before .before .before .before .before .before .before .before .before .before .before .before .before .before .before .before .before .before .before .before .before .before .before .before .before .before .before .before .before .before .before .before .before .before .before .before .before .before .pre .0 .8) (sym (c .before .before .before .before .before .entries-fit .ensures) ∙ not-false _ (c .before .before .before .before .if2 .left)) (c .before .before .before .before .before .before .before .before .before .before .before .before .before .before .before .before .before .before .before .before .before .before .before .before .before .before .before .before .before .before .before .before .before .before .before .before .before .before .before .before .pre .1 .3)))
+    let if2-left = (let p : tie.Else2 = search in p .if2 .left) in
+    let entries-fit-ensures = (let p : tie.After-entries-fit = search in p .entries-fit .ensures) in
+    let read-part4-ensures = (let p : tie.After-read-part4 = search in p .read-part4 .ensures) in
+    let read-part3-ensures = (let p : tie.After-read-part3 = search in p .read-part3 .ensures) in
+    let c : tie.After-read-part3 = search in
+    let read-part2-ensures = (let p : tie.After-read-part2 = search in p .read-part2 .ensures) in
+    let if1-left = (let p : tie.Else1 = search in p .if1 .left) in
+    let few-ensures = (let p : tie.After-few = search in p .few .ensures) in
+    let start : tie.Start = search in
+    ((read-part3-ensures .second-size, read-part3-ensures .first-size, start .pre .0 .2, (ap length (start .pre .0 .5) ∙ refl), (ap length (start .pre .0 .6) ∙ refl)), (put-spans3 (start .args .block .now) (start .args .starts .now) (start .args .from) (start .args .to) (start .args .tail) (sym few-ensures ∙ not-false _ if1-left) read-part2-ensures read-part3-ensures read-part4-ensures (start .pre .0 .8) (sym entries-fit-ensures ∙ not-false _ if2-left) (start .pre .1 .3), few3 (start .args .tail) (sym few-ensures ∙ not-false _ if1-left), start .pre .0 .9, put-numbers (start .args .block .now) (start .args .starts .now) (start .args .from) (start .args .to) (start .args .tail) (sym few-ensures ∙ not-false _ if1-left) read-part2-ensures read-part3-ensures read-part4-ensures (start .pre .0 .8) (sym entries-fit-ensures ∙ not-false _ if2-left) (start .pre .1 .3)))
 
 slice-aggregate-put-part4 : tie.Need-slice-aggregate-put-part4
 slice-aggregate-put-part4 c = search needs
@@ -92,23 +129,58 @@ slice-aggregate-put-part4-3 c = search needs
 
 put-part4-requires : tie.Need-put-part4-requires
 put-part4-requires c κs =
-    ((c .before .before .before .before .before .before .before .before .before .before .before .before .before .before .before .before .before .before .before .before .before .before .before .before .read-part4 .ensures .0, c .before .before .before .before .before .before .before .before .before .before .before .before .before .before .before .before .before .before .before .before .before .before .before .before .read-part4 .ensures .1, c .before .before .before .before .before .before .before .before .before .before .before .before .before .before .before .before .before .before .before .before .before .before .before .before .read-part4 .ensures .2, c .before .before .before .before .before .before .before .before .before .before .before .before .before .before .before .before .before .before .before .before .before .before .before .before .before .before .before .before .before .before .before .before .before .before .before .before .before .before .before .before .before .before .before .before .before .before .before .before .before .before .pre .0 .2, c .before .before .before .before .before .before .before .before .before .put-part3 .ensures .0 .size, c .before .before .before .before .before .before .before .before .before .put-part3 .ensures .1 .size), (put-spans4 (c .before .before .before .before .before .before .before .before .before .before .before .before .before .before .before .before .before .before .before .before .before .before .before .before .before .before .before .before .before .before .before .before .before .before .before .before .before .before .before .before .before .before .before .before .before .before .before .before .before .before .args .block .now) (c .before .before .before .before .before .before .before .before .before .before .before .before .before .before .before .before .before .before .before .before .before .before .before .before .before .before .before .before .before .before .before .before .before .before .before .before .before .before .before .before .before .before .before .before .before .before .before .before .before .before .args .starts .now) (c .before .before .before .before .before .before .before .before .before .before .before .before .before .before .before .before .before .before .before .before .before .before .before .before .before .before .before .before .before .before .before .before .before .before .before .before .before .before .before .before .before .before .before .before .before .before .before .before .before .before .args .from) (c .before .before .before .before .before .before .before .before .before .before .before .before .before .before .before .before .before .before .before .before .before .before .before .before .before .before .before .before .before .before .before .before .before .before .before .before .before .before .before .before .before .before .before .before .before .before .before .before .before .before .args .to) (c .before .before .before .before .before .before .before .before .before .before .before .before .before .before .before .before .before .before .before .before .before .before .before .before .before .before .before .before .before .before .before .before .before .before .before .before .before .before .before .before .before .before .before .before .before .before .before .before .before .before .args .tail) (sym (c .before .before .before .before .before .before .before .before .before .before .before .before .before .before .before .before .before .before .before .before .before .before .before .before .before .before .before .before .before .before .before .before .before .before .before .before .before .before .before .before .before .few .ensures) ∙ not-false _ (c .before .before .before .before .before .before .before .before .before .before .before .before .before .before .before .before .before .before .before .before .before .before .before .before .before .before .before .before .before .before .before .before .before .before .before .before .before .before .before .before .if1 .left)) (c .before .before .before .before .before .before .before .before .before .before .before .before .before .before .before .before .before .before .before .before .before .before .before .before .before .before .before .before .before .before .before .before .before .before .before .before .before .read-part2 .ensures) (c .before .before .before .before .before .before .before .before .before .before .before .before .before .before .before .before .before .before .before .before .before .before .before .before .before .before .before .before .before .before .read-part3 .ensures) (c .before .before .before .before .before .before .before .before .before .before .before .before .before .before .before .before .before .before .before .before .before .before .before .before .read-part4 .ensures) (c .before .before .before .before .before .before .before .before .before .before .before .before .before .before .before .before .before .before .before .before .before .before .before .before .before .before .before .before .before .before .before .before .before .before .before .before .before .before .before .before .before .before .before .before .before .before .before .before .before .before .pre .0 .8) (sym (c .before .before .before .before .before .before .before .before .before .before .before .before .before .before .before .entries-fit .ensures) ∙ not-false _ (c .before .before .before .before .before .before .before .before .before .before .before .before .before .before .if2 .left)) (c .before .before .before .before .before .before .before .before .before .before .before .before .before .before .before .before .before .before .before .before .before .before .before .before .before .before .before .before .before .before .before .before .before .before .before .before .before .before .before .before .before .before .before .before .before .before .before .before .before .before .pre .1 .3), few4 (c .before .before .before .before .before .before .before .before .before .before .before .before .before .before .before .before .before .before .before .before .before .before .before .before .before .before .before .before .before .before .before .before .before .before .before .before .before .before .before .before .before .before .before .before .before .before .before .before .before .before .args .tail) (sym (c .before .before .before .before .before .before .before .before .before .before .before .before .before .before .before .before .before .before .before .before .before .before .before .before .before .before .before .before .before .before .before .before .before .before .before .before .before .before .before .before .before .few .ensures) ∙ not-false _ (c .before .before .before .before .before .before .before .before .before .before .before .before .before .before .before .before .before .before .before .before .before .before .before .before .before .before .before .before .before .before .before .before .before .before .before .before .before .before .before .before .if1 .left)), put-others (c .before .before .before .before .before .before .before .before .before .before .before .before .before .before .before .before .before .before .before .before .before .before .before .before .before .before .before .before .before .before .before .before .before .before .before .before .before .before .before .before .before .before .before .before .before .before .before .before .before .before .args .block .now) (c .before .before .before .before .before .before .before .before .before .before .before .before .before .before .before .before .before .before .before .before .before .before .before .before .before .before .before .before .before .before .before .before .before .before .before .before .before .before .before .before .before .before .before .before .before .before .before .before .before .before .args .starts .now) (c .before .before .before .before .before .before .before .before .before .before .before .before .before .before .before .before .before .before .before .before .before .before .before .before .before .before .before .before .before .before .before .before .before .before .before .before .before .before .before .before .before .before .before .before .before .before .before .before .before .before .args .from) (c .before .before .before .before .before .before .before .before .before .before .before .before .before .before .before .before .before .before .before .before .before .before .before .before .before .before .before .before .before .before .before .before .before .before .before .before .before .before .before .before .before .before .before .before .before .before .before .before .before .before .args .to) (c .before .before .before .before .before .before .before .before .before .before .before .before .before .before .before .before .before .before .before .before .before .before .before .before .before .before .before .before .before .before .before .before .before .before .before .before .before .before .before .before .before .before .before .before .before .before .before .before .before .before .args .tail) (sym (c .before .before .before .before .before .before .before .before .before .before .before .before .before .before .before .before .before .before .before .before .before .before .before .before .before .before .before .before .before .before .before .before .before .before .before .before .before .before .before .before .before .few .ensures) ∙ not-false _ (c .before .before .before .before .before .before .before .before .before .before .before .before .before .before .before .before .before .before .before .before .before .before .before .before .before .before .before .before .before .before .before .before .before .before .before .before .before .before .before .before .if1 .left)) (c .before .before .before .before .before .before .before .before .before .before .before .before .before .before .before .before .before .before .before .before .before .before .before .before .before .before .before .before .before .before .before .before .before .before .before .before .before .read-part2 .ensures) (c .before .before .before .before .before .before .before .before .before .before .before .before .before .before .before .before .before .before .before .before .before .before .before .before .before .before .before .before .before .before .read-part3 .ensures) (c .before .before .before .before .before .before .before .before .before .before .before .before .before .before .before .before .before .before .before .before .before .before .before .before .read-part4 .ensures) (c .before .before .before .before .before .before .before .before .before .before .before .before .before .before .before .before .before .before .before .before .before .before .before .before .before .before .before .before .before .before .before .before .before .before .before .before .before .before .before .before .before .before .before .before .before .before .before .before .before .before .pre .0 .8) (sym (c .before .before .before .before .before .before .before .before .before .before .before .before .before .before .before .entries-fit .ensures) ∙ not-false _ (c .before .before .before .before .before .before .before .before .before .before .before .before .before .before .if2 .left)) (c .before .before .before .before .before .before .before .before .before .before .before .before .before .before .before .before .before .before .before .before .before .before .before .before .before .before .before .before .before .before .before .before .before .before .before .before .before .before .before .before .before .before .before .before .before .before .before .before .before .before .pre .1 .3), put-labels (c .before .before .before .before .before .before .before .before .before .before .before .before .before .before .before .before .before .before .before .before .before .before .before .before .before .before .before .before .before .before .before .before .before .before .before .before .before .before .before .before .before .before .before .before .before .before .before .before .before .before .args .block .now) (c .before .before .before .before .before .before .before .before .before .before .before .before .before .before .before .before .before .before .before .before .before .before .before .before .before .before .before .before .before .before .before .before .before .before .before .before .before .before .before .before .before .before .before .before .before .before .before .before .before .before .args .starts .now) (c .before .before .before .before .before .before .before .before .before .before .before .before .before .before .before .before .before .before .before .before .before .before .before .before .before .before .before .before .before .before .before .before .before .before .before .before .before .before .before .before .before .before .before .before .before .before .before .before .before .before .args .from) (c .before .before .before .before .before .before .before .before .before .before .before .before .before .before .before .before .before .before .before .before .before .before .before .before .before .before .before .before .before .before .before .before .before .before .before .before .before .before .before .before .before .before .before .before .before .before .before .before .before .before .args .to) (c .before .before .before .before .before .before .before .before .before .before .before .before .before .before .before .before .before .before .before .before .before .before .before .before .before .before .before .before .before .before .before .before .before .before .before .before .before .before .before .before .before .before .before .before .before .before .before .before .before .before .args .tail) (sym (c .before .before .before .before .before .before .before .before .before .before .before .before .before .before .before .before .before .before .before .before .before .before .before .before .before .before .before .before .before .before .before .before .before .before .before .before .before .before .before .before .before .few .ensures) ∙ not-false _ (c .before .before .before .before .before .before .before .before .before .before .before .before .before .before .before .before .before .before .before .before .before .before .before .before .before .before .before .before .before .before .before .before .before .before .before .before .before .before .before .before .if1 .left)) (c .before .before .before .before .before .before .before .before .before .before .before .before .before .before .before .before .before .before .before .before .before .before .before .before .before .before .before .before .before .before .before .before .before .before .before .before .before .read-part2 .ensures) (c .before .before .before .before .before .before .before .before .before .before .before .before .before .before .before .before .before .before .before .before .before .before .before .before .before .before .before .before .before .before .read-part3 .ensures) (c .before .before .before .before .before .before .before .before .before .before .before .before .before .before .before .before .before .before .before .before .before .before .before .before .read-part4 .ensures) (c .before .before .before .before .before .before .before .before .before .before .before .before .before .before .before .before .before .before .before .before .before .before .before .before .before .before .before .before .before .before .before .before .before .before .before .before .before .before .before .before .before .before .before .before .before .before .before .before .before .before .pre .0 .8) (sym (c .before .before .before .before .before .before .before .before .before .before .before .before .before .before .before .entries-fit .ensures) ∙ not-false _ (c .before .before .before .before .before .before .before .before .before .before .before .before .before .before .if2 .left)) (c .before .before .before .before .before .before .before .before .before .before .before .before .before .before .before .before .before .before .before .before .before .before .before .before .before .before .before .before .before .before .before .before .before .before .before .before .before .before .before .before .before .before .before .before .before .before .before .before .before .before .pre .1 .3)))
+    let put-part3-ensures = (let p : tie.After-put-part3 = search in p .put-part3 .ensures) in
+    let if2-left = (let p : tie.Else2 = search in p .if2 .left) in
+    let entries-fit-ensures = (let p : tie.After-entries-fit = search in p .entries-fit .ensures) in
+    let c : tie.After-entries-fit = search in
+    let read-part4-ensures = (let p : tie.After-read-part4 = search in p .read-part4 .ensures) in
+    let read-part3-ensures = (let p : tie.After-read-part3 = search in p .read-part3 .ensures) in
+    let c : tie.After-read-part3 = search in
+    let read-part2-ensures = (let p : tie.After-read-part2 = search in p .read-part2 .ensures) in
+    let if1-left = (let p : tie.Else1 = search in p .if1 .left) in
+    let few-ensures = (let p : tie.After-few = search in p .few .ensures) in
+    let start : tie.Start = search in
+    ((read-part4-ensures .0, read-part4-ensures .1, read-part4-ensures .2, start .pre .0 .2, put-part3-ensures .0 .size, put-part3-ensures .1 .size), (put-spans4 (start .args .block .now) (start .args .starts .now) (start .args .from) (start .args .to) (start .args .tail) (sym few-ensures ∙ not-false _ if1-left) read-part2-ensures read-part3-ensures read-part4-ensures (start .pre .0 .8) (sym entries-fit-ensures ∙ not-false _ if2-left) (start .pre .1 .3), few4 (start .args .tail) (sym few-ensures ∙ not-false _ if1-left), put-others (start .args .block .now) (start .args .starts .now) (start .args .from) (start .args .to) (start .args .tail) (sym few-ensures ∙ not-false _ if1-left) read-part2-ensures read-part3-ensures read-part4-ensures (start .pre .0 .8) (sym entries-fit-ensures ∙ not-false _ if2-left) (start .pre .1 .3), put-labels (start .args .block .now) (start .args .starts .now) (start .args .from) (start .args .to) (start .args .tail) (sym few-ensures ∙ not-false _ if1-left) read-part2-ensures read-part3-ensures read-part4-ensures (start .pre .0 .8) (sym entries-fit-ensures ∙ not-false _ if2-left) (start .pre .1 .3)))
 
 shared-slice-read-n : tie.Need-shared-slice-read-n
 shared-slice-read-n c =
-    let n = sited rack (c .before .before .before .before .before .before .before .before .before .before .before .before .before .before .before .before .before .before .before .before .before .before .before .before .before .before .before .before .before .before .before .before .before .before .before .before .before .before .before .before .before .before .before .before .before .before .before .before .before .before .before .before .before .before .before .before .args .block .now) (c .before .before .before .before .before .before .before .before .before .before .before .before .before .before .before .before .before .before .before .before .before .before .before .before .before .before .before .before .before .before .before .before .before .before .before .before .before .before .before .before .before .before .before .before .before .before .before .before .before .before .before .before .before .before .before .before .pre .0 .0) .linked .size in omega (arith, n)
+    let c : tie.After-entries-fit = search in
+    let c : tie.After-codes = search in
+    let start : tie.Start = search in
+    let n = sited rack (start .args .block .now) (start .pre .0 .0) .linked .size in omega (arith, n)
 
 labels-fit-requires : tie.Need-labels-fit-requires
 labels-fit-requires c κs =
-    ((sited rack (c .before .before .before .before .before .before .before .before .before .before .before .before .before .before .before .before .before .before .before .before .before .before .before .before .before .before .before .before .before .before .before .before .before .before .before .before .before .before .before .before .before .before .before .before .before .before .before .before .before .before .before .before .before .before .before .before .before .before .args .block .now) (c .before .before .before .before .before .before .before .before .before .before .before .before .before .before .before .before .before .before .before .before .before .before .before .before .before .before .before .before .before .before .before .before .before .before .before .before .before .before .before .before .before .before .before .before .before .before .before .before .before .before .before .before .before .before .before .before .before .before .pre .0 .0) .linked .size, sited rack (c .before .before .before .before .before .before .before .before .before .before .before .before .before .before .before .before .before .before .before .before .before .before .before .before .before .before .before .before .before .before .before .before .before .before .before .before .before .before .before .before .before .before .before .before .before .before .before .before .before .before .before .before .before .before .before .before .before .before .args .block .now) (c .before .before .before .before .before .before .before .before .before .before .before .before .before .before .before .before .before .before .before .before .before .before .before .before .before .before .before .before .before .before .before .before .before .before .before .before .before .before .before .before .before .before .before .before .before .before .before .before .before .before .before .before .before .before .before .before .before .before .pre .0 .0) .linked .few, c .before .before .before .before .before .before .before .put-part4 .ensures .0 .size, c .before .before .before .before .before .before .before .put-part4 .ensures .1 .size, c .before .before .before .before .before .before .before .before .before .before .before .before .before .before .before .before .before .before .before .before .before .before .before .before .before .before .before .before .before .before .before .before .before .before .before .before .before .before .before .before .before .before .before .before .before .before .before .before .before .before .before .before .before .before .before .before .before .before .pre .0 .7, c .before .before .before .before .before .before .before .before .before .before .before .before .before .before .before .before .before .before .before .before .before .before .before .before .before .before .before .before .before .before .before .before .before .before .before .before .before .before .before .before .before .before .before .before .before .before .before .before .before .before .before .before .before .before .before .before .before .before .pre .0 .8), put-small (c .before .before .before .before .before .before .before .before .before .before .before .before .before .before .before .before .before .before .before .before .before .before .before .before .before .before .before .before .before .before .before .before .before .before .before .before .before .before .before .before .before .before .before .before .before .before .before .before .before .before .before .before .before .before .before .before .before .before .args .block .now) (c .before .before .before .before .before .before .before .before .before .before .before .before .before .before .before .before .before .before .before .before .before .before .before .before .before .before .before .before .before .before .before .before .before .before .before .before .before .before .before .before .before .before .before .before .before .before .before .before .before .before .before .before .before .before .before .before .before .before .args .starts .now) (c .before .before .before .before .before .before .before .before .before .before .before .before .before .before .before .before .before .before .before .before .before .before .before .before .before .before .before .before .before .before .before .before .before .before .before .before .before .before .before .before .before .before .before .before .before .before .before .before .before .before .before .before .before .before .before .before .before .before .args .from) (c .before .before .before .before .before .before .before .before .before .before .before .before .before .before .before .before .before .before .before .before .before .before .before .before .before .before .before .before .before .before .before .before .before .before .before .before .before .before .before .before .before .before .before .before .before .before .before .before .before .before .before .before .before .before .before .before .before .before .args .to) (c .before .before .before .before .before .before .before .before .before .before .before .before .before .before .before .before .before .before .before .before .before .before .before .before .before .before .before .before .before .before .before .before .before .before .before .before .before .before .before .before .before .before .before .before .before .before .before .before .before .before .before .before .before .before .before .before .before .before .args .tail) (sym (c .before .before .before .before .before .before .before .before .before .before .before .before .before .before .before .before .before .before .before .before .before .before .before .before .before .before .before .before .before .before .before .before .before .before .before .before .before .before .before .before .before .before .before .before .before .before .before .before .before .few .ensures) ∙ not-false _ (c .before .before .before .before .before .before .before .before .before .before .before .before .before .before .before .before .before .before .before .before .before .before .before .before .before .before .before .before .before .before .before .before .before .before .before .before .before .before .before .before .before .before .before .before .before .before .before .before .if1 .left)) (c .before .before .before .before .before .before .before .before .before .before .before .before .before .before .before .before .before .before .before .before .before .before .before .before .before .before .before .before .before .before .before .before .before .before .before .before .before .before .before .before .before .before .before .before .before .read-part2 .ensures) (c .before .before .before .before .before .before .before .before .before .before .before .before .before .before .before .before .before .before .before .before .before .before .before .before .before .before .before .before .before .before .before .before .before .before .before .before .before .before .read-part3 .ensures) (c .before .before .before .before .before .before .before .before .before .before .before .before .before .before .before .before .before .before .before .before .before .before .before .before .before .before .before .before .before .before .before .before .read-part4 .ensures) (c .before .before .before .before .before .before .before .before .before .before .before .before .before .before .before .before .before .before .before .before .before .before .before .before .before .before .before .before .before .before .before .before .before .before .before .before .before .before .before .before .before .before .before .before .before .before .before .before .before .before .before .before .before .before .before .before .before .before .pre .0 .8) (sym (c .before .before .before .before .before .before .before .before .before .before .before .before .before .before .before .before .before .before .before .before .before .before .before .entries-fit .ensures) ∙ not-false _ (c .before .before .before .before .before .before .before .before .before .before .before .before .before .before .before .before .before .before .before .before .before .before .if2 .left)) (c .before .before .before .before .before .before .before .before .before .before .before .before .before .before .before .before .before .before .before .before .before .before .before .before .before .before .before .before .before .before .before .before .before .before .before .before .before .before .before .before .before .before .before .before .before .before .before .before .before .before .before .before .before .before .before .before .before .before .pre .0 .9) (c .before .before .before .before .before .before .before .before .before .before .before .before .before .before .before .before .before .before .before .before .before .before .before .before .before .before .before .before .before .before .before .before .before .before .before .before .before .before .before .before .before .before .before .before .before .before .before .before .before .before .before .before .before .before .before .before .before .before .pre .0 .5) (c .before .before .before .before .before .before .before .before .before .before .before .before .before .before .before .before .before .before .before .before .before .before .before .before .before .before .before .before .before .before .before .before .before .before .before .before .before .before .before .before .before .before .before .before .before .before .before .before .before .before .before .before .before .before .before .before .before .before .pre .0 .6) (c .before .before .before .before .before .before .before .before .before .before .before .before .before .before .before .before .before .put-part3 .ensures .0) (c .before .before .before .before .before .before .before .put-part4 .ensures .0) (c .before .before .before .before .before .before .before .before .before .before .before .before .before .before .before .before .before .put-part3 .ensures .1) (c .before .before .before .before .before .before .before .put-part4 .ensures .1) (c .before .before .before .before .before .before .before .before .before .before .before .before .before .before .before .before .before .before .before .before .before .before .before .before .before .before .before .before .before .before .before .before .before .before .before .before .before .before .before .before .before .before .before .before .before .before .before .before .before .before .before .before .before .before .before .before .before .before .pre .1 .3))
+    let put-part4-ensures = (let p : tie.After-put-part4 = search in p .put-part4 .ensures) in
+    let put-part3-ensures = (let p : tie.After-put-part3 = search in p .put-part3 .ensures) in
+    let c : tie.After-put-part3 = search in
+    let if2-left = (let p : tie.Else2 = search in p .if2 .left) in
+    let entries-fit-ensures = (let p : tie.After-entries-fit = search in p .entries-fit .ensures) in
+    let read-part4-ensures = (let p : tie.After-read-part4 = search in p .read-part4 .ensures) in
+    let c : tie.After-read-part4 = search in
+    let read-part3-ensures = (let p : tie.After-read-part3 = search in p .read-part3 .ensures) in
+    let read-part2-ensures = (let p : tie.After-read-part2 = search in p .read-part2 .ensures) in
+    let if1-left = (let p : tie.Else1 = search in p .if1 .left) in
+    let few-ensures = (let p : tie.After-few = search in p .few .ensures) in
+    let c : tie.After-few = search in
+    let start : tie.Start = search in
+    ((sited rack (start .args .block .now) (start .pre .0 .0) .linked .size, sited rack (start .args .block .now) (start .pre .0 .0) .linked .few, put-part4-ensures .0 .size, put-part4-ensures .1 .size, start .pre .0 .7, start .pre .0 .8), put-small (start .args .block .now) (start .args .starts .now) (start .args .from) (start .args .to) (start .args .tail) (sym few-ensures ∙ not-false _ if1-left) read-part2-ensures read-part3-ensures read-part4-ensures (start .pre .0 .8) (sym entries-fit-ensures ∙ not-false _ if2-left) (start .pre .0 .9) (start .pre .0 .5) (start .pre .0 .6) (put-part3-ensures .0) (put-part4-ensures .0) (put-part3-ensures .1) (put-part4-ensures .1) (start .pre .1 .3))
 
 same-length-3 : tie.Need-same-length-3
 same-length-3 c =
-    c .before .before .before .before .before .before .before .before .before .before .before .before .before .before .before .before .before .before .before .before .before .before .before .before .before .before .before .before .before .before .before .before .before .before .before .before .before .before .before .before .before .before .before .before .before .before .read-part2 .ensures .first-size ∙ sym (c .before .before .before .before .before .before .before .before .before .before .before .before .before .before .before .before .before .before .before .before .before .before .before .before .before .before .before .before .before .before .before .before .before .before .before .before .before .before .before .before .before .before .before .before .before .before .before .before .before .before .before .before .before .before .before .before .before .before .before .pre .0 .3)
+    let c : tie.After-numbers4 = search in
+    let c : tie.After-slice-known6 = search in
+    let read-part2-ensures = (let p : tie.After-read-part2 = search in p .read-part2 .ensures) in
+    let start : tie.Start = search in
+    read-part2-ensures .first-size ∙ sym (start .pre .0 .3)
 
 same-length-4 : tie.Need-same-length-4
 same-length-4 c =
-    c .before .before .before .before .before .before .before .before .before .before .before .before .before .before .before .before .before .before .before .before .before .before .before .before .before .before .before .before .before .before .before .before .before .before .before .before .before .before .before .before .before .before .before .before .before .before .read-part2 .ensures .second-size ∙ sym (c .before .before .before .before .before .before .before .before .before .before .before .before .before .before .before .before .before .before .before .before .before .before .before .before .before .before .before .before .before .before .before .before .before .before .before .before .before .before .before .before .before .before .before .before .before .before .before .before .before .before .before .before .before .before .before .before .before .before .before .pre .0 .4)
+    let c : tie.After-numbers4 = search in
+    let c : tie.After-slice-known6 = search in
+    let read-part2-ensures = (let p : tie.After-read-part2 = search in p .read-part2 .ensures) in
+    let start : tie.Start = search in
+    read-part2-ensures .second-size ∙ sym (start .pre .0 .4)
 
 same-length-5 : tie.Need-same-length-5
 same-length-5 c = search needs
@@ -118,7 +190,21 @@ same-length-6 c = search needs
 
 returns-3 : tie.Need-returns-3
 returns-3 c =
-    (labels-tell (c .before .before .before .before .before .before .before .before .before .before .before .before .before .before .before .before .before .before .before .before .before .before .before .before .before .before .before .before .before .before .before .before .before .before .before .before .before .before .before .before .before .before .before .before .before .before .before .before .before .before .before .before .before .before .before .before .before .before .before .args .block .now) (c .before .before .before .before .before .before .before .before .before .before .before .before .before .before .before .before .before .before .before .before .before .before .before .before .before .before .before .before .before .before .before .before .before .before .before .before .before .before .before .before .before .before .before .before .before .before .before .before .before .before .before .before .before .before .before .before .before .before .before .args .starts .now) (c .before .before .before .before .before .before .before .before .before .before .before .before .before .before .before .before .before .before .before .before .before .before .before .before .before .before .before .before .before .before .before .before .before .before .before .before .before .before .before .before .before .before .before .before .before .before .before .before .before .before .before .before .before .before .before .before .before .before .before .args .from) (c .before .before .before .before .before .before .before .before .before .before .before .before .before .before .before .before .before .before .before .before .before .before .before .before .before .before .before .before .before .before .before .before .before .before .before .before .before .before .before .before .before .before .before .before .before .before .before .before .before .before .before .before .before .before .before .before .before .before .before .args .to) (c .before .before .before .before .before .before .before .before .before .before .before .before .before .before .before .before .before .before .before .before .before .before .before .before .before .before .before .before .before .before .before .before .before .before .before .before .before .before .before .before .before .before .before .before .before .before .before .before .before .before .before .before .before .before .before .before .before .before .before .args .tail) (sym (c .before .before .before .before .before .before .before .before .before .before .before .before .before .before .before .before .before .before .before .before .before .before .before .before .before .before .before .before .before .before .before .before .before .before .before .before .before .before .before .before .before .before .before .before .before .before .before .before .before .before .few .ensures) ∙ not-false _ (c .before .before .before .before .before .before .before .before .before .before .before .before .before .before .before .before .before .before .before .before .before .before .before .before .before .before .before .before .before .before .before .before .before .before .before .before .before .before .before .before .before .before .before .before .before .before .before .before .before .if1 .left)) (c .before .before .before .before .before .before .before .before .before .before .before .before .before .before .before .before .before .before .before .before .before .before .before .before .before .before .before .before .before .before .before .before .before .before .before .before .before .before .before .before .before .before .before .before .before .before .read-part2 .ensures) (c .before .before .before .before .before .before .before .before .before .before .before .before .before .before .before .before .before .before .before .before .before .before .before .before .before .before .before .before .before .before .before .before .before .before .before .before .before .before .before .read-part3 .ensures) (c .before .before .before .before .before .before .before .before .before .before .before .before .before .before .before .before .before .before .before .before .before .before .before .before .before .before .before .before .before .before .before .before .before .read-part4 .ensures) (c .before .before .before .before .before .before .before .before .before .before .before .before .before .before .before .before .before .before .before .before .before .before .before .before .before .before .before .before .before .before .before .before .before .before .before .before .before .before .before .before .before .before .before .before .before .before .before .before .before .before .before .before .before .before .before .before .before .before .before .pre .0 .8) (sym (c .before .before .before .before .before .before .before .before .before .before .before .before .before .before .before .before .before .before .before .before .before .before .before .before .entries-fit .ensures) ∙ not-false _ (c .before .before .before .before .before .before .before .before .before .before .before .before .before .before .before .before .before .before .before .before .before .before .before .if2 .left)) (c .before .before .before .before .before .before .before .before .before .before .before .before .before .before .before .before .before .before .before .before .before .before .before .before .before .before .before .before .before .before .before .before .before .before .before .before .before .before .before .before .before .before .before .before .before .before .before .before .before .before .before .before .before .before .before .before .before .before .before .pre .0 .9) (c .before .before .before .before .before .before .before .before .before .before .before .before .before .before .before .before .before .before .before .before .before .before .before .before .before .before .before .before .before .before .before .before .before .before .before .before .before .before .before .before .before .before .before .before .before .before .before .before .before .before .before .before .before .before .before .before .before .before .before .pre .0 .5) (c .before .before .before .before .before .before .before .before .before .before .before .before .before .before .before .before .before .before .before .before .before .before .before .before .before .before .before .before .before .before .before .before .before .before .before .before .before .before .before .before .before .before .before .before .before .before .before .before .before .before .before .before .before .before .before .before .before .before .before .pre .0 .6) (c .before .before .before .before .before .before .before .before .before .before .before .before .before .before .before .before .before .before .put-part3 .ensures .0) (c .before .before .before .before .before .before .before .before .put-part4 .ensures .0) (c .before .before .before .before .before .before .before .before .before .before .before .before .before .before .before .before .before .before .put-part3 .ensures .1) (c .before .before .before .before .before .before .before .before .put-part4 .ensures .1) (c .before .before .before .before .before .before .before .before .before .before .before .before .before .before .before .before .before .before .before .before .before .before .before .before .before .before .before .before .before .before .before .before .before .before .before .before .before .before .before .before .before .before .before .before .before .before .before .before .before .before .before .before .before .before .before .before .before .before .before .pre .0 .0) (c .labels-fit .ensures), c .before .before .before .before .before .before .before .before .before .before .before .before .before .before .before .before .before .before .before .before .before .before .before .before .before .before .before .before .before .before .before .before .before .before .before .before .before .before .before .before .before .before .before .before .before .before .read-part2 .ensures .first-size, c .before .before .before .before .before .before .before .before .before .before .before .before .before .before .before .before .before .before .before .before .before .before .before .before .before .before .before .before .before .before .before .before .before .before .before .before .before .before .before .before .before .before .before .before .before .before .read-part2 .ensures .second-size, c .before .before .before .before .before .before .before .before .put-part4 .ensures .0 .size, c .before .before .before .before .before .before .before .before .put-part4 .ensures .1 .size)
+    let labels-fit-ensures = (let p : tie.After-labels-fit = search in p .labels-fit .ensures) in
+    let put-part4-ensures = (let p : tie.After-put-part4 = search in p .put-part4 .ensures) in
+    let put-part3-ensures = (let p : tie.After-put-part3 = search in p .put-part3 .ensures) in
+    let c : tie.After-put-part3 = search in
+    let if2-left = (let p : tie.Else2 = search in p .if2 .left) in
+    let entries-fit-ensures = (let p : tie.After-entries-fit = search in p .entries-fit .ensures) in
+    let read-part4-ensures = (let p : tie.After-read-part4 = search in p .read-part4 .ensures) in
+    let c : tie.After-read-part4 = search in
+    let read-part3-ensures = (let p : tie.After-read-part3 = search in p .read-part3 .ensures) in
+    let read-part2-ensures = (let p : tie.After-read-part2 = search in p .read-part2 .ensures) in
+    let if1-left = (let p : tie.Else1 = search in p .if1 .left) in
+    let few-ensures = (let p : tie.After-few = search in p .few .ensures) in
+    let c : tie.After-few = search in
+    let start : tie.Start = search in
+    (labels-tell (start .args .block .now) (start .args .starts .now) (start .args .from) (start .args .to) (start .args .tail) (sym few-ensures ∙ not-false _ if1-left) read-part2-ensures read-part3-ensures read-part4-ensures (start .pre .0 .8) (sym entries-fit-ensures ∙ not-false _ if2-left) (start .pre .0 .9) (start .pre .0 .5) (start .pre .0 .6) (put-part3-ensures .0) (put-part4-ensures .0) (put-part3-ensures .1) (put-part4-ensures .1) (start .pre .0 .0) labels-fit-ensures, read-part2-ensures .first-size, read-part2-ensures .second-size, put-part4-ensures .0 .size, put-part4-ensures .1 .size)
 
 pub critical-right-spec : {M : Type 1} → statement M
 critical-right-spec =

@@ -16,7 +16,9 @@ neither-requires c κs = search needs
 
 returns : tie.Need-returns
 returns c =
-    three-tests (c .before .before .indices-fit .ensures) (c .before .consecutive .ensures) (c .neither .ensures)
+    let indices-fit-ensures = (let p : tie.After-indices-fit = search in p .indices-fit .ensures) in
+    let consecutive-ensures = (let p : tie.After-consecutive = search in p .consecutive .ensures) in
+    three-tests indices-fit-ensures consecutive-ensures (c .neither .ensures)
 
 pub entries-fit-spec : {M : Type 1} → statement M
 entries-fit-spec =

@@ -25,14 +25,20 @@ no-entry-requires c κs = search needs
 
 returns : tie.Need-returns
 returns c =
-    λ fs z. entry-no fs (c .no-entry .ensures) (part4-none fs (c .before .before .before .before .before .before .args .s .now) (c .before .before .before .before .before .before .args .at) (bad-at group _ _ (sym (c .before .enum-told .given .1) ∙ c .before .before .before .read-group .ensures)))
+    let start : tie.Start = search in
+    let read-group-ensures = (let p : tie.After-read-group = search in p .read-group .ensures) in
+    let enum-told-given = (let p : tie.After-enum-told = search in p .enum-told .given) in
+    λ fs z. entry-no fs (c .no-entry .ensures) (part4-none fs (start .args .s .now) (start .args .at) (bad-at group _ _ (sym (enum-told-given .1) ∙ read-group-ensures)))
 
 no-entry-requires-2 : tie.Need-no-entry-requires-2
 no-entry-requires-2 c κs = search needs
 
 returns-2 : tie.Need-returns-2
 returns-2 c =
-    λ fs z. entry-no fs (c .no-entry2 .ensures) (part4-outside fs (took-group (sym (c .before .before .before .index .given .1) ∙ c .before .before .before .before .before .read-group .ensures)) z (omega (arith, c .before .if1 .taken)))
+    let read-group-ensures = (let p : tie.After-read-group = search in p .read-group .ensures) in
+    let index-given = (let p : tie.After-index = search in p .index .given) in
+    let if1-taken = (let p : tie.Then1 = search in p .if1 .taken) in
+    λ fs z. entry-no fs (c .no-entry2 .ensures) (part4-outside fs (took-group (sym (index-given .1) ∙ read-group-ensures)) z (omega (arith, if1-taken)))
 
 read-at-most-requires : tie.Need-read-at-most-requires
 read-at-most-requires c κs = search needs
@@ -48,7 +54,12 @@ no-entry-requires-3 c κs = search needs
 
 returns-3 : tie.Need-returns-3
 returns-3 c =
-    λ fs z. entry-no fs (c .no-entry3 .ensures) (part4-alone fs (took-group (sym (c .before .before .before .before .before .before .index .given .1) ∙ c .before .before .before .before .before .before .before .before .read-group .ensures)) z (omega (arith, c .before .before .before .before .if1 .left)) (bad-at (at-most 15) _ _ (sym (c .before .enum-told2 .given .1) ∙ c .before .before .before .read-at-most .ensures)))
+    let read-group-ensures = (let p : tie.After-read-group = search in p .read-group .ensures) in
+    let index-given = (let p : tie.After-index = search in p .index .given) in
+    let if1-left = (let p : tie.Else1 = search in p .if1 .left) in
+    let read-at-most-ensures = (let p : tie.After-read-at-most = search in p .read-at-most .ensures) in
+    let enum-told2-given = (let p : tie.After-enum-told2 = search in p .enum-told2 .given) in
+    λ fs z. entry-no fs (c .no-entry3 .ensures) (part4-alone fs (took-group (sym (index-given .1) ∙ read-group-ensures)) z (omega (arith, if1-left)) (bad-at (at-most 15) _ _ (sym (enum-told2-given .1) ∙ read-at-most-ensures)))
 
 mul-size : tie.Need-mul-size
 mul-size c = search needs
@@ -58,7 +69,9 @@ shared-slice-read-size c = search needs
 
 pass-labels-requires : tie.Need-pass-labels-requires
 pass-labels-requires c κs =
-    took-at-most 15 (sym (c .before .before .other .given .1) ∙ c .before .before .before .before .read-at-most .ensures) .within
+    let read-at-most-ensures = (let p : tie.After-read-at-most = search in p .read-at-most .ensures) in
+    let other-given = (let p : tie.After-other = search in p .other .given) in
+    took-at-most 15 (sym (other-given .1) ∙ read-at-most-ensures) .within
 
 enum-known-n : tie.Need-enum-known-n
 enum-known-n c = search needs
@@ -71,11 +84,25 @@ no-entry-requires-4 c κs = search needs
 
 returns-4 : tie.Need-returns-4
 returns-4 c =
-    λ fs z. entry-half fs z (took-group (sym (c .before .before .before .before .before .before .before .before .before .before .before .index .given .1) ∙ c .before .before .before .before .before .before .before .before .before .before .before .before .before .read-group .ensures)) (omega (arith, c .before .before .before .before .before .before .before .before .before .if1 .left)) (took-at-most 15 (sym (c .before .before .before .before .before .before .other .given .1) ∙ c .before .before .before .before .before .before .before .before .read-at-most .ensures)) refl (c .no-entry4 .ensures) (c .before .enum-told3 .given .1) (c .before .before .before .pass-labels .ensures)
+    let read-group-ensures = (let p : tie.After-read-group = search in p .read-group .ensures) in
+    let index-given = (let p : tie.After-index = search in p .index .given) in
+    let if1-left = (let p : tie.Else1 = search in p .if1 .left) in
+    let read-at-most-ensures = (let p : tie.After-read-at-most = search in p .read-at-most .ensures) in
+    let other-given = (let p : tie.After-other = search in p .other .given) in
+    let pass-labels-ensures = (let p : tie.After-pass-labels = search in p .pass-labels .ensures) in
+    let enum-told3-given = (let p : tie.After-enum-told3 = search in p .enum-told3 .given) in
+    λ fs z. entry-half fs z (took-group (sym (index-given .1) ∙ read-group-ensures)) (omega (arith, if1-left)) (took-at-most 15 (sym (other-given .1) ∙ read-at-most-ensures)) refl (c .no-entry4 .ensures) (enum-told3-given .1) pass-labels-ensures
 
 returns-5 : tie.Need-returns-5
 returns-5 c =
-    λ fs z. entry-yes fs z (took-group (sym (c .before .before .before .before .before .before .before .before .before .before .before .index .given .1) ∙ c .before .before .before .before .before .before .before .before .before .before .before .before .before .read-group .ensures)) (omega (arith, c .before .before .before .before .before .before .before .before .before .if1 .left)) (took-at-most 15 (sym (c .before .before .before .before .before .before .other .given .1) ∙ c .before .before .before .before .before .before .before .before .read-at-most .ensures)) refl (c .before .n .given .1) (c .before .before .before .pass-labels .ensures)
+    let read-group-ensures = (let p : tie.After-read-group = search in p .read-group .ensures) in
+    let index-given = (let p : tie.After-index = search in p .index .given) in
+    let if1-left = (let p : tie.Else1 = search in p .if1 .left) in
+    let read-at-most-ensures = (let p : tie.After-read-at-most = search in p .read-at-most .ensures) in
+    let other-given = (let p : tie.After-other = search in p .other .given) in
+    let pass-labels-ensures = (let p : tie.After-pass-labels = search in p .pass-labels .ensures) in
+    let n-given = (let p : tie.After-n = search in p .n .given) in
+    λ fs z. entry-yes fs z (took-group (sym (index-given .1) ∙ read-group-ensures)) (omega (arith, if1-left)) (took-at-most 15 (sym (other-given .1) ∙ read-at-most-ensures)) refl (n-given .1) pass-labels-ensures
 
 pub read-entry-spec : {M : Type 1} → statement M
 read-entry-spec =

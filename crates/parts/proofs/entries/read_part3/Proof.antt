@@ -20,7 +20,8 @@ abbrev μ-loop : tie.MeasureT-loop
 
 loop-holds : tie.Need-loop-holds Inv-loop μ-loop
 loop-holds c =
-    reading-start part3 number3 index3 _ _ _ _ (c .before .before .before .pre .0) (c .before .before .before .pre .2) (c .before .before .before .pre .3)
+    let start : tie.Start Inv-loop μ-loop = search in
+    reading-start part3 number3 index3 _ _ _ _ (start .pre .0) (start .pre .2) (start .pre .3)
 
 read-group-requires : tie.Need-read-group-requires Inv-loop μ-loop
 read-group-requires c κs = search needs
@@ -33,15 +34,22 @@ enum-told c = search needs
 
 same-length : tie.Need-same-length Inv-loop μ-loop
 same-length c =
-    c .before .before .before .before .loop .inv .first-size ∙ sym (c .before .before .before .before .before .before .before .before .pre .2)
+    let start : tie.Start Inv-loop μ-loop = search in
+    let loop-inv = (let p : tie.At-loop Inv-loop μ-loop = search in p .loop .inv) in
+    loop-inv .first-size ∙ sym (start .pre .2)
 
 same-length-2 : tie.Need-same-length-2 Inv-loop μ-loop
 same-length-2 c =
-    c .before .before .before .before .loop .inv .second-size ∙ sym (c .before .before .before .before .before .before .before .before .pre .3)
+    let start : tie.Start Inv-loop μ-loop = search in
+    let loop-inv = (let p : tie.At-loop Inv-loop μ-loop = search in p .loop .inv) in
+    loop-inv .second-size ∙ sym (start .pre .3)
 
 returns : tie.Need-returns Inv-loop μ-loop
 returns c =
-    reading-bad part3 number3 index3 (c .before .before .before .before .loop .inv) (c .before .before .before .loop-test .taken) (no-part3 _ _ (sym (c .enum-told .given .1) ∙ c .before .before .read-group .ensures))
+    let loop-inv = (let p : tie.At-loop Inv-loop μ-loop = search in p .loop .inv) in
+    let loop-test-taken = (let p : tie.In-loop Inv-loop μ-loop = search in p .loop-test .taken) in
+    let read-group-ensures = (let p : tie.After-read-group Inv-loop μ-loop = search in p .read-group .ensures) in
+    reading-bad part3 number3 index3 loop-inv loop-test-taken (no-part3 _ _ (sym (c .enum-told .given .1) ∙ read-group-ensures))
 
 read-group-requires-2 : tie.Need-read-group-requires-2 Inv-loop μ-loop
 read-group-requires-2 c κs = search needs
@@ -54,55 +62,89 @@ enum-told-2 c = search needs
 
 same-length-3 : tie.Need-same-length-3 Inv-loop μ-loop
 same-length-3 c =
-    c .before .before .before .before .before .before .before .before .loop .inv .first-size ∙ sym (c .before .before .before .before .before .before .before .before .before .before .before .before .pre .2)
+    let start : tie.Start Inv-loop μ-loop = search in
+    let loop-inv = (let p : tie.At-loop Inv-loop μ-loop = search in p .loop .inv) in
+    loop-inv .first-size ∙ sym (start .pre .2)
 
 same-length-4 : tie.Need-same-length-4 Inv-loop μ-loop
 same-length-4 c =
-    c .before .before .before .before .before .before .before .before .loop .inv .second-size ∙ sym (c .before .before .before .before .before .before .before .before .before .before .before .before .pre .3)
+    let start : tie.Start Inv-loop μ-loop = search in
+    let loop-inv = (let p : tie.At-loop Inv-loop μ-loop = search in p .loop .inv) in
+    loop-inv .second-size ∙ sym (start .pre .3)
 
 returns-2 : tie.Need-returns-2 Inv-loop μ-loop
 returns-2 c =
-    reading-bad part3 number3 index3 (c .before .before .before .before .before .before .before .before .loop .inv) (c .before .before .before .before .before .before .before .loop-test .taken) (half-part3 _ _ _ _ (sym (c .before .before .before .before .number .given .1) ∙ c .before .before .before .before .before .before .read-group .ensures) (sym (c .enum-told2 .given .1) ∙ c .before .before .read-group2 .ensures))
+    let loop-inv = (let p : tie.At-loop Inv-loop μ-loop = search in p .loop .inv) in
+    let loop-test-taken = (let p : tie.In-loop Inv-loop μ-loop = search in p .loop-test .taken) in
+    let read-group-ensures = (let p : tie.After-read-group Inv-loop μ-loop = search in p .read-group .ensures) in
+    let number-given = (let p : tie.After-number Inv-loop μ-loop = search in p .number .given) in
+    let read-group2-ensures = (let p : tie.After-read-group2 Inv-loop μ-loop = search in p .read-group2 .ensures) in
+    reading-bad part3 number3 index3 loop-inv loop-test-taken (half-part3 _ _ _ _ (sym (number-given .1) ∙ read-group-ensures) (sym (c .enum-told2 .given .1) ∙ read-group2-ensures))
 
 mul-numbers : tie.Need-mul-numbers Inv-loop μ-loop
 mul-numbers c =
-    omega (arith, c .before .before .before .before .before .before .before .before .loop-test .taken, c .before .before .before .before .before .before .before .before .before .before .before .before .before .pre .1)
+    let start : tie.Start Inv-loop μ-loop = search in
+    let loop-test-taken = (let p : tie.In-loop Inv-loop μ-loop = search in p .loop-test .taken) in
+    omega (arith, loop-test-taken, start .pre .1)
 
 slice-write-numbers : tie.Need-slice-write-numbers Inv-loop μ-loop
 slice-write-numbers c =
-    omega (arith, c .before .before .before .before .before .before .before .before .loop-test .taken, c .before .before .before .before .before .before .before .before .before .before .before .before .before .pre .1, c .before .before .before .before .before .before .before .before .before .loop .inv .first-size)
+    let start : tie.Start Inv-loop μ-loop = search in
+    let loop-inv = (let p : tie.At-loop Inv-loop μ-loop = search in p .loop .inv) in
+    let loop-test-taken = (let p : tie.In-loop Inv-loop μ-loop = search in p .loop-test .taken) in
+    omega (arith, loop-test-taken, start .pre .1, loop-inv .first-size)
 
 mul-indices : tie.Need-mul-indices Inv-loop μ-loop
 mul-indices c =
-    omega (arith, c .before .before .before .before .before .before .before .before .loop-test .taken, c .before .before .before .before .before .before .before .before .before .before .before .before .before .pre .1)
+    let start : tie.Start Inv-loop μ-loop = search in
+    let loop-test-taken = (let p : tie.In-loop Inv-loop μ-loop = search in p .loop-test .taken) in
+    omega (arith, loop-test-taken, start .pre .1)
 
 slice-write-indices : tie.Need-slice-write-indices Inv-loop μ-loop
 slice-write-indices c =
-    omega (arith, c .before .before .before .before .before .before .before .before .loop-test .taken, c .before .before .before .before .before .before .before .before .before .before .before .before .before .pre .1, c .before .before .before .before .before .before .before .before .before .loop .inv .second-size)
+    let start : tie.Start Inv-loop μ-loop = search in
+    let loop-inv = (let p : tie.At-loop Inv-loop μ-loop = search in p .loop .inv) in
+    let loop-test-taken = (let p : tie.In-loop Inv-loop μ-loop = search in p .loop-test .taken) in
+    omega (arith, loop-test-taken, start .pre .1, loop-inv .second-size)
 
 add-i : tie.Need-add-i Inv-loop μ-loop
 add-i c =
-    omega (arith, c .before .before .before .before .before .before .before .before .loop-test .taken, c .before .before .before .before .before .before .before .before .before .before .before .before .before .pre .1)
+    let start : tie.Start Inv-loop μ-loop = search in
+    let loop-test-taken = (let p : tie.In-loop Inv-loop μ-loop = search in p .loop-test .taken) in
+    omega (arith, loop-test-taken, start .pre .1)
 
 loop-less : tie.Need-loop-less Inv-loop μ-loop
 loop-less c =
-    omega (arith, c .before .before .before .before .before .before .before .before .loop-test .taken)
+    let loop-test-taken = (let p : tie.In-loop Inv-loop μ-loop = search in p .loop-test .taken) in
+    omega (arith, loop-test-taken)
 
 loop-again : tie.Need-loop-again Inv-loop μ-loop
 loop-again c =
-    reading-more part3 number3 index3 (c .before .before .before .before .before .before .before .before .before .loop .inv) (c .before .before .before .before .before .before .before .before .loop-test .taken) (c .before .before .before .before .before .before .before .before .before .before .before .before .before .pre .1) (took-part3 (sym (c .before .before .before .before .before .number .given .1) ∙ c .before .before .before .before .before .before .before .read-group .ensures) (sym (c .before .index .given .1) ∙ c .before .before .before .read-group2 .ensures)) refl refl
+    let start : tie.Start Inv-loop μ-loop = search in
+    let loop-inv = (let p : tie.At-loop Inv-loop μ-loop = search in p .loop .inv) in
+    let loop-test-taken = (let p : tie.In-loop Inv-loop μ-loop = search in p .loop-test .taken) in
+    let read-group-ensures = (let p : tie.After-read-group Inv-loop μ-loop = search in p .read-group .ensures) in
+    let number-given = (let p : tie.After-number Inv-loop μ-loop = search in p .number .given) in
+    let read-group2-ensures = (let p : tie.After-read-group2 Inv-loop μ-loop = search in p .read-group2 .ensures) in
+    let index-given = (let p : tie.After-index Inv-loop μ-loop = search in p .index .given) in
+    reading-more part3 number3 index3 loop-inv loop-test-taken (start .pre .1) (took-part3 (sym (number-given .1) ∙ read-group-ensures) (sym (index-given .1) ∙ read-group2-ensures)) refl refl
 
 same-length-5 : tie.Need-same-length-5 Inv-loop μ-loop
 same-length-5 c =
-    c .before .loop .inv .first-size ∙ sym (c .before .before .before .before .before .pre .2)
+    let start : tie.Start Inv-loop μ-loop = search in
+    let loop-inv = (let p : tie.At-loop Inv-loop μ-loop = search in p .loop .inv) in
+    loop-inv .first-size ∙ sym (start .pre .2)
 
 same-length-6 : tie.Need-same-length-6 Inv-loop μ-loop
 same-length-6 c =
-    c .before .loop .inv .second-size ∙ sym (c .before .before .before .before .before .pre .3)
+    let start : tie.Start Inv-loop μ-loop = search in
+    let loop-inv = (let p : tie.At-loop Inv-loop μ-loop = search in p .loop .inv) in
+    loop-inv .second-size ∙ sym (start .pre .3)
 
 returns-3 : tie.Need-returns-3 Inv-loop μ-loop
 returns-3 c =
-    reading-end part3 number3 index3 (c .before .loop .inv) (c .loop-test .left)
+    let loop-inv = (let p : tie.At-loop Inv-loop μ-loop = search in p .loop .inv) in
+    reading-end part3 number3 index3 loop-inv (c .loop-test .left)
 
 pub read-part3-spec : {M : Type 1} → statement M
 read-part3-spec =

@@ -23,78 +23,117 @@ abbrev μ-loop : tie.MeasureT-loop
 
 loop-holds : tie.Need-loop-holds Inv-loop μ-loop
 loop-holds c =
-    (c .before .before .before .before .before .pre .3, c .before .before .before .before .before .pre .4, c .before .before .before .before .before .pre .5, (λ fs z. reading4-start fs _ _ _ _ _ _ (c .before .before .before .before .before .pre .0)))
+    let start : tie.Start Inv-loop μ-loop = search in
+    (start .pre .3, start .pre .4, start .pre .5, (λ fs z. reading4-start fs _ _ _ _ _ _ (start .pre .0)))
 
 read-entry-requires : tie.Need-read-entry-requires Inv-loop μ-loop
 read-entry-requires c κs = search needs
 
 same-length : tie.Need-same-length Inv-loop μ-loop
 same-length c =
-    c .before .before .before .before .loop .inv .0 ∙ sym (c .before .before .before .before .before .before .before .before .before .before .pre .3)
+    let start : tie.Start Inv-loop μ-loop = search in
+    let loop-inv = (let p : tie.At-loop Inv-loop μ-loop = search in p .loop .inv) in
+    loop-inv .0 ∙ sym (start .pre .3)
 
 same-length-2 : tie.Need-same-length-2 Inv-loop μ-loop
 same-length-2 c =
-    c .before .before .before .before .loop .inv .1 ∙ sym (c .before .before .before .before .before .before .before .before .before .before .pre .4)
+    let start : tie.Start Inv-loop μ-loop = search in
+    let loop-inv = (let p : tie.At-loop Inv-loop μ-loop = search in p .loop .inv) in
+    loop-inv .1 ∙ sym (start .pre .4)
 
 same-length-3 : tie.Need-same-length-3 Inv-loop μ-loop
 same-length-3 c =
-    c .before .before .before .before .loop .inv .2 ∙ sym (c .before .before .before .before .before .before .before .before .before .before .pre .5)
+    let start : tie.Start Inv-loop μ-loop = search in
+    let loop-inv = (let p : tie.At-loop Inv-loop μ-loop = search in p .loop .inv) in
+    loop-inv .2 ∙ sym (start .pre .5)
 
 returns : tie.Need-returns Inv-loop μ-loop
 returns c =
-    (c .before .before .before .before .loop .inv .0, c .before .before .before .before .loop .inv .1, c .before .before .before .before .loop .inv .2, (λ fs z. reading4-bad fs (c .before .before .before .before .loop .inv .3 fs z) (c .before .before .before .loop-test .taken) (c .before .before .read-entry .ensures fs z .no (not-true _ (c .if1 .taken)))))
+    let loop-inv = (let p : tie.At-loop Inv-loop μ-loop = search in p .loop .inv) in
+    let loop-test-taken = (let p : tie.In-loop Inv-loop μ-loop = search in p .loop-test .taken) in
+    let read-entry-ensures = (let p : tie.After-read-entry Inv-loop μ-loop = search in p .read-entry .ensures) in
+    (loop-inv .0, loop-inv .1, loop-inv .2, (λ fs z. reading4-bad fs (loop-inv .3 fs z) loop-test-taken (read-entry-ensures fs z .no (not-true _ (c .if1 .taken)))))
 
 mul-indices : tie.Need-mul-indices Inv-loop μ-loop
 mul-indices c =
-    omega (arith, c .before .before .before .loop-test .taken, c .before .before .before .before .before .before .before .before .before .before .pre .1)
+    let start : tie.Start Inv-loop μ-loop = search in
+    let loop-test-taken = (let p : tie.In-loop Inv-loop μ-loop = search in p .loop-test .taken) in
+    omega (arith, loop-test-taken, start .pre .1)
 
 slice-write-indices : tie.Need-slice-write-indices Inv-loop μ-loop
 slice-write-indices c =
-    omega (arith, c .before .before .before .loop-test .taken, c .before .before .before .before .before .before .before .before .before .before .pre .1, c .before .before .before .before .loop .inv .0)
+    let start : tie.Start Inv-loop μ-loop = search in
+    let loop-inv = (let p : tie.At-loop Inv-loop μ-loop = search in p .loop .inv) in
+    let loop-test-taken = (let p : tie.In-loop Inv-loop μ-loop = search in p .loop-test .taken) in
+    omega (arith, loop-test-taken, start .pre .1, loop-inv .0)
 
 mul-others : tie.Need-mul-others Inv-loop μ-loop
 mul-others c =
-    omega (arith, c .before .before .before .loop-test .taken, c .before .before .before .before .before .before .before .before .before .before .pre .1)
+    let start : tie.Start Inv-loop μ-loop = search in
+    let loop-test-taken = (let p : tie.In-loop Inv-loop μ-loop = search in p .loop-test .taken) in
+    omega (arith, loop-test-taken, start .pre .1)
 
 slice-write-others : tie.Need-slice-write-others Inv-loop μ-loop
 slice-write-others c =
-    omega (arith, c .before .before .before .loop-test .taken, c .before .before .before .before .before .before .before .before .before .before .pre .1, c .before .before .before .before .loop .inv .1)
+    let start : tie.Start Inv-loop μ-loop = search in
+    let loop-inv = (let p : tie.At-loop Inv-loop μ-loop = search in p .loop .inv) in
+    let loop-test-taken = (let p : tie.In-loop Inv-loop μ-loop = search in p .loop-test .taken) in
+    omega (arith, loop-test-taken, start .pre .1, loop-inv .1)
 
 mul-places : tie.Need-mul-places Inv-loop μ-loop
 mul-places c =
-    omega (arith, c .before .before .before .loop-test .taken, c .before .before .before .before .before .before .before .before .before .before .pre .1)
+    let start : tie.Start Inv-loop μ-loop = search in
+    let loop-test-taken = (let p : tie.In-loop Inv-loop μ-loop = search in p .loop-test .taken) in
+    omega (arith, loop-test-taken, start .pre .1)
 
 slice-write-places : tie.Need-slice-write-places Inv-loop μ-loop
 slice-write-places c =
-    omega (arith, c .before .before .before .loop-test .taken, c .before .before .before .before .before .before .before .before .before .before .pre .1, c .before .before .before .before .loop .inv .2)
+    let start : tie.Start Inv-loop μ-loop = search in
+    let loop-inv = (let p : tie.At-loop Inv-loop μ-loop = search in p .loop .inv) in
+    let loop-test-taken = (let p : tie.In-loop Inv-loop μ-loop = search in p .loop-test .taken) in
+    omega (arith, loop-test-taken, start .pre .1, loop-inv .2)
 
 add-i : tie.Need-add-i Inv-loop μ-loop
 add-i c =
-    omega (arith, c .before .before .before .loop-test .taken, c .before .before .before .before .before .before .before .before .before .before .pre .1)
+    let start : tie.Start Inv-loop μ-loop = search in
+    let loop-test-taken = (let p : tie.In-loop Inv-loop μ-loop = search in p .loop-test .taken) in
+    omega (arith, loop-test-taken, start .pre .1)
 
 loop-less : tie.Need-loop-less Inv-loop μ-loop
 loop-less c =
-    omega (arith, c .before .before .before .loop-test .taken)
+    let loop-test-taken = (let p : tie.In-loop Inv-loop μ-loop = search in p .loop-test .taken) in
+    omega (arith, loop-test-taken)
 
 loop-again : tie.Need-loop-again Inv-loop μ-loop
 loop-again c =
-    (simp length-set (c .before .before .before .before .loop .inv .0), simp length-set (c .before .before .before .before .loop .inv .1), simp length-set (c .before .before .before .before .loop .inv .2), (λ fs z. reading4-more fs (c .before .before .before .before .loop .inv .3 fs z) (c .before .before .before .loop-test .taken) (omega (arith, c .before .before .before .loop-test .taken, c .before .before .before .before .before .before .before .before .before .before .pre .1, c .before .before .before .before .loop .inv .0)) (omega (arith, c .before .before .before .loop-test .taken, c .before .before .before .before .before .before .before .before .before .before .pre .1, c .before .before .before .before .loop .inv .1)) (omega (arith, c .before .before .before .loop-test .taken, c .before .before .before .before .before .before .before .before .before .before .pre .1, c .before .before .before .before .loop .inv .2)) (c .before .before .read-entry .ensures fs z .yes (not-false _ (c .if1 .left)))))
+    let start : tie.Start Inv-loop μ-loop = search in
+    let loop-inv = (let p : tie.At-loop Inv-loop μ-loop = search in p .loop .inv) in
+    let loop-test-taken = (let p : tie.In-loop Inv-loop μ-loop = search in p .loop-test .taken) in
+    let read-entry-ensures = (let p : tie.After-read-entry Inv-loop μ-loop = search in p .read-entry .ensures) in
+    (simp length-set (loop-inv .0), simp length-set (loop-inv .1), simp length-set (loop-inv .2), (λ fs z. reading4-more fs (loop-inv .3 fs z) loop-test-taken (omega (arith, loop-test-taken, start .pre .1, loop-inv .0)) (omega (arith, loop-test-taken, start .pre .1, loop-inv .1)) (omega (arith, loop-test-taken, start .pre .1, loop-inv .2)) (read-entry-ensures fs z .yes (not-false _ (c .if1 .left)))))
 
 same-length-4 : tie.Need-same-length-4 Inv-loop μ-loop
 same-length-4 c =
-    c .before .loop .inv .0 ∙ sym (c .before .before .before .before .before .before .before .pre .3)
+    let start : tie.Start Inv-loop μ-loop = search in
+    let loop-inv = (let p : tie.At-loop Inv-loop μ-loop = search in p .loop .inv) in
+    loop-inv .0 ∙ sym (start .pre .3)
 
 same-length-5 : tie.Need-same-length-5 Inv-loop μ-loop
 same-length-5 c =
-    c .before .loop .inv .1 ∙ sym (c .before .before .before .before .before .before .before .pre .4)
+    let start : tie.Start Inv-loop μ-loop = search in
+    let loop-inv = (let p : tie.At-loop Inv-loop μ-loop = search in p .loop .inv) in
+    loop-inv .1 ∙ sym (start .pre .4)
 
 same-length-6 : tie.Need-same-length-6 Inv-loop μ-loop
 same-length-6 c =
-    c .before .loop .inv .2 ∙ sym (c .before .before .before .before .before .before .before .pre .5)
+    let start : tie.Start Inv-loop μ-loop = search in
+    let loop-inv = (let p : tie.At-loop Inv-loop μ-loop = search in p .loop .inv) in
+    loop-inv .2 ∙ sym (start .pre .5)
 
 returns-2 : tie.Need-returns-2 Inv-loop μ-loop
 returns-2 c =
-    (c .before .loop .inv .0, c .before .loop .inv .1, c .before .loop .inv .2, (λ fs z. reading4-end fs (c .before .loop .inv .3 fs z) (c .loop-test .left)))
+    let loop-inv = (let p : tie.At-loop Inv-loop μ-loop = search in p .loop .inv) in
+    (loop-inv .0, loop-inv .1, loop-inv .2, (λ fs z. reading4-end fs (loop-inv .3 fs z) (c .loop-test .left)))
 
 pub read-part4-spec : {M : Type 1} → statement M
 read-part4-spec =

@@ -29,7 +29,8 @@ mul-array c = search needs
 
 slice-write-array : tie.Need-slice-write-array Inv-loop μ-loop
 slice-write-array c =
-    let s = c .before .loop .inv .0 .size in omega arith
+    let loop-inv = (let p : tie.At-loop Inv-loop μ-loop = search in p .loop .inv) in
+    let s = loop-inv .0 .size in omega arith
 
 add-j : tie.Need-add-j Inv-loop μ-loop
 add-j c = search needs
@@ -39,15 +40,19 @@ loop-less c = search needs
 
 loop-again : tie.Need-loop-again Inv-loop μ-loop
 loop-again c =
-    (over-more (c .before .loop .inv .0) (omega arith) refl, omega arith)
+    let loop-inv = (let p : tie.At-loop Inv-loop μ-loop = search in p .loop .inv) in
+    (over-more (loop-inv .0) (omega arith) refl, omega arith)
 
 same-length : tie.Need-same-length Inv-loop μ-loop
 same-length c =
-    c .before .loop .inv .0 .size ∙ sym (c .before .before .pre .0)
+    let start : tie.Start Inv-loop μ-loop = search in
+    let loop-inv = (let p : tie.At-loop Inv-loop μ-loop = search in p .loop .inv) in
+    loop-inv .0 .size ∙ sym (start .pre .0)
 
 returns : tie.Need-returns Inv-loop μ-loop
 returns c =
-    over-all (c .before .loop .inv .0) (c .before .loop .inv .1) (omega arith)
+    let loop-inv = (let p : tie.At-loop Inv-loop μ-loop = search in p .loop .inv) in
+    over-all (loop-inv .0) (loop-inv .1) (omega arith)
 
 pub fill-spec : {M : Type 1} → statement M
 fill-spec =

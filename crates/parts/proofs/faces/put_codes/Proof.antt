@@ -18,7 +18,8 @@ abbrev μ-loop : tie.MeasureT-loop
 
 loop-holds : tie.Need-loop-holds Inv-loop μ-loop
 loop-holds c =
-    coding-none _ _ _ _ (let t = c .before .before .pre .2 .took in let a = t .onward in let b = t .within in omega arith) (c .before .before .pre .0)
+    let start : tie.Start Inv-loop μ-loop = search in
+    coding-none _ _ _ _ (let t = start .pre .2 .took in let a = t .onward in let b = t .within in omega arith) (start .pre .0)
 
 read-label-requires : tie.Need-read-label-requires Inv-loop μ-loop
 read-label-requires c κs = search needs
@@ -31,22 +32,33 @@ enum-told c = search needs
 
 same-length : tie.Need-same-length Inv-loop μ-loop
 same-length c =
-    c .before .before .before .before .loop .inv .put .size ∙ sym (c .before .before .before .before .before .before .before .pre .0)
+    let start : tie.Start Inv-loop μ-loop = search in
+    let loop-inv = (let p : tie.At-loop Inv-loop μ-loop = search in p .loop .inv) in
+    loop-inv .put .size ∙ sym (start .pre .0)
 
 returns : tie.Need-returns Inv-loop μ-loop
 returns c =
-    absurd (coding-bad (c .before .before .before .before .loop .inv) (c .before .before .before .before .before .before .before .pre .2) (c .before .before .before .loop-test .taken) (sym (c .enum-told .given .1) ∙ c .before .before .read-label .ensures))
+    let start : tie.Start Inv-loop μ-loop = search in
+    let loop-inv = (let p : tie.At-loop Inv-loop μ-loop = search in p .loop .inv) in
+    let loop-test-taken = (let p : tie.In-loop Inv-loop μ-loop = search in p .loop-test .taken) in
+    let read-label-ensures = (let p : tie.After-read-label Inv-loop μ-loop = search in p .read-label .ensures) in
+    absurd (coding-bad loop-inv (start .pre .2) loop-test-taken (sym (c .enum-told .given .1) ∙ read-label-ensures))
 
 add-array : tie.Need-add-array Inv-loop μ-loop
 add-array c = search needs
 
 mul-array : tie.Need-mul-array Inv-loop μ-loop
 mul-array c =
-    omega (arith, c .before .before .before .before .loop-test .taken, c .before .before .before .before .before .before .before .before .pre .1)
+    let start : tie.Start Inv-loop μ-loop = search in
+    let loop-test-taken = (let p : tie.In-loop Inv-loop μ-loop = search in p .loop-test .taken) in
+    omega (arith, loop-test-taken, start .pre .1)
 
 slice-write-array : tie.Need-slice-write-array Inv-loop μ-loop
 slice-write-array c =
-    omega (arith, c .before .before .before .before .loop-test .taken, c .before .before .before .before .before .before .before .before .pre .1, c .before .before .before .before .before .loop .inv .put .size)
+    let start : tie.Start Inv-loop μ-loop = search in
+    let loop-inv = (let p : tie.At-loop Inv-loop μ-loop = search in p .loop .inv) in
+    let loop-test-taken = (let p : tie.In-loop Inv-loop μ-loop = search in p .loop-test .taken) in
+    omega (arith, loop-test-taken, start .pre .1, loop-inv .put .size)
 
 add-j : tie.Need-add-j Inv-loop μ-loop
 add-j c = search needs
@@ -56,15 +68,23 @@ loop-less c = search needs
 
 loop-again : tie.Need-loop-again Inv-loop μ-loop
 loop-again c =
-    coding-more (c .before .before .before .before .before .loop .inv) (c .before .before .before .before .before .before .before .before .pre .1) (c .before .before .before .before .loop-test .taken) (sym (c .before .code .given .1) ∙ c .before .before .before .read-label .ensures)
+    let start : tie.Start Inv-loop μ-loop = search in
+    let loop-inv = (let p : tie.At-loop Inv-loop μ-loop = search in p .loop .inv) in
+    let loop-test-taken = (let p : tie.In-loop Inv-loop μ-loop = search in p .loop-test .taken) in
+    let read-label-ensures = (let p : tie.After-read-label Inv-loop μ-loop = search in p .read-label .ensures) in
+    let code-given = (let p : tie.After-code Inv-loop μ-loop = search in p .code .given) in
+    coding-more loop-inv (start .pre .1) loop-test-taken (sym (code-given .1) ∙ read-label-ensures)
 
 same-length-2 : tie.Need-same-length-2 Inv-loop μ-loop
 same-length-2 c =
-    c .before .loop .inv .put .size ∙ sym (c .before .before .before .before .pre .0)
+    let start : tie.Start Inv-loop μ-loop = search in
+    let loop-inv = (let p : tie.At-loop Inv-loop μ-loop = search in p .loop .inv) in
+    loop-inv .put .size ∙ sym (start .pre .0)
 
 returns-2 : tie.Need-returns-2 Inv-loop μ-loop
 returns-2 c =
-    coding-end (c .before .loop .inv) (c .loop-test .left)
+    let loop-inv = (let p : tie.At-loop Inv-loop μ-loop = search in p .loop .inv) in
+    coding-end loop-inv (c .loop-test .left)
 
 pub put-codes-spec : {M : Type 1} → statement M
 put-codes-spec =

@@ -20,7 +20,8 @@ abbrev μ-loop : tie.MeasureT-loop
 
 loop-holds : tie.Need-loop-holds Inv-loop μ-loop
 loop-holds c =
-    (faced-none _ _ _ _ (c .before .before .before .before .before .before .before .pre .0 .4), faced-none _ _ _ _ (c .before .before .before .before .before .before .before .pre .0 .5), omega arith)
+    let start : tie.Start Inv-loop μ-loop = search in
+    (faced-none _ _ _ _ (start .pre .0 .4), faced-none _ _ _ _ (start .pre .0 .5), omega arith)
 
 mul-i : tie.Need-mul-i Inv-loop μ-loop
 mul-i c = search needs
@@ -30,11 +31,15 @@ shared-slice-read-i c = search needs
 
 mul-n : tie.Need-mul-n Inv-loop μ-loop
 mul-n c =
-    let h = c .before .before .before .before .before .before .before .before .before .before .pre .1 .0 .below (c .before .before .loop .e) (omega arith) in omega arith
+    let start : tie.Start Inv-loop μ-loop = search in
+    let loop-e = (let p : tie.At-loop Inv-loop μ-loop = search in p .loop .e) in
+    let h = start .pre .1 .0 .below loop-e (omega arith) in omega arith
 
 shared-slice-read-n : tie.Need-shared-slice-read-n Inv-loop μ-loop
 shared-slice-read-n c =
-    let h = c .before .before .before .before .before .before .before .before .before .before .before .pre .1 .0 .below (c .before .before .before .loop .e) (omega arith) in omega arith
+    let start : tie.Start Inv-loop μ-loop = search in
+    let loop-e = (let p : tie.At-loop Inv-loop μ-loop = search in p .loop .e) in
+    let h = start .pre .1 .0 .below loop-e (omega arith) in omega arith
 
 mul-fill : tie.Need-mul-fill Inv-loop μ-loop
 mul-fill c = search needs
@@ -44,15 +49,22 @@ shared-slice-read-fill c = search needs
 
 mul-fill-2 : tie.Need-mul-fill-2 Inv-loop μ-loop
 mul-fill-2 c =
-    let h = c .before .before .before .before .before .before .before .before .before .before .before .before .before .pre .1 .2 (c .before .before .before .before .before .loop .e) (omega arith) in omega arith
+    let start : tie.Start Inv-loop μ-loop = search in
+    let loop-e = (let p : tie.At-loop Inv-loop μ-loop = search in p .loop .e) in
+    let h = start .pre .1 .2 loop-e (omega arith) in omega arith
 
 add-fill : tie.Need-add-fill Inv-loop μ-loop
 add-fill c =
-    let h = c .before .before .before .before .before .before .before .before .before .before .before .before .before .pre .1 .2 (c .before .before .before .before .before .loop .e) (omega arith) in omega arith
+    let start : tie.Start Inv-loop μ-loop = search in
+    let loop-e = (let p : tie.At-loop Inv-loop μ-loop = search in p .loop .e) in
+    let h = start .pre .1 .2 loop-e (omega arith) in omega arith
 
 fill-requires : tie.Need-fill-requires Inv-loop μ-loop
 fill-requires c κs =
-    (c .before .before .before .before .before .loop .inv .0 .size, c .before .before .before .before .before .before .before .before .before .before .before .before .before .pre .1 .0 .within (c .before .before .before .before .before .loop .e) (omega arith))
+    let start : tie.Start Inv-loop μ-loop = search in
+    let loop-e = (let p : tie.At-loop Inv-loop μ-loop = search in p .loop .e) in
+    let loop-inv = (let p : tie.At-loop Inv-loop μ-loop = search in p .loop .inv) in
+    (loop-inv .0 .size, start .pre .1 .0 .within loop-e (omega arith))
 
 mul-put-codes : tie.Need-mul-put-codes Inv-loop μ-loop
 mul-put-codes c = search needs
@@ -62,7 +74,10 @@ shared-slice-read-put-codes c = search needs
 
 put-codes-requires : tie.Need-put-codes-requires Inv-loop μ-loop
 put-codes-requires c κs =
-    (c .before .before .before .before .before .before .before .before .before .before .loop .inv .1 .size, c .before .before .before .before .before .before .before .before .before .before .before .before .before .before .before .before .before .before .pre .1 .0 .within (c .before .before .before .before .before .before .before .before .before .before .loop .e) (omega arith), c .before .before .before .before .before .before .before .before .before .before .before .before .before .before .before .before .before .before .pre .1 .3 (c .before .before .before .before .before .before .before .before .before .before .loop .e) (omega arith))
+    let start : tie.Start Inv-loop μ-loop = search in
+    let loop-e = (let p : tie.At-loop Inv-loop μ-loop = search in p .loop .e) in
+    let loop-inv = (let p : tie.At-loop Inv-loop μ-loop = search in p .loop .inv) in
+    (loop-inv .1 .size, start .pre .1 .0 .within loop-e (omega arith), start .pre .1 .3 loop-e (omega arith))
 
 add-e : tie.Need-add-e Inv-loop μ-loop
 add-e c = search needs
@@ -72,19 +87,28 @@ loop-less c = search needs
 
 loop-again : tie.Need-loop-again Inv-loop μ-loop
 loop-again c =
-    (faced-more (c .before .before .before .before .before .before .before .before .before .before .before .before .before .before .before .before .before .before .before .before .before .pre .1 .0) (c .before .before .before .before .before .before .before .before .before .before .before .before .before .loop .inv .0) (omega arith) (c .before .before .before .before .before .before .before .fill .ensures), faced-more (c .before .before .before .before .before .before .before .before .before .before .before .before .before .before .before .before .before .before .before .before .before .pre .1 .0) (c .before .before .before .before .before .before .before .before .before .before .before .before .before .loop .inv .1) (omega arith) (c .before .before .put-codes .ensures), omega arith)
+    let start : tie.Start Inv-loop μ-loop = (let c : tie.At-loop Inv-loop μ-loop = search in search) in
+    let loop-inv = (let p : tie.At-loop Inv-loop μ-loop = search in p .loop .inv) in
+    let fill-ensures = (let p : tie.After-fill Inv-loop μ-loop = search in p .fill .ensures) in
+    let put-codes-ensures = (let p : tie.After-put-codes Inv-loop μ-loop = search in p .put-codes .ensures) in
+    (faced-more (start .pre .1 .0) (loop-inv .0) (omega arith) fill-ensures, faced-more (start .pre .1 .0) (loop-inv .1) (omega arith) put-codes-ensures, omega arith)
 
 same-length : tie.Need-same-length Inv-loop μ-loop
 same-length c =
-    c .before .loop .inv .0 .size ∙ sym (c .before .before .before .before .before .before .before .before .before .pre .0 .4)
+    let start : tie.Start Inv-loop μ-loop = search in
+    let loop-inv = (let p : tie.At-loop Inv-loop μ-loop = search in p .loop .inv) in
+    loop-inv .0 .size ∙ sym (start .pre .0 .4)
 
 same-length-2 : tie.Need-same-length-2 Inv-loop μ-loop
 same-length-2 c =
-    c .before .loop .inv .1 .size ∙ sym (c .before .before .before .before .before .before .before .before .before .pre .0 .5)
+    let start : tie.Start Inv-loop μ-loop = search in
+    let loop-inv = (let p : tie.At-loop Inv-loop μ-loop = search in p .loop .inv) in
+    loop-inv .1 .size ∙ sym (start .pre .0 .5)
 
 returns : tie.Need-returns Inv-loop μ-loop
 returns c =
-    (faced-all (c .before .loop .inv .0) (c .before .loop .inv .2) (omega arith), faced-all (c .before .loop .inv .1) (c .before .loop .inv .2) (omega arith))
+    let loop-inv = (let p : tie.At-loop Inv-loop μ-loop = search in p .loop .inv) in
+    (faced-all (loop-inv .0) (loop-inv .2) (omega arith), faced-all (loop-inv .1) (loop-inv .2) (omega arith))
 
 pub put-part4-spec : {M : Type 1} → statement M
 put-part4-spec =

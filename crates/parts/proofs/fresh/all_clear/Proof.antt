@@ -26,11 +26,15 @@ loop-holds c =
 
 clear-at-requires : tie.Need-clear-at-requires Inv-loop μ-loop
 clear-at-requires c κs =
-    (c .before .before .before .before .pre .0, omega arith, c .before .before .before .before .pre .2, c .before .before .before .before .pre .3, c .before .before .before .before .pre .4)
+    let start : tie.Start Inv-loop μ-loop = search in
+    (start .pre .0, omega arith, start .pre .2, start .pre .3, start .pre .4)
 
 returns : tie.Need-returns Inv-loop μ-loop
 returns c =
-    passing-not (clear-at (c .before .before .before .before .before .before .args .block .now) (tab (value-at (c .before .before .before .before .before .before .args .keys .now)) (c .before .before .before .before .before .before .args .k))) (c .before .before .before .loop .p) (c .before .before .before .before .before .before .args .n) (omega arith) (sym (c .before .clear-at .ensures) ∙ not-true _ (c .if1 .taken))
+    let start : tie.Start Inv-loop μ-loop = search in
+    let loop-p = (let p : tie.At-loop Inv-loop μ-loop = search in p .loop .p) in
+    let clear-at-ensures = (let p : tie.After-clear-at Inv-loop μ-loop = search in p .clear-at .ensures) in
+    passing-not (clear-at (start .args .block .now) (tab (value-at (start .args .keys .now)) (start .args .k))) loop-p (start .args .n) (omega arith) (sym clear-at-ensures ∙ not-true _ (c .if1 .taken))
 
 add-p : tie.Need-add-p Inv-loop μ-loop
 add-p c = search needs
@@ -40,11 +44,15 @@ loop-less c = search needs
 
 loop-again : tie.Need-loop-again Inv-loop μ-loop
 loop-again c =
-    passing-more (c .before .before .before .loop .inv) (sym (c .before .clear-at .ensures) ∙ not-false _ (c .if1 .left))
+    let loop-inv = (let p : tie.At-loop Inv-loop μ-loop = search in p .loop .inv) in
+    let clear-at-ensures = (let p : tie.After-clear-at Inv-loop μ-loop = search in p .clear-at .ensures) in
+    passing-more loop-inv (sym clear-at-ensures ∙ not-false _ (c .if1 .left))
 
 returns-2 : tie.Need-returns-2 Inv-loop μ-loop
 returns-2 c =
-    passing-all {k = c .before .before .before .before .args .n} (c .before .loop .inv) (omega arith)
+    let start : tie.Start Inv-loop μ-loop = search in
+    let loop-inv = (let p : tie.At-loop Inv-loop μ-loop = search in p .loop .inv) in
+    passing-all {k = start .args .n} loop-inv (omega arith)
 
 pub all-clear-spec : {M : Type 1} → statement M
 all-clear-spec =

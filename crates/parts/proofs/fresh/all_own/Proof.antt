@@ -39,7 +39,10 @@ own-right-requires c κs = search needs
 
 returns : tie.Need-returns Inv-loop μ-loop
 returns c =
-    passing-not (own-at (c .before .before .before .before .before .before .before .before .args .number) (c .before .before .before .before .before .before .before .before .args .counter) (c .before .before .before .before .before .before .before .before .args .kinds .now) (c .before .before .before .before .before .before .before .before .args .links .now)) (c .before .before .before .before .before .loop .q) (c .before .before .before .before .before .before .before .before .args .k) (omega arith) (sym (c .before .own-right .ensures) ∙ not-true _ (c .if1 .taken))
+    let start : tie.Start Inv-loop μ-loop = search in
+    let loop-q = (let p : tie.At-loop Inv-loop μ-loop = search in p .loop .q) in
+    let own-right-ensures = (let p : tie.After-own-right Inv-loop μ-loop = search in p .own-right .ensures) in
+    passing-not (own-at (start .args .number) (start .args .counter) (start .args .kinds .now) (start .args .links .now)) loop-q (start .args .k) (omega arith) (sym own-right-ensures ∙ not-true _ (c .if1 .taken))
 
 add-q : tie.Need-add-q Inv-loop μ-loop
 add-q c = search needs
@@ -49,11 +52,15 @@ loop-less c = search needs
 
 loop-again : tie.Need-loop-again Inv-loop μ-loop
 loop-again c =
-    passing-more (c .before .before .before .before .before .loop .inv) (sym (c .before .own-right .ensures) ∙ not-false _ (c .if1 .left))
+    let loop-inv = (let p : tie.At-loop Inv-loop μ-loop = search in p .loop .inv) in
+    let own-right-ensures = (let p : tie.After-own-right Inv-loop μ-loop = search in p .own-right .ensures) in
+    passing-more loop-inv (sym own-right-ensures ∙ not-false _ (c .if1 .left))
 
 returns-2 : tie.Need-returns-2 Inv-loop μ-loop
 returns-2 c =
-    passing-all {k = c .before .before .before .before .args .k} (c .before .loop .inv) (omega arith)
+    let start : tie.Start Inv-loop μ-loop = search in
+    let loop-inv = (let p : tie.At-loop Inv-loop μ-loop = search in p .loop .inv) in
+    passing-all {k = start .args .k} loop-inv (omega arith)
 
 pub all-own-spec : {M : Type 1} → statement M
 all-own-spec =

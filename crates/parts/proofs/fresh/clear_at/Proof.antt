@@ -14,7 +14,9 @@ field-requires c κs = search needs
 
 returns : tie.Need-returns
 returns c =
-    clear-free (c .before .before .before .before .args .block .now) (c .before .before .before .before .args .keys .now) (c .before .before .before .before .args .k) (c .before .before .before .before .args .p) (let e = c .before .field .ensures in omega arith)
+    let start : tie.Start = search in
+    let field-ensures = (let p : tie.After-field = search in p .field .ensures) in
+    clear-free (start .args .block .now) (start .args .keys .now) (start .args .k) (start .args .p) (let e = field-ensures in omega arith)
 
 field-requires-2 : tie.Need-field-requires-2
 field-requires-2 c κs = search needs
@@ -30,11 +32,20 @@ enum-told c = search needs
 
 returns-2 : tie.Need-returns-2
 returns-2 c =
-    clear-none (c .before .before .before .before .before .before .before .before .args .block .now) (c .before .before .before .before .before .before .before .before .args .keys .now) (c .before .before .before .before .before .before .before .before .args .k) (c .before .before .before .before .before .before .before .before .args .p) (let e = c .before .before .before .before .before .field .ensures in omega arith) (ap (place-in (value-at (c .before .before .before .before .before .before .before .before .args .keys .now)) (c .before .before .before .before .before .before .before .before .args .k)) (sym (c .before .before .before .field2 .ensures)) ∙ sym (c .before .before .find .ensures) ∙ c .enum-told .given .1)
+    let start : tie.Start = search in
+    let field-ensures = (let p : tie.After-field = search in p .field .ensures) in
+    let field2-ensures = (let p : tie.After-field2 = search in p .field2 .ensures) in
+    let find-ensures = (let p : tie.After-find = search in p .find .ensures) in
+    clear-none (start .args .block .now) (start .args .keys .now) (start .args .k) (start .args .p) (let e = field-ensures in omega arith) (ap (place-in (value-at (start .args .keys .now)) (start .args .k)) (sym field2-ensures) ∙ sym find-ensures ∙ c .enum-told .given .1)
 
 returns-3 : tie.Need-returns-3
 returns-3 c =
-    clear-found (c .before .before .before .before .before .before .before .before .before .args .block .now) (c .before .before .before .before .before .before .before .before .before .args .keys .now) (c .before .before .before .before .before .before .before .before .before .args .k) (c .before .before .before .before .before .before .before .before .before .args .p) (let e = c .before .before .before .before .before .before .field .ensures in omega arith) (ap (place-in (value-at (c .before .before .before .before .before .before .before .before .before .args .keys .now)) (c .before .before .before .before .before .before .before .before .before .args .k)) (sym (c .before .before .before .before .field2 .ensures)) ∙ sym (c .before .before .before .find .ensures) ∙ c .before .r .given .1)
+    let start : tie.Start = search in
+    let field-ensures = (let p : tie.After-field = search in p .field .ensures) in
+    let field2-ensures = (let p : tie.After-field2 = search in p .field2 .ensures) in
+    let find-ensures = (let p : tie.After-find = search in p .find .ensures) in
+    let r-given = (let p : tie.After-r = search in p .r .given) in
+    clear-found (start .args .block .now) (start .args .keys .now) (start .args .k) (start .args .p) (let e = field-ensures in omega arith) (ap (place-in (value-at (start .args .keys .now)) (start .args .k)) (sym field2-ensures) ∙ sym find-ensures ∙ r-given .1)
 
 pub clear-at-spec : {M : Type 1} → statement M
 clear-at-spec =

@@ -11,11 +11,13 @@ add-result c = search needs
 
 returns : tie.Need-returns
 returns c =
-    fresh-free (c .before .args .kind) (c .before .args .link) (c .before .args .q) (omega arith)
+    let start : tie.Start = search in
+    fresh-free (start .args .kind) (start .args .link) (start .args .q) (omega arith)
 
 returns-2 : tie.Need-returns-2
 returns-2 c =
-    fresh-critical (c .before .args .kind) (c .before .args .link) (c .before .args .q) (omega arith)
+    let start : tie.Start = search in
+    fresh-critical (start .args .kind) (start .args .link) (start .args .q) (omega arith)
 
 pub fresh-value-spec : {M : Type 1} → statement M
 fresh-value-spec = tie.close (tie.spec add-result returns returns-2)

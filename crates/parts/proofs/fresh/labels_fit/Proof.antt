@@ -19,7 +19,9 @@ all-own-requires c κs = search needs
 
 returns : tie.Need-returns
 returns c =
-    own-no (c .before .before .before .before .before .before .before .args .block .now) (c .before .before .before .before .before .before .before .args .n) (c .before .before .before .before .before .before .before .args .kinds .now) (c .before .before .before .before .before .before .before .args .links .now) (c .before .before .before .before .before .before .before .args .k) (sym (c .before .all-own .ensures) ∙ not-true _ (c .if1 .taken))
+    let start : tie.Start = search in
+    let all-own-ensures = (let p : tie.After-all-own = search in p .all-own .ensures) in
+    own-no (start .args .block .now) (start .args .n) (start .args .kinds .now) (start .args .links .now) (start .args .k) (sym all-own-ensures ∙ not-true _ (c .if1 .taken))
 
 slice-aggregate-put-values : tie.Need-slice-aggregate-put-values
 slice-aggregate-put-values c = search needs
@@ -41,22 +43,36 @@ slice-aggregate-rank-4 c = search needs
 
 rank-requires : tie.Need-rank-requires
 rank-requires c κs =
-    ((c .before .before .before .before .before .before .before .before .before .before .before .before .before .before .pre .0 .4, c .before .before .before .before .before .before .before .before .before .before .before .before .before .before .pre .0 .5, (let n = c .before .before .before .before .before .put-values .ensures .len in omega arith), value-small (c .before .before .before .before .before .put-values .ensures) (c .before .before .before .before .before .before .before .before .before .before .before .before .before .before .pre .0 .5) (c .before .before .before .before .before .before .before .before .before .before .before .before .before .before .pre .1)), (refl, refl, refl))
+    let start : tie.Start = search in
+    let put-values-ensures = (let p : tie.After-put-values = search in p .put-values .ensures) in
+    ((start .pre .0 .4, start .pre .0 .5, (let n = put-values-ensures .len in omega arith), value-small put-values-ensures (start .pre .0 .5) (start .pre .1)), (refl, refl, refl))
 
 returns-2 : tie.Need-returns-2
 returns-2 c =
-    twice-no (c .before .before .before .before .before .before .before .before .before .before .before .before .before .before .before .before .before .before .before .args .block .now) (c .before .before .before .before .before .before .before .before .before .before .before .before .before .before .before .before .before .before .before .args .n) (c .before .before .before .before .before .before .before .before .before .before .before .before .before .before .before .before .before .before .before .args .kinds .now) (c .before .before .before .before .before .before .before .before .before .before .before .before .before .before .before .before .before .before .before .args .links .now) (c .before .before .before .before .before .before .before .before .before .before .before .before .before .before .before .before .before .before .before .args .k) (c .before .before .before .before .before .before .before .before .before .before .put-values .ensures) (sym (c .before .before .before .before .rank .ensures .0) ∙ not-true _ (c .if2 .taken))
+    let start : tie.Start = search in
+    let put-values-ensures = (let p : tie.After-put-values = search in p .put-values .ensures) in
+    let rank-ensures = (let p : tie.After-rank = search in p .rank .ensures) in
+    twice-no (start .args .block .now) (start .args .n) (start .args .kinds .now) (start .args .links .now) (start .args .k) put-values-ensures (sym (rank-ensures .0) ∙ not-true _ (c .if2 .taken))
 
 slice-aggregate-all-clear : tie.Need-slice-aggregate-all-clear
 slice-aggregate-all-clear c = search needs
 
 all-clear-requires : tie.Need-all-clear-requires
 all-clear-requires c κs =
-    (c .before .before .before .before .before .before .before .before .before .before .before .before .before .before .before .before .before .before .before .before .pre .0 .0, c .before .before .before .before .before .before .before .before .before .before .before .before .before .before .before .before .before .before .before .before .pre .0 .1, c .before .before .before .before .before .rank .ensures .1 .1, c .before .before .before .before .before .before .before .before .before .before .before .before .before .before .before .before .before .before .before .before .pre .0 .5, c .before .before .before .before .before .rank .ensures .1 .0 (not-false _ (c .before .if2 .left)) .ascends)
+    let start : tie.Start = search in
+    let rank-ensures = (let p : tie.After-rank = search in p .rank .ensures) in
+    let if2-left = (let p : tie.Else2 = search in p .if2 .left) in
+    (start .pre .0 .0, start .pre .0 .1, rank-ensures .1 .1, start .pre .0 .5, rank-ensures .1 .0 (not-false _ if2-left) .ascends)
 
 returns-3 : tie.Need-returns-3
 returns-3 c =
-    clear-is (c .before .before .before .before .before .before .before .before .before .before .before .before .before .before .before .before .before .before .before .before .before .args .block .now) (c .before .before .before .before .before .before .before .before .before .before .before .before .before .before .before .before .before .before .before .before .before .args .n) (c .before .before .before .before .before .before .before .before .before .before .before .before .before .before .before .before .before .before .before .before .before .args .kinds .now) (c .before .before .before .before .before .before .before .before .before .before .before .before .before .before .before .before .before .before .before .before .before .args .links .now) (c .before .before .before .before .before .before .before .before .before .before .before .before .before .before .before .before .before .before .before .before .before .args .k) (sym (c .before .before .before .before .before .before .before .before .before .before .before .before .before .before .before .all-own .ensures) ∙ not-false _ (c .before .before .before .before .before .before .before .before .before .before .before .before .before .before .if1 .left)) (c .before .before .before .before .before .before .before .before .before .before .before .before .put-values .ensures) (sym (c .before .before .before .before .before .before .rank .ensures .0) ∙ not-false _ (c .before .before .if2 .left)) (c .before .before .before .before .before .before .rank .ensures .1 .0 (not-false _ (c .before .before .if2 .left))) (c .all-clear .ensures)
+    let start : tie.Start = search in
+    let all-own-ensures = (let p : tie.After-all-own = search in p .all-own .ensures) in
+    let if1-left = (let p : tie.Else1 = search in p .if1 .left) in
+    let put-values-ensures = (let p : tie.After-put-values = search in p .put-values .ensures) in
+    let rank-ensures = (let p : tie.After-rank = search in p .rank .ensures) in
+    let if2-left = (let p : tie.Else2 = search in p .if2 .left) in
+    clear-is (start .args .block .now) (start .args .n) (start .args .kinds .now) (start .args .links .now) (start .args .k) (sym all-own-ensures ∙ not-false _ if1-left) put-values-ensures (sym (rank-ensures .0) ∙ not-false _ if2-left) (rank-ensures .1 .0 (not-false _ if2-left)) (c .all-clear .ensures)
 
 pub labels-fit-spec : {M : Type 1} → statement M
 labels-fit-spec =

@@ -8,11 +8,13 @@ use Rattle.parts.proofs.fresh.own_right.Tie as tie
 
 returns : tie.Need-returns
 returns c =
-    own-free (c .before .args .number) (c .before .args .counter) (c .before .args .kind) (c .before .args .link) (omega arith)
+    let start : tie.Start = search in
+    own-free (start .args .number) (start .args .counter) (start .args .kind) (start .args .link) (omega arith)
 
 returns-2 : tie.Need-returns-2
 returns-2 c =
-    own-critical (c .before .args .number) (c .before .args .counter) (c .before .args .kind) (c .before .args .link) (omega arith) refl
+    let start : tie.Start = search in
+    own-critical (start .args .number) (start .args .counter) (start .args .kind) (start .args .link) (omega arith) refl
 
 pub own-right-spec : {M : Type 1} → statement M
 own-right-spec = tie.close (tie.spec returns returns-2)

@@ -19,7 +19,8 @@ abbrev μ-loop : tie.MeasureT-loop
 
 loop-holds : tie.Need-loop-holds Inv-loop μ-loop
 loop-holds c =
-    valued-none _ _ (c .before .before .before .pre .2)
+    let start : tie.Start Inv-loop μ-loop = search in
+    valued-none _ _ (start .pre .2)
 
 mul-fresh-value : tie.Need-mul-fresh-value Inv-loop μ-loop
 mul-fresh-value c = search needs
@@ -41,7 +42,8 @@ mul-values c = search needs
 
 slice-write-values : tie.Need-slice-write-values Inv-loop μ-loop
 slice-write-values c =
-    let n = c .before .before .before .before .loop .inv .len in omega arith
+    let loop-inv = (let p : tie.At-loop Inv-loop μ-loop = search in p .loop .inv) in
+    let n = loop-inv .len in omega arith
 
 add-q : tie.Need-add-q Inv-loop μ-loop
 add-q c = search needs
@@ -51,15 +53,20 @@ loop-less c = search needs
 
 loop-again : tie.Need-loop-again Inv-loop μ-loop
 loop-again c =
-    valued-more (c .before .before .before .before .loop .inv) (c .before .before .before .before .before .before .before .before .pre .3) (omega arith) (c .fresh-value .ensures)
+    let start : tie.Start Inv-loop μ-loop = search in
+    let loop-inv = (let p : tie.At-loop Inv-loop μ-loop = search in p .loop .inv) in
+    valued-more loop-inv (start .pre .3) (omega arith) (c .fresh-value .ensures)
 
 same-length : tie.Need-same-length Inv-loop μ-loop
 same-length c =
-    c .before .loop .inv .len ∙ sym (c .before .before .before .before .before .pre .2)
+    let start : tie.Start Inv-loop μ-loop = search in
+    let loop-inv = (let p : tie.At-loop Inv-loop μ-loop = search in p .loop .inv) in
+    loop-inv .len ∙ sym (start .pre .2)
 
 returns : tie.Need-returns Inv-loop μ-loop
 returns c =
-    valued-all _ _ (c .before .loop .inv) (omega arith)
+    let loop-inv = (let p : tie.At-loop Inv-loop μ-loop = search in p .loop .inv) in
+    valued-all _ _ loop-inv (omega arith)
 
 pub put-values-spec : {M : Type 1} → statement M
 put-values-spec =

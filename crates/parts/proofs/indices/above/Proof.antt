@@ -7,7 +7,8 @@ use Rattle.parts.proofs.indices.above.Tie as tie
 
 returns : tie.Need-returns
 returns c =
-    above-first (c .before .args .indices .now) (c .before .args .e) (c .if1 .taken)
+    let start : tie.Start = search in
+    above-first (start .args .indices .now) (start .args .e) (c .if1 .taken)
 
 sub-result : tie.Need-sub-result
 sub-result c = search needs
@@ -26,7 +27,9 @@ shared-slice-read-result-2 c = search needs
 
 returns-2 : tie.Need-returns-2
 returns-2 c =
-    above-later (c .before .before .before .args .indices .now) (c .before .before .before .args .e) (c .before .before .if1 .left)
+    let start : tie.Start = search in
+    let if1-left = (let p : tie.Else1 = search in p .if1 .left) in
+    above-later (start .args .indices .now) (start .args .e) if1-left
 
 pub above-spec : {M : Type 1} → statement M
 above-spec =

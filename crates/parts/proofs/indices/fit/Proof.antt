@@ -27,7 +27,10 @@ fits-at-requires c κs = search needs
 
 returns : tie.Need-returns Inv-loop μ-loop
 returns c =
-    record { said = passing-not (fits-at (c .before .before .before .before .before .before .before .args .indices .now) (c .before .before .before .before .before .before .before .args .starts .now) (c .before .before .before .before .before .before .before .args .marks .now) (c .before .before .before .before .before .before .before .args .k)) (c .before .before .before .loop .e) (c .before .before .before .before .before .before .before .args .c) (omega arith) (sym (c .before .fits-at .ensures) ∙ not-true _ (c .if1 .taken)) }
+    let start : tie.Start Inv-loop μ-loop = search in
+    let loop-e = (let p : tie.At-loop Inv-loop μ-loop = search in p .loop .e) in
+    let fits-at-ensures = (let p : tie.After-fits-at Inv-loop μ-loop = search in p .fits-at .ensures) in
+    record { said = passing-not (fits-at (start .args .indices .now) (start .args .starts .now) (start .args .marks .now) (start .args .k)) loop-e (start .args .c) (omega arith) (sym fits-at-ensures ∙ not-true _ (c .if1 .taken)) }
 
 add-e : tie.Need-add-e Inv-loop μ-loop
 add-e c = search needs
@@ -37,11 +40,15 @@ loop-less c = search needs
 
 loop-again : tie.Need-loop-again Inv-loop μ-loop
 loop-again c =
-    passing-more (c .before .before .before .loop .inv) (sym (c .before .fits-at .ensures) ∙ not-false _ (c .if1 .left))
+    let loop-inv = (let p : tie.At-loop Inv-loop μ-loop = search in p .loop .inv) in
+    let fits-at-ensures = (let p : tie.After-fits-at Inv-loop μ-loop = search in p .fits-at .ensures) in
+    passing-more loop-inv (sym fits-at-ensures ∙ not-false _ (c .if1 .left))
 
 returns-2 : tie.Need-returns-2 Inv-loop μ-loop
 returns-2 c =
-    record { said = passing-all {k = c .before .before .before .before .before .args .c} (c .before .loop .inv) (omega arith) }
+    let start : tie.Start Inv-loop μ-loop = search in
+    let loop-inv = (let p : tie.At-loop Inv-loop μ-loop = search in p .loop .inv) in
+    record { said = passing-all {k = start .args .c} loop-inv (omega arith) }
 
 pub fit-spec : {M : Type 1} → statement M
 fit-spec =

@@ -16,14 +16,17 @@ shared-slice-read-i c = search needs
 
 returns : tie.Need-returns
 returns c =
-    fits-past (c .before .before .before .before .before .args .indices .now) (c .before .before .before .before .before .args .starts .now) (c .before .before .before .before .before .args .marks .now) (c .before .before .before .before .before .args .k) (c .before .before .before .before .before .args .e) (c .if1 .taken)
+    let start : tie.Start = search in
+    fits-past (start .args .indices .now) (start .args .starts .now) (start .args .marks .now) (start .args .k) (start .args .e) (c .if1 .taken)
 
 above-requires : tie.Need-above-requires
 above-requires c κs = search needs
 
 returns-2 : tie.Need-returns-2
 returns-2 c =
-    fits-low (c .before .before .before .before .before .before .before .args .indices .now) (c .before .before .before .before .before .before .before .args .starts .now) (c .before .before .before .before .before .before .before .args .marks .now) (c .before .before .before .before .before .before .before .args .k) (c .before .before .before .before .before .before .before .args .e) (sym (c .before .above .ensures) ∙ not-true _ (c .if2 .taken))
+    let start : tie.Start = search in
+    let above-ensures = (let p : tie.After-above = search in p .above .ensures) in
+    fits-low (start .args .indices .now) (start .args .starts .now) (start .args .marks .now) (start .args .k) (start .args .e) (sym above-ensures ∙ not-true _ (c .if2 .taken))
 
 mul-result : tie.Need-mul-result
 mul-result c = search needs
@@ -36,7 +39,10 @@ shared-slice-read-result-2 c = search needs
 
 returns-3 : tie.Need-returns-3
 returns-3 c =
-    fits-rest (c .before .before .before .before .before .before .before .before .before .args .indices .now) (c .before .before .before .before .before .before .before .before .before .args .starts .now) (c .before .before .before .before .before .before .before .before .before .args .marks .now) (c .before .before .before .before .before .before .before .before .before .args .k) (c .before .before .before .before .before .before .before .before .before .args .e) (omega arith) (sym (c .before .before .before .above .ensures) ∙ not-false _ (c .before .before .if2 .left)) refl
+    let start : tie.Start = search in
+    let above-ensures = (let p : tie.After-above = search in p .above .ensures) in
+    let if2-left = (let p : tie.Else2 = search in p .if2 .left) in
+    fits-rest (start .args .indices .now) (start .args .starts .now) (start .args .marks .now) (start .args .k) (start .args .e) (omega arith) (sym above-ensures ∙ not-false _ if2-left) refl
 
 pub fits-at-spec : {M : Type 1} → statement M
 fits-at-spec =

@@ -16,14 +16,18 @@ fit-requires c κs = search needs
 
 returns : tie.Need-returns
 returns c =
-    second-no (c .before .before .before .before .before .before .before .args .starts .now) (c .before .before .before .before .before .before .before .args .second .now) (c .before .before .before .before .before .before .before .args .third .now) (c .before .before .before .before .before .before .before .args .fourth .now) (c .before .before .before .before .before .before .before .args .k) (c .before .before .before .before .before .before .before .args .c2) (c .before .before .before .before .before .before .before .args .c3) (c .before .before .before .before .before .before .before .args .c4) (sym (part-told (c .before .fit .ensures) (omega arith) (marks-none _ refl)) ∙ not-true _ (c .if1 .taken))
+    let start : tie.Start = search in
+    let fit-ensures = (let p : tie.After-fit = search in p .fit .ensures) in
+    second-no (start .args .starts .now) (start .args .second .now) (start .args .third .now) (start .args .fourth .now) (start .args .k) (start .args .c2) (start .args .c3) (start .args .c4) (sym (part-told fit-ensures (omega arith) (marks-none _ refl)) ∙ not-true _ (c .if1 .taken))
 
 slice-aggregate-mark : tie.Need-slice-aggregate-mark
 slice-aggregate-mark c = search needs
 
 mark-requires : tie.Need-mark-requires
 mark-requires c κs =
-    (omega arith, refl, omega arith, (λ e h. let r = told-below (c .before .before .fit .ensures) (omega arith) (marks-none _ refl) (not-false _ (c .before .if1 .left)) e h in omega arith))
+    let fit-ensures = (let p : tie.After-fit = search in p .fit .ensures) in
+    let if1-left = (let p : tie.Else1 = search in p .if1 .left) in
+    (omega arith, refl, omega arith, (λ e h. let r = told-below fit-ensures (omega arith) (marks-none _ refl) (not-false _ if1-left) e h in omega arith))
 
 slice-aggregate-fit-2 : tie.Need-slice-aggregate-fit-2
 slice-aggregate-fit-2 c = search needs
@@ -33,14 +37,20 @@ fit-requires-2 c κs = search needs
 
 returns-2 : tie.Need-returns-2
 returns-2 c =
-    third-no (c .before .before .before .before .before .before .before .before .before .before .before .before .before .args .starts .now) (c .before .before .before .before .before .before .before .before .before .before .before .before .before .args .second .now) (c .before .before .before .before .before .before .before .before .before .before .before .before .before .args .third .now) (c .before .before .before .before .before .before .before .before .before .before .before .before .before .args .fourth .now) (c .before .before .before .before .before .before .before .before .before .before .before .before .before .args .k) (c .before .before .before .before .before .before .before .before .before .before .before .before .before .args .c2) (c .before .before .before .before .before .before .before .before .before .before .before .before .before .args .c3) (c .before .before .before .before .before .before .before .before .before .before .before .before .before .args .c4) (sym (part-told (c .before .fit2 .ensures) (omega arith) (marks-more (marks-none _ refl) (c .before .before .before .before .mark .ensures))) ∙ not-true _ (c .if2 .taken))
+    let start : tie.Start = search in
+    let mark-ensures = (let p : tie.After-mark = search in p .mark .ensures) in
+    let fit2-ensures = (let p : tie.After-fit2 = search in p .fit2 .ensures) in
+    third-no (start .args .starts .now) (start .args .second .now) (start .args .third .now) (start .args .fourth .now) (start .args .k) (start .args .c2) (start .args .c3) (start .args .c4) (sym (part-told fit2-ensures (omega arith) (marks-more (marks-none _ refl) mark-ensures)) ∙ not-true _ (c .if2 .taken))
 
 slice-aggregate-mark-2 : tie.Need-slice-aggregate-mark-2
 slice-aggregate-mark-2 c = search needs
 
 mark-requires-2 : tie.Need-mark-requires-2
 mark-requires-2 c κs =
-    (omega arith, c .before .before .before .before .before .mark .ensures .size, omega arith, (λ e h. let r = told-below (c .before .before .fit2 .ensures) (omega arith) (marks-more (marks-none _ refl) (c .before .before .before .before .before .mark .ensures)) (not-false _ (c .before .if2 .left)) e h in omega arith))
+    let mark-ensures = (let p : tie.After-mark = search in p .mark .ensures) in
+    let fit2-ensures = (let p : tie.After-fit2 = search in p .fit2 .ensures) in
+    let if2-left = (let p : tie.Else2 = search in p .if2 .left) in
+    (omega arith, mark-ensures .size, omega arith, (λ e h. let r = told-below fit2-ensures (omega arith) (marks-more (marks-none _ refl) mark-ensures) (not-false _ if2-left) e h in omega arith))
 
 slice-aggregate-fit-3 : tie.Need-slice-aggregate-fit-3
 slice-aggregate-fit-3 c = search needs
@@ -50,7 +60,14 @@ fit-requires-3 c κs = search needs
 
 returns-3 : tie.Need-returns-3
 returns-3 c =
-    fourth-is (c .before .before .before .before .before .before .before .before .before .before .before .before .before .before .before .before .before .before .args .starts .now) (c .before .before .before .before .before .before .before .before .before .before .before .before .before .before .before .before .before .before .args .second .now) (c .before .before .before .before .before .before .before .before .before .before .before .before .before .before .before .before .before .before .args .third .now) (c .before .before .before .before .before .before .before .before .before .before .before .before .before .before .before .before .before .before .args .fourth .now) (c .before .before .before .before .before .before .before .before .before .before .before .before .before .before .before .before .before .before .args .k) (c .before .before .before .before .before .before .before .before .before .before .before .before .before .before .before .before .before .before .args .c2) (c .before .before .before .before .before .before .before .before .before .before .before .before .before .before .before .before .before .before .args .c3) (c .before .before .before .before .before .before .before .before .before .before .before .before .before .before .before .before .before .before .args .c4) (sym (part-told (c .before .before .before .before .before .before .before .before .before .before .before .before .fit .ensures) (omega arith) (marks-none _ refl)) ∙ not-false _ (c .before .before .before .before .before .before .before .before .before .before .before .if1 .left)) (sym (part-told (c .before .before .before .before .before .before .fit2 .ensures) (omega arith) (marks-more (marks-none _ refl) (c .before .before .before .before .before .before .before .before .before .mark .ensures))) ∙ not-false _ (c .before .before .before .before .before .if2 .left)) (part-told (c .fit3 .ensures) (omega arith) (marks-more (marks-more (marks-none _ refl) (c .before .before .before .before .before .before .before .before .before .mark .ensures)) (c .before .before .before .mark2 .ensures)))
+    let start : tie.Start = search in
+    let fit-ensures = (let p : tie.After-fit = search in p .fit .ensures) in
+    let if1-left = (let p : tie.Else1 = search in p .if1 .left) in
+    let mark-ensures = (let p : tie.After-mark = search in p .mark .ensures) in
+    let fit2-ensures = (let p : tie.After-fit2 = search in p .fit2 .ensures) in
+    let if2-left = (let p : tie.Else2 = search in p .if2 .left) in
+    let mark2-ensures = (let p : tie.After-mark2 = search in p .mark2 .ensures) in
+    fourth-is (start .args .starts .now) (start .args .second .now) (start .args .third .now) (start .args .fourth .now) (start .args .k) (start .args .c2) (start .args .c3) (start .args .c4) (sym (part-told fit-ensures (omega arith) (marks-none _ refl)) ∙ not-false _ if1-left) (sym (part-told fit2-ensures (omega arith) (marks-more (marks-none _ refl) mark-ensures)) ∙ not-false _ if2-left) (part-told (c .fit3 .ensures) (omega arith) (marks-more (marks-more (marks-none _ refl) mark-ensures) mark2-ensures))
 
 pub indices-fit-spec : {M : Type 1} → statement M
 indices-fit-spec =

@@ -28,7 +28,10 @@ shared-slice-read-at c = search needs
 
 slice-write-marks : tie.Need-slice-write-marks Inv-loop μ-loop
 slice-write-marks c =
-    let s = c .before .before .loop .inv .0 .size in let h = c .before .before .before .pre .3 (c .before .before .loop .e) (omega arith) in omega arith
+    let start : tie.Start Inv-loop μ-loop = search in
+    let loop-e = (let p : tie.At-loop Inv-loop μ-loop = search in p .loop .e) in
+    let loop-inv = (let p : tie.At-loop Inv-loop μ-loop = search in p .loop .inv) in
+    let s = loop-inv .0 .size in let h = start .pre .3 loop-e (omega arith) in omega arith
 
 add-e : tie.Need-add-e Inv-loop μ-loop
 add-e c = search needs
@@ -38,15 +41,21 @@ loop-less c = search needs
 
 loop-again : tie.Need-loop-again Inv-loop μ-loop
 loop-again c =
-    (marking-more (c .before .before .loop .inv .0) refl (c .before .before .before .pre .3 (c .before .before .loop .e) (omega arith)), omega arith)
+    let start : tie.Start Inv-loop μ-loop = search in
+    let loop-e = (let p : tie.At-loop Inv-loop μ-loop = search in p .loop .e) in
+    let loop-inv = (let p : tie.At-loop Inv-loop μ-loop = search in p .loop .inv) in
+    (marking-more (loop-inv .0) refl (start .pre .3 loop-e (omega arith)), omega arith)
 
 same-length : tie.Need-same-length Inv-loop μ-loop
 same-length c =
-    c .before .loop .inv .0 .size ∙ sym (c .before .before .pre .1)
+    let start : tie.Start Inv-loop μ-loop = search in
+    let loop-inv = (let p : tie.At-loop Inv-loop μ-loop = search in p .loop .inv) in
+    loop-inv .0 .size ∙ sym (start .pre .1)
 
 returns : tie.Need-returns Inv-loop μ-loop
 returns c =
-    marking-end (c .before .loop .inv .0) (c .before .loop .inv .1) (omega arith) (omega arith)
+    let loop-inv = (let p : tie.At-loop Inv-loop μ-loop = search in p .loop .inv) in
+    marking-end (loop-inv .0) (loop-inv .1) (omega arith) (omega arith)
 
 pub mark-spec : {M : Type 1} → statement M
 mark-spec =

@@ -20,11 +20,14 @@ abbrev μ-loop : tie.MeasureT-loop
 
 loop-holds : tie.Need-loop-holds Inv-loop μ-loop
 loop-holds c =
-    (located-none _ _ _ (c .before .before .before .before .before .pre .3) (c .before .before .before .before .before .pre .4), omega arith)
+    let start : tie.Start Inv-loop μ-loop = search in
+    (located-none _ _ _ (start .pre .3) (start .pre .4), omega arith)
 
 note-requires : tie.Need-note-requires Inv-loop μ-loop
 note-requires c κs =
-    (c .before .before .before .before .before .before .before .before .pre .0, omega arith, c .before .before .before .before .before .before .before .before .pre .2, c .before .before .before .before .before .before .before .before .pre .3, c .before .before .loop .inv .0 .size, c .before .before .before .before .before .before .before .before .pre .5 .ascends, c .before .before .before .before .before .before .before .before .pre .5 .index-below)
+    let start : tie.Start Inv-loop μ-loop = search in
+    let loop-inv = (let p : tie.At-loop Inv-loop μ-loop = search in p .loop .inv) in
+    (start .pre .0, omega arith, start .pre .2, start .pre .3, loop-inv .0 .size, start .pre .5 .ascends, start .pre .5 .index-below)
 
 add-p : tie.Need-add-p Inv-loop μ-loop
 add-p c = search needs
@@ -34,15 +37,21 @@ loop-less c = search needs
 
 loop-again : tie.Need-loop-again Inv-loop μ-loop
 loop-again c =
-    (located-more (c .before .before .before .before .before .before .before .before .before .before .before .pre .5) (c .before .before .before .before .before .loop .inv .0) (c .before .before .note .ensures), omega arith)
+    let start : tie.Start Inv-loop μ-loop = search in
+    let loop-inv = (let p : tie.At-loop Inv-loop μ-loop = search in p .loop .inv) in
+    let note-ensures = (let p : tie.After-note Inv-loop μ-loop = search in p .note .ensures) in
+    (located-more (start .pre .5) (loop-inv .0) note-ensures, omega arith)
 
 same-length : tie.Need-same-length Inv-loop μ-loop
 same-length c =
-    c .before .loop .inv .0 .size ∙ sym (ap length (c .before .before .before .before .before .before .before .pre .4) ∙ refl)
+    let start : tie.Start Inv-loop μ-loop = search in
+    let loop-inv = (let p : tie.At-loop Inv-loop μ-loop = search in p .loop .inv) in
+    loop-inv .0 .size ∙ sym (ap length (start .pre .4) ∙ refl)
 
 returns : tie.Need-returns Inv-loop μ-loop
 returns c =
-    located-all (c .before .loop .inv .0) (c .before .loop .inv .1) (omega arith)
+    let loop-inv = (let p : tie.At-loop Inv-loop μ-loop = search in p .loop .inv) in
+    located-all (loop-inv .0) (loop-inv .1) (omega arith)
 
 pub locate-spec : {M : Type 1} → statement M
 locate-spec =

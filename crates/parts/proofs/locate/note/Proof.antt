@@ -14,7 +14,9 @@ field-requires c κs = search needs
 
 returns : tie.Need-returns
 returns c =
-    noted-free (c .before .before .before .before .before .args .block .now) (c .before .before .before .before .before .args .keys .now) (c .before .before .before .before .before .args .c) (c .before .before .before .before .before .args .p) (c .before .before .before .before .before .args .places .now) (c .before .before .before .before .before .pre .4) (let e = c .before .field .ensures in omega arith)
+    let start : tie.Start = search in
+    let field-ensures = (let p : tie.After-field = search in p .field .ensures) in
+    noted-free (start .args .block .now) (start .args .keys .now) (start .args .c) (start .args .p) (start .args .places .now) (start .pre .4) (let e = field-ensures in omega arith)
 
 field-requires-2 : tie.Need-field-requires-2
 field-requires-2 c κs = search needs
@@ -30,15 +32,24 @@ enum-told c = search needs
 
 returns-2 : tie.Need-returns-2
 returns-2 c =
-    noted-none (c .before .before .before .before .before .before .before .before .before .args .block .now) (c .before .before .before .before .before .before .before .before .before .args .keys .now) (c .before .before .before .before .before .before .before .before .before .args .c) (c .before .before .before .before .before .before .before .before .before .args .p) (c .before .before .before .before .before .before .before .before .before .args .places .now) (c .before .before .before .before .before .before .before .before .before .pre .4) (ap (place-in (value-at (c .before .before .before .before .before .before .before .before .before .args .keys .now)) (c .before .before .before .before .before .before .before .before .before .args .c)) (sym (c .before .before .before .field2 .ensures)) ∙ sym (c .before .before .find .ensures) ∙ c .enum-told .given .1)
+    let start : tie.Start = search in
+    let field2-ensures = (let p : tie.After-field2 = search in p .field2 .ensures) in
+    let find-ensures = (let p : tie.After-find = search in p .find .ensures) in
+    noted-none (start .args .block .now) (start .args .keys .now) (start .args .c) (start .args .p) (start .args .places .now) (start .pre .4) (ap (place-in (value-at (start .args .keys .now)) (start .args .c)) (sym field2-ensures) ∙ sym find-ensures ∙ c .enum-told .given .1)
 
 mul-e : tie.Need-mul-e
 mul-e c =
-    let b = found-below (c .before .before .before .before .before .before .before .before .before .before .args .keys .now) (c .before .before .before .before .before .before .before .before .before .before .args .c) _ (sym (c .before .before .before .find .ensures) ∙ c .before .r .given .1) in omega arith
+    let start : tie.Start = search in
+    let find-ensures = (let p : tie.After-find = search in p .find .ensures) in
+    let r-given = (let p : tie.After-r = search in p .r .given) in
+    let b = found-below (start .args .keys .now) (start .args .c) _ (sym find-ensures ∙ r-given .1) in omega arith
 
 shared-slice-read-e : tie.Need-shared-slice-read-e
 shared-slice-read-e c =
-    let b = found-below (c .before .before .before .before .before .before .before .before .before .before .before .args .keys .now) (c .before .before .before .before .before .before .before .before .before .before .before .args .c) _ (sym (c .before .before .before .before .find .ensures) ∙ c .before .before .r .given .1) in omega arith
+    let start : tie.Start = search in
+    let find-ensures = (let p : tie.After-find = search in p .find .ensures) in
+    let r-given = (let p : tie.After-r = search in p .r .given) in
+    let b = found-below (start .args .keys .now) (start .args .c) _ (sym find-ensures ∙ r-given .1) in omega arith
 
 mul-places : tie.Need-mul-places
 mul-places c = search needs
@@ -51,7 +62,12 @@ same-length c = search needs
 
 returns-3 : tie.Need-returns-3
 returns-3 c =
-    noted-found (c .before .before .before .before .before .before .before .before .before .before .before .args .block .now) (c .before .before .before .before .before .before .before .before .before .before .before .args .keys .now) (c .before .before .before .before .before .before .before .before .before .before .before .args .c) (c .before .before .before .before .before .before .before .before .before .before .before .args .p) (c .before .before .before .before .before .before .before .before .before .before .before .args .places .now) (c .before .before .before .before .before .before .before .before .before .before .before .pre .4) (let e = c .before .before .before .before .before .before .before .field .ensures in omega arith) (c .before .before .before .before .before .before .before .before .before .before .before .pre .5) (c .before .before .before .before .before .before .before .before .before .before .before .pre .3) (c .before .before .before .before .before .before .before .before .before .before .before .pre .6) (ap (place-in (value-at (c .before .before .before .before .before .before .before .before .before .before .before .args .keys .now)) (c .before .before .before .before .before .before .before .before .before .before .before .args .c)) (sym (c .before .before .before .before .before .field2 .ensures)) ∙ sym (c .before .before .before .before .find .ensures) ∙ c .before .before .r .given .1)
+    let start : tie.Start = search in
+    let field-ensures = (let p : tie.After-field = search in p .field .ensures) in
+    let field2-ensures = (let p : tie.After-field2 = search in p .field2 .ensures) in
+    let find-ensures = (let p : tie.After-find = search in p .find .ensures) in
+    let r-given = (let p : tie.After-r = search in p .r .given) in
+    noted-found (start .args .block .now) (start .args .keys .now) (start .args .c) (start .args .p) (start .args .places .now) (start .pre .4) (let e = field-ensures in omega arith) (start .pre .5) (start .pre .3) (start .pre .6) (ap (place-in (value-at (start .args .keys .now)) (start .args .c)) (sym field2-ensures) ∙ sym find-ensures ∙ r-given .1)
 
 pub note-spec : {M : Type 1} → statement M
 note-spec =

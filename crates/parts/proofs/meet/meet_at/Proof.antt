@@ -16,15 +16,23 @@ field-requires-2 c κs = search needs
 
 one-point-requires : tie.Need-one-point-requires
 one-point-requires c κs =
-    (c .before .before .before .before .pre .0 .2, (let e = c .before .field .ensures in let h = c .before .before .before .before .pre .0 .5 in omega (arith, e, h)), c .before .before .before .before .pre .0 .1, c .before .before .before .before .pre .0 .0, c .before .before .before .before .pre .1 .0, subst (FiniteAt (c .before .before .before .before .args .block .now)) (sym (c .before .field .ensures)) (c .before .before .before .before .pre .1 .3))
+    let start : tie.Start = search in
+    let field-ensures = (let p : tie.After-field = search in p .field .ensures) in
+    (start .pre .0 .2, (let e = field-ensures in let h = start .pre .0 .5 in omega (arith, e, h)), start .pre .0 .1, start .pre .0 .0, start .pre .1 .0, subst (FiniteAt (start .args .block .now)) (sym field-ensures) (start .pre .1 .3))
 
 one-point-requires-2 : tie.Need-one-point-requires-2
 one-point-requires-2 c κs =
-    (c .before .before .before .before .before .pre .0 .3, (let e = c .before .field2 .ensures in let h = c .before .before .before .before .before .pre .0 .4 in omega (arith, e, h)), c .before .before .before .before .before .pre .0 .0, c .before .before .before .before .before .pre .0 .1, c .before .before .before .before .before .pre .1 .2, subst (FiniteAt (c .before .before .before .before .before .args .draft .now)) (sym (c .before .field2 .ensures)) (c .before .before .before .before .before .pre .1 .1))
+    let start : tie.Start = search in
+    let field2-ensures = (let p : tie.After-field2 = search in p .field2 .ensures) in
+    (start .pre .0 .3, (let e = field2-ensures in let h = start .pre .0 .4 in omega (arith, e, h)), start .pre .0 .0, start .pre .0 .1, start .pre .1 .2, subst (FiniteAt (start .args .draft .now)) (sym field2-ensures) (start .pre .1 .1))
 
 returns : tie.Need-returns
 returns c =
-    meet-told (c .before .before .before .before .before .before .args .block .now) (c .before .before .before .before .before .before .args .draft .now) (c .before .before .before .before .before .before .args .p) (c .before .before .before .before .before .before .args .w) (c .before .before .before .field .ensures) (c .before .before .field2 .ensures) (c .before .one-point .ensures) (c .one-point2 .ensures)
+    let start : tie.Start = search in
+    let field-ensures = (let p : tie.After-field = search in p .field .ensures) in
+    let field2-ensures = (let p : tie.After-field2 = search in p .field2 .ensures) in
+    let one-point-ensures = (let p : tie.After-one-point = search in p .one-point .ensures) in
+    meet-told (start .args .block .now) (start .args .draft .now) (start .args .p) (start .args .w) field-ensures field2-ensures one-point-ensures (c .one-point2 .ensures)
 
 pub meet-at-spec : {M : Type 1} → statement M
 meet-at-spec =

@@ -13,11 +13,16 @@ point-at-requires-2 c κs = search needs
 
 same-point-requires : tie.Need-same-point-requires
 same-point-requires c κs =
-    (finite-told (c .before .before .before .before .args .first .now) (c .before .before .before .before .args .p) (c .before .before .before .before .pre .4) (c .before .point-at .ensures), finite-told (c .before .before .before .before .args .second .now) (c .before .before .before .before .args .q) (c .before .before .before .before .pre .5) (c .point-at2 .ensures))
+    let start : tie.Start = search in
+    let point-at-ensures = (let p : tie.After-point-at = search in p .point-at .ensures) in
+    (finite-told (start .args .first .now) (start .args .p) (start .pre .4) point-at-ensures, finite-told (start .args .second .now) (start .args .q) (start .pre .5) (c .point-at2 .ensures))
 
 returns : tie.Need-returns
 returns c =
-    points-told (c .before .before .before .before .before .args .first .now) (c .before .before .before .before .before .args .second .now) (c .before .before .before .before .before .args .p) (c .before .before .before .before .before .args .q) (c .before .before .before .before .before .pre .4) (c .before .before .before .before .before .pre .5) (c .before .before .point-at .ensures) (c .before .point-at2 .ensures) (c .same-point .ensures)
+    let start : tie.Start = search in
+    let point-at-ensures = (let p : tie.After-point-at = search in p .point-at .ensures) in
+    let point-at2-ensures = (let p : tie.After-point-at2 = search in p .point-at2 .ensures) in
+    points-told (start .args .first .now) (start .args .second .now) (start .args .p) (start .args .q) (start .pre .4) (start .pre .5) point-at-ensures point-at2-ensures (c .same-point .ensures)
 
 pub one-point-spec : {M : Type 1} → statement M
 one-point-spec =

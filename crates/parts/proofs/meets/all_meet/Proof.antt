@@ -20,11 +20,13 @@ abbrev μ-loop : tie.MeasureT-loop
 
 loop-holds : tie.Need-loop-holds Inv-loop μ-loop
 loop-holds c =
-    (every-none (meets-at (c .before .before .before .before .args .block .now) (c .before .before .before .before .args .draft .now) (c .before .before .before .before .args .ranks .now) (c .before .before .before .before .args .at) (c .before .before .before .before .args .size) (c .before .before .before .before .args .trail .now)), omega arith)
+    let start : tie.Start Inv-loop μ-loop = search in
+    (every-none (meets-at (start .args .block .now) (start .args .draft .now) (start .args .ranks .now) (start .args .at) (start .args .size) (start .args .trail .now)), omega arith)
 
 meets-requires : tie.Need-meets-requires Inv-loop μ-loop
 meets-requires c κs =
-    (c .before .before .before .before .before .before .pre .0, c .before .before .before .before .before .before .pre .1, omega arith, c .before .before .before .before .before .before .pre .2)
+    let start : tie.Start Inv-loop μ-loop = search in
+    (start .pre .0, start .pre .1, omega arith, start .pre .2)
 
 add-j : tie.Need-add-j Inv-loop μ-loop
 add-j c = search needs
@@ -34,11 +36,16 @@ loop-less c = search needs
 
 loop-again : tie.Need-loop-again Inv-loop μ-loop
 loop-again c =
-    (every-more (meets-at (c .before .before .before .before .before .before .before .args .block .now) (c .before .before .before .before .before .before .before .args .draft .now) (c .before .before .before .before .before .before .before .args .ranks .now) (c .before .before .before .before .before .before .before .args .at) (c .before .before .before .before .before .before .before .args .size) (c .before .before .before .before .before .before .before .args .trail .now)) (c .before .before .loop .j) (c .before .before .loop .inv .0) (c .meets .ensures), omega arith)
+    let start : tie.Start Inv-loop μ-loop = search in
+    let loop-inv = (let p : tie.At-loop Inv-loop μ-loop = search in p .loop .inv) in
+    let loop-j = (let p : tie.At-loop Inv-loop μ-loop = search in p .loop .j) in
+    (every-more (meets-at (start .args .block .now) (start .args .draft .now) (start .args .ranks .now) (start .args .at) (start .args .size) (start .args .trail .now)) loop-j (loop-inv .0) (c .meets .ensures), omega arith)
 
 returns : tie.Need-returns Inv-loop μ-loop
 returns c =
-    every-all (meets-at (c .before .before .before .before .before .before .args .block .now) (c .before .before .before .before .before .before .args .draft .now) (c .before .before .before .before .before .before .args .ranks .now) (c .before .before .before .before .before .before .args .at) (c .before .before .before .before .before .before .args .size) (c .before .before .before .before .before .before .args .trail .now)) (c .before .loop .inv .0) (c .before .loop .inv .1) (omega arith)
+    let start : tie.Start Inv-loop μ-loop = search in
+    let loop-inv = (let p : tie.At-loop Inv-loop μ-loop = search in p .loop .inv) in
+    every-all (meets-at (start .args .block .now) (start .args .draft .now) (start .args .ranks .now) (start .args .at) (start .args .size) (start .args .trail .now)) (loop-inv .0) (loop-inv .1) (omega arith)
 
 pub all-meet-spec : {M : Type 1} → statement M
 all-meet-spec =

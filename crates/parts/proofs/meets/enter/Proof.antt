@@ -11,41 +11,62 @@ use Rattle.parts.proofs.meets.enter.Tie as tie
 
 is-new-requires : tie.Need-is-new-requires
 is-new-requires c κs =
-    (c .before .before .before .before .before .before .before .before .pre .0 .linked .few, c .before .before .before .before .before .before .before .before .pre .4)
+    let start : tie.Start = search in
+    (start .pre .0 .linked .few, start .pre .4)
 
 same-length : tie.Need-same-length
 same-length c = search needs
 
 returns : tie.Need-returns
 returns c =
-    entered-old (c .before .before .before .before .before .before .before .before .before .before .args .from) (c .before .before .before .before .before .before .before .before .before .before .args .y) (c .before .before .before .before .before .before .before .before .before .before .args .at) (c .before .before .before .before .before .before .before .before .before .before .args .size) (c .before .before .before .before .before .before .before .before .before .before .pre .3) (c .before .before .before .before .before .before .before .before .before .before .pre .4) (c .before .before .before .before .before .before .before .before .before .before .pre .5) (c .before .before .before .before .before .before .before .before .before .before .pre .6) (sym (c .before .is-new .ensures) ∙ not-true _ (c .if1 .taken))
+    let start : tie.Start = search in
+    let is-new-ensures = (let p : tie.After-is-new = search in p .is-new .ensures) in
+    entered-old (start .args .from) (start .args .y) (start .args .at) (start .args .size) (start .pre .3) (start .pre .4) (start .pre .5) (start .pre .6) (sym is-new-ensures ∙ not-true _ (c .if1 .taken))
 
 entry-right-requires : tie.Need-entry-right-requires
 entry-right-requires c κs =
-    (c .before .before .before .before .before .before .before .before .before .before .before .pre .0, c .before .before .before .before .before .before .before .before .before .before .before .pre .1, new-below (c .before .before .before .before .before .before .before .before .before .before .before .args .y) (c .before .before .before .before .before .before .before .before .before .before .before .args .n) _ (sym (c .before .before .is-new .ensures) ∙ not-false _ (c .before .if1 .left)), c .before .before .before .before .before .before .before .before .before .before .before .pre .2, c .before .before .before .before .before .before .before .before .before .before .before .pre .3)
+    let start : tie.Start = search in
+    let is-new-ensures = (let p : tie.After-is-new = search in p .is-new .ensures) in
+    let if1-left = (let p : tie.Else1 = search in p .if1 .left) in
+    (start .pre .0, start .pre .1, new-below (start .args .y) (start .args .n) _ (sym is-new-ensures ∙ not-false _ if1-left), start .pre .2, start .pre .3)
 
 same-length-2 : tie.Need-same-length-2
 same-length-2 c =
-    c .before .before .before .entry-right .ensures .len ∙ sym (c .before .before .before .before .before .before .before .before .before .before .before .before .before .before .before .pre .3)
+    let start : tie.Start = search in
+    let entry-right-ensures = (let p : tie.After-entry-right = search in p .entry-right .ensures) in
+    entry-right-ensures .len ∙ sym (start .pre .3)
 
 same-length-3 : tie.Need-same-length-3
 same-length-3 c = search needs
 
 returns-2 : tie.Need-returns-2
 returns-2 c =
-    entered-no (c .before .before .before .before .before .before .before .before .before .before .before .before .before .before .before .args .from) (c .before .before .before .before .before .before .before .before .before .before .before .before .before .before .before .args .y) (c .before .before .before .before .before .before .before .before .before .before .before .before .before .before .before .args .at) (c .before .before .before .before .before .before .before .before .before .before .before .before .before .before .before .args .size) (c .before .before .before .before .before .before .before .before .before .before .before .before .before .before .before .pre .4) (c .before .before .before .before .before .before .before .before .before .before .before .before .before .before .before .pre .5) (c .before .before .before .before .before .before .before .before .before .before .before .before .before .before .before .pre .6) (sym (c .before .before .before .before .before .before .is-new .ensures) ∙ not-false _ (c .before .before .before .before .before .if1 .left)) (subst (EntryRight (c .before .before .before .before .before .before .before .before .before .before .before .before .before .before .before .args .block .now) (c .before .before .before .before .before .before .before .before .before .before .before .before .before .before .before .args .draft .now) (c .before .before .before .before .before .before .before .before .before .before .before .before .before .before .before .args .ranks .now) (c .before .before .before .before .before .before .before .before .before .before .before .before .before .before .before .args .from) (c .before .before .before .before .before .before .before .before .before .before .before .before .before .before .before .args .y) (c .before .before .before .before .before .before .before .before .before .before .before .before .before .before .before .args .at) (c .before .before .before .before .before .before .before .before .before .before .before .before .before .before .before .args .size) _) (not-true _ (c .if2 .taken)) (c .before .before .before .entry-right .ensures))
+    let start : tie.Start = search in
+    let is-new-ensures = (let p : tie.After-is-new = search in p .is-new .ensures) in
+    let if1-left = (let p : tie.Else1 = search in p .if1 .left) in
+    let entry-right-ensures = (let p : tie.After-entry-right = search in p .entry-right .ensures) in
+    entered-no (start .args .from) (start .args .y) (start .args .at) (start .args .size) (start .pre .4) (start .pre .5) (start .pre .6) (sym is-new-ensures ∙ not-false _ if1-left) (subst (EntryRight (start .args .block .now) (start .args .draft .now) (start .args .ranks .now) (start .args .from) (start .args .y) (start .args .at) (start .args .size) _) (not-true _ (c .if2 .taken)) entry-right-ensures)
 
 fill-requires : tie.Need-fill-requires
 fill-requires c κs =
-    (c .before .before .before .before .before .before .before .before .before .before .before .before .before .before .before .before .pre .5, (let f = c .before .before .before .before .before .before .before .before .before .before .before .before .before .before .before .before .pre .0 .few in let h = c .before .before .before .before .before .before .before .before .before .before .before .before .before .before .before .before .pre .2 in omega (arith, f, h)))
+    let start : tie.Start = search in
+    (start .pre .5, (let f = start .pre .0 .few in let h = start .pre .2 in omega (arith, f, h)))
 
 put-met-requires : tie.Need-put-met-requires
 put-met-requires c κs =
-    (c .before .before .before .before .before .before .before .before .before .entry-right .ensures .len, c .before .before .before .before .before .before .before .before .before .before .before .before .before .before .before .before .before .before .before .before .before .pre .6, (let f = c .before .before .before .before .before .before .before .before .before .before .before .before .before .before .before .before .before .before .before .before .before .pre .0 .few in let h = c .before .before .before .before .before .before .before .before .before .before .before .before .before .before .before .before .before .before .before .before .before .pre .2 in omega (arith, f, h)))
+    let start : tie.Start = search in
+    let entry-right-ensures = (let p : tie.After-entry-right = search in p .entry-right .ensures) in
+    (entry-right-ensures .len, start .pre .6, (let f = start .pre .0 .few in let h = start .pre .2 in omega (arith, f, h)))
 
 paint-requires : tie.Need-paint-requires
 paint-requires c κs =
-    (entered-trail (c .before .before .before .before .before .before .before .before .before .before .before .before .before .before .before .before .before .before .before .before .before .before .before .before .before .before .pre .0) (c .before .before .before .before .before .before .before .before .before .before .before .before .before .before .before .before .before .before .before .before .before .before .before .before .before .before .args .from) (c .before .before .before .before .before .before .before .before .before .before .before .before .before .before .before .before .before .before .before .before .before .before .before .before .before .before .args .y) (c .before .before .before .before .before .before .before .before .before .before .before .before .before .before .before .before .before .before .before .before .before .before .before .before .before .before .args .at) (c .before .before .before .before .before .before .before .before .before .before .before .before .before .before .before .before .before .before .before .before .before .before .before .before .before .before .args .size) (new-below (c .before .before .before .before .before .before .before .before .before .before .before .before .before .before .before .before .before .before .before .before .before .before .before .before .before .before .args .y) (c .before .before .before .before .before .before .before .before .before .before .before .before .before .before .before .before .before .before .before .before .before .before .before .before .before .before .args .n) _ (sym (c .before .before .before .before .before .before .before .before .before .before .before .before .before .before .before .before .before .is-new .ensures) ∙ not-false _ (c .before .before .before .before .before .before .before .before .before .before .before .before .before .before .before .before .if1 .left))) (c .before .before .before .before .before .before .before .before .before .before .before .before .before .before .before .before .before .before .before .before .before .before .before .before .before .before .pre .2) (subst (EntryRight (c .before .before .before .before .before .before .before .before .before .before .before .before .before .before .before .before .before .before .before .before .before .before .before .before .before .before .args .block .now) (c .before .before .before .before .before .before .before .before .before .before .before .before .before .before .before .before .before .before .before .before .before .before .before .before .before .before .args .draft .now) (c .before .before .before .before .before .before .before .before .before .before .before .before .before .before .before .before .before .before .before .before .before .before .before .before .before .before .args .ranks .now) (c .before .before .before .before .before .before .before .before .before .before .before .before .before .before .before .before .before .before .before .before .before .before .before .before .before .before .args .from) (c .before .before .before .before .before .before .before .before .before .before .before .before .before .before .before .before .before .before .before .before .before .before .before .before .before .before .args .y) (c .before .before .before .before .before .before .before .before .before .before .before .before .before .before .before .before .before .before .before .before .before .before .before .before .before .before .args .at) (c .before .before .before .before .before .before .before .before .before .before .before .before .before .before .before .before .before .before .before .before .before .before .before .before .before .before .args .size) _) (not-false _ (c .before .before .before .before .before .before .before .before .before .before .before .if2 .left)) (c .before .before .before .before .before .before .before .before .before .before .before .before .before .before .entry-right .ensures)), (let f = c .before .before .before .before .before .before .before .before .before .before .before .before .before .before .before .before .before .before .before .before .before .before .before .before .before .before .pre .0 .few in let h = c .before .before .before .before .before .before .before .before .before .before .before .before .before .before .before .before .before .before .before .before .before .before .before .before .before .before .pre .2 in omega (arith, f, h)), c .before .before .before .before .before .before .before .before .before .before .before .before .before .before .before .before .before .before .before .before .before .before .before .before .before .before .pre .4)
+    let if2-left = (let p : tie.Else2 = search in p .if2 .left) in
+    let entry-right-ensures = (let p : tie.After-entry-right = search in p .entry-right .ensures) in
+    let if1-left = (let p : tie.Else1 = search in p .if1 .left) in
+    let is-new-ensures = (let p : tie.After-is-new = search in p .is-new .ensures) in
+    let c : tie.After-is-new = search in
+    let start : tie.Start = search in
+    (entered-trail (start .pre .0) (start .args .from) (start .args .y) (start .args .at) (start .args .size) (new-below (start .args .y) (start .args .n) _ (sym is-new-ensures ∙ not-false _ if1-left)) (start .pre .2) (subst (EntryRight (start .args .block .now) (start .args .draft .now) (start .args .ranks .now) (start .args .from) (start .args .y) (start .args .at) (start .args .size) _) (not-false _ if2-left) entry-right-ensures), (let f = start .pre .0 .few in let h = start .pre .2 in omega (arith, f, h)), start .pre .4)
 
 same-length-4 : tie.Need-same-length-4
 same-length-4 c = search needs
@@ -61,7 +82,16 @@ same-length-7 c = search needs
 
 returns-3 : tie.Need-returns-3
 returns-3 c =
-    entered-yes (c .before .before .before .before .before .before .before .before .before .before .before .before .before .before .before .before .before .before .before .before .before .before .before .before .before .before .before .before .before .args .from) (c .before .before .before .before .before .before .before .before .before .before .before .before .before .before .before .before .before .before .before .before .before .before .before .before .before .before .before .before .before .args .y) (c .before .before .before .before .before .before .before .before .before .before .before .before .before .before .before .before .before .before .before .before .before .before .before .before .before .before .before .before .before .args .at) (c .before .before .before .before .before .before .before .before .before .before .before .before .before .before .before .before .before .before .before .before .before .before .before .before .before .before .before .before .before .args .size) (c .before .before .before .before .before .before .before .before .before .before .before .before .before .before .before .before .before .before .before .before .before .before .before .before .before .before .before .before .before .pre .4) (sym (c .before .before .before .before .before .before .before .before .before .before .before .before .before .before .before .before .before .before .before .before .is-new .ensures) ∙ not-false _ (c .before .before .before .before .before .before .before .before .before .before .before .before .before .before .before .before .before .before .before .if1 .left)) (subst (EntryRight (c .before .before .before .before .before .before .before .before .before .before .before .before .before .before .before .before .before .before .before .before .before .before .before .before .before .before .before .before .before .args .block .now) (c .before .before .before .before .before .before .before .before .before .before .before .before .before .before .before .before .before .before .before .before .before .before .before .before .before .before .before .before .before .args .draft .now) (c .before .before .before .before .before .before .before .before .before .before .before .before .before .before .before .before .before .before .before .before .before .before .before .before .before .before .before .before .before .args .ranks .now) (c .before .before .before .before .before .before .before .before .before .before .before .before .before .before .before .before .before .before .before .before .before .before .before .before .before .before .before .before .before .args .from) (c .before .before .before .before .before .before .before .before .before .before .before .before .before .before .before .before .before .before .before .before .before .before .before .before .before .before .before .before .before .args .y) (c .before .before .before .before .before .before .before .before .before .before .before .before .before .before .before .before .before .before .before .before .before .before .before .before .before .before .before .before .before .args .at) (c .before .before .before .before .before .before .before .before .before .before .before .before .before .before .before .before .before .before .before .before .before .before .before .before .before .before .before .before .before .args .size) _) (not-false _ (c .before .before .before .before .before .before .before .before .before .before .before .before .before .before .if2 .left)) (c .before .before .before .before .before .before .before .before .before .before .before .before .before .before .before .before .before .entry-right .ensures)) (c .before .before .before .before .before .before .before .before .before .before .before .before .fill .ensures) (c .before .before .before .before .before .before .before .put-met .ensures) (c .before .before .paint .ensures)
+    let paint-ensures = (let p : tie.After-paint = search in p .paint .ensures) in
+    let put-met-ensures = (let p : tie.After-put-met = search in p .put-met .ensures) in
+    let fill-ensures = (let p : tie.After-fill = search in p .fill .ensures) in
+    let if2-left = (let p : tie.Else2 = search in p .if2 .left) in
+    let entry-right-ensures = (let p : tie.After-entry-right = search in p .entry-right .ensures) in
+    let if1-left = (let p : tie.Else1 = search in p .if1 .left) in
+    let is-new-ensures = (let p : tie.After-is-new = search in p .is-new .ensures) in
+    let c : tie.After-is-new = search in
+    let start : tie.Start = search in
+    entered-yes (start .args .from) (start .args .y) (start .args .at) (start .args .size) (start .pre .4) (sym is-new-ensures ∙ not-false _ if1-left) (subst (EntryRight (start .args .block .now) (start .args .draft .now) (start .args .ranks .now) (start .args .from) (start .args .y) (start .args .at) (start .args .size) _) (not-false _ if2-left) entry-right-ensures) fill-ensures put-met-ensures paint-ensures
 
 pub enter-spec : {M : Type 1} → statement M
 enter-spec =

@@ -27,55 +27,91 @@ abbrev μ-loop : tie.MeasureT-loop
 
 loop-holds : tie.Need-loop-holds Inv-loop μ-loop
 loop-holds c =
-    (seen-none _ _ _ (c .before .before .before .before .before .before .before .before .before .before .pre .1 .1), faced-none _ _ _ _ (c .before .before .before .before .before .before .before .before .before .before .pre .1 .2), faced-none _ _ _ _ (c .before .before .before .before .before .before .before .before .before .before .pre .1 .3), passing-none _, omega arith, c .before .before .before .before .before .before .before .before .before .before .pre .1 .0)
+    let start : tie.Start Inv-loop μ-loop = search in
+    (seen-none _ _ _ (start .pre .1 .1), faced-none _ _ _ _ (start .pre .1 .2), faced-none _ _ _ _ (start .pre .1 .3), passing-none _, omega arith, start .pre .1 .0)
 
 mul-y : tie.Need-mul-y Inv-loop μ-loop
 mul-y c =
-    let s = c .before .before .before .before .before .before .before .before .before .before .before .before .pre .0 .places-size in let f = c .before .before .before .before .before .before .before .before .before .before .before .before .pre .0 .few in omega (arith, s, f)
+    let start : tie.Start Inv-loop μ-loop = search in
+    let s = start .pre .0 .places-size in let f = start .pre .0 .few in omega (arith, s, f)
 
 shared-slice-read-y : tie.Need-shared-slice-read-y Inv-loop μ-loop
 shared-slice-read-y c =
-    let s = c .before .before .before .before .before .before .before .before .before .before .before .before .before .pre .0 .places-size in let f = c .before .before .before .before .before .before .before .before .before .before .before .before .before .pre .0 .few in omega (arith, s, f)
+    let start : tie.Start Inv-loop μ-loop = search in
+    let s = start .pre .0 .places-size in let f = start .pre .0 .few in omega (arith, s, f)
 
 mul-at : tie.Need-mul-at Inv-loop μ-loop
 mul-at c =
-    let s = c .before .before .before .before .before .before .before .before .before .before .before .before .before .pre .0 .indices-size in let f = c .before .before .before .before .before .before .before .before .before .before .before .before .before .pre .0 .few in omega (arith, s, f)
+    let start : tie.Start Inv-loop μ-loop = search in
+    let s = start .pre .0 .indices-size in let f = start .pre .0 .few in omega (arith, s, f)
 
 shared-slice-read-at : tie.Need-shared-slice-read-at Inv-loop μ-loop
 shared-slice-read-at c =
-    let s = c .before .before .before .before .before .before .before .before .before .before .before .before .before .before .pre .0 .indices-size in let f = c .before .before .before .before .before .before .before .before .before .before .before .before .before .before .pre .0 .few in omega (arith, s, f)
+    let start : tie.Start Inv-loop μ-loop = search in
+    let s = start .pre .0 .indices-size in let f = start .pre .0 .few in omega (arith, s, f)
 
 mul-size : tie.Need-mul-size Inv-loop μ-loop
 mul-size c =
-    let h = c .before .before .before .before .before .before .before .before .before .before .before .before .before .before .pre .0 .spans .below (c .before .before .before .loop .e) (omega arith) in let s = c .before .before .before .before .before .before .before .before .before .before .before .before .before .before .pre .0 .sizes-size in omega (arith, h, s)
+    let start : tie.Start Inv-loop μ-loop = search in
+    let loop-e = (let p : tie.At-loop Inv-loop μ-loop = search in p .loop .e) in
+    let h = start .pre .0 .spans .below loop-e (omega arith) in let s = start .pre .0 .sizes-size in omega (arith, h, s)
 
 shared-slice-read-size : tie.Need-shared-slice-read-size Inv-loop μ-loop
 shared-slice-read-size c =
-    let h = c .before .before .before .before .before .before .before .before .before .before .before .before .before .before .before .pre .0 .spans .below (c .before .before .before .before .loop .e) (omega arith) in let s = c .before .before .before .before .before .before .before .before .before .before .before .before .before .before .before .pre .0 .sizes-size in omega (arith, h, s)
+    let start : tie.Start Inv-loop μ-loop = search in
+    let loop-e = (let p : tie.At-loop Inv-loop μ-loop = search in p .loop .e) in
+    let h = start .pre .0 .spans .below loop-e (omega arith) in let s = start .pre .0 .sizes-size in omega (arith, h, s)
 
 enter-requires : tie.Need-enter-requires Inv-loop μ-loop
 enter-requires c κs =
-    (c .before .before .before .before .before .before .before .before .before .before .before .before .before .before .before .before .before .before .before .pre .0 .beside, c .before .before .before .before .before .before .before .before .before .before .before .before .before .before .before .before .before .before .before .pre .0 .sender, c .before .before .before .before .before .before .before .before .before .before .before .before .before .before .before .before .before .before .before .pre .0 .within (c .before .before .before .before .before .before .before .before .loop .e) (omega arith), c .before .before .before .before .before .before .before .before .loop .inv .5, c .before .before .before .before .before .before .before .before .loop .inv .0 .size, c .before .before .before .before .before .before .before .before .loop .inv .1 .size, c .before .before .before .before .before .before .before .before .loop .inv .2 .size)
+    let start : tie.Start Inv-loop μ-loop = search in
+    let loop-e = (let p : tie.At-loop Inv-loop μ-loop = search in p .loop .e) in
+    let loop-inv = (let p : tie.At-loop Inv-loop μ-loop = search in p .loop .inv) in
+    (start .pre .0 .beside, start .pre .0 .sender, start .pre .0 .within loop-e (omega arith), loop-inv .5, loop-inv .0 .size, loop-inv .1 .size, loop-inv .2 .size)
 
 same-length : tie.Need-same-length Inv-loop μ-loop
 same-length c =
-    c .before .before .before .before .before .before .before .before .before .enter .ensures .len ∙ sym (c .before .before .before .before .before .before .before .before .before .before .before .before .before .before .before .before .before .before .before .before .before .before .before .before .before .before .before .before .before .pre .1 .0)
+    let enter-ensures = (let p : tie.After-enter Inv-loop μ-loop = search in p .enter .ensures) in
+    let c : tie.After-enter Inv-loop μ-loop = search in
+    let start : tie.Start Inv-loop μ-loop = search in
+    enter-ensures .len ∙ sym (start .pre .1 .0)
 
 same-length-2 : tie.Need-same-length-2 Inv-loop μ-loop
 same-length-2 c =
-    c .before .before .before .before .before .before .before .before .before .enter .ensures .seen-size ∙ sym (seen-none (c .before .before .before .before .before .before .before .before .before .before .before .before .before .before .before .before .before .before .before .before .before .before .before .before .before .before .before .before .before .args .block .now) (c .before .before .before .before .before .before .before .before .before .before .before .before .before .before .before .before .before .before .before .before .before .before .before .before .before .before .before .before .before .args .places .now) _ (c .before .before .before .before .before .before .before .before .before .before .before .before .before .before .before .before .before .before .before .before .before .before .before .before .before .before .before .before .before .pre .1 .1) .size)
+    let enter-ensures = (let p : tie.After-enter Inv-loop μ-loop = search in p .enter .ensures) in
+    let c : tie.After-enter Inv-loop μ-loop = search in
+    let start : tie.Start Inv-loop μ-loop = search in
+    enter-ensures .seen-size ∙ sym (seen-none (start .args .block .now) (start .args .places .now) _ (start .pre .1 .1) .size)
 
 same-length-3 : tie.Need-same-length-3 Inv-loop μ-loop
 same-length-3 c =
-    c .before .before .before .before .before .before .before .before .before .enter .ensures .kinds-size ∙ sym (c .before .before .before .before .before .before .before .before .before .before .before .before .before .before .before .before .before .before .before .before .before .before .before .before .before .before .before .before .before .pre .1 .2)
+    let enter-ensures = (let p : tie.After-enter Inv-loop μ-loop = search in p .enter .ensures) in
+    let c : tie.After-enter Inv-loop μ-loop = search in
+    let start : tie.Start Inv-loop μ-loop = search in
+    enter-ensures .kinds-size ∙ sym (start .pre .1 .2)
 
 same-length-4 : tie.Need-same-length-4 Inv-loop μ-loop
 same-length-4 c =
-    c .before .before .before .before .before .before .before .before .before .enter .ensures .links-size ∙ sym (c .before .before .before .before .before .before .before .before .before .before .before .before .before .before .before .before .before .before .before .before .before .before .before .before .before .before .before .before .before .pre .1 .3)
+    let enter-ensures = (let p : tie.After-enter Inv-loop μ-loop = search in p .enter .ensures) in
+    let c : tie.After-enter Inv-loop μ-loop = search in
+    let start : tie.Start Inv-loop μ-loop = search in
+    enter-ensures .links-size ∙ sym (start .pre .1 .3)
 
 returns : tie.Need-returns Inv-loop μ-loop
 returns c =
-    part2-no (passing-not (passes-at (c .before .before .before .before .before .before .before .before .before .before .before .before .before .before .before .before .before .before .before .before .before .before .before .before .before .before .before .before .before .args .block .now) (c .before .before .before .before .before .before .before .before .before .before .before .before .before .before .before .before .before .before .before .before .before .before .before .before .before .before .before .before .before .args .draft .now) (c .before .before .before .before .before .before .before .before .before .before .before .before .before .before .before .before .before .before .before .before .before .before .before .before .before .before .before .before .before .args .ranks .now) (c .before .before .before .before .before .before .before .before .before .before .before .before .before .before .before .before .before .before .before .before .before .before .before .before .before .before .before .before .before .args .sizes .now) (c .before .before .before .before .before .before .before .before .before .before .before .before .before .before .before .before .before .before .before .before .before .before .before .before .before .before .before .before .before .args .places .now) (c .before .before .before .before .before .before .before .before .before .before .before .before .before .before .before .before .before .before .before .before .before .before .before .before .before .before .before .before .before .args .indices .now) (c .before .before .before .before .before .before .before .before .before .before .before .before .before .before .before .before .before .before .before .before .before .before .before .before .before .before .before .before .before .args .n) (c .before .before .before .before .before .before .before .before .before .before .before .before .before .before .before .before .before .before .before .before .before .before .before .before .before .before .before .before .before .args .from)) (c .before .before .before .before .before .before .before .before .before .before .before .before .before .before .before .before .before .before .loop .e) (c .before .before .before .before .before .before .before .before .before .before .before .before .before .before .before .before .before .before .before .before .before .before .before .before .before .before .before .before .before .args .c) (omega arith) (sym (entered-said (c .before .before .before .before .before .before .before .before .before .before .before .before .before .before .before .before .before .before .before .before .before .before .before .before .before .before .before .before .before .args .sizes .now) (c .before .before .before .before .before .before .before .before .before .before .before .before .before .before .before .before .before .before .before .before .before .before .before .before .before .before .before .before .before .args .places .now) (c .before .before .before .before .before .before .before .before .before .before .before .before .before .before .before .before .before .before .before .before .before .before .before .before .before .before .before .before .before .args .indices .now) (c .before .before .before .before .before .before .before .before .before .before .before .before .before .before .before .before .before .before .loop .e) (c .before .before .before .before .before .before .before .before .before .before .before .before .before .before .before .before .before .before .loop .inv .0) (c .before .before .before .before .before .before .before .before .before .enter .ensures)) ∙ not-true _ (c .if1 .taken)))
+    let block = (let c : tie.At-loop Inv-loop μ-loop = search in let p : tie.Start Inv-loop μ-loop = search in p .args .block) in
+    let c' = (let c : tie.At-loop Inv-loop μ-loop = search in let p : tie.Start Inv-loop μ-loop = search in p .args .c) in
+    let draft = (let c : tie.At-loop Inv-loop μ-loop = search in let p : tie.Start Inv-loop μ-loop = search in p .args .draft) in
+    let from = (let c : tie.At-loop Inv-loop μ-loop = search in let p : tie.Start Inv-loop μ-loop = search in p .args .from) in
+    let indices = (let c : tie.At-loop Inv-loop μ-loop = search in let p : tie.Start Inv-loop μ-loop = search in p .args .indices) in
+    let n = (let c : tie.At-loop Inv-loop μ-loop = search in let p : tie.Start Inv-loop μ-loop = search in p .args .n) in
+    let places = (let c : tie.At-loop Inv-loop μ-loop = search in let p : tie.Start Inv-loop μ-loop = search in p .args .places) in
+    let ranks = (let c : tie.At-loop Inv-loop μ-loop = search in let p : tie.Start Inv-loop μ-loop = search in p .args .ranks) in
+    let sizes = (let c : tie.At-loop Inv-loop μ-loop = search in let p : tie.Start Inv-loop μ-loop = search in p .args .sizes) in
+    let loop-e = (let p : tie.At-loop Inv-loop μ-loop = search in p .loop .e) in
+    let loop-inv = (let p : tie.At-loop Inv-loop μ-loop = search in p .loop .inv) in
+    let enter-ensures = (let p : tie.After-enter Inv-loop μ-loop = search in p .enter .ensures) in
+    part2-no (passing-not (passes-at (block .now) (draft .now) (ranks .now) (sizes .now) (places .now) (indices .now) n from) loop-e c' (omega arith) (sym (entered-said (sizes .now) (places .now) (indices .now) loop-e (loop-inv .0) enter-ensures) ∙ not-true _ (c .if1 .taken)))
 
 add-e : tie.Need-add-e Inv-loop μ-loop
 add-e c = search needs
@@ -85,28 +121,45 @@ loop-less c = search needs
 
 loop-again : tie.Need-loop-again Inv-loop μ-loop
 loop-again c =
+    let indices = (let c : tie.At-loop Inv-loop μ-loop = search in let p : tie.Start Inv-loop μ-loop = search in p .args .indices) in
+    let places = (let c : tie.At-loop Inv-loop μ-loop = search in let p : tie.Start Inv-loop μ-loop = search in p .args .places) in
+    let sizes = (let c : tie.At-loop Inv-loop μ-loop = search in let p : tie.Start Inv-loop μ-loop = search in p .args .sizes) in
+    let pre = (let c : tie.At-loop Inv-loop μ-loop = search in let p : tie.Start Inv-loop μ-loop = search in p .pre) in
+    let loop-e = (let p : tie.At-loop Inv-loop μ-loop = search in p .loop .e) in
+    let loop-inv = (let p : tie.At-loop Inv-loop μ-loop = search in p .loop .inv) in
+    let enter-ensures = (let p : tie.After-enter Inv-loop μ-loop = search in p .enter .ensures) in
     let yes = not-false _ (c .if1 .left) in
-    (seen-more (c .before .before .before .before .before .before .before .before .before .before .before .before .before .before .before .before .before .before .loop .e) (c .before .before .before .before .before .before .before .before .before .before .before .before .before .before .before .before .before .before .loop .inv .0) (c .before .before .before .before .before .before .before .before .before .enter .ensures .seen-are yes), faced-more (c .before .before .before .before .before .before .before .before .before .before .before .before .before .before .before .before .before .before .before .before .before .before .before .before .before .before .before .before .before .pre .0 .spans) (c .before .before .before .before .before .before .before .before .before .before .before .before .before .before .before .before .before .before .loop .inv .1) (omega arith) (c .before .before .before .before .before .before .before .before .before .enter .ensures .kinds-are yes), faced-more (c .before .before .before .before .before .before .before .before .before .before .before .before .before .before .before .before .before .before .before .before .before .before .before .before .before .before .before .before .before .pre .0 .spans) (c .before .before .before .before .before .before .before .before .before .before .before .before .before .before .before .before .before .before .loop .inv .2) (omega arith) (c .before .before .before .before .before .before .before .before .before .enter .ensures .links-are yes), passing-more (c .before .before .before .before .before .before .before .before .before .before .before .before .before .before .before .before .before .before .loop .inv .3) (sym (entered-said (c .before .before .before .before .before .before .before .before .before .before .before .before .before .before .before .before .before .before .before .before .before .before .before .before .before .before .before .before .before .args .sizes .now) (c .before .before .before .before .before .before .before .before .before .before .before .before .before .before .before .before .before .before .before .before .before .before .before .before .before .before .before .before .before .args .places .now) (c .before .before .before .before .before .before .before .before .before .before .before .before .before .before .before .before .before .before .before .before .before .before .before .before .before .before .before .before .before .args .indices .now) (c .before .before .before .before .before .before .before .before .before .before .before .before .before .before .before .before .before .before .loop .e) (c .before .before .before .before .before .before .before .before .before .before .before .before .before .before .before .before .before .before .loop .inv .0) (c .before .before .before .before .before .before .before .before .before .enter .ensures)) ∙ yes), omega arith, c .before .before .before .before .before .before .before .before .before .enter .ensures .len)
+    (seen-more loop-e (loop-inv .0) (enter-ensures .seen-are yes), faced-more (pre .0 .spans) (loop-inv .1) (omega arith) (enter-ensures .kinds-are yes), faced-more (pre .0 .spans) (loop-inv .2) (omega arith) (enter-ensures .links-are yes), passing-more (loop-inv .3) (sym (entered-said (sizes .now) (places .now) (indices .now) loop-e (loop-inv .0) enter-ensures) ∙ yes), omega arith, enter-ensures .len)
 
 same-length-5 : tie.Need-same-length-5 Inv-loop μ-loop
 same-length-5 c =
-    c .before .loop .inv .5 ∙ sym (c .before .before .before .before .before .before .before .before .before .before .before .before .pre .1 .0)
+    let start : tie.Start Inv-loop μ-loop = search in
+    let loop-inv = (let p : tie.At-loop Inv-loop μ-loop = search in p .loop .inv) in
+    loop-inv .5 ∙ sym (start .pre .1 .0)
 
 same-length-6 : tie.Need-same-length-6 Inv-loop μ-loop
 same-length-6 c =
-    c .before .loop .inv .0 .size ∙ sym (seen-none (c .before .before .before .before .before .before .before .before .before .before .before .before .args .block .now) (c .before .before .before .before .before .before .before .before .before .before .before .before .args .places .now) _ (c .before .before .before .before .before .before .before .before .before .before .before .before .pre .1 .1) .size)
+    let start : tie.Start Inv-loop μ-loop = search in
+    let loop-inv = (let p : tie.At-loop Inv-loop μ-loop = search in p .loop .inv) in
+    loop-inv .0 .size ∙ sym (seen-none (start .args .block .now) (start .args .places .now) _ (start .pre .1 .1) .size)
 
 same-length-7 : tie.Need-same-length-7 Inv-loop μ-loop
 same-length-7 c =
-    c .before .loop .inv .1 .size ∙ sym (c .before .before .before .before .before .before .before .before .before .before .before .before .pre .1 .2)
+    let start : tie.Start Inv-loop μ-loop = search in
+    let loop-inv = (let p : tie.At-loop Inv-loop μ-loop = search in p .loop .inv) in
+    loop-inv .1 .size ∙ sym (start .pre .1 .2)
 
 same-length-8 : tie.Need-same-length-8 Inv-loop μ-loop
 same-length-8 c =
-    c .before .loop .inv .2 .size ∙ sym (c .before .before .before .before .before .before .before .before .before .before .before .before .pre .1 .3)
+    let start : tie.Start Inv-loop μ-loop = search in
+    let loop-inv = (let p : tie.At-loop Inv-loop μ-loop = search in p .loop .inv) in
+    loop-inv .2 .size ∙ sym (start .pre .1 .3)
 
 returns-2 : tie.Need-returns-2 Inv-loop μ-loop
 returns-2 c =
-    record { said = passing-all {k = c .before .before .before .before .before .before .before .before .before .before .before .before .args .c} (c .before .loop .inv .3) (omega arith); kinds-are = λ t. faced-all (c .before .loop .inv .1) (c .before .loop .inv .4) (omega arith); links-are = λ t. faced-all (c .before .loop .inv .2) (c .before .loop .inv .4) (omega arith) }
+    let start : tie.Start Inv-loop μ-loop = search in
+    let loop-inv = (let p : tie.At-loop Inv-loop μ-loop = search in p .loop .inv) in
+    record { said = passing-all {k = start .args .c} (loop-inv .3) (omega arith); kinds-are = λ t. faced-all (loop-inv .1) (loop-inv .4) (omega arith); links-are = λ t. faced-all (loop-inv .2) (loop-inv .4) (omega arith) }
 
 pub enter-all-spec : {M : Type 1} → statement M
 enter-all-spec =

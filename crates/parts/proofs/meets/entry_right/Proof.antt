@@ -11,7 +11,8 @@ use Rattle.parts.proofs.meets.entry_right.Tie as tie
 
 field-requires : tie.Need-field-requires
 field-requires c κs =
-    ((let f = c .before .before .before .before .pre .0 .linked .few in omega (arith, f)), omega arith, c .before .before .before .before .pre .0 .linked .size)
+    let start : tie.Start = search in
+    ((let f = start .pre .0 .linked .few in omega (arith, f)), omega arith, start .pre .0 .linked .size)
 
 mul-if1 : tie.Need-mul-if1
 mul-if1 c = search needs
@@ -21,29 +22,42 @@ add-if1 c = search needs
 
 returns : tie.Need-returns
 returns c =
-    not-critical (c .before .before .before .before .before .before .args .block .now) (c .before .before .before .before .before .before .args .draft .now) (c .before .before .before .before .before .before .args .ranks .now) (c .before .before .before .before .before .before .args .from) (c .before .before .before .before .before .before .args .y) (c .before .before .before .before .before .before .args .at) (c .before .before .before .before .before .before .args .size) (c .before .before .before .before .before .before .pre .4) (c .before .field .ensures) (c .if1 .taken)
+    let start : tie.Start = search in
+    let field-ensures = (let p : tie.After-field = search in p .field .ensures) in
+    not-critical (start .args .block .now) (start .args .draft .now) (start .args .ranks .now) (start .args .from) (start .args .y) (start .args .at) (start .args .size) (start .pre .4) field-ensures (c .if1 .taken)
 
 walk-face-requires : tie.Need-walk-face-requires
 walk-face-requires c κs =
-    (c .before .before .before .before .before .before .before .pre .0 .linked, c .before .before .before .before .before .before .before .pre .2, (let f = c .before .before .before .before .before .before .before .pre .0 .few in omega (arith, f)), c .before .before .before .before .before .before .before .pre .4)
+    let start : tie.Start = search in
+    (start .pre .0 .linked, start .pre .2, (let f = start .pre .0 .few in omega (arith, f)), start .pre .4)
 
 same-length : tie.Need-same-length
 same-length c = search needs
 
 returns-2 : tie.Need-returns-2
 returns-2 c =
-    not-equal (c .before .before .before .before .before .before .before .before .before .before .before .args .block .now) (c .before .before .before .before .before .before .before .before .before .before .before .args .draft .now) (c .before .before .before .before .before .before .before .before .before .before .before .args .ranks .now) (c .before .before .before .before .before .before .before .before .before .before .before .args .from) (c .before .before .before .before .before .before .before .before .before .before .before .args .y) (c .before .before .before .before .before .before .before .before .before .before .before .args .at) (c .before .before .before .before .before .before .before .before .before .before .before .args .size) (subst (Walked (c .before .before .before .before .before .before .before .before .before .before .before .args .block .now) (c .before .before .before .before .before .before .before .before .before .before .before .args .y) (c .before .before .before .before .before .before .before .before .before .before .before .args .size) _) (not-true _ (c .if2 .taken)) (c .before .before .before .walk-face .ensures))
+    let start : tie.Start = search in
+    let walk-face-ensures = (let p : tie.After-walk-face = search in p .walk-face .ensures) in
+    not-equal (start .args .block .now) (start .args .draft .now) (start .args .ranks .now) (start .args .from) (start .args .y) (start .args .at) (start .args .size) (subst (Walked (start .args .block .now) (start .args .y) (start .args .size) _) (not-true _ (c .if2 .taken)) walk-face-ensures)
 
 all-meet-requires : tie.Need-all-meet-requires
 all-meet-requires c κs =
-    (c .before .before .before .before .before .before .before .before .before .before .before .before .pre .0, c .before .before .before .before .before .before .before .before .before .before .before .before .pre .3, trailed (c .before .before .before .before .before .before .before .before .before .before .before .before .pre .0 .linked) (c .before .before .before .before .before .before .before .before .before .before .before .before .pre .2) (let f = c .before .before .before .before .before .before .before .before .before .before .before .before .pre .0 .few in omega (arith, f)) (subst (Walked (c .before .before .before .before .before .before .before .before .before .before .before .before .args .block .now) (c .before .before .before .before .before .before .before .before .before .before .before .before .args .y) (c .before .before .before .before .before .before .before .before .before .before .before .before .args .size) _) (not-false _ (c .before .if2 .left)) (c .before .before .before .before .walk-face .ensures)))
+    let start : tie.Start = search in
+    let walk-face-ensures = (let p : tie.After-walk-face = search in p .walk-face .ensures) in
+    let if2-left = (let p : tie.Else2 = search in p .if2 .left) in
+    (start .pre .0, start .pre .3, trailed (start .pre .0 .linked) (start .pre .2) (let f = start .pre .0 .few in omega (arith, f)) (subst (Walked (start .args .block .now) (start .args .y) (start .args .size) _) (not-false _ if2-left) walk-face-ensures))
 
 same-length-2 : tie.Need-same-length-2
 same-length-2 c = search needs
 
 returns-3 : tie.Need-returns-3
 returns-3 c =
-    entry-told (c .before .before .before .before .before .before .before .before .before .before .before .before .before .args .block .now) (c .before .before .before .before .before .before .before .before .before .before .before .before .before .args .draft .now) (c .before .before .before .before .before .before .before .before .before .before .before .before .before .args .ranks .now) (c .before .before .before .before .before .before .before .before .before .before .before .before .before .args .from) (c .before .before .before .before .before .before .before .before .before .before .before .before .before .args .y) (c .before .before .before .before .before .before .before .before .before .before .before .before .before .args .at) (c .before .before .before .before .before .before .before .before .before .before .before .before .before .args .size) (c .before .before .before .before .before .before .before .before .field .ensures) (c .before .before .before .before .before .before .before .if1 .left) (subst (Walked (c .before .before .before .before .before .before .before .before .before .before .before .before .before .args .block .now) (c .before .before .before .before .before .before .before .before .before .before .before .before .before .args .y) (c .before .before .before .before .before .before .before .before .before .before .before .before .before .args .size) _) (not-false _ (c .before .before .if2 .left)) (c .before .before .before .before .before .walk-face .ensures)) (c .all-meet .ensures)
+    let start : tie.Start = search in
+    let field-ensures = (let p : tie.After-field = search in p .field .ensures) in
+    let if1-left = (let p : tie.Else1 = search in p .if1 .left) in
+    let walk-face-ensures = (let p : tie.After-walk-face = search in p .walk-face .ensures) in
+    let if2-left = (let p : tie.Else2 = search in p .if2 .left) in
+    entry-told (start .args .block .now) (start .args .draft .now) (start .args .ranks .now) (start .args .from) (start .args .y) (start .args .at) (start .args .size) field-ensures if1-left (subst (Walked (start .args .block .now) (start .args .y) (start .args .size) _) (not-false _ if2-left) walk-face-ensures) (c .all-meet .ensures)
 
 pub entry-right-spec : {M : Type 1} → statement M
 entry-right-spec =

@@ -10,14 +10,16 @@ use Rattle.parts.proofs.meets.is_new.Tie as tie
 
 returns : tie.Need-returns
 returns c =
-    not-place (c .before .args .y) (c .before .args .n) (eqb (getD (c .before .args .seen .now) (c .before .args .y) 0) 0) (c .if1 .taken)
+    let start : tie.Start = search in
+    not-place (start .args .y) (start .args .n) (eqb (getD (start .args .seen .now) (start .args .y) 0) 0) (c .if1 .taken)
 
 shared-slice-read-result : tie.Need-shared-slice-read-result
 shared-slice-read-result c = search needs
 
 returns-2 : tie.Need-returns-2
 returns-2 c =
-    a-place (c .before .before .args .y) (c .before .before .args .n) (eqb (getD (c .before .before .args .seen .now) (c .before .before .args .y) 0) 0) (omega arith)
+    let start : tie.Start = search in
+    a-place (start .args .y) (start .args .n) (eqb (getD (start .args .seen .now) (start .args .y) 0) 0) (omega arith)
 
 pub is-new-spec : {M : Type 1} → statement M
 is-new-spec = tie.close (tie.spec returns shared-slice-read-result returns-2)

@@ -7,27 +7,35 @@ use Rattle.parts.proofs.meets.meets.Tie as tie
 
 met-requires : tie.Need-met-requires
 met-requires c κs =
-    (c .before .before .before .before .pre .3 .len, (let f = c .before .before .before .before .pre .0 .few in omega (arith, f)), c .before .before .before .before .pre .2)
+    let start : tie.Start = search in
+    (start .pre .3 .len, (let f = start .pre .0 .few in omega (arith, f)), start .pre .2)
 
 add-p : tie.Need-add-p
 add-p c =
-    let f = c .before .before .before .before .before .pre .0 .few in omega (arith, f)
+    let start : tie.Start = search in
+    let f = start .pre .0 .few in omega (arith, f)
 
 mul-p : tie.Need-mul-p
 mul-p c =
-    let f = c .before .before .before .before .before .pre .0 .few in let s = c .before .before .before .before .before .pre .0 .ranks-size in omega (arith, f, s)
+    let start : tie.Start = search in
+    let f = start .pre .0 .few in let s = start .pre .0 .ranks-size in omega (arith, f, s)
 
 shared-slice-read-p : tie.Need-shared-slice-read-p
 shared-slice-read-p c =
-    let f = c .before .before .before .before .before .before .pre .0 .few in let s = c .before .before .before .before .before .before .pre .0 .ranks-size in omega (arith, f, s)
+    let start : tie.Start = search in
+    let f = start .pre .0 .few in let s = start .pre .0 .ranks-size in omega (arith, f, s)
 
 meet-at-requires : tie.Need-meet-at-requires
 meet-at-requires c κs =
-    ready (c .before .before .before .before .before .before .pre .0) (c .before .before .before .before .before .before .args .at) (c .before .before .before .before .before .before .pre .1) (c .before .before .before .before .before .before .pre .2) (c .before .before .before .before .before .before .pre .3) (c .before .met .ensures)
+    let start : tie.Start = search in
+    let met-ensures = (let p : tie.After-met = search in p .met .ensures) in
+    ready (start .pre .0) (start .args .at) (start .pre .1) (start .pre .2) (start .pre .3) met-ensures
 
 returns : tie.Need-returns
 returns c =
-    meets-told (c .before .before .before .before .before .before .before .args .block .now) (c .before .before .before .before .before .before .before .args .draft .now) (c .before .before .before .before .before .before .before .args .ranks .now) (c .before .before .before .before .before .before .before .args .at) (c .before .before .before .before .before .before .before .args .size) (c .before .before .before .before .before .before .before .args .j) (c .before .before .before .before .before .before .before .args .trail .now) (c .before .before .met .ensures) (c .meet-at .ensures)
+    let start : tie.Start = search in
+    let met-ensures = (let p : tie.After-met = search in p .met .ensures) in
+    meets-told (start .args .block .now) (start .args .draft .now) (start .args .ranks .now) (start .args .at) (start .args .size) (start .args .j) (start .args .trail .now) met-ensures (c .meet-at .ensures)
 
 pub meets-spec : {M : Type 1} → statement M
 meets-spec =

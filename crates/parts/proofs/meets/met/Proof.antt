@@ -10,7 +10,9 @@ shared-slice-read-result c = search needs
 
 returns : tie.Need-returns
 returns c =
-    met-first (c .before .before .args .trail .now) (c .before .before .args .size) (c .before .before .args .j) (c .before .if1 .taken)
+    let start : tie.Start = search in
+    let if1-taken = (let p : tie.Then1 = search in p .if1 .taken) in
+    met-first (start .args .trail .now) (start .args .size) (start .args .j) if1-taken
 
 sub-result : tie.Need-sub-result
 sub-result c = search needs
@@ -23,7 +25,9 @@ shared-slice-read-result-2 c = search needs
 
 returns-2 : tie.Need-returns-2
 returns-2 c =
-    met-later (c .before .before .args .trail .now) (c .before .before .args .size) (c .before .before .args .j) (c .before .if1 .left)
+    let start : tie.Start = search in
+    let if1-left = (let p : tie.Else1 = search in p .if1 .left) in
+    met-later (start .args .trail .now) (start .args .size) (start .args .j) if1-left
 
 pub met-spec : {M : Type 1} → statement M
 met-spec =

@@ -24,15 +24,20 @@ loop-holds c =
 
 mul-seen : tie.Need-mul-seen Inv-loop μ-loop
 mul-seen c =
-    let l = c .before .before .pre .0 .len in omega (arith, l)
+    let start : tie.Start Inv-loop μ-loop = search in
+    let l = start .pre .0 .len in omega (arith, l)
 
 shared-slice-read-seen : tie.Need-shared-slice-read-seen Inv-loop μ-loop
 shared-slice-read-seen c =
-    let l = c .before .before .before .pre .0 .len in omega (arith, l)
+    let start : tie.Start Inv-loop μ-loop = search in
+    let l = start .pre .0 .len in omega (arith, l)
 
 slice-write-seen : tie.Need-slice-write-seen Inv-loop μ-loop
 slice-write-seen c =
-    let b = c .before .before .before .pre .0 .below (c .before .before .loop .j) (omega arith) in let s = c .before .before .loop .inv .0 .size in let l = c .before .before .before .pre .2 in omega (arith, b, s, l)
+    let start : tie.Start Inv-loop μ-loop = search in
+    let loop-inv = (let p : tie.At-loop Inv-loop μ-loop = search in p .loop .inv) in
+    let loop-j = (let p : tie.At-loop Inv-loop μ-loop = search in p .loop .j) in
+    let b = start .pre .0 .below loop-j (omega arith) in let s = loop-inv .0 .size in let l = start .pre .2 in omega (arith, b, s, l)
 
 add-j : tie.Need-add-j Inv-loop μ-loop
 add-j c = search needs
@@ -42,15 +47,22 @@ loop-less c = search needs
 
 loop-again : tie.Need-loop-again Inv-loop μ-loop
 loop-again c =
-    (paint-trail (c .before .before .before .args .trail .now) (c .before .before .loop .j) (c .before .before .loop .inv .0) (let l = c .before .before .before .pre .0 .len in omega (arith, l)) (let b = c .before .before .before .pre .0 .below (c .before .before .loop .j) (omega arith) in let l = c .before .before .before .pre .2 in omega (arith, b, l)), omega arith)
+    let start : tie.Start Inv-loop μ-loop = search in
+    let loop-inv = (let p : tie.At-loop Inv-loop μ-loop = search in p .loop .inv) in
+    let loop-j = (let p : tie.At-loop Inv-loop μ-loop = search in p .loop .j) in
+    (paint-trail (start .args .trail .now) loop-j (loop-inv .0) (let l = start .pre .0 .len in omega (arith, l)) (let b = start .pre .0 .below loop-j (omega arith) in let l = start .pre .2 in omega (arith, b, l)), omega arith)
 
 same-length : tie.Need-same-length Inv-loop μ-loop
 same-length c =
-    c .before .loop .inv .0 .size
+    let loop-inv = (let p : tie.At-loop Inv-loop μ-loop = search in p .loop .inv) in
+    loop-inv .0 .size
 
 returns : tie.Need-returns Inv-loop μ-loop
 returns c =
-    painted-all (c .before .before .args .trail .now) (c .before .loop .j) (c .before .before .args .size) (c .before .loop .inv .0) (c .before .loop .inv .1) (omega arith)
+    let start : tie.Start Inv-loop μ-loop = search in
+    let loop-inv = (let p : tie.At-loop Inv-loop μ-loop = search in p .loop .inv) in
+    let loop-j = (let p : tie.At-loop Inv-loop μ-loop = search in p .loop .j) in
+    painted-all (start .args .trail .now) loop-j (start .args .size) (loop-inv .0) (loop-inv .1) (omega arith)
 
 pub paint-spec : {M : Type 1} → statement M
 paint-spec =

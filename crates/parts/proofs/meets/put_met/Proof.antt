@@ -20,22 +20,26 @@ abbrev μ-loop : tie.MeasureT-loop
 
 loop-holds : tie.Need-loop-holds Inv-loop μ-loop
 loop-holds c =
-    (over-none _ _ _ (c .before .before .pre .1), omega arith)
+    let start : tie.Start Inv-loop μ-loop = search in
+    (over-none _ _ _ (start .pre .1), omega arith)
 
 met-requires : tie.Need-met-requires Inv-loop μ-loop
 met-requires c κs =
-    (c .before .before .before .before .pre .0, omega arith, omega arith)
+    let start : tie.Start Inv-loop μ-loop = search in
+    (start .pre .0, omega arith, omega arith)
 
 add-links : tie.Need-add-links Inv-loop μ-loop
 add-links c = search needs
 
 mul-links : tie.Need-mul-links Inv-loop μ-loop
 mul-links c =
-    let s = c .before .before .loop .inv .0 .size in omega arith
+    let loop-inv = (let p : tie.At-loop Inv-loop μ-loop = search in p .loop .inv) in
+    let s = loop-inv .0 .size in omega arith
 
 slice-write-links : tie.Need-slice-write-links Inv-loop μ-loop
 slice-write-links c =
-    let s = c .before .before .loop .inv .0 .size in omega arith
+    let loop-inv = (let p : tie.At-loop Inv-loop μ-loop = search in p .loop .inv) in
+    let s = loop-inv .0 .size in omega arith
 
 add-j : tie.Need-add-j Inv-loop μ-loop
 add-j c = search needs
@@ -45,15 +49,19 @@ loop-less c = search needs
 
 loop-again : tie.Need-loop-again Inv-loop μ-loop
 loop-again c =
-    (over-more (c .before .before .loop .inv .0) (omega arith) (c .met .ensures), omega arith)
+    let loop-inv = (let p : tie.At-loop Inv-loop μ-loop = search in p .loop .inv) in
+    (over-more (loop-inv .0) (omega arith) (c .met .ensures), omega arith)
 
 same-length : tie.Need-same-length Inv-loop μ-loop
 same-length c =
-    c .before .loop .inv .0 .size ∙ sym (c .before .before .before .before .pre .1)
+    let start : tie.Start Inv-loop μ-loop = search in
+    let loop-inv = (let p : tie.At-loop Inv-loop μ-loop = search in p .loop .inv) in
+    loop-inv .0 .size ∙ sym (start .pre .1)
 
 returns : tie.Need-returns Inv-loop μ-loop
 returns c =
-    over-all (c .before .loop .inv .0) (c .before .loop .inv .1) (omega arith)
+    let loop-inv = (let p : tie.At-loop Inv-loop μ-loop = search in p .loop .inv) in
+    over-all (loop-inv .0) (loop-inv .1) (omega arith)
 
 pub put-met-spec : {M : Type 1} → statement M
 put-met-spec =

@@ -22,50 +22,73 @@ abbrev μ-loop : tie.MeasureT-loop
 
 loop-holds : tie.Need-loop-holds Inv-loop μ-loop
 loop-holds c =
-    (going-begin (round (c .before .before .pre .0 .few) (c .before .before .pre .0 .next-within) (c .before .before .pre .0 .next-apart) _ (c .before .before .pre .1)) (c .before .before .pre .1) 0, writing-start _ _ _ _, omega arith)
+    let start : tie.Start Inv-loop μ-loop = search in
+    (going-begin (round (start .pre .0 .few) (start .pre .0 .next-within) (start .pre .0 .next-apart) _ (start .pre .1)) (start .pre .1) 0, writing-start _ _ _ _, omega arith)
 
 mul-trail : tie.Need-mul-trail Inv-loop μ-loop
 mul-trail c =
-    omega (arith, c .before .loop .inv .1 .size, c .before .before .before .before .pre .3, c .before .before .before .before .pre .2)
+    let start : tie.Start Inv-loop μ-loop = search in
+    let loop-inv = (let p : tie.At-loop Inv-loop μ-loop = search in p .loop .inv) in
+    omega (arith, loop-inv .1 .size, start .pre .3, start .pre .2)
 
 slice-write-trail : tie.Need-slice-write-trail Inv-loop μ-loop
 slice-write-trail c =
-    omega (arith, c .before .loop .inv .1 .size, c .before .before .before .before .pre .3, c .before .before .before .before .pre .2)
+    let start : tie.Start Inv-loop μ-loop = search in
+    let loop-inv = (let p : tie.At-loop Inv-loop μ-loop = search in p .loop .inv) in
+    omega (arith, loop-inv .1 .size, start .pre .3, start .pre .2)
 
 add-i : tie.Need-add-i Inv-loop μ-loop
 add-i c =
-    omega (arith, c .before .before .before .before .pre .2)
+    let start : tie.Start Inv-loop μ-loop = search in
+    omega (arith, start .pre .2)
 
 field-requires : tie.Need-field-requires Inv-loop μ-loop
 field-requires c κs =
-    (omega (arith, c .before .loop .inv .0 .below, c .before .before .before .before .pre .0 .few), omega arith, c .before .before .before .before .pre .0 .size)
+    let start : tie.Start Inv-loop μ-loop = search in
+    let loop-inv = (let p : tie.At-loop Inv-loop μ-loop = search in p .loop .inv) in
+    (omega (arith, loop-inv .0 .below, start .pre .0 .few), omega arith, start .pre .0 .size)
 
 same-length : tie.Need-same-length Inv-loop μ-loop
 same-length c =
-    simp length-set (c .before .before .before .loop .inv .1 .size)
+    let loop-inv = (let p : tie.At-loop Inv-loop μ-loop = search in p .loop .inv) in
+    simp length-set (loop-inv .1 .size)
 
 returns : tie.Need-returns Inv-loop μ-loop
 returns c =
-    let R = round (c .before .before .before .before .before .before .pre .0 .few) (c .before .before .before .before .before .before .pre .0 .next-within) (c .before .before .before .before .before .before .pre .0 .next-apart) _ (c .before .before .before .before .before .before .pre .1) in
-    let left : c .before .before .before .loop .i < length (c .before .before .before .loop .trail) = omega (arith, c .before .before .before .loop .inv .1 .size, c .before .before .before .before .before .before .pre .3, c .before .before .before .before .before .before .pre .2) in
-    walked-back (c .before .before .before .loop .i) (c .before .before .before .before .before .before .pre .3) (writing-end (c .before .before .before .before .before .before .pre .0 .next-within) R (c .before .before .before .loop .inv .0) (c .before .before .before .loop .inv .1) left (c .before .field .ensures) (c .if1 .taken) refl)
+    let start : tie.Start Inv-loop μ-loop = search in
+    let loop-i = (let p : tie.At-loop Inv-loop μ-loop = search in p .loop .i) in
+    let loop-inv = (let p : tie.At-loop Inv-loop μ-loop = search in p .loop .inv) in
+    let loop-trail = (let p : tie.At-loop Inv-loop μ-loop = search in p .loop .trail) in
+    let field-ensures = (let p : tie.After-field Inv-loop μ-loop = search in p .field .ensures) in
+    let R = round (start .pre .0 .few) (start .pre .0 .next-within) (start .pre .0 .next-apart) _ (start .pre .1) in
+    let left : loop-i < length loop-trail = omega (arith, loop-inv .1 .size, start .pre .3, start .pre .2) in
+    walked-back loop-i (start .pre .3) (writing-end (start .pre .0 .next-within) R (loop-inv .0) (loop-inv .1) left field-ensures (c .if1 .taken) refl)
 
 loop-less : tie.Need-loop-less Inv-loop μ-loop
 loop-less c = search needs
 
 loop-again : tie.Need-loop-again Inv-loop μ-loop
 loop-again c =
-    let R = round (c .before .before .before .before .before .before .pre .0 .few) (c .before .before .before .before .before .before .pre .0 .next-within) (c .before .before .before .before .before .before .pre .0 .next-apart) _ (c .before .before .before .before .before .before .pre .1) in
-    let left : c .before .before .before .loop .i < length (c .before .before .before .loop .trail) = omega (arith, c .before .before .before .loop .inv .1 .size, c .before .before .before .before .before .before .pre .3, c .before .before .before .before .before .before .pre .2) in
-    (going-again (c .before .before .before .before .before .before .pre .0 .next-within) R (c .before .before .before .loop .inv .0) (c .before .before .before .loop .inv .1) left (c .before .field .ensures) (c .if1 .left), writing-on (c .before .before .before .before .before .before .pre .0 .next-within) R (c .before .before .before .loop .inv .0) (c .before .before .before .loop .inv .1) left, omega arith)
+    let start : tie.Start Inv-loop μ-loop = search in
+    let loop-i = (let p : tie.At-loop Inv-loop μ-loop = search in p .loop .i) in
+    let loop-inv = (let p : tie.At-loop Inv-loop μ-loop = search in p .loop .inv) in
+    let loop-trail = (let p : tie.At-loop Inv-loop μ-loop = search in p .loop .trail) in
+    let field-ensures = (let p : tie.After-field Inv-loop μ-loop = search in p .field .ensures) in
+    let R = round (start .pre .0 .few) (start .pre .0 .next-within) (start .pre .0 .next-apart) _ (start .pre .1) in
+    let left : loop-i < length loop-trail = omega (arith, loop-inv .1 .size, start .pre .3, start .pre .2) in
+    (going-again (start .pre .0 .next-within) R (loop-inv .0) (loop-inv .1) left field-ensures (c .if1 .left), writing-on (start .pre .0 .next-within) R (loop-inv .0) (loop-inv .1) left, omega arith)
 
 same-length-2 : tie.Need-same-length-2 Inv-loop μ-loop
 same-length-2 c =
-    c .before .loop .inv .1 .size
+    let loop-inv = (let p : tie.At-loop Inv-loop μ-loop = search in p .loop .inv) in
+    loop-inv .1 .size
 
 returns-2 : tie.Need-returns-2 Inv-loop μ-loop
 returns-2 c =
-    walked-far (c .before .loop .i) (c .before .loop .inv .1 .size ∙ c .before .before .before .before .pre .3) (c .before .loop .inv .0) (omega arith)
+    let start : tie.Start Inv-loop μ-loop = search in
+    let loop-i = (let p : tie.At-loop Inv-loop μ-loop = search in p .loop .i) in
+    let loop-inv = (let p : tie.At-loop Inv-loop μ-loop = search in p .loop .inv) in
+    walked-far loop-i (loop-inv .1 .size ∙ start .pre .3) (loop-inv .0) (omega arith)
 
 pub walk-face-spec : {M : Type 1} → statement M
 walk-face-spec =

@@ -45,7 +45,10 @@ follows-requires c κs = search needs
 
 returns : tie.Need-returns Inv-loop μ-loop
 returns c =
-    passing-not (follows-at (c .before .before .before .before .before .before .before .args .numbers .now)) (c .before .before .before .before .before .loop .e) (c .before .before .before .before .before .before .before .args .c - 1) (omega arith) (sym (c .before .follows .ensures) ∙ not-true _ (c .if1 .taken))
+    let start : tie.Start Inv-loop μ-loop = search in
+    let loop-e = (let p : tie.At-loop Inv-loop μ-loop = search in p .loop .e) in
+    let follows-ensures = (let p : tie.After-follows Inv-loop μ-loop = search in p .follows .ensures) in
+    passing-not (follows-at (start .args .numbers .now)) loop-e (start .args .c - 1) (omega arith) (sym follows-ensures ∙ not-true _ (c .if1 .taken))
 
 add-e : tie.Need-add-e Inv-loop μ-loop
 add-e c = search needs
@@ -55,11 +58,15 @@ loop-less c = search needs
 
 loop-again : tie.Need-loop-again Inv-loop μ-loop
 loop-again c =
-    (passing-more (c .before .before .before .before .before .loop .inv .0) (sym (c .before .follows .ensures) ∙ not-false _ (c .if1 .left)), omega arith)
+    let loop-inv = (let p : tie.At-loop Inv-loop μ-loop = search in p .loop .inv) in
+    let follows-ensures = (let p : tie.After-follows Inv-loop μ-loop = search in p .follows .ensures) in
+    (passing-more (loop-inv .0) (sym follows-ensures ∙ not-false _ (c .if1 .left)), omega arith)
 
 returns-2 : tie.Need-returns-2 Inv-loop μ-loop
 returns-2 c =
-    passing-all {k = c .before .before .before .args .c - 1} (c .before .loop .inv .0) (omega arith)
+    let start : tie.Start Inv-loop μ-loop = search in
+    let loop-inv = (let p : tie.At-loop Inv-loop μ-loop = search in p .loop .inv) in
+    passing-all {k = start .args .c - 1} (loop-inv .0) (omega arith)
 
 pub consecutive-spec : {M : Type 1} → statement M
 consecutive-spec =

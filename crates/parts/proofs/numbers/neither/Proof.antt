@@ -42,11 +42,16 @@ loop-less c = search needs
 
 loop-again : tie.Need-loop-again Inv-loop μ-loop
 loop-again c =
-    (every-more (neither-at (c .before .before .before .before .args .others .now) (c .before .before .before .before .args .from) (c .before .before .before .before .args .to)) (c .before .before .before .loop .e) (c .before .before .before .loop .inv .0) refl, omega arith)
+    let start : tie.Start Inv-loop μ-loop = search in
+    let loop-e = (let p : tie.At-loop Inv-loop μ-loop = search in p .loop .e) in
+    let loop-inv = (let p : tie.At-loop Inv-loop μ-loop = search in p .loop .inv) in
+    (every-more (neither-at (start .args .others .now) (start .args .from) (start .args .to)) loop-e (loop-inv .0) refl, omega arith)
 
 returns : tie.Need-returns Inv-loop μ-loop
 returns c =
-    every-all (neither-at (c .before .before .args .others .now) (c .before .before .args .from) (c .before .before .args .to)) (c .before .loop .inv .0) (c .before .loop .inv .1) (omega arith)
+    let start : tie.Start Inv-loop μ-loop = search in
+    let loop-inv = (let p : tie.At-loop Inv-loop μ-loop = search in p .loop .inv) in
+    every-all (neither-at (start .args .others .now) (start .args .from) (start .args .to)) (loop-inv .0) (loop-inv .1) (omega arith)
 
 pub neither-spec : {M : Type 1} → statement M
 neither-spec =

@@ -22,7 +22,8 @@ enum-told c = search needs
 
 returns : tie.Need-returns
 returns c =
-    no-other (record { value = bad-at (at-most 15) _ _ (sym (c .enum-told .given .1) ∙ c .before .before .read-at-most .ensures) })
+    let read-at-most-ensures = (let p : tie.After-read-at-most = search in p .read-at-most .ensures) in
+    no-other (record { value = bad-at (at-most 15) _ _ (sym (c .enum-told .given .1) ∙ read-at-most-ensures) })
 
 read-label-requires : tie.Need-read-label-requires
 read-label-requires c κs = search needs
@@ -35,19 +36,30 @@ enum-told-2 c = search needs
 
 returns-2 : tie.Need-returns-2
 returns-2 c =
-    no-label (at-most-at 15 (sym (c .before .before .before .before .other .given .1) ∙ c .before .before .before .before .before .before .read-at-most .ensures)) (record { value = bad-at label-code _ _ (sym (c .enum-told2 .given .1) ∙ c .before .before .read-label .ensures) })
+    let read-at-most-ensures = (let p : tie.After-read-at-most = search in p .read-at-most .ensures) in
+    let other-given = (let p : tie.After-other = search in p .other .given) in
+    let read-label-ensures = (let p : tie.After-read-label = search in p .read-label .ensures) in
+    no-label (at-most-at 15 (sym (other-given .1) ∙ read-at-most-ensures)) (record { value = bad-at label-code _ _ (sym (c .enum-told2 .given .1) ∙ read-label-ensures) })
 
 mul-t9 : tie.Need-mul-t9
 mul-t9 c =
-    omega (arith, at-most-bound 15 _ _ _ (at-most-at 15 (sym (c .before .before .before .before .before .other .given .1) ∙ c .before .before .before .before .before .before .before .read-at-most .ensures) .value))
+    let read-at-most-ensures = (let p : tie.After-read-at-most = search in p .read-at-most .ensures) in
+    let other-given = (let p : tie.After-other = search in p .other .given) in
+    omega (arith, at-most-bound 15 _ _ _ (at-most-at 15 (sym (other-given .1) ∙ read-at-most-ensures) .value))
 
 add-t10 : tie.Need-add-t10
 add-t10 c =
-    omega (arith, at-most-bound 15 _ _ _ (at-most-at 15 (sym (c .before .before .before .before .before .other .given .1) ∙ c .before .before .before .before .before .before .before .read-at-most .ensures) .value))
+    let read-at-most-ensures = (let p : tie.After-read-at-most = search in p .read-at-most .ensures) in
+    let other-given = (let p : tie.After-other = search in p .other .given) in
+    omega (arith, at-most-bound 15 _ _ _ (at-most-at 15 (sym (other-given .1) ∙ read-at-most-ensures) .value))
 
 returns-3 : tie.Need-returns-3
 returns-3 c =
-    critical-read _ (at-most-at 15 (sym (c .before .before .before .before .before .other .given .1) ∙ c .before .before .before .before .before .before .before .read-at-most .ensures)) (label-at (sym (c .before .label .given .1) ∙ c .before .before .before .read-label .ensures))
+    let read-at-most-ensures = (let p : tie.After-read-at-most = search in p .read-at-most .ensures) in
+    let other-given = (let p : tie.After-other = search in p .other .given) in
+    let read-label-ensures = (let p : tie.After-read-label = search in p .read-label .ensures) in
+    let label-given = (let p : tie.After-label = search in p .label .given) in
+    critical-read _ (at-most-at 15 (sym (other-given .1) ∙ read-at-most-ensures)) (label-at (sym (label-given .1) ∙ read-label-ensures))
 
 pub read-critical-spec : {M : Type 1} → statement M
 read-critical-spec =

@@ -19,7 +19,8 @@ enum-told c = search needs
 
 returns : tie.Need-returns
 returns c =
-    no-serial (record { value = bad-at serial _ _ (sym (c .enum-told .given .1) ∙ c .before .before .read-serial .ensures) })
+    let read-serial-ensures = (let p : tie.After-read-serial = search in p .read-serial .ensures) in
+    no-serial (record { value = bad-at serial _ _ (sym (c .enum-told .given .1) ∙ read-serial-ensures) })
 
 read-serial-requires-2 : tie.Need-read-serial-requires-2
 read-serial-requires-2 c κs = search needs
@@ -32,7 +33,10 @@ enum-told-2 c = search needs
 
 returns-2 : tie.Need-returns-2
 returns-2 c =
-    no-next (serial-at (sym (c .before .before .before .before .serial .given .1) ∙ c .before .before .before .before .before .before .read-serial .ensures)) (record { value = bad-at serial _ _ (sym (c .enum-told2 .given .1) ∙ c .before .before .read-serial2 .ensures) })
+    let read-serial-ensures = (let p : tie.After-read-serial = search in p .read-serial .ensures) in
+    let serial-given = (let p : tie.After-serial = search in p .serial .given) in
+    let read-serial2-ensures = (let p : tie.After-read-serial2 = search in p .read-serial2 .ensures) in
+    no-next (serial-at (sym (serial-given .1) ∙ read-serial-ensures)) (record { value = bad-at serial _ _ (sym (c .enum-told2 .given .1) ∙ read-serial2-ensures) })
 
 read-serial-requires-3 : tie.Need-read-serial-requires-3
 read-serial-requires-3 c κs = search needs
@@ -45,8 +49,13 @@ enum-told-3 c = search needs
 
 returns-3 : tie.Need-returns-3
 returns-3 c =
-    no-opposite (serial-at (sym (c .before .before .before .before .before .before .before .before .serial .given .1) ∙ c .before .before .before .before .before .before .before .before .before .before .read-serial .ensures))
-    (serial-at (sym (c .before .before .before .before .next .given .1) ∙ c .before .before .before .before .before .before .read-serial2 .ensures)) (record { value = bad-at serial _ _ (sym (c .enum-told3 .given .1) ∙ c .before .before .read-serial3 .ensures) })
+    let read-serial-ensures = (let p : tie.After-read-serial = search in p .read-serial .ensures) in
+    let serial-given = (let p : tie.After-serial = search in p .serial .given) in
+    let read-serial2-ensures = (let p : tie.After-read-serial2 = search in p .read-serial2 .ensures) in
+    let next-given = (let p : tie.After-next = search in p .next .given) in
+    let read-serial3-ensures = (let p : tie.After-read-serial3 = search in p .read-serial3 .ensures) in
+    no-opposite (serial-at (sym (serial-given .1) ∙ read-serial-ensures))
+    (serial-at (sym (next-given .1) ∙ read-serial2-ensures)) (record { value = bad-at serial _ _ (sym (c .enum-told3 .given .1) ∙ read-serial3-ensures) })
 
 read-third-requires : tie.Need-read-third-requires
 read-third-requires c κs = search needs
@@ -59,9 +68,16 @@ enum-told-4 c = search needs
 
 returns-4 : tie.Need-returns-4
 returns-4 c =
-    no-link (serial-at (sym (c .before .before .before .before .before .before .before .before .before .before .before .before .serial .given .1) ∙ c .before .before .before .before .before .before .before .before .before .before .before .before .before .before .read-serial .ensures))
-    (serial-at (sym (c .before .before .before .before .before .before .before .before .next .given .1) ∙ c .before .before .before .before .before .before .before .before .before .before .read-serial2 .ensures))
-    (serial-at (sym (c .before .before .before .before .opposite .given .1) ∙ c .before .before .before .before .before .before .read-serial3 .ensures)) (third-lacks (sym (c .enum-told4 .given .1) ∙ c .before .before .read-third .ensures))
+    let read-serial-ensures = (let p : tie.After-read-serial = search in p .read-serial .ensures) in
+    let serial-given = (let p : tie.After-serial = search in p .serial .given) in
+    let read-serial2-ensures = (let p : tie.After-read-serial2 = search in p .read-serial2 .ensures) in
+    let next-given = (let p : tie.After-next = search in p .next .given) in
+    let read-serial3-ensures = (let p : tie.After-read-serial3 = search in p .read-serial3 .ensures) in
+    let opposite-given = (let p : tie.After-opposite = search in p .opposite .given) in
+    let read-third-ensures = (let p : tie.After-read-third = search in p .read-third .ensures) in
+    no-link (serial-at (sym (serial-given .1) ∙ read-serial-ensures))
+    (serial-at (sym (next-given .1) ∙ read-serial2-ensures))
+    (serial-at (sym (opposite-given .1) ∙ read-serial3-ensures)) (third-lacks (sym (c .enum-told4 .given .1) ∙ read-third-ensures))
 
 read-point-requires : tie.Need-read-point-requires
 read-point-requires c κs = search needs
@@ -74,18 +90,37 @@ enum-told-5 c = search needs
 
 returns-5 : tie.Need-returns-5
 returns-5 c =
-    no-point (serial-at (sym (c .before .before .before .before .before .before .before .before .before .before .before .before .before .before .before .before .serial .given .1) ∙ c .before .before .before .before .before .before .before .before .before .before .before .before .before .before .before .before .before .before .read-serial .ensures))
-    (serial-at (sym (c .before .before .before .before .before .before .before .before .before .before .before .before .next .given .1) ∙ c .before .before .before .before .before .before .before .before .before .before .before .before .before .before .read-serial2 .ensures))
-    (serial-at (sym (c .before .before .before .before .before .before .before .before .opposite .given .1) ∙ c .before .before .before .before .before .before .before .before .before .before .read-serial3 .ensures))
-    (third-got (sym (c .before .before .before .before .kind .given .1) ∙ c .before .before .before .before .before .before .read-third .ensures)) (point-lacks (sym (c .enum-told5 .given .1) ∙ c .before .before .read-point .ensures))
+    let read-serial-ensures = (let p : tie.After-read-serial = search in p .read-serial .ensures) in
+    let serial-given = (let p : tie.After-serial = search in p .serial .given) in
+    let read-serial2-ensures = (let p : tie.After-read-serial2 = search in p .read-serial2 .ensures) in
+    let next-given = (let p : tie.After-next = search in p .next .given) in
+    let read-serial3-ensures = (let p : tie.After-read-serial3 = search in p .read-serial3 .ensures) in
+    let opposite-given = (let p : tie.After-opposite = search in p .opposite .given) in
+    let read-third-ensures = (let p : tie.After-read-third = search in p .read-third .ensures) in
+    let kind-given = (let p : tie.After-kind = search in p .kind .given) in
+    let read-point-ensures = (let p : tie.After-read-point = search in p .read-point .ensures) in
+    no-point (serial-at (sym (serial-given .1) ∙ read-serial-ensures))
+    (serial-at (sym (next-given .1) ∙ read-serial2-ensures))
+    (serial-at (sym (opposite-given .1) ∙ read-serial3-ensures))
+    (third-got (sym (kind-given .1) ∙ read-third-ensures)) (point-lacks (sym (c .enum-told5 .given .1) ∙ read-point-ensures))
 
 returns-6 : tie.Need-returns-6
 returns-6 c =
-    five-read (serial-at (sym (c .before .before .before .before .before .before .before .before .before .before .before .before .before .before .before .before .before .serial .given .1) ∙ c .before .before .before .before .before .before .before .before .before .before .before .before .before .before .before .before .before .before .before .read-serial .ensures))
-    (serial-at (sym (c .before .before .before .before .before .before .before .before .before .before .before .before .before .next .given .1) ∙ c .before .before .before .before .before .before .before .before .before .before .before .before .before .before .before .read-serial2 .ensures))
-    (serial-at (sym (c .before .before .before .before .before .before .before .before .before .opposite .given .1) ∙ c .before .before .before .before .before .before .before .before .before .before .before .read-serial3 .ensures))
-    (third-got (sym (c .before .before .before .before .before .kind .given .1) ∙ c .before .before .before .before .before .before .before .read-third .ensures))
-    (point-got (sym (c .before .x .given .1) ∙ c .before .before .before .read-point .ensures))
+    let read-serial-ensures = (let p : tie.After-read-serial = search in p .read-serial .ensures) in
+    let serial-given = (let p : tie.After-serial = search in p .serial .given) in
+    let read-serial2-ensures = (let p : tie.After-read-serial2 = search in p .read-serial2 .ensures) in
+    let next-given = (let p : tie.After-next = search in p .next .given) in
+    let read-serial3-ensures = (let p : tie.After-read-serial3 = search in p .read-serial3 .ensures) in
+    let opposite-given = (let p : tie.After-opposite = search in p .opposite .given) in
+    let read-third-ensures = (let p : tie.After-read-third = search in p .read-third .ensures) in
+    let kind-given = (let p : tie.After-kind = search in p .kind .given) in
+    let read-point-ensures = (let p : tie.After-read-point = search in p .read-point .ensures) in
+    let x-given = (let p : tie.After-x = search in p .x .given) in
+    five-read (serial-at (sym (serial-given .1) ∙ read-serial-ensures))
+    (serial-at (sym (next-given .1) ∙ read-serial2-ensures))
+    (serial-at (sym (opposite-given .1) ∙ read-serial3-ensures))
+    (third-got (sym (kind-given .1) ∙ read-third-ensures))
+    (point-got (sym (x-given .1) ∙ read-point-ensures))
 
 pub read-dart-spec : {M : Type 1} → statement M
 read-dart-spec =

@@ -19,7 +19,8 @@ enum-told c = search needs
 
 returns : tie.Need-returns
 returns c =
-    no-x (record { value = bad-at coordinate _ _ (sym (c .enum-told .given .1) ∙ c .before .before .read-coordinate .ensures) })
+    let read-coordinate-ensures = (let p : tie.After-read-coordinate = search in p .read-coordinate .ensures) in
+    no-x (record { value = bad-at coordinate _ _ (sym (c .enum-told .given .1) ∙ read-coordinate-ensures) })
 
 read-coordinate-requires-2 : tie.Need-read-coordinate-requires-2
 read-coordinate-requires-2 c κs = search needs
@@ -32,7 +33,10 @@ enum-told-2 c = search needs
 
 returns-2 : tie.Need-returns-2
 returns-2 c =
-    no-y (coordinate-at (sym (c .before .before .before .before .x .given .1) ∙ c .before .before .before .before .before .before .read-coordinate .ensures)) (record { value = bad-at coordinate _ _ (sym (c .enum-told2 .given .1) ∙ c .before .before .read-coordinate2 .ensures) })
+    let read-coordinate-ensures = (let p : tie.After-read-coordinate = search in p .read-coordinate .ensures) in
+    let x-given = (let p : tie.After-x = search in p .x .given) in
+    let read-coordinate2-ensures = (let p : tie.After-read-coordinate2 = search in p .read-coordinate2 .ensures) in
+    no-y (coordinate-at (sym (x-given .1) ∙ read-coordinate-ensures)) (record { value = bad-at coordinate _ _ (sym (c .enum-told2 .given .1) ∙ read-coordinate2-ensures) })
 
 read-coordinate-requires-3 : tie.Need-read-coordinate-requires-3
 read-coordinate-requires-3 c κs = search needs
@@ -45,13 +49,24 @@ enum-told-3 c = search needs
 
 returns-3 : tie.Need-returns-3
 returns-3 c =
-    no-z (coordinate-at (sym (c .before .before .before .before .before .before .before .before .x .given .1) ∙ c .before .before .before .before .before .before .before .before .before .before .read-coordinate .ensures)) (coordinate-at (sym (c .before .before .before .before .y .given .1) ∙ c .before .before .before .before .before .before .read-coordinate2 .ensures))
-    (record { value = bad-at coordinate _ _ (sym (c .enum-told3 .given .1) ∙ c .before .before .read-coordinate3 .ensures) })
+    let read-coordinate-ensures = (let p : tie.After-read-coordinate = search in p .read-coordinate .ensures) in
+    let x-given = (let p : tie.After-x = search in p .x .given) in
+    let read-coordinate2-ensures = (let p : tie.After-read-coordinate2 = search in p .read-coordinate2 .ensures) in
+    let y-given = (let p : tie.After-y = search in p .y .given) in
+    let read-coordinate3-ensures = (let p : tie.After-read-coordinate3 = search in p .read-coordinate3 .ensures) in
+    no-z (coordinate-at (sym (x-given .1) ∙ read-coordinate-ensures)) (coordinate-at (sym (y-given .1) ∙ read-coordinate2-ensures))
+    (record { value = bad-at coordinate _ _ (sym (c .enum-told3 .given .1) ∙ read-coordinate3-ensures) })
 
 returns-4 : tie.Need-returns-4
 returns-4 c =
-    three-read (coordinate-at (sym (c .before .before .before .before .before .before .before .before .before .x .given .1) ∙ c .before .before .before .before .before .before .before .before .before .before .before .read-coordinate .ensures)) (coordinate-at (sym (c .before .before .before .before .before .y .given .1) ∙ c .before .before .before .before .before .before .before .read-coordinate2 .ensures))
-    (coordinate-at (sym (c .before .z .given .1) ∙ c .before .before .before .read-coordinate3 .ensures))
+    let read-coordinate-ensures = (let p : tie.After-read-coordinate = search in p .read-coordinate .ensures) in
+    let x-given = (let p : tie.After-x = search in p .x .given) in
+    let read-coordinate2-ensures = (let p : tie.After-read-coordinate2 = search in p .read-coordinate2 .ensures) in
+    let y-given = (let p : tie.After-y = search in p .y .given) in
+    let read-coordinate3-ensures = (let p : tie.After-read-coordinate3 = search in p .read-coordinate3 .ensures) in
+    let z-given = (let p : tie.After-z = search in p .z .given) in
+    three-read (coordinate-at (sym (x-given .1) ∙ read-coordinate-ensures)) (coordinate-at (sym (y-given .1) ∙ read-coordinate2-ensures))
+    (coordinate-at (sym (z-given .1) ∙ read-coordinate3-ensures))
 
 pub read-point-spec : {M : Type 1} → statement M
 read-point-spec =

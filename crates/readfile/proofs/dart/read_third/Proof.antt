@@ -19,11 +19,14 @@ enum-told c = search needs
 
 returns : tie.Need-returns
 returns c =
-    no-kind (record { value = bad-at (at-most 2) _ _ (sym (c .enum-told .given .1) ∙ c .before .before .read-at-most .ensures) })
+    let read-at-most-ensures = (let p : tie.After-read-at-most = search in p .read-at-most .ensures) in
+    no-kind (record { value = bad-at (at-most 2) _ _ (sym (c .enum-told .given .1) ∙ read-at-most-ensures) })
 
 returns-2 : tie.Need-returns-2
 returns-2 c =
-    let kind = at-most-at 2 (sym (c .before .before .kind .given .1) ∙ c .before .before .before .before .read-at-most .ensures) in
+    let read-at-most-ensures = (let p : tie.After-read-at-most = search in p .read-at-most .ensures) in
+    let kind-given = (let p : tie.After-kind = search in p .kind .given) in
+    let kind = at-most-at 2 (sym (kind-given .1) ∙ read-at-most-ensures) in
     kind-is 0 kind (c .if1 .taken) (free-read _ _ (kind .within))
 
 read-critical-requires : tie.Need-read-critical-requires
@@ -31,7 +34,10 @@ read-critical-requires c κs = search needs
 
 returns-3 : tie.Need-returns-3
 returns-3 c =
-    kind-is 2 (at-most-at 2 (sym (c .before .before .before .before .kind .given .1) ∙ c .before .before .before .before .before .before .read-at-most .ensures)) (c .before .if2 .taken) (c .read-critical .ensures)
+    let read-at-most-ensures = (let p : tie.After-read-at-most = search in p .read-at-most .ensures) in
+    let kind-given = (let p : tie.After-kind = search in p .kind .given) in
+    let if2-taken = (let p : tie.Then2 = search in p .if2 .taken) in
+    kind-is 2 (at-most-at 2 (sym (kind-given .1) ∙ read-at-most-ensures)) if2-taken (c .read-critical .ensures)
 
 read-serial-requires : tie.Need-read-serial-requires
 read-serial-requires c κs = search needs
@@ -44,13 +50,24 @@ enum-told-2 c = search needs
 
 returns-4 : tie.Need-returns-4
 returns-4 c =
-    let kind = at-most-at 2 (sym (c .before .before .before .before .before .before .kind .given .1) ∙ c .before .before .before .before .before .before .before .before .read-at-most .ensures) in
-    kind-is 1 kind (kind-one kind (c .before .before .before .before .if1 .left) (c .before .before .before .if2 .left)) (no-sewn (record { value = bad-at serial _ _ (sym (c .enum-told2 .given .1) ∙ c .before .before .read-serial .ensures) }))
+    let read-at-most-ensures = (let p : tie.After-read-at-most = search in p .read-at-most .ensures) in
+    let kind-given = (let p : tie.After-kind = search in p .kind .given) in
+    let if1-left = (let p : tie.Else1 = search in p .if1 .left) in
+    let if2-left = (let p : tie.Else2 = search in p .if2 .left) in
+    let read-serial-ensures = (let p : tie.After-read-serial = search in p .read-serial .ensures) in
+    let kind = at-most-at 2 (sym (kind-given .1) ∙ read-at-most-ensures) in
+    kind-is 1 kind (kind-one kind if1-left if2-left) (no-sewn (record { value = bad-at serial _ _ (sym (c .enum-told2 .given .1) ∙ read-serial-ensures) }))
 
 returns-5 : tie.Need-returns-5
 returns-5 c =
-    let kind = at-most-at 2 (sym (c .before .before .before .before .before .before .before .kind .given .1) ∙ c .before .before .before .before .before .before .before .before .before .read-at-most .ensures) in
-    kind-is 1 kind (kind-one kind (c .before .before .before .before .before .if1 .left) (c .before .before .before .before .if2 .left)) (sewn-read (serial-at (sym (c .before .sewn .given .1) ∙ c .before .before .before .read-serial .ensures)))
+    let read-at-most-ensures = (let p : tie.After-read-at-most = search in p .read-at-most .ensures) in
+    let kind-given = (let p : tie.After-kind = search in p .kind .given) in
+    let if1-left = (let p : tie.Else1 = search in p .if1 .left) in
+    let if2-left = (let p : tie.Else2 = search in p .if2 .left) in
+    let read-serial-ensures = (let p : tie.After-read-serial = search in p .read-serial .ensures) in
+    let sewn-given = (let p : tie.After-sewn = search in p .sewn .given) in
+    let kind = at-most-at 2 (sym (kind-given .1) ∙ read-at-most-ensures) in
+    kind-is 1 kind (kind-one kind if1-left if2-left) (sewn-read (serial-at (sym (sewn-given .1) ∙ read-serial-ensures)))
 
 pub read-third-spec : {M : Type 1} → statement M
 read-third-spec =

@@ -10,7 +10,8 @@ place-near-requires c κs = search needs
 
 returns : tie.Need-returns
 returns c =
-    sewn-place _ _ _ _ (c .before .if1 .taken) (c .place-near .ensures)
+    let if1-taken = (let p : tie.Then1 = search in p .if1 .taken) in
+    sewn-place _ _ _ _ if1-taken (c .place-near .ensures)
 
 returns-2 : tie.Need-returns-2
 returns-2 c =

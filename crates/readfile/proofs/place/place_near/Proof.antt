@@ -15,7 +15,9 @@ field-requires c κs = search needs
 
 returns : tie.Need-returns
 returns c =
-    place-is _ _ _ (c .before .before .before .before .before .pre .2) _ (omega arith) (sym (c .before .field .ensures) ∙ c .if2 .taken)
+    let start : tie.Start = search in
+    let field-ensures = (let p : tie.After-field = search in p .field .ensures) in
+    place-is _ _ _ (start .pre .2) _ (omega arith) (sym field-ensures ∙ c .if2 .taken)
 
 place-of-requires : tie.Need-place-of-requires
 place-of-requires c κs = search needs
@@ -28,11 +30,15 @@ enum-told c = search needs
 
 returns-2 : tie.Need-returns-2
 returns-2 c =
-    place-found _ _ _ (c .before .before .before .before .before .before .before .pre .2) (c .before .before .before .place-of .ensures) (c .before .q .given .1)
+    let start : tie.Start = search in
+    let place-of-ensures = (let p : tie.After-place-of = search in p .place-of .ensures) in
+    let q-given = (let p : tie.After-q = search in p .q .given) in
+    place-found _ _ _ (start .pre .2) place-of-ensures (q-given .1)
 
 returns-3 : tie.Need-returns-3
 returns-3 c =
-    no-place _ _ _ (c .before .before .place-of .ensures) (c .enum-told .given .1)
+    let place-of-ensures = (let p : tie.After-place-of = search in p .place-of .ensures) in
+    no-place _ _ _ place-of-ensures (c .enum-told .given .1)
 
 pub place-near-spec : {M : Type 1} → statement M
 place-near-spec =

@@ -25,7 +25,10 @@ loop-holds c =
 
 resolve-dart-requires : tie.Need-resolve-dart-requires Inv-loop μ-loop
 resolve-dart-requires c κs =
-    (c .before .loop-test .taken, c .before .before .before .before .before .pre .1, placing-length (c .before .before .loop .inv) (omega arith) ∙ c .before .before .before .before .before .pre .0, placing-ascends (c .before .before .loop .inv) (omega arith) (c .before .before .before .before .before .pre .2))
+    let start : tie.Start Inv-loop μ-loop = search in
+    let loop-inv = (let p : tie.At-loop Inv-loop μ-loop = search in p .loop .inv) in
+    let loop-test-taken = (let p : tie.In-loop Inv-loop μ-loop = search in p .loop-test .taken) in
+    (loop-test-taken, start .pre .1, placing-length loop-inv (omega arith) ∙ start .pre .0, placing-ascends loop-inv (omega arith) (start .pre .2))
 
 add-i : tie.Need-add-i Inv-loop μ-loop
 add-i c = search needs
@@ -35,15 +38,20 @@ loop-less c = search needs
 
 loop-again : tie.Need-loop-again Inv-loop μ-loop
 loop-again c =
-    placing-more (c .before .before .before .before .before .loop .inv) (omega arith) (c .before .before .before .before .loop-test .taken) (c .before .before .resolve-dart .ensures)
+    let loop-inv = (let p : tie.At-loop Inv-loop μ-loop = search in p .loop .inv) in
+    let loop-test-taken = (let p : tie.In-loop Inv-loop μ-loop = search in p .loop-test .taken) in
+    let resolve-dart-ensures = (let p : tie.After-resolve-dart Inv-loop μ-loop = search in p .resolve-dart .ensures) in
+    placing-more loop-inv (omega arith) loop-test-taken resolve-dart-ensures
 
 same-length : tie.Need-same-length Inv-loop μ-loop
 same-length c =
-    placing-length (c .before .loop .inv) (omega arith)
+    let loop-inv = (let p : tie.At-loop Inv-loop μ-loop = search in p .loop .inv) in
+    placing-length loop-inv (omega arith)
 
 returns : tie.Need-returns Inv-loop μ-loop
 returns c =
-    placing-ends (c .before .loop .inv) (omega arith) (c .loop-test .left)
+    let loop-inv = (let p : tie.At-loop Inv-loop μ-loop = search in p .loop .inv) in
+    placing-ends loop-inv (omega arith) (c .loop-test .left)
 
 pub resolve-spec : {M : Type 1} → statement M
 resolve-spec =

@@ -25,7 +25,13 @@ same-length c = search needs
 
 returns : tie.Need-returns
 returns c =
-    record-placed _ (c .before .before .before .before .before .before .before .before .before .before .before .before .before .args .block .now) (c .before .before .before .before .before .before .before .before .before .before .before .before .before .args .p) (c .before .before .before .before .before .before .before .before .before .before .record-at .ensures) (c .before .before .before .before .before .before .before .before .place-near .ensures) (c .before .before .before .before .before .before .place-near2 .ensures) (c .before .before .before .before .link-place .ensures) (c .before .before .put-record .ensures)
+    let start : tie.Start = search in
+    let record-at-ensures = (let p : tie.After-record-at = search in p .record-at .ensures) in
+    let place-near-ensures = (let p : tie.After-place-near = search in p .place-near .ensures) in
+    let place-near2-ensures = (let p : tie.After-place-near2 = search in p .place-near2 .ensures) in
+    let link-place-ensures = (let p : tie.After-link-place = search in p .link-place .ensures) in
+    let put-record-ensures = (let p : tie.After-put-record = search in p .put-record .ensures) in
+    record-placed _ (start .args .block .now) (start .args .p) record-at-ensures place-near-ensures place-near2-ensures link-place-ensures put-record-ensures
 
 pub resolve-dart-spec : {M : Type 1} → statement M
 resolve-dart-spec =

@@ -18,11 +18,14 @@ abbrev μ-loop : tie.MeasureT-loop
 
 loop-holds : tie.Need-loop-holds Inv-loop μ-loop
 loop-holds c =
-    fill-start _ _ _ _ (c .before .before .pre .0)
+    let start : tie.Start Inv-loop μ-loop = search in
+    fill-start _ _ _ _ (start .pre .0)
 
 store-dart-requires : tie.Need-store-dart-requires Inv-loop μ-loop
 store-dart-requires c κs =
-    (omega arith, fill-length (c .before .before .loop .inv) (omega arith) ∙ c .before .before .before .before .before .pre .2)
+    let start : tie.Start Inv-loop μ-loop = search in
+    let loop-inv = (let p : tie.At-loop Inv-loop μ-loop = search in p .loop .inv) in
+    (omega arith, fill-length loop-inv (omega arith) ∙ start .pre .2)
 
 enum-known-serial : tie.Need-enum-known-serial Inv-loop μ-loop
 enum-known-serial c = search needs
@@ -32,11 +35,16 @@ enum-told c = search needs
 
 same-length : tie.Need-same-length Inv-loop μ-loop
 same-length c =
-    c .before .before .before .before .store-dart .kept .1 .1 .1 .0 ∙ fill-length (c .before .before .before .before .before .before .before .loop .inv) (omega arith)
+    let loop-inv = (let p : tie.At-loop Inv-loop μ-loop = search in p .loop .inv) in
+    let store-dart-kept = (let p : tie.After-store-dart Inv-loop μ-loop = search in p .store-dart .kept) in
+    store-dart-kept .1 .1 .1 .0 ∙ fill-length loop-inv (omega arith)
 
 returns : tie.Need-returns Inv-loop μ-loop
 returns c =
-    fill-fails (c .before .before .before .before .before .before .before .loop .inv) (c .before .before .before .before .before .before .loop-test .taken) (rw (c .enum-told .given .1) at (c .before .before .before .before .store-dart .ensures))
+    let loop-inv = (let p : tie.At-loop Inv-loop μ-loop = search in p .loop .inv) in
+    let loop-test-taken = (let p : tie.In-loop Inv-loop μ-loop = search in p .loop-test .taken) in
+    let store-dart-ensures = (let p : tie.After-store-dart Inv-loop μ-loop = search in p .store-dart .ensures) in
+    fill-fails loop-inv loop-test-taken (rw (c .enum-told .given .1) at store-dart-ensures)
 
 add-i : tie.Need-add-i Inv-loop μ-loop
 add-i c = search needs
@@ -46,15 +54,21 @@ loop-less c = search needs
 
 loop-again : tie.Need-loop-again Inv-loop μ-loop
 loop-again c =
-    fill-more (c .before .before .before .before .before .before .before .before .loop .inv) (c .before .before .before .before .before .before .before .loop-test .taken) (omega arith) (rw (c .before .serial .given .1) at (c .before .before .before .before .before .store-dart .ensures))
+    let loop-inv = (let p : tie.At-loop Inv-loop μ-loop = search in p .loop .inv) in
+    let loop-test-taken = (let p : tie.In-loop Inv-loop μ-loop = search in p .loop-test .taken) in
+    let store-dart-ensures = (let p : tie.After-store-dart Inv-loop μ-loop = search in p .store-dart .ensures) in
+    let serial-given = (let p : tie.After-serial Inv-loop μ-loop = search in p .serial .given) in
+    fill-more loop-inv loop-test-taken (omega arith) (rw (serial-given .1) at store-dart-ensures)
 
 same-length-2 : tie.Need-same-length-2 Inv-loop μ-loop
 same-length-2 c =
-    fill-length (c .before .loop .inv) (omega arith)
+    let loop-inv = (let p : tie.At-loop Inv-loop μ-loop = search in p .loop .inv) in
+    fill-length loop-inv (omega arith)
 
 returns-2 : tie.Need-returns-2 Inv-loop μ-loop
 returns-2 c =
-    fill-ends (c .before .loop .inv) (c .loop-test .left)
+    let loop-inv = (let p : tie.At-loop Inv-loop μ-loop = search in p .loop .inv) in
+    fill-ends loop-inv (c .loop-test .left)
 
 pub read-darts-spec : {M : Type 1} → statement M
 read-darts-spec =

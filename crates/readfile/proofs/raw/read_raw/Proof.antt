@@ -21,7 +21,8 @@ enum-told c = search needs
 
 returns : tie.Need-returns
 returns c =
-    raw-refused (no-number (record { value = bad-at (at-most 15) _ _ (sym (c .enum-told .given .1) ∙ c .before .before .read-at-most .ensures) }))
+    let read-at-most-ensures = (let p : tie.After-read-at-most = search in p .read-at-most .ensures) in
+    raw-refused (no-number (record { value = bad-at (at-most 15) _ _ (sym (c .enum-told .given .1) ∙ read-at-most-ensures) }))
 
 read-group-requires : tie.Need-read-group-requires
 read-group-requires c κs = search needs
@@ -34,7 +35,10 @@ enum-told-2 c = search needs
 
 returns-2 : tie.Need-returns-2
 returns-2 c =
-    raw-refused (no-counter (at-most-at 15 (sym (c .before .before .before .before .number .given .1) ∙ c .before .before .before .before .before .before .read-at-most .ensures)) (record { value = bad-at group _ _ (sym (c .enum-told2 .given .1) ∙ c .before .before .read-group .ensures) }))
+    let read-at-most-ensures = (let p : tie.After-read-at-most = search in p .read-at-most .ensures) in
+    let number-given = (let p : tie.After-number = search in p .number .given) in
+    let read-group-ensures = (let p : tie.After-read-group = search in p .read-group .ensures) in
+    raw-refused (no-counter (at-most-at 15 (sym (number-given .1) ∙ read-at-most-ensures)) (record { value = bad-at group _ _ (sym (c .enum-told2 .given .1) ∙ read-group-ensures) }))
 
 read-group-requires-2 : tie.Need-read-group-requires-2
 read-group-requires-2 c κs = search needs
@@ -47,18 +51,32 @@ enum-told-3 c = search needs
 
 returns-3 : tie.Need-returns-3
 returns-3 c =
-    raw-refused (no-count (at-most-at 15 (sym (c .before .before .before .before .before .before .before .before .number .given .1) ∙ c .before .before .before .before .before .before .before .before .before .before .read-at-most .ensures))
-    (group-at (sym (c .before .before .before .before .counter .given .1) ∙ c .before .before .before .before .before .before .read-group .ensures)) (record { value = bad-at group _ _ (sym (c .enum-told3 .given .1) ∙ c .before .before .read-group2 .ensures) }))
+    let read-at-most-ensures = (let p : tie.After-read-at-most = search in p .read-at-most .ensures) in
+    let number-given = (let p : tie.After-number = search in p .number .given) in
+    let read-group-ensures = (let p : tie.After-read-group = search in p .read-group .ensures) in
+    let counter-given = (let p : tie.After-counter = search in p .counter .given) in
+    let read-group2-ensures = (let p : tie.After-read-group2 = search in p .read-group2 .ensures) in
+    raw-refused (no-count (at-most-at 15 (sym (number-given .1) ∙ read-at-most-ensures))
+    (group-at (sym (counter-given .1) ∙ read-group-ensures)) (record { value = bad-at group _ _ (sym (c .enum-told3 .given .1) ∙ read-group2-ensures) }))
 
 returns-4 : tie.Need-returns-4
 returns-4 c =
-    raw-refused (too-many (at-most-at 15 (sym (c .before .before .before .before .before .before .before .before .before .before .number .given .1) ∙ c .before .before .before .before .before .before .before .before .before .before .before .before .read-at-most .ensures))
-    (group-at (sym (c .before .before .before .before .before .before .counter .given .1) ∙ c .before .before .before .before .before .before .before .before .read-group .ensures))
-    (group-at (sym (c .before .before .count .given .1) ∙ c .before .before .before .before .read-group2 .ensures)) (c .if1 .taken))
+    let read-at-most-ensures = (let p : tie.After-read-at-most = search in p .read-at-most .ensures) in
+    let number-given = (let p : tie.After-number = search in p .number .given) in
+    let read-group-ensures = (let p : tie.After-read-group = search in p .read-group .ensures) in
+    let counter-given = (let p : tie.After-counter = search in p .counter .given) in
+    let read-group2-ensures = (let p : tie.After-read-group2 = search in p .read-group2 .ensures) in
+    let count-given = (let p : tie.After-count = search in p .count .given) in
+    raw-refused (too-many (at-most-at 15 (sym (number-given .1) ∙ read-at-most-ensures))
+    (group-at (sym (counter-given .1) ∙ read-group-ensures))
+    (group-at (sym (count-given .1) ∙ read-group2-ensures)) (c .if1 .taken))
 
 read-darts-requires : tie.Need-read-darts-requires
 read-darts-requires c κs =
-    (group-at (sym (c .before .before .before .count .given .1) ∙ c .before .before .before .before .before .read-group2 .ensures) .within, omega arith, zeros-length words _ (c .before .before .before .before .before .before .before .before .before .before .before .before .before .before .before .before .pre))
+    let start : tie.Start = search in
+    let read-group2-ensures = (let p : tie.After-read-group2 = search in p .read-group2 .ensures) in
+    let count-given = (let p : tie.After-count = search in p .count .given) in
+    (group-at (sym (count-given .1) ∙ read-group2-ensures) .within, omega arith, zeros-length words _ (start .pre))
 
 enum-known-past : tie.Need-enum-known-past
 enum-known-past c = search needs
@@ -71,33 +89,61 @@ same-length c = search needs
 
 returns-5 : tie.Need-returns-5
 returns-5 c =
-    raw-refused (no-darts (at-most-at 15 (sym (c .before .before .before .before .before .before .before .before .before .before .before .before .before .before .before .before .number .given .1) ∙ c .before .before .before .before .before .before .before .before .before .before .before .before .before .before .before .before .before .before .read-at-most .ensures))
-    (group-at (sym (c .before .before .before .before .before .before .before .before .before .before .before .before .counter .given .1) ∙ c .before .before .before .before .before .before .before .before .before .before .before .before .before .before .read-group .ensures))
-    (group-at (sym (c .before .before .before .before .before .before .before .before .count .given .1) ∙ c .before .before .before .before .before .before .before .before .before .before .read-group2 .ensures)) (omega arith)
-    (sym (c .enum-told4 .given .1) ∙ c .before .before .before .before .read-darts .ensures .answer))
+    let read-at-most-ensures = (let p : tie.After-read-at-most = search in p .read-at-most .ensures) in
+    let number-given = (let p : tie.After-number = search in p .number .given) in
+    let read-group-ensures = (let p : tie.After-read-group = search in p .read-group .ensures) in
+    let counter-given = (let p : tie.After-counter = search in p .counter .given) in
+    let read-group2-ensures = (let p : tie.After-read-group2 = search in p .read-group2 .ensures) in
+    let count-given = (let p : tie.After-count = search in p .count .given) in
+    let read-darts-ensures = (let p : tie.After-read-darts = search in p .read-darts .ensures) in
+    raw-refused (no-darts (at-most-at 15 (sym (number-given .1) ∙ read-at-most-ensures))
+    (group-at (sym (counter-given .1) ∙ read-group-ensures))
+    (group-at (sym (count-given .1) ∙ read-group2-ensures)) (omega arith)
+    (sym (c .enum-told4 .given .1) ∙ read-darts-ensures .answer))
 
 same-length-2 : tie.Need-same-length-2
 same-length-2 c = search needs
 
 returns-6 : tie.Need-returns-6
 returns-6 c =
-    raw-refused (left-over (at-most-at 15 (sym (c .before .before .before .before .before .before .before .before .before .before .before .before .before .before .before .before .before .before .number .given .1) ∙ c .before .before .before .before .before .before .before .before .before .before .before .before .before .before .before .before .before .before .before .before .read-at-most .ensures))
-    (group-at (sym (c .before .before .before .before .before .before .before .before .before .before .before .before .before .before .counter .given .1) ∙ c .before .before .before .before .before .before .before .before .before .before .before .before .before .before .before .before .read-group .ensures))
-    (group-at (sym (c .before .before .before .before .before .before .before .before .before .before .count .given .1) ∙ c .before .before .before .before .before .before .before .before .before .before .before .before .read-group2 .ensures)) (omega arith)
-    (sym (c .before .before .past .given .1) ∙ c .before .before .before .before .before .before .read-darts .ensures .answer) (c .if2 .taken))
+    let read-at-most-ensures = (let p : tie.After-read-at-most = search in p .read-at-most .ensures) in
+    let number-given = (let p : tie.After-number = search in p .number .given) in
+    let read-group-ensures = (let p : tie.After-read-group = search in p .read-group .ensures) in
+    let counter-given = (let p : tie.After-counter = search in p .counter .given) in
+    let read-group2-ensures = (let p : tie.After-read-group2 = search in p .read-group2 .ensures) in
+    let count-given = (let p : tie.After-count = search in p .count .given) in
+    let read-darts-ensures = (let p : tie.After-read-darts = search in p .read-darts .ensures) in
+    let past-given = (let p : tie.After-past = search in p .past .given) in
+    raw-refused (left-over (at-most-at 15 (sym (number-given .1) ∙ read-at-most-ensures))
+    (group-at (sym (counter-given .1) ∙ read-group-ensures))
+    (group-at (sym (count-given .1) ∙ read-group2-ensures)) (omega arith)
+    (sym (past-given .1) ∙ read-darts-ensures .answer) (c .if2 .taken))
 
 write-requires : tie.Need-write-requires
 write-requires c κs =
-    omega (arith, c .before .before .before .before .before .before .before .read-darts .kept .1 .1 .1 .0, zeros-length words _ (c .before .before .before .before .before .before .before .before .before .before .before .before .before .before .before .before .before .before .before .before .before .before .before .before .pre))
+    let read-darts-kept = (let p : tie.After-read-darts = search in p .read-darts .kept) in
+    let c : tie.After-read-darts = search in
+    let start : tie.Start = search in
+    omega (arith, read-darts-kept .1 .1 .1 .0, zeros-length words _ (start .pre))
 
 same-length-3 : tie.Need-same-length-3
 same-length-3 c = search needs
 
 returns-7 : tie.Need-returns-7
 returns-7 c =
-    raw-served (at-most-at 15 (sym (c .before .before .before .before .before .before .before .before .before .before .before .before .before .before .before .before .before .before .before .before .before .before .number .given .1) ∙ c .before .before .before .before .before .before .before .before .before .before .before .before .before .before .before .before .before .before .before .before .before .before .before .before .read-at-most .ensures))
-    (group-at (sym (c .before .before .before .before .before .before .before .before .before .before .before .before .before .before .before .before .before .before .counter .given .1) ∙ c .before .before .before .before .before .before .before .before .before .before .before .before .before .before .before .before .before .before .before .before .read-group .ensures))
-    (group-at (sym (c .before .before .before .before .before .before .before .before .before .before .before .before .before .before .count .given .1) ∙ c .before .before .before .before .before .before .before .before .before .before .before .before .before .before .before .before .read-group2 .ensures)) (omega arith) words _ refl (c .before .before .before .before .before .before .before .before .before .before .before .before .before .before .before .before .before .before .before .before .before .before .before .before .before .before .before .pre) (rw (c .before .before .before .before .before .before .past .given .1) at (c .before .before .before .before .before .before .before .before .before .before .read-darts .ensures)) (omega arith) (c .before .before .write .ensures)
+    let start : tie.Start = (let c : tie.After-read-group = search in search) in
+    let read-at-most-ensures = (let c : tie.After-read-group = search in let p : tie.After-read-at-most = search in p .read-at-most .ensures) in
+    let number-given = (let c : tie.After-read-group = search in let p : tie.After-number = search in p .number .given) in
+    let read-group-ensures = (let p : tie.After-read-group = search in p .read-group .ensures) in
+    let counter-given = (let p : tie.After-counter = search in p .counter .given) in
+    let read-group2-ensures = (let p : tie.After-read-group2 = search in p .read-group2 .ensures) in
+    let count-given = (let p : tie.After-count = search in p .count .given) in
+    let read-darts-ensures = (let p : tie.After-read-darts = search in p .read-darts .ensures) in
+    let past-given = (let p : tie.After-past = search in p .past .given) in
+    let write-ensures = (let p : tie.After-write = search in p .write .ensures) in
+    raw-served (at-most-at 15 (sym (number-given .1) ∙ read-at-most-ensures))
+    (group-at (sym (counter-given .1) ∙ read-group-ensures))
+    (group-at (sym (count-given .1) ∙ read-group2-ensures)) (omega arith) words _ refl (start .pre) (rw (past-given .1) at read-darts-ensures) (omega arith) write-ensures
 
 pub read-raw-spec : {M : Type 1} → statement M
 read-raw-spec =

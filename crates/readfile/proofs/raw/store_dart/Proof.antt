@@ -18,11 +18,14 @@ enum-told c = search needs
 
 returns : tie.Need-returns
 returns c =
-    no-dart-stored _ _ _ (dart-lacks (sym (c .enum-told .given .1) ∙ c .before .before .read-dart .ensures))
+    let read-dart-ensures = (let p : tie.After-read-dart = search in p .read-dart .ensures) in
+    no-dart-stored _ _ _ (dart-lacks (sym (c .enum-told .given .1) ∙ read-dart-ensures))
 
 returns-2 : tie.Need-returns-2
 returns-2 c =
-    not-above _ _ _ (dart-got (sym (c .before .before .r .given .1) ∙ c .before .before .before .before .read-dart .ensures)) (c .if1 .taken)
+    let read-dart-ensures = (let p : tie.After-read-dart = search in p .read-dart .ensures) in
+    let r-given = (let p : tie.After-r = search in p .r .given) in
+    not-above _ _ _ (dart-got (sym (r-given .1) ∙ read-dart-ensures)) (c .if1 .taken)
 
 put-record-requires : tie.Need-put-record-requires
 put-record-requires c κs = search needs
@@ -32,7 +35,11 @@ same-length c = search needs
 
 returns-3 : tie.Need-returns-3
 returns-3 c =
-    dart-stored _ _ _ (dart-got (sym (c .before .before .before .before .before .before .r .given .1) ∙ c .before .before .before .before .before .before .before .before .read-dart .ensures)) (c .before .before .before .before .if1 .left) (c .before .before .put-record .ensures)
+    let read-dart-ensures = (let p : tie.After-read-dart = search in p .read-dart .ensures) in
+    let r-given = (let p : tie.After-r = search in p .r .given) in
+    let if1-left = (let p : tie.Else1 = search in p .if1 .left) in
+    let put-record-ensures = (let p : tie.After-put-record = search in p .put-record .ensures) in
+    dart-stored _ _ _ (dart-got (sym (r-given .1) ∙ read-dart-ensures)) if1-left put-record-ensures
 
 pub store-dart-spec : {M : Type 1} → statement M
 store-dart-spec =

@@ -15,19 +15,26 @@ use Rattle.receive.proofs.asks.questions.Tie as tie
 
 for-here-requires : tie.Need-for-here-requires
 for-here-requires c κs =
-    (sited rack (c .before .before .before .before .before .before .before .before .before .before .before .before .before .before .args .block .now) (c .before .before .before .before .before .before .before .before .before .before .before .before .before .before .pre .0 .0)) .linked .size
+    let start : tie.Start = search in
+    (sited rack (start .args .block .now) (start .pre .0 .0)) .linked .size
 
 returns : tie.Need-returns
 returns c =
-    (no-17 (c .before .before .before .before .before .before .before .before .before .before .before .before .before .before .before .before .args .block .now) (c .before .for-here .ensures) (c .if1 .taken), c .before .before .before .before .before .before .before .before .before .before .before .before .before .before .before .before .pre .1 .6, c .before .before .before .before .before .before .before .before .before .before .before .before .before .before .before .before .pre .1 .7)
+    let start : tie.Start = search in
+    let for-here-ensures = (let p : tie.After-for-here = search in p .for-here .ensures) in
+    (no-17 (start .args .block .now) for-here-ensures (c .if1 .taken), start .pre .1 .6, start .pre .1 .7)
 
 shared-slice-read-n : tie.Need-shared-slice-read-n
 shared-slice-read-n c =
-    let l = (sited rack (c .before .before .before .before .before .before .before .before .before .before .before .before .before .before .before .before .before .args .block .now) (c .before .before .before .before .before .before .before .before .before .before .before .before .before .before .before .before .before .pre .0 .0)) .linked .size in omega (arith, l)
+    let start : tie.Start = search in
+    let l = (sited rack (start .args .block .now) (start .pre .0 .0)) .linked .size in omega (arith, l)
 
 new-serials-requires : tie.Need-new-serials-requires
 new-serials-requires c κs =
-    ((refl, (sited rack (c .before .before .before .before .before .before .before .before .before .before .before .before .before .before .before .before .before .before .before .args .block .now) (c .before .before .before .before .before .before .before .before .before .before .before .before .before .before .before .before .before .before .before .pre .0 .0)) .linked .few, (sited rack (c .before .before .before .before .before .before .before .before .before .before .before .before .before .before .before .before .before .before .before .args .block .now) (c .before .before .before .before .before .before .before .before .before .before .before .before .before .before .before .before .before .before .before .pre .0 .0)) .linked .size, (sited rack (c .before .before .before .before .before .before .before .before .before .before .before .before .before .before .before .before .before .before .before .args .block .now) (c .before .before .before .before .before .before .before .before .before .before .before .before .before .before .before .before .before .before .before .pre .0 .0)) .ascends, λ p h. image-passed (c .before .before .before .before .before .before .before .before .before .before .before .before .before .before .before .before .before .before .before .args .block .now) (c .before .before .before .before .before .before .before .before .before .before .before .before .before .before .before .before .before .before .before .pre .0 .0) .range .serial-small p h), (c .before .before .before .before .before .before .before .before .before .before .before .before .before .before .before .before .before .before .before .pre .0 .1 .serial-size, c .before .before .before .before .before .before .before .before .before .before .before .before .before .before .before .before .before .before .before .pre .1 .0, c .before .before .before .before .before .before .before .before .before .before .before .before .before .before .before .before .before .before .before .pre .1 .1, (told-of (c .before .before .before .before .before .before .before .before .before .before .before .before .before .before .before .before .before .before .before .pre .0 .2 .2)) .some-darts, (told-of (c .before .before .before .before .before .before .before .before .before .before .before .before .before .before .before .before .before .before .before .pre .0 .2 .2)) .few, (told-of (c .before .before .before .before .before .before .before .before .before .before .before .before .before .before .before .before .before .before .before .pre .0 .2 .2)) .points-fit, (serials-small (bytes-in (c .before .before .before .before .before .before .before .before .before .before .before .before .before .before .before .before .before .before .before .args .message .now) (λ i. fits-lt-pow (c .before .before .before .before .before .before .before .before .before .before .before .before .before .before .before .before .before .shared-slice-known2 .given i))) (c .before .before .before .before .before .before .before .before .before .before .before .before .before .before .before .before .before .before .before .pre .0 .2 .1) (c .before .before .before .before .before .before .before .before .before .before .before .before .before .before .before .before .before .before .before .pre .0 .2 .2))))
+    let c : tie.After-shared-slice-known6 = search in
+    let shared-slice-known2-given = (let p : tie.After-shared-slice-known2 = search in p .shared-slice-known2 .given) in
+    let start : tie.Start = search in
+    ((refl, (sited rack (start .args .block .now) (start .pre .0 .0)) .linked .few, (sited rack (start .args .block .now) (start .pre .0 .0)) .linked .size, (sited rack (start .args .block .now) (start .pre .0 .0)) .ascends, λ p h. image-passed (start .args .block .now) (start .pre .0 .0) .range .serial-small p h), (start .pre .0 .1 .serial-size, start .pre .1 .0, start .pre .1 .1, (told-of (start .pre .0 .2 .2)) .some-darts, (told-of (start .pre .0 .2 .2)) .few, (told-of (start .pre .0 .2 .2)) .points-fit, (serials-small (bytes-in (start .args .message .now) (λ i. fits-lt-pow (shared-slice-known2-given i))) (start .pre .0 .2 .1) (start .pre .0 .2 .2))))
 
 same-length : tie.Need-same-length
 same-length c = search needs
@@ -37,11 +44,21 @@ same-length-2 c = search needs
 
 returns-2 : tie.Need-returns-2
 returns-2 c =
-    (no-18 (c .before .before .before .before .before .before .before .before .before .before .before .before .before .before .before .before .before .before .before .before .before .before .before .before .before .args .block .now) (c .before .before .before .before .before .before .before .before .before .before .for-here .ensures) (c .before .before .before .before .before .before .before .before .before .if1 .left) (let l = c .before .before .before .before .before .before .before .before .before .before .before .before .before .before .before .before .before .before .before .before .before .before .before .before .before .pre .0 .1 .serial-size in let f = (told-of (c .before .before .before .before .before .before .before .before .before .before .before .before .before .before .before .before .before .before .before .before .before .before .before .before .before .pre .0 .2 .2)) .few in omega (arith, l, f)) (c .before .before .before .before .before .new-serials .ensures .0) (c .if2 .taken), c .before .before .before .before .before .before .before .before .before .before .before .before .before .before .before .before .before .before .before .before .before .before .before .before .before .pre .1 .6, c .before .before .before .before .before .before .before .before .before .before .before .before .before .before .before .before .before .before .before .before .before .before .before .before .before .pre .1 .7)
+    let if2-taken = (let p : tie.Then2 = search in p .if2 .taken) in
+    let new-serials-ensures = (let p : tie.After-new-serials = search in p .new-serials .ensures) in
+    let if1-left = (let p : tie.Else1 = search in p .if1 .left) in
+    let for-here-ensures = (let p : tie.After-for-here = search in p .for-here .ensures) in
+    let c : tie.After-for-here = search in
+    let start : tie.Start = search in
+    (no-18 (start .args .block .now) for-here-ensures if1-left (let l = start .pre .0 .1 .serial-size in let f = (told-of (start .pre .0 .2 .2)) .few in omega (arith, l, f)) (new-serials-ensures .0) if2-taken, start .pre .1 .6, start .pre .1 .7)
 
 volume-right-requires : tie.Need-volume-right-requires
 volume-right-requires c κs =
-    ((c .before .before .before .before .before .before .before .before .before .before .before .before .before .before .before .before .before .before .before .before .before .before .before .before .before .before .before .before .before .before .before .pre .0 .1 .vertex-size, c .before .before .before .before .before .before .before .before .before .before .before .before .before .before .before .before .before .before .before .before .before .before .before .before .before .before .before .before .before .before .before .pre .0 .1 .serial-size, c .before .before .before .before .before .before .before .before .before .before .before .before .before .before .before .before .before .before .before .before .before .before .before .before .before .before .before .before .before .before .before .pre .0 .1 .starts-size, c .before .before .before .before .before .before .before .before .before .before .before .before .before .before .before .before .before .before .before .before .before .before .before .before .before .before .before .before .before .before .before .pre .0 .1 .sizes-size, c .before .before .before .before .before .before .before .before .before .before .before .new-serials .ensures .1, c .before .before .before .before .before .before .before .before .before .before .before .new-serials .ensures .2, c .before .before .before .before .before .before .before .before .before .before .before .before .before .before .before .before .before .before .before .before .before .before .before .before .before .before .before .before .before .before .before .pre .1 .2, c .before .before .before .before .before .before .before .before .before .before .before .before .before .before .before .before .before .before .before .before .before .before .before .before .before .before .before .before .before .before .before .pre .1 .3, c .before .before .before .before .before .before .before .before .before .before .before .before .before .before .before .before .before .before .before .before .before .before .before .before .before .before .before .before .before .before .before .pre .1 .6, c .before .before .before .before .before .before .before .before .before .before .before .before .before .before .before .before .before .before .before .before .before .before .before .before .before .before .before .before .before .before .before .pre .1 .7), (c .before .before .before .before .before .before .before .before .before .before .before .new-serials .ensures .0 .ranked (not-false _ (c .before .before .before .before .before .before .if2 .left)), (c .before .before .before .before .before .before .before .before .before .before .before .before .before .before .before .before .before .before .before .before .before .before .before .before .before .before .before .before .before .before .before .pre .0 .2 .0, (told-of (c .before .before .before .before .before .before .before .before .before .before .before .before .before .before .before .before .before .before .before .before .before .before .before .before .before .before .before .before .before .before .before .pre .0 .2 .2)))))
+    let if2-left = (let p : tie.Else2 = search in p .if2 .left) in
+    let new-serials-ensures = (let p : tie.After-new-serials = search in p .new-serials .ensures) in
+    let c : tie.After-new-serials = search in
+    let start : tie.Start = search in
+    ((start .pre .0 .1 .vertex-size, start .pre .0 .1 .serial-size, start .pre .0 .1 .starts-size, start .pre .0 .1 .sizes-size, new-serials-ensures .1, new-serials-ensures .2, start .pre .1 .2, start .pre .1 .3, start .pre .1 .6, start .pre .1 .7), (new-serials-ensures .0 .ranked (not-false _ if2-left), (start .pre .0 .2 .0, (told-of (start .pre .0 .2 .2)))))
 
 same-length-3 : tie.Need-same-length-3
 same-length-3 c = search needs
@@ -63,11 +80,27 @@ same-length-8 c = search needs
 
 returns-3 : tie.Need-returns-3
 returns-3 c =
-    (no-19 (c .before .before .before .before .before .before .before .before .before .before .before .before .before .before .before .before .before .before .before .before .before .before .before .before .before .before .before .before .before .before .before .before .before .before .before .before .before .before .before .before .before .args .block .now) (c .before .before .before .before .before .before .before .before .before .before .before .before .before .before .before .before .before .before .before .before .before .before .before .before .before .before .for-here .ensures) (c .before .before .before .before .before .before .before .before .before .before .before .before .before .before .before .before .before .before .before .before .before .before .before .before .before .if1 .left) (let l = c .before .before .before .before .before .before .before .before .before .before .before .before .before .before .before .before .before .before .before .before .before .before .before .before .before .before .before .before .before .before .before .before .before .before .before .before .before .before .before .before .before .pre .0 .1 .serial-size in let f = (told-of (c .before .before .before .before .before .before .before .before .before .before .before .before .before .before .before .before .before .before .before .before .before .before .before .before .before .before .before .before .before .before .before .before .before .before .before .before .before .before .before .before .before .pre .0 .2 .2)) .few in omega (arith, l, f)) (c .before .before .before .before .before .before .before .before .before .before .before .before .before .before .before .before .before .before .before .before .before .new-serials .ensures .0) (c .before .before .before .before .before .before .before .before .before .before .before .before .before .before .before .before .if2 .left) (c .before .before .before .before .before .before .before .before .before .volume-right .ensures .0) (c .if3 .taken), c .before .before .before .before .before .before .before .before .before .volume-right .ensures .1 .3, c .before .before .before .before .before .before .before .before .before .volume-right .ensures .1 .4)
+    let if3-taken = (let p : tie.Then3 = search in p .if3 .taken) in
+    let volume-right-ensures = (let p : tie.After-volume-right = search in p .volume-right .ensures) in
+    let if2-left = (let p : tie.Else2 = search in p .if2 .left) in
+    let new-serials-ensures = (let p : tie.After-new-serials = search in p .new-serials .ensures) in
+    let c : tie.After-new-serials = search in
+    let if1-left = (let p : tie.Else1 = search in p .if1 .left) in
+    let for-here-ensures = (let p : tie.After-for-here = search in p .for-here .ensures) in
+    let start : tie.Start = search in
+    (no-19 (start .args .block .now) for-here-ensures if1-left (let l = start .pre .0 .1 .serial-size in let f = (told-of (start .pre .0 .2 .2)) .few in omega (arith, l, f)) (new-serials-ensures .0) if2-left (volume-right-ensures .0) if3-taken, volume-right-ensures .1 .3, volume-right-ensures .1 .4)
 
 parts-right-requires : tie.Need-parts-right-requires
 parts-right-requires c κs =
-    ((c .before .before .before .before .before .before .before .before .before .before .before .before .before .before .before .before .before .before .before .before .before .before .before .before .before .before .before .before .before .before .before .before .before .before .before .before .before .before .before .before .before .before .before .before .before .pre .0 .0, c .before .before .before .before .before .before .before .before .before .before .before .before .before .before .before .before .before .before .before .before .before .before .before .before .before .before .before .before .before .before .before .before .before .before .before .before .before .before .before .before .before .before .before .before .before .pre .0 .1 .starts-size, c .before .before .before .before .before .before .before .before .before .before .before .before .before .before .before .before .before .before .before .before .before .before .before .before .before .before .before .before .before .before .before .before .before .before .before .before .before .before .before .before .before .before .before .before .before .pre .0 .1 .sizes-size, c .before .before .before .before .before .before .before .before .before .before .before .before .before .before .before .before .before .before .before .before .before .before .before .before .before .new-serials .ensures .2, c .before .before .before .before .before .before .before .before .before .before .before .before .before .before .before .before .before .before .before .before .before .before .before .before .before .before .before .before .before .before .before .before .before .before .before .before .before .before .before .before .before .before .before .before .before .pre .1 .4, c .before .before .before .before .before .before .before .before .before .before .before .before .before .before .before .before .before .before .before .before .before .before .before .before .before .before .before .before .before .before .before .before .before .before .before .before .before .before .before .before .before .before .before .before .before .pre .1 .5, sender-small (bytes-in (c .before .before .before .before .before .before .before .before .before .before .before .before .before .before .before .before .before .before .before .before .before .before .before .before .before .before .before .before .before .before .before .before .before .before .before .before .before .before .before .before .before .before .before .before .before .args .message .now) (λ i. fits-lt-pow (c .before .before .before .before .before .before .before .before .before .before .before .before .before .before .before .before .before .before .before .before .before .before .before .before .before .before .before .before .before .before .before .before .before .before .before .before .before .before .before .before .before .before .before .shared-slice-known2 .given i))) (c .before .before .before .before .before .before .before .before .before .before .before .before .before .before .before .before .before .before .before .before .before .before .before .before .before .before .before .before .before .before .before .before .before .before .before .before .before .before .before .before .before .before .before .before .before .pre .0 .2 .1) (c .before .before .before .before .before .before .before .before .before .before .before .before .before .before .before .before .before .before .before .before .before .before .before .before .before .before .before .before .before .before .before .before .before .before .before .before .before .before .before .before .before .before .before .before .before .pre .0 .2 .2)), (c .before .before .before .before .before .before .before .before .before .before .before .before .before .before .before .before .before .before .before .before .before .before .before .before .before .before .before .before .before .before .before .before .before .before .before .before .before .before .before .before .before .before .before .before .before .args .vertex .now, c .before .before .before .before .before .before .before .before .before .before .before .before .before .before .before .before .before .before .before .before .before .before .before .before .before .before .before .before .before .before .before .before .before .before .before .before .before .before .before .before .before .before .before .before .before .args .serial .now, (new-volume (c .before .before .before .before .before .before .before .before .before .before .before .before .before .before .before .before .before .before .before .before .before .before .before .before .before .new-serials .ensures .0) (c .before .before .before .before .before .before .before .before .before .before .before .before .before .before .before .before .before .before .before .before .if2 .left) (c .before .before .before .before .before .before .before .before .before .before .before .before .before .volume-right .ensures .0) (c .before .before .before .before .if3 .left) (c .before .before .before .before .before .before .before .before .before .before .before .before .before .volume-right .ensures .1 .0 (not-false _ (c .before .before .before .before .if3 .left))) (c .before .before .before .before .before .before .before .before .before .before .before .before .before .before .before .before .before .before .before .before .before .before .before .before .before .before .before .before .before .before .before .before .before .before .before .before .before .before .before .before .before .before .before .before .before .pre .0 .2 .2))))
+    let if3-left = (let p : tie.Else3 = search in p .if3 .left) in
+    let volume-right-ensures = (let p : tie.After-volume-right = search in p .volume-right .ensures) in
+    let if2-left = (let p : tie.Else2 = search in p .if2 .left) in
+    let c : tie.Else2 = search in
+    let new-serials-ensures = (let p : tie.After-new-serials = search in p .new-serials .ensures) in
+    let c : tie.After-new-serials = search in
+    let shared-slice-known2-given = (let p : tie.After-shared-slice-known2 = search in p .shared-slice-known2 .given) in
+    let start : tie.Start = search in
+    ((start .pre .0 .0, start .pre .0 .1 .starts-size, start .pre .0 .1 .sizes-size, new-serials-ensures .2, start .pre .1 .4, start .pre .1 .5, sender-small (bytes-in (start .args .message .now) (λ i. fits-lt-pow (shared-slice-known2-given i))) (start .pre .0 .2 .1) (start .pre .0 .2 .2)), (start .args .vertex .now, start .args .serial .now, (new-volume (new-serials-ensures .0) if2-left (volume-right-ensures .0) if3-left (volume-right-ensures .1 .0 (not-false _ if3-left)) (start .pre .0 .2 .2))))
 
 same-length-9 : tie.Need-same-length-9
 same-length-9 c = search needs
@@ -95,11 +128,25 @@ same-length-16 c = search needs
 
 returns-4 : tie.Need-returns-4
 returns-4 c =
-    (no-20 (c .before .before .before .before .before .before .before .before .before .before .before .before .before .before .before .before .before .before .before .before .before .before .before .before .before .before .before .before .before .before .before .before .before .before .before .before .before .before .before .before .before .before .before .before .before .before .before .before .before .before .before .args .block .now) (c .before .before .before .before .before .before .before .before .before .before .before .before .before .before .before .before .before .before .before .before .before .before .before .before .before .before .before .before .before .before .before .before .before .before .before .before .for-here .ensures) (c .before .before .before .before .before .before .before .before .before .before .before .before .before .before .before .before .before .before .before .before .before .before .before .before .before .before .before .before .before .before .before .before .before .before .before .if1 .left) (let l = c .before .before .before .before .before .before .before .before .before .before .before .before .before .before .before .before .before .before .before .before .before .before .before .before .before .before .before .before .before .before .before .before .before .before .before .before .before .before .before .before .before .before .before .before .before .before .before .before .before .before .before .pre .0 .1 .serial-size in let f = (told-of (c .before .before .before .before .before .before .before .before .before .before .before .before .before .before .before .before .before .before .before .before .before .before .before .before .before .before .before .before .before .before .before .before .before .before .before .before .before .before .before .before .before .before .before .before .before .before .before .before .before .before .before .pre .0 .2 .2)) .few in omega (arith, l, f)) (c .before .before .before .before .before .before .before .before .before .before .before .before .before .before .before .before .before .before .before .before .before .before .before .before .before .before .before .before .before .before .before .new-serials .ensures .0) (c .before .before .before .before .before .before .before .before .before .before .before .before .before .before .before .before .before .before .before .before .before .before .before .before .before .before .if2 .left) (c .before .before .before .before .before .before .before .before .before .before .before .before .before .before .before .before .before .before .before .volume-right .ensures .0) (c .before .before .before .before .before .before .before .before .before .before .if3 .left) (c .before .before .before .before .before .parts-right .ensures .0 (c .before .before .before .before .before .before .before .before .before .before .before .before .before .before .before .before .before .before .before .before .before .before .before .before .before .before .before .before .before .before .before .before .before .before .before .before .before .before .before .before .before .before .before .before .before .before .before .before .before .before .before .args .vertex .now) (c .before .before .before .before .before .before .before .before .before .before .before .before .before .before .before .before .before .before .before .before .before .before .before .before .before .before .before .before .before .before .before .before .before .before .before .before .before .before .before .before .before .before .before .before .before .before .before .before .before .before .before .args .serial .now) (new-volume (c .before .before .before .before .before .before .before .before .before .before .before .before .before .before .before .before .before .before .before .before .before .before .before .before .before .before .before .before .before .before .before .new-serials .ensures .0) (c .before .before .before .before .before .before .before .before .before .before .before .before .before .before .before .before .before .before .before .before .before .before .before .before .before .before .if2 .left) (c .before .before .before .before .before .before .before .before .before .before .before .before .before .before .before .before .before .before .before .volume-right .ensures .0) (c .before .before .before .before .before .before .before .before .before .before .if3 .left) (c .before .before .before .before .before .before .before .before .before .before .before .before .before .before .before .before .before .before .before .volume-right .ensures .1 .0 (not-false _ (c .before .before .before .before .before .before .before .before .before .before .if3 .left))) (c .before .before .before .before .before .before .before .before .before .before .before .before .before .before .before .before .before .before .before .before .before .before .before .before .before .before .before .before .before .before .before .before .before .before .before .before .before .before .before .before .before .before .before .before .before .before .before .before .before .before .before .pre .0 .2 .2))) (c .if4 .taken), c .before .before .before .before .before .before .before .before .before .before .before .before .before .before .before .before .before .before .before .volume-right .ensures .1 .3, c .before .before .before .before .before .before .before .before .before .before .before .before .before .before .before .before .before .before .before .volume-right .ensures .1 .4)
+    let if4-taken = (let p : tie.Then4 = search in p .if4 .taken) in
+    let parts-right-ensures = (let p : tie.After-parts-right = search in p .parts-right .ensures) in
+    let if3-left = (let p : tie.Else3 = search in p .if3 .left) in
+    let volume-right-ensures = (let p : tie.After-volume-right = search in p .volume-right .ensures) in
+    let c : tie.After-volume-right = search in
+    let if2-left = (let p : tie.Else2 = search in p .if2 .left) in
+    let new-serials-ensures = (let p : tie.After-new-serials = search in p .new-serials .ensures) in
+    let if1-left = (let p : tie.Else1 = search in p .if1 .left) in
+    let for-here-ensures = (let p : tie.After-for-here = search in p .for-here .ensures) in
+    let c : tie.After-for-here = search in
+    let start : tie.Start = search in
+    (no-20 (start .args .block .now) for-here-ensures if1-left (let l = start .pre .0 .1 .serial-size in let f = (told-of (start .pre .0 .2 .2)) .few in omega (arith, l, f)) (new-serials-ensures .0) if2-left (volume-right-ensures .0) if3-left (parts-right-ensures .0 (start .args .vertex .now) (start .args .serial .now) (new-volume (new-serials-ensures .0) if2-left (volume-right-ensures .0) if3-left (volume-right-ensures .1 .0 (not-false _ if3-left)) (start .pre .0 .2 .2))) if4-taken, volume-right-ensures .1 .3, volume-right-ensures .1 .4)
 
 add-if5 : tie.Need-add-if5
 add-if5 c =
-    let l = (sited rack (c .before .before .before .before .before .before .before .before .before .before .before .before .before .before .before .before .before .before .before .before .before .before .before .before .before .before .before .before .before .before .before .before .before .before .before .before .before .before .before .before .before .before .before .before .before .before .before .before .before .before .before .args .block .now) (c .before .before .before .before .before .before .before .before .before .before .before .before .before .before .before .before .before .before .before .before .before .before .before .before .before .before .before .before .before .before .before .before .before .before .before .before .before .before .before .before .before .before .before .before .before .before .before .before .before .before .before .pre .0 .0)) .linked .few in let f = (told-of (c .before .before .before .before .before .before .before .before .before .before .before .before .before .before .before .before .before .before .before .before .before .before .before .before .before .before .before .before .before .before .before .before .before .before .before .before .before .before .before .before .before .before .before .before .before .before .before .before .before .before .before .pre .0 .2 .2)) .few in omega (arith, l, f)
+    let c : tie.After-volume-right-arg5 = search in
+    let c : tie.After-slice-known3 = search in
+    let start : tie.Start = search in
+    let l = (sited rack (start .args .block .now) (start .pre .0 .0)) .linked .few in let f = (told-of (start .pre .0 .2 .2)) .few in omega (arith, l, f)
 
 same-length-17 : tie.Need-same-length-17
 same-length-17 c = search needs
@@ -127,7 +174,19 @@ same-length-24 c = search needs
 
 returns-5 : tie.Need-returns-5
 returns-5 c =
-    (no-21 (c .before .before .before .before .before .before .before .before .before .before .before .before .before .before .before .before .before .before .before .before .before .before .before .before .before .before .before .before .before .before .before .before .before .before .before .before .before .before .before .before .before .before .before .before .before .before .before .before .before .before .before .before .args .block .now) (c .before .before .before .before .before .before .before .before .before .before .before .before .before .before .before .before .before .before .before .before .before .before .before .before .before .before .before .before .before .before .before .before .before .before .before .before .before .for-here .ensures) (c .before .before .before .before .before .before .before .before .before .before .before .before .before .before .before .before .before .before .before .before .before .before .before .before .before .before .before .before .before .before .before .before .before .before .before .before .if1 .left) (let l = c .before .before .before .before .before .before .before .before .before .before .before .before .before .before .before .before .before .before .before .before .before .before .before .before .before .before .before .before .before .before .before .before .before .before .before .before .before .before .before .before .before .before .before .before .before .before .before .before .before .before .before .before .pre .0 .1 .serial-size in let f = (told-of (c .before .before .before .before .before .before .before .before .before .before .before .before .before .before .before .before .before .before .before .before .before .before .before .before .before .before .before .before .before .before .before .before .before .before .before .before .before .before .before .before .before .before .before .before .before .before .before .before .before .before .before .before .pre .0 .2 .2)) .few in omega (arith, l, f)) (c .before .before .before .before .before .before .before .before .before .before .before .before .before .before .before .before .before .before .before .before .before .before .before .before .before .before .before .before .before .before .before .before .new-serials .ensures .0) (c .before .before .before .before .before .before .before .before .before .before .before .before .before .before .before .before .before .before .before .before .before .before .before .before .before .before .before .if2 .left) (c .before .before .before .before .before .before .before .before .before .before .before .before .before .before .before .before .before .before .before .before .volume-right .ensures .0) (c .before .before .before .before .before .before .before .before .before .before .before .if3 .left) (c .before .before .before .before .before .before .parts-right .ensures .0 (c .before .before .before .before .before .before .before .before .before .before .before .before .before .before .before .before .before .before .before .before .before .before .before .before .before .before .before .before .before .before .before .before .before .before .before .before .before .before .before .before .before .before .before .before .before .before .before .before .before .before .before .before .args .vertex .now) (c .before .before .before .before .before .before .before .before .before .before .before .before .before .before .before .before .before .before .before .before .before .before .before .before .before .before .before .before .before .before .before .before .before .before .before .before .before .before .before .before .before .before .before .before .before .before .before .before .before .before .before .before .args .serial .now) (new-volume (c .before .before .before .before .before .before .before .before .before .before .before .before .before .before .before .before .before .before .before .before .before .before .before .before .before .before .before .before .before .before .before .before .new-serials .ensures .0) (c .before .before .before .before .before .before .before .before .before .before .before .before .before .before .before .before .before .before .before .before .before .before .before .before .before .before .before .if2 .left) (c .before .before .before .before .before .before .before .before .before .before .before .before .before .before .before .before .before .before .before .before .volume-right .ensures .0) (c .before .before .before .before .before .before .before .before .before .before .before .if3 .left) (c .before .before .before .before .before .before .before .before .before .before .before .before .before .before .before .before .before .before .before .before .volume-right .ensures .1 .0 (not-false _ (c .before .before .before .before .before .before .before .before .before .before .before .if3 .left))) (c .before .before .before .before .before .before .before .before .before .before .before .before .before .before .before .before .before .before .before .before .before .before .before .before .before .before .before .before .before .before .before .before .before .before .before .before .before .before .before .before .before .before .before .before .before .before .before .before .before .before .before .before .pre .0 .2 .2))) (c .before .if4 .left) (c .if5 .taken), c .before .before .before .before .before .before .before .before .before .before .before .before .before .before .before .before .before .before .before .before .volume-right .ensures .1 .3, c .before .before .before .before .before .before .before .before .before .before .before .before .before .before .before .before .before .before .before .before .volume-right .ensures .1 .4)
+    let if5-taken = (let p : tie.Then5 = search in p .if5 .taken) in
+    let if4-left = (let p : tie.Else4 = search in p .if4 .left) in
+    let parts-right-ensures = (let p : tie.After-parts-right = search in p .parts-right .ensures) in
+    let if3-left = (let p : tie.Else3 = search in p .if3 .left) in
+    let volume-right-ensures = (let p : tie.After-volume-right = search in p .volume-right .ensures) in
+    let c : tie.After-volume-right = search in
+    let if2-left = (let p : tie.Else2 = search in p .if2 .left) in
+    let new-serials-ensures = (let p : tie.After-new-serials = search in p .new-serials .ensures) in
+    let if1-left = (let p : tie.Else1 = search in p .if1 .left) in
+    let for-here-ensures = (let p : tie.After-for-here = search in p .for-here .ensures) in
+    let c : tie.After-for-here = search in
+    let start : tie.Start = search in
+    (no-21 (start .args .block .now) for-here-ensures if1-left (let l = start .pre .0 .1 .serial-size in let f = (told-of (start .pre .0 .2 .2)) .few in omega (arith, l, f)) (new-serials-ensures .0) if2-left (volume-right-ensures .0) if3-left (parts-right-ensures .0 (start .args .vertex .now) (start .args .serial .now) (new-volume (new-serials-ensures .0) if2-left (volume-right-ensures .0) if3-left (volume-right-ensures .1 .0 (not-false _ if3-left)) (start .pre .0 .2 .2))) if4-left if5-taken, volume-right-ensures .1 .3, volume-right-ensures .1 .4)
 
 same-length-25 : tie.Need-same-length-25
 same-length-25 c = search needs
@@ -155,7 +214,16 @@ same-length-32 c = search needs
 
 returns-6 : tie.Need-returns-6
 returns-6 c =
-    (yes-all (c .before .before .before .before .before .before .before .before .before .before .before .before .before .before .before .before .before .before .before .before .before .before .before .before .before .before .before .before .before .before .before .before .before .before .before .before .before .before .before .before .before .before .before .before .before .before .before .before .before .before .before .before .args .block .now) (c .before .before .before .before .before .before .before .before .before .before .before .before .before .before .before .before .before .before .before .before .before .before .before .before .before .before .before .before .before .before .before .before .before .before .before .before .before .for-here .ensures) (c .before .before .before .before .before .before .before .before .before .before .before .before .before .before .before .before .before .before .before .before .before .before .before .before .before .before .before .before .before .before .before .before .before .before .before .before .if1 .left) (let l = c .before .before .before .before .before .before .before .before .before .before .before .before .before .before .before .before .before .before .before .before .before .before .before .before .before .before .before .before .before .before .before .before .before .before .before .before .before .before .before .before .before .before .before .before .before .before .before .before .before .before .before .before .pre .0 .1 .serial-size in let f = (told-of (c .before .before .before .before .before .before .before .before .before .before .before .before .before .before .before .before .before .before .before .before .before .before .before .before .before .before .before .before .before .before .before .before .before .before .before .before .before .before .before .before .before .before .before .before .before .before .before .before .before .before .before .before .pre .0 .2 .2)) .few in omega (arith, l, f)) (c .before .before .before .before .before .before .before .before .before .before .before .before .before .before .before .before .before .before .before .before .before .before .before .before .before .before .before .before .before .before .before .before .new-serials .ensures .0) (c .before .before .before .before .before .before .before .before .before .before .before .before .before .before .before .before .before .before .before .before .before .before .before .before .before .before .before .if2 .left) (c .before .before .before .before .before .before .before .before .before .before .before .before .before .before .before .before .before .before .before .before .volume-right .ensures .0) (c .before .before .before .before .before .before .before .before .before .before .before .if3 .left) (c .before .before .before .before .before .before .parts-right .ensures .0 (c .before .before .before .before .before .before .before .before .before .before .before .before .before .before .before .before .before .before .before .before .before .before .before .before .before .before .before .before .before .before .before .before .before .before .before .before .before .before .before .before .before .before .before .before .before .before .before .before .before .before .before .before .args .vertex .now) (c .before .before .before .before .before .before .before .before .before .before .before .before .before .before .before .before .before .before .before .before .before .before .before .before .before .before .before .before .before .before .before .before .before .before .before .before .before .before .before .before .before .before .before .before .before .before .before .before .before .before .before .before .args .serial .now) (new-volume (c .before .before .before .before .before .before .before .before .before .before .before .before .before .before .before .before .before .before .before .before .before .before .before .before .before .before .before .before .before .before .before .before .new-serials .ensures .0) (c .before .before .before .before .before .before .before .before .before .before .before .before .before .before .before .before .before .before .before .before .before .before .before .before .before .before .before .if2 .left) (c .before .before .before .before .before .before .before .before .before .before .before .before .before .before .before .before .before .before .before .before .volume-right .ensures .0) (c .before .before .before .before .before .before .before .before .before .before .before .if3 .left) (c .before .before .before .before .before .before .before .before .before .before .before .before .before .before .before .before .before .before .before .before .volume-right .ensures .1 .0 (not-false _ (c .before .before .before .before .before .before .before .before .before .before .before .if3 .left))) (c .before .before .before .before .before .before .before .before .before .before .before .before .before .before .before .before .before .before .before .before .before .before .before .before .before .before .before .before .before .before .before .before .before .before .before .before .before .before .before .before .before .before .before .before .before .before .before .before .before .before .before .before .pre .0 .2 .2))) (c .before .if4 .left) (omega arith) (c .before .before .before .before .before .before .before .before .before .before .before .before .before .before .before .before .before .before .before .before .volume-right .ensures .1 .0 (not-false _ (c .before .before .before .before .before .before .before .before .before .before .before .if3 .left))) (c .before .before .before .before .before .before .parts-right .ensures .1) (c .before .before .before .before .before .before .parts-right .ensures .2) (c .before .before .before .before .before .before .before .before .before .before .before .before .before .before .before .before .before .before .before .before .before .before .before .before .before .before .before .before .before .before .before .before .new-serials .ensures .2), c .before .before .before .before .before .before .before .before .before .before .before .before .before .before .before .before .before .before .before .before .volume-right .ensures .1 .3, c .before .before .before .before .before .before .before .before .before .before .before .before .before .before .before .before .before .before .before .before .volume-right .ensures .1 .4)
+    let start : tie.Start = (let c : tie.After-parts-right = search in let c : tie.Else3 = search in let c : tie.After-draft = search in let c : tie.After-volume-right = search in let c : tie.Else2 = search in let c : tie.After-new-serials = search in let c : tie.After-for-here = search in let c : tie.After-slice-known2 = search in let c : tie.After-shared-slice-known = search in search) in
+    let for-here-ensures = (let c : tie.After-parts-right = search in let c : tie.Else3 = search in let c : tie.After-draft = search in let c : tie.After-volume-right = search in let c : tie.Else2 = search in let c : tie.After-new-serials = search in let p : tie.After-for-here = search in p .for-here .ensures) in
+    let if1-left = (let c : tie.After-parts-right = search in let c : tie.Else3 = search in let c : tie.After-draft = search in let c : tie.After-volume-right = search in let c : tie.Else2 = search in let c : tie.After-new-serials = search in let p : tie.Else1 = search in p .if1 .left) in
+    let new-serials-ensures = (let c : tie.After-parts-right = search in let c : tie.Else3 = search in let c : tie.After-draft = search in let c : tie.After-volume-right = search in let c : tie.Else2 = search in let p : tie.After-new-serials = search in p .new-serials .ensures) in
+    let if2-left = (let c : tie.After-parts-right = search in let c : tie.Else3 = search in let c : tie.After-draft = search in let c : tie.After-volume-right = search in let p : tie.Else2 = search in p .if2 .left) in
+    let volume-right-ensures = (let c : tie.After-parts-right = search in let c : tie.Else3 = search in let c : tie.After-draft = search in let p : tie.After-volume-right = search in p .volume-right .ensures) in
+    let if3-left = (let c : tie.After-parts-right = search in let p : tie.Else3 = search in p .if3 .left) in
+    let parts-right-ensures = (let p : tie.After-parts-right = search in p .parts-right .ensures) in
+    let if4-left = (let p : tie.Else4 = search in p .if4 .left) in
+    (yes-all (start .args .block .now) for-here-ensures if1-left (let l = start .pre .0 .1 .serial-size in let f = (told-of (start .pre .0 .2 .2)) .few in omega (arith, l, f)) (new-serials-ensures .0) if2-left (volume-right-ensures .0) if3-left (parts-right-ensures .0 (start .args .vertex .now) (start .args .serial .now) (new-volume (new-serials-ensures .0) if2-left (volume-right-ensures .0) if3-left (volume-right-ensures .1 .0 (not-false _ if3-left)) (start .pre .0 .2 .2))) if4-left (omega arith) (volume-right-ensures .1 .0 (not-false _ if3-left)) (parts-right-ensures .1) (parts-right-ensures .2) (new-serials-ensures .2), volume-right-ensures .1 .3, volume-right-ensures .1 .4)
 
 pub questions-spec : {M : Type 1} → statement M
 questions-spec =

@@ -16,7 +16,9 @@ insert-requires c κs = search needs
 
 sew-requires : tie.Need-sew-requires
 sew-requires c κs =
-    (woven-size (c .before .before .before .before .before .before .before .before .before .before .before .before .before .before .before .before .before .before .before .before .before .before .pre .1 .3) (c .before .before .before .before .before .before .before .before .before .insert .ensures .0), c .before .before .before .before .before .before .before .before .before .before .before .before .before .before .before .before .before .before .before .before .before .before .pre .1 .0, c .before .before .before .before .before .before .before .before .before .before .before .before .before .before .before .before .before .before .before .before .before .before .pre .1 .1, c .before .before .before .before .before .before .before .before .before .before .before .before .before .before .before .before .before .before .before .before .before .before .pre .1 .2, c .before .before .before .before .before .before .before .before .before .insert .ensures .1 .0 .1, c .before .before .before .before .before .before .before .before .before .insert .ensures .1 .1 .1, may-sew (c .before .before .before .before .before .before .before .before .before .before .before .before .before .before .before .before .before .before .before .before .before .before .pre .1 .3) _ _ (c .before .before .before .before .before .before .before .before .before .insert .ensures .1 .0 .0) (c .before .before .before .before .before .before .before .before .before .insert .ensures .1 .1 .0) (c .before .before .before .before .before .before .before .before .before .before .before .before .before .before .before .before .before .before .before .before .before .before .pre .1 .4))
+    let start : tie.Start = (let c : tie.After-insert = search in search) in
+    let insert-ensures = (let p : tie.After-insert = search in p .insert .ensures) in
+    (woven-size (start .pre .1 .3) (insert-ensures .0), start .pre .1 .0, start .pre .1 .1, start .pre .1 .2, insert-ensures .1 .0 .1, insert-ensures .1 .1 .1, may-sew (start .pre .1 .3) _ _ (insert-ensures .1 .0 .0) (insert-ensures .1 .1 .0) (start .pre .1 .4))
 
 same-length : tie.Need-same-length
 same-length c = search needs
@@ -29,7 +31,11 @@ same-length-3 c = search needs
 
 returns : tie.Need-returns
 returns c =
-    joins (c .before .before .before .before .before .before .before .before .before .before .before .before .before .before .before .before .before .before .before .before .before .before .before .before .before .pre .1 .3) _ _ (c .before .before .before .before .before .before .before .before .before .before .before .before .insert .ensures .1 .0 .0) (c .before .before .before .before .before .before .before .before .before .before .before .before .insert .ensures .1 .1 .0) (c .before .before .before .before .before .before .before .before .before .before .before .before .insert .ensures .0) (c .before .before .sew .ensures)
+    let sew-ensures = (let p : tie.After-sew = search in p .sew .ensures) in
+    let insert-ensures = (let p : tie.After-insert = search in p .insert .ensures) in
+    let c : tie.After-insert = search in
+    let start : tie.Start = search in
+    joins (start .pre .1 .3) _ _ (insert-ensures .1 .0 .0) (insert-ensures .1 .1 .0) (insert-ensures .0) sew-ensures
 
 pub join-spec : {M : Type 1} → statement M
 join-spec =

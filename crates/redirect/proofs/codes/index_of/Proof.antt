@@ -20,7 +20,8 @@ abbrev μ-loop : tie.MeasureT-loop
 
 returns : tie.Need-returns Inv-loop μ-loop
 returns c =
-    none-among (λ k. getD (c .before .args .codes .now) k 0) (c .before .args .c) (c .before .args .x) (c .if1 .taken)
+    let start : tie.Start Inv-loop μ-loop = search in
+    none-among (λ k. getD (start .args .codes .now) k 0) (start .args .c) (start .args .x) (c .if1 .taken)
 
 loop-holds : tie.Need-loop-holds Inv-loop μ-loop
 loop-holds c =
@@ -31,11 +32,16 @@ add-mid c = search needs
 
 mul-if2 : tie.Need-mul-if2 Inv-loop μ-loop
 mul-if2 c =
-    omega (arith, c .before .loop .inv .fits, c .loop-test .taken, c .before .before .before .pre .0)
+    let start : tie.Start Inv-loop μ-loop = search in
+    let loop-inv = (let p : tie.At-loop Inv-loop μ-loop = search in p .loop .inv) in
+    omega (arith, loop-inv .fits, c .loop-test .taken, start .pre .0)
 
 shared-slice-read-if2 : tie.Need-shared-slice-read-if2 Inv-loop μ-loop
 shared-slice-read-if2 c =
-    omega (arith, c .before .before .loop .inv .fits, c .before .loop-test .taken, c .before .before .before .before .pre .0, c .before .before .before .before .pre .1)
+    let start : tie.Start Inv-loop μ-loop = search in
+    let loop-inv = (let p : tie.At-loop Inv-loop μ-loop = search in p .loop .inv) in
+    let loop-test-taken = (let p : tie.In-loop Inv-loop μ-loop = search in p .loop-test .taken) in
+    omega (arith, loop-inv .fits, loop-test-taken, start .pre .0, start .pre .1)
 
 sub-left : tie.Need-sub-left Inv-loop μ-loop
 sub-left c = search needs
@@ -45,26 +51,38 @@ loop-less c = search needs
 
 loop-again : tie.Need-loop-again Inv-loop μ-loop
 loop-again c =
+    let start : tie.Start Inv-loop μ-loop = search in
+    let loop-inv = (let p : tie.At-loop Inv-loop μ-loop = search in p .loop .inv) in
+    let loop-test-taken = (let p : tie.In-loop Inv-loop μ-loop = search in p .loop-test .taken) in
     ⊎-elim
-    (λ w. rw (w .1) (halving-up (c .before .before .before .before .before .pre .2) (c .before .before .before .loop .inv) (c .before .before .loop-test .taken) refl (omega (arith, w .0 .taken))))
-    (λ w. rw (w .1) (halving-down (c .before .before .before .before .before .pre .2) (c .before .before .before .loop .inv) (c .before .before .loop-test .taken) refl (omega (arith, w .0 .left))))
+    (λ w. rw (w .1) (halving-up (start .pre .2) loop-inv loop-test-taken refl (omega (arith, w .0 .taken))))
+    (λ w. rw (w .1) (halving-down (start .pre .2) loop-inv loop-test-taken refl (omega (arith, w .0 .left))))
     (c .if2 .came)
 
 mul-if3 : tie.Need-mul-if3 Inv-loop μ-loop
 mul-if3 c =
-    omega (arith, c .before .loop .inv .fits, c .before .loop .inv .some-left, c .before .before .before .pre .0)
+    let start : tie.Start Inv-loop μ-loop = search in
+    let loop-inv = (let p : tie.At-loop Inv-loop μ-loop = search in p .loop .inv) in
+    omega (arith, loop-inv .fits, loop-inv .some-left, start .pre .0)
 
 shared-slice-read-if3 : tie.Need-shared-slice-read-if3 Inv-loop μ-loop
 shared-slice-read-if3 c =
-    omega (arith, c .before .before .loop .inv .fits, c .before .before .loop .inv .some-left, c .before .before .before .before .pre .0, c .before .before .before .before .pre .1)
+    let start : tie.Start Inv-loop μ-loop = search in
+    let loop-inv = (let p : tie.At-loop Inv-loop μ-loop = search in p .loop .inv) in
+    omega (arith, loop-inv .fits, loop-inv .some-left, start .pre .0, start .pre .1)
 
 returns-2 : tie.Need-returns-2 Inv-loop μ-loop
 returns-2 c =
-    halved (c .before .before .before .before .before .pre .2) (c .before .before .before .loop .inv) (omega (arith, c .before .before .loop-test .left)) refl (c .if3 .taken)
+    let start : tie.Start Inv-loop μ-loop = search in
+    let loop-inv = (let p : tie.At-loop Inv-loop μ-loop = search in p .loop .inv) in
+    let loop-test-left = (let p : tie.After-loop Inv-loop μ-loop = search in p .loop-test .left) in
+    halved (start .pre .2) loop-inv (omega (arith, loop-test-left)) refl (c .if3 .taken)
 
 returns-3 : tie.Need-returns-3 Inv-loop μ-loop
 returns-3 c =
-    halved-none (c .before .before .before .loop .inv) (omega (arith, c .before .before .loop-test .left)) refl (c .if3 .left)
+    let loop-inv = (let p : tie.At-loop Inv-loop μ-loop = search in p .loop .inv) in
+    let loop-test-left = (let p : tie.After-loop Inv-loop μ-loop = search in p .loop-test .left) in
+    halved-none loop-inv (omega (arith, loop-test-left)) refl (c .if3 .left)
 
 pub index-of-spec : {M : Type 1} → statement M
 index-of-spec =

@@ -24,8 +24,9 @@ slice-aggregate-distinct-2 c =
 
 distinct-requires : tie.Need-distinct-requires
 distinct-requires c κs =
-    let a = length-take-le (c .before .before .before .before .args .c) (c .before .before .before .before .args .codes .now) (omega arith) in
-    let b = length-take-le (c .before .before .before .before .args .c) (c .before .before .before .before .args .scratch .now) (omega arith) in
+    let start : tie.Start = search in
+    let a = length-take-le (start .args .c) (start .args .codes .now) (omega arith) in
+    let b = length-take-le (start .args .c) (start .args .scratch .now) (omega arith) in
     b ∙ sym a
 
 same-length : tie.Need-same-length
@@ -36,7 +37,9 @@ same-length-2 c = search needs
 
 returns : tie.Need-returns
 returns c =
-    (c .before .before .before .before .distinct .ensures .0, sorted-front (c .before .before .before .before .before .before .before .before .before .args .codes .now) (c .before .before .before .before .before .before .before .before .before .args .c) (omega (arith, c .before .before .before .before .before .before .before .before .before .pre)) (c .before .before .before .before .distinct .ensures .1), search needs)
+    let start : tie.Start = search in
+    let distinct-ensures = (let p : tie.After-distinct = search in p .distinct .ensures) in
+    (distinct-ensures .0, sorted-front (start .args .codes .now) (start .args .c) (omega (arith, start .pre)) (distinct-ensures .1), search needs)
 
 pub order-spec : {M : Type 1} → statement M
 order-spec =

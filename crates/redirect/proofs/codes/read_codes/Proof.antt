@@ -18,7 +18,8 @@ abbrev μ-loop : tie.MeasureT-loop
 
 loop-holds : tie.Need-loop-holds Inv-loop μ-loop
 loop-holds c =
-    reading-start _ _ _ (c .before .before .pre .0) (c .before .before .pre .2)
+    let start : tie.Start Inv-loop μ-loop = search in
+    reading-start _ _ _ (start .pre .0) (start .pre .2)
 
 read-label-requires : tie.Need-read-label-requires Inv-loop μ-loop
 read-label-requires c κs = search needs
@@ -31,39 +32,60 @@ enum-told c = search needs
 
 same-length : tie.Need-same-length Inv-loop μ-loop
 same-length c =
-    c .before .before .before .before .loop .inv .size ∙ sym (c .before .before .before .before .before .before .before .pre .2)
+    let start : tie.Start Inv-loop μ-loop = search in
+    let loop-inv = (let p : tie.At-loop Inv-loop μ-loop = search in p .loop .inv) in
+    loop-inv .size ∙ sym (start .pre .2)
 
 returns : tie.Need-returns Inv-loop μ-loop
 returns c =
-    reading-bad (c .before .before .before .before .loop .inv) (c .before .before .before .loop-test .taken) (sym (c .enum-told .given .1) ∙ c .before .before .read-label .ensures)
+    let loop-inv = (let p : tie.At-loop Inv-loop μ-loop = search in p .loop .inv) in
+    let loop-test-taken = (let p : tie.In-loop Inv-loop μ-loop = search in p .loop-test .taken) in
+    let read-label-ensures = (let p : tie.After-read-label Inv-loop μ-loop = search in p .read-label .ensures) in
+    reading-bad loop-inv loop-test-taken (sym (c .enum-told .given .1) ∙ read-label-ensures)
 
 mul-codes : tie.Need-mul-codes Inv-loop μ-loop
 mul-codes c =
-    omega (arith, c .before .before .before .before .loop-test .taken, c .before .before .before .before .before .before .before .before .pre .1)
+    let start : tie.Start Inv-loop μ-loop = search in
+    let loop-test-taken = (let p : tie.In-loop Inv-loop μ-loop = search in p .loop-test .taken) in
+    omega (arith, loop-test-taken, start .pre .1)
 
 slice-write-codes : tie.Need-slice-write-codes Inv-loop μ-loop
 slice-write-codes c =
-    omega (arith, c .before .before .before .before .loop-test .taken, c .before .before .before .before .before .before .before .before .pre .1, c .before .before .before .before .before .loop .inv .size)
+    let start : tie.Start Inv-loop μ-loop = search in
+    let loop-inv = (let p : tie.At-loop Inv-loop μ-loop = search in p .loop .inv) in
+    let loop-test-taken = (let p : tie.In-loop Inv-loop μ-loop = search in p .loop-test .taken) in
+    omega (arith, loop-test-taken, start .pre .1, loop-inv .size)
 
 add-i : tie.Need-add-i Inv-loop μ-loop
 add-i c =
-    omega (arith, c .before .before .before .before .loop-test .taken, c .before .before .before .before .before .before .before .before .pre .1)
+    let start : tie.Start Inv-loop μ-loop = search in
+    let loop-test-taken = (let p : tie.In-loop Inv-loop μ-loop = search in p .loop-test .taken) in
+    omega (arith, loop-test-taken, start .pre .1)
 
 loop-less : tie.Need-loop-less Inv-loop μ-loop
 loop-less c =
-    omega (arith, c .before .before .before .before .loop-test .taken)
+    let loop-test-taken = (let p : tie.In-loop Inv-loop μ-loop = search in p .loop-test .taken) in
+    omega (arith, loop-test-taken)
 
 loop-again : tie.Need-loop-again Inv-loop μ-loop
 loop-again c =
-    reading-more (c .before .before .before .before .before .loop .inv) (c .before .before .before .before .loop-test .taken) (c .before .before .before .before .before .before .before .before .pre .1) (sym (c .before .code .given .1) ∙ c .before .before .before .read-label .ensures)
+    let start : tie.Start Inv-loop μ-loop = search in
+    let loop-inv = (let p : tie.At-loop Inv-loop μ-loop = search in p .loop .inv) in
+    let loop-test-taken = (let p : tie.In-loop Inv-loop μ-loop = search in p .loop-test .taken) in
+    let read-label-ensures = (let p : tie.After-read-label Inv-loop μ-loop = search in p .read-label .ensures) in
+    let code-given = (let p : tie.After-code Inv-loop μ-loop = search in p .code .given) in
+    reading-more loop-inv loop-test-taken (start .pre .1) (sym (code-given .1) ∙ read-label-ensures)
 
 same-length-2 : tie.Need-same-length-2 Inv-loop μ-loop
 same-length-2 c =
-    c .before .loop .inv .size ∙ sym (c .before .before .before .before .pre .2)
+    let start : tie.Start Inv-loop μ-loop = search in
+    let loop-inv = (let p : tie.At-loop Inv-loop μ-loop = search in p .loop .inv) in
+    loop-inv .size ∙ sym (start .pre .2)
 
 returns-2 : tie.Need-returns-2 Inv-loop μ-loop
 returns-2 c =
-    reading-end (c .before .loop .inv) (c .loop-test .left)
+    let loop-inv = (let p : tie.At-loop Inv-loop μ-loop = search in p .loop .inv) in
+    reading-end loop-inv (c .loop-test .left)
 
 pub read-codes-spec : {M : Type 1} → statement M
 read-codes-spec =

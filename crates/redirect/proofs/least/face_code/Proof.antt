@@ -21,43 +21,61 @@ abbrev μ-loop : tie.MeasureT-loop
 
 field-requires : tie.Need-field-requires Inv-loop μ-loop
 field-requires c κs =
-    (omega (arith, c .before .pre .1, c .before .pre .0 .few), omega arith, c .before .pre .0 .size)
+    let start : tie.Start Inv-loop μ-loop = search in
+    (omega (arith, start .pre .1, start .pre .0 .few), omega arith, start .pre .0 .size)
 
 loop-holds : tie.Need-loop-holds Inv-loop μ-loop
 loop-holds c =
-    let l = c .before .before .pre .0 in
-    (going-start (round (l .few) (l .next-within) (l .next-apart) _ (c .before .before .pre .1)) (c .before .before .pre .1), lowest-start _ _ _ (c .field .ensures))
+    let start : tie.Start Inv-loop μ-loop = search in
+    let l = start .pre .0 in
+    (going-start (round (l .few) (l .next-within) (l .next-apart) _ (start .pre .1)) (start .pre .1), lowest-start _ _ _ (c .field .ensures))
 
 field-requires-2 : tie.Need-field-requires-2 Inv-loop μ-loop
 field-requires-2 c κs =
-    (omega (arith, c .loop .inv .0 .below, c .before .before .before .pre .0 .few), omega arith, c .before .before .before .pre .0 .size)
+    let start : tie.Start Inv-loop μ-loop = search in
+    (omega (arith, c .loop .inv .0 .below, start .pre .0 .few), omega arith, start .pre .0 .size)
 
 lesser-requires : tie.Need-lesser-requires Inv-loop μ-loop
 lesser-requires c κs = search needs
 
 add-steps : tie.Need-add-steps Inv-loop μ-loop
 add-steps c =
-    let l = c .before .before .before .before .before .pre .0 in
-    omega (arith, c .before .before .loop .inv .0 .less, round (l .few) (l .next-within) (l .next-apart) (c .before .before .before .before .before .args .start) (c .before .before .before .before .before .pre .1) .few)
+    let start : tie.Start Inv-loop μ-loop = search in
+    let loop-inv = (let p : tie.At-loop Inv-loop μ-loop = search in p .loop .inv) in
+    let l = start .pre .0 in
+    omega (arith, loop-inv .0 .less, round (l .few) (l .next-within) (l .next-apart) (start .args .start) (start .pre .1) .few)
 
 field-requires-3 : tie.Need-field-requires-3 Inv-loop μ-loop
 field-requires-3 c κs =
-    (omega (arith, c .before .before .loop .inv .0 .below, c .before .before .before .before .before .pre .0 .few), omega arith, c .before .before .before .before .before .pre .0 .size)
+    let start : tie.Start Inv-loop μ-loop = search in
+    let loop-inv = (let p : tie.At-loop Inv-loop μ-loop = search in p .loop .inv) in
+    (omega (arith, loop-inv .0 .below, start .pre .0 .few), omega arith, start .pre .0 .size)
 
 returns : tie.Need-returns Inv-loop μ-loop
 returns c =
-    let l = c .before .before .before .before .before .before .before .pre .0 in
-    code-end _ _ (lowest-end (l .next-within) (round (l .few) (l .next-within) (l .next-apart) _ (c .before .before .before .before .before .before .before .pre .1)) (c .before .before .before .before .loop .inv .0) (column (c .before .before .before .before .before .before .before .args .block .now) 4) (c .before .before .before .before .loop .inv .1) (c .before .before .before .field2 .ensures) (c .before .before .lesser .ensures) (c .before .field3 .ensures) (c .if1 .taken))
+    let start : tie.Start Inv-loop μ-loop = search in
+    let loop-inv = (let p : tie.At-loop Inv-loop μ-loop = search in p .loop .inv) in
+    let field2-ensures = (let p : tie.After-field2 Inv-loop μ-loop = search in p .field2 .ensures) in
+    let lesser-ensures = (let p : tie.After-lesser Inv-loop μ-loop = search in p .lesser .ensures) in
+    let field3-ensures = (let p : tie.After-field3 Inv-loop μ-loop = search in p .field3 .ensures) in
+    let l = start .pre .0 in
+    code-end _ _ (lowest-end (l .next-within) (round (l .few) (l .next-within) (l .next-apart) _ (start .pre .1)) (loop-inv .0) (column (start .args .block .now) 4) (loop-inv .1) field2-ensures lesser-ensures field3-ensures (c .if1 .taken))
 
 loop-less : tie.Need-loop-less Inv-loop μ-loop
 loop-less c =
-    omega (arith, c .before .before .before .before .loop .inv .0 .less)
+    let loop-inv = (let p : tie.At-loop Inv-loop μ-loop = search in p .loop .inv) in
+    omega (arith, loop-inv .0 .less)
 
 loop-again : tie.Need-loop-again Inv-loop μ-loop
 loop-again c =
-    let l = c .before .before .before .before .before .before .before .pre .0 in
-    let r = round (l .few) (l .next-within) (l .next-apart) _ (c .before .before .before .before .before .before .before .pre .1) in
-    (going-next (l .next-within) r (c .before .before .before .before .loop .inv .0) (c .before .field3 .ensures) (c .if1 .left), lowest-next (l .next-within) r (c .before .before .before .before .loop .inv .0) (column (c .before .before .before .before .before .before .before .args .block .now) 4) (c .before .before .before .before .loop .inv .1) (c .before .before .before .field2 .ensures) (c .before .before .lesser .ensures))
+    let start : tie.Start Inv-loop μ-loop = search in
+    let loop-inv = (let p : tie.At-loop Inv-loop μ-loop = search in p .loop .inv) in
+    let field2-ensures = (let p : tie.After-field2 Inv-loop μ-loop = search in p .field2 .ensures) in
+    let lesser-ensures = (let p : tie.After-lesser Inv-loop μ-loop = search in p .lesser .ensures) in
+    let field3-ensures = (let p : tie.After-field3 Inv-loop μ-loop = search in p .field3 .ensures) in
+    let l = start .pre .0 in
+    let r = round (l .few) (l .next-within) (l .next-apart) _ (start .pre .1) in
+    (going-next (l .next-within) r (loop-inv .0) field3-ensures (c .if1 .left), lowest-next (l .next-within) r (loop-inv .0) (column (start .args .block .now) 4) (loop-inv .1) field2-ensures lesser-ensures)
 
 pub face-code-spec : {M : Type 1} → statement M
 face-code-spec =

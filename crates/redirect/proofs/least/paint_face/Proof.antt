@@ -21,44 +21,57 @@ abbrev μ-loop : tie.MeasureT-loop
 
 loop-holds : tie.Need-loop-holds Inv-loop μ-loop
 loop-holds c =
-    let l = c .before .before .pre .0 in
-    (going-start (round (l .few) (l .next-within) (l .next-apart) _ (c .before .before .pre .1)) (c .before .before .pre .1), paint-none _ _)
+    let start : tie.Start Inv-loop μ-loop = search in
+    let l = start .pre .0 in
+    (going-start (round (l .few) (l .next-within) (l .next-apart) _ (start .pre .1)) (start .pre .1), paint-none _ _)
 
 mul-table : tie.Need-mul-table Inv-loop μ-loop
 mul-table c =
-    omega (arith, c .loop .inv .0 .below, c .before .before .before .pre .0 .few)
+    let start : tie.Start Inv-loop μ-loop = search in
+    omega (arith, c .loop .inv .0 .below, start .pre .0 .few)
 
 slice-write-table : tie.Need-slice-write-table Inv-loop μ-loop
 slice-write-table c =
-    omega (arith, c .loop .inv .0 .below, c .before .before .before .pre .0 .few, c .loop .inv .1 .size, c .before .before .before .pre .2)
+    let start : tie.Start Inv-loop μ-loop = search in
+    omega (arith, c .loop .inv .0 .below, start .pre .0 .few, c .loop .inv .1 .size, start .pre .2)
 
 add-steps : tie.Need-add-steps Inv-loop μ-loop
 add-steps c =
-    let l = c .before .before .before .pre .0 in
-    omega (arith, c .loop .inv .0 .less, round (l .few) (l .next-within) (l .next-apart) (c .before .before .before .args .start) (c .before .before .before .pre .1) .few)
+    let start : tie.Start Inv-loop μ-loop = search in
+    let l = start .pre .0 in
+    omega (arith, c .loop .inv .0 .less, round (l .few) (l .next-within) (l .next-apart) (start .args .start) (start .pre .1) .few)
 
 field-requires : tie.Need-field-requires Inv-loop μ-loop
 field-requires c κs =
-    (omega (arith, c .loop .inv .0 .below, c .before .before .before .pre .0 .few), omega arith, c .before .before .before .pre .0 .size)
+    let start : tie.Start Inv-loop μ-loop = search in
+    (omega (arith, c .loop .inv .0 .below, start .pre .0 .few), omega arith, start .pre .0 .size)
 
 same-length : tie.Need-same-length Inv-loop μ-loop
 same-length c =
-    simp length-set (c .before .before .loop .inv .1 .size)
+    let loop-inv = (let p : tie.At-loop Inv-loop μ-loop = search in p .loop .inv) in
+    simp length-set (loop-inv .1 .size)
 
 returns : tie.Need-returns Inv-loop μ-loop
 returns c =
-    let l = c .before .before .before .before .before .pre .0 in
-    paint-last (l .next-within) (round (l .few) (l .next-within) (l .next-apart) _ (c .before .before .before .before .before .pre .1)) (c .before .before .loop .inv .0) (c .before .before .loop .inv .1) (omega (arith, c .before .before .loop .inv .0 .below, c .before .before .before .before .before .pre .0 .few, c .before .before .before .before .before .pre .2)) (c .before .field .ensures) (c .if1 .taken)
+    let start : tie.Start Inv-loop μ-loop = search in
+    let loop-inv = (let p : tie.At-loop Inv-loop μ-loop = search in p .loop .inv) in
+    let field-ensures = (let p : tie.After-field Inv-loop μ-loop = search in p .field .ensures) in
+    let l = start .pre .0 in
+    paint-last (l .next-within) (round (l .few) (l .next-within) (l .next-apart) _ (start .pre .1)) (loop-inv .0) (loop-inv .1) (omega (arith, loop-inv .0 .below, start .pre .0 .few, start .pre .2)) field-ensures (c .if1 .taken)
 
 loop-less : tie.Need-loop-less Inv-loop μ-loop
 loop-less c =
-    omega (arith, c .before .before .loop .inv .0 .less)
+    let loop-inv = (let p : tie.At-loop Inv-loop μ-loop = search in p .loop .inv) in
+    omega (arith, loop-inv .0 .less)
 
 loop-again : tie.Need-loop-again Inv-loop μ-loop
 loop-again c =
-    let l = c .before .before .before .before .before .pre .0 in
-    let r = round (l .few) (l .next-within) (l .next-apart) _ (c .before .before .before .before .before .pre .1) in
-    (going-next (l .next-within) r (c .before .before .loop .inv .0) (c .before .field .ensures) (c .if1 .left), paint-next (l .next-within) r (c .before .before .loop .inv .0) (c .before .before .loop .inv .1) (omega (arith, c .before .before .loop .inv .0 .below, c .before .before .before .before .before .pre .0 .few, c .before .before .before .before .before .pre .2)))
+    let start : tie.Start Inv-loop μ-loop = search in
+    let loop-inv = (let p : tie.At-loop Inv-loop μ-loop = search in p .loop .inv) in
+    let field-ensures = (let p : tie.After-field Inv-loop μ-loop = search in p .field .ensures) in
+    let l = start .pre .0 in
+    let r = round (l .few) (l .next-within) (l .next-apart) _ (start .pre .1) in
+    (going-next (l .next-within) r (loop-inv .0) field-ensures (c .if1 .left), paint-next (l .next-within) r (loop-inv .0) (loop-inv .1) (omega (arith, loop-inv .0 .below, start .pre .0 .few, start .pre .2)))
 
 pub paint-face-spec : {M : Type 1} → statement M
 paint-face-spec =

@@ -25,23 +25,33 @@ loop-holds c =
 
 shared-slice-read-ok : tie.Need-shared-slice-read-ok Inv-loop μ-loop
 shared-slice-read-ok c =
-    omega (arith, c .before .loop-test .taken, c .before .before .before .pre)
+    let start : tie.Start Inv-loop μ-loop = search in
+    let loop-test-taken = (let p : tie.In-loop Inv-loop μ-loop = search in p .loop-test .taken) in
+    omega (arith, loop-test-taken, start .pre)
 
 add-k : tie.Need-add-k Inv-loop μ-loop
 add-k c =
-    omega (arith, c .before .loop-test .taken)
+    let loop-test-taken = (let p : tie.In-loop Inv-loop μ-loop = search in p .loop-test .taken) in
+    omega (arith, loop-test-taken)
 
 loop-less : tie.Need-loop-less Inv-loop μ-loop
 loop-less c =
-    omega (arith, c .before .loop-test .taken)
+    let loop-test-taken = (let p : tie.In-loop Inv-loop μ-loop = search in p .loop-test .taken) in
+    omega (arith, loop-test-taken)
 
 loop-again : tie.Need-loop-again Inv-loop μ-loop
 loop-again c =
-    (omega (arith, c .before .loop-test .taken), below-step (λ j. eqb (getD (c .before .before .before .args .hits .now) j 0) 1) (c .before .before .loop .k) (c .before .before .loop .inv .1) refl)
+    let start : tie.Start Inv-loop μ-loop = search in
+    let loop-inv = (let p : tie.At-loop Inv-loop μ-loop = search in p .loop .inv) in
+    let loop-k = (let p : tie.At-loop Inv-loop μ-loop = search in p .loop .k) in
+    let loop-test-taken = (let p : tie.In-loop Inv-loop μ-loop = search in p .loop-test .taken) in
+    (omega (arith, loop-test-taken), below-step (λ j. eqb (getD (start .args .hits .now) j 0) 1) loop-k (loop-inv .1) refl)
 
 returns : tie.Need-returns Inv-loop μ-loop
 returns c =
-    all-below-end (λ j. eqb (getD (c .before .before .args .hits .now) j 0) 1) (c .before .loop .inv .0) (c .loop-test .left) (c .before .loop .inv .1)
+    let start : tie.Start Inv-loop μ-loop = search in
+    let loop-inv = (let p : tie.At-loop Inv-loop μ-loop = search in p .loop .inv) in
+    all-below-end (λ j. eqb (getD (start .args .hits .now) j 0) 1) (loop-inv .0) (c .loop-test .left) (loop-inv .1)
 
 pub all-hit-spec : {M : Type 1} → statement M
 all-hit-spec =

@@ -22,20 +22,24 @@ abbrev μ-loop : tie.MeasureT-loop
 
 mul-kind : tie.Need-mul-kind Inv-loop μ-loop
 mul-kind c =
-    omega (arith, c .before .before .before .before .pre .2)
+    let start : tie.Start Inv-loop μ-loop = search in
+    omega (arith, start .pre .2)
 
 add-kind : tie.Need-add-kind Inv-loop μ-loop
 add-kind c =
-    omega (arith, c .before .before .before .before .pre .2)
+    let start : tie.Start Inv-loop μ-loop = search in
+    omega (arith, start .pre .2)
 
 loop-holds : tie.Need-loop-holds Inv-loop μ-loop
 loop-holds c =
-    let few = linked-by (c .before .before .before .before .args .block .now) (c .before .before .before .before .pre .0) (c .before .before .before .before .pre .1) .few in
-    (indexing-start _ few (c .before .before .before .before .pre .4), hitting-start _ few (c .before .before .before .before .pre .4) (c .before .before .before .before .pre .5))
+    let start : tie.Start Inv-loop μ-loop = search in
+    let few = linked-by (start .args .block .now) (start .pre .0) (start .pre .1) .few in
+    (indexing-start _ few (start .pre .4), hitting-start _ few (start .pre .4) (start .pre .5))
 
 field-requires : tie.Need-field-requires Inv-loop μ-loop
 field-requires c κs =
-    let l = linked-by (c .before .before .before .before .before .before .args .block .now) (c .before .before .before .before .before .before .pre .0) (c .before .before .before .before .before .before .pre .1) in
+    let start : tie.Start Inv-loop μ-loop = search in
+    let l = linked-by (start .args .block .now) (start .pre .0) (start .pre .1) in
     (omega (arith, c .loop-test .taken, l .few), omega arith, l .size)
 
 add-p : tie.Need-add-p Inv-loop μ-loop
@@ -43,76 +47,118 @@ add-p c = search needs
 
 loop-less : tie.Need-loop-less Inv-loop μ-loop
 loop-less c =
-    omega (arith, c .before .before .loop-test .taken)
+    let loop-test-taken = (let p : tie.In-loop Inv-loop μ-loop = search in p .loop-test .taken) in
+    omega (arith, loop-test-taken)
 
 loop-again : tie.Need-loop-again Inv-loop μ-loop
 loop-again c =
-    (indexing-away (c .before .before .before .loop .inv .0) (c .before .before .loop-test .taken) (index-away (c .before .before .before .before .before .before .before .before .args .block .now) (c .before .before .before .before .before .before .before .before .args .from) (c .before .before .before .before .before .before .before .before .args .codes .now) (c .before .before .before .before .before .before .before .before .args .c) (c .before .before .before .loop .p) (c .before .field .ensures) (c .if1 .taken)), c .before .before .before .loop .inv .1)
+    let start : tie.Start Inv-loop μ-loop = search in
+    let loop-inv = (let p : tie.At-loop Inv-loop μ-loop = search in p .loop .inv) in
+    let loop-p = (let p : tie.At-loop Inv-loop μ-loop = search in p .loop .p) in
+    let loop-test-taken = (let p : tie.In-loop Inv-loop μ-loop = search in p .loop-test .taken) in
+    let field-ensures = (let p : tie.After-field Inv-loop μ-loop = search in p .field .ensures) in
+    (indexing-away (loop-inv .0) loop-test-taken (index-away (start .args .block .now) (start .args .from) (start .args .codes .now) (start .args .c) loop-p field-ensures (c .if1 .taken)), loop-inv .1)
 
 mul-if2 : tie.Need-mul-if2 Inv-loop μ-loop
 mul-if2 c =
-    omega (arith, c .before .before .loop-test .taken, linked-by (c .before .before .before .before .before .before .before .before .args .block .now) (c .before .before .before .before .before .before .before .before .pre .0) (c .before .before .before .before .before .before .before .before .pre .1) .few)
+    let start : tie.Start Inv-loop μ-loop = search in
+    let loop-test-taken = (let p : tie.In-loop Inv-loop μ-loop = search in p .loop-test .taken) in
+    omega (arith, loop-test-taken, linked-by (start .args .block .now) (start .pre .0) (start .pre .1) .few)
 
 slice-read-if2 : tie.Need-slice-read-if2 Inv-loop μ-loop
 slice-read-if2 c =
-    omega (arith, c .before .before .before .loop-test .taken, linked-by (c .before .before .before .before .before .before .before .before .before .args .block .now) (c .before .before .before .before .before .before .before .before .before .pre .0) (c .before .before .before .before .before .before .before .before .before .pre .1) .few, c .before .before .before .before .loop .inv .0 .size)
+    let start : tie.Start Inv-loop μ-loop = search in
+    let loop-inv = (let p : tie.At-loop Inv-loop μ-loop = search in p .loop .inv) in
+    let loop-test-taken = (let p : tie.In-loop Inv-loop μ-loop = search in p .loop-test .taken) in
+    omega (arith, loop-test-taken, linked-by (start .args .block .now) (start .pre .0) (start .pre .1) .few, loop-inv .0 .size)
 
 add-p-2 : tie.Need-add-p-2 Inv-loop μ-loop
 add-p-2 c = search needs
 
 loop-less-2 : tie.Need-loop-less-2 Inv-loop μ-loop
 loop-less-2 c =
-    omega (arith, c .before .before .before .before .loop-test .taken)
+    let loop-test-taken = (let p : tie.In-loop Inv-loop μ-loop = search in p .loop-test .taken) in
+    omega (arith, loop-test-taken)
 
 loop-again-2 : tie.Need-loop-again-2 Inv-loop μ-loop
 loop-again-2 c =
-    (indexing-skip (c .before .before .before .before .before .loop .inv .0) (c .before .before .before .before .loop-test .taken) (c .if2 .taken), c .before .before .before .before .before .loop .inv .1)
+    let loop-inv = (let p : tie.At-loop Inv-loop μ-loop = search in p .loop .inv) in
+    let loop-test-taken = (let p : tie.In-loop Inv-loop μ-loop = search in p .loop-test .taken) in
+    (indexing-skip (loop-inv .0) loop-test-taken (c .if2 .taken), loop-inv .1)
 
 face-code-requires : tie.Need-face-code-requires Inv-loop μ-loop
 face-code-requires c κs =
-    (linked-by (c .before .before .before .before .before .before .before .before .before .before .args .block .now) (c .before .before .before .before .before .before .before .before .before .before .pre .0) (c .before .before .before .before .before .before .before .before .before .before .pre .1), c .before .before .before .before .loop-test .taken)
+    let start : tie.Start Inv-loop μ-loop = search in
+    let loop-test-taken = (let p : tie.In-loop Inv-loop μ-loop = search in p .loop-test .taken) in
+    (linked-by (start .args .block .now) (start .pre .0) (start .pre .1), loop-test-taken)
 
 index-of-requires : tie.Need-index-of-requires Inv-loop μ-loop
 index-of-requires c κs =
-    (c .before .before .before .before .before .before .before .before .before .before .before .pre .3 .few, c .before .before .before .before .before .before .before .before .before .before .before .pre .3 .size, c .before .before .before .before .before .before .before .before .before .before .before .pre .3 .ascends)
+    let start : tie.Start Inv-loop μ-loop = search in
+    (start .pre .3 .few, start .pre .3 .size, start .pre .3 .ascends)
 
 cast-paint-face : tie.Need-cast-paint-face Inv-loop μ-loop
 cast-paint-face c =
-    omega (arith, index-few (c .before .before .before .before .before .before .before .before .before .before .before .before .args .codes .now) (c .before .before .before .before .before .before .before .before .before .before .before .before .args .c) (c .before .face-code .result) (c .index-of .ensures), c .before .before .before .before .before .before .before .before .before .before .before .before .pre .3 .few)
+    let start : tie.Start Inv-loop μ-loop = search in
+    let face-code-result = (let p : tie.After-face-code Inv-loop μ-loop = search in p .face-code .result) in
+    omega (arith, index-few (start .args .codes .now) (start .args .c) face-code-result (c .index-of .ensures), start .pre .3 .few)
 
 paint-face-requires : tie.Need-paint-face-requires Inv-loop μ-loop
 paint-face-requires c κs =
-    (linked-by (c .before .before .before .before .before .before .before .before .before .before .before .before .before .args .block .now) (c .before .before .before .before .before .before .before .before .before .before .before .before .before .pre .0) (c .before .before .before .before .before .before .before .before .before .before .before .before .before .pre .1), c .before .before .before .before .before .before .before .loop-test .taken, c .before .before .before .before .before .before .before .before .loop .inv .0 .size)
+    let start : tie.Start Inv-loop μ-loop = search in
+    let loop-inv = (let p : tie.At-loop Inv-loop μ-loop = search in p .loop .inv) in
+    let loop-test-taken = (let p : tie.In-loop Inv-loop μ-loop = search in p .loop-test .taken) in
+    (linked-by (start .args .block .now) (start .pre .0) (start .pre .1), loop-test-taken, loop-inv .0 .size)
 
 slice-write-hits : tie.Need-slice-write-hits Inv-loop μ-loop
 slice-write-hits c =
-    omega (arith, index-few (c .before .before .before .before .before .before .before .before .before .before .before .before .before .before .before .before .args .codes .now) (c .before .before .before .before .before .before .before .before .before .before .before .before .before .before .before .before .args .c) (c .before .before .before .before .before .face-code .result) (c .before .before .before .before .index-of .ensures), c .before .before .before .before .before .before .before .before .before .before .before .before .before .before .before .before .pre .3 .few, c .before .before .before .before .before .before .before .before .before .before .before .loop .inv .1 .size)
+    let start : tie.Start Inv-loop μ-loop = search in
+    let loop-inv = (let p : tie.At-loop Inv-loop μ-loop = search in p .loop .inv) in
+    let face-code-result = (let p : tie.After-face-code Inv-loop μ-loop = search in p .face-code .result) in
+    let index-of-ensures = (let p : tie.After-index-of Inv-loop μ-loop = search in p .index-of .ensures) in
+    omega (arith, index-few (start .args .codes .now) (start .args .c) face-code-result index-of-ensures, start .pre .3 .few, loop-inv .1 .size)
 
 add-p-3 : tie.Need-add-p-3 Inv-loop μ-loop
 add-p-3 c = search needs
 
 loop-less-3 : tie.Need-loop-less-3 Inv-loop μ-loop
 loop-less-3 c =
-    omega (arith, c .before .before .before .before .before .before .before .before .before .before .loop-test .taken)
+    let loop-test-taken = (let p : tie.In-loop Inv-loop μ-loop = search in p .loop-test .taken) in
+    omega (arith, loop-test-taken)
 
 loop-again-3 : tie.Need-loop-again-3 Inv-loop μ-loop
 loop-again-3 c =
-    let there = index-there (c .before .before .before .before .before .before .before .before .before .before .before .before .before .before .before .before .args .block .now) (c .before .before .before .before .before .before .before .before .before .before .before .before .before .before .before .before .args .from) (c .before .before .before .before .before .before .before .before .before .before .before .before .before .before .before .before .args .codes .now) (c .before .before .before .before .before .before .before .before .before .before .before .before .before .before .before .before .args .c) (c .before .before .before .before .before .before .before .before .before .before .before .loop .p) (c .before .before .before .before .before .before .before .before .before .field .ensures) (c .before .before .before .before .before .before .before .before .if1 .left) (c .before .before .before .before .before .face-code .ensures) (c .before .before .before .before .index-of .ensures) in
-    let few = index-few (c .before .before .before .before .before .before .before .before .before .before .before .before .before .before .before .before .args .codes .now) (c .before .before .before .before .before .before .before .before .before .before .before .before .before .before .before .before .args .c) (c .before .before .before .before .before .face-code .result) (c .before .before .before .before .index-of .ensures) in
-    (indexing-whole (c .before .before .before .before .before .before .before .before .before .before .before .before .before .before .before .before .args .block .now) (c .before .before .before .before .before .before .before .before .before .before .before .before .before .before .before .before .pre .0) (c .before .before .before .before .before .before .before .before .before .before .before .before .before .before .before .before .pre .1) (c .before .before .before .before .before .before .before .before .before .before .before .before .before .before .before .before .args .from) (c .before .before .before .before .before .before .before .before .before .before .before .before .before .before .before .before .args .codes .now) (c .before .before .before .before .before .before .before .before .before .before .before .before .before .before .before .before .args .c) (c .before .before .before .before .before .before .before .before .before .before .before .loop .inv .0) (c .before .before .before .before .before .before .before .before .before .before .loop-test .taken) there (c .before .before .paint-face .ensures), hitting-face (c .before .before .before .before .before .before .before .before .before .before .before .loop .inv .1) (c .before .before .before .before .before .before .before .before .before .before .loop-test .taken) there (omega (arith, few, c .before .before .before .before .before .before .before .before .before .before .before .before .before .before .before .before .pre .3 .few)) (c .before .before .paint-face .ensures))
+    let start : tie.Start Inv-loop μ-loop = search in
+    let loop-inv = (let p : tie.At-loop Inv-loop μ-loop = search in p .loop .inv) in
+    let loop-p = (let p : tie.At-loop Inv-loop μ-loop = search in p .loop .p) in
+    let loop-test-taken = (let p : tie.In-loop Inv-loop μ-loop = search in p .loop-test .taken) in
+    let field-ensures = (let p : tie.After-field Inv-loop μ-loop = search in p .field .ensures) in
+    let if1-left = (let p : tie.Else1 Inv-loop μ-loop = search in p .if1 .left) in
+    let face-code-ensures = (let p : tie.After-face-code Inv-loop μ-loop = search in p .face-code .ensures) in
+    let face-code-result = (let p : tie.After-face-code Inv-loop μ-loop = search in p .face-code .result) in
+    let index-of-ensures = (let p : tie.After-index-of Inv-loop μ-loop = search in p .index-of .ensures) in
+    let paint-face-ensures = (let p : tie.After-paint-face Inv-loop μ-loop = search in p .paint-face .ensures) in
+    let there = index-there (start .args .block .now) (start .args .from) (start .args .codes .now) (start .args .c) loop-p field-ensures if1-left face-code-ensures index-of-ensures in
+    let few = index-few (start .args .codes .now) (start .args .c) face-code-result index-of-ensures in
+    (indexing-whole (start .args .block .now) (start .pre .0) (start .pre .1) (start .args .from) (start .args .codes .now) (start .args .c) (loop-inv .0) loop-test-taken there paint-face-ensures, hitting-face (loop-inv .1) loop-test-taken there (omega (arith, few, start .pre .3 .few)) paint-face-ensures)
 
 same-length : tie.Need-same-length Inv-loop μ-loop
 same-length c =
-    c .before .loop .inv .0 .size ∙ sym (ap length (c .before .before .before .before .before .before .pre .4) ∙ length-replicate {A = ℕ} room 4097)
+    let start : tie.Start Inv-loop μ-loop = search in
+    let loop-inv = (let p : tie.At-loop Inv-loop μ-loop = search in p .loop .inv) in
+    loop-inv .0 .size ∙ sym (ap length (start .pre .4) ∙ length-replicate {A = ℕ} room 4097)
 
 same-length-2 : tie.Need-same-length-2 Inv-loop μ-loop
 same-length-2 c =
-    c .before .loop .inv .1 .size ∙ sym (ap length (c .before .before .before .before .before .before .pre .5) ∙ length-replicate {A = ℕ} 4097 0)
+    let start : tie.Start Inv-loop μ-loop = search in
+    let loop-inv = (let p : tie.At-loop Inv-loop μ-loop = search in p .loop .inv) in
+    loop-inv .1 .size ∙ sym (ap length (start .pre .5) ∙ length-replicate {A = ℕ} 4097 0)
 
 returns : tie.Need-returns Inv-loop μ-loop
 returns c =
-    let ended = indexing-end (c .before .loop .inv .0) (c .loop-test .left) in
-    (ended, hitting-end ended (c .before .loop .inv .1))
+    let loop-inv = (let p : tie.At-loop Inv-loop μ-loop = search in p .loop .inv) in
+    let ended = indexing-end (loop-inv .0) (c .loop-test .left) in
+    (ended, hitting-end ended (loop-inv .1))
 
 pub index-faces-spec : {M : Type 1} → statement M
 index-faces-spec =

@@ -25,11 +25,14 @@ loop-holds c =
 
 mul-wide : tie.Need-mul-wide Inv-loop μ-loop
 mul-wide c =
-    omega (arith, c .loop-test .taken, c .before .before .before .before .pre .0)
+    let start : tie.Start Inv-loop μ-loop = search in
+    omega (arith, c .loop-test .taken, start .pre .0)
 
 shared-slice-read-wide : tie.Need-shared-slice-read-wide Inv-loop μ-loop
 shared-slice-read-wide c =
-    omega (arith, c .before .loop-test .taken, c .before .before .before .before .before .pre .0, c .before .before .before .before .before .pre .2)
+    let start : tie.Start Inv-loop μ-loop = search in
+    let loop-test-taken = (let p : tie.In-loop Inv-loop μ-loop = search in p .loop-test .taken) in
+    omega (arith, loop-test-taken, start .pre .0, start .pre .2)
 
 wide-requires : tie.Need-wide-requires Inv-loop μ-loop
 wide-requires c κs = search needs
@@ -39,34 +42,51 @@ add-p c = search needs
 
 loop-less : tie.Need-loop-less Inv-loop μ-loop
 loop-less c =
-    omega (arith, c .before .before .before .loop-test .taken)
+    let loop-test-taken = (let p : tie.In-loop Inv-loop μ-loop = search in p .loop-test .taken) in
+    omega (arith, loop-test-taken)
 
 loop-again : tie.Need-loop-again Inv-loop μ-loop
 loop-again c =
-    (omega (arith, c .before .before .before .loop-test .taken), rewriting-skip (c .before .before .before .before .before .before .before .args .table .now) (c .before .before .before .before .before .before .before .args .c) (c .before .before .before .before .loop .inv .1) (omega (arith, c .if1 .taken, c .before .wide .ensures)))
+    let start : tie.Start Inv-loop μ-loop = search in
+    let loop-inv = (let p : tie.At-loop Inv-loop μ-loop = search in p .loop .inv) in
+    let loop-test-taken = (let p : tie.In-loop Inv-loop μ-loop = search in p .loop-test .taken) in
+    let wide-ensures = (let p : tie.After-wide Inv-loop μ-loop = search in p .wide .ensures) in
+    (omega (arith, loop-test-taken), rewriting-skip (start .args .table .now) (start .args .c) (loop-inv .1) (omega (arith, c .if1 .taken, wide-ensures)))
 
 put-field-requires : tie.Need-put-field-requires Inv-loop μ-loop
 put-field-requires c κs =
-    (omega (arith, c .before .before .before .before .loop-test .taken, c .before .before .before .before .before .before .before .before .pre .0), omega arith, c .before .before .before .before .before .loop .inv .1 .size ∙ c .before .before .before .before .before .before .before .before .pre .1)
+    let start : tie.Start Inv-loop μ-loop = search in
+    let loop-inv = (let p : tie.At-loop Inv-loop μ-loop = search in p .loop .inv) in
+    let loop-test-taken = (let p : tie.In-loop Inv-loop μ-loop = search in p .loop-test .taken) in
+    (omega (arith, loop-test-taken, start .pre .0), omega arith, loop-inv .1 .size ∙ start .pre .1)
 
 add-p-2 : tie.Need-add-p-2 Inv-loop μ-loop
 add-p-2 c = search needs
 
 loop-less-2 : tie.Need-loop-less-2 Inv-loop μ-loop
 loop-less-2 c =
-    omega (arith, c .before .before .before .before .before .before .before .loop-test .taken)
+    let loop-test-taken = (let p : tie.In-loop Inv-loop μ-loop = search in p .loop-test .taken) in
+    omega (arith, loop-test-taken)
 
 loop-again-2 : tie.Need-loop-again-2 Inv-loop μ-loop
 loop-again-2 c =
-    (omega (arith, c .before .before .before .before .before .before .before .loop-test .taken), rewriting-set (c .before .before .before .before .before .before .before .before .before .before .before .args .table .now) (c .before .before .before .before .before .before .before .before .before .before .before .args .c) (c .before .before .before .before .before .before .before .before .loop .inv .1) (omega (arith, c .before .before .before .before .if1 .left, c .before .before .before .before .before .wide .ensures)) (omega (arith, c .before .before .before .before .before .before .before .loop-test .taken, c .before .before .before .before .before .before .before .before .before .before .before .pre .0, c .before .before .before .before .before .before .before .before .before .before .before .pre .1)) (c .before .before .put-field .ensures))
+    let start : tie.Start Inv-loop μ-loop = search in
+    let loop-inv = (let p : tie.At-loop Inv-loop μ-loop = search in p .loop .inv) in
+    let loop-test-taken = (let p : tie.In-loop Inv-loop μ-loop = search in p .loop-test .taken) in
+    let wide-ensures = (let p : tie.After-wide Inv-loop μ-loop = search in p .wide .ensures) in
+    let if1-left = (let p : tie.Else1 Inv-loop μ-loop = search in p .if1 .left) in
+    let put-field-ensures = (let p : tie.After-put-field Inv-loop μ-loop = search in p .put-field .ensures) in
+    (omega (arith, loop-test-taken), rewriting-set (start .args .table .now) (start .args .c) (loop-inv .1) (omega (arith, if1-left, wide-ensures)) (omega (arith, loop-test-taken, start .pre .0, start .pre .1)) put-field-ensures)
 
 same-length : tie.Need-same-length Inv-loop μ-loop
 same-length c =
-    c .before .loop .inv .1 .size
+    let loop-inv = (let p : tie.At-loop Inv-loop μ-loop = search in p .loop .inv) in
+    loop-inv .1 .size
 
 returns : tie.Need-returns Inv-loop μ-loop
 returns c =
-    rewritten-end (c .before .loop .inv .0) (c .loop-test .left) (c .before .loop .inv .1)
+    let loop-inv = (let p : tie.At-loop Inv-loop μ-loop = search in p .loop .inv) in
+    rewritten-end (loop-inv .0) (c .loop-test .left) (loop-inv .1)
 
 pub rewrite-spec : {M : Type 1} → statement M
 rewrite-spec =

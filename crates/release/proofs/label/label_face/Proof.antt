@@ -20,43 +20,71 @@ abbrev μ-loop : tie.MeasureT-loop
 
 slice-read-maker : tie.Need-slice-read-maker Inv-loop μ-loop
 slice-read-maker c =
-    omega (arith, c .before .before .before .pre .0 .size)
+    let start : tie.Start Inv-loop μ-loop = search in
+    omega (arith, start .pre .0 .size)
 
 loop-holds : tie.Need-loop-holds Inv-loop μ-loop
 loop-holds c =
-    walking-start (c .before .before .before .pre .0) (c .before .before .before .args .to) (c .before .before .before .args .number) (c .before .before .before .args .start) (c .before .before .before .pre .1) (c .before .before .before .pre .2) (c .before .before .before .pre .3)
+    let start : tie.Start Inv-loop μ-loop = search in
+    walking-start (start .pre .0) (start .args .to) (start .args .number) (start .args .start) (start .pre .1) (start .pre .2) (start .pre .3)
 
 field-requires : tie.Need-field-requires Inv-loop μ-loop
 field-requires c κs =
-    (omega (arith, c .before .loop .inv .going .below, c .before .before .before .before .before .pre .0 .few), omega arith, c .before .loop .inv .same .size ∙ c .before .before .before .before .before .pre .0 .size)
+    let start : tie.Start Inv-loop μ-loop = search in
+    let loop-inv = (let p : tie.At-loop Inv-loop μ-loop = search in p .loop .inv) in
+    (omega (arith, loop-inv .going .below, start .pre .0 .few), omega arith, loop-inv .same .size ∙ start .pre .0 .size)
 
 put-label-requires : tie.Need-put-label-requires Inv-loop μ-loop
 put-label-requires c κs =
-    (c .before .before .before .loop .inv .same .size ∙ c .before .before .before .before .before .before .before .pre .0 .size, omega (arith, c .before .field .ensures, across (c .before .before .before .before .before .before .before .pre .0) (c .before .before .before .before .before .before .before .args .to) (c .before .before .before .before .before .before .before .args .number) (c .before .before .before .before .before .before .before .args .start) (c .before .before .before .before .before .before .before .pre .1) (c .before .before .before .loop .inv) .0, c .before .before .before .before .before .before .before .pre .0 .few), c .before .before .before .before .before .before .before .pre .4, c .before .before .before .before .before .before .before .pre .0 .number-small, c .before .before .before .before .before .before .before .pre .5, omega (arith, c .before .before .before .loop .inv .going .less, turn (c .before .before .before .before .before .before .before .pre .0) (c .before .before .before .before .before .before .before .args .to) (c .before .before .before .before .before .before .before .args .number) (c .before .before .before .before .before .before .before .args .start) (c .before .before .before .before .before .before .before .pre .1) .few))
+    let start : tie.Start Inv-loop μ-loop = search in
+    let loop-inv = (let p : tie.At-loop Inv-loop μ-loop = search in p .loop .inv) in
+    let field-ensures = (let p : tie.After-field Inv-loop μ-loop = search in p .field .ensures) in
+    (loop-inv .same .size ∙ start .pre .0 .size, omega (arith, field-ensures, across (start .pre .0) (start .args .to) (start .args .number) (start .args .start) (start .pre .1) loop-inv .0, start .pre .0 .few), start .pre .4, start .pre .0 .number-small, start .pre .5, omega (arith, loop-inv .going .less, turn (start .pre .0) (start .args .to) (start .args .number) (start .args .start) (start .pre .1) .few))
 
 add-i : tie.Need-add-i Inv-loop μ-loop
 add-i c =
-    omega (arith, c .before .before .before .before .before .before .loop .inv .going .less, turn (c .before .before .before .before .before .before .before .before .before .before .pre .0) (c .before .before .before .before .before .before .before .before .before .before .args .to) (c .before .before .before .before .before .before .before .before .before .before .args .number) (c .before .before .before .before .before .before .before .before .before .before .args .start) (c .before .before .before .before .before .before .before .before .before .before .pre .1) .few)
+    let start : tie.Start Inv-loop μ-loop = search in
+    let loop-inv = (let p : tie.At-loop Inv-loop μ-loop = search in p .loop .inv) in
+    omega (arith, loop-inv .going .less, turn (start .pre .0) (start .args .to) (start .args .number) (start .args .start) (start .pre .1) .few)
 
 field-requires-2 : tie.Need-field-requires-2 Inv-loop μ-loop
 field-requires-2 c κs =
-    (omega (arith, c .before .before .before .before .before .before .before .loop .inv .going .below, c .before .before .before .before .before .before .before .before .before .before .before .pre .0 .few), omega arith, same-end (c .before .before .before .before .before .before .before .before .before .before .before .pre .0) (c .before .before .before .before .before .before .before .before .before .before .before .args .to) (c .before .before .before .before .before .before .before .before .before .before .before .args .number) (c .before .before .before .before .before .before .before .before .before .before .before .args .start) (c .before .before .before .before .before .before .before .before .before .before .before .pre .1) (c .before .before .before .before .before .before .before .loop .inv) (c .before .before .before .before .before .field .ensures) (c .before .before .before .put-label .ensures) .size ∙ c .before .before .before .before .before .before .before .before .before .before .before .pre .0 .size)
+    let start : tie.Start Inv-loop μ-loop = search in
+    let loop-inv = (let p : tie.At-loop Inv-loop μ-loop = search in p .loop .inv) in
+    let field-ensures = (let p : tie.After-field Inv-loop μ-loop = search in p .field .ensures) in
+    let put-label-ensures = (let p : tie.After-put-label Inv-loop μ-loop = search in p .put-label .ensures) in
+    (omega (arith, loop-inv .going .below, start .pre .0 .few), omega arith, same-end (start .pre .0) (start .args .to) (start .args .number) (start .args .start) (start .pre .1) loop-inv field-ensures put-label-ensures .size ∙ start .pre .0 .size)
 
 same-length : tie.Need-same-length Inv-loop μ-loop
 same-length c =
-    same-end (c .before .before .before .before .before .before .before .before .before .before .before .before .before .pre .0) (c .before .before .before .before .before .before .before .before .before .before .before .before .before .args .to) (c .before .before .before .before .before .before .before .before .before .before .before .before .before .args .number) (c .before .before .before .before .before .before .before .before .before .before .before .before .before .args .start) (c .before .before .before .before .before .before .before .before .before .before .before .before .before .pre .1) (c .before .before .before .before .before .before .before .before .before .loop .inv) (c .before .before .before .before .before .before .before .field .ensures) (c .before .before .before .before .before .put-label .ensures) .size
+    let start : tie.Start Inv-loop μ-loop = search in
+    let loop-inv = (let p : tie.At-loop Inv-loop μ-loop = search in p .loop .inv) in
+    let field-ensures = (let p : tie.After-field Inv-loop μ-loop = search in p .field .ensures) in
+    let put-label-ensures = (let p : tie.After-put-label Inv-loop μ-loop = search in p .put-label .ensures) in
+    same-end (start .pre .0) (start .args .to) (start .args .number) (start .args .start) (start .pre .1) loop-inv field-ensures put-label-ensures .size
 
 returns : tie.Need-returns Inv-loop μ-loop
 returns c =
-    (same-end (c .before .before .before .before .before .before .before .before .before .before .before .before .before .pre .0) (c .before .before .before .before .before .before .before .before .before .before .before .before .before .args .to) (c .before .before .before .before .before .before .before .before .before .before .before .before .before .args .number) (c .before .before .before .before .before .before .before .before .before .before .before .before .before .args .start) (c .before .before .before .before .before .before .before .before .before .before .before .before .before .pre .1) (c .before .before .before .before .before .before .before .before .before .loop .inv) (c .before .before .before .before .before .before .before .field .ensures) (c .before .before .before .before .before .put-label .ensures), walking-end (c .before .before .before .before .before .before .before .before .before .before .before .before .before .pre .0) (c .before .before .before .before .before .before .before .before .before .before .before .before .before .args .to) (c .before .before .before .before .before .before .before .before .before .before .before .before .before .args .number) (c .before .before .before .before .before .before .before .before .before .before .before .before .before .args .start) (c .before .before .before .before .before .before .before .before .before .before .before .before .before .pre .1) (c .before .before .before .before .before .before .before .before .before .loop .inv) (c .before .before .before .before .before .before .before .field .ensures) (c .before .before .before .before .before .put-label .ensures) (c .before .field2 .ensures) (c .if1 .taken))
+    let start : tie.Start Inv-loop μ-loop = search in
+    let loop-inv = (let p : tie.At-loop Inv-loop μ-loop = search in p .loop .inv) in
+    let field-ensures = (let p : tie.After-field Inv-loop μ-loop = search in p .field .ensures) in
+    let put-label-ensures = (let p : tie.After-put-label Inv-loop μ-loop = search in p .put-label .ensures) in
+    let field2-ensures = (let p : tie.After-field2 Inv-loop μ-loop = search in p .field2 .ensures) in
+    (same-end (start .pre .0) (start .args .to) (start .args .number) (start .args .start) (start .pre .1) loop-inv field-ensures put-label-ensures, walking-end (start .pre .0) (start .args .to) (start .args .number) (start .args .start) (start .pre .1) loop-inv field-ensures put-label-ensures field2-ensures (c .if1 .taken))
 
 loop-less : tie.Need-loop-less Inv-loop μ-loop
 loop-less c =
-    omega (arith, c .before .before .before .before .before .before .before .before .before .loop .inv .going .less)
+    let loop-inv = (let p : tie.At-loop Inv-loop μ-loop = search in p .loop .inv) in
+    omega (arith, loop-inv .going .less)
 
 loop-again : tie.Need-loop-again Inv-loop μ-loop
 loop-again c =
-    walking-on (c .before .before .before .before .before .before .before .before .before .before .before .before .before .pre .0) (c .before .before .before .before .before .before .before .before .before .before .before .before .before .args .to) (c .before .before .before .before .before .before .before .before .before .before .before .before .before .args .number) (c .before .before .before .before .before .before .before .before .before .before .before .before .before .args .start) (c .before .before .before .before .before .before .before .before .before .before .before .before .before .pre .1) (c .before .before .before .before .before .before .before .before .before .loop .inv) (c .before .before .before .before .before .before .before .field .ensures) (c .before .before .before .before .before .put-label .ensures) (c .before .field2 .ensures) (c .if1 .left)
+    let start : tie.Start Inv-loop μ-loop = search in
+    let loop-inv = (let p : tie.At-loop Inv-loop μ-loop = search in p .loop .inv) in
+    let field-ensures = (let p : tie.After-field Inv-loop μ-loop = search in p .field .ensures) in
+    let put-label-ensures = (let p : tie.After-put-label Inv-loop μ-loop = search in p .put-label .ensures) in
+    let field2-ensures = (let p : tie.After-field2 Inv-loop μ-loop = search in p .field2 .ensures) in
+    walking-on (start .pre .0) (start .args .to) (start .args .number) (start .args .start) (start .pre .1) loop-inv field-ensures put-label-ensures field2-ensures (c .if1 .left)
 
 pub label-face-spec : {M : Type 1} → statement M
 label-face-spec =

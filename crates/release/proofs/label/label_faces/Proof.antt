@@ -18,72 +18,116 @@ abbrev μ-loop : tie.MeasureT-loop
 
 slice-read-n : tie.Need-slice-read-n Inv-loop μ-loop
 slice-read-n c =
-    omega (arith, c .before .before .before .before .before .pre .0 .size)
+    let start : tie.Start Inv-loop μ-loop = search in
+    omega (arith, start .pre .0 .size)
 
 slice-read-number : tie.Need-slice-read-number Inv-loop μ-loop
 slice-read-number c =
-    omega (arith, c .before .before .before .before .before .before .pre .0 .size)
+    let start : tie.Start Inv-loop μ-loop = search in
+    omega (arith, start .pre .0 .size)
 
 loop-holds : tie.Need-loop-holds Inv-loop μ-loop
 loop-holds c =
-    facing-start (c .before .before .before .before .before .before .args .block .now) (c .before .before .before .before .before .before .args .marks .now) (c .before .before .before .before .before .before .args .to)
+    let start : tie.Start Inv-loop μ-loop = search in
+    facing-start (start .args .block .now) (start .args .marks .now) (start .args .to)
 
 mul-i : tie.Need-mul-i Inv-loop μ-loop
 mul-i c =
-    omega (arith, c .loop-test .taken, in-order-few (c .before .before .before .before .before .before .before .before .pre .1) .1)
+    let start : tie.Start Inv-loop μ-loop = search in
+    omega (arith, c .loop-test .taken, in-order-few (start .pre .1) .1)
 
 shared-slice-read-i : tie.Need-shared-slice-read-i Inv-loop μ-loop
 shared-slice-read-i c =
-    omega (arith, c .before .loop-test .taken, in-order-few (c .before .before .before .before .before .before .before .before .before .pre .1) .1, c .before .before .before .before .before .before .before .before .before .pre .1 .starts-size)
+    let start : tie.Start Inv-loop μ-loop = search in
+    let loop-test-taken = (let p : tie.In-loop Inv-loop μ-loop = search in p .loop-test .taken) in
+    omega (arith, loop-test-taken, in-order-few (start .pre .1) .1, start .pre .1 .starts-size)
 
 mul-p : tie.Need-mul-p Inv-loop μ-loop
 mul-p c =
-    omega (arith, starting (c .before .before .before .before .before .before .before .before .before .pre .0) (c .before .before .before .before .before .before .before .before .before .pre .1) (c .before .before .loop .f) (c .before .loop-test .taken) .index-lt, in-order-few (c .before .before .before .before .before .before .before .before .before .pre .1) .0)
+    let start : tie.Start Inv-loop μ-loop = search in
+    let loop-f = (let p : tie.At-loop Inv-loop μ-loop = search in p .loop .f) in
+    let loop-test-taken = (let p : tie.In-loop Inv-loop μ-loop = search in p .loop-test .taken) in
+    omega (arith, starting (start .pre .0) (start .pre .1) loop-f loop-test-taken .index-lt, in-order-few (start .pre .1) .0)
 
 shared-slice-read-p : tie.Need-shared-slice-read-p Inv-loop μ-loop
 shared-slice-read-p c =
-    omega (arith, starting (c .before .before .before .before .before .before .before .before .before .before .pre .0) (c .before .before .before .before .before .before .before .before .before .before .pre .1) (c .before .before .before .loop .f) (c .before .before .loop-test .taken) .index-lt, in-order-few (c .before .before .before .before .before .before .before .before .before .before .pre .1) .0, c .before .before .before .before .before .before .before .before .before .before .pre .1 .out-size)
+    let start : tie.Start Inv-loop μ-loop = search in
+    let loop-f = (let p : tie.At-loop Inv-loop μ-loop = search in p .loop .f) in
+    let loop-test-taken = (let p : tie.In-loop Inv-loop μ-loop = search in p .loop-test .taken) in
+    omega (arith, starting (start .pre .0) (start .pre .1) loop-f loop-test-taken .index-lt, in-order-few (start .pre .1) .0, start .pre .1 .out-size)
 
 add-f : tie.Need-add-f Inv-loop μ-loop
 add-f c =
-    omega (arith, c .before .before .loop-test .taken, in-order-few (c .before .before .before .before .before .before .before .before .before .before .pre .1) .1)
+    let start : tie.Start Inv-loop μ-loop = search in
+    let loop-test-taken = (let p : tie.In-loop Inv-loop μ-loop = search in p .loop-test .taken) in
+    omega (arith, loop-test-taken, in-order-few (start .pre .1) .1)
 
 field-requires : tie.Need-field-requires Inv-loop μ-loop
 field-requires c κs =
-    (omega (arith, starting (c .before .before .before .before .before .before .before .before .before .before .before .pre .0) (c .before .before .before .before .before .before .before .before .before .before .before .pre .1) (c .before .before .before .before .loop .f) (c .before .before .before .loop-test .taken) .below, c .before .before .before .before .before .before .before .before .before .before .before .pre .0 .few), omega arith, c .before .before .before .before .loop .inv .same .size ∙ c .before .before .before .before .before .before .before .before .before .before .before .pre .0 .size)
+    let start : tie.Start Inv-loop μ-loop = search in
+    let loop-f = (let p : tie.At-loop Inv-loop μ-loop = search in p .loop .f) in
+    let loop-inv = (let p : tie.At-loop Inv-loop μ-loop = search in p .loop .inv) in
+    let loop-test-taken = (let p : tie.In-loop Inv-loop μ-loop = search in p .loop-test .taken) in
+    (omega (arith, starting (start .pre .0) (start .pre .1) loop-f loop-test-taken .below, start .pre .0 .few), omega arith, loop-inv .same .size ∙ start .pre .0 .size)
 
 loop-less : tie.Need-loop-less Inv-loop μ-loop
 loop-less c =
-    omega (arith, c .before .before .before .before .before .loop-test .taken)
+    let loop-test-taken = (let p : tie.In-loop Inv-loop μ-loop = search in p .loop-test .taken) in
+    omega (arith, loop-test-taken)
 
 loop-again : tie.Need-loop-again Inv-loop μ-loop
 loop-again c =
-    face-skip (c .before .before .before .before .before .before .before .before .before .before .before .before .before .pre .0) (c .before .before .before .before .before .before .before .before .before .before .before .before .before .pre .1) (c .before .before .before .before .before .loop-test .taken) (c .before .before .before .before .before .before .loop .inv) (c .before .field .ensures) (c .if1 .taken)
+    let start : tie.Start Inv-loop μ-loop = search in
+    let loop-inv = (let p : tie.At-loop Inv-loop μ-loop = search in p .loop .inv) in
+    let loop-test-taken = (let p : tie.In-loop Inv-loop μ-loop = search in p .loop-test .taken) in
+    let field-ensures = (let p : tie.After-field Inv-loop μ-loop = search in p .field .ensures) in
+    face-skip (start .pre .0) (start .pre .1) loop-test-taken loop-inv field-ensures (c .if1 .taken)
 
 label-face-requires : tie.Need-label-face-requires Inv-loop μ-loop
 label-face-requires c κs =
-    let s = starting (c .before .before .before .before .before .before .before .before .before .before .before .before .before .before .pre .0) (c .before .before .before .before .before .before .before .before .before .before .before .before .before .before .pre .1) (c .before .before .before .before .before .before .before .loop .f) (c .before .before .before .before .before .before .loop-test .taken) in
-    (sewing-stays (c .before .before .before .before .before .before .before .before .before .before .before .before .before .before .pre .0) (c .before .before .before .before .before .before .before .loop .inv .same), s .below, s .inside, omega (arith, c .before .before .field .ensures, c .before .if1 .left), c .before .before .before .before .before .before .before .before .before .before .before .before .before .before .pre .2, omega (arith, number-fits (c .before .before .before .before .before .before .before .before .before .before .before .before .before .before .pre .0) (c .before .before .before .before .before .before .before .before .before .before .before .before .before .before .pre .1) (c .before .before .before .before .before .before .loop-test .taken) (c .before .before .before .before .before .before .before .loop .inv) (c .before .before .field .ensures) (c .before .if1 .left), c .before .before .before .before .before .before .before .before .before .before .before .before .before .before .pre .3))
+    let start : tie.Start Inv-loop μ-loop = search in
+    let loop-f = (let p : tie.At-loop Inv-loop μ-loop = search in p .loop .f) in
+    let loop-inv = (let p : tie.At-loop Inv-loop μ-loop = search in p .loop .inv) in
+    let loop-test-taken = (let p : tie.In-loop Inv-loop μ-loop = search in p .loop-test .taken) in
+    let field-ensures = (let p : tie.After-field Inv-loop μ-loop = search in p .field .ensures) in
+    let if1-left = (let p : tie.Else1 Inv-loop μ-loop = search in p .if1 .left) in
+    let s = starting (start .pre .0) (start .pre .1) loop-f loop-test-taken in
+    (sewing-stays (start .pre .0) (loop-inv .same), s .below, s .inside, omega (arith, field-ensures, if1-left), start .pre .2, omega (arith, number-fits (start .pre .0) (start .pre .1) loop-test-taken loop-inv field-ensures if1-left, start .pre .3))
 
 add-number : tie.Need-add-number Inv-loop μ-loop
 add-number c =
-    omega (arith, number-fits (c .before .before .before .before .before .before .before .before .before .before .before .before .before .before .before .before .before .pre .0) (c .before .before .before .before .before .before .before .before .before .before .before .before .before .before .before .before .before .pre .1) (c .before .before .before .before .before .before .before .before .before .loop-test .taken) (c .before .before .before .before .before .before .before .before .before .before .loop .inv) (c .before .before .before .before .before .field .ensures) (c .before .before .before .before .if1 .left), c .before .before .before .before .before .before .before .before .before .before .before .before .before .before .before .before .before .pre .3)
+    let start : tie.Start Inv-loop μ-loop = search in
+    let loop-inv = (let p : tie.At-loop Inv-loop μ-loop = search in p .loop .inv) in
+    let loop-test-taken = (let p : tie.In-loop Inv-loop μ-loop = search in p .loop-test .taken) in
+    let field-ensures = (let p : tie.After-field Inv-loop μ-loop = search in p .field .ensures) in
+    let if1-left = (let p : tie.Else1 Inv-loop μ-loop = search in p .if1 .left) in
+    omega (arith, number-fits (start .pre .0) (start .pre .1) loop-test-taken loop-inv field-ensures if1-left, start .pre .3)
 
 loop-less-2 : tie.Need-loop-less-2 Inv-loop μ-loop
 loop-less-2 c =
-    omega (arith, c .before .before .before .before .before .before .before .before .before .loop-test .taken)
+    let loop-test-taken = (let p : tie.In-loop Inv-loop μ-loop = search in p .loop-test .taken) in
+    omega (arith, loop-test-taken)
 
 loop-again-2 : tie.Need-loop-again-2 Inv-loop μ-loop
 loop-again-2 c =
-    face-one (c .before .before .before .before .before .before .before .before .before .before .before .before .before .before .before .before .before .pre .0) (c .before .before .before .before .before .before .before .before .before .before .before .before .before .before .before .before .before .pre .1) (c .before .before .before .before .before .before .before .before .before .loop-test .taken) (c .before .before .before .before .before .before .before .before .before .before .loop .inv) (c .before .before .before .before .before .field .ensures) (c .before .before .before .before .if1 .left) (c .before .before .label-face .ensures .0) (c .before .before .label-face .ensures .1)
+    let start : tie.Start Inv-loop μ-loop = search in
+    let loop-inv = (let p : tie.At-loop Inv-loop μ-loop = search in p .loop .inv) in
+    let loop-test-taken = (let p : tie.In-loop Inv-loop μ-loop = search in p .loop-test .taken) in
+    let field-ensures = (let p : tie.After-field Inv-loop μ-loop = search in p .field .ensures) in
+    let if1-left = (let p : tie.Else1 Inv-loop μ-loop = search in p .if1 .left) in
+    let label-face-ensures = (let p : tie.After-label-face Inv-loop μ-loop = search in p .label-face .ensures) in
+    face-one (start .pre .0) (start .pre .1) loop-test-taken loop-inv field-ensures if1-left (label-face-ensures .0) (label-face-ensures .1)
 
 same-length : tie.Need-same-length Inv-loop μ-loop
 same-length c =
-    c .before .loop .inv .same .size
+    let loop-inv = (let p : tie.At-loop Inv-loop μ-loop = search in p .loop .inv) in
+    loop-inv .same .size
 
 returns : tie.Need-returns Inv-loop μ-loop
 returns c =
-    facing-end (c .before .loop .inv) (omega (arith, c .loop-test .left, c .before .before .before .before .before .before .before .before .pre .1 .count-is))
+    let start : tie.Start Inv-loop μ-loop = search in
+    let loop-inv = (let p : tie.At-loop Inv-loop μ-loop = search in p .loop .inv) in
+    facing-end loop-inv (omega (arith, c .loop-test .left, start .pre .1 .count-is))
 
 pub label-faces-spec : {M : Type 1} → statement M
 label-faces-spec =

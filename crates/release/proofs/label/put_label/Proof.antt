@@ -24,7 +24,11 @@ same-length c = search needs
 
 returns : tie.Need-returns
 returns c =
-    link-stored (c .before .before .before .before .before .before .before .before .before .before .args .block .now) (c .before .before .before .before .before .before .before .before .before .before .args .q) (c .before .before .before .before .before .before .before .before .before .before .args .to) _ (c .before .before .before .before .before .before .before .before .code-of .ensures) (c .before .before .before .before .before .before .put-field .ensures) (c .before .before .put-field2 .ensures)
+    let start : tie.Start = search in
+    let code-of-ensures = (let p : tie.After-code-of = search in p .code-of .ensures) in
+    let put-field-ensures = (let p : tie.After-put-field = search in p .put-field .ensures) in
+    let put-field2-ensures = (let p : tie.After-put-field2 = search in p .put-field2 .ensures) in
+    link-stored (start .args .block .now) (start .args .q) (start .args .to) _ code-of-ensures put-field-ensures put-field2-ensures
 
 pub put-label-spec : {M : Type 1} → statement M
 put-label-spec =

@@ -24,7 +24,9 @@ same-length c = search needs
 
 returns : tie.Need-returns
 returns c =
-    part-cleared (c .before .before .before .before .before .args .block .now) (c .before .before .before .before .before .args .a) (c .before .before .before .before .before .args .e) (c .before .before .before .before .before .pre .0) (c .before .before .before .before .before .pre .1) (c .before .before .clear .ensures)
+    let start : tie.Start = search in
+    let clear-ensures = (let p : tie.After-clear = search in p .clear .ensures) in
+    part-cleared (start .args .block .now) (start .args .a) (start .args .e) (start .pre .0) (start .pre .1) clear-ensures
 
 pub clear-part-spec : {M : Type 1} → statement M
 clear-part-spec =

@@ -25,38 +25,54 @@ loop-holds c =
 
 shared-slice-read-if1 : tie.Need-shared-slice-read-if1 Inv-loop μ-loop
 shared-slice-read-if1 c =
-    omega (arith, c .before .loop-test .taken, c .before .before .before .before .before .before .pre .0 .few, c .before .before .before .before .before .before .pre .1)
+    let start : tie.Start Inv-loop μ-loop = search in
+    let loop-test-taken = (let p : tie.In-loop Inv-loop μ-loop = search in p .loop-test .taken) in
+    omega (arith, loop-test-taken, start .pre .0 .few, start .pre .1)
 
 move-record-requires : tie.Need-move-record-requires Inv-loop μ-loop
 move-record-requires c κs =
-    ((c .before .before .before .before .loop .inv .1 .len ∙ c .before .before .before .before .before .before .before .before .pre .0 .size, c .before .before .before .before .before .before .before .before .pre .2, omega (arith, c .before .before .before .loop-test .taken, c .before .before .before .before .before .before .before .before .pre .0 .few), count-le (c .before .before .before .before .loop .inv .1) (omega (arith, c .before .before .before .loop-test .taken, c .before .before .before .before .before .before .before .before .pre .0 .few, c .before .before .before .before .before .before .before .before .pre .0 .size))), links-fit (c .before .before .before .before .before .before .before .before .pre .0) (c .before .before .before .before .before .before .before .before .args .table .now) (c .before .before .before .before .before .before .before .before .pre .3) (c .before .before .before .before .loop .inv .1) (c .before .before .before .loop-test .taken))
+    let start : tie.Start Inv-loop μ-loop = search in
+    let loop-inv = (let p : tie.At-loop Inv-loop μ-loop = search in p .loop .inv) in
+    let loop-test-taken = (let p : tie.In-loop Inv-loop μ-loop = search in p .loop-test .taken) in
+    ((loop-inv .1 .len ∙ start .pre .0 .size, start .pre .2, omega (arith, loop-test-taken, start .pre .0 .few), count-le (loop-inv .1) (omega (arith, loop-test-taken, start .pre .0 .few, start .pre .0 .size))), links-fit (start .pre .0) (start .args .table .now) (start .pre .3) (loop-inv .1) loop-test-taken)
 
 add-w : tie.Need-add-w Inv-loop μ-loop
 add-w c =
-    omega (arith, count-le (c .before .before .before .before .before .before .before .loop .inv .1) (omega (arith, c .before .before .before .before .before .before .loop-test .taken, c .before .before .before .before .before .before .before .before .before .before .before .pre .0 .few, c .before .before .before .before .before .before .before .before .before .before .before .pre .0 .size)), c .before .before .before .before .before .before .loop-test .taken, c .before .before .before .before .before .before .before .before .before .before .before .pre .0 .few)
+    let start : tie.Start Inv-loop μ-loop = search in
+    let loop-inv = (let p : tie.At-loop Inv-loop μ-loop = search in p .loop .inv) in
+    let loop-test-taken = (let p : tie.In-loop Inv-loop μ-loop = search in p .loop-test .taken) in
+    omega (arith, count-le (loop-inv .1) (omega (arith, loop-test-taken, start .pre .0 .few, start .pre .0 .size)), loop-test-taken, start .pre .0 .few)
 
 add-i : tie.Need-add-i Inv-loop μ-loop
 add-i c =
-    omega (arith, c .before .before .loop-test .taken, c .before .before .before .before .before .before .before .pre .0 .few)
+    let start : tie.Start Inv-loop μ-loop = search in
+    let loop-test-taken = (let p : tie.In-loop Inv-loop μ-loop = search in p .loop-test .taken) in
+    omega (arith, loop-test-taken, start .pre .0 .few)
 
 loop-less : tie.Need-loop-less Inv-loop μ-loop
 loop-less c =
-    omega (arith, c .before .before .loop-test .taken)
+    let loop-test-taken = (let p : tie.In-loop Inv-loop μ-loop = search in p .loop-test .taken) in
+    omega (arith, loop-test-taken)
 
 loop-again : tie.Need-loop-again Inv-loop μ-loop
 loop-again c =
-    let v = c .before .before .before .loop .inv .1 in
-    let l = c .before .before .loop-test .taken in
-    let fits : 8 + (c .before .before .before .loop .i + 1) * 8 ≤ length (c .before .before .before .before .before .before .before .args .block .now) = omega (arith, l, c .before .before .before .before .before .before .before .pre .0 .few, c .before .before .before .before .before .before .before .pre .0 .size) in
-    (omega arith, ⊎-elim (λ a. moved-one v fits (a .0 .taken) (length-moved _ _ _) (one-move (c .before .before .before .before .before .before .before .pre .0) (c .before .before .before .before .before .before .before .args .table .now) (c .before .before .before .before .before .before .before .pre .3) v l) (a .5 ∙ a .2 .ensures) (a .6)) (λ a. moved-none v fits (a .0 .left) (a .1) (a .2)) (c .if1 .came))
+    let start : tie.Start Inv-loop μ-loop = search in
+    let loop-i = (let p : tie.At-loop Inv-loop μ-loop = search in p .loop .i) in
+    let loop-inv = (let p : tie.At-loop Inv-loop μ-loop = search in p .loop .inv) in
+    let v = loop-inv .1 in
+    let l = (let p : tie.In-loop Inv-loop μ-loop = search in p .loop-test .taken) in
+    let fits : 8 + (loop-i + 1) * 8 ≤ length (start .args .block .now) = omega (arith, l, start .pre .0 .few, start .pre .0 .size) in
+    (omega arith, ⊎-elim (λ a. moved-one v fits (a .0 .taken) (length-moved _ _ _) (one-move (start .pre .0) (start .args .table .now) (start .pre .3) v l) (a .5 ∙ a .2 .ensures) (a .6)) (λ a. moved-none v fits (a .0 .left) (a .1) (a .2)) (c .if1 .came))
 
 same-length : tie.Need-same-length Inv-loop μ-loop
 same-length c =
-    c .before .loop .inv .1 .len
+    let loop-inv = (let p : tie.At-loop Inv-loop μ-loop = search in p .loop .inv) in
+    loop-inv .1 .len
 
 returns : tie.Need-returns Inv-loop μ-loop
 returns c =
-    moved-end (c .before .loop .inv .1) (c .before .loop .inv .0) (c .loop-test .left)
+    let loop-inv = (let p : tie.At-loop Inv-loop μ-loop = search in p .loop .inv) in
+    moved-end (loop-inv .1) (loop-inv .0) (c .loop-test .left)
 
 pub compact-spec : {M : Type 1} → statement M
 compact-spec =

@@ -12,30 +12,43 @@ use Rattle.release.proofs.remove.move_record.Tie as tie
 
 record-at-requires : tie.Need-record-at-requires
 record-at-requires c κs =
-    (c .before .before .before .pre .0 .2, c .before .before .before .pre .0 .0)
+    let start : tie.Start = search in
+    (start .pre .0 .2, start .pre .0 .0)
 
 moved-requires : tie.Need-moved-requires
 moved-requires c κs =
-    (c .before .before .before .before .pre .0 .1, subst (λ (r : Record). r .next < room) (sym (c .record-at .ensures)) (c .before .before .before .before .pre .1 .0))
+    let start : tie.Start = search in
+    (start .pre .0 .1, subst (λ (r : Record). r .next < room) (sym (c .record-at .ensures)) (start .pre .1 .0))
 
 moved-requires-2 : tie.Need-moved-requires-2
 moved-requires-2 c κs =
-    (c .before .before .before .before .before .pre .0 .1, subst (λ (r : Record). r .opposite < room) (sym (c .before .record-at .ensures)) (c .before .before .before .before .before .pre .1 .1))
+    let start : tie.Start = search in
+    let record-at-ensures = (let p : tie.After-record-at = search in p .record-at .ensures) in
+    (start .pre .0 .1, subst (λ (r : Record). r .opposite < room) (sym record-at-ensures) (start .pre .1 .1))
 
 moved-link-requires : tie.Need-moved-link-requires
 moved-link-requires c κs =
-    (c .before .before .before .before .before .before .pre .0 .1, subst (λ (r : Record). r .kind ≡ 1 → r .link < room) (sym (c .before .before .record-at .ensures)) (c .before .before .before .before .before .before .pre .1 .2))
+    let start : tie.Start = search in
+    let record-at-ensures = (let p : tie.After-record-at = search in p .record-at .ensures) in
+    (start .pre .0 .1, subst (λ (r : Record). r .kind ≡ 1 → r .link < room) (sym record-at-ensures) (start .pre .1 .2))
 
 put-record-requires : tie.Need-put-record-requires
 put-record-requires c κs =
-    (omega (arith, c .before .before .before .before .before .before .before .before .pre), c .before .before .before .before .before .before .before .before .pre .0 .0)
+    let start : tie.Start = search in
+    (omega (arith, start .pre), start .pre .0 .0)
 
 same-length : tie.Need-same-length
 same-length c = search needs
 
 returns : tie.Need-returns
 returns c =
-    record-moved (c .before .before .before .before .before .before .before .before .before .before .before .args .block .now) (c .before .before .before .before .before .before .before .before .before .before .before .args .from) (c .before .before .before .before .before .before .before .before .before .before .before .args .at) (λ p. getD (c .before .before .before .before .before .before .before .before .before .before .before .args .table .now) p 0) (c .before .before .before .before .before .before .before .record-at .ensures) (c .before .before .before .before .before .before .moved .ensures) (c .before .before .before .before .before .moved2 .ensures) (c .before .before .before .before .moved-link .ensures) (c .before .before .put-record .ensures)
+    let start : tie.Start = search in
+    let record-at-ensures = (let p : tie.After-record-at = search in p .record-at .ensures) in
+    let moved-ensures = (let p : tie.After-moved = search in p .moved .ensures) in
+    let moved2-ensures = (let p : tie.After-moved2 = search in p .moved2 .ensures) in
+    let moved-link-ensures = (let p : tie.After-moved-link = search in p .moved-link .ensures) in
+    let put-record-ensures = (let p : tie.After-put-record = search in p .put-record .ensures) in
+    record-moved (start .args .block .now) (start .args .from) (start .args .at) (λ p. getD (start .args .table .now) p 0) record-at-ensures moved-ensures moved2-ensures moved-link-ensures put-record-ensures
 
 pub move-record-spec : {M : Type 1} → statement M
 move-record-spec =

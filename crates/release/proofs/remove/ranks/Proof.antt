@@ -22,39 +22,56 @@ loop-holds c =
 
 mul-table : tie.Need-mul-table Inv-loop μ-loop
 mul-table c =
-    omega (arith, c .loop-test .taken, c .before .before .pre .0)
+    let start : tie.Start Inv-loop μ-loop = search in
+    omega (arith, c .loop-test .taken, start .pre .0)
 
 slice-write-table : tie.Need-slice-write-table Inv-loop μ-loop
 slice-write-table c =
-    omega (arith, c .loop-test .taken, c .before .before .pre .0, c .before .loop .inv .len)
+    let start : tie.Start Inv-loop μ-loop = search in
+    let loop-inv = (let p : tie.At-loop Inv-loop μ-loop = search in p .loop .inv) in
+    omega (arith, c .loop-test .taken, start .pre .0, loop-inv .len)
 
 shared-slice-read-if1 : tie.Need-shared-slice-read-if1 Inv-loop μ-loop
 shared-slice-read-if1 c =
-    omega (arith, c .before .loop-test .taken, c .before .before .before .pre .0, c .before .before .before .pre .1)
+    let start : tie.Start Inv-loop μ-loop = search in
+    let loop-test-taken = (let p : tie.In-loop Inv-loop μ-loop = search in p .loop-test .taken) in
+    omega (arith, loop-test-taken, start .pre .0, start .pre .1)
 
 add-kept : tie.Need-add-kept Inv-loop μ-loop
 add-kept c =
-    omega (arith, kept-le (c .before .before .before .loop .inv) (c .before .before .loop-test .taken) (c .before .before .before .before .pre .0), c .before .before .loop-test .taken, c .before .before .before .before .pre .0)
+    let start : tie.Start Inv-loop μ-loop = search in
+    let loop-inv = (let p : tie.At-loop Inv-loop μ-loop = search in p .loop .inv) in
+    let loop-test-taken = (let p : tie.In-loop Inv-loop μ-loop = search in p .loop-test .taken) in
+    omega (arith, kept-le loop-inv loop-test-taken (start .pre .0), loop-test-taken, start .pre .0)
 
 add-p : tie.Need-add-p Inv-loop μ-loop
 add-p c =
-    omega (arith, c .before .before .loop-test .taken, c .before .before .before .before .pre .0)
+    let start : tie.Start Inv-loop μ-loop = search in
+    let loop-test-taken = (let p : tie.In-loop Inv-loop μ-loop = search in p .loop-test .taken) in
+    omega (arith, loop-test-taken, start .pre .0)
 
 loop-less : tie.Need-loop-less Inv-loop μ-loop
 loop-less c =
-    omega (arith, c .before .before .loop-test .taken)
+    let loop-test-taken = (let p : tie.In-loop Inv-loop μ-loop = search in p .loop-test .taken) in
+    omega (arith, loop-test-taken)
 
 loop-again : tie.Need-loop-again Inv-loop μ-loop
 loop-again c =
-    ⊎-elim (λ a. ranking-one (c .before .before .before .loop .inv) (c .before .before .loop-test .taken) (c .before .before .before .before .pre .0) (a .0 .taken) refl (a .1)) (λ a. ranking-none (c .before .before .before .loop .inv) (c .before .before .loop-test .taken) (c .before .before .before .before .pre .0) (a .0 .left) refl (a .1)) (c .if1 .came)
+    let start : tie.Start Inv-loop μ-loop = search in
+    let loop-inv = (let p : tie.At-loop Inv-loop μ-loop = search in p .loop .inv) in
+    let loop-test-taken = (let p : tie.In-loop Inv-loop μ-loop = search in p .loop-test .taken) in
+    ⊎-elim (λ a. ranking-one loop-inv loop-test-taken (start .pre .0) (a .0 .taken) refl (a .1)) (λ a. ranking-none loop-inv loop-test-taken (start .pre .0) (a .0 .left) refl (a .1)) (c .if1 .came)
 
 same-length : tie.Need-same-length Inv-loop μ-loop
 same-length c =
-    c .before .loop .inv .len ∙ sym (c .before .before .pre .2)
+    let start : tie.Start Inv-loop μ-loop = search in
+    let loop-inv = (let p : tie.At-loop Inv-loop μ-loop = search in p .loop .inv) in
+    loop-inv .len ∙ sym (start .pre .2)
 
 returns : tie.Need-returns Inv-loop μ-loop
 returns c =
-    ranking-end (c .before .loop .inv) (c .loop-test .left)
+    let loop-inv = (let p : tie.At-loop Inv-loop μ-loop = search in p .loop .inv) in
+    ranking-end loop-inv (c .loop-test .left)
 
 pub ranks-spec : {M : Type 1} → statement M
 ranks-spec =

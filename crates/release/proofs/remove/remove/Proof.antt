@@ -27,11 +27,15 @@ compact-requires c κs = search needs
 
 mul-clear-part : tie.Need-mul-clear-part
 mul-clear-part c =
-    omega (arith, c .before .before .before .compact .ensures .count, rank-le (getD (c .before .before .before .before .before .before .before .before .before .before .before .before .before .args .block .now) 2 0) (c .before .before .before .before .before .before .before .before .before .before .before .before .before .args .marks .now), c .before .before .before .before .before .before .before .before .before .before .before .before .before .pre .0 .0 .few)
+    let start : tie.Start = search in
+    let compact-ensures = (let p : tie.After-compact = search in p .compact .ensures) in
+    omega (arith, compact-ensures .count, rank-le (getD (start .args .block .now) 2 0) (start .args .marks .now), start .pre .0 .0 .few)
 
 add-clear-part : tie.Need-add-clear-part
 add-clear-part c =
-    omega (arith, c .before .before .before .compact .ensures .count, rank-le (getD (c .before .before .before .before .before .before .before .before .before .before .before .before .before .args .block .now) 2 0) (c .before .before .before .before .before .before .before .before .before .before .before .before .before .args .marks .now), c .before .before .before .before .before .before .before .before .before .before .before .before .before .pre .0 .0 .few)
+    let start : tie.Start = search in
+    let compact-ensures = (let p : tie.After-compact = search in p .compact .ensures) in
+    omega (arith, compact-ensures .count, rank-le (getD (start .args .block .now) 2 0) (start .args .marks .now), start .pre .0 .0 .few)
 
 mul-clear-part-2 : tie.Need-mul-clear-part-2
 mul-clear-part-2 c = search needs
@@ -41,7 +45,9 @@ add-clear-part-2 c = search needs
 
 clear-part-requires : tie.Need-clear-part-requires
 clear-part-requires c κs =
-    (omega (arith, c .before .before .before .compact .ensures .count, rank-le (getD (c .before .before .before .before .before .before .before .before .before .before .before .before .before .args .block .now) 2 0) (c .before .before .before .before .before .before .before .before .before .before .before .before .before .args .marks .now)), omega (arith, c .before .before .before .compact .ensures .len, c .before .before .before .before .before .before .before .before .before .before .before .before .before .pre .0 .0 .size, c .before .before .before .before .before .before .before .before .before .before .before .before .before .pre .0 .0 .few))
+    let start : tie.Start = search in
+    let compact-ensures = (let p : tie.After-compact = search in p .compact .ensures) in
+    (omega (arith, compact-ensures .count, rank-le (getD (start .args .block .now) 2 0) (start .args .marks .now)), omega (arith, compact-ensures .len, start .pre .0 .0 .size, start .pre .0 .0 .few))
 
 write-requires : tie.Need-write-requires
 write-requires c κs = search needs
@@ -51,7 +57,11 @@ same-length c = search needs
 
 returns : tie.Need-returns
 returns c =
-    all-removed (c .before .before .before .before .before .before .before .before .before .before .before .before .before .before .before .before .before .before .before .before .args .block .now) (c .before .before .before .before .before .before .before .before .before .before .before .before .before .before .before .before .before .before .before .before .args .marks .now) (c .before .before .before .before .before .before .before .before .before .before .before .before .before .before .before .before .before .before .before .before .pre .0 .0 .size) (c .before .before .before .before .before .before .before .before .before .before .before .before .before .before .before .before .before .before .before .before .pre .0 .0 .few) (c .before .before .before .before .before .before .before .before .before .before .before .before .before .before .before .before .before .before .before .before .pre .1) (c .before .before .before .before .before .before .before .before .before .before .compact .ensures) (c .before .before .before .before .before .before .clear-part .ensures) (c .before .before .write .ensures)
+    let start : tie.Start = search in
+    let compact-ensures = (let p : tie.After-compact = search in p .compact .ensures) in
+    let clear-part-ensures = (let p : tie.After-clear-part = search in p .clear-part .ensures) in
+    let write-ensures = (let p : tie.After-write = search in p .write .ensures) in
+    all-removed (start .args .block .now) (start .args .marks .now) (start .pre .0 .0 .size) (start .pre .0 .0 .few) (start .pre .1) compact-ensures clear-part-ensures write-ensures
 
 pub remove-spec : {M : Type 1} → statement M
 remove-spec =

@@ -21,22 +21,29 @@ enum-told c = search needs
 
 returns : tie.Need-returns
 returns c =
-    unread-length _ (bad-at group _ _ (sym (c .enum-told .given .1) ∙ c .before .before .read-group .ensures))
+    let read-group-ensures = (let p : tie.After-read-group = search in p .read-group .ensures) in
+    unread-length _ (bad-at group _ _ (sym (c .enum-told .given .1) ∙ read-group-ensures))
 
 sub-if1 : tie.Need-sub-if1
 sub-if1 c =
-    let w = took-group (sym (c .before .n .given .1) ∙ c .before .before .before .read-group .ensures) .within in omega (arith, w)
+    let read-group-ensures = (let p : tie.After-read-group = search in p .read-group .ensures) in
+    let n-given = (let p : tie.After-n = search in p .n .given) in
+    let w = took-group (sym (n-given .1) ∙ read-group-ensures) .within in omega (arith, w)
 
 add-result : tie.Need-add-result
 add-result c = search needs
 
 returns-2 : tie.Need-returns-2
 returns-2 c =
-    first-length (took-group (sym (c .before .before .n .given .1) ∙ c .before .before .before .before .read-group .ensures)) (c .if1 .taken)
+    let read-group-ensures = (let p : tie.After-read-group = search in p .read-group .ensures) in
+    let n-given = (let p : tie.After-n = search in p .n .given) in
+    first-length (took-group (sym (n-given .1) ∙ read-group-ensures)) (c .if1 .taken)
 
 returns-3 : tie.Need-returns-3
 returns-3 c =
-    cut-short (took-group (sym (c .before .before .n .given .1) ∙ c .before .before .before .before .read-group .ensures)) (c .if1 .left)
+    let read-group-ensures = (let p : tie.After-read-group = search in p .read-group .ensures) in
+    let n-given = (let p : tie.After-n = search in p .n .given) in
+    cut-short (took-group (sym (n-given .1) ∙ read-group-ensures)) (c .if1 .left)
 
 pub first-message-spec : {M : Type 1} → statement M
 first-message-spec =

@@ -19,7 +19,10 @@ same-length c = search needs
 
 returns : tie.Need-returns
 returns c =
-    then-ran (one-counted (c .before .before .before .before .before .before .before .release-at .ensures) (c .before .before .before .before .answer-number .ensures)) (c .before .before .redirect-all .ensures)
+    let release-at-ensures = (let p : tie.After-release-at = search in p .release-at .ensures) in
+    let answer-number-ensures = (let p : tie.After-answer-number = search in p .answer-number .ensures) in
+    let redirect-all-ensures = (let p : tie.After-redirect-all = search in p .redirect-all .ensures) in
+    then-ran (one-counted release-at-ensures answer-number-ensures) redirect-all-ensures
 
 pub finish-spec : {M : Type 1} → statement M
 finish-spec =

@@ -10,7 +10,8 @@ use Rattle.rounds.proofs.steps.receive_at.Tie as tie
 
 returns : tie.Need-returns
 returns c =
-    nowhere (c .before .before .before .args .mesh .now) (c .before .before .before .args .b) (receiving (c .before .before .before .args .message .now)) _ (c .if1 .taken) (receive-does _ _) (size-refused _ _ (λ e. absurd (omega (arith, e))))
+    let start : tie.Start = search in
+    nowhere (start .args .mesh .now) (start .args .b) (receiving (start .args .message .now)) _ (c .if1 .taken) (receive-does _ _) (size-refused _ _ (λ e. absurd (omega (arith, e))))
 
 receive-part-requires : tie.Need-receive-part-requires
 receive-part-requires c κs = search needs

@@ -33,8 +33,12 @@ same-length c = search needs
 
 returns : tie.Need-returns
 returns c =
-    let m = c .before .before .before .before .before .before .args .mesh .now in
-    stepped m (c .before .before .receive .last .0) (c .before .before .before .before .before .before .args .b) _ (receiving (c .before .before .before .before .before .before .args .message .now)) _ _ refl (c .before .before .before .before .before .before .pre) (c .before .mesh .given .0) (receive-does _ _) (c .before .before .receive .ensures)
+    let start : tie.Start = search in
+    let receive-ensures = (let p : tie.After-receive = search in p .receive .ensures) in
+    let receive-last = (let p : tie.After-receive = search in p .receive .last) in
+    let mesh-given = (let p : tie.After-mesh = search in p .mesh .given) in
+    let m = start .args .mesh .now in
+    stepped m (receive-last .0) (start .args .b) _ (receiving (start .args .message .now)) _ _ refl (start .pre) (mesh-given .0) (receive-does _ _) receive-ensures
 
 pub receive-part-spec : {M : Type 1} → statement M
 receive-part-spec =

@@ -36,12 +36,15 @@ first-message-requires c κs = search needs
 
 add-end : tie.Need-add-end Inv-loop μ-loop
 add-end c =
-    let u = c .before .before .before .before .before .before .args .updates .now in
-    let e = first-there u (c .before .before .before .loop .at) (c .first-message .ensures) in
-    let l = first-fits (drop (c .before .before .before .loop .at) u) in
-    let d = length-drop (c .before .before .before .loop .at) u in
-    let g = c .before .before .before .before .shared-slice-known .given in
-    omega (arith, e, l, d, c .before .before .loop-test .taken)
+    let start : tie.Start Inv-loop μ-loop = search in
+    let loop-at = (let p : tie.At-loop Inv-loop μ-loop = search in p .loop .at) in
+    let loop-test-taken = (let p : tie.In-loop Inv-loop μ-loop = search in p .loop-test .taken) in
+    let u = start .args .updates .now in
+    let e = first-there u loop-at (c .first-message .ensures) in
+    let l = first-fits (drop loop-at u) in
+    let d = length-drop loop-at u in
+    let g = (let p : tie.After-shared-slice-known Inv-loop μ-loop = search in p .shared-slice-known .given) in
+    omega (arith, e, l, d, loop-test-taken)
 
 sub-redirect-message : tie.Need-sub-redirect-message Inv-loop μ-loop
 sub-redirect-message c = search needs
@@ -51,35 +54,50 @@ part-redirect-message-start c = search needs
 
 part-redirect-message-end : tie.Need-part-redirect-message-end Inv-loop μ-loop
 part-redirect-message-end c =
-    let u = c .before .before .before .before .before .before .before .args .updates .now in
-    let e = first-there u (c .before .before .before .before .loop .at) (c .before .first-message .ensures) in
-    let l = first-fits (drop (c .before .before .before .before .loop .at) u) in
-    let d = length-drop (c .before .before .before .before .loop .at) u in
-    omega (arith, e, l, d, c .before .before .before .loop-test .taken)
+    let start : tie.Start Inv-loop μ-loop = search in
+    let loop-at = (let p : tie.At-loop Inv-loop μ-loop = search in p .loop .at) in
+    let loop-test-taken = (let p : tie.In-loop Inv-loop μ-loop = search in p .loop-test .taken) in
+    let first-message-ensures = (let p : tie.After-first-message Inv-loop μ-loop = search in p .first-message .ensures) in
+    let u = start .args .updates .now in
+    let e = first-there u loop-at first-message-ensures in
+    let l = first-fits (drop loop-at u) in
+    let d = length-drop loop-at u in
+    omega (arith, e, l, d, loop-test-taken)
 
 redirect-message-requires : tie.Need-redirect-message-requires Inv-loop μ-loop
 redirect-message-requires c κs = search needs
 
 loop-less : tie.Need-loop-less Inv-loop μ-loop
 loop-less c =
-    let u = c .before .before .before .before .before .before .before .before .before .before .before .args .updates .now in
-    let e = first-there u (c .before .before .before .before .before .before .before .before .loop .at) (c .before .before .before .before .before .first-message .ensures) in
-    let d = length-drop (c .before .before .before .before .before .before .before .before .loop .at) u in
-    let s = first-some (drop (c .before .before .before .before .before .before .before .before .loop .at) u) (omega (arith, d, c .before .before .before .before .before .before .before .loop-test .taken)) in
-    omega (arith, e, s, c .before .before .before .before .before .before .before .loop-test .taken)
+    let start : tie.Start Inv-loop μ-loop = search in
+    let loop-at = (let p : tie.At-loop Inv-loop μ-loop = search in p .loop .at) in
+    let loop-test-taken = (let p : tie.In-loop Inv-loop μ-loop = search in p .loop-test .taken) in
+    let first-message-ensures = (let p : tie.After-first-message Inv-loop μ-loop = search in p .first-message .ensures) in
+    let u = start .args .updates .now in
+    let e = first-there u loop-at first-message-ensures in
+    let d = length-drop loop-at u in
+    let s = first-some (drop loop-at u) (omega (arith, d, loop-test-taken)) in
+    omega (arith, e, s, loop-test-taken)
 
 loop-again : tie.Need-loop-again Inv-loop μ-loop
 loop-again c =
-    let u = c .before .before .before .before .before .before .before .before .before .before .before .args .updates .now in
-    let e = ap (λ n. c .before .before .before .before .before .before .before .before .loop .at + n) (first-there u (c .before .before .before .before .before .before .before .before .loop .at) (c .before .before .before .before .before .first-message .ensures)) in
-    one-more (c .before .before .before .before .before .before .before .before .loop .inv) (c .before .before .before .before .before .before .before .loop-test .taken) _ e (same-message (first-part u (c .before .before .before .before .before .before .before .before .loop .at) _ e) (c .before .before .redirect-message .ensures))
+    let start : tie.Start Inv-loop μ-loop = search in
+    let loop-at = (let p : tie.At-loop Inv-loop μ-loop = search in p .loop .at) in
+    let loop-inv = (let p : tie.At-loop Inv-loop μ-loop = search in p .loop .inv) in
+    let loop-test-taken = (let p : tie.In-loop Inv-loop μ-loop = search in p .loop-test .taken) in
+    let first-message-ensures = (let p : tie.After-first-message Inv-loop μ-loop = search in p .first-message .ensures) in
+    let redirect-message-ensures = (let p : tie.After-redirect-message Inv-loop μ-loop = search in p .redirect-message .ensures) in
+    let u = start .args .updates .now in
+    let e = ap (λ n. loop-at + n) (first-there u loop-at first-message-ensures) in
+    one-more loop-inv loop-test-taken _ e (same-message (first-part u loop-at _ e) redirect-message-ensures)
 
 same-length : tie.Need-same-length Inv-loop μ-loop
 same-length c = search needs
 
 returns : tie.Need-returns Inv-loop μ-loop
 returns c =
-    all-told (c .before .loop .inv) (c .loop-test .left)
+    let loop-inv = (let p : tie.At-loop Inv-loop μ-loop = search in p .loop .inv) in
+    all-told loop-inv (c .loop-test .left)
 
 pub redirect-all-spec : {M : Type 1} → statement M
 redirect-all-spec =

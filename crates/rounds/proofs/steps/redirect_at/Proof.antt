@@ -10,7 +10,8 @@ use Rattle.rounds.proofs.steps.redirect_at.Tie as tie
 
 returns : tie.Need-returns
 returns c =
-    nowhere (c .before .before .before .args .mesh .now) (c .before .before .before .args .b) (redirecting (c .before .before .before .args .message .now)) _ (c .if1 .taken) (redirect-does _ _) (size-refused _ _ (λ e. absurd (omega (arith, e))))
+    let start : tie.Start = search in
+    nowhere (start .args .mesh .now) (start .args .b) (redirecting (start .args .message .now)) _ (c .if1 .taken) (redirect-does _ _) (size-refused _ _ (λ e. absurd (omega (arith, e))))
 
 redirect-part-requires : tie.Need-redirect-part-requires
 redirect-part-requires c κs = search needs

@@ -19,7 +19,9 @@ same-length c = search needs
 
 returns : tie.Need-returns
 returns c =
-    one-served (c .before .before .before .before .before .addressee .ensures) (c .before .before .before .redirect-at .ensures) (c .answer-number .ensures)
+    let addressee-ensures = (let p : tie.After-addressee = search in p .addressee .ensures) in
+    let redirect-at-ensures = (let p : tie.After-redirect-at = search in p .redirect-at .ensures) in
+    one-served addressee-ensures redirect-at-ensures (c .answer-number .ensures)
 
 pub redirect-message-spec : {M : Type 1} → statement M
 redirect-message-spec =

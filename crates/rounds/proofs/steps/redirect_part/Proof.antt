@@ -33,8 +33,12 @@ same-length c = search needs
 
 returns : tie.Need-returns
 returns c =
-    let m = c .before .before .before .before .before .before .args .mesh .now in
-    stepped m (c .before .before .redirect .last .0) (c .before .before .before .before .before .before .args .b) _ (redirecting (c .before .before .before .before .before .before .args .message .now)) _ _ refl (c .before .before .before .before .before .before .pre) (c .before .mesh .given .0) (redirect-does _ _) (c .before .before .redirect .ensures)
+    let start : tie.Start = search in
+    let redirect-ensures = (let p : tie.After-redirect = search in p .redirect .ensures) in
+    let redirect-last = (let p : tie.After-redirect = search in p .redirect .last) in
+    let mesh-given = (let p : tie.After-mesh = search in p .mesh .given) in
+    let m = start .args .mesh .now in
+    stepped m (redirect-last .0) (start .args .b) _ (redirecting (start .args .message .now)) _ _ refl (start .pre) (mesh-given .0) (redirect-does _ _) redirect-ensures
 
 pub redirect-part-spec : {M : Type 1} → statement M
 redirect-part-spec =

@@ -10,7 +10,8 @@ use Rattle.rounds.proofs.steps.release_at.Tie as tie
 
 returns : tie.Need-returns
 returns c =
-    nowhere (c .before .before .args .mesh .now) (c .before .before .args .b) (releasing (c .before .before .args .to) (c .before .before .args .serial)) _ (c .if1 .taken) (release-does _ _ _) (size-refused _ _ _ (λ e. absurd (omega (arith, e))))
+    let start : tie.Start = search in
+    nowhere (start .args .mesh .now) (start .args .b) (releasing (start .args .to) (start .args .serial)) _ (c .if1 .taken) (release-does _ _ _) (size-refused _ _ _ (λ e. absurd (omega (arith, e))))
 
 release-part-requires : tie.Need-release-part-requires
 release-part-requires c κs = search needs

@@ -33,8 +33,12 @@ same-length c = search needs
 
 returns : tie.Need-returns
 returns c =
-    let m = c .before .before .before .before .before .args .mesh .now in
-    stepped m (c .before .before .release .last .0) (c .before .before .before .before .before .args .b) _ (releasing (c .before .before .before .before .before .args .to) (c .before .before .before .before .before .args .serial)) _ _ refl (c .before .before .before .before .before .pre) (c .before .mesh .given .0) (release-does _ _ _) (c .before .before .release .ensures)
+    let start : tie.Start = search in
+    let release-ensures = (let p : tie.After-release = search in p .release .ensures) in
+    let release-last = (let p : tie.After-release = search in p .release .last) in
+    let mesh-given = (let p : tie.After-mesh = search in p .mesh .given) in
+    let m = start .args .mesh .now in
+    stepped m (release-last .0) (start .args .b) _ (releasing (start .args .to) (start .args .serial)) _ _ refl (start .pre) (mesh-given .0) (release-does _ _ _) release-ensures
 
 pub release-part-spec : {M : Type 1} → statement M
 release-part-spec =

@@ -32,11 +32,22 @@ third-along-requires c κs = search needs
 
 count-third-requires : tie.Need-count-third-requires
 count-third-requires c κs =
-    rw (c .before .field2 .ensures, c .third-along .ensures) (c .before .before .before .before .before .before .before .before .before .pre .third-small)
+    let start : tie.Start = search in
+    let field2-ensures = (let p : tie.After-field2 = search in p .field2 .ensures) in
+    rw (field2-ensures, c .third-along .ensures) (start .pre .third-small)
 
 counted : (c : tie.After-count-third) → DartCounted (c .before .before .before .before .before .before .before .before .before .before .args .block .now) (c .before .before .before .before .before .before .before .before .before .before .args .p) (c .before .before .before .before .before .before .before .serial-count .result) (c .before .before .before .before .before .serial-count2 .result) (c .before .before .before .serial-count3 .result) (c .count-third .result)
 counted c =
-    dart-counted _ _ (c .before .before .before .before .before .before .before .before .before .before .pre) (c .before .before .before .before .before .before .before .before .field .ensures) (c .before .before .before .before .before .before .before .serial-count .ensures) (c .before .before .before .before .before .before .serial-along .ensures) (c .before .before .before .before .before .serial-count2 .ensures) (c .before .before .before .before .serial-along2 .ensures) (c .before .before .before .serial-count3 .ensures) (c .before .before .field2 .ensures) (c .before .third-along .ensures) (c .count-third .ensures)
+    let start : tie.Start = search in
+    let field-ensures = (let p : tie.After-field = search in p .field .ensures) in
+    let serial-count-ensures = (let p : tie.After-serial-count = search in p .serial-count .ensures) in
+    let serial-along-ensures = (let p : tie.After-serial-along = search in p .serial-along .ensures) in
+    let serial-count2-ensures = (let p : tie.After-serial-count2 = search in p .serial-count2 .ensures) in
+    let serial-along2-ensures = (let p : tie.After-serial-along2 = search in p .serial-along2 .ensures) in
+    let serial-count3-ensures = (let p : tie.After-serial-count3 = search in p .serial-count3 .ensures) in
+    let field2-ensures = (let p : tie.After-field2 = search in p .field2 .ensures) in
+    let third-along-ensures = (let p : tie.After-third-along = search in p .third-along .ensures) in
+    dart-counted _ _ (start .pre) field-ensures serial-count-ensures serial-along-ensures serial-count2-ensures serial-along2-ensures serial-count3-ensures field2-ensures third-along-ensures (c .count-third .ensures)
 
 add-result : tie.Need-add-result
 add-result c =

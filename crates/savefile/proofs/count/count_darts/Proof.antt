@@ -22,11 +22,15 @@ loop-holds c =
 
 count-dart-requires : tie.Need-count-dart-requires Inv-loop μ-loop
 count-dart-requires c κs =
-    c .before .before .before .pre .each _ (c .loop-test .taken)
+    let start : tie.Start Inv-loop μ-loop = search in
+    start .pre .each _ (c .loop-test .taken)
 
 add-bytes : tie.Need-add-bytes Inv-loop μ-loop
 add-bytes c =
-    omega (arith, count-within (count-more (c .before .before .loop .inv) (c .before .loop-test .taken) (c .count-dart .ensures)), darts-most (c .before .before .before .before .pre), c .before .before .before .before .pre .few)
+    let start : tie.Start Inv-loop μ-loop = search in
+    let loop-inv = (let p : tie.At-loop Inv-loop μ-loop = search in p .loop .inv) in
+    let loop-test-taken = (let p : tie.In-loop Inv-loop μ-loop = search in p .loop-test .taken) in
+    omega (arith, count-within (count-more loop-inv loop-test-taken (c .count-dart .ensures)), darts-most (start .pre), start .pre .few)
 
 add-i : tie.Need-add-i Inv-loop μ-loop
 add-i c = search needs
@@ -36,11 +40,14 @@ loop-less c = search needs
 
 loop-again : tie.Need-loop-again Inv-loop μ-loop
 loop-again c =
-    count-more (c .before .before .loop .inv) (c .before .loop-test .taken) (c .count-dart .ensures)
+    let loop-inv = (let p : tie.At-loop Inv-loop μ-loop = search in p .loop .inv) in
+    let loop-test-taken = (let p : tie.In-loop Inv-loop μ-loop = search in p .loop-test .taken) in
+    count-more loop-inv loop-test-taken (c .count-dart .ensures)
 
 returns : tie.Need-returns Inv-loop μ-loop
 returns c =
-    rw (darts-put _ _) (count-all (c .before .loop .inv) (c .loop-test .left))
+    let loop-inv = (let p : tie.At-loop Inv-loop μ-loop = search in p .loop .inv) in
+    rw (darts-put _ _) (count-all loop-inv (c .loop-test .left))
 
 pub count-darts-spec : {M : Type 1} → statement M
 count-darts-spec =

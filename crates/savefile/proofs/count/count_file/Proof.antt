@@ -9,48 +9,63 @@ use Rattle.savefile.proofs.count.count_file.Tie as tie
 
 shared-slice-read-narrow : tie.Need-shared-slice-read-narrow
 shared-slice-read-narrow c =
-    omega (arith, image-size (c .before .before .args .block .now) (c .before .before .pre))
+    let start : tie.Start = search in
+    omega (arith, image-size (start .args .block .now) (start .pre))
 
 narrow-requires : tie.Need-narrow-requires
 narrow-requires c κs =
-    number-small (c .before .before .args .block .now) (c .before .before .pre)
+    let start : tie.Start = search in
+    number-small (start .args .block .now) (start .pre)
 
 group-count-requires : tie.Need-group-count-requires
 group-count-requires c κs = search needs
 
 shared-slice-read-narrow-2 : tie.Need-shared-slice-read-narrow-2
 shared-slice-read-narrow-2 c =
-    omega (arith, image-size (c .before .before .before .before .before .args .block .now) (c .before .before .before .before .before .pre))
+    let start : tie.Start = search in
+    omega (arith, image-size (start .args .block .now) (start .pre))
 
 narrow-requires-2 : tie.Need-narrow-requires-2
 narrow-requires-2 c κs =
-    counter-small (c .before .before .before .before .before .args .block .now) (c .before .before .before .before .before .pre)
+    let start : tie.Start = search in
+    counter-small (start .args .block .now) (start .pre)
 
 group-count-requires-2 : tie.Need-group-count-requires-2
 group-count-requires-2 c κs = search needs
 
 shared-slice-read-narrow-3 : tie.Need-shared-slice-read-narrow-3
 shared-slice-read-narrow-3 c =
-    omega (arith, image-size (c .before .before .before .before .before .before .before .before .args .block .now) (c .before .before .before .before .before .before .before .before .pre))
+    let start : tie.Start = search in
+    omega (arith, image-size (start .args .block .now) (start .pre))
 
 narrow-requires-3 : tie.Need-narrow-requires-3
 narrow-requires-3 c κs =
-    omega (arith, count-small (c .before .before .before .before .before .before .before .before .args .block .now) (c .before .before .before .before .before .before .before .before .pre))
+    let start : tie.Start = search in
+    omega (arith, count-small (start .args .block .now) (start .pre))
 
 group-count-requires-3 : tie.Need-group-count-requires-3
 group-count-requires-3 c κs = search needs
 
 shared-slice-read-count-darts : tie.Need-shared-slice-read-count-darts
 shared-slice-read-count-darts c =
-    omega (arith, image-size (c .before .before .before .before .before .before .before .before .before .before .before .args .block .now) (c .before .before .before .before .before .before .before .before .before .before .before .pre))
+    let start : tie.Start = search in
+    omega (arith, image-size (start .args .block .now) (start .pre))
 
 count-darts-requires : tie.Need-count-darts-requires
 count-darts-requires c κs =
-    image-small (c .before .before .before .before .before .before .before .before .before .before .before .args .block .now) (c .before .before .before .before .before .before .before .before .before .before .before .pre)
+    let start : tie.Start = search in
+    image-small (start .args .block .now) (start .pre)
 
 counted : (c : tie.After-count-darts) → FileCounted (c .before .before .before .before .before .before .before .before .before .before .before .before .args .block .now) (c .before .before .before .before .before .before .before .before .group-count .result) (c .before .before .before .before .before .group-count2 .result) (c .before .before .group-count3 .result) (c .count-darts .result)
 counted c =
-    file-counted (c .before .before .before .before .before .before .before .before .before .before .before .before .args .block .now) (c .before .before .before .before .before .before .before .before .before .before .before .before .pre) (c .before .before .before .before .before .before .before .before .before .narrow .ensures) (c .before .before .before .before .before .before .before .before .group-count .ensures) (c .before .before .before .before .before .before .narrow2 .ensures) (c .before .before .before .before .before .group-count2 .ensures) (c .before .before .before .narrow3 .ensures) (c .before .before .group-count3 .ensures) (c .count-darts .ensures)
+    let start : tie.Start = search in
+    let narrow-ensures = (let p : tie.After-narrow = search in p .narrow .ensures) in
+    let group-count-ensures = (let p : tie.After-group-count = search in p .group-count .ensures) in
+    let narrow2-ensures = (let p : tie.After-narrow2 = search in p .narrow2 .ensures) in
+    let group-count2-ensures = (let p : tie.After-group-count2 = search in p .group-count2 .ensures) in
+    let narrow3-ensures = (let p : tie.After-narrow3 = search in p .narrow3 .ensures) in
+    let group-count3-ensures = (let p : tie.After-group-count3 = search in p .group-count3 .ensures) in
+    file-counted (start .args .block .now) (start .pre) narrow-ensures group-count-ensures narrow2-ensures group-count2-ensures narrow3-ensures group-count3-ensures (c .count-darts .ensures)
 
 add-result : tie.Need-add-result
 add-result c =

@@ -18,15 +18,20 @@ returns c =
 
 serial-count-requires : tie.Need-serial-count-requires
 serial-count-requires c κs =
-    c .before .before .pre .sewn-small (c .if2 .taken)
+    let start : tie.Start = search in
+    start .pre .sewn-small (c .if2 .taken)
 
 add-result : tie.Need-add-result
 add-result c =
-    omega (arith, c .serial-count .ensures, serial-most _ (c .before .before .before .pre .sewn-small (c .before .if2 .taken)))
+    let start : tie.Start = search in
+    let if2-taken = (let p : tie.Then2 = search in p .if2 .taken) in
+    omega (arith, c .serial-count .ensures, serial-most _ (start .pre .sewn-small if2-taken))
 
 returns-2 : tie.Need-returns-2
 returns-2 c =
-    omega (arith, c .serial-count .ensures, sewn-length (c .before .before .before .args .kind) (c .before .before .before .args .named) (c .before .if2 .taken))
+    let start : tie.Start = search in
+    let if2-taken = (let p : tie.Then2 = search in p .if2 .taken) in
+    omega (arith, c .serial-count .ensures, sewn-length (start .args .kind) (start .args .named) if2-taken)
 
 narrow-requires : tie.Need-narrow-requires
 narrow-requires c κs = search needs
@@ -39,15 +44,28 @@ label-count-requires c κs = search needs
 
 add-result-2 : tie.Need-add-result-2
 add-result-2 c =
-    omega (arith, c .before .group-count .ensures, count-most _ (c .before .before .narrow .ok), c .label-count .ensures, label-most (c .before .before .before .before .before .args .named) (omega (arith, c .before .before .before .before .before .pre .named-small)))
+    let start : tie.Start = search in
+    let narrow-ok = (let p : tie.After-narrow = search in p .narrow .ok) in
+    let group-count-ensures = (let p : tie.After-group-count = search in p .group-count .ensures) in
+    omega (arith, group-count-ensures, count-most _ narrow-ok, c .label-count .ensures, label-most (start .args .named) (omega (arith, start .pre .named-small)))
 
 add-result-3 : tie.Need-add-result-3
 add-result-3 c =
-    omega (arith, c .before .group-count .ensures, count-most _ (c .before .before .narrow .ok), c .label-count .ensures, label-most (c .before .before .before .before .before .args .named) (omega (arith, c .before .before .before .before .before .pre .named-small)))
+    let start : tie.Start = search in
+    let narrow-ok = (let p : tie.After-narrow = search in p .narrow .ok) in
+    let group-count-ensures = (let p : tie.After-group-count = search in p .group-count .ensures) in
+    omega (arith, group-count-ensures, count-most _ narrow-ok, c .label-count .ensures, label-most (start .args .named) (omega (arith, start .pre .named-small)))
 
 returns-3 : tie.Need-returns-3
 returns-3 c =
-    omega (arith, c .before .group-count .ensures, ap (λ (v : ℕ). length (group .put v)) (c .before .before .narrow .ensures), group-length (c .before .before .narrow .result) (c .before .before .narrow .ok), c .label-count .ensures, critical-length (c .before .before .before .before .before .args .kind) (c .before .before .before .before .before .args .named) (c .before .before .before .before .if1 .left) (c .before .before .before .if2 .left))
+    let start : tie.Start = search in
+    let if1-left = (let p : tie.Else1 = search in p .if1 .left) in
+    let if2-left = (let p : tie.Else2 = search in p .if2 .left) in
+    let narrow-ensures = (let p : tie.After-narrow = search in p .narrow .ensures) in
+    let narrow-ok = (let p : tie.After-narrow = search in p .narrow .ok) in
+    let narrow-result = (let p : tie.After-narrow = search in p .narrow .result) in
+    let group-count-ensures = (let p : tie.After-group-count = search in p .group-count .ensures) in
+    omega (arith, group-count-ensures, ap (λ (v : ℕ). length (group .put v)) narrow-ensures, group-length narrow-result narrow-ok, c .label-count .ensures, critical-length (start .args .kind) (start .args .named) if1-left if2-left)
 
 pub count-third-spec : {M : Type 1} → statement M
 count-third-spec =

@@ -15,7 +15,9 @@ field-requires-2 c κs = search needs
 
 returns : tie.Need-returns
 returns c =
-    c .field2 .ensures ∙ ap (λ (q : ℕ). column (c .before .before .before .args .block .now) 0 q) (c .before .field .ensures)
+    let start : tie.Start = search in
+    let field-ensures = (let p : tie.After-field = search in p .field .ensures) in
+    c .field2 .ensures ∙ ap (λ (q : ℕ). column (start .args .block .now) 0 q) field-ensures
 
 pub serial-along-spec : {M : Type 1} → statement M
 serial-along-spec = tie.close (tie.spec field-requires field-requires-2 returns)

@@ -12,19 +12,25 @@ field-requires c κs = search needs
 
 serial-along-requires : tie.Need-serial-along-requires
 serial-along-requires c κs =
-    let h = c .before .before .before .pre .sewn-here (rw (c .before .field .ensures) at (c .if1 .taken)) in
-    (c .before .before .before .pre .here, omega arith, c .before .before .before .pre .size, h)
+    let start : tie.Start = search in
+    let field-ensures = (let p : tie.After-field = search in p .field .ensures) in
+    let h = start .pre .sewn-here (rw field-ensures at (c .if1 .taken)) in
+    (start .pre .here, omega arith, start .pre .size, h)
 
 returns : tie.Need-returns
 returns c =
-    c .serial-along .ensures ∙ sym (sewn-named _ _ (rw (c .before .before .field .ensures) at (c .before .if1 .taken)))
+    let field-ensures = (let p : tie.After-field = search in p .field .ensures) in
+    let if1-taken = (let p : tie.Then1 = search in p .if1 .taken) in
+    c .serial-along .ensures ∙ sym (sewn-named _ _ (rw field-ensures at if1-taken))
 
 field-requires-2 : tie.Need-field-requires-2
 field-requires-2 c κs = search needs
 
 returns-2 : tie.Need-returns-2
 returns-2 c =
-    c .field2 .ensures ∙ sym (other-named _ _ (rw (c .before .before .field .ensures) at (c .before .if1 .left)))
+    let field-ensures = (let p : tie.After-field = search in p .field .ensures) in
+    let if1-left = (let p : tie.Else1 = search in p .if1 .left) in
+    c .field2 .ensures ∙ sym (other-named _ _ (rw field-ensures at if1-left))
 
 pub third-along-spec : {M : Type 1} → statement M
 third-along-spec =

@@ -9,7 +9,8 @@ use Rattle.savefile.proofs.put.put_dart.Tie as tie
 
 put-links-requires : tie.Need-put-links-requires
 put-links-requires c κs =
-    (c .before .before .before .pre .0, omega (arith, c .before .before .before .pre .1, dart-length (c .before .before .before .args .block .now) (c .before .before .before .args .p), link-length (c .before .before .before .args .block .now) (c .before .before .before .args .p)))
+    let start : tie.Start = search in
+    (start .pre .0, omega (arith, start .pre .1, dart-length (start .args .block .now) (start .args .p), link-length (start .args .block .now) (start .args .p)))
 
 field-requires : tie.Need-field-requires
 field-requires c κs = search needs
@@ -19,22 +20,34 @@ third-along-requires c κs = search needs
 
 put-third-requires : tie.Need-put-third-requires
 put-third-requires c κs =
-    let s = c .before .before .before .before .before .put-links .ensures in
-    (rw (c .before .before .field .ensures, c .before .third-along .ensures) (c .before .before .before .before .before .before .before .before .before .pre .0 .third-small), rw (c .before .before .field .ensures, c .before .third-along .ensures) (omega (arith, c .before .before .before .before .before .before .before .before .before .pre .1, dart-length (c .before .before .before .before .before .before .before .before .before .args .block .now) (c .before .before .before .before .before .before .before .before .before .args .p), link-length (c .before .before .before .before .before .before .before .before .before .args .block .now) (c .before .before .before .before .before .before .before .before .before .args .p), s .past, stored-length s)))
+    let start : tie.Start = search in
+    let field-ensures = (let p : tie.After-field = search in p .field .ensures) in
+    let third-along-ensures = (let p : tie.After-third-along = search in p .third-along .ensures) in
+    let s = (let p : tie.After-put-links = search in p .put-links .ensures) in
+    (rw (field-ensures, third-along-ensures) (start .pre .0 .third-small), rw (field-ensures, third-along-ensures) (omega (arith, start .pre .1, dart-length (start .args .block .now) (start .args .p), link-length (start .args .block .now) (start .args .p), s .past, stored-length s)))
 
 put-point-requires : tie.Need-put-point-requires
 put-point-requires c κs =
-    let s = c .before .before .before .before .before .before .before .before .before .put-links .ensures in
-    let t = rw (c .before .before .before .before .before .before .field .ensures, c .before .before .before .before .before .third-along .ensures) at (c .before .before .before .put-third .ensures) in
-    (c .before .before .before .before .before .before .before .before .before .before .before .before .before .pre .0, omega (arith, c .before .before .before .before .before .before .before .before .before .before .before .before .before .pre .1, dart-length (c .before .before .before .before .before .before .before .before .before .before .before .before .before .args .block .now) (c .before .before .before .before .before .before .before .before .before .before .before .before .before .args .p), link-length (c .before .before .before .before .before .before .before .before .before .before .before .before .before .args .block .now) (c .before .before .before .before .before .before .before .before .before .before .before .before .before .args .p), s .past, stored-length s, t .past, stored-length t))
+    let start : tie.Start = search in
+    let field-ensures = (let p : tie.After-field = search in p .field .ensures) in
+    let third-along-ensures = (let p : tie.After-third-along = search in p .third-along .ensures) in
+    let put-third-ensures = (let p : tie.After-put-third = search in p .put-third .ensures) in
+    let s = (let p : tie.After-put-links = search in p .put-links .ensures) in
+    let t = rw (field-ensures, third-along-ensures) at put-third-ensures in
+    (start .pre .0, omega (arith, start .pre .1, dart-length (start .args .block .now) (start .args .p), link-length (start .args .block .now) (start .args .p), s .past, stored-length s, t .past, stored-length t))
 
 same-length : tie.Need-same-length
 same-length c = search needs
 
 returns : tie.Need-returns
 returns c =
-    let t = rw (c .before .before .before .before .before .before .before .before .before .field .ensures, c .before .before .before .before .before .before .before .before .third-along .ensures) at (c .before .before .before .before .before .before .put-third .ensures) in
-    rw (dart-put _ _) (stored-then (c .before .before .before .before .before .before .before .before .before .before .before .before .put-links .ensures) (stored-then t (c .before .before .put-point .ensures)))
+    let put-links-ensures = (let p : tie.After-put-links = search in p .put-links .ensures) in
+    let field-ensures = (let p : tie.After-field = search in p .field .ensures) in
+    let third-along-ensures = (let p : tie.After-third-along = search in p .third-along .ensures) in
+    let put-third-ensures = (let p : tie.After-put-third = search in p .put-third .ensures) in
+    let put-point-ensures = (let p : tie.After-put-point = search in p .put-point .ensures) in
+    let t = rw (field-ensures, third-along-ensures) at put-third-ensures in
+    rw (dart-put _ _) (stored-then put-links-ensures (stored-then t put-point-ensures))
 
 pub put-dart-spec : {M : Type 1} → statement M
 put-dart-spec =

@@ -11,23 +11,29 @@ use Rattle.savefile.proofs.put.put_file.Tie as tie
 
 put-header-requires : tie.Need-put-header-requires
 put-header-requires c κs =
-    (c .before .before .before .pre .0, omega (arith, c .before .before .before .pre .1, file-length (c .before .before .before .args .block .now)))
+    let start : tie.Start = search in
+    (start .pre .0, omega (arith, start .pre .1, file-length (start .args .block .now)))
 
 shared-slice-read-put-darts : tie.Need-shared-slice-read-put-darts
 shared-slice-read-put-darts c =
-    omega (arith, image-size (c .before .before .before .before .before .before .before .args .block .now) (c .before .before .before .before .before .before .before .pre .0))
+    let start : tie.Start = search in
+    omega (arith, image-size (start .args .block .now) (start .pre .0))
 
 put-darts-requires : tie.Need-put-darts-requires
 put-darts-requires c κs =
-    let s = c .before .before .before .before .put-header .ensures in
-    (image-small (c .before .before .before .before .before .before .before .before .args .block .now) (c .before .before .before .before .before .before .before .before .pre .0), omega (arith, c .before .before .before .before .before .before .before .before .pre .1, file-length (c .before .before .before .before .before .before .before .before .args .block .now), s .past, stored-length s))
+    let start : tie.Start = search in
+    let s = (let p : tie.After-put-header = search in p .put-header .ensures) in
+    (image-small (start .args .block .now) (start .pre .0), omega (arith, start .pre .1, file-length (start .args .block .now), s .past, stored-length s))
 
 same-length : tie.Need-same-length
 same-length c = search needs
 
 returns : tie.Need-returns
 returns c =
-    rw (file-put (c .before .before .before .before .before .before .before .before .before .before .before .args .block .now)) (stored-then (c .before .before .before .before .before .before .before .put-header .ensures) (c .before .before .put-darts .ensures))
+    let start : tie.Start = search in
+    let put-header-ensures = (let p : tie.After-put-header = search in p .put-header .ensures) in
+    let put-darts-ensures = (let p : tie.After-put-darts = search in p .put-darts .ensures) in
+    rw (file-put (start .args .block .now)) (stored-then put-header-ensures put-darts-ensures)
 
 pub put-file-spec : {M : Type 1} → statement M
 put-file-spec =

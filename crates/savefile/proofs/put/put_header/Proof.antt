@@ -11,42 +11,57 @@ use Rattle.savefile.proofs.put.put_header.Tie as tie
 
 shared-slice-read-narrow : tie.Need-shared-slice-read-narrow
 shared-slice-read-narrow c =
-    omega (arith, image-size (c .before .before .before .before .args .block .now) (c .before .before .before .before .pre .0))
+    let start : tie.Start = search in
+    omega (arith, image-size (start .args .block .now) (start .pre .0))
 
 narrow-requires : tie.Need-narrow-requires
 narrow-requires c κs =
-    number-small (c .before .before .before .before .args .block .now) (c .before .before .before .before .pre .0)
+    let start : tie.Start = search in
+    number-small (start .args .block .now) (start .pre .0)
 
 put-group-requires : tie.Need-put-group-requires
 put-group-requires c κs =
-    rw (c .narrow .ensures) (omega (arith, c .before .before .before .before .before .pre .1, header-length (c .before .before .before .before .before .args .block .now)))
+    let start : tie.Start = search in
+    rw (c .narrow .ensures) (omega (arith, start .pre .1, header-length (start .args .block .now)))
 
 shared-slice-read-narrow-2 : tie.Need-shared-slice-read-narrow-2
 shared-slice-read-narrow-2 c =
-    omega (arith, image-size (c .before .before .before .before .before .before .before .before .before .before .args .block .now) (c .before .before .before .before .before .before .before .before .before .before .pre .0))
+    let start : tie.Start = search in
+    omega (arith, image-size (start .args .block .now) (start .pre .0))
 
 narrow-requires-2 : tie.Need-narrow-requires-2
 narrow-requires-2 c κs =
-    counter-small (c .before .before .before .before .before .before .before .before .before .before .args .block .now) (c .before .before .before .before .before .before .before .before .before .before .pre .0)
+    let start : tie.Start = search in
+    counter-small (start .args .block .now) (start .pre .0)
 
 put-group-requires-2 : tie.Need-put-group-requires-2
 put-group-requires-2 c κs =
-    let s = rw (c .before .before .before .before .before .before .narrow .ensures) at (c .before .before .before .before .before .put-group .ensures) in
-    rw (c .narrow2 .ensures) (omega (arith, c .before .before .before .before .before .before .before .before .before .before .before .pre .1, header-length (c .before .before .before .before .before .before .before .before .before .before .before .args .block .now), s .past, stored-length s))
+    let start : tie.Start = search in
+    let narrow-ensures = (let p : tie.After-narrow = search in p .narrow .ensures) in
+    let put-group-ensures = (let p : tie.After-put-group = search in p .put-group .ensures) in
+    let s = rw narrow-ensures at put-group-ensures in
+    rw (c .narrow2 .ensures) (omega (arith, start .pre .1, header-length (start .args .block .now), s .past, stored-length s))
 
 shared-slice-read-narrow-3 : tie.Need-shared-slice-read-narrow-3
 shared-slice-read-narrow-3 c =
-    omega (arith, image-size (c .before .before .before .before .before .before .before .before .before .before .before .before .before .before .before .before .args .block .now) (c .before .before .before .before .before .before .before .before .before .before .before .before .before .before .before .before .pre .0))
+    let start : tie.Start = search in
+    omega (arith, image-size (start .args .block .now) (start .pre .0))
 
 narrow-requires-3 : tie.Need-narrow-requires-3
 narrow-requires-3 c κs =
-    omega (arith, count-small (c .before .before .before .before .before .before .before .before .before .before .before .before .before .before .before .before .args .block .now) (c .before .before .before .before .before .before .before .before .before .before .before .before .before .before .before .before .pre .0))
+    let start : tie.Start = search in
+    omega (arith, count-small (start .args .block .now) (start .pre .0))
 
 put-group-requires-3 : tie.Need-put-group-requires-3
 put-group-requires-3 c κs =
-    let s = rw (c .before .before .before .before .before .before .before .before .before .before .before .before .narrow .ensures) at (c .before .before .before .before .before .before .before .before .before .before .before .put-group .ensures) in
-    let t = rw (c .before .before .before .before .before .before .narrow2 .ensures) at (c .before .before .before .before .before .put-group2 .ensures) in
-    rw (c .narrow3 .ensures) (omega (arith, c .before .before .before .before .before .before .before .before .before .before .before .before .before .before .before .before .before .pre .1, header-length (c .before .before .before .before .before .before .before .before .before .before .before .before .before .before .before .before .before .args .block .now), s .past, stored-length s, t .past, stored-length t))
+    let start : tie.Start = search in
+    let narrow-ensures = (let p : tie.After-narrow = search in p .narrow .ensures) in
+    let put-group-ensures = (let p : tie.After-put-group = search in p .put-group .ensures) in
+    let narrow2-ensures = (let p : tie.After-narrow2 = search in p .narrow2 .ensures) in
+    let put-group2-ensures = (let p : tie.After-put-group2 = search in p .put-group2 .ensures) in
+    let s = rw narrow-ensures at put-group-ensures in
+    let t = rw narrow2-ensures at put-group2-ensures in
+    rw (c .narrow3 .ensures) (omega (arith, start .pre .1, header-length (start .args .block .now), s .past, stored-length s, t .past, stored-length t))
 
 same-length : tie.Need-same-length
 same-length c = search needs
@@ -54,9 +69,15 @@ same-length c = search needs
 returns : tie.Need-returns
 unfolding header-bytes
 returns c =
-    let s = rw (c .before .before .before .before .before .before .before .before .before .before .before .before .before .before .before .narrow .ensures) at (c .before .before .before .before .before .before .before .before .before .before .before .before .before .before .put-group .ensures) in
-    let t = rw (c .before .before .before .before .before .before .before .before .before .narrow2 .ensures) at (c .before .before .before .before .before .before .before .before .put-group2 .ensures) in
-    let u = rw (c .before .before .before .narrow3 .ensures) at (c .before .before .put-group3 .ensures) in
+    let narrow-ensures = (let p : tie.After-narrow = search in p .narrow .ensures) in
+    let put-group-ensures = (let p : tie.After-put-group = search in p .put-group .ensures) in
+    let narrow2-ensures = (let p : tie.After-narrow2 = search in p .narrow2 .ensures) in
+    let put-group2-ensures = (let p : tie.After-put-group2 = search in p .put-group2 .ensures) in
+    let narrow3-ensures = (let p : tie.After-narrow3 = search in p .narrow3 .ensures) in
+    let put-group3-ensures = (let p : tie.After-put-group3 = search in p .put-group3 .ensures) in
+    let s = rw narrow-ensures at put-group-ensures in
+    let t = rw narrow2-ensures at put-group2-ensures in
+    let u = rw narrow3-ensures at put-group3-ensures in
     stored-then s (stored-then t u)
 
 pub put-header-spec : {M : Type 1} → statement M

@@ -13,24 +13,33 @@ field-requires c κs = search needs
 
 put-serial-requires : tie.Need-put-serial-requires
 put-serial-requires c κs =
-    (rw (c .field .ensures) (c .before .before .before .before .pre .0 .serial-small), rw (c .field .ensures) (omega (arith, c .before .before .before .before .pre .1, link-length (c .before .before .before .before .args .block .now) (c .before .before .before .before .args .p))))
+    let start : tie.Start = search in
+    (rw (c .field .ensures) (start .pre .0 .serial-small), rw (c .field .ensures) (omega (arith, start .pre .1, link-length (start .args .block .now) (start .args .p))))
 
 serial-along-requires : tie.Need-serial-along-requires
 serial-along-requires c κs = search needs
 
 put-serial-requires-2 : tie.Need-put-serial-requires-2
 put-serial-requires-2 c κs =
-    let s = rw (c .before .before .before .before .before .field .ensures) at (c .before .before .before .before .put-serial .ensures) in
-    (rw (c .serial-along .ensures) (c .before .before .before .before .before .before .before .before .before .pre .0 .next-small), rw (c .serial-along .ensures) (omega (arith, c .before .before .before .before .before .before .before .before .before .pre .1, link-length (c .before .before .before .before .before .before .before .before .before .args .block .now) (c .before .before .before .before .before .before .before .before .before .args .p), s .past, stored-length s)))
+    let start : tie.Start = search in
+    let field-ensures = (let p : tie.After-field = search in p .field .ensures) in
+    let put-serial-ensures = (let p : tie.After-put-serial = search in p .put-serial .ensures) in
+    let s = rw field-ensures at put-serial-ensures in
+    (rw (c .serial-along .ensures) (start .pre .0 .next-small), rw (c .serial-along .ensures) (omega (arith, start .pre .1, link-length (start .args .block .now) (start .args .p), s .past, stored-length s)))
 
 serial-along-requires-2 : tie.Need-serial-along-requires-2
 serial-along-requires-2 c κs = search needs
 
 put-serial-requires-3 : tie.Need-put-serial-requires-3
 put-serial-requires-3 c κs =
-    let s = rw (c .before .before .before .before .before .before .before .before .before .before .field .ensures) at (c .before .before .before .before .before .before .before .before .before .put-serial .ensures) in
-    let t = rw (c .before .before .before .before .before .serial-along .ensures) at (c .before .before .before .before .put-serial2 .ensures) in
-    (rw (c .serial-along2 .ensures) (c .before .before .before .before .before .before .before .before .before .before .before .before .before .before .pre .0 .opposite-small), rw (c .serial-along2 .ensures) (omega (arith, c .before .before .before .before .before .before .before .before .before .before .before .before .before .before .pre .1, link-length (c .before .before .before .before .before .before .before .before .before .before .before .before .before .before .args .block .now) (c .before .before .before .before .before .before .before .before .before .before .before .before .before .before .args .p), s .past, stored-length s, t .past, stored-length t)))
+    let start : tie.Start = search in
+    let field-ensures = (let p : tie.After-field = search in p .field .ensures) in
+    let put-serial-ensures = (let p : tie.After-put-serial = search in p .put-serial .ensures) in
+    let serial-along-ensures = (let p : tie.After-serial-along = search in p .serial-along .ensures) in
+    let put-serial2-ensures = (let p : tie.After-put-serial2 = search in p .put-serial2 .ensures) in
+    let s = rw field-ensures at put-serial-ensures in
+    let t = rw serial-along-ensures at put-serial2-ensures in
+    (rw (c .serial-along2 .ensures) (start .pre .0 .opposite-small), rw (c .serial-along2 .ensures) (omega (arith, start .pre .1, link-length (start .args .block .now) (start .args .p), s .past, stored-length s, t .past, stored-length t)))
 
 same-length : tie.Need-same-length
 same-length c = search needs
@@ -38,9 +47,15 @@ same-length c = search needs
 returns : tie.Need-returns
 unfolding link-bytes
 returns c =
-    let s = rw (c .before .before .before .before .before .before .before .before .before .before .before .before .before .field .ensures) at (c .before .before .before .before .before .before .before .before .before .before .before .before .put-serial .ensures) in
-    let t = rw (c .before .before .before .before .before .before .before .before .serial-along .ensures) at (c .before .before .before .before .before .before .before .put-serial2 .ensures) in
-    let u = rw (c .before .before .before .serial-along2 .ensures) at (c .before .before .put-serial3 .ensures) in
+    let field-ensures = (let p : tie.After-field = search in p .field .ensures) in
+    let put-serial-ensures = (let p : tie.After-put-serial = search in p .put-serial .ensures) in
+    let serial-along-ensures = (let p : tie.After-serial-along = search in p .serial-along .ensures) in
+    let put-serial2-ensures = (let p : tie.After-put-serial2 = search in p .put-serial2 .ensures) in
+    let serial-along2-ensures = (let p : tie.After-serial-along2 = search in p .serial-along2 .ensures) in
+    let put-serial3-ensures = (let p : tie.After-put-serial3 = search in p .put-serial3 .ensures) in
+    let s = rw field-ensures at put-serial-ensures in
+    let t = rw serial-along-ensures at put-serial2-ensures in
+    let u = rw serial-along2-ensures at put-serial3-ensures in
     stored-then s (stored-then t u)
 
 pub put-links-spec : {M : Type 1} → statement M

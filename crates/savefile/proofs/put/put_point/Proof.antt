@@ -19,23 +19,37 @@ field-requires-2 c κs = search needs
 
 put-coordinate-requires-2 : tie.Need-put-coordinate-requires-2
 put-coordinate-requires-2 c κs =
-    omega (arith, c .before .before .before .before .before .before .before .before .before .pre .1, stored-length (c .before .before .before .before .put-coordinate .ensures), c .before .before .before .before .put-coordinate .ensures .past, coordinate-length (c .before .before .before .before .before .field .result))
+    let start : tie.Start = search in
+    let field-result = (let p : tie.After-field = search in p .field .result) in
+    let put-coordinate-ensures = (let p : tie.After-put-coordinate = search in p .put-coordinate .ensures) in
+    omega (arith, start .pre .1, stored-length put-coordinate-ensures, put-coordinate-ensures .past, coordinate-length field-result)
 
 field-requires-3 : tie.Need-field-requires-3
 field-requires-3 c κs = search needs
 
 put-coordinate-requires-3 : tie.Need-put-coordinate-requires-3
 put-coordinate-requires-3 c κs =
-    omega (arith, c .before .before .before .before .before .before .before .before .before .before .before .before .before .before .pre .1, stored-length (c .before .before .before .before .before .before .before .before .before .put-coordinate .ensures), c .before .before .before .before .before .before .before .before .before .put-coordinate .ensures .past, coordinate-length (c .before .before .before .before .before .before .before .before .before .before .field .result), stored-length (c .before .before .before .before .put-coordinate2 .ensures), c .before .before .before .before .put-coordinate2 .ensures .past, coordinate-length (c .before .before .before .before .before .field2 .result))
+    let start : tie.Start = search in
+    let field-result = (let p : tie.After-field = search in p .field .result) in
+    let put-coordinate-ensures = (let p : tie.After-put-coordinate = search in p .put-coordinate .ensures) in
+    let field2-result = (let p : tie.After-field2 = search in p .field2 .result) in
+    let put-coordinate2-ensures = (let p : tie.After-put-coordinate2 = search in p .put-coordinate2 .ensures) in
+    omega (arith, start .pre .1, stored-length put-coordinate-ensures, put-coordinate-ensures .past, coordinate-length field-result, stored-length put-coordinate2-ensures, put-coordinate2-ensures .past, coordinate-length field2-result)
 
 same-length : tie.Need-same-length
 same-length c = search needs
 
 returns : tie.Need-returns
 returns c =
-    let s = rw (c .before .before .before .before .before .before .before .before .before .before .before .before .before .field .ensures) at (c .before .before .before .before .before .before .before .before .before .before .before .before .put-coordinate .ensures) in
-    let t = rw (c .before .before .before .before .before .before .before .before .field2 .ensures) at (c .before .before .before .before .before .before .before .put-coordinate2 .ensures) in
-    let u = rw (c .before .before .before .field3 .ensures) at (c .before .before .put-coordinate3 .ensures) in
+    let field-ensures = (let p : tie.After-field = search in p .field .ensures) in
+    let put-coordinate-ensures = (let p : tie.After-put-coordinate = search in p .put-coordinate .ensures) in
+    let field2-ensures = (let p : tie.After-field2 = search in p .field2 .ensures) in
+    let put-coordinate2-ensures = (let p : tie.After-put-coordinate2 = search in p .put-coordinate2 .ensures) in
+    let field3-ensures = (let p : tie.After-field3 = search in p .field3 .ensures) in
+    let put-coordinate3-ensures = (let p : tie.After-put-coordinate3 = search in p .put-coordinate3 .ensures) in
+    let s = rw field-ensures at put-coordinate-ensures in
+    let t = rw field2-ensures at put-coordinate2-ensures in
+    let u = rw field3-ensures at put-coordinate3-ensures in
     rw (point-put _ _) (stored-then s (stored-then t u))
 
 pub put-point-spec : {M : Type 1} → statement M

@@ -9,56 +9,84 @@ use Rattle.savefile.proofs.put.put_third.Tie as tie
 
 put-group-requires : tie.Need-put-group-requires
 put-group-requires c κs =
-    rw (free-bytes _ _ (c .before .if1 .taken)) at (c .before .before .before .pre .1)
+    let start : tie.Start = search in
+    let if1-taken = (let p : tie.Then1 = search in p .if1 .taken) in
+    rw (free-bytes _ _ if1-taken) at (start .pre .1)
 
 same-length : tie.Need-same-length
 same-length c = search needs
 
 returns : tie.Need-returns
 returns c =
-    rw (free-bytes _ _ (c .before .before .before .before .if1 .taken)) (c .before .before .put-group .ensures)
+    let if1-taken = (let p : tie.Then1 = search in p .if1 .taken) in
+    let put-group-ensures = (let p : tie.After-put-group = search in p .put-group .ensures) in
+    rw (free-bytes _ _ if1-taken) put-group-ensures
 
 put-group-requires-2 : tie.Need-put-group-requires-2
 put-group-requires-2 c κs =
-    omega (arith, c .before .before .before .before .pre .1, sewn-length (c .before .before .before .before .args .kind) (c .before .before .before .before .args .named) (c .before .if2 .taken), one-group 1 (omega arith))
+    let start : tie.Start = search in
+    let if2-taken = (let p : tie.Then2 = search in p .if2 .taken) in
+    omega (arith, start .pre .1, sewn-length (start .args .kind) (start .args .named) if2-taken, one-group 1 (omega arith))
 
 put-serial-requires : tie.Need-put-serial-requires
 put-serial-requires c κs =
-    let s = c .before .before .before .put-group2 .ensures in
-    (c .before .before .before .before .before .before .before .before .pre .0 .sewn-small (c .before .before .before .before .before .if2 .taken), omega (arith, c .before .before .before .before .before .before .before .before .pre .1, sewn-length (c .before .before .before .before .before .before .before .before .args .kind) (c .before .before .before .before .before .before .before .before .args .named) (c .before .before .before .before .before .if2 .taken), one-group 1 (omega arith), s .past, stored-length s))
+    let start : tie.Start = search in
+    let if2-taken = (let p : tie.Then2 = search in p .if2 .taken) in
+    let s = (let p : tie.After-put-group2 = search in p .put-group2 .ensures) in
+    (start .pre .0 .sewn-small if2-taken, omega (arith, start .pre .1, sewn-length (start .args .kind) (start .args .named) if2-taken, one-group 1 (omega arith), s .past, stored-length s))
 
 same-length-2 : tie.Need-same-length-2
 same-length-2 c = search needs
 
 returns-2 : tie.Need-returns-2
 returns-2 c =
-    rw (sewn-bytes _ _ (c .before .before .before .before .before .before .before .before .if2 .taken)) (stored-then (c .before .before .before .before .before .before .put-group2 .ensures) (c .before .before .put-serial .ensures))
+    let if2-taken = (let p : tie.Then2 = search in p .if2 .taken) in
+    let put-group2-ensures = (let p : tie.After-put-group2 = search in p .put-group2 .ensures) in
+    let put-serial-ensures = (let p : tie.After-put-serial = search in p .put-serial .ensures) in
+    rw (sewn-bytes _ _ if2-taken) (stored-then put-group2-ensures put-serial-ensures)
 
 put-group-requires-3 : tie.Need-put-group-requires-3
 put-group-requires-3 c κs =
-    omega (arith, c .before .before .before .before .pre .1, critical-length (c .before .before .before .before .args .kind) (c .before .before .before .before .args .named) (c .before .before .if1 .left) (c .before .if2 .left), one-group 2 (omega arith))
+    let start : tie.Start = search in
+    let if1-left = (let p : tie.Else1 = search in p .if1 .left) in
+    let if2-left = (let p : tie.Else2 = search in p .if2 .left) in
+    omega (arith, start .pre .1, critical-length (start .args .kind) (start .args .named) if1-left if2-left, one-group 2 (omega arith))
 
 narrow-requires : tie.Need-narrow-requires
 narrow-requires c κs = search needs
 
 put-group-requires-4 : tie.Need-put-group-requires-4
 put-group-requires-4 c κs =
-    let s = c .before .before .before .before .put-group3 .ensures in
-    rw (c .narrow .ensures) (omega (arith, c .before .before .before .before .before .before .before .before .before .pre .1, critical-length (c .before .before .before .before .before .before .before .before .before .args .kind) (c .before .before .before .before .before .before .before .before .before .args .named) (c .before .before .before .before .before .before .before .if1 .left) (c .before .before .before .before .before .before .if2 .left), one-group 2 (omega arith), s .past, stored-length s))
+    let start : tie.Start = search in
+    let if1-left = (let p : tie.Else1 = search in p .if1 .left) in
+    let if2-left = (let p : tie.Else2 = search in p .if2 .left) in
+    let s = (let p : tie.After-put-group3 = search in p .put-group3 .ensures) in
+    rw (c .narrow .ensures) (omega (arith, start .pre .1, critical-length (start .args .kind) (start .args .named) if1-left if2-left, one-group 2 (omega arith), s .past, stored-length s))
 
 put-label-requires : tie.Need-put-label-requires
 put-label-requires c κs =
-    let s = c .before .before .before .before .before .before .before .before .put-group3 .ensures in
-    let t = rw (c .before .before .before .before .narrow .ensures) at (c .before .before .before .put-group4 .ensures) in
-    omega (arith, c .before .before .before .before .before .before .before .before .before .before .before .before .before .pre .1, critical-length (c .before .before .before .before .before .before .before .before .before .before .before .before .before .args .kind) (c .before .before .before .before .before .before .before .before .before .before .before .before .before .args .named) (c .before .before .before .before .before .before .before .before .before .before .before .if1 .left) (c .before .before .before .before .before .before .before .before .before .before .if2 .left), one-group 2 (omega arith), s .past, stored-length s, t .past, stored-length t)
+    let start : tie.Start = search in
+    let if1-left = (let p : tie.Else1 = search in p .if1 .left) in
+    let if2-left = (let p : tie.Else2 = search in p .if2 .left) in
+    let narrow-ensures = (let p : tie.After-narrow = search in p .narrow .ensures) in
+    let put-group4-ensures = (let p : tie.After-put-group4 = search in p .put-group4 .ensures) in
+    let s = (let p : tie.After-put-group3 = search in p .put-group3 .ensures) in
+    let t = rw narrow-ensures at put-group4-ensures in
+    omega (arith, start .pre .1, critical-length (start .args .kind) (start .args .named) if1-left if2-left, one-group 2 (omega arith), s .past, stored-length s, t .past, stored-length t)
 
 same-length-3 : tie.Need-same-length-3
 same-length-3 c = search needs
 
 returns-3 : tie.Need-returns-3
 returns-3 c =
-    let t = rw (c .before .before .before .before .before .before .before .narrow .ensures) at (c .before .before .before .before .before .before .put-group4 .ensures) in
-    rw (critical-bytes _ _ (c .before .before .before .before .before .before .before .before .before .before .before .before .before .before .if1 .left) (c .before .before .before .before .before .before .before .before .before .before .before .before .before .if2 .left)) (stored-then (c .before .before .before .before .before .before .before .before .before .before .before .put-group3 .ensures) (stored-then t (c .before .before .put-label .ensures)))
+    let if1-left = (let p : tie.Else1 = search in p .if1 .left) in
+    let if2-left = (let p : tie.Else2 = search in p .if2 .left) in
+    let put-group3-ensures = (let p : tie.After-put-group3 = search in p .put-group3 .ensures) in
+    let narrow-ensures = (let p : tie.After-narrow = search in p .narrow .ensures) in
+    let put-group4-ensures = (let p : tie.After-put-group4 = search in p .put-group4 .ensures) in
+    let put-label-ensures = (let p : tie.After-put-label = search in p .put-label .ensures) in
+    let t = rw narrow-ensures at put-group4-ensures in
+    rw (critical-bytes _ _ if1-left if2-left) (stored-then put-group3-ensures (stored-then t put-label-ensures))
 
 pub put-third-spec : {M : Type 1} → statement M
 put-third-spec =

@@ -9,20 +9,22 @@ use Rattle.send.proofs.messages.put_messages.Tie as tie
 
 transfer-sizes-requires : tie.Need-transfer-sizes-requires
 transfer-sizes-requires c κs =
-    let st = c .before .before .before .before .before .before .before .before .before in
+    let st : tie.Start = search in
     (st .pre .0, ((_, st .pre .1 .0), st .pre .1 .1 .0))
 
 updates-size-requires : tie.Need-updates-size-requires
 updates-size-requires c κs =
-    let st = c .before .before .before .before .before .before .before .before .before .before .before .before in
+    let st : tie.Start = search in
     let m = st .args .block .now in
     let ok = st .pre .0 in
     ((listed m ok (st .pre .1 .0), started m ok (st .pre .1 .0)), (ranges-in m ok .number-small, st .pre .1 .1 .0 .0, st .pre .1 .1 .1 .0, st .pre .1 .1 .1 .1))
 
 add-if1 : tie.Need-add-if1
 add-if1 c =
-    let st = c .before .before .before .before .before .before .before .before .before .before .before .before .before .before .before .before .before .before in
-    omega (arith, c .before .before .before .before .before .updates-size .ensures .1, c .before .before .before .before .before .before .before .before .transfer-sizes .ensures _ (st .pre .1 .0) .small)
+    let transfer-sizes-ensures = (let p : tie.After-transfer-sizes = search in p .transfer-sizes .ensures) in
+    let updates-size-ensures = (let p : tie.After-updates-size = search in p .updates-size .ensures) in
+    let st : tie.Start = search in
+    omega (arith, updates-size-ensures .1, transfer-sizes-ensures _ (st .pre .1 .0) .small)
 
 same-length : tie.Need-same-length
 same-length c = search needs
@@ -32,15 +34,20 @@ same-length-2 c = search needs
 
 returns : tie.Need-returns
 returns c =
-    let st = c .before .before .before .before .before .before .before .before .before .before .before .before .before .before .before .before .before .before .before in
+    let transfer-sizes-ensures = (let p : tie.After-transfer-sizes = search in p .transfer-sizes .ensures) in
+    let updates-size-ensures = (let p : tie.After-updates-size = search in p .updates-size .ensures) in
+    let st : tie.Start = search in
     let m = st .args .block .now in
-    too-short _ _ (messages-length m (st .pre .0) (st .args .to) (st .pre .1 .1 .0 .0) (st .pre .1 .0) (c .before .before .before .before .before .before .before .before .before .transfer-sizes .ensures _ (st .pre .1 .0)) (c .before .before .before .before .before .before .updates-size .ensures .0)) (c .if1 .taken)
+    too-short _ _ (messages-length m (st .pre .0) (st .args .to) (st .pre .1 .1 .0 .0) (st .pre .1 .0) (transfer-sizes-ensures _ (st .pre .1 .0)) (updates-size-ensures .0)) (c .if1 .taken)
 
 put-both-requires : tie.Need-put-both-requires
 put-both-requires c κs =
-    let st = c .before .before .before .before .before .before .before .before .before .before .before .before .before .before .before .before .before .before .before .before .before .before in
-    let z = c .before .before .before .before .before .before .before .before .before .before .before .before .transfer-sizes .ensures _ (st .pre .1 .0) in
-    (st .pre .0, (st .pre .1 .0, (st .pre .1 .1 .0, ((z, c .before .before .before .before .before .before .before .before .before .updates-size .ensures .2), omega (arith, c .before .before .before .if1 .left, c .before .before .before .before .before .before .before .before .before .updates-size .ensures .0)))))
+    let transfer-sizes-ensures = (let p : tie.After-transfer-sizes = search in p .transfer-sizes .ensures) in
+    let updates-size-ensures = (let p : tie.After-updates-size = search in p .updates-size .ensures) in
+    let if1-left = (let p : tie.Else1 = search in p .if1 .left) in
+    let st : tie.Start = search in
+    let z = transfer-sizes-ensures _ (st .pre .1 .0) in
+    (st .pre .0, (st .pre .1 .0, (st .pre .1 .1 .0, ((z, updates-size-ensures .2), omega (arith, if1-left, updates-size-ensures .0)))))
 
 same-length-3 : tie.Need-same-length-3
 same-length-3 c = search needs
@@ -53,9 +60,15 @@ same-length-5 c = search needs
 
 returns-2 : tie.Need-returns-2
 returns-2 c =
-    let st = c .before .before .before .before .before .before .before .before .before .before .before .before .before .before .before .before .before .before .before .before .before .before .before .before .before in
+    let put-both-ensures = (let p : tie.After-put-both = search in p .put-both .ensures) in
+    let if1-left = (let p : tie.Else1 = search in p .if1 .left) in
+    let updates-size-ensures = (let p : tie.After-updates-size = search in p .updates-size .ensures) in
+    let transfer-sizes-ensures = (let p : tie.After-transfer-sizes = search in p .transfer-sizes .ensures) in
+    let c : tie.After-transfer-sizes = search in
+    let start : tie.Start = search in
+    let st = start in
     let m = st .args .block .now in
-    long-enough _ _ (messages-length m (st .pre .0) (st .args .to) (st .pre .1 .1 .0 .0) (st .pre .1 .0) (c .before .before .before .before .before .before .before .before .before .before .before .before .before .before .before .transfer-sizes .ensures _ (st .pre .1 .0)) (c .before .before .before .before .before .before .before .before .before .before .before .before .updates-size .ensures .0)) (c .before .before .before .before .before .before .if1 .left) (c .before .before .put-both .ensures)
+    long-enough _ _ (messages-length m (st .pre .0) (st .args .to) (st .pre .1 .1 .0 .0) (st .pre .1 .0) (transfer-sizes-ensures _ (st .pre .1 .0)) (updates-size-ensures .0)) if1-left put-both-ensures
 
 pub put-messages-spec : {M : Type 1} → statement M
 put-messages-spec =

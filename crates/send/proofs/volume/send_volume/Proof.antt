@@ -7,7 +7,7 @@ use Rattle.send.proofs.volume.send_volume.Tie as tie
 
 leaves-requires : tie.Need-leaves-requires
 leaves-requires c κs =
-    let st = c .before .before .before .before .before .before .before .before .before .before .before .before .before .before .before .before .before .before in
+    let st : tie.Start = search in
     (st .pre .0, (st .pre .1 .0, st .pre .1 .1 .0))
 
 enum-known-q : tie.Need-enum-known-q
@@ -18,8 +18,13 @@ enum-known-counts c = search needs
 
 put-messages-requires : tie.Need-put-messages-requires
 put-messages-requires c κs =
-    let st = c .before .before .before .before .before .before .before .before .before .before .before .before .before .before .before .before .before .before .before .before .before .before .before .before .before .before .before .before .before .before .before .before .before .before .before .before .before .before .before .before .before .before .before .before in
-    let d = departs-told (st .args .block .now) (st .args .to) (st .args .serial) _ _ _ _ _ (c .before .before .before .before .before .before .before .before .before .before .before .before .before .before .before .before .before .before .before .before .before .before .before .before .before .leaves .ensures .0) (c .before .before .before .before .before .before .before .before .before .counts .given .1) in
+    let counts-given = (let p : tie.After-counts = search in p .counts .given) in
+    let c : tie.After-counts = search in
+    let leaves-ensures = (let p : tie.After-leaves = search in p .leaves .ensures) in
+    let c : tie.After-leaves = search in
+    let start : tie.Start = search in
+    let st = start in
+    let d = departs-told (st .args .block .now) (st .args .to) (st .args .serial) _ _ _ _ _ (leaves-ensures .0) (counts-given .1) in
     (st .pre .0, (d .survey, ((d .to-block, d .counter-fits), st .pre .1 .1 .1)))
 
 same-length : tie.Need-same-length
@@ -45,8 +50,12 @@ same-length-7 c = search needs
 
 returns : tie.Need-returns
 returns c =
-    let st = c .before .before .before .before .before .before .before .before .before .before .before .before .before .before .before .before .before .before .before .before .before .before .before .before .before .before .before .before .before .before .before .before .before .before .before .before in
-    refused-leaving (st .args .block .now) _ (st .args .to) (st .args .serial) (st .pre .0) (refused-told (st .args .block .now) (st .args .to) (st .args .serial) _ _ _ _ _ (c .before .before .before .before .before .before .before .before .before .before .before .before .before .before .before .before .before .leaves .ensures .0) (c .before .q .given .1))
+    let q-given = (let p : tie.After-q = search in p .q .given) in
+    let leaves-ensures = (let p : tie.After-leaves = search in p .leaves .ensures) in
+    let c : tie.After-leaves = search in
+    let start : tie.Start = search in
+    let st = start in
+    refused-leaving (st .args .block .now) _ (st .args .to) (st .args .serial) (st .pre .0) (refused-told (st .args .block .now) (st .args .to) (st .args .serial) _ _ _ _ _ (leaves-ensures .0) (q-given .1))
 
 same-length-8 : tie.Need-same-length-8
 same-length-8 c = search needs
@@ -80,9 +89,15 @@ same-length-17 c = search needs
 
 returns-2 : tie.Need-returns-2
 returns-2 c =
-    let st = c .before .before .before .before .before .before .before .before .before .before .before .before .before .before .before .before .before .before .before .before .before .before .before .before .before .before .before .before .before .before .before .before .before .before .before .before .before .before .before .before .before .before .before .before .before .before .before .before .before .before .before in
-    let d = departs-told (st .args .block .now) (st .args .to) (st .args .serial) _ _ _ _ _ (c .before .before .before .before .before .before .before .before .before .before .before .before .before .before .before .before .before .before .before .before .before .before .before .before .before .before .before .before .before .before .before .before .leaves .ensures .0) (c .before .before .before .before .before .before .before .before .before .before .before .before .before .before .before .before .counts .given .1) in
-    sent (st .args .block .now) _ (st .args .to) (st .args .serial) (st .pre .0) d (c .before .before .before .before .before .before .put-messages .ensures)
+    let put-messages-ensures = (let p : tie.After-put-messages = search in p .put-messages .ensures) in
+    let counts-given = (let p : tie.After-counts = search in p .counts .given) in
+    let c : tie.After-counts = search in
+    let leaves-ensures = (let p : tie.After-leaves = search in p .leaves .ensures) in
+    let c : tie.After-leaves = search in
+    let start : tie.Start = search in
+    let st = start in
+    let d = departs-told (st .args .block .now) (st .args .to) (st .args .serial) _ _ _ _ _ (leaves-ensures .0) (counts-given .1) in
+    sent (st .args .block .now) _ (st .args .to) (st .args .serial) (st .pre .0) d put-messages-ensures
 
 pub send-volume-spec : {M : Type 1} → statement M
 send-volume-spec =

@@ -19,58 +19,117 @@ field-requires-3 c κs = search needs
 
 field-requires-4 : tie.Need-field-requires-4
 field-requires-4 c κs =
-    (omega (arith, opposite-lt _ _ (c .before .before .before .before .pre .3) (c .before .before .before .before .pre .0) (c .before .field2 .ensures)), omega arith, search needs)
+    let start : tie.Start = search in
+    let field2-ensures = (let p : tie.After-field2 = search in p .field2 .ensures) in
+    (omega (arith, opposite-lt _ _ (start .pre .3) (start .pre .0) field2-ensures), omega arith, search needs)
 
 field-requires-5 : tie.Need-field-requires-5
 field-requires-5 c κs =
-    (omega (arith, next-lt _ _ (c .before .before .before .before .before .pre .3) (c .before .before .before .before .before .pre .0) (c .before .before .before .field .ensures)), omega arith, search needs)
+    let start : tie.Start = search in
+    let field-ensures = (let p : tie.After-field = search in p .field .ensures) in
+    (omega (arith, next-lt _ _ (start .pre .3) (start .pre .0) field-ensures), omega arith, search needs)
 
 field-requires-6 : tie.Need-field-requires-6
 field-requires-6 c κs =
-    (omega (arith, opposite-lt _ _ (c .before .before .before .before .before .before .pre .3) (c .before .before .before .before .before .before .pre .0) (c .before .before .before .field2 .ensures)), omega arith, search needs)
+    let start : tie.Start = search in
+    let field2-ensures = (let p : tie.After-field2 = search in p .field2 .ensures) in
+    (omega (arith, opposite-lt _ _ (start .pre .3) (start .pre .0) field2-ensures), omega arith, search needs)
 
 same-at-requires : tie.Need-same-at-requires
 same-at-requires c κs =
-    let b = opposite-lt _ _ (c .before .before .before .before .before .before .before .pre .3) (c .before .before .before .before .before .before .before .pre .0) (c .before .before .before .before .field2 .ensures) in
-    let v = next-lt _ _ (c .before .before .before .before .before .before .before .pre .3) b (c .field6 .ensures) in
-    (omega (arith, c .before .before .before .before .before .before .before .pre .0), omega (arith, v), search needs, finite-here _ _ (c .before .before .before .before .before .before .before .pre .3) (c .before .before .before .before .before .before .before .pre .0), finite-here _ _ (c .before .before .before .before .before .before .before .pre .3) v)
+    let start : tie.Start = search in
+    let field2-ensures = (let p : tie.After-field2 = search in p .field2 .ensures) in
+    let b = opposite-lt _ _ (start .pre .3) (start .pre .0) field2-ensures in
+    let v = next-lt _ _ (start .pre .3) b (c .field6 .ensures) in
+    (omega (arith, start .pre .0), omega (arith, v), search needs, finite-here _ _ (start .pre .3) (start .pre .0), finite-here _ _ (start .pre .3) v)
 
 returns : tie.Need-returns
 returns c =
-    far-stop _ 0 _ (c .before .before .before .before .before .before .before .field .ensures) (c .before .before .before .before .before .before .field2 .ensures) (c .before .before .before .before .before .field3 .ensures) (c .before .before .before .before .field4 .ensures) (c .before .before .before .field5 .ensures) (c .before .before .field6 .ensures) (c .before .same-at .ensures) (not-true _ (c .if1 .taken))
+    let field-ensures = (let p : tie.After-field = search in p .field .ensures) in
+    let field2-ensures = (let p : tie.After-field2 = search in p .field2 .ensures) in
+    let field3-ensures = (let p : tie.After-field3 = search in p .field3 .ensures) in
+    let field4-ensures = (let p : tie.After-field4 = search in p .field4 .ensures) in
+    let field5-ensures = (let p : tie.After-field5 = search in p .field5 .ensures) in
+    let field6-ensures = (let p : tie.After-field6 = search in p .field6 .ensures) in
+    let same-at-ensures = (let p : tie.After-same-at = search in p .same-at .ensures) in
+    far-stop _ 0 _ field-ensures field2-ensures field3-ensures field4-ensures field5-ensures field6-ensures same-at-ensures (not-true _ (c .if1 .taken))
 
 returns-2 : tie.Need-returns-2
 returns-2 c =
-    far-only _ 0 _ (c .before .before .before .before .before .before .before .before .field .ensures) (c .before .before .before .before .before .before .before .field2 .ensures) (c .before .before .before .before .before .before .field3 .ensures) (c .before .before .before .before .before .field4 .ensures) (c .before .before .before .before .field5 .ensures) (c .before .before .before .field6 .ensures) (c .before .before .same-at .ensures) (not-false _ (c .before .if1 .left)) (c .if2 .taken)
+    let field-ensures = (let p : tie.After-field = search in p .field .ensures) in
+    let field2-ensures = (let p : tie.After-field2 = search in p .field2 .ensures) in
+    let field3-ensures = (let p : tie.After-field3 = search in p .field3 .ensures) in
+    let field4-ensures = (let p : tie.After-field4 = search in p .field4 .ensures) in
+    let field5-ensures = (let p : tie.After-field5 = search in p .field5 .ensures) in
+    let field6-ensures = (let p : tie.After-field6 = search in p .field6 .ensures) in
+    let same-at-ensures = (let p : tie.After-same-at = search in p .same-at .ensures) in
+    let if1-left = (let p : tie.Else1 = search in p .if1 .left) in
+    far-only _ 0 _ field-ensures field2-ensures field3-ensures field4-ensures field5-ensures field6-ensures same-at-ensures (not-false _ if1-left) (c .if2 .taken)
 
 field-requires-7 : tie.Need-field-requires-7
 field-requires-7 c κs = search needs
 
 field-requires-8 : tie.Need-field-requires-8
 field-requires-8 c κs =
-    (omega (arith, next-lt _ _ (c .before .before .before .before .before .before .before .before .before .before .before .pre .3) (c .before .before .before .before .before .before .before .before .before .before .before .pre .0) (c .before .before .before .before .before .before .before .before .before .field .ensures)), omega arith, search needs)
+    let start : tie.Start = search in
+    let field-ensures = (let p : tie.After-field = search in p .field .ensures) in
+    (omega (arith, next-lt _ _ (start .pre .3) (start .pre .0) field-ensures), omega arith, search needs)
 
 field-requires-9 : tie.Need-field-requires-9
 field-requires-9 c κs =
-    (omega (arith, sewn-lt _ _ (c .before .before .before .before .before .before .before .before .before .before .before .before .pre .3) (c .before .before .before .before .before .before .before .before .before .before .before .before .pre .0) (c .before .before .before .before .before .before .before .before .field3 .ensures) (c .before .before .if2 .left) (c .before .field7 .ensures)), omega arith, search needs)
+    let start : tie.Start = search in
+    let field3-ensures = (let p : tie.After-field3 = search in p .field3 .ensures) in
+    let if2-left = (let p : tie.Else2 = search in p .if2 .left) in
+    let field7-ensures = (let p : tie.After-field7 = search in p .field7 .ensures) in
+    (omega (arith, sewn-lt _ _ (start .pre .3) (start .pre .0) field3-ensures if2-left field7-ensures), omega arith, search needs)
 
 sewn-at-requires : tie.Need-sewn-at-requires
 sewn-at-requires c κs =
-    let a = next-lt _ _ (c .before .before .before .before .before .before .before .before .before .before .before .before .before .pre .3) (c .before .before .before .before .before .before .before .before .before .before .before .before .before .pre .0) (c .before .before .before .before .before .before .before .before .before .before .before .field .ensures) in
-    let l = sewn-lt _ _ (c .before .before .before .before .before .before .before .before .before .before .before .before .before .pre .3) (c .before .before .before .before .before .before .before .before .before .before .before .before .before .pre .0) (c .before .before .before .before .before .before .before .before .before .field3 .ensures) (c .before .before .before .if2 .left) (c .before .before .field7 .ensures) in
-    let j = far-kind (c .before .before .before .before .before .before .before .before .before .before .before .before .before .args .block .now) 0 (c .before .before .before .before .before .before .before .before .before .before .before .before .before .args .p) (c .before .before .before .before .before .before .before .before .before .before .before .field .ensures) (c .before .before .before .before .before .before .before .before .before .before .field2 .ensures) (c .before .before .before .before .before .before .before .before .before .field3 .ensures) (c .before .before .before .before .before .before .before .before .field4 .ensures) (c .before .before .before .before .before .before .before .field5 .ensures) (c .before .before .before .before .before .before .field6 .ensures) (c .before .before .before .before .before .same-at .ensures) (not-false _ (c .before .before .before .before .if1 .left)) in
-    let z = sewn-lt _ _ (c .before .before .before .before .before .before .before .before .before .before .before .before .before .pre .3) a (c .before .before .before .before .before .before .before .field5 .ensures) (j ∙ c .before .before .before .if2 .left) (c .before .field8 .ensures) in
+    let start : tie.Start = search in
+    let field-ensures = (let p : tie.After-field = search in p .field .ensures) in
+    let field2-ensures = (let p : tie.After-field2 = search in p .field2 .ensures) in
+    let field3-ensures = (let p : tie.After-field3 = search in p .field3 .ensures) in
+    let field4-ensures = (let p : tie.After-field4 = search in p .field4 .ensures) in
+    let field5-ensures = (let p : tie.After-field5 = search in p .field5 .ensures) in
+    let field6-ensures = (let p : tie.After-field6 = search in p .field6 .ensures) in
+    let same-at-ensures = (let p : tie.After-same-at = search in p .same-at .ensures) in
+    let if1-left = (let p : tie.Else1 = search in p .if1 .left) in
+    let if2-left = (let p : tie.Else2 = search in p .if2 .left) in
+    let field7-ensures = (let p : tie.After-field7 = search in p .field7 .ensures) in
+    let field8-ensures = (let p : tie.After-field8 = search in p .field8 .ensures) in
+    let a = next-lt _ _ (start .pre .3) (start .pre .0) field-ensures in
+    let l = sewn-lt _ _ (start .pre .3) (start .pre .0) field3-ensures if2-left field7-ensures in
+    let j = far-kind (start .args .block .now) 0 (start .args .p) field-ensures field2-ensures field3-ensures field4-ensures field5-ensures field6-ensures same-at-ensures (not-false _ if1-left) in
+    let z = sewn-lt _ _ (start .pre .3) a field5-ensures (j ∙ if2-left) field8-ensures in
     (omega (arith, l), omega (arith, z), search needs)
 
 same-at-requires-2 : tie.Need-same-at-requires-2
 same-at-requires-2 c κs =
-    let l = sewn-lt _ _ (c .before .before .before .before .before .before .before .before .before .before .before .before .before .before .pre .3) (c .before .before .before .before .before .before .before .before .before .before .before .before .before .before .pre .0) (c .before .before .before .before .before .before .before .before .before .before .field3 .ensures) (c .before .before .before .before .if2 .left) (c .before .before .before .field7 .ensures) in
-    let w = next-lt _ _ (c .before .before .before .before .before .before .before .before .before .before .before .before .before .before .pre .3) l (c .before .field9 .ensures) in
-    (omega (arith, c .before .before .before .before .before .before .before .before .before .before .before .before .before .before .pre .0), omega (arith, w), search needs, finite-here _ _ (c .before .before .before .before .before .before .before .before .before .before .before .before .before .before .pre .3) (c .before .before .before .before .before .before .before .before .before .before .before .before .before .before .pre .0), finite-here _ _ (c .before .before .before .before .before .before .before .before .before .before .before .before .before .before .pre .3) w)
+    let start : tie.Start = search in
+    let field3-ensures = (let p : tie.After-field3 = search in p .field3 .ensures) in
+    let if2-left = (let p : tie.Else2 = search in p .if2 .left) in
+    let field7-ensures = (let p : tie.After-field7 = search in p .field7 .ensures) in
+    let field9-ensures = (let p : tie.After-field9 = search in p .field9 .ensures) in
+    let l = sewn-lt _ _ (start .pre .3) (start .pre .0) field3-ensures if2-left field7-ensures in
+    let w = next-lt _ _ (start .pre .3) l field9-ensures in
+    (omega (arith, start .pre .0), omega (arith, w), search needs, finite-here _ _ (start .pre .3) (start .pre .0), finite-here _ _ (start .pre .3) w)
 
 returns-3 : tie.Need-returns-3
 returns-3 c =
-    far-go _ 0 _ (c .before .before .before .before .before .before .before .before .before .before .before .before .before .field .ensures) (c .before .before .before .before .before .before .before .before .before .before .before .before .field2 .ensures) (c .before .before .before .before .before .before .before .before .before .before .before .field3 .ensures) (c .before .before .before .before .before .before .before .before .before .before .field4 .ensures) (c .before .before .before .before .before .before .before .before .before .field5 .ensures) (c .before .before .before .before .before .before .before .before .field6 .ensures) (c .before .before .before .before .before .before .before .same-at .ensures) (not-false _ (c .before .before .before .before .before .before .if1 .left)) (c .before .before .before .before .before .if2 .left) (c .before .before .before .before .field7 .ensures) (c .before .before .before .field8 .ensures) (c .before .before .field9 .ensures) (c .before .sewn-at .ensures) (c .same-at2 .ensures)
+    let field-ensures = (let p : tie.After-field = search in p .field .ensures) in
+    let field2-ensures = (let p : tie.After-field2 = search in p .field2 .ensures) in
+    let field3-ensures = (let p : tie.After-field3 = search in p .field3 .ensures) in
+    let field4-ensures = (let p : tie.After-field4 = search in p .field4 .ensures) in
+    let field5-ensures = (let p : tie.After-field5 = search in p .field5 .ensures) in
+    let field6-ensures = (let p : tie.After-field6 = search in p .field6 .ensures) in
+    let same-at-ensures = (let p : tie.After-same-at = search in p .same-at .ensures) in
+    let if1-left = (let p : tie.Else1 = search in p .if1 .left) in
+    let if2-left = (let p : tie.Else2 = search in p .if2 .left) in
+    let field7-ensures = (let p : tie.After-field7 = search in p .field7 .ensures) in
+    let field8-ensures = (let p : tie.After-field8 = search in p .field8 .ensures) in
+    let field9-ensures = (let p : tie.After-field9 = search in p .field9 .ensures) in
+    let sewn-at-ensures = (let p : tie.After-sewn-at = search in p .sewn-at .ensures) in
+    far-go _ 0 _ field-ensures field2-ensures field3-ensures field4-ensures field5-ensures field6-ensures same-at-ensures (not-false _ if1-left) if2-left field7-ensures field8-ensures field9-ensures sewn-at-ensures (c .same-at2 .ensures)
 
 pub far-at-spec : {M : Type 1} → statement M
 far-at-spec =

@@ -27,7 +27,12 @@ finite-word-requires-3 c κs = search needs
 returns : tie.Need-returns
 unfolding finite
 returns c =
-    rw (c .before .before .before .before .finite-word .ensures, c .before .before .finite-word2 .ensures, c .finite-word3 .ensures, c .before .before .before .before .before .field .ensures, c .before .before .before .field2 .ensures, c .before .field3 .ensures) refl
+    let field-ensures = (let p : tie.After-field = search in p .field .ensures) in
+    let finite-word-ensures = (let p : tie.After-finite-word = search in p .finite-word .ensures) in
+    let field2-ensures = (let p : tie.After-field2 = search in p .field2 .ensures) in
+    let finite-word2-ensures = (let p : tie.After-finite-word2 = search in p .finite-word2 .ensures) in
+    let field3-ensures = (let p : tie.After-field3 = search in p .field3 .ensures) in
+    rw (finite-word-ensures, finite-word2-ensures, c .finite-word3 .ensures, field-ensures, field2-ensures, field3-ensures) refl
 
 pub finite-at-spec : {M : Type 1} → statement M
 finite-at-spec =

@@ -14,7 +14,8 @@ critical-right-requires c κs = search needs
 
 returns-2 : tie.Need-returns-2
 returns-2 c =
-    critical-go _ _ _ _ _ (c .before .if1 .left) (c .critical-right .ensures)
+    let if1-left = (let p : tie.Else1 = search in p .if1 .left) in
+    critical-go _ _ _ _ _ if1-left (c .critical-right .ensures)
 
 pub kind-right-spec : {M : Type 1} → statement M
 kind-right-spec = tie.close (tie.spec returns critical-right-requires returns-2)

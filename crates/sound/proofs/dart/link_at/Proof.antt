@@ -15,16 +15,24 @@ field-requires-2 c κs = search needs
 
 returns : tie.Need-returns
 returns c =
-    link-stop _ _ _ (c .before .before .field .ensures) (c .before .field2 .ensures) (not-true _ (c .if1 .taken))
+    let field-ensures = (let p : tie.After-field = search in p .field .ensures) in
+    let field2-ensures = (let p : tie.After-field2 = search in p .field2 .ensures) in
+    link-stop _ _ _ field-ensures field2-ensures (not-true _ (c .if1 .taken))
 
 field-requires-3 : tie.Need-field-requires-3
 field-requires-3 c κs =
-    let within = both-lt (c .before .before .before .before .args .n) (c .before .before .field .ensures) (c .before .field2 .ensures) (not-false _ (c .if1 .left)) in
+    let start : tie.Start = search in
+    let field-ensures = (let p : tie.After-field = search in p .field .ensures) in
+    let field2-ensures = (let p : tie.After-field2 = search in p .field2 .ensures) in
+    let within = both-lt (start .args .n) field-ensures field2-ensures (not-false _ (c .if1 .left)) in
     (omega (arith, within .1), omega arith, search needs)
 
 returns-2 : tie.Need-returns-2
 returns-2 c =
-    link-go _ _ _ (c .before .before .before .field .ensures) (c .before .before .field2 .ensures) (not-false _ (c .before .if1 .left)) (c .field3 .ensures)
+    let field-ensures = (let p : tie.After-field = search in p .field .ensures) in
+    let field2-ensures = (let p : tie.After-field2 = search in p .field2 .ensures) in
+    let if1-left = (let p : tie.Else1 = search in p .if1 .left) in
+    link-go _ _ _ field-ensures field2-ensures (not-false _ if1-left) (c .field3 .ensures)
 
 pub link-at-spec : {M : Type 1} → statement M
 link-at-spec =

@@ -21,7 +21,10 @@ field-requires-3 c κs = search needs
 returns : tie.Need-returns
 unfolding place-test
 returns c =
-    rw (c .before .before .before .field .ensures, c .before .before .finite-at .ensures, c .before .field2 .ensures, c .field3 .ensures) refl
+    let field-ensures = (let p : tie.After-field = search in p .field .ensures) in
+    let finite-at-ensures = (let p : tie.After-finite-at = search in p .finite-at .ensures) in
+    let field2-ensures = (let p : tie.After-field2 = search in p .field2 .ensures) in
+    rw (field-ensures, finite-at-ensures, field2-ensures, c .field3 .ensures) refl
 
 pub place-at-spec : {M : Type 1} → statement M
 place-at-spec =

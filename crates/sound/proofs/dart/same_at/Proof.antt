@@ -14,13 +14,18 @@ point-at-requires-2 c κs = search needs
 
 same-point-requires : tie.Need-same-point-requires
 same-point-requires c κs =
-    let here = c .before .before .before .pre .3 in
-    let there = c .before .before .before .pre .4 in
-    (rw (c .before .point-at .ensures) (point-finite _ _ _ (here .on-x) (here .on-y) (here .on-z)), rw (c .point-at2 .ensures) (point-finite _ _ _ (there .on-x) (there .on-y) (there .on-z)))
+    let start : tie.Start = search in
+    let point-at-ensures = (let p : tie.After-point-at = search in p .point-at .ensures) in
+    let here = start .pre .3 in
+    let there = start .pre .4 in
+    (rw point-at-ensures (point-finite _ _ _ (here .on-x) (here .on-y) (here .on-z)), rw (c .point-at2 .ensures) (point-finite _ _ _ (there .on-x) (there .on-y) (there .on-z)))
 
 returns : tie.Need-returns
 returns c =
-    same-go _ _ _ (c .before .before .before .before .pre .3) (c .before .before .before .before .pre .4) (c .before .before .point-at .ensures) (c .before .point-at2 .ensures) (c .same-point .ensures)
+    let start : tie.Start = search in
+    let point-at-ensures = (let p : tie.After-point-at = search in p .point-at .ensures) in
+    let point-at2-ensures = (let p : tie.After-point-at2 = search in p .point-at2 .ensures) in
+    same-go _ _ _ (start .pre .3) (start .pre .4) point-at-ensures point-at2-ensures (c .same-point .ensures)
 
 pub same-at-spec : {M : Type 1} → statement M
 same-at-spec =

@@ -18,11 +18,18 @@ field-requires-3 c κs = search needs
 
 returns : tie.Need-returns
 returns c =
-    kind-stop _ _ _ (c .before .before .before .field .ensures) (c .before .before .field2 .ensures) (c .before .field3 .ensures) (c .if1 .taken)
+    let field-ensures = (let p : tie.After-field = search in p .field .ensures) in
+    let field2-ensures = (let p : tie.After-field2 = search in p .field2 .ensures) in
+    let field3-ensures = (let p : tie.After-field3 = search in p .field3 .ensures) in
+    kind-stop _ _ _ field-ensures field2-ensures field3-ensures (c .if1 .taken)
 
 returns-2 : tie.Need-returns-2
 returns-2 c =
-    not-sewn _ _ _ (c .before .before .before .before .field .ensures) (c .before .before .before .field2 .ensures) (c .before .before .field3 .ensures) (c .before .if1 .left) (c .if2 .taken)
+    let field-ensures = (let p : tie.After-field = search in p .field .ensures) in
+    let field2-ensures = (let p : tie.After-field2 = search in p .field2 .ensures) in
+    let field3-ensures = (let p : tie.After-field3 = search in p .field3 .ensures) in
+    let if1-left = (let p : tie.Else1 = search in p .if1 .left) in
+    not-sewn _ _ _ field-ensures field2-ensures field3-ensures if1-left (c .if2 .taken)
 
 field-requires-4 : tie.Need-field-requires-4
 field-requires-4 c κs = search needs
@@ -32,16 +39,34 @@ field-requires-5 c κs = search needs
 
 returns-3 : tie.Need-returns-3
 returns-3 c =
-    sewn-stop _ _ _ (c .before .before .before .before .before .before .before .field .ensures) (c .before .before .before .before .before .before .field2 .ensures) (c .before .before .before .before .before .field3 .ensures) (c .before .before .before .before .if1 .left) (c .before .before .before .if2 .left) (c .before .before .field4 .ensures) (c .before .field5 .ensures) (not-true _ (c .if3 .taken))
+    let field-ensures = (let p : tie.After-field = search in p .field .ensures) in
+    let field2-ensures = (let p : tie.After-field2 = search in p .field2 .ensures) in
+    let field3-ensures = (let p : tie.After-field3 = search in p .field3 .ensures) in
+    let if1-left = (let p : tie.Else1 = search in p .if1 .left) in
+    let if2-left = (let p : tie.Else2 = search in p .if2 .left) in
+    let field4-ensures = (let p : tie.After-field4 = search in p .field4 .ensures) in
+    let field5-ensures = (let p : tie.After-field5 = search in p .field5 .ensures) in
+    sewn-stop _ _ _ field-ensures field2-ensures field3-ensures if1-left if2-left field4-ensures field5-ensures (not-true _ (c .if3 .taken))
 
 sewn-at-requires : tie.Need-sewn-at-requires
 sewn-at-requires c κs =
-    let within = both-lt (c .before .before .before .before .before .before .before .before .before .args .n) (c .before .before .field4 .ensures) (c .before .field5 .ensures) (not-false _ (c .if3 .left)) in
+    let start : tie.Start = search in
+    let field4-ensures = (let p : tie.After-field4 = search in p .field4 .ensures) in
+    let field5-ensures = (let p : tie.After-field5 = search in p .field5 .ensures) in
+    let within = both-lt (start .args .n) field4-ensures field5-ensures (not-false _ (c .if3 .left)) in
     (omega (arith, within .0), omega (arith, within .1), search needs)
 
 returns-4 : tie.Need-returns-4
 returns-4 c =
-    sewn-go _ _ _ (c .before .before .before .before .before .before .before .before .field .ensures) (c .before .before .before .before .before .before .before .field2 .ensures) (c .before .before .before .before .before .before .field3 .ensures) (c .before .before .before .before .before .if1 .left) (c .before .before .before .before .if2 .left) (c .before .before .before .field4 .ensures) (c .before .before .field5 .ensures) (not-false _ (c .before .if3 .left)) (c .sewn-at .ensures)
+    let field-ensures = (let p : tie.After-field = search in p .field .ensures) in
+    let field2-ensures = (let p : tie.After-field2 = search in p .field2 .ensures) in
+    let field3-ensures = (let p : tie.After-field3 = search in p .field3 .ensures) in
+    let if1-left = (let p : tie.Else1 = search in p .if1 .left) in
+    let if2-left = (let p : tie.Else2 = search in p .if2 .left) in
+    let field4-ensures = (let p : tie.After-field4 = search in p .field4 .ensures) in
+    let field5-ensures = (let p : tie.After-field5 = search in p .field5 .ensures) in
+    let if3-left = (let p : tie.Else3 = search in p .if3 .left) in
+    sewn-go _ _ _ field-ensures field2-ensures field3-ensures if1-left if2-left field4-ensures field5-ensures (not-false _ if3-left) (c .sewn-at .ensures)
 
 pub third-at-spec : {M : Type 1} → statement M
 third-at-spec =

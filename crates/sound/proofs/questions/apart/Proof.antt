@@ -9,21 +9,26 @@ use Rattle.sound.proofs.questions.apart.Tie as tie
 
 told-requires : tie.Need-told-requires
 told-requires c κs =
-    (omega (arith, c .before .before .before .pre .0, c .before .before .before .pre .1), omega (arith, c .before .before .before .pre .1), refl)
+    let start : tie.Start = search in
+    (omega (arith, start .pre .0, start .pre .1), omega (arith, start .pre .1), refl)
 
 same-length : tie.Need-same-length
 same-length c = search needs
 
 returns : tie.Need-returns
 returns c =
-    told-yes _ _ (omega (arith, c .before .before .before .before .before .pre .0, c .before .before .before .before .before .pre .1)) (c .before .told .ensures) (c .if1 .taken)
+    let start : tie.Start = search in
+    let told-ensures = (let p : tie.After-told = search in p .told .ensures) in
+    told-yes _ _ (omega (arith, start .pre .0, start .pre .1)) told-ensures (c .if1 .taken)
 
 same-length-2 : tie.Need-same-length-2
 same-length-2 c = search needs
 
 returns-2 : tie.Need-returns-2
 returns-2 c =
-    told-no _ _ (omega (arith, c .before .before .before .before .before .before .pre .0, c .before .before .before .before .before .before .pre .1)) (c .before .before .told .ensures) (c .if2 .taken)
+    let start : tie.Start = search in
+    let told-ensures = (let p : tie.After-told = search in p .told .ensures) in
+    told-no _ _ (omega (arith, start .pre .0, start .pre .1)) told-ensures (c .if2 .taken)
 
 slice-aggregate-differ : tie.Need-slice-aggregate-differ
 slice-aggregate-differ c = search needs

@@ -28,11 +28,17 @@ loop-holds c =
 
 finite-at-requires : tie.Need-finite-at-requires Inv-loop μ-loop
 finite-at-requires c κs =
-    (omega (arith, c .loop-test .taken, c .before .loop .inv .1, c .before .before .before .before .pre .1), search needs)
+    let start : tie.Start Inv-loop μ-loop = search in
+    let loop-inv = (let p : tie.At-loop Inv-loop μ-loop = search in p .loop .inv) in
+    (omega (arith, c .loop-test .taken, loop-inv .1, start .pre .1), search needs)
 
 returns : tie.Need-returns Inv-loop μ-loop
 returns c =
-    going-no (c .before .before .before .loop .inv .0) (omega (arith, c .before .before .loop-test .taken, c .before .before .before .loop .inv .1)) (c .before .finite-at .ensures) (not-true _ (c .if1 .taken)) ∙ finite-is (c .before .before .before .before .before .before .args .block .now)
+    let start : tie.Start Inv-loop μ-loop = search in
+    let loop-inv = (let p : tie.At-loop Inv-loop μ-loop = search in p .loop .inv) in
+    let loop-test-taken = (let p : tie.In-loop Inv-loop μ-loop = search in p .loop-test .taken) in
+    let finite-at-ensures = (let p : tie.After-finite-at Inv-loop μ-loop = search in p .finite-at .ensures) in
+    going-no (loop-inv .0) (omega (arith, loop-test-taken, loop-inv .1)) finite-at-ensures (not-true _ (c .if1 .taken)) ∙ finite-is (start .args .block .now)
 
 add-i : tie.Need-add-i Inv-loop μ-loop
 add-i c = search needs
@@ -42,11 +48,16 @@ loop-less c = search needs
 
 loop-again : tie.Need-loop-again Inv-loop μ-loop
 loop-again c =
-    (going-more (c .before .before .before .loop .inv .0) (omega (arith, c .before .before .loop-test .taken, c .before .before .before .loop .inv .1)) (c .before .finite-at .ensures) (not-false _ (c .if1 .left)), c .before .before .before .loop .inv .1)
+    let loop-inv = (let p : tie.At-loop Inv-loop μ-loop = search in p .loop .inv) in
+    let loop-test-taken = (let p : tie.In-loop Inv-loop μ-loop = search in p .loop-test .taken) in
+    let finite-at-ensures = (let p : tie.After-finite-at Inv-loop μ-loop = search in p .finite-at .ensures) in
+    (going-more (loop-inv .0) (omega (arith, loop-test-taken, loop-inv .1)) finite-at-ensures (not-false _ (c .if1 .left)), loop-inv .1)
 
 returns-2 : tie.Need-returns-2 Inv-loop μ-loop
 returns-2 c =
-    going-end (c .before .loop .inv .0) (omega (arith, c .loop-test .left, c .before .loop .inv .1)) ∙ finite-is (c .before .before .before .before .args .block .now)
+    let start : tie.Start Inv-loop μ-loop = search in
+    let loop-inv = (let p : tie.At-loop Inv-loop μ-loop = search in p .loop .inv) in
+    going-end (loop-inv .0) (omega (arith, c .loop-test .left, loop-inv .1)) ∙ finite-is (start .args .block .now)
 
 pub coordinates-finite-spec : {M : Type 1} → statement M
 coordinates-finite-spec =

@@ -16,7 +16,8 @@ abbrev μ-loop : tie.MeasureT-loop
 
 loop-holds : tie.Need-loop-holds Inv-loop μ-loop
 loop-holds c =
-    gather-none _ _ _ (c .before .pre .2)
+    let start : tie.Start Inv-loop μ-loop = search in
+    gather-none _ _ _ (start .pre .2)
 
 put-label-requires : tie.Need-put-label-requires Inv-loop μ-loop
 put-label-requires c κs = search needs
@@ -29,11 +30,15 @@ loop-less c = search needs
 
 loop-again : tie.Need-loop-again Inv-loop μ-loop
 loop-again c =
-    gather-more (c .before .before .before .loop .inv) (c .before .before .loop-test .taken) (c .before .before .before .before .before .pre .0) (c .put-label .ensures)
+    let start : tie.Start Inv-loop μ-loop = search in
+    let loop-inv = (let p : tie.At-loop Inv-loop μ-loop = search in p .loop .inv) in
+    let loop-test-taken = (let p : tie.In-loop Inv-loop μ-loop = search in p .loop-test .taken) in
+    gather-more loop-inv loop-test-taken (start .pre .0) (c .put-label .ensures)
 
 returns : tie.Need-returns Inv-loop μ-loop
 returns c =
-    gather-end (c .before .loop .inv) (c .loop-test .left)
+    let loop-inv = (let p : tie.At-loop Inv-loop μ-loop = search in p .loop .inv) in
+    gather-end loop-inv (c .loop-test .left)
 
 pub gather-spec : {M : Type 1} → statement M
 gather-spec =

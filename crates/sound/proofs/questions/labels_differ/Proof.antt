@@ -17,7 +17,9 @@ apart-requires c κs = search needs
 
 returns : tie.Need-returns
 returns c =
-    c .before .apart .ensures ∙ ap distinct (c .before .before .before .gather .ensures .2)
+    let gather-ensures = (let p : tie.After-gather = search in p .gather .ensures) in
+    let apart-ensures = (let p : tie.After-apart = search in p .apart .ensures) in
+    apart-ensures ∙ ap distinct (gather-ensures .2)
 
 pub labels-differ-spec : {M : Type 1} → statement M
 labels-differ-spec =

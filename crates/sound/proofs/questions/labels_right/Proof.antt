@@ -13,19 +13,26 @@ shared-slice-read-n c = search needs
 
 own-labels-requires : tie.Need-own-labels-requires
 own-labels-requires c κs =
-    (c .before .before .pre .1 .few, c .before .before .pre .0)
+    let start : tie.Start = search in
+    (start .pre .1 .few, start .pre .0)
 
 returns : tie.Need-returns
 returns c =
-    and-stop _ (sym (c .before .own-labels .ensures) ∙ not-true _ (c .if1 .taken)) ∙ labels-are _ (c .before .before .before .before .pre .1)
+    let start : tie.Start = search in
+    let own-labels-ensures = (let p : tie.After-own-labels = search in p .own-labels .ensures) in
+    and-stop _ (sym own-labels-ensures ∙ not-true _ (c .if1 .taken)) ∙ labels-are _ (start .pre .1)
 
 labels-differ-requires : tie.Need-labels-differ-requires
 labels-differ-requires c κs =
-    (c .before .before .before .before .pre .1 .few, c .before .before .before .before .pre .0)
+    let start : tie.Start = search in
+    (start .pre .1 .few, start .pre .0)
 
 returns-2 : tie.Need-returns-2
 returns-2 c =
-    and-go (sym (c .before .before .own-labels .ensures) ∙ not-false _ (c .before .if1 .left)) (c .labels-differ .ensures) ∙ labels-are _ (c .before .before .before .before .before .pre .1)
+    let start : tie.Start = search in
+    let own-labels-ensures = (let p : tie.After-own-labels = search in p .own-labels .ensures) in
+    let if1-left = (let p : tie.Else1 = search in p .if1 .left) in
+    and-go (sym own-labels-ensures ∙ not-false _ if1-left) (c .labels-differ .ensures) ∙ labels-are _ (start .pre .1)
 
 pub labels-right-spec : {M : Type 1} → statement M
 labels-right-spec =

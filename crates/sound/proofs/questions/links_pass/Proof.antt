@@ -21,31 +21,43 @@ abbrev μ-loop : tie.MeasureT-loop
 
 loop-holds : tie.Need-loop-holds Inv-loop μ-loop
 loop-holds c =
-    passing-none _ _ _ _ (c .before .pre .2)
+    let start : tie.Start Inv-loop μ-loop = search in
+    passing-none _ _ _ _ (start .pre .2)
 
 link-at-requires : tie.Need-link-at-requires Inv-loop μ-loop
 link-at-requires c κs = search needs
 
 returns : tie.Need-returns Inv-loop μ-loop
 returns c =
-    as-links (test-no (c .before .before .before .loop .inv) (c .before .before .loop-test .taken) (c .before .link-at .ensures) (not-true _ (c .if1 .taken)))
+    let loop-inv = (let p : tie.At-loop Inv-loop μ-loop = search in p .loop .inv) in
+    let loop-test-taken = (let p : tie.In-loop Inv-loop μ-loop = search in p .loop-test .taken) in
+    let link-at-ensures = (let p : tie.After-link-at Inv-loop μ-loop = search in p .link-at .ensures) in
+    as-links (test-no loop-inv loop-test-taken link-at-ensures (not-true _ (c .if1 .taken)))
 
 field-requires : tie.Need-field-requires Inv-loop μ-loop
 field-requires c κs = search needs
 
 element-copy-out-if2 : tie.Need-element-copy-out-if2 Inv-loop μ-loop
 element-copy-out-if2 c =
-    let lt = link-below _ _ _ (c .before .before .link-at .ensures) (not-false _ (c .before .if1 .left)) in
+    let link-at-ensures = (let p : tie.After-link-at Inv-loop μ-loop = search in p .link-at .ensures) in
+    let if1-left = (let p : tie.Else1 Inv-loop μ-loop = search in p .if1 .left) in
+    let lt = link-below _ _ _ link-at-ensures (not-false _ if1-left) in
     omega (arith, lt, c .field .ensures)
 
 returns-2 : tie.Need-returns-2 Inv-loop μ-loop
 returns-2 c =
-    as-links (mark-no (c .before .before .before .before .before .before .loop .inv) (c .before .before .before .before .before .loop-test .taken) (c .before .before .field .ensures) refl (c .if2 .taken))
+    let loop-inv = (let p : tie.At-loop Inv-loop μ-loop = search in p .loop .inv) in
+    let loop-test-taken = (let p : tie.In-loop Inv-loop μ-loop = search in p .loop-test .taken) in
+    let field-ensures = (let p : tie.After-field Inv-loop μ-loop = search in p .field .ensures) in
+    as-links (mark-no loop-inv loop-test-taken field-ensures refl (c .if2 .taken))
 
 element-write-seen : tie.Need-element-write-seen Inv-loop μ-loop
 element-write-seen c =
-    let lt = link-below _ _ _ (c .before .before .before .before .link-at .ensures) (not-false _ (c .before .before .before .if1 .left)) in
-    omega (arith, lt, c .before .before .field .ensures)
+    let link-at-ensures = (let p : tie.After-link-at Inv-loop μ-loop = search in p .link-at .ensures) in
+    let if1-left = (let p : tie.Else1 Inv-loop μ-loop = search in p .if1 .left) in
+    let field-ensures = (let p : tie.After-field Inv-loop μ-loop = search in p .field .ensures) in
+    let lt = link-below _ _ _ link-at-ensures (not-false _ if1-left) in
+    omega (arith, lt, field-ensures)
 
 add-i : tie.Need-add-i Inv-loop μ-loop
 add-i c = search needs
@@ -55,12 +67,18 @@ loop-less c = search needs
 
 loop-again : tie.Need-loop-again Inv-loop μ-loop
 loop-again c =
-    let lt = link-below _ _ _ (c .before .before .before .before .link-at .ensures) (not-false _ (c .before .before .before .if1 .left)) in
-    passing-more (c .before .before .before .before .before .before .loop .inv) (c .before .before .before .before .before .loop-test .taken) (c .before .before .before .before .link-at .ensures) (not-false _ (c .before .before .before .if1 .left)) (omega (arith, lt)) (c .before .before .field .ensures) (c .if2 .left)
+    let loop-inv = (let p : tie.At-loop Inv-loop μ-loop = search in p .loop .inv) in
+    let loop-test-taken = (let p : tie.In-loop Inv-loop μ-loop = search in p .loop-test .taken) in
+    let link-at-ensures = (let p : tie.After-link-at Inv-loop μ-loop = search in p .link-at .ensures) in
+    let if1-left = (let p : tie.Else1 Inv-loop μ-loop = search in p .if1 .left) in
+    let field-ensures = (let p : tie.After-field Inv-loop μ-loop = search in p .field .ensures) in
+    let lt = link-below _ _ _ link-at-ensures (not-false _ if1-left) in
+    passing-more loop-inv loop-test-taken link-at-ensures (not-false _ if1-left) (omega (arith, lt)) field-ensures (c .if2 .left)
 
 returns-3 : tie.Need-returns-3 Inv-loop μ-loop
 returns-3 c =
-    as-links (passing-end (c .before .loop .inv) (c .loop-test .left))
+    let loop-inv = (let p : tie.At-loop Inv-loop μ-loop = search in p .loop .inv) in
+    as-links (passing-end loop-inv (c .loop-test .left))
 
 pub links-pass-spec : {M : Type 1} → statement M
 links-pass-spec =

@@ -11,11 +11,13 @@ shared-slice-read-n c = search needs
 
 links-pass-requires : tie.Need-links-pass-requires
 links-pass-requires c κs =
-    (c .before .before .before .pre .1 .few, c .before .before .before .pre .0, refl)
+    let start : tie.Start = search in
+    (start .pre .1 .few, start .pre .0, refl)
 
 returns : tie.Need-returns
 returns c =
-    links-are _ (c .before .before .before .before .pre .1) (c .links-pass .ensures)
+    let start : tie.Start = search in
+    links-are _ (start .pre .1) (c .links-pass .ensures)
 
 pub links-right-spec : {M : Type 1} → statement M
 links-right-spec = tie.close (tie.spec shared-slice-read-n links-pass-requires returns)

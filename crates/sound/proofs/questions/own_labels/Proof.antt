@@ -39,7 +39,12 @@ label-right-requires c κs = search needs
 
 returns : tie.Need-returns Inv-loop μ-loop
 returns c =
-    going-no (c .before .before .before .before .before .loop .inv .0) (c .before .before .before .before .loop-test .taken) (c .before .label-right .ensures ∙ rw (c .before .before .before .field .ensures, c .before .before .field2 .ensures, c .before .before .before .before .before .loop .inv .1, c .before .before .before .before .before .loop .inv .2) refl) (not-true _ (c .if1 .taken))
+    let loop-inv = (let p : tie.At-loop Inv-loop μ-loop = search in p .loop .inv) in
+    let loop-test-taken = (let p : tie.In-loop Inv-loop μ-loop = search in p .loop-test .taken) in
+    let field-ensures = (let p : tie.After-field Inv-loop μ-loop = search in p .field .ensures) in
+    let field2-ensures = (let p : tie.After-field2 Inv-loop μ-loop = search in p .field2 .ensures) in
+    let label-right-ensures = (let p : tie.After-label-right Inv-loop μ-loop = search in p .label-right .ensures) in
+    going-no (loop-inv .0) loop-test-taken (label-right-ensures ∙ rw (field-ensures, field2-ensures, loop-inv .1, loop-inv .2) refl) (not-true _ (c .if1 .taken))
 
 add-i : tie.Need-add-i Inv-loop μ-loop
 add-i c = search needs
@@ -49,11 +54,17 @@ loop-less c = search needs
 
 loop-again : tie.Need-loop-again Inv-loop μ-loop
 loop-again c =
-    (going-more (c .before .before .before .before .before .loop .inv .0) (c .before .before .before .before .loop-test .taken) (c .before .label-right .ensures ∙ rw (c .before .before .before .field .ensures, c .before .before .field2 .ensures, c .before .before .before .before .before .loop .inv .1, c .before .before .before .before .before .loop .inv .2) refl) (not-false _ (c .if1 .left)), c .before .before .before .before .before .loop .inv .1, c .before .before .before .before .before .loop .inv .2)
+    let loop-inv = (let p : tie.At-loop Inv-loop μ-loop = search in p .loop .inv) in
+    let loop-test-taken = (let p : tie.In-loop Inv-loop μ-loop = search in p .loop-test .taken) in
+    let field-ensures = (let p : tie.After-field Inv-loop μ-loop = search in p .field .ensures) in
+    let field2-ensures = (let p : tie.After-field2 Inv-loop μ-loop = search in p .field2 .ensures) in
+    let label-right-ensures = (let p : tie.After-label-right Inv-loop μ-loop = search in p .label-right .ensures) in
+    (going-more (loop-inv .0) loop-test-taken (label-right-ensures ∙ rw (field-ensures, field2-ensures, loop-inv .1, loop-inv .2) refl) (not-false _ (c .if1 .left)), loop-inv .1, loop-inv .2)
 
 returns-2 : tie.Need-returns-2 Inv-loop μ-loop
 returns-2 c =
-    going-end (c .before .loop .inv .0) (c .loop-test .left)
+    let loop-inv = (let p : tie.At-loop Inv-loop μ-loop = search in p .loop .inv) in
+    going-end (loop-inv .0) (c .loop-test .left)
 
 pub own-labels-spec : {M : Type 1} → statement M
 own-labels-spec =

@@ -29,11 +29,17 @@ loop-holds c =
 
 points-at-requires : tie.Need-points-at-requires Inv-loop μ-loop
 points-at-requires c κs =
-    rw (c .before .loop .inv .1) (omega (arith, c .loop-test .taken, c .before .loop .inv .1), c .before .before .before .before .pre .1 .few, c .before .before .before .before .pre .0, link-places _ (c .before .before .before .before .pre .1) (c .before .before .before .before .pre .3), third-places _ (c .before .before .before .before .pre .1) (c .before .before .before .before .pre .3) (c .before .before .before .before .pre .4), finite-all (c .before .before .before .before .args .block .now) (c .before .before .before .before .pre .2))
+    let start : tie.Start Inv-loop μ-loop = search in
+    let loop-inv = (let p : tie.At-loop Inv-loop μ-loop = search in p .loop .inv) in
+    rw (loop-inv .1) (omega (arith, c .loop-test .taken, loop-inv .1), start .pre .1 .few, start .pre .0, link-places _ (start .pre .1) (start .pre .3), third-places _ (start .pre .1) (start .pre .3) (start .pre .4), finite-all (start .args .block .now) (start .pre .2))
 
 returns : tie.Need-returns Inv-loop μ-loop
 returns c =
-    going-no (c .before .before .before .loop .inv .0) (omega (arith, c .before .before .loop-test .taken, c .before .before .before .loop .inv .1)) (c .before .points-at .ensures) (not-true _ (c .if1 .taken)) ∙ points-agreeing _ (c .before .before .before .before .before .before .pre .1) (c .before .before .before .before .before .before .pre .3) (c .before .before .before .before .before .before .pre .4)
+    let start : tie.Start Inv-loop μ-loop = search in
+    let loop-inv = (let p : tie.At-loop Inv-loop μ-loop = search in p .loop .inv) in
+    let loop-test-taken = (let p : tie.In-loop Inv-loop μ-loop = search in p .loop-test .taken) in
+    let points-at-ensures = (let p : tie.After-points-at Inv-loop μ-loop = search in p .points-at .ensures) in
+    going-no (loop-inv .0) (omega (arith, loop-test-taken, loop-inv .1)) points-at-ensures (not-true _ (c .if1 .taken)) ∙ points-agreeing _ (start .pre .1) (start .pre .3) (start .pre .4)
 
 add-i : tie.Need-add-i Inv-loop μ-loop
 add-i c = search needs
@@ -43,11 +49,16 @@ loop-less c = search needs
 
 loop-again : tie.Need-loop-again Inv-loop μ-loop
 loop-again c =
-    (going-more (c .before .before .before .loop .inv .0) (omega (arith, c .before .before .loop-test .taken, c .before .before .before .loop .inv .1)) (c .before .points-at .ensures) (not-false _ (c .if1 .left)), c .before .before .before .loop .inv .1)
+    let loop-inv = (let p : tie.At-loop Inv-loop μ-loop = search in p .loop .inv) in
+    let loop-test-taken = (let p : tie.In-loop Inv-loop μ-loop = search in p .loop-test .taken) in
+    let points-at-ensures = (let p : tie.After-points-at Inv-loop μ-loop = search in p .points-at .ensures) in
+    (going-more (loop-inv .0) (omega (arith, loop-test-taken, loop-inv .1)) points-at-ensures (not-false _ (c .if1 .left)), loop-inv .1)
 
 returns-2 : tie.Need-returns-2 Inv-loop μ-loop
 returns-2 c =
-    going-end (c .before .loop .inv .0) (omega (arith, c .loop-test .left, c .before .loop .inv .1)) ∙ points-agreeing _ (c .before .before .before .before .pre .1) (c .before .before .before .before .pre .3) (c .before .before .before .before .pre .4)
+    let start : tie.Start Inv-loop μ-loop = search in
+    let loop-inv = (let p : tie.At-loop Inv-loop μ-loop = search in p .loop .inv) in
+    going-end (loop-inv .0) (omega (arith, c .loop-test .left, loop-inv .1)) ∙ points-agreeing _ (start .pre .1) (start .pre .3) (start .pre .4)
 
 pub points-agree-spec : {M : Type 1} → statement M
 points-agree-spec =

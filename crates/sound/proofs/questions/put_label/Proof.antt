@@ -12,7 +12,9 @@ field-requires c κs = search needs
 
 returns : tie.Need-returns
 returns c =
-    let e = le-ltb 1 (column (c .before .before .before .args .block .now) 3 (c .before .before .before .args .i)) (omega (arith, c .if1 .taken, c .before .field .ensures)) in
+    let start : tie.Start = search in
+    let field-ensures = (let p : tie.After-field = search in p .field .ensures) in
+    let e = le-ltb 1 (column (start .args .block .now) 3 (start .args .i)) (omega (arith, c .if1 .taken, field-ensures)) in
     record { keys-are = rw e refl; count-is = rw e refl }
 
 field-requires-2 : tie.Need-field-requires-2
@@ -29,7 +31,10 @@ add-result c = search needs
 
 returns-2 : tie.Need-returns-2
 returns-2 c =
-    let e = lt-ltb 1 (column (c .before .before .before .before .args .block .now) 3 (c .before .before .before .before .args .i)) (omega (arith, c .before .if1 .left, c .before .before .field .ensures)) in
+    let start : tie.Start = search in
+    let field-ensures = (let p : tie.After-field = search in p .field .ensures) in
+    let if1-left = (let p : tie.Else1 = search in p .if1 .left) in
+    let e = lt-ltb 1 (column (start .args .block .now) 3 (start .args .i)) (omega (arith, if1-left, field-ensures)) in
     record { keys-are = rw (e, c .field2 .ensures) refl; count-is = rw e refl }
 
 pub put-label-spec : {M : Type 1} → statement M

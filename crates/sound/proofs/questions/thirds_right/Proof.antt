@@ -29,11 +29,17 @@ loop-holds c =
 
 third-at-requires : tie.Need-third-at-requires Inv-loop μ-loop
 third-at-requires c κs =
-    (search needs, omega (arith, c .before .loop .inv .1, c .before .before .before .before .pre .1 .few), search needs, rw (c .before .loop .inv .1) (link-places _ (c .before .before .before .before .pre .1) (c .before .before .before .before .pre .2) .next-lt _ (rw (c .before .loop .inv .1) at (c .loop-test .taken))))
+    let start : tie.Start Inv-loop μ-loop = search in
+    let loop-inv = (let p : tie.At-loop Inv-loop μ-loop = search in p .loop .inv) in
+    (search needs, omega (arith, loop-inv .1, start .pre .1 .few), search needs, rw (loop-inv .1) (link-places _ (start .pre .1) (start .pre .2) .next-lt _ (rw (loop-inv .1) at (c .loop-test .taken))))
 
 returns : tie.Need-returns Inv-loop μ-loop
 returns c =
-    rw (c .before .before .before .loop .inv .1) at (going-no (c .before .before .before .loop .inv .0) (c .before .before .loop-test .taken) (c .before .third-at .ensures) (not-true _ (c .if1 .taken))) ∙ thirds-are _ (c .before .before .before .before .before .before .pre .1) (c .before .before .before .before .before .before .pre .2)
+    let start : tie.Start Inv-loop μ-loop = search in
+    let loop-inv = (let p : tie.At-loop Inv-loop μ-loop = search in p .loop .inv) in
+    let loop-test-taken = (let p : tie.In-loop Inv-loop μ-loop = search in p .loop-test .taken) in
+    let third-at-ensures = (let p : tie.After-third-at Inv-loop μ-loop = search in p .third-at .ensures) in
+    rw (loop-inv .1) at (going-no (loop-inv .0) loop-test-taken third-at-ensures (not-true _ (c .if1 .taken))) ∙ thirds-are _ (start .pre .1) (start .pre .2)
 
 add-i : tie.Need-add-i Inv-loop μ-loop
 add-i c = search needs
@@ -43,11 +49,16 @@ loop-less c = search needs
 
 loop-again : tie.Need-loop-again Inv-loop μ-loop
 loop-again c =
-    (going-more (c .before .before .before .loop .inv .0) (c .before .before .loop-test .taken) (c .before .third-at .ensures) (not-false _ (c .if1 .left)), c .before .before .before .loop .inv .1)
+    let loop-inv = (let p : tie.At-loop Inv-loop μ-loop = search in p .loop .inv) in
+    let loop-test-taken = (let p : tie.In-loop Inv-loop μ-loop = search in p .loop-test .taken) in
+    let third-at-ensures = (let p : tie.After-third-at Inv-loop μ-loop = search in p .third-at .ensures) in
+    (going-more (loop-inv .0) loop-test-taken third-at-ensures (not-false _ (c .if1 .left)), loop-inv .1)
 
 returns-2 : tie.Need-returns-2 Inv-loop μ-loop
 returns-2 c =
-    rw (c .before .loop .inv .1) at (going-end (c .before .loop .inv .0) (c .loop-test .left)) ∙ thirds-are _ (c .before .before .before .before .pre .1) (c .before .before .before .before .pre .2)
+    let start : tie.Start Inv-loop μ-loop = search in
+    let loop-inv = (let p : tie.At-loop Inv-loop μ-loop = search in p .loop .inv) in
+    rw (loop-inv .1) at (going-end (loop-inv .0) (c .loop-test .left)) ∙ thirds-are _ (start .pre .1) (start .pre .2)
 
 pub thirds-right-spec : {M : Type 1} → statement M
 thirds-right-spec =

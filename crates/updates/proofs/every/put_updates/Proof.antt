@@ -27,7 +27,8 @@ abbrev μ-loop : tie.MeasureT-loop
 
 loop-holds : tie.Need-loop-holds Inv-loop μ-loop
 loop-holds c =
-    running-start _ _ _ _ (omega (arith, c .before .before .before .before .before .before .pre .1 .1 .1))
+    let start : tie.Start Inv-loop μ-loop = search in
+    running-start _ _ _ _ (omega (arith, start .pre .1 .1 .1))
 
 mul-n : tie.Need-mul-n Inv-loop μ-loop
 mul-n c =
@@ -35,84 +36,118 @@ mul-n c =
 
 shared-slice-read-n : tie.Need-shared-slice-read-n Inv-loop μ-loop
 shared-slice-read-n c =
-    omega (arith, c .before .loop-test .taken, c .before .before .before .before .before .before .before .before .before .pre .1 .1 .0 .labels-size)
+    let start : tie.Start Inv-loop μ-loop = search in
+    let loop-test-taken = (let p : tie.In-loop Inv-loop μ-loop = search in p .loop-test .taken) in
+    omega (arith, loop-test-taken, start .pre .1 .1 .0 .labels-size)
 
 mul-b : tie.Need-mul-b Inv-loop μ-loop
 mul-b c =
-    omega (arith, c .before .loop-test .taken)
+    let loop-test-taken = (let p : tie.In-loop Inv-loop μ-loop = search in p .loop-test .taken) in
+    omega (arith, loop-test-taken)
 
 shared-slice-read-b : tie.Need-shared-slice-read-b Inv-loop μ-loop
 shared-slice-read-b c =
-    omega (arith, c .before .before .loop-test .taken, c .before .before .before .before .before .before .before .before .before .before .pre .1 .1 .0 .bytes-size)
+    let start : tie.Start Inv-loop μ-loop = search in
+    let loop-test-taken = (let p : tie.In-loop Inv-loop μ-loop = search in p .loop-test .taken) in
+    omega (arith, loop-test-taken, start .pre .1 .1 .0 .bytes-size)
 
 add-k : tie.Need-add-k Inv-loop μ-loop
 add-k c =
-    omega (arith, c .before .before .loop-test .taken)
+    let loop-test-taken = (let p : tie.In-loop Inv-loop μ-loop = search in p .loop-test .taken) in
+    omega (arith, loop-test-taken)
 
 relative-requires : tie.Need-relative-requires Inv-loop μ-loop
 relative-requires c κs = search needs
 
 loop-less : tie.Need-loop-less Inv-loop μ-loop
 loop-less c =
-    omega (arith, c .before .before .before .before .loop-test .taken)
+    let loop-test-taken = (let p : tie.In-loop Inv-loop μ-loop = search in p .loop-test .taken) in
+    omega (arith, loop-test-taken)
 
 loop-again : tie.Need-loop-again Inv-loop μ-loop
 loop-again c =
-    let st = c .before .before .before .before .before .before .before .before .before .before .before .before in
+    let loop-inv = (let p : tie.At-loop Inv-loop μ-loop = search in p .loop .inv) in
+    let loop-k = (let p : tie.At-loop Inv-loop μ-loop = search in p .loop .k) in
+    let loop-test-taken = (let p : tie.In-loop Inv-loop μ-loop = search in p .loop-test .taken) in
+    let relative-ensures = (let p : tie.After-relative Inv-loop μ-loop = search in p .relative .ensures) in
+    let st : tie.Start Inv-loop μ-loop = search in
     let a = st .args in
-    running-skip (c .before .before .before .before .before .loop .inv) (c .before .before .before .before .loop-test .taken) (told-none (a .block .now) (a .to) (a .order .now) (a .starts .now) (a .counts .darts) (a .counts .faces) (c .before .before .before .before .before .loop .k) (st .pre .1 .1 .0 .labels-are (c .before .before .before .before .before .loop .k) (c .before .before .before .before .loop-test .taken)) (said-no (c .before .relative .ensures) (c .if1 .taken)))
+    running-skip loop-inv loop-test-taken (told-none (a .block .now) (a .to) (a .order .now) (a .starts .now) (a .counts .darts) (a .counts .faces) loop-k (st .pre .1 .1 .0 .labels-are loop-k loop-test-taken) (said-no relative-ensures (c .if1 .taken)))
 
 sub-rest : tie.Need-sub-rest Inv-loop μ-loop
 sub-rest c =
-    omega (arith, running-space (c .before .before .before .before .before .loop .inv) (c .before .before .before .before .loop-test .taken))
+    let loop-inv = (let p : tie.At-loop Inv-loop μ-loop = search in p .loop .inv) in
+    let loop-test-taken = (let p : tie.In-loop Inv-loop μ-loop = search in p .loop-test .taken) in
+    omega (arith, running-space loop-inv loop-test-taken)
 
 part-rest-start : tie.Need-part-rest-start Inv-loop μ-loop
 part-rest-start c =
-    omega (arith, running-space (c .before .before .before .before .before .loop .inv) (c .before .before .before .before .loop-test .taken))
+    let loop-inv = (let p : tie.At-loop Inv-loop μ-loop = search in p .loop .inv) in
+    let loop-test-taken = (let p : tie.In-loop Inv-loop μ-loop = search in p .loop-test .taken) in
+    omega (arith, running-space loop-inv loop-test-taken)
 
 part-rest-end : tie.Need-part-rest-end Inv-loop μ-loop
 part-rest-end c = search needs
 
 put-update-requires : tie.Need-put-update-requires Inv-loop μ-loop
 put-update-requires c κs =
-    let st = c .before .before .before .before .before .before .before .before .before .before .before .before .before in
+    let loop-at = (let p : tie.At-loop Inv-loop μ-loop = search in p .loop .at) in
+    let loop-inv = (let p : tie.At-loop Inv-loop μ-loop = search in p .loop .inv) in
+    let loop-out = (let p : tie.At-loop Inv-loop μ-loop = search in p .loop .out) in
+    let relative-ensures = (let p : tie.After-relative Inv-loop μ-loop = search in p .relative .ensures) in
+    let if1-left = (let p : tie.Else1 Inv-loop μ-loop = search in p .if1 .left) in
+    let st : tie.Start Inv-loop μ-loop = search in
     let a = st .args in
-    let k = c .before .before .before .before .before .before .loop .k in
-    let t = c .before .before .before .before .before .loop-test .taken in
+    let k = (let p : tie.At-loop Inv-loop μ-loop = search in p .loop .k) in
+    let t = (let p : tie.In-loop Inv-loop μ-loop = search in p .loop-test .taken) in
     let sh = st .pre .1 .1 .0 in
     let few = shares-few sh (st .pre .1 .0 .1 .few) in
-    let some = told-some (a .block .now) (a .to) (a .order .now) (a .starts .now) (a .counts .darts) (a .counts .faces) k (sh .labels-are k t) (said-yes (c .before .before .relative .ensures) (c .before .if1 .left)) in
-    (st .pre .1 .0, ((ranges-in (a .block .now) (st .pre .0 .0) .number-small, st .pre .0 .1, omega (arith, t), few .labels-few k t, few .bytes-few k t), ((sh .labels-are k t, sh .bytes-are k t), omega (arith, rest-length (c .before .before .before .before .before .before .loop .out) (c .before .before .before .before .before .before .loop .at), running-space (c .before .before .before .before .before .before .loop .inv) t, ap length some))))
+    let some = told-some (a .block .now) (a .to) (a .order .now) (a .starts .now) (a .counts .darts) (a .counts .faces) k (sh .labels-are k t) (said-yes relative-ensures if1-left) in
+    (st .pre .1 .0, ((ranges-in (a .block .now) (st .pre .0 .0) .number-small, st .pre .0 .1, omega (arith, t), few .labels-few k t, few .bytes-few k t), ((sh .labels-are k t, sh .bytes-are k t), omega (arith, rest-length loop-out loop-at, running-space loop-inv t, ap length some))))
 
 add-at : tie.Need-add-at Inv-loop μ-loop
 add-at c =
-    let st = c .before .before .before .before .before .before .before .before .before .before .before .before .before .before .before .before in
+    let loop-inv = (let p : tie.At-loop Inv-loop μ-loop = search in p .loop .inv) in
+    let relative-ensures = (let p : tie.After-relative Inv-loop μ-loop = search in p .relative .ensures) in
+    let if1-left = (let p : tie.Else1 Inv-loop μ-loop = search in p .if1 .left) in
+    let put-update-ensures = (let p : tie.After-put-update Inv-loop μ-loop = search in p .put-update .ensures) in
+    let st : tie.Start Inv-loop μ-loop = search in
     let a = st .args in
-    let k = c .before .before .before .before .before .before .before .before .before .loop .k in
-    let t = c .before .before .before .before .before .before .before .before .loop-test .taken in
-    let some = told-some (a .block .now) (a .to) (a .order .now) (a .starts .now) (a .counts .darts) (a .counts .faces) k (st .pre .1 .1 .0 .labels-are k t) (said-yes (c .before .before .before .before .before .relative .ensures) (c .before .before .before .before .if1 .left)) in
-    omega (arith, told-small (st .pre .1 .1 .0) (st .pre .1 .0 .1 .few) (a .to) (ranges-in (a .block .now) (st .pre .0 .0) .number-small) (st .pre .0 .1), run-fits (told-put (a .block .now) (a .to) (a .order .now) (a .starts .now) (a .counts .darts) (a .counts .faces)) k 16 t, c .before .before .before .before .before .before .before .before .before .loop .inv .so-far .past, ap length some, c .before .before .put-update .ensures .past)
+    let k = (let p : tie.At-loop Inv-loop μ-loop = search in p .loop .k) in
+    let t = (let p : tie.In-loop Inv-loop μ-loop = search in p .loop-test .taken) in
+    let some = told-some (a .block .now) (a .to) (a .order .now) (a .starts .now) (a .counts .darts) (a .counts .faces) k (st .pre .1 .1 .0 .labels-are k t) (said-yes relative-ensures if1-left) in
+    omega (arith, told-small (st .pre .1 .1 .0) (st .pre .1 .0 .1 .few) (a .to) (ranges-in (a .block .now) (st .pre .0 .0) .number-small) (st .pre .0 .1), run-fits (told-put (a .block .now) (a .to) (a .order .now) (a .starts .now) (a .counts .darts) (a .counts .faces)) k 16 t, loop-inv .so-far .past, ap length some, put-update-ensures .past)
 
 loop-less-2 : tie.Need-loop-less-2 Inv-loop μ-loop
 loop-less-2 c =
-    omega (arith, c .before .before .before .before .before .before .before .before .loop-test .taken)
+    let loop-test-taken = (let p : tie.In-loop Inv-loop μ-loop = search in p .loop-test .taken) in
+    omega (arith, loop-test-taken)
 
 loop-again-2 : tie.Need-loop-again-2 Inv-loop μ-loop
 loop-again-2 c =
-    let st = c .before .before .before .before .before .before .before .before .before .before .before .before .before .before .before .before in
+    let loop-at = (let p : tie.At-loop Inv-loop μ-loop = search in p .loop .at) in
+    let loop-inv = (let p : tie.At-loop Inv-loop μ-loop = search in p .loop .inv) in
+    let loop-out = (let p : tie.At-loop Inv-loop μ-loop = search in p .loop .out) in
+    let relative-ensures = (let p : tie.After-relative Inv-loop μ-loop = search in p .relative .ensures) in
+    let if1-left = (let p : tie.Else1 Inv-loop μ-loop = search in p .if1 .left) in
+    let put-update-ensures = (let p : tie.After-put-update Inv-loop μ-loop = search in p .put-update .ensures) in
+    let st : tie.Start Inv-loop μ-loop = search in
     let a = st .args in
-    let k = c .before .before .before .before .before .before .before .before .before .loop .k in
-    let t = c .before .before .before .before .before .before .before .before .loop-test .taken in
-    let some = told-some (a .block .now) (a .to) (a .order .now) (a .starts .now) (a .counts .darts) (a .counts .faces) k (st .pre .1 .1 .0 .labels-are k t) (said-yes (c .before .before .before .before .before .relative .ensures) (c .before .before .before .before .if1 .left)) in
-    running-step (c .before .before .before .before .before .before .before .before .before .loop .inv) t (stored-as some (stored-rest (c .before .before .before .before .before .before .before .before .before .loop .out) _ (c .before .before .before .before .before .before .before .before .before .loop .at) (omega (arith, running-space (c .before .before .before .before .before .before .before .before .before .loop .inv) t)) (c .before .before .put-update .ensures)))
+    let k = (let p : tie.At-loop Inv-loop μ-loop = search in p .loop .k) in
+    let t = (let p : tie.In-loop Inv-loop μ-loop = search in p .loop-test .taken) in
+    let some = told-some (a .block .now) (a .to) (a .order .now) (a .starts .now) (a .counts .darts) (a .counts .faces) k (st .pre .1 .1 .0 .labels-are k t) (said-yes relative-ensures if1-left) in
+    running-step loop-inv t (stored-as some (stored-rest loop-out _ loop-at (omega (arith, running-space loop-inv t)) put-update-ensures))
 
 same-length : tie.Need-same-length Inv-loop μ-loop
 same-length c =
-    running-size (c .before .loop .inv)
+    let loop-inv = (let p : tie.At-loop Inv-loop μ-loop = search in p .loop .inv) in
+    running-size loop-inv
 
 returns : tie.Need-returns Inv-loop μ-loop
 returns c =
-    λ marks numbers firsts s. stored-as (updates-bytes (c .before .before .before .before .before .before .before .before .args .block .now) (c .before .before .before .before .before .before .before .before .pre .0 .0) (c .before .before .before .before .before .before .before .before .args .to) (c .before .before .before .before .before .before .before .before .pre .0 .1) s) (running-end (c .before .loop .inv) (omega (arith, c .loop-test .left)))
+    let start : tie.Start Inv-loop μ-loop = search in
+    let loop-inv = (let p : tie.At-loop Inv-loop μ-loop = search in p .loop .inv) in
+    λ marks numbers firsts s. stored-as (updates-bytes (start .args .block .now) (start .pre .0 .0) (start .args .to) (start .pre .0 .1) s) (running-end loop-inv (omega (arith, c .loop-test .left)))
 
 pub put-updates-spec : {M : Type 1} → statement M
 put-updates-spec =

@@ -27,23 +27,33 @@ mul-update-size c =
 
 shared-slice-read-update-size : tie.Need-shared-slice-read-update-size Inv-loop μ-loop
 shared-slice-read-update-size c =
-    omega (arith, c .before .loop-test .taken, c .before .before .before .before .before .pre .labels-size)
+    let start : tie.Start Inv-loop μ-loop = search in
+    let loop-test-taken = (let p : tie.In-loop Inv-loop μ-loop = search in p .loop-test .taken) in
+    omega (arith, loop-test-taken, start .pre .labels-size)
 
 mul-update-size-2 : tie.Need-mul-update-size-2 Inv-loop μ-loop
 mul-update-size-2 c =
-    omega (arith, c .before .loop-test .taken)
+    let loop-test-taken = (let p : tie.In-loop Inv-loop μ-loop = search in p .loop-test .taken) in
+    omega (arith, loop-test-taken)
 
 shared-slice-read-update-size-2 : tie.Need-shared-slice-read-update-size-2 Inv-loop μ-loop
 shared-slice-read-update-size-2 c =
-    omega (arith, c .before .before .loop-test .taken, c .before .before .before .before .before .before .pre .bytes-size)
+    let start : tie.Start Inv-loop μ-loop = search in
+    let loop-test-taken = (let p : tie.In-loop Inv-loop μ-loop = search in p .loop-test .taken) in
+    omega (arith, loop-test-taken, start .pre .bytes-size)
 
 update-size-requires : tie.Need-update-size-requires Inv-loop μ-loop
 update-size-requires c κs =
-    (c .before .before .before .before .before .before .pre .labels-few (c .before .before .before .loop .k) (c .before .before .loop-test .taken), c .before .before .before .before .before .before .pre .bytes-few (c .before .before .before .loop .k) (c .before .before .loop-test .taken))
+    let start : tie.Start Inv-loop μ-loop = search in
+    let loop-k = (let p : tie.At-loop Inv-loop μ-loop = search in p .loop .k) in
+    let loop-test-taken = (let p : tie.In-loop Inv-loop μ-loop = search in p .loop-test .taken) in
+    (start .pre .labels-few loop-k loop-test-taken, start .pre .bytes-few loop-k loop-test-taken)
 
 add-size : tie.Need-add-size Inv-loop μ-loop
 add-size c =
-    omega (arith, c .before .before .before .loop-test .taken, c .before .before .before .before .loop .inv .2, c .update-size .ensures .1)
+    let loop-inv = (let p : tie.At-loop Inv-loop μ-loop = search in p .loop .inv) in
+    let loop-test-taken = (let p : tie.In-loop Inv-loop μ-loop = search in p .loop-test .taken) in
+    omega (arith, loop-test-taken, loop-inv .2, c .update-size .ensures .1)
 
 add-k : tie.Need-add-k Inv-loop μ-loop
 add-k c = search needs
@@ -53,11 +63,18 @@ loop-less c = search needs
 
 loop-again : tie.Need-loop-again Inv-loop μ-loop
 loop-again c =
-    (omega (arith, c .before .before .before .loop-test .taken), sizes-more (c .before .before .before .before .before .before .before .args .to) (c .before .before .before .before .before .before .before .args .labels .now) (c .before .before .before .before .before .before .before .args .bytes .now) (c .before .before .before .before .loop .k) (c .before .before .before .before .loop .inv .1) (c .update-size .ensures .0), omega (arith, c .before .before .before .before .loop .inv .2, c .update-size .ensures .1))
+    let start : tie.Start Inv-loop μ-loop = search in
+    let loop-inv = (let p : tie.At-loop Inv-loop μ-loop = search in p .loop .inv) in
+    let loop-k = (let p : tie.At-loop Inv-loop μ-loop = search in p .loop .k) in
+    let loop-test-taken = (let p : tie.In-loop Inv-loop μ-loop = search in p .loop-test .taken) in
+    (omega (arith, loop-test-taken), sizes-more (start .args .to) (start .args .labels .now) (start .args .bytes .now) loop-k (loop-inv .1) (c .update-size .ensures .0), omega (arith, loop-inv .2, c .update-size .ensures .1))
 
 returns : tie.Need-returns Inv-loop μ-loop
 returns c =
-    let e : c .before .loop .k ≡ 16 = omega (arith, c .loop-test .left, c .before .loop .inv .0) in (c .before .loop .inv .1 ∙ ap (sizes-for (c .before .before .before .before .args .to) (c .before .before .before .before .args .labels .now) (c .before .before .before .before .args .bytes .now)) e, omega (arith, c .before .loop .inv .2, e))
+    let start : tie.Start Inv-loop μ-loop = search in
+    let loop-inv = (let p : tie.At-loop Inv-loop μ-loop = search in p .loop .inv) in
+    let loop-k = (let p : tie.At-loop Inv-loop μ-loop = search in p .loop .k) in
+    let e : loop-k ≡ 16 = omega (arith, c .loop-test .left, loop-inv .0) in (loop-inv .1 ∙ ap (sizes-for (start .args .to) (start .args .labels .now) (start .args .bytes .now)) e, omega (arith, loop-inv .2, e))
 
 pub sum-sizes-spec : {M : Type 1} → statement M
 sum-sizes-spec =

@@ -12,7 +12,9 @@ count-labels-requires c κs = search needs
 
 sum-sizes-requires : tie.Need-sum-sizes-requires
 sum-sizes-requires c κs =
-    shares-few (c .before .before .before .before .before .before .count-labels .ensures) (c .before .before .before .before .before .before .before .before .before .before .before .before .before .before .pre .0 .1 .few)
+    let start : tie.Start = search in
+    let count-labels-ensures = (let p : tie.After-count-labels = search in p .count-labels .ensures) in
+    shares-few count-labels-ensures (start .pre .0 .1 .few)
 
 same-length : tie.Need-same-length
 same-length c = search needs
@@ -22,7 +24,9 @@ same-length-2 c = search needs
 
 returns : tie.Need-returns
 returns c =
-    (c .sum-sizes .ensures .0 ∙ sizes-are (c .before .before .before .before .before .before .before .count-labels .ensures) (c .before .before .before .before .before .before .before .before .before .before .before .before .before .before .before .args .to) (c .before .before .before .before .before .before .before .before .before .before .before .before .before .before .before .pre .1 .0) (c .before .before .before .before .before .before .before .before .before .before .before .before .before .before .before .pre .1 .1) 16 (omega arith), c .sum-sizes .ensures .1, c .before .before .before .before .before .before .before .count-labels .ensures)
+    let start : tie.Start = search in
+    let count-labels-ensures = (let p : tie.After-count-labels = search in p .count-labels .ensures) in
+    (c .sum-sizes .ensures .0 ∙ sizes-are count-labels-ensures (start .args .to) (start .pre .1 .0) (start .pre .1 .1) 16 (omega arith), c .sum-sizes .ensures .1, count-labels-ensures)
 
 pub updates-size-spec : {M : Type 1} → statement M
 updates-size-spec =

@@ -23,54 +23,80 @@ abbrev μ-loop : tie.MeasureT-loop
 
 loop-holds : tie.Need-loop-holds Inv-loop μ-loop
 loop-holds c =
-    (omega arith, shares-start _ _ _ _ _ (c .before .before .before .before .before .pre .1 .0) (c .before .before .before .before .before .pre .1 .1))
+    let start : tie.Start Inv-loop μ-loop = search in
+    (omega arith, shares-start _ _ _ _ _ (start .pre .1 .0) (start .pre .1 .1))
 
 mul-start : tie.Need-mul-start Inv-loop μ-loop
 mul-start c =
-    omega (arith, c .loop-test .taken, c .before .before .before .before .before .before .before .pre .0 .1 .few)
+    let start : tie.Start Inv-loop μ-loop = search in
+    omega (arith, c .loop-test .taken, start .pre .0 .1 .few)
 
 shared-slice-read-start : tie.Need-shared-slice-read-start Inv-loop μ-loop
 shared-slice-read-start c =
-    omega (arith, c .before .loop-test .taken, c .before .before .before .before .before .before .before .before .pre .0 .1 .few, c .before .before .before .before .before .before .before .before .pre .0 .1 .starts-size)
+    let start : tie.Start Inv-loop μ-loop = search in
+    let loop-test-taken = (let p : tie.In-loop Inv-loop μ-loop = search in p .loop-test .taken) in
+    omega (arith, loop-test-taken, start .pre .0 .1 .few, start .pre .0 .1 .starts-size)
 
 face-end-requires : tie.Need-face-end-requires Inv-loop μ-loop
 face-end-requires c κs =
-    (c .before .before .before .before .before .before .before .before .pre .0 .1 .starts-size, omega (arith, c .before .before .before .before .before .before .before .before .pre .0 .1 .few), c .before .loop-test .taken)
+    let start : tie.Start Inv-loop μ-loop = search in
+    let loop-test-taken = (let p : tie.In-loop Inv-loop μ-loop = search in p .loop-test .taken) in
+    (start .pre .0 .1 .starts-size, omega (arith, start .pre .0 .1 .few), loop-test-taken)
 
 mul-p : tie.Need-mul-p Inv-loop μ-loop
 mul-p c =
-    omega (arith, c .before .before .before .before .before .before .before .before .before .pre .0 .1 .below (c .before .before .before .loop .f) (c .before .before .loop-test .taken), c .before .before .before .before .before .before .before .before .before .pre .0 .0 .few)
+    let start : tie.Start Inv-loop μ-loop = search in
+    let loop-f = (let p : tie.At-loop Inv-loop μ-loop = search in p .loop .f) in
+    let loop-test-taken = (let p : tie.In-loop Inv-loop μ-loop = search in p .loop-test .taken) in
+    omega (arith, start .pre .0 .1 .below loop-f loop-test-taken, start .pre .0 .0 .few)
 
 shared-slice-read-p : tie.Need-shared-slice-read-p Inv-loop μ-loop
 shared-slice-read-p c =
-    omega (arith, c .before .before .before .before .before .before .before .before .before .before .pre .0 .1 .below (c .before .before .before .before .loop .f) (c .before .before .before .loop-test .taken), c .before .before .before .before .before .before .before .before .before .before .pre .0 .0 .few, c .before .before .before .before .before .before .before .before .before .before .pre .0 .0 .order-size)
+    let start : tie.Start Inv-loop μ-loop = search in
+    let loop-f = (let p : tie.At-loop Inv-loop μ-loop = search in p .loop .f) in
+    let loop-test-taken = (let p : tie.In-loop Inv-loop μ-loop = search in p .loop-test .taken) in
+    omega (arith, start .pre .0 .1 .below loop-f loop-test-taken, start .pre .0 .0 .few, start .pre .0 .0 .order-size)
 
 field-requires : tie.Need-field-requires Inv-loop μ-loop
 field-requires c κs =
-    (c .before .before .before .before .before .before .before .before .before .before .pre .0 .0 .below (getD (c .before .before .before .before .before .before .before .before .before .before .args .starts .now) (c .before .before .before .before .loop .f) 0) (c .before .before .before .before .before .before .before .before .before .before .pre .0 .1 .below (c .before .before .before .before .loop .f) (c .before .before .before .loop-test .taken)), omega arith, c .before .before .before .before .before .before .before .before .before .before .pre .0 .0 .memory)
+    let start : tie.Start Inv-loop μ-loop = search in
+    let loop-f = (let p : tie.At-loop Inv-loop μ-loop = search in p .loop .f) in
+    let loop-test-taken = (let p : tie.In-loop Inv-loop μ-loop = search in p .loop-test .taken) in
+    (start .pre .0 .0 .below (getD (start .args .starts .now) loop-f 0) (start .pre .0 .1 .below loop-f loop-test-taken), omega arith, start .pre .0 .0 .memory)
 
 add-f : tie.Need-add-f Inv-loop μ-loop
 add-f c =
-    omega (arith, c .before .before .before .before .loop-test .taken, c .before .before .before .before .before .before .before .before .before .before .before .pre .0 .1 .few)
+    let start : tie.Start Inv-loop μ-loop = search in
+    let loop-test-taken = (let p : tie.In-loop Inv-loop μ-loop = search in p .loop-test .taken) in
+    omega (arith, loop-test-taken, start .pre .0 .1 .few)
 
 loop-less : tie.Need-loop-less Inv-loop μ-loop
 loop-less c =
-    omega (arith, c .before .before .before .before .before .loop-test .taken)
+    let loop-test-taken = (let p : tie.In-loop Inv-loop μ-loop = search in p .loop-test .taken) in
+    omega (arith, loop-test-taken)
 
 loop-again : tie.Need-loop-again Inv-loop μ-loop
 loop-again c =
-    (omega (arith, c .before .before .before .before .before .loop-test .taken), shares-skip (c .before .before .before .before .before .before .loop .inv .1) (c .before .field .ensures) (c .if1 .taken))
+    let loop-inv = (let p : tie.At-loop Inv-loop μ-loop = search in p .loop .inv) in
+    let loop-test-taken = (let p : tie.In-loop Inv-loop μ-loop = search in p .loop-test .taken) in
+    let field-ensures = (let p : tie.After-field Inv-loop μ-loop = search in p .field .ensures) in
+    (omega (arith, loop-test-taken), shares-skip (loop-inv .1) field-ensures (c .if1 .taken))
 
 sub-least-code : tie.Need-sub-least-code Inv-loop μ-loop
 sub-least-code c =
-    start-le (c .before .before .before .before .before .before .before .before .before .before .before .before .pre .0 .1) (c .before .before .before .before .before .before .loop .f) (c .before .before .before .face-end .result) (c .before .before .before .before .before .loop-test .taken) (c .before .before .before .face-end .ensures)
+    let start : tie.Start Inv-loop μ-loop = search in
+    let loop-f = (let p : tie.At-loop Inv-loop μ-loop = search in p .loop .f) in
+    let loop-test-taken = (let p : tie.In-loop Inv-loop μ-loop = search in p .loop-test .taken) in
+    let face-end-ensures = (let p : tie.After-face-end Inv-loop μ-loop = search in p .face-end .ensures) in
+    let face-end-result = (let p : tie.After-face-end Inv-loop μ-loop = search in p .face-end .result) in
+    start-le (start .pre .0 .1) loop-f face-end-result loop-test-taken face-end-ensures
 
 least-code-requires : tie.Need-least-code-requires Inv-loop μ-loop
 least-code-requires c κs =
-    let st = c .before .before .before .before .before .before .before .before .before .before .before .before in
-    let f = c .before .before .before .before .before .before .loop .f in
-    let t = c .before .before .before .before .before .loop-test .taken in
-    let e = c .before .before .before .face-end .ensures in
+    let st : tie.Start Inv-loop μ-loop = search in
+    let f = (let p : tie.At-loop Inv-loop μ-loop = search in p .loop .f) in
+    let t = (let p : tie.In-loop Inv-loop μ-loop = search in p .loop-test .taken) in
+    let e = (let p : tie.After-face-end Inv-loop μ-loop = search in p .face-end .ensures) in
     (listed-part (st .pre .0 .0) _ (end-le (st .pre .0 .1) f _ t e), some-darts (st .pre .0 .1) f _ t e)
 
 label-count-requires : tie.Need-label-count-requires Inv-loop μ-loop
@@ -78,33 +104,55 @@ label-count-requires c κs = search needs
 
 add-face-requires : tie.Need-add-face-requires Inv-loop μ-loop
 add-face-requires c κs =
-    let few = shares-few (c .before .before .before .before .before .before .before .before .before .before .loop .inv .1) (omega (arith, c .before .before .before .before .before .before .before .before .before .before .loop .inv .0, c .before .before .before .before .before .before .before .before .before .before .before .before .before .before .before .before .pre .0 .1 .few)) in
-    let small = c .before .before .before .before .before .before .before .before .before .before .before .before .before .before .before .before .pre .0 .0 .other-small (getD (c .before .before .before .before .before .before .before .before .before .before .before .before .before .before .before .before .args .starts .now) (c .before .before .before .before .before .before .before .before .before .before .loop .f) 0) (c .before .before .before .before .before .before .before .before .before .before .before .before .before .before .before .before .pre .0 .1 .below (c .before .before .before .before .before .before .before .before .before .before .loop .f) (c .before .before .before .before .before .before .before .before .before .loop-test .taken)) in
-    let k : c .before .before .before .before .before .field .result / 4 < 16 = omega (arith, c .before .before .before .before .before .field .ensures, small) in
-    ((few .labels-size, few .bytes-size, k), (omega (arith, few .labels-few _ k), omega (arith, few .bytes-few _ k), omega (arith, c .before .before .label-count .ensures, label-short (label-in (c .before .before .before .least-code .result)))))
+    let start : tie.Start Inv-loop μ-loop = search in
+    let loop-f = (let p : tie.At-loop Inv-loop μ-loop = search in p .loop .f) in
+    let loop-inv = (let p : tie.At-loop Inv-loop μ-loop = search in p .loop .inv) in
+    let loop-test-taken = (let p : tie.In-loop Inv-loop μ-loop = search in p .loop-test .taken) in
+    let field-ensures = (let p : tie.After-field Inv-loop μ-loop = search in p .field .ensures) in
+    let field-result = (let p : tie.After-field Inv-loop μ-loop = search in p .field .result) in
+    let least-code-result = (let p : tie.After-least-code Inv-loop μ-loop = search in p .least-code .result) in
+    let label-count-ensures = (let p : tie.After-label-count Inv-loop μ-loop = search in p .label-count .ensures) in
+    let few = shares-few (loop-inv .1) (omega (arith, loop-inv .0, start .pre .0 .1 .few)) in
+    let small = start .pre .0 .0 .other-small (getD (start .args .starts .now) loop-f 0) (start .pre .0 .1 .below loop-f loop-test-taken) in
+    let k : field-result / 4 < 16 = omega (arith, field-ensures, small) in
+    ((few .labels-size, few .bytes-size, k), (omega (arith, few .labels-few _ k), omega (arith, few .bytes-few _ k), omega (arith, label-count-ensures, label-short (label-in least-code-result))))
 
 loop-less-2 : tie.Need-loop-less-2 Inv-loop μ-loop
 loop-less-2 c =
-    omega (arith, c .before .before .before .before .before .before .before .before .before .before .before .before .before .before .loop-test .taken)
+    let loop-test-taken = (let p : tie.In-loop Inv-loop μ-loop = search in p .loop-test .taken) in
+    omega (arith, loop-test-taken)
 
 loop-again-2 : tie.Need-loop-again-2 Inv-loop μ-loop
 loop-again-2 c =
-    let st = c .before .before .before .before .before .before .before .before .before .before .before .before .before .before .before .before .before .before .before .before .before in
-    let f = c .before .before .before .before .before .before .before .before .before .before .before .before .before .before .before .loop .f in
-    let small = st .pre .0 .0 .other-small (getD (st .args .starts .now) f 0) (st .pre .0 .1 .below f (c .before .before .before .before .before .before .before .before .before .before .before .before .before .before .loop-test .taken)) in
-    (omega (arith, c .before .before .before .before .before .before .before .before .before .before .before .before .before .before .loop-test .taken), shares-all (shares-step (c .before .before .before .before .before .before .before .before .before .before .before .before .before .before .before .loop .inv .1) (c .before .before .before .before .before .before .before .before .before .before .field .ensures) (c .before .before .before .before .before .before .before .before .before .if1 .left) (omega (arith, c .before .before .before .before .before .before .before .before .before .before .field .ensures, small)) (c .before .before .before .before .before .before .before .before .before .before .before .before .face-end .ensures) (c .before .before .before .before .before .before .before .before .least-code .ensures) (c .before .before .before .before .before .before .before .label-count .ensures)) (c .before .before .before .before .add-face .ensures .0) (c .before .before .before .before .add-face .ensures .1))
+    let loop-inv = (let p : tie.At-loop Inv-loop μ-loop = search in p .loop .inv) in
+    let loop-test-taken = (let p : tie.In-loop Inv-loop μ-loop = search in p .loop-test .taken) in
+    let face-end-ensures = (let p : tie.After-face-end Inv-loop μ-loop = search in p .face-end .ensures) in
+    let field-ensures = (let p : tie.After-field Inv-loop μ-loop = search in p .field .ensures) in
+    let if1-left = (let p : tie.Else1 Inv-loop μ-loop = search in p .if1 .left) in
+    let least-code-ensures = (let p : tie.After-least-code Inv-loop μ-loop = search in p .least-code .ensures) in
+    let label-count-ensures = (let p : tie.After-label-count Inv-loop μ-loop = search in p .label-count .ensures) in
+    let add-face-ensures = (let p : tie.After-add-face Inv-loop μ-loop = search in p .add-face .ensures) in
+    let st : tie.Start Inv-loop μ-loop = search in
+    let f = (let p : tie.At-loop Inv-loop μ-loop = search in p .loop .f) in
+    let small = st .pre .0 .0 .other-small (getD (st .args .starts .now) f 0) (st .pre .0 .1 .below f loop-test-taken) in
+    (omega (arith, loop-test-taken), shares-all (shares-step (loop-inv .1) field-ensures if1-left (omega (arith, field-ensures, small)) face-end-ensures least-code-ensures label-count-ensures) (add-face-ensures .0) (add-face-ensures .1))
 
 same-length : tie.Need-same-length Inv-loop μ-loop
 same-length c =
-    c .before .loop .inv .1 .labels-size ∙ sym (ap length (c .before .before .before .before .before .before .before .pre .1 .0))
+    let start : tie.Start Inv-loop μ-loop = search in
+    let loop-inv = (let p : tie.At-loop Inv-loop μ-loop = search in p .loop .inv) in
+    loop-inv .1 .labels-size ∙ sym (ap length (start .pre .1 .0))
 
 same-length-2 : tie.Need-same-length-2 Inv-loop μ-loop
 same-length-2 c =
-    c .before .loop .inv .1 .bytes-size ∙ sym (ap length (c .before .before .before .before .before .before .before .pre .1 .1))
+    let start : tie.Start Inv-loop μ-loop = search in
+    let loop-inv = (let p : tie.At-loop Inv-loop μ-loop = search in p .loop .inv) in
+    loop-inv .1 .bytes-size ∙ sym (ap length (start .pre .1 .1))
 
 returns : tie.Need-returns Inv-loop μ-loop
 returns c =
-    shares-end (c .before .loop .inv .1) (c .before .loop .inv .0) (c .loop-test .left)
+    let loop-inv = (let p : tie.At-loop Inv-loop μ-loop = search in p .loop .inv) in
+    shares-end (loop-inv .1) (loop-inv .0) (c .loop-test .left)
 
 pub count-labels-spec : {M : Type 1} → statement M
 count-labels-spec =

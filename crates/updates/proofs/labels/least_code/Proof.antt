@@ -19,54 +19,76 @@ abbrev μ-loop : tie.MeasureT-loop
 
 mul-field : tie.Need-mul-field Inv-loop μ-loop
 mul-field c =
-    omega (arith, c .before .before .pre .0 .few, c .before .before .pre .1)
+    let start : tie.Start Inv-loop μ-loop = search in
+    omega (arith, start .pre .0 .few, start .pre .1)
 
 shared-slice-read-field : tie.Need-shared-slice-read-field Inv-loop μ-loop
 shared-slice-read-field c =
-    omega (arith, c .before .before .before .pre .0 .few, c .before .before .before .pre .0 .order-size, c .before .before .before .pre .1)
+    let start : tie.Start Inv-loop μ-loop = search in
+    omega (arith, start .pre .0 .few, start .pre .0 .order-size, start .pre .1)
 
 field-requires : tie.Need-field-requires Inv-loop μ-loop
 field-requires c κs =
-    (c .before .before .before .pre .0 .below (c .before .before .before .args .start) (omega (arith, c .before .before .before .pre .1)), omega arith, c .before .before .before .pre .0 .memory)
+    let start : tie.Start Inv-loop μ-loop = search in
+    (start .pre .0 .below (start .args .start) (omega (arith, start .pre .1)), omega arith, start .pre .0 .memory)
 
 loop-holds : tie.Need-loop-holds Inv-loop μ-loop
 loop-holds c =
-    (omega arith, omega (arith, c .before .before .before .before .pre .1), least-start (c .before .before .before .before .args .block .now) (c .before .before .before .before .args .order .now) (c .before .before .before .before .args .start) _ (c .field .ensures))
+    let start : tie.Start Inv-loop μ-loop = search in
+    (omega arith, omega (arith, start .pre .1), least-start (start .args .block .now) (start .args .order .now) (start .args .start) _ (c .field .ensures))
 
 add-p : tie.Need-add-p Inv-loop μ-loop
 add-p c =
-    omega (arith, c .loop-test .taken, c .before .before .before .before .before .before .pre .0 .few)
+    let start : tie.Start Inv-loop μ-loop = search in
+    omega (arith, c .loop-test .taken, start .pre .0 .few)
 
 mul-p : tie.Need-mul-p Inv-loop μ-loop
 mul-p c =
-    omega (arith, c .loop-test .taken, c .before .before .before .before .before .before .pre .0 .few)
+    let start : tie.Start Inv-loop μ-loop = search in
+    omega (arith, c .loop-test .taken, start .pre .0 .few)
 
 shared-slice-read-p : tie.Need-shared-slice-read-p Inv-loop μ-loop
 shared-slice-read-p c =
-    omega (arith, c .before .loop-test .taken, c .before .before .before .before .before .before .before .pre .0 .few, c .before .before .before .before .before .before .before .pre .0 .order-size)
+    let start : tie.Start Inv-loop μ-loop = search in
+    let loop-test-taken = (let p : tie.In-loop Inv-loop μ-loop = search in p .loop-test .taken) in
+    omega (arith, loop-test-taken, start .pre .0 .few, start .pre .0 .order-size)
 
 field-requires-2 : tie.Need-field-requires-2 Inv-loop μ-loop
 field-requires-2 c κs =
-    (c .before .before .before .before .before .before .before .pre .0 .below (c .before .before .before .before .before .before .before .args .start + c .before .before .loop .k) (omega (arith, c .before .loop-test .taken)), omega arith, c .before .before .before .before .before .before .before .pre .0 .memory)
+    let start : tie.Start Inv-loop μ-loop = search in
+    let loop-k = (let p : tie.At-loop Inv-loop μ-loop = search in p .loop .k) in
+    let loop-test-taken = (let p : tie.In-loop Inv-loop μ-loop = search in p .loop-test .taken) in
+    (start .pre .0 .below (start .args .start + loop-k) (omega (arith, loop-test-taken)), omega arith, start .pre .0 .memory)
 
 lesser-requires : tie.Need-lesser-requires Inv-loop μ-loop
 lesser-requires c κs = search needs
 
 add-k : tie.Need-add-k Inv-loop μ-loop
 add-k c =
-    omega (arith, c .before .before .before .loop-test .taken, c .before .before .before .before .before .before .before .before .before .pre .0 .few)
+    let start : tie.Start Inv-loop μ-loop = search in
+    let loop-test-taken = (let p : tie.In-loop Inv-loop μ-loop = search in p .loop-test .taken) in
+    omega (arith, loop-test-taken, start .pre .0 .few)
 
 loop-less : tie.Need-loop-less Inv-loop μ-loop
 loop-less c =
-    omega (arith, c .before .before .before .loop-test .taken)
+    let loop-test-taken = (let p : tie.In-loop Inv-loop μ-loop = search in p .loop-test .taken) in
+    omega (arith, loop-test-taken)
 
 loop-again : tie.Need-loop-again Inv-loop μ-loop
 loop-again c =
-    (omega arith, omega (arith, c .before .before .before .loop-test .taken), least-step (c .before .before .before .before .before .before .before .before .before .args .block .now) (c .before .before .before .before .before .before .before .before .before .args .order .now) (c .before .before .before .before .before .before .before .before .before .args .start) (c .before .before .before .before .loop .k) (c .before .before .before .before .loop .inv .0) (c .before .before .before .before .loop .inv .2) (c .before .field2 .ensures) (c .lesser .ensures))
+    let start : tie.Start Inv-loop μ-loop = search in
+    let loop-inv = (let p : tie.At-loop Inv-loop μ-loop = search in p .loop .inv) in
+    let loop-k = (let p : tie.At-loop Inv-loop μ-loop = search in p .loop .k) in
+    let loop-test-taken = (let p : tie.In-loop Inv-loop μ-loop = search in p .loop-test .taken) in
+    let field2-ensures = (let p : tie.After-field2 Inv-loop μ-loop = search in p .field2 .ensures) in
+    (omega arith, omega (arith, loop-test-taken), least-step (start .args .block .now) (start .args .order .now) (start .args .start) loop-k (loop-inv .0) (loop-inv .2) field2-ensures (c .lesser .ensures))
 
 returns : tie.Need-returns Inv-loop μ-loop
 returns c =
-    let e : c .before .loop .k ≡ c .before .before .before .before .before .before .args .size = omega (arith, c .loop-test .left, c .before .loop .inv .1) in c .before .loop .inv .2 ∙ ap (least-code (c .before .before .before .before .before .before .args .block .now) (c .before .before .before .before .before .before .args .order .now) (c .before .before .before .before .before .before .args .start)) e
+    let start : tie.Start Inv-loop μ-loop = search in
+    let loop-inv = (let p : tie.At-loop Inv-loop μ-loop = search in p .loop .inv) in
+    let loop-k = (let p : tie.At-loop Inv-loop μ-loop = search in p .loop .k) in
+    let e : loop-k ≡ start .args .size = omega (arith, c .loop-test .left, loop-inv .1) in loop-inv .2 ∙ ap (least-code (start .args .block .now) (start .args .order .now) (start .args .start)) e
 
 pub least-code-spec : {M : Type 1} → statement M
 least-code-spec =

@@ -22,91 +22,137 @@ abbrev μ-loop : tie.MeasureT-loop
 
 loop-holds : tie.Need-loop-holds Inv-loop μ-loop
 loop-holds c =
-    running-start _ _ _ _ (c .before .before .before .before .pre .1)
+    let start : tie.Start Inv-loop μ-loop = search in
+    running-start _ _ _ _ (start .pre .1)
 
 mul-start : tie.Need-mul-start Inv-loop μ-loop
 mul-start c =
-    omega (arith, c .loop-test .taken, c .before .before .before .before .before .before .pre .0 .1 .few)
+    let start : tie.Start Inv-loop μ-loop = search in
+    omega (arith, c .loop-test .taken, start .pre .0 .1 .few)
 
 shared-slice-read-start : tie.Need-shared-slice-read-start Inv-loop μ-loop
 shared-slice-read-start c =
-    omega (arith, c .before .loop-test .taken, c .before .before .before .before .before .before .before .pre .0 .1 .few, c .before .before .before .before .before .before .before .pre .0 .1 .starts-size)
+    let start : tie.Start Inv-loop μ-loop = search in
+    let loop-test-taken = (let p : tie.In-loop Inv-loop μ-loop = search in p .loop-test .taken) in
+    omega (arith, loop-test-taken, start .pre .0 .1 .few, start .pre .0 .1 .starts-size)
 
 face-end-requires : tie.Need-face-end-requires Inv-loop μ-loop
 face-end-requires c κs =
-    (c .before .before .before .before .before .before .before .pre .0 .1 .starts-size, omega (arith, c .before .before .before .before .before .before .before .pre .0 .1 .few), c .before .loop-test .taken)
+    let start : tie.Start Inv-loop μ-loop = search in
+    let loop-test-taken = (let p : tie.In-loop Inv-loop μ-loop = search in p .loop-test .taken) in
+    (start .pre .0 .1 .starts-size, omega (arith, start .pre .0 .1 .few), loop-test-taken)
 
 mul-p : tie.Need-mul-p Inv-loop μ-loop
 mul-p c =
-    omega (arith, c .before .before .before .before .before .before .before .before .pre .0 .1 .below (c .before .before .before .loop .f) (c .before .before .loop-test .taken), c .before .before .before .before .before .before .before .before .pre .0 .0 .few)
+    let start : tie.Start Inv-loop μ-loop = search in
+    let loop-f = (let p : tie.At-loop Inv-loop μ-loop = search in p .loop .f) in
+    let loop-test-taken = (let p : tie.In-loop Inv-loop μ-loop = search in p .loop-test .taken) in
+    omega (arith, start .pre .0 .1 .below loop-f loop-test-taken, start .pre .0 .0 .few)
 
 shared-slice-read-p : tie.Need-shared-slice-read-p Inv-loop μ-loop
 shared-slice-read-p c =
-    omega (arith, c .before .before .before .before .before .before .before .before .before .pre .0 .1 .below (c .before .before .before .before .loop .f) (c .before .before .before .loop-test .taken), c .before .before .before .before .before .before .before .before .before .pre .0 .0 .few, c .before .before .before .before .before .before .before .before .before .pre .0 .0 .order-size)
+    let start : tie.Start Inv-loop μ-loop = search in
+    let loop-f = (let p : tie.At-loop Inv-loop μ-loop = search in p .loop .f) in
+    let loop-test-taken = (let p : tie.In-loop Inv-loop μ-loop = search in p .loop-test .taken) in
+    omega (arith, start .pre .0 .1 .below loop-f loop-test-taken, start .pre .0 .0 .few, start .pre .0 .0 .order-size)
 
 add-f : tie.Need-add-f Inv-loop μ-loop
 add-f c =
-    omega (arith, c .before .before .before .loop-test .taken, c .before .before .before .before .before .before .before .before .before .pre .0 .1 .few)
+    let start : tie.Start Inv-loop μ-loop = search in
+    let loop-test-taken = (let p : tie.In-loop Inv-loop μ-loop = search in p .loop-test .taken) in
+    omega (arith, loop-test-taken, start .pre .0 .1 .few)
 
 field-requires : tie.Need-field-requires Inv-loop μ-loop
 field-requires c κs =
-    (c .before .before .before .before .before .before .before .before .before .pre .0 .0 .below (getD (c .before .before .before .before .before .before .before .before .before .args .starts .now) (c .before .before .before .before .loop .f) 0) (c .before .before .before .before .before .before .before .before .before .pre .0 .1 .below (c .before .before .before .before .loop .f) (c .before .before .before .loop-test .taken)), omega arith, c .before .before .before .before .before .before .before .before .before .pre .0 .0 .memory)
+    let start : tie.Start Inv-loop μ-loop = search in
+    let loop-f = (let p : tie.At-loop Inv-loop μ-loop = search in p .loop .f) in
+    let loop-test-taken = (let p : tie.In-loop Inv-loop μ-loop = search in p .loop-test .taken) in
+    (start .pre .0 .0 .below (getD (start .args .starts .now) loop-f 0) (start .pre .0 .1 .below loop-f loop-test-taken), omega arith, start .pre .0 .0 .memory)
 
 mul-if1 : tie.Need-mul-if1 Inv-loop μ-loop
 mul-if1 c =
-    omega (arith, c .before .before .before .before .before .before .before .before .before .before .pre .0 .2)
+    let start : tie.Start Inv-loop μ-loop = search in
+    omega (arith, start .pre .0 .2)
 
 add-if1 : tie.Need-add-if1 Inv-loop μ-loop
 add-if1 c =
-    omega (arith, c .before .before .before .before .before .before .before .before .before .before .pre .0 .2)
+    let start : tie.Start Inv-loop μ-loop = search in
+    omega (arith, start .pre .0 .2)
 
 loop-less : tie.Need-loop-less Inv-loop μ-loop
 loop-less c =
-    omega (arith, c .before .before .before .before .before .loop-test .taken)
+    let loop-test-taken = (let p : tie.In-loop Inv-loop μ-loop = search in p .loop-test .taken) in
+    omega (arith, loop-test-taken)
 
 loop-again : tie.Need-loop-again Inv-loop μ-loop
 loop-again c =
-    let a = c .before .before .before .before .before .before .before .before .before .before .before .args in
-    let f = c .before .before .before .before .before .before .loop .f in
-    running-skip (c .before .before .before .before .before .before .loop .inv) (c .before .before .before .before .before .loop-test .taken) (least-none (a .block .now) (a .k) (a .order .now) (a .starts .now) (a .darts) (a .count) f (not-shared-by (a .block .now) (a .k) (a .order .now) (a .starts .now) (a .darts) (a .count) f (c .before .field .ensures) (c .if1 .taken)))
+    let start : tie.Start Inv-loop μ-loop = search in
+    let loop-inv = (let p : tie.At-loop Inv-loop μ-loop = search in p .loop .inv) in
+    let loop-test-taken = (let p : tie.In-loop Inv-loop μ-loop = search in p .loop-test .taken) in
+    let field-ensures = (let p : tie.After-field Inv-loop μ-loop = search in p .field .ensures) in
+    let a = start .args in
+    let f = (let p : tie.At-loop Inv-loop μ-loop = search in p .loop .f) in
+    running-skip loop-inv loop-test-taken (least-none (a .block .now) (a .k) (a .order .now) (a .starts .now) (a .darts) (a .count) f (not-shared-by (a .block .now) (a .k) (a .order .now) (a .starts .now) (a .darts) (a .count) f field-ensures (c .if1 .taken)))
 
 sub-least-code : tie.Need-sub-least-code Inv-loop μ-loop
 sub-least-code c =
-    start-le (c .before .before .before .before .before .before .before .before .before .before .before .before .pre .0 .1) (c .before .before .before .before .before .before .before .loop .f) (c .before .before .before .before .face-end .result) (c .before .before .before .before .before .before .loop-test .taken) (c .before .before .before .before .face-end .ensures)
+    let start : tie.Start Inv-loop μ-loop = search in
+    let loop-f = (let p : tie.At-loop Inv-loop μ-loop = search in p .loop .f) in
+    let loop-test-taken = (let p : tie.In-loop Inv-loop μ-loop = search in p .loop-test .taken) in
+    let face-end-ensures = (let p : tie.After-face-end Inv-loop μ-loop = search in p .face-end .ensures) in
+    let face-end-result = (let p : tie.After-face-end Inv-loop μ-loop = search in p .face-end .result) in
+    start-le (start .pre .0 .1) loop-f face-end-result loop-test-taken face-end-ensures
 
 least-code-requires : tie.Need-least-code-requires Inv-loop μ-loop
 least-code-requires c κs =
-    let st = c .before .before .before .before .before .before .before .before .before .before .before .before in
-    let f = c .before .before .before .before .before .before .before .loop .f in
-    let t = c .before .before .before .before .before .before .loop-test .taken in
-    let e = c .before .before .before .before .face-end .ensures in
+    let st : tie.Start Inv-loop μ-loop = search in
+    let f = (let p : tie.At-loop Inv-loop μ-loop = search in p .loop .f) in
+    let t = (let p : tie.In-loop Inv-loop μ-loop = search in p .loop-test .taken) in
+    let e = (let p : tie.After-face-end Inv-loop μ-loop = search in p .face-end .ensures) in
     (listed-part (st .pre .0 .0) _ (end-le (st .pre .0 .1) f _ t e), some-darts (st .pre .0 .1) f _ t e)
 
 put-label-requires : tie.Need-put-label-requires Inv-loop μ-loop
 put-label-requires c κs =
-    let a = c .before .before .before .before .before .before .before .before .before .before .before .before .before .args in
-    let f = c .before .before .before .before .before .before .before .before .loop .f in
-    let one = least-one (a .block .now) (a .k) (a .order .now) (a .starts .now) (a .darts) (a .count) f _ _ (shared-by (a .block .now) (a .k) (a .order .now) (a .starts .now) (a .darts) (a .count) f (c .before .before .before .field .ensures) (c .before .before .if1 .left)) (c .before .before .before .before .before .face-end .ensures) (c .least-code .ensures) in
-    omega (arith, ap length one, running-space (c .before .before .before .before .before .before .before .before .loop .inv) (c .before .before .before .before .before .before .before .loop-test .taken))
+    let start : tie.Start Inv-loop μ-loop = search in
+    let loop-inv = (let p : tie.At-loop Inv-loop μ-loop = search in p .loop .inv) in
+    let loop-test-taken = (let p : tie.In-loop Inv-loop μ-loop = search in p .loop-test .taken) in
+    let face-end-ensures = (let p : tie.After-face-end Inv-loop μ-loop = search in p .face-end .ensures) in
+    let field-ensures = (let p : tie.After-field Inv-loop μ-loop = search in p .field .ensures) in
+    let if1-left = (let p : tie.Else1 Inv-loop μ-loop = search in p .if1 .left) in
+    let a = start .args in
+    let f = (let p : tie.At-loop Inv-loop μ-loop = search in p .loop .f) in
+    let one = least-one (a .block .now) (a .k) (a .order .now) (a .starts .now) (a .darts) (a .count) f _ _ (shared-by (a .block .now) (a .k) (a .order .now) (a .starts .now) (a .darts) (a .count) f field-ensures if1-left) face-end-ensures (c .least-code .ensures) in
+    omega (arith, ap length one, running-space loop-inv loop-test-taken)
 
 loop-less-2 : tie.Need-loop-less-2 Inv-loop μ-loop
 loop-less-2 c =
-    omega (arith, c .before .before .before .before .before .before .before .before .before .before .loop-test .taken)
+    let loop-test-taken = (let p : tie.In-loop Inv-loop μ-loop = search in p .loop-test .taken) in
+    omega (arith, loop-test-taken)
 
 loop-again-2 : tie.Need-loop-again-2 Inv-loop μ-loop
 loop-again-2 c =
-    let a = c .before .before .before .before .before .before .before .before .before .before .before .before .before .before .before .before .args in
-    let f = c .before .before .before .before .before .before .before .before .before .before .before .loop .f in
-    let one = least-one (a .block .now) (a .k) (a .order .now) (a .starts .now) (a .darts) (a .count) f _ _ (shared-by (a .block .now) (a .k) (a .order .now) (a .starts .now) (a .darts) (a .count) f (c .before .before .before .before .before .before .field .ensures) (c .before .before .before .before .before .if1 .left)) (c .before .before .before .before .before .before .before .before .face-end .ensures) (c .before .before .before .least-code .ensures) in
-    running-step (c .before .before .before .before .before .before .before .before .before .before .before .loop .inv) (c .before .before .before .before .before .before .before .before .before .before .loop-test .taken) (stored-as one (c .before .before .put-label .ensures))
+    let start : tie.Start Inv-loop μ-loop = search in
+    let loop-inv = (let p : tie.At-loop Inv-loop μ-loop = search in p .loop .inv) in
+    let loop-test-taken = (let p : tie.In-loop Inv-loop μ-loop = search in p .loop-test .taken) in
+    let face-end-ensures = (let p : tie.After-face-end Inv-loop μ-loop = search in p .face-end .ensures) in
+    let field-ensures = (let p : tie.After-field Inv-loop μ-loop = search in p .field .ensures) in
+    let if1-left = (let p : tie.Else1 Inv-loop μ-loop = search in p .if1 .left) in
+    let least-code-ensures = (let p : tie.After-least-code Inv-loop μ-loop = search in p .least-code .ensures) in
+    let put-label-ensures = (let p : tie.After-put-label Inv-loop μ-loop = search in p .put-label .ensures) in
+    let a = start .args in
+    let f = (let p : tie.At-loop Inv-loop μ-loop = search in p .loop .f) in
+    let one = least-one (a .block .now) (a .k) (a .order .now) (a .starts .now) (a .darts) (a .count) f _ _ (shared-by (a .block .now) (a .k) (a .order .now) (a .starts .now) (a .darts) (a .count) f field-ensures if1-left) face-end-ensures least-code-ensures in
+    running-step loop-inv loop-test-taken (stored-as one put-label-ensures)
 
 same-length : tie.Need-same-length Inv-loop μ-loop
 same-length c =
-    running-size (c .before .loop .inv)
+    let loop-inv = (let p : tie.At-loop Inv-loop μ-loop = search in p .loop .inv) in
+    running-size loop-inv
 
 returns : tie.Need-returns Inv-loop μ-loop
 returns c =
-    running-end (c .before .loop .inv) (omega (arith, c .loop-test .left))
+    let loop-inv = (let p : tie.At-loop Inv-loop μ-loop = search in p .loop .inv) in
+    running-end loop-inv (omega (arith, c .loop-test .left))
 
 pub put-leasts-spec : {M : Type 1} → statement M
 put-leasts-spec =

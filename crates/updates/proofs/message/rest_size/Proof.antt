@@ -14,16 +14,19 @@ group-count-requires c κs = search needs
 
 add-result : tie.Need-add-result
 add-result c =
-    omega (arith, c .group-count .ensures, count-most (c .before .args .n) (omega (arith, c .before .pre .0)))
+    let start : tie.Start = search in
+    omega (arith, c .group-count .ensures, count-most (start .args .n) (omega (arith, start .pre .0)))
 
 add-result-2 : tie.Need-add-result-2
 add-result-2 c =
-    omega (arith, c .group-count .ensures, count-most (c .before .args .n) (omega (arith, c .before .pre .0)), c .before .pre .1)
+    let start : tie.Start = search in
+    omega (arith, c .group-count .ensures, count-most (start .args .n) (omega (arith, start .pre .0)), start .pre .1)
 
 returns : tie.Need-returns
 unfolding rest-for
 returns c =
-    (omega (arith, c .group-count .ensures, group-length (c .before .args .n) (omega (arith, c .before .pre .0))), omega (arith, c .group-count .ensures, count-most (c .before .args .n) (omega (arith, c .before .pre .0)), c .before .pre .1))
+    let start : tie.Start = search in
+    (omega (arith, c .group-count .ensures, group-length (start .args .n) (omega (arith, start .pre .0))), omega (arith, c .group-count .ensures, count-most (start .args .n) (omega (arith, start .pre .0)), start .pre .1))
 
 pub rest-size-spec : {M : Type 1} → statement M
 rest-size-spec =

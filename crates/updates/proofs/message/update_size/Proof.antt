@@ -12,7 +12,9 @@ relative-requires c κs = search needs
 
 returns : tie.Need-returns
 returns c =
-    (size-none (c .before .before .args .to) (c .before .before .args .k) (c .before .before .args .n) (c .before .before .args .bytes) (said-no (c .before .relative .ensures) (c .if1 .taken)), omega arith)
+    let start : tie.Start = search in
+    let relative-ensures = (let p : tie.After-relative = search in p .relative .ensures) in
+    (size-none (start .args .to) (start .args .k) (start .args .n) (start .args .bytes) (said-no relative-ensures (c .if1 .taken)), omega arith)
 
 rest-size-requires : tie.Need-rest-size-requires
 rest-size-requires c κs = search needs
@@ -25,11 +27,18 @@ group-count-requires c κs = search needs
 
 add-result : tie.Need-add-result
 add-result c =
-    omega (arith, c .group-count .ensures, count-most (c .before .rest-size .result) (omega (arith, c .before .rest-size .ensures .1)), c .before .rest-size .ensures .1)
+    let rest-size-ensures = (let p : tie.After-rest-size = search in p .rest-size .ensures) in
+    let rest-size-result = (let p : tie.After-rest-size = search in p .rest-size .result) in
+    omega (arith, c .group-count .ensures, count-most rest-size-result (omega (arith, rest-size-ensures .1)), rest-size-ensures .1)
 
 returns-2 : tie.Need-returns-2
 returns-2 c =
-    (size-some (c .before .before .before .before .args .to) (c .before .before .before .before .args .k) (c .before .before .before .before .args .n) (c .before .before .before .before .args .bytes) (said-yes (c .before .before .before .relative .ensures) (c .before .before .if1 .left)) (c .before .rest-size .ensures .0) (omega (arith, c .group-count .ensures, group-length (c .before .rest-size .result) (omega (arith, c .before .rest-size .ensures .1)))), omega (arith, c .group-count .ensures, count-most (c .before .rest-size .result) (omega (arith, c .before .rest-size .ensures .1)), c .before .rest-size .ensures .1))
+    let start : tie.Start = search in
+    let relative-ensures = (let p : tie.After-relative = search in p .relative .ensures) in
+    let if1-left = (let p : tie.Else1 = search in p .if1 .left) in
+    let rest-size-ensures = (let p : tie.After-rest-size = search in p .rest-size .ensures) in
+    let rest-size-result = (let p : tie.After-rest-size = search in p .rest-size .result) in
+    (size-some (start .args .to) (start .args .k) (start .args .n) (start .args .bytes) (said-yes relative-ensures if1-left) (rest-size-ensures .0) (omega (arith, c .group-count .ensures, group-length rest-size-result (omega (arith, rest-size-ensures .1)))), omega (arith, c .group-count .ensures, count-most rest-size-result (omega (arith, rest-size-ensures .1)), rest-size-ensures .1))
 
 pub update-size-spec : {M : Type 1} → statement M
 update-size-spec =
