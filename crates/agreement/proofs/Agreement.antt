@@ -38,7 +38,9 @@ module _ (lims : ℕ → Limits) (fit : Fit lims) (claim : Claim) (k : ℕ)
   along [] ms u label I e named = tt
   along (r ∷ rs) ms u label I e named = λ outbox order enough any.
       let both = and-left (ltb (r .from) k && ltb (r .to) k) _ named in
-      let kept = subst (λ (m : List (List ℕ)). Enough lims m r outbox → List·Permᴰ order (last-steps r (sent-messages lims m r outbox)) → Kept lims k (round lims m r outbox order) (undivided lims u r)) (sym e)
+      let kept = subst
+      (λ (m : List (List ℕ)). Enough lims m r outbox → List·Permᴰ order (last-steps r (sent-messages lims m r outbox)) → Kept lims
+      k (round lims m r outbox order) (undivided lims u r)) (sym e)
       (keeps lims fit k u label I r (ltb-true (r .from) k (and-left (ltb (r .from) k) _ both)) (ltb-true (r .to) k (and-right (ltb (r .from) k) _ both)) outbox order) enough any in (
         from-kept (round lims ms r outbox order) (undivided lims u r) kept,
         along rs (round lims ms r outbox order .memories) (undivided lims u r .state) (kept .labels-now) (kept .inv-now) (kept .memories-now) (and-right (ltb (r .from) k && ltb (r .to) k) _ named),

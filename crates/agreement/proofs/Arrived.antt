@@ -196,7 +196,9 @@ module _ (lims : ℕ → Limits) (fit : Fit lims) (k : ℕ) (u : State) (label :
       (λ d. rw d (λ n.
       let m : Meeting (f .0 .from-dart) = record { in-cell = f .0 .in-cell; facing = record { linked = t; block = eqb-true _ _ d } } in
       let q = find-append y (met-links p (label (f .0 .from-dart))) (concat-map (part2-links es t₀) (parts2 ps)) n in
-      go (append-in x (p .face) (concat (map (λ p. p .face) ps)) h) (λ k. sew-reach (th u) (p .face) x y k w (rw (met-links-are p (a .0) (f .0) m) at (q .0))) (λ k. parts2-reach ps (a .1) (f .1) x y k c w (q .1))))
+      go (append-in x (p .face) (concat (map (λ p. p .face) ps)) h)
+      (λ k. sew-reach (th u) (p .face) x y k w (rw (met-links-are p (a .0) (f .0) m) at (q .0)))
+      (λ k. parts2-reach ps (a .1) (f .1) x y k c w (q .1))))
       (λ d. rw d (λ n. later (λ m. absurd (eqb-false _ _ d (start-faces m .block))) (λ k. parts2-reach ps (a .1) (f .1) x y k c w n))))
     where
       go : In x (p .face) ⊎ In x (concat (map (λ p. p .face) ps)) → (In x (p .face) → ⊥) → (In x (concat (map (λ p. p .face) ps)) → ⊥) → ⊥
@@ -267,7 +269,9 @@ module _ (lims : ℕ → Limits) (fit : Fit lims) (k : ℕ) (u : State) (label :
       (λ t e. by-cases (eqb (u .number (th u (f .0 .from-dart))) (r .to))
       (λ c. rw c (parts4-give ps (a .1) (f .1)))
       (λ c. rw c (each-append _ (part4-links t₀ (record { index = p .at; other = u .number (th u (f .0 .from-dart)); labels = map label (p .face) })) (concat-map (part4-links t₀) (parts4 ps))
-      (rw (part4-face p (u .number (th u (f .0 .from-dart))) (a .0)) (kept-give (u .number (th u (f .0 .from-dart))) (p .face) (other-dart p (f .0) t e (eqb-false _ _ c)))) (parts4-give ps (a .1) (f .1)))))
+      (rw (part4-face p (u .number (th u (f .0 .from-dart))) (a .0))
+      (kept-give (u .number (th u (f .0 .from-dart))) (p .face) (other-dart p (f .0) t e (eqb-false _ _ c))))
+      (parts4-give ps (a .1) (f .1)))))
 
   parts4-reach : (ps : List Placed) → Each (λ q. face-from t₀ (q .at) ≡ q .face) ps → Each (λ q. Face (q .face)) ps → (x : ℕ) → In x (concat (map (λ p. p .face) ps)) → th u x ≢ 0
       → u .number (th u x) ≢ r .from → u .number (th u x) ≢ r .to → not-linked x (concat-map (part4-links t₀) (parts4 ps)) → ⊥
@@ -280,7 +284,9 @@ module _ (lims : ℕ → Limits) (fit : Fit lims) (k : ℕ) (u : State) (label :
       (λ w. rw w (λ n. go (append-in x (p .face) (concat (map (λ p. p .face) ps)) h) (λ m. g (sym (start-faces m .block) ∙ eqb-true _ _ w)) (λ k'. parts4-reach ps (a .1) (f .1) x k' c d g n)))
       (λ w. rw w (λ n.
       let q = find-append x (part4-links t₀ (record { index = p .at; other = u .number (th u (f .0 .from-dart)); labels = map label (p .face) })) (concat-map (part4-links t₀) (parts4 ps)) n in
-      go (append-in x (p .face) (concat (map (λ p. p .face) ps)) h) (λ m. kept-reach (u .number (th u (f .0 .from-dart))) (p .face) x m (rw (part4-face p (u .number (th u (f .0 .from-dart))) (a .0)) at (q .0)))
+      go (append-in x (p .face) (concat (map (λ p. p .face) ps)) h)
+      (λ m. kept-reach (u .number (th u (f .0 .from-dart))) (p .face) x m
+      (rw (part4-face p (u .number (th u (f .0 .from-dart))) (a .0)) at (q .0)))
       (λ k'. parts4-reach ps (a .1) (f .1) x k' c d g (q .1)))))
     where
       go : In x (p .face) ⊎ In x (concat (map (λ p. p .face) ps)) → (In x (p .face) → ⊥) → (In x (concat (map (λ p. p .face) ps)) → ⊥) → ⊥
@@ -288,7 +294,10 @@ module _ (lims : ℕ → Limits) (fit : Fit lims) (k : ℕ) (u : State) (label :
       go (inr m) i j = j m
 
       start-faces : In x (p .face) → Facing u (u .number (th u x)) (f .0 .from-dart)
-      start-faces m = unfold cycle in (along-face (nx u) v₃ (C₃ .next-closed) one-cell (C₃ .few) (Facing u (u .number (th u x))) (facing-next u M₃ (r .from) (r .serial) v₃ C₃ (u .number (th u x))) x (f .0 .from-dart)
+      start-faces m =
+          unfold cycle in
+          (along-face (nx u) v₃ (C₃ .next-closed) one-cell (C₃ .few) (Facing u (u .number (th u x)))
+          (facing-next u M₃ (r .from) (r .serial) v₃ C₃ (u .number (th u x))) x (f .0 .from-dart)
           (in-face-cell lims fit k u label I r S (p .face) (f .0) x m) (record { linked = c; block = refl })
           (face-sym (nx u) v₃ (C₃ .next-closed) one-cell (C₃ .few) (f .0 .from-dart) x (f .0 .in-cell) (rw (f .0 .is-cycle) at m)))
 
@@ -336,7 +345,9 @@ module _ (lims : ℕ → Limits) (fit : Fit lims) (k : ℕ) (u : State) (label :
       (λ z. let e = eqb-true (th u y) 0 z in kind-free u label y e ∙ sym (moved-free lims fit k u label I r S y e))
       (λ z. let t = eqb-false (th u y) 0 z in
       let back = M₃ .third-twice y (m .here) t in
-      absurd (parts2-reach PF faces-again placed-are (th u y) y (in-placed (th u y) a) (record { linked = third-back-linked u M₃ y (m .here) t; block = ap (u .number) back ∙ m .block }) (inr (sym back))
+      absurd
+      (parts2-reach PF faces-again placed-are (th u y) y (in-placed (th u y) a)
+      (record { linked = third-back-linked u M₃ y (m .here) t; block = ap (u .number) back ∙ m .block }) (inr (sym back))
       (find-append y (concat-map (part2-links es t₀) (parts2 PF)) _ (rw links-are at n) .0))))
       (λ a. sym (third-stays lims fit k u label I r S y (stays-out y m) a))
     where
@@ -421,7 +432,10 @@ module _ (lims : ℕ → Limits) (fit : Fit lims) (k : ℕ) (u : State) (label :
       (rw (serials-by (state-after lims fit k u label I r S) (labels-after lims fit k u label I r S) (members u (r .to))) (keep-ascending (λ y. eqb (u .number y) (r .to)) (u .darts) (M₃ .ordered))))
       (in-order-by (state-after lims fit k u label I r S) (labels-after lims fit k u label I r S) (r .to) (M₃ .ordered))
       (λ x. find-insert-all (map dart-after (concat F)) (map dart-after (members u (r .to))) new-distinct old-not x
-      ∙ rw (find-by (state-after lims fit k u label I r S) (labels-after lims fit k u label I r S) (concat F) x, find-by (state-after lims fit k u label I r S) (labels-after lims fit k u label I r S) (members u (r .to)) x)
+      ∙ rw (
+        find-by (state-after lims fit k u label I r S) (labels-after lims fit k u label I r S) (concat F) x,
+        find-by (state-after lims fit k u label I r S) (labels-after lims fit k u label I r S) (members u (r .to)) x,
+      )
       (either (mem x (concat F)) (mem x (members u (r .to))) (dart-after x))
       ∙ ap (λ (o : Bool). cond o (some (dart-after x)) none) (sym (members-join x))
       ∙ sym (find-by (state-after lims fit k u label I r S) (labels-after lims fit k u label I r S) (members (state-after lims fit k u label I r S) (r .to)) x))

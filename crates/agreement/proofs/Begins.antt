@@ -27,7 +27,9 @@ use Rattle.agreement.proofs.Described.{pt, third-by, dart-by, members, 
 use Rattle.agreement.proofs.Homes.{sorted-in, in-sorted, sorted-ascends, Home, homes, one-of-two, distinct-all, block-number, block-counts, block-is-sound, block-links, home-of, holder-is, one-home}
 
 -- a table with distinct serials is what its serials find
-self-table : (ds es : List Dart) → distinct (serials ds) ≡ true → ((d : Dart) → find (λ e. e .serial) (d .serial) ds ≡ some d → find (λ e. e .serial) (d .serial) es ≡ some d) → map (dart-at es) (serials ds) ≡ ds
+self-table : (ds es : List Dart) → distinct (serials ds) ≡ true
+    → ((d : Dart) → find (λ e. e .serial) (d .serial) ds ≡ some d → find (λ e. e .serial) (d .serial) es ≡ some d)
+    → map (dart-at es) (serials ds) ≡ ds
 unfolding dart-at
 self-table [] es u h = refl
 self-table (d ∷ ds) es u h = cons-same (or-no-dart (find (λ e. e .serial) (d .serial) es)) d _ _ first
@@ -41,7 +43,11 @@ self-table (d ∷ ds) es u h = cons-same (or-no-dart (find (λ e. e .serial) (d 
 
     later : (e : Dart) → find (λ z. z .serial) (e .serial) ds ≡ some e → find (λ z. z .serial) (e .serial) (d ∷ ds) ≡ some e
     later e f = by-cases (eqb (e .serial) (d .serial))
-        (λ t. absurd (true≢false (sym (in-eq (d .serial) (e .serial) (serials ds) (sym (eqb-true (e .serial) (d .serial) t)) (found-there (e .serial) ds e f)) ∙ not-true (mem (d .serial) (serials ds)) (and-left _ _ u))))
+        (λ t. absurd
+        (true≢false
+        (sym
+        (in-eq (d .serial) (e .serial) (serials ds) (sym (eqb-true (e .serial) (d .serial) t)) (found-there (e .serial) ds e f))
+        ∙ not-true (mem (d .serial) (serials ds)) (and-left _ _ u))))
         (λ t. rw t f)
 
 pub sewn-to-is : (x : ℕ) (t : Third) → is-sewn-to x t ≡ true → t ≡ sewn x
@@ -115,7 +121,15 @@ module _ (lims : ℕ → Limits) (m : List Block) (sound : Sound lims m) where
   sound-at = block-is-sound lims m sound
 
   -- the state, dart by dart
-  links-at : (b x : ℕ) → At b x → u .links x ≡ some (record { next = dart-at (ds b) x .next; opposite = dart-at (ds b) x .opposite; third = third-of m x (dart-at (ds b) x .third); point = dart-at (ds b) x .point })
+  links-at : (b x : ℕ) → At b x
+      → u .links x
+      ≡ some
+      (record {
+        next = dart-at (ds b) x .next;
+        opposite = dart-at (ds b) x .opposite;
+        third = third-of m x (dart-at (ds b) x .third);
+        point = dart-at (ds b) x .point;
+      })
   unfolding start whole-map
   links-at b x a = ap (Option·map _) (home-at b x a .looked-up ∙ found-at b x a)
 
@@ -165,7 +179,9 @@ module _ (lims : ℕ → Limits) (m : List Block) (sound : Sound lims m) where
 
   range-at : (b x : ℕ) → At b x → third-in-range (third-at (ds b) x) ≡ true
   unfolding dart-in-range
-  range-at b x a = and-right (leb 1 (dart-at (ds b) x .serial) && ltb (dart-at (ds b) x .serial) serial-bound) _ (test-at dart-in-range b x (ranges-of (lims b) (block-at m b) (sound-at b (a .below) .ranges) .each-dart) a)
+  range-at b x a =
+      and-right (leb 1 (dart-at (ds b) x .serial) && ltb (dart-at (ds b) x .serial) serial-bound) _
+      (test-at dart-in-range b x (ranges-of (lims b) (block-at m b) (sound-at b (a .below) .ranges) .each-dart) a)
 
   -- SEWN
   third-test : (b x : ℕ) → At b x → third-right (ds b) (dart-at (ds b) x) (third-at (ds b) x) ≡ true
@@ -265,7 +281,9 @@ module _ (lims : ℕ → Limits) (m : List Block) (sound : Sound lims m) where
 
       differs : o ≢ b
       differs w =
-          let t : label-right (block-at m b .number) (block-at m b .counter) (critical o l) ≡ true = subst (λ (t : Third). label-right (block-at m b .number) (block-at m b .counter) t ≡ true) e (label-test b x a) in
+          let t : label-right (block-at m b .number) (block-at m b .counter) (critical o l) ≡ true =
+          subst (λ (t : Third). label-right (block-at m b .number) (block-at m b .counter) t ≡ true) e (label-test b x a)
+          in
           eqb-false o (block-at m b .number) (not-true _ (and-left (not (eqb o (block-at m b .number))) _ t)) (w ∙ sym (block-number lims m sound b (a .below)))
 
       go : (f : Option Dart) → find (λ d. label-key (d .third)) (suc (code l)) (ds o) ≡ f → Mate b x o l
@@ -304,7 +322,10 @@ module _ (lims : ℕ → Limits) (m : List Block) (sound : Sound lims m) where
   bears l z = has-label l (third-at D z)
 
   two-bear : (l : Label) → length (keep (λ c. has-label l (c .third)) D) ≡ 2 → length (keep (bears l) (serials D)) ≡ 2
-  two-bear l h = sym (length-map (keep (bears l) (serials D)) (dart-at D)) ∙ ap length (sym (keep-map (λ c. has-label l (c .third)) (dart-at D) (serials D))) ∙ ap (λ (t : List Dart). length (keep (λ c. has-label l (c .third)) t)) whole-table ∙ h
+  two-bear l h =
+      sym (length-map (keep (bears l) (serials D)) (dart-at D))
+      ∙ ap length (sym (keep-map (λ c. has-label l (c .third)) (dart-at D) (serials D)))
+      ∙ ap (λ (t : List Dart). length (keep (λ c. has-label l (c .third)) t)) whole-table ∙ h
 
   bears-at : (b x : ℕ) (o : ℕ) (l : Label) → At b x → third-at (ds b) x ≡ critical o l → bears l x ≡ true
   bears-at b x o l a e = ap (has-label l) (ap (λ (d : Dart). d .third) (at-whole b x a) ∙ e) ∙ eq-eqb (suc (code l)) (suc (code l)) refl
@@ -325,7 +346,11 @@ module _ (lims : ℕ → Limits) (m : List Block) (sound : Sound lims m) where
     where
       later : (e : Dart) → find (λ z. z .serial) (e .serial) es ≡ some e → find (λ z. z .serial) (e .serial) (c ∷ es) ≡ some e
       later e f = by-cases (eqb (e .serial) (c .serial))
-          (λ t. absurd (true≢false (sym (in-eq (c .serial) (e .serial) (serials es) (sym (eqb-true (e .serial) (c .serial) t)) (found-there (e .serial) es e f)) ∙ not-true (mem (c .serial) (serials es)) (and-left _ _ d))))
+          (λ t. absurd
+          (true≢false
+          (sym
+          (in-eq (c .serial) (e .serial) (serials es) (sym (eqb-true (e .serial) (c .serial) t)) (found-there (e .serial) es e f))
+          ∙ not-true (mem (c .serial) (serials es)) (and-left _ _ d))))
           (λ t. rw t f)
 
   any-of : (p : Dart → Bool) (x : ℕ) (es : List Dart) (d : Dart) → find (λ e. e .serial) x es ≡ some d → p d ≡ true → any p es ≡ true
@@ -388,11 +413,18 @@ module _ (lims : ℕ → Limits) (m : List Block) (sound : Sound lims m) where
   mate-back : (b x o : ℕ) (l : Label) → (a : At b x) → third-at (ds b) x ≡ critical o l → (w : Mate b x o l) → th u (w .mate) ≡ x
   mate-back b x o l a e w =
       let w' = mate-at o (w .mate) b l (w .there) (w .names-back) in
-      th-critical o (w .mate) b l (w .there) (w .names-back) w' ∙ pick (only-two b x o l a e w (w' .mate) (home-at b (w' .mate) (w' .there) .in-mesh) (bears-at b (w' .mate) o l (w' .there) (w' .names-back))) w' refl
+      th-critical o (w .mate) b l (w .there) (w .names-back) w'
+      ∙ pick
+      (only-two b x o l a e w (w' .mate) (home-at b (w' .mate) (w' .there) .in-mesh)
+      (bears-at b (w' .mate) o l (w' .there) (w' .names-back))) w' refl
     where
       pick : {y : ℕ} → (x ≡ y) ⊎ (w .mate ≡ y) → (w' : Mate o (w .mate) b l) → y ≡ w' .mate → w' .mate ≡ x
       pick (inl q) w' s = sym s ∙ sym q
-      pick (inr q) w' s = absurd (w .other-block (one-home lims m sound o b (w .mate) (w .there .below) (w' .there .below) (w .there .held-there) (in-eq (w .mate) (w' .mate) (serials (ds b)) (q ∙ s) (w' .there .held-there))))
+      pick (inr q) w' s =
+          absurd
+          (w .other-block
+          (one-home lims m sound o b (w .mate) (w .there .below) (w' .there .below) (w .there .held-there)
+          (in-eq (w .mate) (w' .mate) (serials (ds b)) (q ∙ s) (w' .there .held-there))))
 
   -- THE WHOLE MAP IS SOUND
   third-in-map-at : (b x : ℕ) → At b x → th u x ≢ 0 → In (th u x) (u .darts)
@@ -472,7 +504,9 @@ module _ (lims : ℕ → Limits) (m : List Block) (sound : Sound lims m) where
       (λ o l e. mate-next b x o l a e)
 
   -- points
-  points-test : (b x : ℕ) → At b x → (same-point (dart-at (ds b) x .point) (dart-at (ds b) (next-in (ds b) (dart-at (ds b) x .opposite)) .point) && sewn-points (ds b) (dart-at (ds b) x) (third-at (ds b) x)) ≡ true
+  points-test : (b x : ℕ) → At b x
+      → (same-point (dart-at (ds b) x .point) (dart-at (ds b) (next-in (ds b) (dart-at (ds b) x .opposite)) .point)
+      && sewn-points (ds b) (dart-at (ds b) x) (third-at (ds b) x)) ≡ true
   unfolding points-agree
   points-test b x a = test-at (λ d. same-point (d .point) (dart-at (ds b) (next-in (ds b) (d .opposite)) .point) && sewn-points (ds b) d (d .third)) b x (sound-at b (a .below) .points) a
 
@@ -492,8 +526,14 @@ module _ (lims : ℕ → Limits) (m : List Block) (sound : Sound lims m) where
   point-third-at b x a t = by-third (pt u x ≡ pt u (nx u (th u x))) b x a
       (λ e. absurd (t (th-free b x a e)))
       (λ y e. let s = sewn-at b x y a e in
-      let q = same-point-is _ _ (subst (λ (w : Third). sewn-points (ds b) (dart-at (ds b) x) w ≡ true) e (and-right (same-point (dart-at (ds b) x .point) (dart-at (ds b) (next-in (ds b) (dart-at (ds b) x .opposite)) .point)) _ (points-test b x a))) in
-      pt-at b x a ∙ q ∙ ap (λ (z : ℕ). dart-at (ds b) z .point) (sym (nx-at b y (s .there))) ∙ sym (pt-at b (nx u y) (next-of-at b y (s .there))) ∙ ap (λ (z : ℕ). pt u (nx u z)) (sym (th-sewn b x y a e)))
+      let q =
+      same-point-is _ _
+      (subst (λ (w : Third). sewn-points (ds b) (dart-at (ds b) x) w ≡ true) e
+      (and-right (same-point (dart-at (ds b) x .point) (dart-at (ds b) (next-in (ds b) (dart-at (ds b) x .opposite)) .point)) _
+      (points-test b x a)))
+      in
+      pt-at b x a ∙ q ∙ ap (λ (z : ℕ). dart-at (ds b) z .point) (sym (nx-at b y (s .there)))
+      ∙ sym (pt-at b (nx u y) (next-of-at b y (s .there))) ∙ ap (λ (z : ℕ). pt u (nx u z)) (sym (th-sewn b x y a e)))
       (λ o l e. let w = mate-at b x o l a e in
       let q = same-point-is _ _ (subst (λ (z : Third). same-across m (dart-at (ds b) x) z ≡ true) e (across-test b x a)) in
       pt-at b x a ∙ q ∙ ap (λ (d : Dart). dart-at (ds o) (d .next) .point) (w .found-by-label) ∙ ap (λ (z : ℕ). dart-at (ds o) z .point) (sym (nx-at o (w .mate) (w .there)))
@@ -610,7 +650,9 @@ module _ (lims : ℕ → Limits) (m : List Block) (sound : Sound lims m) where
   start-labelled = record {
     paired = λ x h. let c = crossing-critical x h in
         let w = mate-at (c .block) x (c .other) (c .label) (c .place) (c .is) in
-        ap start-label (th-critical (c .block) x (c .other) (c .label) (c .place) (c .is) w) ∙ label-at (c .other) (w .mate) (c .block) (c .label) (w .there) (w .names-back) ∙ sym (label-at (c .block) x (c .other) (c .label) (c .place) (c .is));
+        ap start-label (th-critical (c .block) x (c .other) (c .label) (c .place) (c .is) w)
+        ∙ label-at (c .other) (w .mate) (c .block) (c .label) (w .there) (w .names-back)
+        ∙ sym (label-at (c .block) x (c .other) (c .label) (c .place) (c .is));
     apart = apart-labels;
     maker-small = λ x h. made-at x (crossing-critical x h) .0;
     number-small = λ x h. made-at x (crossing-critical x h) .1;
@@ -624,7 +666,8 @@ module _ (lims : ℕ → Limits) (m : List Block) (sound : Sound lims m) where
           let same : c .label ≡ d .label = sym (label-at (c .block) x (c .other) (c .label) (c .place) (c .is)) ∙ e ∙ label-at (d .block) y (d .other) (d .label) (d .place) (d .is) in
           let w = mate-at (c .block) x (c .other) (c .label) (c .place) (c .is) in
           let bearing : bears (c .label) y ≡ true = subst (λ (l : Label). bears l y ≡ true) (sym same) (bears-at (d .block) y (d .other) (d .label) (d .place) (d .is)) in
-          go (th-critical (c .block) x (c .other) (c .label) (c .place) (c .is) w) (only-two (c .block) x (c .other) (c .label) (c .place) (c .is) w y (home-at (d .block) y (d .place) .in-mesh) bearing)
+          go (th-critical (c .block) x (c .other) (c .label) (c .place) (c .is) w)
+          (only-two (c .block) x (c .other) (c .label) (c .place) (c .is) w y (home-at (d .block) y (d .place) .in-mesh) bearing)
         where
           go : {n : ℕ} → th u x ≡ n → (x ≡ y) ⊎ (n ≡ y) → (x ≡ y) ⊎ (th u x ≡ y)
           go t (inl q) = inl q
@@ -640,7 +683,9 @@ module _ (lims : ℕ → Limits) (m : List Block) (sound : Sound lims m) where
           (λ e. e ∙ sym (kind-free u start-label x (th-free b x a e)))
           (λ y e. let s = sewn-at b x y a e in
           let t = th-sewn b x y a e in
-          e ∙ ap sewn (sym t) ∙ sym (kind-sewn u start-label x (λ z. let p = positive-at b y (s .there) .0 in let q = sym t ∙ z in omega arith) (ap (u .number) t ∙ number-at b y (s .there) ∙ sym (number-at b x a))))
+          e ∙ ap sewn (sym t)
+          ∙ sym
+          (kind-sewn u start-label x (λ z. let p = positive-at b y (s .there) .0 in let q = sym t ∙ z in omega arith) (ap (u .number) t ∙ number-at b y (s .there) ∙ sym (number-at b x a))))
           (λ o l e. let w = mate-at b x o l a e in
           let c = mate-crosses b x o l a e in
           let number : o ≡ u .number (th u x) = sym (ap (u .number) (th-critical b x o l a e w) ∙ number-at o (w .mate) (w .there)) in
@@ -663,7 +708,9 @@ module _ (lims : ℕ → Limits) (m : List Block) (sound : Sound lims m) where
               absurd (true≢false (sym (subst (λ (c : ℕ). In x (serials (ds c))) same (q .1 .held-there)) ∙ h))
 
   darts-same : (b : ℕ) → b < k → ds b ≡ darts-by u start-label b
-  darts-same b below = table-unique (ds b) (darts-by u start-label b) (ranges-of (lims b) (block-at m b) (sound-at b below .ranges) .in-order) (in-order-by u start-label b (start-map .ordered)) (found-same b below)
+  darts-same b below =
+      table-unique (ds b) (darts-by u start-label b) (ranges-of (lims b) (block-at m b) (sound-at b below .ranges) .in-order)
+      (in-order-by u start-label b (start-map .ordered)) (found-same b below)
 
   block-same : (b : ℕ) → b < k → block-at m b ≡ block-by u start-label b
   unfolding block-by start
@@ -681,7 +728,9 @@ module _ (lims : ℕ → Limits) (m : List Block) (sound : Sound lims m) where
     labelled = start-labelled;
     in-a-block = λ x h. let q = where-at x h in rw (number-at (q .0) x (q .1)) (q .1 .below);
     counts-small = λ b h. small b h;
-    blocks-fit = λ b h. let a = ranges-of (lims b) (block-at m b) (sound-at b h .ranges) .few-darts in let c = ap length (darts-same b h) in let n = length-map (members u b) (dart-by u start-label) in omega arith;
+    blocks-fit =
+        λ b h. let a = ranges-of (lims b) (block-at m b) (sound-at b h .ranges) .few-darts in let c = ap length (darts-same b h)
+        in let n = length-map (members u b) (dart-by u start-label) in omega arith;
   }
     where
       small : (b : ℕ) → b < k → u .count b < 2 ^ 32

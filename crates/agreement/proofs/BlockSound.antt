@@ -18,7 +18,9 @@ use Rattle.laws.proofs.Members.{In, in-here, in-there, in-cons, in-eq, any-in, 
 use Rattle.laws.proofs.Tests.{by-cases, and-intro, and-left, and-right, not-equal}
 use Rattle.theory.proofs.BlockLaws.{same-point-self}
 use Rattle.theory.proofs.ImageLaws.{label-back, parts-sound}
-use Rattle.agreement.proofs.Described.{pt, third-by, dart-by, members, block-by, Crossing, Map, Inv, Mine, mine-member, member-mine, darts-by, held-mine, next-at, opposite-at, third-is, point-at, all-mine, in-order-by, kind-free, kind-sewn, kind-critical, by-kind, next-mine, opposite-mine, third-mine, third-level, third-back-linked, crossing-next}
+use Rattle.agreement.proofs.Described.{pt, third-by, dart-by, members, block-by, Crossing, Map, Inv, Mine, mine-member, member-mine, darts-by}
+use Rattle.agreement.proofs.Described.{held-mine, next-at, opposite-at, third-is, point-at, all-mine, in-order-by, kind-free, kind-sewn, kind-critical}
+use Rattle.agreement.proofs.Described.{by-kind, next-mine, opposite-mine, third-mine, third-level, third-back-linked, crossing-next}
 
 module _ (lims : ℕ → Limits) (k : ℕ) (u : State) (label : ℕ → Label) (I : Inv lims k u label) where
   abbrev M : Map u
@@ -92,7 +94,9 @@ module _ (lims : ℕ → Limits) (k : ℕ) (u : State) (label : ℕ → Label) (
         let y = before x h in
         let o = opposite-mine u M b x h in
         and-intro (and-intro (and-intro (and-intro (held-mine u label b (nx u x) (next-mine u M b x h)) (any-mine (λ e. eqb (e .next) x) (y .0) (y .1) (eq-eqb (nx u (y .0)) x (y .2))))
-        (held-mine u label b (op u x) o)) (eq-eqb (opposite-in ds (op u x)) x (opposite-at u label b (op u x) o ∙ M .opposite-twice x (h .here)))) (rw (ne-eqb (op u x) x (M .opposite-other x (h .here))))
+        (held-mine u label b (op u x) o)) (eq-eqb (opposite-in ds (op u x)) x
+        (opposite-at u label b (op u x) o ∙ M .opposite-twice x (h .here)))) (rw (ne-eqb (op u x) x
+        (M .opposite-other x (h .here))))
 
     pub links-by : links-right ds ≡ true
     unfolding links-right

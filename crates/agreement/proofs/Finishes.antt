@@ -125,7 +125,11 @@ module _ (lims : ℕ → Limits) (fit : Fit lims) (k : ℕ) (u : State) (label :
     where
       go : (fs : List (List ℕ)) → shared-with b ≡ fs → nonempty fs ≡ true → update-for (record { number = r .from; counter = u .count (r .from); darts = ds₈ }) (r .to) b fs ≡ some (told-to b q)
       go [] e h = absurd (true≢false (sym h))
-      go (f ∷ fs) e h = unfold update-for in unfold told in (rw (ne-eqb b (r .to) (q .not-to)) (ap (λ (l : List Label). some (record { from = r .from; to = b; block = r .to; labels = l })) (ap (concat-map (least-labels ds₈)) (sym e) ∙ (unfold told in (labels-told b q)))))
+      go (f ∷ fs) e h =
+          unfold update-for in unfold told in
+          (rw (ne-eqb b (r .to) (q .not-to))
+          (ap (λ (l : List Label). some (record { from = r .from; to = b; block = r .to; labels = l }))
+          (ap (concat-map (least-labels ds₈)) (sym e) ∙ (unfold told in (labels-told b q)))))
 
   no-relative : (b : ℕ) → relative b ≡ false → update-for (block-by u label (r .from)) (r .to) b (shared-with b) ≡ none
   no-relative b h = go (shared-with b) refl
@@ -150,7 +154,8 @@ module _ (lims : ℕ → Limits) (fit : Fit lims) (k : ℕ) (u : State) (label :
   updates-told (b ∷ l) = by-cases (relative b)
       (λ h. let q = relative-is b h in
       let ih = updates-told l in
-      rw (h, for-relative b q (and-left (nonempty (shared-with b)) _ h)) ((record { block = b; rel = q; is = refl }, ih .0), told-first b q (map (λ w. w .to) (collect update-to l)) (keep relative l) (ih .1)))
+      rw (h, for-relative b q (and-left (nonempty (shared-with b)) _ h))
+      ((record { block = b; rel = q; is = refl }, ih .0), told-first b q (map (λ w. w .to) (collect update-to l)) (keep relative l) (ih .1)))
       (λ h. rw (h, no-relative b h) (updates-told l))
     where
       told-first : (b : ℕ) (q : IsRelative b) (x y : List ℕ) → x ≡ y → told-to b q .to ∷ x ≡ b ∷ y
@@ -203,9 +208,16 @@ module _ (lims : ℕ → Limits) (fit : Fit lims) (k : ℕ) (u : State) (label :
       there = told-addressee lims fit k u label I r S (t .block) (t .rel .below) (t .rel .not-from) (t .rel .not-to)
 
       answered : redirect (lims (t .block)) (image (block-by u label (t .block))) (framed update (told-to (t .block) (t .rel))) ≡ record { answer = served tt; lent = after-memory (t .block) }
-      answered = redirect-is (lims (t .block)) (fit .block-fits (t .block)) (block-by u label (t .block)) (block-sound lims k u label I (t .block) (t .rel .below)) (framed update (told-to (t .block) (t .rel)))
-          ∙ ap (λ (m : Message). storing (redirect-checks (block-by u label (t .block)) m) (image (block-by u label (t .block))) (redirected-from (block-by u label (t .block)) m)) (told-read lims fit k u label I r S (t .block) (t .rel .below) (t .rel .not-from) (t .rel .not-to))
-          ∙ storing-serves _ (image (block-by u label (t .block))) (redirected (block-by u label (t .block)) (told-to (t .block) (t .rel))) (told-asks lims fit k u label I r S (t .block) (t .rel .below) (t .rel .not-from) (t .rel .not-to))
+      answered =
+          redirect-is (lims (t .block)) (fit .block-fits (t .block)) (block-by u label (t .block))
+          (block-sound lims k u label I (t .block) (t .rel .below)) (framed update (told-to (t .block) (t .rel)))
+          ∙ ap
+          (λ (m : Message). storing (redirect-checks (block-by u label (t .block)) m) (image (block-by u label (t .block)))
+          (redirected-from (block-by u label (t .block)) m))
+          (told-read lims fit k u label I r S (t .block) (t .rel .below) (t .rel .not-from) (t .rel .not-to))
+          ∙ storing-serves _ (image (block-by u label (t .block)))
+          (redirected (block-by u label (t .block)) (told-to (t .block) (t .rel)))
+          (told-asks lims fit k u label I r S (t .block) (t .rel .below) (t .rel .not-from) (t .rel .not-to))
           ∙ ap (λ (c : Block). record { answer = served tt; lent = image c }) (redirected-is lims fit k u label I r S (t .block) (t .rel .below) (t .rel .not-from) (t .rel .not-to))
 
   -- WHAT IS SENT
@@ -218,7 +230,13 @@ module _ (lims : ℕ → Limits) (fit : Fit lims) (k : ℕ) (u : State) (label :
 
   update-framed : (l : List Update) → Each Told l → Each Framed (map (framed update) l)
   update-framed [] e = tt
-  update-framed (w ∷ l) e = (rw (e .0 .is) (framed-is update _ (group-ok _ (told-short lims fit k u label I r S (e .0 .block) (e .0 .rel .below) (e .0 .rel .not-from) (e .0 .rel .not-to)))), update-framed l (e .1))
+  update-framed (w ∷ l) e = (
+    rw (e .0 .is)
+        (framed-is update _
+        (group-ok _
+        (told-short lims fit k u label I r S (e .0 .block) (e .0 .rel .below) (e .0 .rel .not-from) (e .0 .rel .not-to)))),
+    update-framed l (e .1),
+  )
 
   pub cut-again : messages-in (concat (messages (block-by u label (r .from)) (r .to) (r .serial))) ≡ framed transfer (transfer-by lims fit k u label I r S) ∷ map (framed update) updates₈
   cut-again = rw messages-are (messages-back _ (framed-is transfer _ (group-ok _ (transfer-short lims fit k u label I r S)), update-framed updates₈ all-told))
@@ -252,7 +270,10 @@ module _ (lims : ℕ → Limits) (fit : Fit lims) (k : ℕ) (u : State) (label :
   told-relative b h = relative-is b (keep-in relative (tab (λ b. b) 16) b h .1)
 
   last-distinct : distinct (blocks-of last₈) ≡ true
-  last-distinct = subst (λ (l : List ℕ). distinct l ≡ true) (sym last-blocks) (and-intro (from-not (mem (r .from) told-blocks) refl) (ascending-distinct told-blocks (keep-ascending relative (tab (λ b. b) 16) numbers-ascend)))
+  last-distinct =
+      subst (λ (l : List ℕ). distinct l ≡ true) (sym last-blocks)
+      (and-intro (from-not (mem (r .from) told-blocks) refl)
+      (ascending-distinct told-blocks (keep-ascending relative (tab (λ b. b) 16) numbers-ascend)))
     where
       from-not : (o : Bool) → mem (r .from) told-blocks ≡ o → not (mem (r .from) told-blocks) ≡ true
       from-not false e = rw e
@@ -326,7 +347,14 @@ module _ (lims : ℕ → Limits) (fit : Fit lims) (k : ℕ) (u : State) (label :
         ran .changed b (rw received-length below) ∙ by-cases (mem b (r .from ∷ told-blocks)) (λ t. rw (told-or-not ∙ t)) (λ t. rw (told-or-not ∙ t) (stays b below t))
 
     pub memories-after : run-steps lims order received-memories .1 ≡ map image (mesh-by k (state-after lims fit k u label I r S) (labels-after lims fit k u label I r S))
-    memories-after = ext-getD [] _ _ (ran .same-length ∙ received-length ∙ sym (length-map (mesh-by k (state-after lims fit k u label I r S) (labels-after lims fit k u label I r S)) image ∙ length-tab after₈ k)) (λ b h.
+    memories-after =
+        ext-getD [] _ _
+        (ran .same-length ∙ received-length
+        ∙ sym
+        (length-map (mesh-by k (state-after lims fit k u label I r S) (labels-after lims fit k u label I r S)) image
+        ∙ length-tab after₈ k)) (λ b h.
         let below : b < k = rw (ran .same-length ∙ received-length) at h in
-        let there : memory-at (map image (mesh-by k (state-after lims fit k u label I r S) (labels-after lims fit k u label I r S))) b ≡ after-memory b = rw (map-tab image after₈ k) (getD-tab (λ c. image (after₈ c)) k b [] below) in
+        let there : memory-at (map image (mesh-by k (state-after lims fit k u label I r S) (labels-after lims fit k u label I r S))) b ≡ after-memory b =
+        rw (map-tab image after₈ k) (getD-tab (λ c. image (after₈ c)) k b [] below)
+        in
         memory-after b below ∙ sym there)

@@ -169,7 +169,9 @@ module _ (lims : ℕ → Limits) (m : List Block) (sound : Sound lims m) where
       parts-of (lims b) (block-at m b) (subst (λ (n : ℕ). sound-block (lims n) (getD m b no-block) ≡ true) (block-number b h) s)
 
   pub block-links : (b : ℕ) → b < length m → Links (block-at m b .darts)
-  block-links b h = let p = block-is-sound b h in links-from (block-at m b .darts) (ascending-distinct (serials (block-at m b .darts)) (ranges-of (lims b) (block-at m b) (p .ranges) .in-order)) (p .links)
+  block-links b h =
+      let p = block-is-sound b h in links-from (block-at m b .darts)
+      (ascending-distinct (serials (block-at m b .darts)) (ranges-of (lims b) (block-at m b) (p .ranges) .in-order)) (p .links)
 
   pub home-of : (b x : ℕ) → b < length m → In x (serials (block-at m b .darts)) → Home m b x
   home-of = home m distinct-all

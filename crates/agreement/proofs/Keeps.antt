@@ -206,7 +206,8 @@ module _ (lims : ℕ → Limits) (fit : Fit lims) (k : ℕ) (u : State) (label :
         → done lims ms (receive-step r (messages-in sent-bytes)) ≡ record { number = number-of (w .answer); memory = w .lent; sent = [] }
     receive-done w e = ap (λ (l : List (List ℕ)). done lims ms (receive-step r l)) cut-is ∙ one w e
       where
-        one : (w : Result (Unit {0})) → storing arriving (image there) (received there t₀) ≡ w → done lims ms (receive-step r sent-list) ≡ record { number = number-of (w .answer); memory = w .lent; sent = [] }
+        one : (w : Result (Unit {0})) → storing arriving (image there) (received there t₀) ≡ w
+            → done lims ms (receive-step r sent-list) ≡ record { number = number-of (w .answer); memory = w .lent; sent = [] }
         one w e = unfold done in unfold called in (ap (λ (a : Result (Unit {0})). record { number = number-of (a .answer); memory = a .lent; sent = [] }) (receives-is ∙ e))
 
     abbrev fits : Bool
@@ -231,7 +232,9 @@ module _ (lims : ℕ → Limits) (fit : Fit lims) (k : ℕ) (u : State) (label :
           same-outcome = outcome ∙ ap (λ (z : Undivided). z .outcome) (sym un);
           labels-now = label;
           inv-now = rw un I;
-          memories-now = ap (λ (z : Round). z .memories) round-is ∙ ap (set ms (r .to)) (sym memory-there) ∙ set-getD ms (r .to) [] ∙ ap (λ (z : Undivided). map image (mesh-by k (z .state) label)) (sym un);
+          memories-now =
+              ap (λ (z : Round). z .memories) round-is ∙ ap (set ms (r .to)) (sym memory-there) ∙ set-getD ms (r .to) []
+              ∙ ap (λ (z : Undivided). map image (mesh-by k (z .state) label)) (sym un);
           never-unfinished = λ e. not-unfinished 21 (sym outcome ∙ e);
         }
 
@@ -242,9 +245,15 @@ module _ (lims : ℕ → Limits) (fit : Fit lims) (k : ℕ) (u : State) (label :
         let un : undivided lims u r ≡ record { outcome = finished; state = state-after lims fit k u label I r S } =
         undivided-serves lims u r (whole-checks ∙ n0) ∙ ap (λ (z : State). record { outcome = finished; state = z }) (after-is u r) in
         let stored-is = storing-serves arriving (image there) (received there t₀) (arriving-is ∙ n0) in
-        let lent : image (received there t₀) ≡ image (block-by (state-after lims fit k u label I r S) (labels-after lims fit k u label I r S) (r .to)) = ap image (received-is lims fit k u label I r S) in
+        let lent : image (received there t₀) ≡ image (block-by (state-after lims fit k u label I r S) (labels-after lims fit k u label I r S) (r .to)) =
+        ap image (received-is lims fit k u label I r S)
+        in
         let received-done = receive-done _ stored-is ∙ ap (λ (m : List ℕ). record { number = 0; memory = m; sent = [] }) lent in
-        let round-is = round-taken lims ms r outbox order _ send-served refl _ received-done refl _ (finishes lims fit k u label I r S asks order any-order) (memories-after lims fit k u label I r S asks order any-order) in
+        let round-is =
+        round-taken lims ms r outbox order _ send-served refl _ received-done refl _
+        (finishes lims fit k u label I r S asks order any-order)
+        (memories-after lims fit k u label I r S asks order any-order)
+        in
         let outcome : round lims ms r outbox order .outcome ≡ finished = ap (λ (z : Round). z .outcome) round-is in
         record {
           same-outcome = outcome ∙ ap (λ (z : Undivided). z .outcome) (sym un);

@@ -23,7 +23,9 @@ use Rattle.laws.proofs.Tests.{by-cases, and-intro, and-left, and-right, not-equ
 use Rattle.theory.proofs.BlockLaws.{same-point-self}
 use Rattle.theory.proofs.MeshLaws.{parts-mesh}
 use Rattle.agreement.proofs.BlockSound.{code-one, block-sound}
-use Rattle.agreement.proofs.Described.{pt, third-by, dart-by, members, block-by, mesh-by, Crossing, Map, Inv, find-by, Mine, mine-member, member-mine, darts-by, held-by, third-is, point-at, all-mine, found-alone, previous-at, kind-free, kind-sewn, kind-critical, by-kind, next-mine, third-level, crossing-next, crossing-third}
+use Rattle.agreement.proofs.Described.{pt, third-by, dart-by, members, block-by, mesh-by, Crossing, Map, Inv, find-by, Mine, mine-member, member-mine}
+use Rattle.agreement.proofs.Described.{darts-by, held-by, third-is, point-at, all-mine, found-alone, previous-at, kind-free, kind-sewn, kind-critical}
+use Rattle.agreement.proofs.Described.{by-kind, next-mine, third-level, crossing-next, crossing-third}
 
 -- LISTS IN A ROW
 module _ where
@@ -167,7 +169,11 @@ module _ (lims : ℕ → Limits) (k : ℕ) (u : State) (label : ℕ → Label) (
   unfolding dart-by
   two-have x c =
       let ct = crossing-third u M x c in
-      rw (all-darts-are k u label, keep-map (λ d. has-label (label x) (d .third)) (dart-by u label) (all-members k u), length-map (keep (λ z. has-label (label x) (third-by u label z)) (all-members k u)) (dart-by u label))
+      rw (
+        all-darts-are k u label,
+        keep-map (λ d. has-label (label x) (d .third)) (dart-by u label) (all-members k u),
+        length-map (keep (λ z. has-label (label x) (third-by u label z)) (all-members k u)) (dart-by u label),
+      )
       (two-kept (λ z. has-label (label x) (third-by u label z)) x (th u x) (all-members k u) all-distinct (in-all x (c .here)) (in-all (th u x) (ct .here))
       (λ q. M .third-other x (c .here) (sym q)) (has-it x x (key-critical x c)) (has-it x (th u x) (key-across x c))
       (λ z h e. who-has x z c (all-in-map z h) (sym (eqb-true (suc (code (label x))) (label-key (third-by u label z)) e))))
@@ -187,7 +193,8 @@ module _ (lims : ℕ → Limits) (k : ℕ) (u : State) (label : ℕ → Label) (
   unfolding dart-by
   names-back b x h c =
       let ct = crossing-third u M x c in
-      rw (labelled-by x c, kind-critical u label (th u x) (ct .linked) (ct .other)) (eq-eqb b (u .number (th u (th u x))) (sym (h .block) ∙ ap (u .number) (sym (M .third-twice x (c .here) (c .linked)))))
+      rw (labelled-by x c, kind-critical u label (th u x) (ct .linked) (ct .other))
+      (eq-eqb b (u .number (th u (th u x))) (sym (h .block) ∙ ap (u .number) (sym (M .third-twice x (c .here) (c .linked)))))
 
   goes-along : (b x : ℕ) → Mine u b x → (c : Crossing u x)
       → share-label (third-at (darts-by u label b) (nx u x)) (third-at (other-darts x) (previous-in (other-darts x) (labelled (label x) (other-darts x) .serial))) ≡ true
@@ -260,7 +267,10 @@ module _ (lims : ℕ → Limits) (k : ℕ) (u : State) (label : ℕ → Label) (
   unfolding other-with dart-by
   other-one x c [] h m = absurd (true≢false (sym h))
   other-one x c (z ∷ l) h m = by-cases (has-label (label x) (third-by u label z) && not (eqb z x))
-      (λ e. rw e (which (who-has x z c (m z (in-here z l)) (sym (eqb-true (suc (code (label x))) (label-key (third-by u label z)) (and-left _ _ e)))) (eqb-false z x (not-true (eqb z x) (and-right (has-label (label x) (third-by u label z)) _ e)))))
+      (λ e. rw e
+      (which
+      (who-has x z c (m z (in-here z l)) (sym (eqb-true (suc (code (label x))) (label-key (third-by u label z)) (and-left _ _ e))))
+      (eqb-false z x (not-true (eqb z x) (and-right (has-label (label x) (third-by u label z)) _ e)))))
       (λ e. rw e (other-one x c l (in-cons (th u x) z l h (λ q. absurd (here q e)) (λ j. j)) (λ y j. m y (in-there y z l j))))
     where
       which : (x ≡ z) ⊎ (th u x ≡ z) → z ≢ x → z ≡ th u x

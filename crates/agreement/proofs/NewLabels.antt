@@ -130,7 +130,9 @@ module _ (u : State) (M : Map u) (i s : ℕ) (v : List ℕ) (C : Cell u i s v) w
     facing-in = kept-in (nx u) v (C .next-closed) next-one-cell (C .few) (C .in-order) p (Facing u b) (facing-next b) (tells .says) (tells .hears)
 
     -- the start of the face of a dart that faces block b
-    pub start-facing : (x : ℕ) → In x v → Facing u b x → (st : ℕ) × In st (facing-starts p) × In st (face (nx u) v (C .next-closed) next-one-cell (C .few) x) × In x (face (nx u) v (C .next-closed) next-one-cell (C .few) st)
+    pub start-facing : (x : ℕ) → In x v → Facing u b x
+        → (st : ℕ) × In st (facing-starts p) × In st (face (nx u) v (C .next-closed) next-one-cell (C .few) x)
+        × In x (face (nx u) v (C .next-closed) next-one-cell (C .few) st)
     start-facing = start-kept (nx u) v (C .next-closed) next-one-cell (C .few) (C .in-order) p (Facing u b) (facing-next b) (tells .says) (tells .hears)
 
     pub in-facing : (x : ℕ) → In x v → Facing u b x → In x (concat (keep p (faces (nx u) v)))

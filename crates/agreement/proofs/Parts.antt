@@ -20,7 +20,9 @@ use Rattle.model.specs.Departure.{Placed, placed, part2-entry, part3-from, Link
 use Rattle.model.specs.Arrival.{new-darts, placed-faces, face-from, part3-links, part4-links, critical-links, indices-right, points-meet, part2-right, part2-apart, consecutive, label-new, labels-new, parts-right}
 use Rattle.model.specs.Runs.{Request, State, nx, th, cell}
 use Rattle.laws.proofs.Faces.{face-stays, face-trans, face-sym, is-start, start-unique, faces-only, along-face}
-use Rattle.laws.proofs.Members.{In, in-here, in-there, in-cons, in-eq, all-from, keep-in, in-append-left, in-append-right, append-in, distinct-append, distinct-not, distinct-left, distinct-right, distinct-apart, keep-ascending, ascending-distinct, Each, all-map, map-append, map-map, map-in, least-among, distinct-map}
+use Rattle.laws.proofs.Members.{In, in-here, in-there, in-cons, in-eq, all-from, keep-in, in-append-left, in-append-right, append-in, distinct-append}
+use Rattle.laws.proofs.Members.{distinct-not, distinct-left, distinct-right, distinct-apart, keep-ascending, ascending-distinct, Each, all-map, map-append}
+use Rattle.laws.proofs.Members.{map-map, map-in, least-among, distinct-map}
 use Rattle.laws.proofs.Tests.{by-cases, and-intro, and-left, and-right, not-equal}
 use Rattle.theory.proofs.BlockLaws.{same-point-self}
 use Rattle.theory.proofs.ImageLaws.{label-back}
@@ -60,7 +62,9 @@ placed-ascend n (f ∷ fs) e = and-intro (above (n + length f) fs (let m = e .0 
 kept-mem : (p : Placed → Bool) (l : List Placed) (i : ℕ) → In i (map (λ q. q .at) (keep p l)) → In i (map (λ q. q .at) l)
 kept-mem p [] i h = h
 kept-mem p (q ∷ l) i h = by-cases (p q)
-    (λ e. in-cons i (q .at) (map (λ q. q .at) (keep p l)) (rw e at h) (λ s. in-eq i (q .at) (q .at ∷ map (λ q. q .at) l) s (in-here (q .at) (map (λ q. q .at) l))) (λ s. in-there i (q .at) (map (λ q. q .at) l) (kept-mem p l i s)))
+    (λ e. in-cons i (q .at) (map (λ q. q .at) (keep p l)) (rw e at h)
+    (λ s. in-eq i (q .at) (q .at ∷ map (λ q. q .at) l) s (in-here (q .at) (map (λ q. q .at) l)))
+    (λ s. in-there i (q .at) (map (λ q. q .at) l) (kept-mem p l i s)))
     (λ e. in-there i (q .at) (map (λ q. q .at) l) (kept-mem p l i (rw e at h)))
 
 -- the face of an index that is kept
@@ -283,7 +287,8 @@ module _ (lims : ℕ → Limits) (fit : Fit lims) (k : ℕ) (u : State) (label :
       let back = M₅ .third-twice x d t in
       let here : dart-at (new-darts t₅) x .point ≡ pt u x = ap (λ (e : Dart). e .point) (new-at lims fit k u label I r S x h) in
       let after-here : dart-at (new-darts t₅) (next-in (new-darts t₅) x) .point ≡ pt u (nx u x) =
-      ap (λ (z : ℕ). dart-at (new-darts t₅) z .point) (ap (λ (e : Dart). e .next) (new-at lims fit k u label I r S x h)) ∙ ap (λ (e : Dart). e .point) (new-at lims fit k u label I r S (nx u x) (C₅ .next-closed x h)) in
+      ap (λ (z : ℕ). dart-at (new-darts t₅) z .point) (ap (λ (e : Dart). e .next) (new-at lims fit k u label I r S x h))
+      ∙ ap (λ (e : Dart). e .point) (new-at lims fit k u label I r S (nx u x) (C₅ .next-closed x h)) in
       let after-there : dart-at es₅ (next-in es₅ (th u x)) .point ≡ pt u (nx u (th u x)) =
       ap (λ (z : ℕ). dart-at es₅ z .point) (next-at u label (r .to) (th u x) y) ∙ point-at u label (r .to) (nx u (th u x)) (next-mine u M₅ (r .to) (th u x) y) in
       and-intro (same-point-self _ _ (here ∙ M₅ .point-third x d t ∙ sym after-there))
@@ -297,7 +302,9 @@ module _ (lims : ℕ → Limits) (fit : Fit lims) (k : ℕ) (u : State) (label :
   names-sender x m =
       let d = C₅ .mine x (m .in-cell) .here in
       let ct = crossing-third u M₅ x (meeting-crossing lims fit k u label I r S x m) in
-      rw (kind-critical u label (th u x) (ct .linked) (ct .other)) (eq-eqb (r .from) (u .number (th u (th u x))) (sym (ap (u .number) (M₅ .third-twice x d (m .facing .linked)) ∙ C₅ .mine x (m .in-cell) .block)))
+      rw (kind-critical u label (th u x) (ct .linked) (ct .other))
+      (eq-eqb (r .from) (u .number (th u (th u x)))
+      (sym (ap (u .number) (M₅ .third-twice x d (m .facing .linked)) ∙ C₅ .mine x (m .in-cell) .block)))
 
   face2 : (p : Placed) → face-from t₅ (p .at) ≡ p .face → (q : Face₅ (p .face)) → Meets₅ (q .from-dart) → part2-right es₅ t₅ (record { label = label (q .from-dart); index = p .at }) ≡ true
   unfolding part2-right dart-by transfer-by
@@ -324,7 +331,10 @@ module _ (lims : ℕ → Limits) (fit : Fit lims) (k : ℕ) (u : State) (label :
   abbrev all-starts : List ℕ
   all-starts = keep (λ x. all (leb x) (cycle (nx u) x)) v₅
 
-  labels2 : (n : ℕ) (l : List ℕ) → map (λ m. m .label) (collect (λ p. part2-entry (r .to) (p .at) (third-by u label (start-of (p .face)))) (placed n (map (cycle (nx u)) l))) ≡ map label (keep (λ x. is2 (third-by u label x)) l)
+  labels2 : (n : ℕ) (l : List ℕ)
+      → map (λ m. m .label)
+      (collect (λ p. part2-entry (r .to) (p .at) (third-by u label (start-of (p .face)))) (placed n (map (cycle (nx u)) l)))
+      ≡ map label (keep (λ x. is2 (third-by u label x)) l)
   unfolding placed cycle around
   labels2 n [] = refl
   labels2 n (x ∷ l) = by-kind u label x
@@ -358,7 +368,10 @@ module _ (lims : ℕ → Limits) (fit : Fit lims) (k : ℕ) (u : State) (label :
 
   met-least-is : (x : ℕ) → Meets₅ x → met-least (label x) ≡ least (cycle (nx u) (th u x))
   unfolding dart-by
-  met-least-is x m = ap least (ap (λ (d : Dart). cycle (next-in es₅) (d .serial)) (labelled-there lims fit k u label I r S x m) ∙ block-face-is lims fit k u label I (r .to) (S .to-below) (th u x) (across-there lims fit k u label I r S x m))
+  met-least-is x m =
+      ap least
+      (ap (λ (d : Dart). cycle (next-in es₅) (d .serial)) (labelled-there lims fit k u label I r S x m)
+      ∙ block-face-is lims fit k u label I (r .to) (S .to-below) (th u x) (across-there lims fit k u label I r S x m))
 
   -- faces that meet one face are one face
   met-one : (x y : ℕ) → In x starts2 → In y starts2 → met-least (label x) ≡ met-least (label y) → x ≡ y
@@ -372,7 +385,10 @@ module _ (lims : ℕ → Limits) (fit : Fit lims) (k : ℕ) (u : State) (label :
       -- the least dart across is in both faces across, so its third link is in both faces here
       let w = least (cycle (nx u) (th u x)) in
       let wx : In w (cycle (nx u) (th u x)) = least-among (cycle (nx u) (th u x)) (th u x) (block-face-self lims fit k u label I (r .to) (S .to-below) (th u x) ax) in
-      let wy : In w (cycle (nx u) (th u y)) = in-eq w (least (cycle (nx u) (th u y))) (cycle (nx u) (th u y)) same (least-among (cycle (nx u) (th u y)) (th u y) (block-face-self lims fit k u label I (r .to) (S .to-below) (th u y) ay)) in
+      let wy : In w (cycle (nx u) (th u y)) =
+      in-eq w (least (cycle (nx u) (th u y))) (cycle (nx u) (th u y)) same
+      (least-among (cycle (nx u) (th u y)) (th u y) (block-face-self lims fit k u label I (r .to) (S .to-below) (th u y) ay))
+      in
       let zx = back x (a .0) w wx in
       let zy = back y (b .0) w wy in
       start-unique (nx u) v₅ (C₅ .next-closed) one₅ (C₅ .few) x y (a .0 .in-cell) (b .0 .in-cell) (a .1) (b .1)
@@ -414,7 +430,8 @@ module _ (lims : ℕ → Limits) (fit : Fit lims) (k : ℕ) (u : State) (label :
   collect-append [] js = refl
   collect-append (x ∷ ks) js = go (link-label x) (collect-append ks js)
     where
-      go : (o : Option Label) → collect link-label (ks ++ js) ≡ collect link-label ks ++ collect link-label js → more o (collect link-label (ks ++ js)) ≡ more o (collect link-label ks) ++ collect link-label js
+      go : (o : Option Label) → collect link-label (ks ++ js) ≡ collect link-label ks ++ collect link-label js
+          → more o (collect link-label (ks ++ js)) ≡ more o (collect link-label ks) ++ collect link-label js
       go none e = e
       go (some l) e = ap (λ (t : List Label). l ∷ t) e
 
@@ -430,7 +447,12 @@ module _ (lims : ℕ → Limits) (fit : Fit lims) (k : ℕ) (u : State) (label :
   unfolding label-faces concat fresh-of
   labels-lines c [] d h = refl
   labels-lines c (f ∷ gs) d h = collect-append (label-links (λ x. x) (r .from) (r .from) c 0 f) (label-faces (λ x. x) (r .from) (r .from) (suc c) gs)
-      ∙ rw (labels-line c 0 f (distinct-left f (concat gs) d) (λ x m. h x (in-append-left x f (concat gs) m) ∙ rw (m, zero-add (index-of x f))), labels-lines (suc c) gs (distinct-right f (concat gs) d) (λ x m. h x (in-append-right x f (concat gs) m) ∙ rw (distinct-apart f (concat gs) d x m)))
+      ∙ rw (
+        labels-line c 0 f (distinct-left f (concat gs) d)
+            (λ x m. h x (in-append-left x f (concat gs) m) ∙ rw (m, zero-add (index-of x f))),
+        labels-lines (suc c) gs (distinct-right f (concat gs) d)
+            (λ x m. h x (in-append-right x f (concat gs) m) ∙ rw (distinct-apart f (concat gs) d x m)),
+      )
       (sym (map-append label₅ f (concat gs)))
 
   kept-line : (o : ℕ) (f : List ℕ) → ((x : ℕ) → In x f → label₅ x ≡ label x) → collect link-label (kept-links lims fit k u label I r S o f) ≡ map label₅ f
@@ -450,7 +472,10 @@ module _ (lims : ℕ → Limits) (fit : Fit lims) (k : ℕ) (u : State) (label :
   unfolding concat
   labels4 [] a f = refl
   labels4 (p ∷ ps) a f = by-start lims fit k u label I r S {A = Unit {0}}
-      (λ x w. collect link-label (concat-map (part4-links t₅) (more (part4-by lims fit k u label I r S p x) (collect (λ p. part4-by lims fit k u label I r S p (third-by u label (start-of (p .face)))) ps)))
+      (λ x w. collect link-label
+      (concat-map (part4-links t₅)
+      (more (part4-by lims fit k u label I r S p x)
+      (collect (λ p. part4-by lims fit k u label I r S p (third-by u label (start-of (p .face)))) ps)))
       ≡ map label₅ (concat (map (λ p. p .face) (cond (is4 x) (p ∷ keep (λ p. in4 (p .face)) ps) (keep (λ p. in4 (p .face)) ps))))) (p .face) (f .0) tt
       (λ e. labels4 ps (a .1) (f .1))
       (λ t e. labels4 ps (a .1) (f .1))
@@ -586,7 +611,9 @@ module _ (lims : ℕ → Limits) (fit : Fit lims) (k : ℕ) (u : State) (label :
       → all (λ m. not (eqb (m .other) (r .from)) && not (eqb (m .other) (r .to))) (collect (λ p. part4-by lims fit k u label I r S p (third-by u label (start-of (p .face)))) ps) ≡ true
   ends4 [] f = refl
   ends4 (p ∷ ps) f = by-start lims fit k u label I r S {A = Unit {0}}
-      (λ x w. all (λ m. not (eqb (m .other) (r .from)) && not (eqb (m .other) (r .to))) (more (part4-by lims fit k u label I r S p x) (collect (λ p. part4-by lims fit k u label I r S p (third-by u label (start-of (p .face)))) ps)) ≡ true) (p .face) (f .0) tt
+      (λ x w. all (λ m. not (eqb (m .other) (r .from)) && not (eqb (m .other) (r .to)))
+      (more (part4-by lims fit k u label I r S p x)
+      (collect (λ p. part4-by lims fit k u label I r S p (third-by u label (start-of (p .face)))) ps)) ≡ true) (p .face) (f .0) tt
       (λ e. ends4 ps (f .1))
       (λ t e. ends4 ps (f .1))
       (λ t e. by-cases (eqb (u .number (th u (f .0 .from-dart))) (r .to))

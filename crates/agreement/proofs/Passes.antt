@@ -48,7 +48,10 @@ pairs-from f (x ∷ l) d e o = and-intro (and-intro (not-equal (f x .0) (f x .1)
     go false h = rw h
     go true h =
         let q = found l (sym (any-map (same-pair (f x)) f l) ∙ h) in
-        let s = o x (q .0) (in-here x l) (in-there (q .0) x l (q .1)) (eqb-true _ _ (and-left (eqb (f x .0) (f (q .0) .0)) _ (q .2))) (eqb-true _ _ (and-right (eqb (f x .0) (f (q .0) .0)) _ (q .2))) in
+        let s =
+        o x (q .0) (in-here x l) (in-there (q .0) x l (q .1)) (eqb-true _ _ (and-left (eqb (f x .0) (f (q .0) .0)) _ (q .2)))
+        (eqb-true _ _ (and-right (eqb (f x .0) (f (q .0) .0)) _ (q .2)))
+        in
         absurd (true≢false (sym (in-eq x (q .0) l s (q .1)) ∙ not-true (mem x l) (and-left _ _ d)))
 
 pub pair-ends : (f : ℕ → ℕ × ℕ) (l : List ℕ) → pairs-once (map f l) ≡ true → (x : ℕ) → In x l → f x .0 ≢ f x .1
@@ -141,7 +144,10 @@ module _ (lims : ℕ → Limits) (fit : Fit lims) (k : ℕ) (u : State) (label :
 
   points-finite : all finite (t₄ .points) ≡ true
   unfolding transfer-by
-  points-finite = all-map finite (pt u) (vertices (nx u) (op u) order₄) ∙ all-from (λ w. finite (pt u w)) (vertices (nx u) (op u) order₄) (λ w m. M₄ .point-finite w (C₄ .mine w (vertices-in w m) .here))
+  points-finite =
+      all-map finite (pt u) (vertices (nx u) (op u) order₄)
+      ∙ all-from (λ w. finite (pt u w)) (vertices (nx u) (op u) order₄)
+      (λ w m. M₄ .point-finite w (C₄ .mine w (vertices-in w m) .here))
 
   pub eighteen : serials-new es₄ t₄ ≡ true
   unfolding serials-new
@@ -159,7 +165,11 @@ module _ (lims : ℕ → Limits) (fit : Fit lims) (k : ℕ) (u : State) (label :
 
   starts-ascend : ascending (map start-of F₄) ≡ true
   unfolding faces cycle around
-  starts-ascend = rw (map-map (cycle (nx u)) start-of (keep (λ x. all (leb x) (cycle (nx u) x)) v₄), starts-self (keep (λ x. all (leb x) (cycle (nx u) x)) v₄)) (keep-ascending (λ x. all (leb x) (cycle (nx u) x)) v₄ (C₄ .in-order))
+  starts-ascend =
+      rw (
+        map-map (cycle (nx u)) start-of (keep (λ x. all (leb x) (cycle (nx u) x)) v₄),
+        starts-self (keep (λ x. all (leb x) (cycle (nx u) x)) v₄),
+      ) (keep-ascending (λ x. all (leb x) (cycle (nx u) x)) v₄ (C₄ .in-order))
     where
       starts-self : (l : List ℕ) → map (λ x. start-of (cycle (nx u) x)) l ≡ l
       starts-self [] = refl
@@ -185,11 +195,15 @@ module _ (lims : ℕ → Limits) (fit : Fit lims) (k : ℕ) (u : State) (label :
   pairs-numbered : pairs-once (map (λ x. (num x, num (nx u x))) order₄) ≡ true
   pairs-numbered = pairs-from (λ x. (num x, num (nx u x))) order₄ (order-distinct lims fit k u label I r S)
       (λ x m e. ends-differ x (in-v x m) (number-tells x (nx u x) (in-v x m) (C₄ .next-closed x (in-v x m)) e))
-      (λ x y m n a b. once-only lims fit k u label I r S x y (in-v x m) (in-v y n) (number-tells x y (in-v x m) (in-v y n) a) (number-tells (nx u x) (nx u y) (C₄ .next-closed x (in-v x m)) (C₄ .next-closed y (in-v y n)) b))
+      (λ x y m n a b. once-only lims fit k u label I r S x y (in-v x m) (in-v y n) (number-tells x y (in-v x m) (in-v y n) a)
+      (number-tells (nx u x) (nx u y) (C₄ .next-closed x (in-v x m)) (C₄ .next-closed y (in-v y n)) b))
 
   reverse-present : (x : ℕ) → In x v₄ → any (reverses (side-of (nx u) num x)) (map (side-of (nx u) num) order₄) ≡ true
   unfolding vertex-number
-  reverse-present x h = any-map (reverses (side-of (nx u) num x)) (side-of (nx u) num) order₄ ∙ any-in (λ y. reverses (side-of (nx u) num x) (side-of (nx u) num y)) order₄ (op u x) (v-in (op u x) (C₄ .opposite-closed x h))
+  reverse-present x h =
+      any-map (reverses (side-of (nx u) num x)) (side-of (nx u) num) order₄
+      ∙ any-in (λ y. reverses (side-of (nx u) num x) (side-of (nx u) num y)) order₄ (op u x)
+      (v-in (op u x) (C₄ .opposite-closed x h))
       (reverse-there (nx u) num (op u) v₄ (C₄ .opposite-closed)
       (λ y m. ap (λ (w : ℕ). index-of w (vertices (nx u) (op u) order₄)) (vertex-opposite u M₄ (r .from) (r .serial) v₄ C₄ y m))
       (λ y m. ap (λ (w : ℕ). index-of w (vertices (nx u) (op u) order₄)) (vertex-turn u M₄ (r .from) (r .serial) v₄ C₄ y m))
@@ -243,7 +257,9 @@ module _ (lims : ℕ → Limits) (fit : Fit lims) (k : ℕ) (u : State) (label :
     one-all y h = reached-from lims fit k u label I (r .from) (S .from-below) (r .serial) (S .start-mine) (λ z. In z W) s-there (W-is .closed-f) (W-is .closed-g) y h
 
   volume-new : (x₀ : ℕ) → In x₀ v₄ → volume (next-in new₄) (opposite-in new₄) x₀ ≡ volume (nx u) (op u) x₀
-  volume-new x₀ h = volume-cong (next-in new₄) (nx u) (λ x. In x v₄) (λ x m. rw (new-next x m) (C₄ .next-closed x m)) new-next (opposite-in new₄) (op u) (λ x m. rw (new-opposite x m) (C₄ .opposite-closed x m)) new-opposite x₀ h
+  volume-new x₀ h =
+      volume-cong (next-in new₄) (nx u) (λ x. In x v₄) (λ x m. rw (new-next x m) (C₄ .next-closed x m)) new-next
+      (opposite-in new₄) (op u) (λ x m. rw (new-opposite x m) (C₄ .opposite-closed x m)) new-opposite x₀ h
 
   first-in : In (first-serial (sides t₄)) v₄
   first-in = rw sides-are (go order₄ in-v (v-in (r .serial) (C₄ .has-start)))
@@ -258,7 +274,9 @@ module _ (lims : ℕ → Limits) (fit : Fit lims) (k : ℕ) (u : State) (label :
 
   -- numbering
   new-vertex : (x : ℕ) → In x v₄ → vertex (next-in new₄) (opposite-in new₄) x ≡ vertex (nx u) (op u) x
-  new-vertex = vertex-cong (next-in new₄) (nx u) (opposite-in new₄) (op u) (λ x. In x v₄) (λ x m. rw (new-next x m) (C₄ .next-closed x m)) (λ x m. rw (new-opposite x m) (C₄ .opposite-closed x m)) new-next new-opposite
+  new-vertex =
+      vertex-cong (next-in new₄) (nx u) (opposite-in new₄) (op u) (λ x. In x v₄) (λ x m. rw (new-next x m) (C₄ .next-closed x m))
+      (λ x m. rw (new-opposite x m) (C₄ .opposite-closed x m)) new-next new-opposite
 
   new-vertices : vertices (next-in new₄) (opposite-in new₄) order₄ ≡ vertices (nx u) (op u) order₄
   unfolding vertices

@@ -123,7 +123,8 @@ insert-in : (d : Dart) (l : List Dart) (x : ℕ) → In x (serials (insert (λ e
 insert-in d [] x h = in-cons x (d .serial) [] h (λ e. inl e) (λ k. inr k)
 insert-in d (e ∷ l) x h = by-cases (ltb (d .serial) (e .serial))
     (λ t. in-cons x (d .serial) (e .serial ∷ serials l) (rw t at h) (λ q. inl q) (λ q. inr q))
-    (λ t. in-cons x (e .serial) (serials (insert (λ e. e .serial) d l)) (rw t at h) (λ q. inr (in-eq x (e .serial) (e .serial ∷ serials l) q (in-here (e .serial) (serials l)))) (λ q. on (insert-in d l x q)))
+    (λ t. in-cons x (e .serial) (serials (insert (λ e. e .serial) d l)) (rw t at h)
+    (λ q. inr (in-eq x (e .serial) (e .serial ∷ serials l) q (in-here (e .serial) (serials l)))) (λ q. on (insert-in d l x q)))
   where
     on : (x ≡ d .serial) ⊎ In x (serials l) → (x ≡ d .serial) ⊎ In x (e .serial ∷ serials l)
     on (inl q) = inl q

@@ -114,7 +114,12 @@ module _ (lims : ℕ → Limits) (fit : Fit lims) (k : ℕ) (u : State) (label :
       let on = M₀ .third-goes-on y (my .here) (q .linked) in
       let my' = block-face-mine lims fit k u label I b (I .in-a-block (th u z) third) (th u z) (th u y) mine (q .there) in
       let w : Mine u b (th u (nx u y)) = record { here = M₀ .third-in-map (nx u y) (M₀ .next-in-map y (my .here)) on; block = third-level u M₀ y (my .here) (q .linked) ∙ my' .block } in
-      record { linked = on; there = block-face-back lims fit k u label I b (I .in-a-block (th u z) third) (th u z) (th u (nx u y)) mine w (in-eq (nx u (th u (nx u y))) (th u y) (cycle (nx u) (th u z)) (M₀ .third-next y (my .here) (q .linked)) (q .there)) })
+      record {
+        linked =
+            on;
+        there = block-face-back lims fit k u label I b (I .in-a-block (th u z) third) (th u z) (th u (nx u y)) mine w
+            (in-eq (nx u (th u (nx u y))) (th u y) (cycle (nx u) (th u z)) (M₀ .third-next y (my .here) (q .linked)) (q .there));
+      })
       z x (record { here = h; block = refl }) (record { linked = t; there = block-face-self lims fit k u label I b (I .in-a-block (th u z) third) (th u z) mine }) m
 
 -- A RELATIVE: a block that is neither end
@@ -236,14 +241,19 @@ module _ (lims : ℕ → Limits) (fit : Fit lims) (k : ℕ) (u : State) (label :
           let hs = there st (in-here st l) .0 in
           let hy = there y (in-there y st l m) .0 in
           start-unique (nx u) v₁ (C₁ .next-closed) (next-one-cell u M₁ (r .from) (r .serial) v₁ C₁) (C₁ .few) st y hs hy (starts st (in-here st l)) (starts y (in-there y st l m))
-          (face-trans (nx u) v₁ (C₁ .next-closed) (next-one-cell u M₁ (r .from) (r .serial) v₁ C₁) (C₁ .few) st z y hs (unfold cycle in p) (face-sym (nx u) v₁ (C₁ .next-closed) (next-one-cell u M₁ (r .from) (r .serial) v₁ C₁) (C₁ .few) y z hy (unfold cycle in q)))
+          (face-trans (nx u) v₁ (C₁ .next-closed) (next-one-cell u M₁ (r .from) (r .serial) v₁ C₁) (C₁ .few) st z y hs
+          (unfold cycle in p)
+          (face-sym (nx u) v₁ (C₁ .next-closed) (next-one-cell u M₁ (r .from) (r .serial) v₁ C₁) (C₁ .few) y z hy
+          (unfold cycle in q)))
 
       go : Chosen l → (z : ℕ) × Least st z × (least-labels ds (face-of st) ≡ label z ∷ []) → Chosen (st ∷ l)
       go c p = record {
         picked-darts = p .0 ∷ c .picked-darts;
         labels-are = rw (p .2, c .labels-are);
         each = λ z m. in-cons z (p .0) (c .picked-darts) m (λ q. (st, in-here st l, rw q (p .1))) (λ q. let w = c .each z q in (w .0, in-there (w .0) st l (w .1), w .2));
-        every-face = λ x m. in-cons x st l m (λ q. (p .0, in-here (p .0) (c .picked-darts), rw q (p .1))) (λ q. let w = c .every-face x q in (w .0, in-there (w .0) (p .0) (c .picked-darts) (w .1), w .2));
+        every-face =
+            λ x m. in-cons x st l m (λ q. (p .0, in-here (p .0) (c .picked-darts), rw q (p .1)))
+            (λ q. let w = c .every-face x q in (w .0, in-there (w .0) (p .0) (c .picked-darts) (w .1), w .2));
         apart = and-intro (new (mem (p .0) (c .picked-darts)) refl) (c .apart);
       }
         where
@@ -331,7 +341,8 @@ module _ (lims : ℕ → Limits) (fit : Fit lims) (k : ℕ) (u : State) (label :
   found-face [] y m e = true≢false (sym m)
   found-face (x ∷ f) y m e = by-cases (eqb y x) (λ t. Option·none-ne-some _ (sym (rw t at e))) (λ t. found-face f y (rw t at m) (rw t at e))
 
-  found-all-links : (zs : List ℕ) → ((z : ℕ) → In z zs → In z v₁ × Facing u b z) → (z y : ℕ) → In z zs → In y (face-of (th u z)) → find (λ l. l .dart) y (concat-map links-for (map label zs)) ≡ none → ⊥
+  found-all-links : (zs : List ℕ) → ((z : ℕ) → In z zs → In z v₁ × Facing u b z) → (z y : ℕ) → In z zs → In y (face-of (th u z))
+      → find (λ l. l .dart) y (concat-map links-for (map label zs)) ≡ none → ⊥
   found-all-links [] h z y m p e = true≢false (sym m)
   found-all-links (w ∷ zs) h z y m p e =
       let q = find-append y (links-for (label w)) (concat-map links-for (map label zs)) e in

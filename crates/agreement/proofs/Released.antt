@@ -102,7 +102,9 @@ module _ (lims : ℕ → Limits) (fit : Fit lims) (k : ℕ) (u : State) (label :
       let c = cut-of x h in
       let d = C₀ .mine x (c .0) .here in
       let back = M₀ .third-twice x d (c .1 .linked) in
-      ap third-after (across-is x h) ∙ third-cut (th u x) (M₀ .third-in-map x d (c .1 .linked)) (S .leaves x (c .0)) (in-eq (th u (th u x)) x v₀ back (c .0)) (third-back-linked u M₀ x d (c .1 .linked)) (c .1 .block)
+      ap third-after (across-is x h)
+      ∙ third-cut (th u x) (M₀ .third-in-map x d (c .1 .linked)) (S .leaves x (c .0)) (in-eq (th u (th u x)) x v₀ back (c .0))
+      (third-back-linked u M₀ x d (c .1 .linked)) (c .1 .block)
       ∙ ap (λ (y : ℕ). critical (r .to) (new-label lims fit k u label I r S y)) back
 
   abbrev links : List Link
@@ -115,14 +117,21 @@ module _ (lims : ℕ → Limits) (fit : Fit lims) (k : ℕ) (u : State) (label :
       (λ z. let t = eqb-false (th u x) 0 z in
       let back = M₀ .third-twice x (m .here) t in
       let here = M₀ .third-in-map x (m .here) t in
-      let there : In (th u x) (concat fs₀) = in-cut u M₀ (r .from) (r .serial) v₀ C₀ (S .leaves) (th u x) b (record { linked = third-back-linked u M₀ x (m .here) t; block = ap (u .number) back ∙ m .block }) in
+      let there : In (th u x) (concat fs₀) =
+      in-cut u M₀ (r .from) (r .serial) v₀ C₀ (S .leaves) (th u x) b
+      (record { linked = third-back-linked u M₀ x (m .here) t; block = ap (u .number) back ∙ m .block })
+      in
       absurd (faces-reach across third-after (r .to) (r .from) (u .count (r .from)) fs₀ (th u x) there (rw (across-is (th u x) there, back) f))))
       (λ b. sym (third-stays x a b))
 
   left-dart : (x : ℕ) → Mine u (r .from) x → mem x v₀ ≡ false → relink links (dart-by u label x) ≡ dart-by (state-after lims fit k u label I r S) (labels-after lims fit k u label I r S) x
   unfolding relink dart-by
   left-dart x m a =
-      let q = relink-gives links third-after (faces-agree across third-after (r .to) (r .from) (u .count (r .from)) fs₀ (cut-distinct u M₀ (r .from) (r .serial) v₀ C₀ (S .leaves)) gives-across) (dart-by u label x) (left-third x m a) in
+      let q =
+      relink-gives links third-after
+      (faces-agree across third-after (r .to) (r .from) (u .count (r .from)) fs₀
+      (cut-distinct u M₀ (r .from) (r .serial) v₀ C₀ (S .leaves)) gives-across) (dart-by u label x) (left-third x m a)
+      in
       λ n. record { serial = x; next = nx u x; opposite = op u x; third = q n; point = pt u x }
 
   members-left : members (state-after lims fit k u label I r S) (r .from) ≡ keep (λ x. not (mem x v₀)) (members u (r .from))
@@ -134,7 +143,9 @@ module _ (lims : ℕ → Limits) (fit : Fit lims) (k : ℕ) (u : State) (label :
           (λ a. rw (a, ne-eqb (r .to) (r .from) (λ q. S .apart-blocks (sym q)), eq-eqb (u .number x) (r .from) (C₀ .mine x a .block)) (rw a (go l)))
           (λ a. rw a (by-cases (eqb (u .number x) (r .from)) (λ b. rw b (rw a (ap (λ (t : List ℕ). x ∷ t) (go l)))) (λ b. rw b (go l))))
 
-  darts-left : map (relink links) (keep (λ d. not (mem (d .serial) v₀)) ds) ≡ map (dart-by (state-after lims fit k u label I r S) (labels-after lims fit k u label I r S)) (members (state-after lims fit k u label I r S) (r .from))
+  darts-left : map (relink links) (keep (λ d. not (mem (d .serial) v₀)) ds)
+      ≡ map (dart-by (state-after lims fit k u label I r S) (labels-after lims fit k u label I r S))
+      (members (state-after lims fit k u label I r S) (r .from))
   unfolding dart-by
   darts-left = ap (map (relink links)) (keep-map (λ d. not (mem (d .serial) v₀)) (dart-by u label) (members u (r .from)))
       ∙ map-map (dart-by u label) (relink links) (keep (λ x. not (mem x v₀)) (members u (r .from)))

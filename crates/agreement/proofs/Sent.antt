@@ -67,7 +67,10 @@ module _ (lims : ℕ → Limits) (fit : Fit lims) (k : ℕ) (u : State) (label :
     pub starts-face : is-start (nx u) v₂ (C₂ .next-closed) (next-one-cell u M₂ (r .from) (r .serial) v₂ C₂) (C₂ .few) from-dart ≡ true
     pub is-cycle : f ≡ cycle (nx u) from-dart
 
-  faces-each : (l : List ℕ) → ((x : ℕ) → In x l → In x v₂ × (is-start (nx u) v₂ (C₂ .next-closed) (next-one-cell u M₂ (r .from) (r .serial) v₂ C₂) (C₂ .few) x ≡ true)) → Each IsFace (map (cycle (nx u)) l)
+  faces-each : (l : List ℕ)
+      → ((x : ℕ) → In x l
+      → In x v₂ × (is-start (nx u) v₂ (C₂ .next-closed) (next-one-cell u M₂ (r .from) (r .serial) v₂ C₂) (C₂ .few) x ≡ true))
+      → Each IsFace (map (cycle (nx u)) l)
   faces-each [] h = tt
   faces-each (x ∷ l) h = (record { from-dart = x; in-cell = h x (in-here x l) .0; starts-face = h x (in-here x l) .1; is-cycle = refl }, faces-each l (λ y m. h y (in-there y x l m)))
 
@@ -92,7 +95,9 @@ module _ (lims : ℕ → Limits) (fit : Fit lims) (k : ℕ) (u : State) (label :
   -- what faces a block at its start does so all along
   pub face-faces : (f : List ℕ) (q : IsFace f) (b : ℕ) → Facing u b (q .from-dart) → (x : ℕ) → In x f → Facing u b x
   unfolding cycle
-  face-faces f q b c x m = along-face (nx u) v₂ (C₂ .next-closed) (next-one-cell u M₂ (r .from) (r .serial) v₂ C₂) (C₂ .few) (Facing u b) (facing-next u M₂ (r .from) (r .serial) v₂ C₂ b) (q .from-dart) x (q .in-cell) c (rw (q .is-cycle) at m)
+  face-faces f q b c x m =
+      along-face (nx u) v₂ (C₂ .next-closed) (next-one-cell u M₂ (r .from) (r .serial) v₂ C₂) (C₂ .few) (Facing u b)
+      (facing-next u M₂ (r .from) (r .serial) v₂ C₂ b) (q .from-dart) x (q .in-cell) c (rw (q .is-cycle) at m)
 
   -- THE TRANSFER
   abbrev pub part4-by : Placed → Third → Option Part4
@@ -139,7 +144,12 @@ module _ (lims : ℕ → Limits) (fit : Fit lims) (k : ℕ) (u : State) (label :
   faces-numbered : (l : List (List ℕ)) → Each IsFace l
       → map (λ f. map (λ x. record { vertex = vertex-number (next-in ds) (opposite-in ds) cell-order x; serial = x }) f) l ≡ map (λ f. map (face-dart-of (nx u) number-in) f) l
   faces-numbered [] e = refl
-  faces-numbered (f ∷ l) e = rw (map-cong _ (face-dart-of (nx u) number-in) f (λ x m. ap (λ (n : ℕ). record { vertex = n; serial = x }) (number-same x (in-face-cell f (e .0) x m))), faces-numbered l (e .1))
+  faces-numbered (f ∷ l) e =
+      rw (
+        map-cong _ (face-dart-of (nx u) number-in) f
+            (λ x m. ap (λ (n : ℕ). record { vertex = n; serial = x }) (number-same x (in-face-cell f (e .0) x m))),
+        faces-numbered l (e .1),
+      )
 
   inner-same : (p : Placed) → IsFace (p .face) → is-sewn-out-of v₂ (third-at ds (start-of (p .face))) ≡ is-inner-face (p .face)
   inner-same p q = out-same lims fit k u label I (r .from) (S .from-below) (r .serial) (S .start-mine) (p .face) (in-eq (start-of (p .face)) (q .from-dart) v₂ (start-is (p .face) q) (q .in-cell))
@@ -166,7 +176,10 @@ module _ (lims : ℕ → Limits) (fit : Fit lims) (k : ℕ) (u : State) (label :
         to = r .to;
         points = (ap (map (λ x. dart-at ds x .point)) vertices-same ∙ points-same) n;
         faces = faces-numbered cell-faces all-faces n;
-        part2 = collect-cong (λ p. IsFace (p .face)) _ _ (placed 0 cell-faces) placed-faces-each (λ p q. ap (part2-entry (r .to) (p .at)) (start-third (p .face) q ∙ ap (third-by u label) (sym (start-is (p .face) q)))) n;
+        part2 =
+            collect-cong (λ p. IsFace (p .face)) _ _ (placed 0 cell-faces) placed-faces-each
+            (λ p q. ap (part2-entry (r .to) (p .at)) (start-third (p .face) q ∙ ap (third-by u label) (sym (start-is (p .face) q))))
+            n;
         part3 = ap (λ (l : List Placed). part3-from (u .count (r .from)) (map (λ p. p .at) l)) (keep-cong (λ p. IsFace (p .face)) _ _ (placed 0 cell-faces) placed-faces-each inner-same) n;
         part4 = collect-cong (λ p. IsFace (p .face)) _ _ (placed 0 cell-faces) placed-faces-each part4-same n;
       })

@@ -241,7 +241,9 @@ module _ (lims : ℕ → Limits) (fit : Fit lims) (k : ℕ) (u : State) (label :
       let n = inner-count in
       let fits = S .counter-fits in
       counted-ok part3 (part3-from (u .count (r .from)) inner-at) (let a = part3-length (u .count (r .from)) inner-at in omega arith)
-      (part3-ok (u .count (r .from)) inner-at (omega arith) (each-map (λ i. i < 2 ^ 32) (λ p. p .at) (keep _ PF₆) (each-weaken (keep _ PF₆) (each-keep (λ p. p .at < 513) _ PF₆ at-small) (λ p s. omega arith))))
+      (part3-ok (u .count (r .from)) inner-at (omega arith)
+      (each-map (λ i. i < 2 ^ 32) (λ p. p .at) (keep _ PF₆)
+      (each-weaken (keep _ PF₆) (each-keep (λ p. p .at < 513) _ PF₆ at-small) (λ p s. omega arith))))
 
   -- a face's size is found at its start
   sizes : Each (λ q. size-at (q .at) (t₆ .faces) ≡ length (q .face)) PF₆
@@ -290,7 +292,10 @@ module _ (lims : ℕ → Limits) (fit : Fit lims) (k : ℕ) (u : State) (label :
   parts4-ok = go (t₆ .faces) refl
     where
       go : (fs : List (List FaceDart)) → t₆ .faces ≡ fs → counted (part4 (t₆ .faces)) .ok (t₆ .part4) ≡ true
-      go fs e = unfold transfer-by in (counted-ok (part4 (t₆ .faces)) _ (let a = collect-fewer (λ p. part4-by lims fit k u label I r S p (third-by u label (start-of (p .face)))) PF₆ in let b = placed-count 0 F₆ in let c = faces-few in omega arith)
+      go fs e =
+          unfold transfer-by in
+          (counted-ok (part4 (t₆ .faces)) _
+          (let a = collect-fewer (λ p. part4-by lims fit k u label I r S p (third-by u label (start-of (p .face)))) PF₆ in let b = placed-count 0 F₆ in let c = faces-few in omega arith)
           (collect-all _ (part4 (t₆ .faces) .ok) PF₆ (each-weaken PF₆ placed4 entry4-ok)))
 
   ends-ok : (at-most 15 .ok (r .from) ≡ true) × (at-most 15 .ok (r .to) ≡ true)
@@ -315,7 +320,10 @@ module _ (lims : ℕ → Limits) (fit : Fit lims) (k : ℕ) (u : State) (label :
   faces-short : length (counted (counted face-dart) .put (t₆ .faces)) ≤ 5 + 512 * 40965
   unfolding transfer-by
   faces-short =
-      let a = counted-short (counted face-dart) 40965 (map (λ f. map (face-dart-of (nx u) num₆) f) F₆) (each-of-map _ (λ f. map (face-dart-of (nx u) num₆) f) F₆ (each-weaken F₆ (all-faces lims fit k u label I r S) one)) in
+      let a =
+      counted-short (counted face-dart) 40965 (map (λ f. map (face-dart-of (nx u) num₆) f) F₆)
+      (each-of-map _ (λ f. map (face-dart-of (nx u) num₆) f) F₆ (each-weaken F₆ (all-faces lims fit k u label I r S) one))
+      in
       let b = length-map F₆ (λ f. map (face-dart-of (nx u) num₆) f) in
       let c = faces-few in
       omega arith
@@ -413,7 +421,8 @@ module _ (lims : ℕ → Limits) (fit : Fit lims) (k : ℕ) (u : State) (label :
   transfer-read = transfer-back t₆ transfer-ok transfer-short
 
   -- THE RECEIVER'S QUESTIONS
-  pub receive-asks : first-no (receive-checks (lims (r .to)) (block-by u label (r .to)) (a-transfer t₆)) ≡ first-no ((21, leb (length (members u (r .to)) + length v₆) (lims (r .to) .block-darts)) ∷ [])
+  pub receive-asks : first-no (receive-checks (lims (r .to)) (block-by u label (r .to)) (a-transfer t₆))
+      ≡ first-no ((21, leb (length (members u (r .to)) + length v₆) (lims (r .to) .block-darts)) ∷ [])
   unfolding receive-checks block-by
   receive-asks = yes-then 17 _ _ (seventeen-by) ∙ yes-then 18 _ _ (eighteen lims fit k u label I r S) ∙ yes-then 19 _ _ (nineteen lims fit k u label I r S) ∙ yes-then 20 _ _ twenty-by
       ∙ ap (λ (n : ℕ). first-no ((21, leb n (lims (r .to) .block-darts)) ∷ [])) sizes-same

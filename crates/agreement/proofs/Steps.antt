@@ -41,7 +41,10 @@ module _ (lims : ℕ → Limits) (before after : ℕ → List ℕ) where
       → Each (λ c. memory-at ms (c .block) ≡ before (c .block)) cs → Ran cs ms
   unfolding run-steps
   steps-run [] ms s l d m = record { all-zero = refl; same-length = refl; changed = λ b h. refl }
-  steps-run (c ∷ cs) ms s l d m = go (steps-run cs next (s .1) (each-weaken cs (l .1) (λ e h. rw (length-set ms (c .block) (after (c .block))) h)) (and-right (not (mem (c .block) (blocks-of cs))) _ d) (keeps cs (m .1) (and-left _ _ d)))
+  steps-run (c ∷ cs) ms s l d m =
+      go
+      (steps-run cs next (s .1) (each-weaken cs (l .1) (λ e h. rw (length-set ms (c .block) (after (c .block))) h))
+      (and-right (not (mem (c .block) (blocks-of cs))) _ d) (keeps cs (m .1) (and-left _ _ d)))
     where
       next : List (List ℕ)
       next = set ms (c .block) (after (c .block))
@@ -89,7 +92,9 @@ mem-perm x (List·Permᴰ·trans p q) = mem-perm x p ∙ mem-perm x q
 pub distinct-perm : {l m : List Step} → List·Permᴰ l m → distinct (blocks-of m) ≡ true → distinct (blocks-of l) ≡ true
 distinct-perm List·Permᴰ·nil d = refl
 distinct-perm (List·Permᴰ·cons {a = c} {b = e} {l₁ = l} {l₂ = m} q p) d =
-    and-intro (subst (λ (t : Bool). not t ≡ true) (sym (mem-perm (c .block) p)) (subst (λ (z : Step). not (mem (z .block) (blocks-of m)) ≡ true) (sym q) (and-left (not (mem (e .block) (blocks-of m))) _ d)))
+    and-intro
+    (subst (λ (t : Bool). not t ≡ true) (sym (mem-perm (c .block) p))
+    (subst (λ (z : Step). not (mem (z .block) (blocks-of m)) ≡ true) (sym q) (and-left (not (mem (e .block) (blocks-of m))) _ d)))
     (distinct-perm p (and-right (not (mem (e .block) (blocks-of m))) _ d))
 distinct-perm (List·Permᴰ·swap {a = c} {b = d} {a′ = c'} {b′ = d'} {l = l} q w) e =
     swapped (c .block) (d .block) (blocks-of l) (subst (λ (z : Step). distinct (z .block ∷ d' .block ∷ blocks-of l) ≡ true) (sym w) e) q

@@ -77,7 +77,10 @@ module _ (lims : ℕ → Limits) (fit : Fit lims) (k : ℕ) (u : State) (label :
     where
       -- x and z in the face of st: x is in the face of z
       same-face : (st z x : ℕ) → Mine u (r .from) st → In z (cycle (nx u) st) → In x (cycle (nx u) st) → In x (cycle (nx u) z)
-      same-face st z x m p q = block-face-trans lims fit k u label I (r .from) (S .from-below) z st x (block-face-mine lims fit k u label I (r .from) (S .from-below) st z m p) (block-face-sym lims fit k u label I (r .from) (S .from-below) st z m p) q
+      same-face st z x m p q =
+          block-face-trans lims fit k u label I (r .from) (S .from-below) z st x
+          (block-face-mine lims fit k u label I (r .from) (S .from-below) st z m p)
+          (block-face-sym lims fit k u label I (r .from) (S .from-below) st z m p) q
 
       other-way : (st z x : ℕ) → Mine u (r .from) st → In z (cycle (nx u) st) → In x (cycle (nx u) z) → In x (cycle (nx u) st)
       other-way st z x m p q = block-face-trans lims fit k u label I (r .from) (S .from-below) st z x m p q
@@ -87,9 +90,14 @@ module _ (lims : ℕ → Limits) (fit : Fit lims) (k : ℕ) (u : State) (label :
           let dz = C₇ .mine z (q .0) .here in
           let met = face-across lims fit k u label I z x dz (q .1 .linked) m in
           let mx = block-face-mine lims fit k u label I (r .from) (S .from-below) z x (C₇ .mine z (q .0)) m in
-          let number : u .number (th u x) ≡ b = block-face-mine lims fit k u label I b below (th u z) (th u x) (across-mine lims fit k u label I r S b below not-from not-to z (q .0) (q .1)) (met .there) .block in
+          let number : u .number (th u x) ≡ b =
+          block-face-mine lims fit k u label I b below (th u z) (th u x)
+          (across-mine lims fit k u label I r S b below not-from not-to z (q .0) (q .1)) (met .there) .block
+          in
           let cx : Crossing u x = record { here = mx .here; linked = met .linked; other = λ w. not-from (sym number ∙ w ∙ mx .block) } in
-          in-eq c (code (label (th u x))) (map (λ y. code (label y)) (cycle (nx u) (th u z))) (e ∙ ap code (sym (I .labelled .paired x cx))) (in-map (λ y. code (label y)) (th u x) (cycle (nx u) (th u z)) (met .there))
+          in-eq c (code (label (th u x))) (map (λ y. code (label y)) (cycle (nx u) (th u z)))
+          (e ∙ ap code (sym (I .labelled .paired x cx)))
+          (in-map (λ y. code (label y)) (th u x) (cycle (nx u) (th u z)) (met .there))
 
       across-back : (z y : ℕ) → In z v₇ × Facing u b z → In y (cycle (nx u) (th u z)) → In (th u y) (cycle (nx u) z) × (code (label y) ≡ code (label (th u y)))
       across-back z y q m =
@@ -112,7 +120,13 @@ module _ (lims : ℕ → Limits) (fit : Fit lims) (k : ℕ) (u : State) (label :
       let q = facing₇ z m in
       let ct = crossing-third u M₇ z (crossing₇ z (q .0) (q .1)) in
       let sender : u .number (th u (th u z)) ≡ r .from = ap (u .number) (M₇ .third-twice z (C₇ .mine z (q .0) .here) (q .1 .linked)) ∙ C₇ .mine z (q .0) .block in
-      rw (across-labelled lims fit k u label I r S b below not-from not-to z (q .0) (q .1), kind-critical u label (th u z) (ct .linked) (ct .other), face-told lims fit k u label I r S b below not-from not-to z (q .0) (q .1), labels-map es₇ label (r .from) (cycle (nx u) (th u z)) (across-label z (q .0) (q .1)), map-map label code (cycle (nx u) (th u z)))
+      rw (
+        across-labelled lims fit k u label I r S b below not-from not-to z (q .0) (q .1),
+        kind-critical u label (th u z) (ct .linked) (ct .other),
+        face-told lims fit k u label I r S b below not-from not-to z (q .0) (q .1),
+        labels-map es₇ label (r .from) (cycle (nx u) (th u z)) (across-label z (q .0) (q .1)),
+        map-map label code (cycle (nx u) (th u z)),
+      )
       (and-intro (eq-eqb (r .from) (u .number (th u (th u z))) (sym sender)) (eq-eqb (code (label z)) (least (map (λ y. code (label y)) (cycle (nx u) (th u z)))) (least-across z m)))
 
   codes-apart : distinct (map code (map label picked₇)) ≡ true
@@ -142,7 +156,9 @@ module _ (lims : ℕ → Limits) (fit : Fit lims) (k : ℕ) (u : State) (label :
       let few = I .few-blocks in
       let fb = S .from-below in
       let tb = S .to-below in
-      and-intro (and-intro (group-ok 2 (omega arith)) refl) (and-intro (small-ok (r .from) 15 (omega arith) (le-leb (r .from) 15 (omega arith))) (and-intro (small-ok b 15 (omega arith) (le-leb b 15 (omega arith)))
+      and-intro (and-intro (group-ok 2 (omega arith)) refl)
+      (and-intro (small-ok (r .from) 15 (omega arith) (le-leb (r .from) 15 (omega arith)))
+      (and-intro (small-ok b 15 (omega arith) (le-leb b 15 (omega arith)))
       (and-intro (small-ok (r .to) 15 (omega arith) (le-leb (r .to) 15 (omega arith))) (counted-ok label-layout (map label picked₇) (let a = length-map picked₇ label in let c = few-picked in omega arith) labels-fine))))
     where
       labels-fine : all (label-layout .ok) (map label picked₇) ≡ true

@@ -37,7 +37,9 @@ label-layout = label
 
 pub label-ok : (l : Label) → l .maker ≤ 15 → l .number < 2 ^ 32 → l .position ≤ 4095 → label .ok l ≡ true
 unfolding label as-type _⊕_ _⊗_
-label-ok l a b c = and-intro (small-ok (l .maker) 15 (omega arith) (le-leb (l .maker) 15 a)) (and-intro (group-ok (l .number) b) (small-ok (l .position) 4095 (omega arith) (le-leb (l .position) 4095 c)))
+label-ok l a b c =
+    and-intro (small-ok (l .maker) 15 (omega arith) (le-leb (l .maker) 15 a))
+    (and-intro (group-ok (l .number) b) (small-ok (l .position) 4095 (omega arith) (le-leb (l .position) 4095 c)))
 
 -- A MESSAGE IS READ BACK
 pub transfer-back : (t : Transfer) → transfer .ok t ≡ true → length (transfer .put t) < 2 ^ 32 → message-in (framed transfer t) ≡ a-transfer t
@@ -65,9 +67,17 @@ update-back w o few =
     rw (no-transfer w short, framed-back update update-lawful w o short)
 
 -- whom it is for
-pub addressee-is : (l : List ℕ) (a b c d : ℕ) (rest : List ℕ) → l ≡ group .put a ++ (group .put b ++ (group .put c ++ (group .put d ++ rest))) → a < 2 ^ 32 → b < 2 ^ 32 → c < 2 ^ 32 → d < 2 ^ 32 → addressee l ≡ d
+pub addressee-is : (l : List ℕ) (a b c d : ℕ) (rest : List ℕ) → l ≡ group .put a ++ (group .put b ++ (group .put c ++ (group .put d ++ rest)))
+    → a < 2 ^ 32 → b < 2 ^ 32 → c < 2 ^ 32 → d < 2 ^ 32 → addressee l ≡ d
 unfolding addressee _⊕_ _⊗_
-addressee-is l a b c d rest e ha hb hc hd = rw (e, group-lawful .back a (group .put b ++ (group .put c ++ (group .put d ++ rest))) (group-ok a ha), group-lawful .back b (group .put c ++ (group .put d ++ rest)) (group-ok b hb), group-lawful .back c (group .put d ++ rest) (group-ok c hc), group-lawful .back d rest (group-ok d hd))
+addressee-is l a b c d rest e ha hb hc hd =
+    rw (
+      e,
+      group-lawful .back a (group .put b ++ (group .put c ++ (group .put d ++ rest))) (group-ok a ha),
+      group-lawful .back b (group .put c ++ (group .put d ++ rest)) (group-ok b hb),
+      group-lawful .back c (group .put d ++ rest) (group-ok c hc),
+      group-lawful .back d rest (group-ok d hd),
+    )
 
 update-head : (w : Update) → update .put w ≡ group .put 2 ++ (group .put (w .from) ++ (group .put (w .to) ++ (group .put (w .block) ++ counted label .put (w .labels))))
 unfolding update as-type _⊗_ _⊕_ exactly at-most such-that

@@ -119,7 +119,8 @@ module _ (v : List ℕ) {b z : List ℕ} {k : ℕ} (seg : Segments b z k) (small
               h,
               mem-none (pair-at v b z) k (reverse-at v b z i) (λ j l e.
                   let n = half-same (small i h) (head-small i h) (small j l) (head-small j l) (turned _ _) (turned _ _) (sym e) (apart i h) in
-                  n .1 (sym (value-of p (t .1)) ∙ t .2 (getD ranks j 0) (w .rank-below j l) (ap (λ (m : ℕ). m / 2) (value-of p (t .1)) ∙ n .0 ∙ ap (λ (m : ℕ). m / 2) (sym (value-here j l))) ∙ value-here j l)),
+                  n .1
+                  (sym (value-of p (t .1)) ∙ t .2 (getD ranks j 0) (w .rank-below j l) (ap (λ (m : ℕ). m / 2) (value-of p (t .1)) ∙ n .0 ∙ ap (λ (m : ℕ). m / 2) (sym (value-here j l))) ∙ value-here j l)),
             )
 
         pub coupled-is : r ≡ all (λ i. mem (reverse-at v b z i) (tab (pair-at v b z) k)) (tab (λ i. i) k)
@@ -185,7 +186,9 @@ module _ {keys : List ℕ} {k : ℕ} {q : List ℕ} {r : ℕ} (up : Ascending k 
         away : (p s : ℕ) → p < k → s < k → p ≢ s → index-at keys p ≢ index-at keys s
         away p s lp ls n e = n (apart p s lp ls e)
 
-        before : (p : ℕ) → p < r → (s : ℕ) × (s < r + 2) × (value-at keys p / 2 ≡ value-at keys s / 2) × (value-at keys p ≢ value-at keys s) × (getD (set (set q a c) c a) (index-at keys p) 0 ≡ index-at keys s)
+        before : (p : ℕ) → p < r
+            → (s : ℕ) × (s < r + 2) × (value-at keys p / 2 ≡ value-at keys s / 2) × (value-at keys p ≢ value-at keys s)
+            × (getD (set (set q a c) c a) (index-at keys p) 0 ≡ index-at keys s)
         before p l =
             let m = w .met p l in (
               m .0,
@@ -196,7 +199,9 @@ module _ {keys : List ℕ} {k : ℕ} {q : List ℕ} {r : ℕ} (up : Ascending k 
                   ∙ getD-set-other q a (index-at keys p) c 0 (λ e. away p r (omega (arith, l, h)) h (λ n. omega (arith, n, l)) (e ∙ ea)) ∙ m .4,
             )
 
-        first : (p : ℕ) → r ≡ p → (s : ℕ) × (s < r + 2) × (value-at keys p / 2 ≡ value-at keys s / 2) × (value-at keys p ≢ value-at keys s) × (getD (set (set q a c) c a) (index-at keys p) 0 ≡ index-at keys s)
+        first : (p : ℕ) → r ≡ p
+            → (s : ℕ) × (s < r + 2) × (value-at keys p / 2 ≡ value-at keys s / 2) × (value-at keys p ≢ value-at keys s)
+            × (getD (set (set q a c) c a) (index-at keys p) 0 ≡ index-at keys s)
         first p e = rw (sym e) (
           r + 1,
           omega arith,
@@ -206,7 +211,9 @@ module _ {keys : List ℕ} {k : ℕ} {q : List ℕ} {r : ℕ} (up : Ascending k 
               ∙ ap (λ (j : ℕ). getD (set q a c) j 0) (sym ea) ∙ getD-set-same q a c 0 (omega (arith, ea, w .len, index-fits keys r)) ∙ ec,
         )
 
-        second : (p : ℕ) → p ≡ r + 1 → (s : ℕ) × (s < r + 2) × (value-at keys p / 2 ≡ value-at keys s / 2) × (value-at keys p ≢ value-at keys s) × (getD (set (set q a c) c a) (index-at keys p) 0 ≡ index-at keys s)
+        second : (p : ℕ) → p ≡ r + 1
+            → (s : ℕ) × (s < r + 2) × (value-at keys p / 2 ≡ value-at keys s / 2) × (value-at keys p ≢ value-at keys s)
+            × (getD (set (set q a c) c a) (index-at keys p) 0 ≡ index-at keys s)
         second p e = rw e (
           r,
           omega arith,

@@ -81,17 +81,29 @@ module _ {ds : List Dart} {s : List ℕ} {from n : ℕ} {x : List ℕ} {k : ℕ}
   pub not-new : all finite (points-in s from n) ≡ true → all (λ i. leb 1 (getD x i 0) && not (held ds (getD x i 0))) (tab (λ i. i) k) ≡ false → NewSerials ds s from n x k keys ranks false
   not-new e f = record { is = rw (e, f) refl; ranked = λ y. absurd (true≢false (sym y)) }
 
-  pub new-ranked : {r : Bool} → all finite (points-in s from n) ≡ true → all (λ i. leb 1 (getD x i 0) && not (held ds (getD x i 0))) (tab (λ i. i) k) ≡ true → r ≡ distinct (take k x) → (r ≡ true → Ranked x k keys ranks) → NewSerials ds s from n x k keys ranks r
+  pub new-ranked : {r : Bool} → all finite (points-in s from n) ≡ true
+      → all (λ i. leb 1 (getD x i 0) && not (held ds (getD x i 0))) (tab (λ i. i) k) ≡ true → r ≡ distinct (take k x)
+      → (r ≡ true → Ranked x k keys ranks) → NewSerials ds s from n x k keys ranks r
   new-ranked e f d g = record { is = rw (e, f) d; ranked = g }
 
 -- of a transfer
 pub eighteen-is : {t : Transfer} {v x b z s : List ℕ} {from n k : ℕ} {hollow : Bool} (ds : List Dart) → Told t v x b z s from n k hollow → k ≤ length x
     → serials-new ds t ≡ (all finite (points-in s from n) && all (λ i. leb 1 (getD x i 0) && not (held ds (getD x i 0))) (tab (λ i. i) k) && distinct (take k x))
 unfolding serials-new points-in word-in finite sides
-eighteen-is {t} {v} {x} {b} {z} {s} {from} {n} {k} {hollow} ds w fit = rw (w .points, all-sides, all-index (λ (a : Side). leb 1 (a .serial) && not (held ds (a .serial))) (side-at v x b z) k, map-tab (λ (a : Side). a .serial) (side-at v x b z) k, taken) refl
+eighteen-is {t} {v} {x} {b} {z} {s} {from} {n} {k} {hollow} ds w fit =
+    rw (
+      w .points,
+      all-sides,
+      all-index (λ (a : Side). leb 1 (a .serial) && not (held ds (a .serial))) (side-at v x b z) k,
+      map-tab (λ (a : Side). a .serial) (side-at v x b z) k,
+      taken,
+    ) refl
   where
     all-sides : sides t ≡ tab (side-at v x b z) k
     all-sides = rw (w .darts) (sides-are v x b z t (w .inside))
 
     taken : tab (λ i. getD x i 0) k ≡ take k x
-    taken = ext-getD 0 _ _ (length-tab (λ i. getD x i 0) k ∙ sym (length-take-le k x fit)) (λ i h. let l : i < k = omega (arith, h, length-tab (λ i. getD x i 0) k) in getD-tab (λ i. getD x i 0) k i 0 l ∙ sym (getD-take k x i 0 l))
+    taken =
+        ext-getD 0 _ _ (length-tab (λ i. getD x i 0) k ∙ sym (length-take-le k x fit))
+        (λ i h. let l : i < k = omega (arith, h, length-tab (λ i. getD x i 0) k) in getD-tab (λ i. getD x i 0) k i 0 l ∙ sym
+        (getD-take k x i 0 l))

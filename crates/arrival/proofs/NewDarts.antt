@@ -83,7 +83,10 @@ module _ {v x b z keys ranks q s : List ℕ} {from k : ℕ} {m : List ℕ} (w : 
       ap (column m 0) (ap (λ (r : Record). r .opposite) (row p l) ∙ ap (λ (j : ℕ). getD ranks (getD q j 0) 0) e) ∙ serial-of w (getD q i 0) (w .opposed .below i h) in
       let kind : column m 3 p ≡ 0 = ap (λ (r : Record). r .kind) (row p l) in
       let third : third-in (column m 0) (column m 3 p) (column m 4 p) ≡ free = rw kind refl in
-      let pt : getD (t .points) (getD v i 0) no-point ≡ point-in s (from + 24 * getD v i 0) = ap (λ (l : List Point). getD l (getD v i 0) no-point) points ∙ getD-tab (λ j. point-in s (from + 24 * j)) n (getD v i 0) no-point (vertices i h) in
+      let pt : getD (t .points) (getD v i 0) no-point ≡ point-in s (from + 24 * getD v i 0) =
+      ap (λ (l : List Point). getD l (getD v i 0) no-point) points
+      ∙ getD-tab (λ j. point-in s (from + 24 * j)) n (getD v i 0) no-point (vertices i h)
+      in
       let cx : column m 5 p ≡ word-in s (from + 24 * getD v i 0) = ap (λ (r : Record). r .x) (row p l) ∙ ap (λ (j : ℕ). word-in s (from + 24 * getD v j 0)) e in
       let cy : column m 6 p ≡ word-in s (from + 24 * getD v i 0 + 8) = ap (λ (r : Record). r .y) (row p l) ∙ ap (λ (j : ℕ). word-in s (from + 24 * getD v j 0 + 8)) e in
       let cz : column m 7 p ≡ word-in s (from + 24 * getD v i 0 + 16) = ap (λ (r : Record). r .z) (row p l) ∙ ap (λ (j : ℕ). word-in s (from + 24 * getD v j 0 + 16)) e in
@@ -106,7 +109,9 @@ module _ {v x b z keys ranks q s : List ℕ} {from k : ℕ} {m : List ℕ} (w : 
   found-there i h =
       let p = getD ranks i 0 in
       let l : p < count-in m = omega (arith, w .ranked .rank-below i h, w .drafted .count-is) in
-      let found : find (λ d. d .serial) (new-at i .serial) (tab new-at k) ≡ some (new-at i) = find-only (λ d. d .serial) new-at k i h (λ j g u. serials-differ w j i g h (sym (new-serial j) ∙ u ∙ new-serial i)) in
+      let found : find (λ d. d .serial) (new-at i .serial) (tab new-at k) ≡ some (new-at i) =
+      find-only (λ d. d .serial) new-at k i h (λ j g u. serials-differ w j i g h (sym (new-serial j) ∙ u ∙ new-serial i))
+      in
       ap (λ (y : ℕ). or-no-dart (find (λ d. d .serial) y (tab new-at k))) (sym (new-serial i)) ∙ ap or-no-dart found ∙ dart-there i h
       ∙ sym (dart-place (dart-in m) (count-in m) p (sited w .ascends) l) ∙ ap (dart-at (darts-in m)) (serial-of w i h)
 

@@ -58,10 +58,17 @@ module _ {t : Transfer} {v x b z s : List ℕ} {from n k : ℕ} {hollow : Bool} 
       let nx = next-in (new-darts t) in
       let op = opposite-in (new-darts t) in
       let order = map (λ a. a .serial) (sides t) in
-      let same : map (λ a. a .tail) (sides t) ≡ map (vertex-number nx op order) order = same-list-is _ _ (and-left (same-list (map (λ a. a .tail) (sides t)) (map (vertex-number nx op order) order)) _ q) in
-      let count : n ≡ length (vertices nx op order) = sym point-count ∙ eqb-true (length (t .points)) (length (vertices nx op order)) (and-right (same-list (map (λ a. a .tail) (sides t)) (map (vertex-number nx op order) order)) _ q) in
+      let same : map (λ a. a .tail) (sides t) ≡ map (vertex-number nx op order) order =
+      same-list-is _ _ (and-left (same-list (map (λ a. a .tail) (sides t)) (map (vertex-number nx op order) order)) _ q)
+      in
+      let count : n ≡ length (vertices nx op order) =
+      sym point-count
+      ∙ eqb-true (length (t .points)) (length (vertices nx op order))
+      (and-right (same-list (map (λ a. a .tail) (sides t)) (map (vertex-number nx op order) order)) _ q)
+      in
       let size : length order ≡ k = length-map (sides t) (λ (a : Side). a .serial) ∙ ap length all-sides ∙ length-tab (side-at v x b z) k in
-      and-intro (le-leb n k (let f = few-vertices nx op order in omega (arith, f, count, size))) (tab-all (λ i. ltb (getD v i 0) n) (λ i. i) k (λ i h. lt-ltb (getD v i 0) n (below nx op order same count size i h)))
+      and-intro (le-leb n k (let f = few-vertices nx op order in omega (arith, f, count, size)))
+      (tab-all (λ i. ltb (getD v i 0) n) (λ i. i) k (λ i h. lt-ltb (getD v i 0) n (below nx op order same count size i h)))
     where
       order-tab : map (λ a. a .serial) (sides t) ≡ tab (λ i. getD x i 0) k
       order-tab = ap (map (λ (a : Side). a .serial)) all-sides ∙ map-tab (λ (a : Side). a .serial) (side-at v x b z) k
@@ -69,9 +76,13 @@ module _ {t : Transfer} {v x b z s : List ℕ} {from n k : ℕ} {hollow : Bool} 
       tails : map (λ a. a .tail) (sides t) ≡ tab (λ i. getD v i 0) k
       tails = ap (map (λ (a : Side). a .tail)) all-sides ∙ map-tab (λ (a : Side). a .tail) (side-at v x b z) k
 
-      below : (nx op : ℕ → ℕ) (order : List ℕ) → map (λ a. a .tail) (sides t) ≡ map (vertex-number nx op order) order → n ≡ length (vertices nx op order) → length order ≡ k → (i : ℕ) → i < k → getD v i 0 < n
+      below : (nx op : ℕ → ℕ) (order : List ℕ) → map (λ a. a .tail) (sides t) ≡ map (vertex-number nx op order) order
+          → n ≡ length (vertices nx op order) → length order ≡ k → (i : ℕ) → i < k → getD v i 0 < n
       below nx op order same count size i h =
-          let e : getD v i 0 ≡ vertex-number nx op order (getD order i 0) = sym (getD-tab (λ i. getD v i 0) k i 0 h) ∙ ap (λ (l : List ℕ). getD l i 0) (sym tails ∙ same) ∙ map-at (vertex-number nx op order) 0 0 order i (omega (arith, h, size)) in
+          let e : getD v i 0 ≡ vertex-number nx op order (getD order i 0) =
+          sym (getD-tab (λ i. getD v i 0) k i 0 h) ∙ ap (λ (l : List ℕ). getD l i 0) (sym tails ∙ same)
+          ∙ map-at (vertex-number nx op order) 0 0 order i (omega (arith, h, size))
+          in
           let r = number-below nx op order (getD order i 0) (getD-in order i (omega (arith, h, size))) in
           omega (arith, e, r, count)
 
@@ -118,7 +129,9 @@ module _ {t : Transfer} {v x b z s : List ℕ} {from n k : ℕ} {hollow : Bool} 
     pub small : Small v k
     small i h = let a = each-below i h in let c = leb-true n k (and-left (leb n k) _ fit) in omega (arith, a, c, w .few)
 
-    paired-by-index : pairs-right (sides t) ≡ ((all (ends-differ v b z) (tab (λ i. i) k) && distinct (tab (pair-at v b z) k)) && all (λ i. mem (reverse-at v b z i) (tab (pair-at v b z) k)) (tab (λ i. i) k))
+    paired-by-index : pairs-right (sides t)
+        ≡ ((all (ends-differ v b z) (tab (λ i. i) k) && distinct (tab (pair-at v b z) k))
+        && all (λ i. mem (reverse-at v b z i) (tab (pair-at v b z) k)) (tab (λ i. i) k))
     paired-by-index = ap pairs-right all-sides ∙ pairs-is v x segs small
 
     -- where there is a draft

@@ -120,7 +120,9 @@ ascends-chained p [] a u = tt
 ascends-chained p (f ∷ fs) a u =
     let s = start-of (face-serials f) in (
       leb-true p s (and-left (leb p s) _ a),
-      ascends-chained (suc s) fs (all-weaken (ltb s) (leb (suc s)) (starts fs) (λ y h. le-leb (suc s) y (let g = ltb-true s y h in omega (arith, g))) (and-left (all (ltb s) (starts fs)) _ u)) (and-right (all (ltb s) (starts fs)) _ u),
+      ascends-chained (suc s) fs
+          (all-weaken (ltb s) (leb (suc s)) (starts fs) (λ y h. le-leb (suc s) y (let g = ltb-true s y h in omega (arith, g)))
+          (and-left (all (ltb s) (starts fs)) _ u)) (and-right (all (ltb s) (starts fs)) _ u),
     )
 
 -- one face: not of size 0, and started at its least
@@ -140,7 +142,10 @@ right-started (f ∷ fs) a =
 
 started-right : (fs : List (List FaceDart)) → Each (λ (f : List FaceDart). 0 < length f) fs → Started fs → all face-right (map face-serials fs) ≡ true
 started-right [] n s = refl
-started-right (f ∷ fs) n s = and-intro (and-intro (lt-ltb 0 (length (face-serials f)) (omega (arith, n .0, length-map f (λ (d : FaceDart). d .serial)))) (each f (start-of (face-serials f)) (s .0))) (started-right fs (n .1) (s .1))
+started-right (f ∷ fs) n s =
+    and-intro
+    (and-intro (lt-ltb 0 (length (face-serials f)) (omega (arith, n .0, length-map f (λ (d : FaceDart). d .serial))))
+    (each f (start-of (face-serials f)) (s .0))) (started-right fs (n .1) (s .1))
   where
     each : (f : List FaceDart) (s : ℕ) → ((j : ℕ) → j < length f → s ≤ getD f j no-side .serial) → all (leb s) (face-serials f) ≡ true
     each [] s h = refl
@@ -173,11 +178,17 @@ order-is v x b z t w = same-truth _ _ there back-again
         let a = right-started (t .faces) (and-left (all face-right (map face-serials (t .faces))) _ q) in
         let c = ascends-chained 0 (t .faces) (all-zero (starts (t .faces))) (and-right (all face-right (map face-serials (t .faces))) _ q) in
         and-intro (ap not (full-hollow (t .faces) (a .0)))
-        (tab-all (order-at x b) (λ i. i) (size-all (t .faces)) (λ j h. subst (λ (i : ℕ). order-at x b i ≡ true) (let e : 0 + j ≡ j = omega arith in e) (back v x b z 0 (t .faces) from (a .0) c (a .1) j h)))
+        (tab-all (order-at x b) (λ i. i) (size-all (t .faces))
+        (λ j h. subst (λ (i : ℕ). order-at x b i ≡ true) (let e : 0 + j ≡ j = omega arith in e)
+        (back v x b z 0 (t .faces) from (a .0) c (a .1) j h)))
 
     back-again : (not (is-hollow (t .faces)) && all (order-at x b) (tab (λ i. i) (size-all (t .faces)))) ≡ true → faces-ordered t ≡ true
     back-again q =
         let n = hollow-full (t .faces) (not-true _ (and-left (not (is-hollow (t .faces))) _ q)) in
         let g = and-right (not (is-hollow (t .faces))) _ q in
-        let r = forth v x b z 0 (t .faces) from n (λ j h. subst (λ (i : ℕ). order-at x b i ≡ true) (let e : j ≡ 0 + j = omega arith in e) (all-tab (order-at x b) (λ i. i) (size-all (t .faces)) g j h)) in
+        let r =
+        forth v x b z 0 (t .faces) from n
+        (λ j h. subst (λ (i : ℕ). order-at x b i ≡ true) (let e : j ≡ 0 + j = omega arith in e)
+        (all-tab (order-at x b) (λ i. i) (size-all (t .faces)) g j h))
+        in
         and-intro (started-right (t .faces) n (r .1)) (chained-ascends 0 (t .faces) (r .0) .1)

@@ -25,7 +25,9 @@ code-of p = p .0 * 1024 + p .1
 
 same-code : (p q : ℕ × ℕ) → Fit p → Fit q → same-pair p q ≡ eqb (pair-code (p .0) (p .1)) (pair-code (q .0) (q .1))
 same-code p q f g = same-truth _ _
-    (λ t. eq-eqb _ _ (let a = eqb-true (p .0) (q .0) (and-left (eqb (p .0) (q .0)) _ t) in let b = eqb-true (p .1) (q .1) (and-right (eqb (p .0) (q .0)) _ t) in let r : pair-code (p .0) (p .1) ≡ pair-code (q .0) (q .1) = omega (arith, a, b) in r))
+    (λ t. eq-eqb _ _
+    (let a = eqb-true (p .0) (q .0) (and-left (eqb (p .0) (q .0)) _ t) in let b = eqb-true (p .1) (q .1)
+    (and-right (eqb (p .0) (q .0)) _ t) in let r : pair-code (p .0) (p .1) ≡ pair-code (q .0) (q .1) = omega (arith, a, b) in r))
     (λ t. let e = eqb-true (pair-code (p .0) (p .1)) (pair-code (q .0) (q .1)) t in
     and-intro (eq-eqb (p .0) (q .0) (omega (arith, e, f .0, f .1, g .0, g .1))) (eq-eqb (p .1) (q .1) (omega (arith, e, f .0, f .1, g .0, g .1))))
 
@@ -71,22 +73,32 @@ any-same q r f g n h = same-truth _ _
 
 module _ (v x : List ℕ) {b z : List ℕ} {k : ℕ} (w : Segments b z k) (small : Small v k) where
   fits : (i : ℕ) → i < k → Fit (getD v i 0, getD v (next-index b z i) 0)
-  fits i h = let a = small i h in let c = small (next-index b z i) (next-below w i h) in ((let r : getD v i 0 < 1024 = omega (arith, a) in r), (let r : getD v (next-index b z i) 0 < 1024 = omega (arith, c) in r))
+  fits i h =
+      let a = small i h in let c = small (next-index b z i) (next-below w i h) in
+      ((let r : getD v i 0 < 1024 = omega (arith, a) in r), (let r : getD v (next-index b z i) 0 < 1024 = omega (arith, c) in r))
 
   once-is : pairs-once (map (λ a. (a .tail, a .head)) (tab (side-at v x b z) k)) ≡ (all (ends-differ v b z) (tab (λ i. i) k) && distinct (tab (pair-at v b z) k))
   once-is =
       ap pairs-once (map-tab (λ (a : Side). (a .tail, a .head)) (side-at v x b z) k)
       ∙ pairs-code (tab (λ i. (getD v i 0, getD v (next-index b z i) 0)) k) (each-tab Fit _ k fits)
-      ∙ rw (all-index (λ (p : ℕ × ℕ). not (eqb (p .0) (p .1))) (λ i. (getD v i 0, getD v (next-index b z i) 0)) k, map-tab (λ (q : ℕ × ℕ). pair-code (q .0) (q .1)) (λ i. (getD v i 0, getD v (next-index b z i) 0)) k) refl
+      ∙ rw (
+        all-index (λ (p : ℕ × ℕ). not (eqb (p .0) (p .1))) (λ i. (getD v i 0, getD v (next-index b z i) 0)) k,
+        map-tab (λ (q : ℕ × ℕ). pair-code (q .0) (q .1)) (λ i. (getD v i 0, getD v (next-index b z i) 0)) k,
+      ) refl
 
   -- j reverses i exactly if the pair of j is the reverse of i's
   pub reverses-is : (i j : ℕ) → i < k → j < k → reverses (side-at v x b z i) (side-at v x b z j) ≡ eqb (reverse-at v b z i) (pair-at v b z j)
   unfolding reverses
-  reverses-is i j hi hj = swap-and (eqb (getD v i 0) (getD v (next-index b z j) 0)) (eqb (getD v (next-index b z i) 0) (getD v j 0)) ∙ same-code (getD v (next-index b z i) 0, getD v i 0) (getD v j 0, getD v (next-index b z j) 0) (fits i hi .1, fits i hi .0) (fits j hj)
+  reverses-is i j hi hj =
+      swap-and (eqb (getD v i 0) (getD v (next-index b z j) 0)) (eqb (getD v (next-index b z i) 0) (getD v j 0))
+      ∙ same-code (getD v (next-index b z i) 0, getD v i 0) (getD v j 0, getD v (next-index b z j) 0) (fits i hi .1, fits i hi .0)
+      (fits j hj)
 
   reversed-is : all (λ a. any (reverses a) (tab (side-at v x b z) k)) (tab (side-at v x b z) k) ≡ all (λ i. mem (reverse-at v b z i) (tab (pair-at v b z) k)) (tab (λ i. i) k)
   reversed-is = all-index _ (side-at v x b z) k ∙ all-same _ _ k (λ i h. any-same _ _ (side-at v x b z) (pair-at v b z) k (λ j l. reverses-is i j h l))
 
-  pub pairs-is : pairs-right (tab (side-at v x b z) k) ≡ ((all (ends-differ v b z) (tab (λ i. i) k) && distinct (tab (pair-at v b z) k)) && all (λ i. mem (reverse-at v b z i) (tab (pair-at v b z) k)) (tab (λ i. i) k))
+  pub pairs-is : pairs-right (tab (side-at v x b z) k)
+      ≡ ((all (ends-differ v b z) (tab (λ i. i) k) && distinct (tab (pair-at v b z) k))
+      && all (λ i. mem (reverse-at v b z i) (tab (pair-at v b z) k)) (tab (λ i. i) k))
   unfolding pairs-right
   pairs-is = rw (once-is, reversed-is) refl

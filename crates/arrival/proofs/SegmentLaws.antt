@@ -30,14 +30,18 @@ module _ (v x b z : List ℕ) where
     start-at i g h =
         let e : i ≡ o + (i - o) = omega (arith, g) in
         let l : i - o < length f = omega (arith, g, h) in
-        ap (λ (k : ℕ). getD b k 0) e ∙ w .start-is (i - o) (omega (arith, l)) ∙ List·getD-append (replicate (length f) o) _ 0 (i - o) (rw (length-replicate (length f) o) l) ∙ getD-replicate (length f) (i - o) o 0 l
+        ap (λ (k : ℕ). getD b k 0) e ∙ w .start-is (i - o) (omega (arith, l))
+        ∙ List·getD-append (replicate (length f) o) _ 0 (i - o) (rw (length-replicate (length f) o) l)
+        ∙ getD-replicate (length f) (i - o) o 0 l
 
     size-at : (i : ℕ) → o ≤ i → i < o + length f → getD z i 0 ≡ length f
     unfolding sizes-of size-all
     size-at i g h =
         let e : i ≡ o + (i - o) = omega (arith, g) in
         let l : i - o < length f = omega (arith, g, h) in
-        ap (λ (k : ℕ). getD z k 0) e ∙ w .size-is (i - o) (omega (arith, l)) ∙ List·getD-append (replicate (length f) (length f)) _ 0 (i - o) (rw (length-replicate (length f) (length f)) l) ∙ getD-replicate (length f) (i - o) (length f) 0 l
+        ap (λ (k : ℕ). getD z k 0) e ∙ w .size-is (i - o) (omega (arith, l))
+        ∙ List·getD-append (replicate (length f) (length f)) _ 0 (i - o) (rw (length-replicate (length f) (length f)) l)
+        ∙ getD-replicate (length f) (i - o) (length f) 0 l
 
     first : (i : ℕ) → o ≤ i → i < o + length f → Segment b z o (o + size-all (f ∷ fs)) i
     unfolding size-all
@@ -109,7 +113,8 @@ module _ {b z : List ℕ} {k : ℕ} (w : Segments b z k) where
           let s = w .same-size i hi j (omega (arith, q, w .start-le j hj)) in
           ⊎-elim
           (λ (y : j < getD b i 0 + getD z i 0). omega (arith, ei, ej, q, s y))
-          (λ (y : getD b i 0 + getD z i 0 ≤ j). let r = w .same-size j hj i (omega (arith, q, w .start-le i hi)) (omega (arith, y, w .end-above i hi, w .end-above j hj)) in omega (arith, ei, ej, q, r))
+          (λ (y : getD b i 0 + getD z i 0 ≤ j). let r = w .same-size j hj i (omega (arith, q, w .start-le i hi))
+          (omega (arith, y, w .end-above i hi, w .end-above j hj)) in omega (arith, ei, ej, q, r))
           (lt-or-ge j (getD b i 0 + getD z i 0))
 
       -- the start of i is past j, which is not the last of its face

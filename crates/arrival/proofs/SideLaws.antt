@@ -80,13 +80,33 @@ module _ (v x b z : List ℕ) where
       next : (j : ℕ) → j < length f → next-index b z (o + j) ≡ o + round (length f) j
       next j h =
           let s : getD b (o + j) 0 ≡ o = w .start-is j (within h) ∙ List·getD-append (replicate (length f) o) _ 0 j (rw (length-replicate (length f) o) h) ∙ getD-replicate (length f) j o 0 h in
-          let n : getD z (o + j) 0 ≡ length f = w .size-is j (within h) ∙ List·getD-append (replicate (length f) (length f)) _ 0 j (rw (length-replicate (length f) (length f)) h) ∙ getD-replicate (length f) j (length f) 0 h in
+          let n : getD z (o + j) 0 ≡ length f =
+          w .size-is j (within h)
+          ∙ List·getD-append (replicate (length f) (length f)) _ 0 j (rw (length-replicate (length f) (length f)) h)
+          ∙ getD-replicate (length f) j (length f) 0 h
+          in
           rw (s, n) (round-shift o (length f) j)
 
-      side : (j : ℕ) → j < length f → _≡_ {A = Side} (record { serial = getD f j no-side .serial; next = getD (turned f) j no-side .serial; tail = getD f j no-side .vertex; head = getD (turned f) j no-side .vertex }) (side-at v x b z (o + j))
+      side : (j : ℕ) → j < length f
+          → _≡_ {A = Side}
+          (record {
+            serial = getD f j no-side .serial;
+            next = getD (turned f) j no-side .serial;
+            tail = getD f j no-side .vertex;
+            head = getD (turned f) j no-side .vertex;
+          }) (side-at v x b z (o + j))
       side j h =
           let r = round-below (length f) j h in
-          rw (turned-at no-side f j h, next j h, w .vertex-is j (within h), w .serial-is j (within h), w .vertex-is (round (length f) j) (within r), w .serial-is (round (length f) j) (within r), dart j h, dart (round (length f) j) r) refl
+          rw (
+            turned-at no-side f j h,
+            next j h,
+            w .vertex-is j (within h),
+            w .serial-is j (within h),
+            w .vertex-is (round (length f) j) (within r),
+            w .serial-is (round (length f) j) (within r),
+            dart j h,
+            dart (round (length f) j) r,
+          ) refl
 
   pub past-face : (o : ℕ) (f : List FaceDart) (fs : List (List FaceDart)) → From o (f ∷ fs) → From (o + length f) fs
   unfolding concat size-all starts-of sizes-of

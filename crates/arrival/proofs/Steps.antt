@@ -89,7 +89,8 @@ pub record Pairing (v b z : List ℕ) (k : ℕ) (pairs : List ℕ) (ok : Bool) (
 pub pairing-none : (v b z : List ℕ) (k : ℕ) {pairs : List ℕ} → length pairs ≡ 512 → Pairing v b z k pairs true 0
 pairing-none v b z k e = record { le = omega arith; len = e; front = refl; ok-is = refl }
 
-pub pairing-more : {v b z : List ℕ} {k : ℕ} {pairs : List ℕ} {ok : Bool} {i c : ℕ} {more : Bool} → Pairing v b z k pairs ok i → k ≤ 512 → i < k → c ≡ couple-at v b z i → more ≡ (ok && ends-differ v b z i) → Pairing v b z k (set pairs i c) more (i + 1)
+pub pairing-more : {v b z : List ℕ} {k : ℕ} {pairs : List ℕ} {ok : Bool} {i c : ℕ} {more : Bool} → Pairing v b z k pairs ok i → k ≤ 512 → i < k
+    → c ≡ couple-at v b z i → more ≡ (ok && ends-differ v b z i) → Pairing v b z k (set pairs i c) more (i + 1)
 pairing-more {v} {b} {z} {k} {pairs} {ok} {i} {c} w few h e o =
     let s : i + 1 ≡ suc i = omega arith in
     record {
@@ -115,7 +116,8 @@ module _ (v b z : List ℕ) (k : ℕ) where
     pub paired-twice : {q : List ℕ} → distinct (take k pairs) ≡ false → Paired v b z k q false
     paired-twice e = record { is = rw (sym once ∙ e, and-false (all (ends-differ v b z) (tab (λ i. i) k))) refl; opposed = λ y. absurd (true≢false (sym y)) }
 
-    pub paired-found : {keys ranks q : List ℕ} {r : Bool} → all (ends-differ v b z) (tab (λ i. i) k) ≡ true → distinct (take k pairs) ≡ true → Ranked pairs k keys ranks → Coupled keys k q r → Paired v b z k q r
+    pub paired-found : {keys ranks q : List ℕ} {r : Bool} → all (ends-differ v b z) (tab (λ i. i) k) ≡ true → distinct (take k pairs) ≡ true
+        → Ranked pairs k keys ranks → Coupled keys k q r → Paired v b z k q r
     paired-found {keys} {ranks} {q} {r} e d w c = record { is = rw (e, sym once ∙ d) (coupled-is v seg small are w c apart); opposed = coupled-opposed v seg small are w c }
       where
         apart : (i : ℕ) → i < k → getD v i 0 ≡ getD v (next-index b z i) 0 → ⊥

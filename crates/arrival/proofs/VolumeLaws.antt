@@ -63,12 +63,16 @@ module _ {v x b z keys ranks q s : List ℕ} {from k : ℕ} {m : List ℕ} (w : 
       let h : 0 < k = omega (arith, w .some-darts) in
       ap (λ (f : ℕ → ℕ). volume f (opposite-in (new-darts t)) (first-serial (sides t))) (same-next w t inside darts points vertices-in)
       ∙ ap (λ (f : ℕ → ℕ). volume (next-in (darts-in m)) f (first-serial (sides t))) (same-opposite w t inside darts points vertices-in)
-      ∙ ap (volume (next-in (darts-in m)) (opposite-in (darts-in m))) (ap first-serial (all-sides w t inside darts points vertices-in) ∙ first-tab (side-at v x b z) k (w .some-darts) ∙ sym (serial-of w 0 h))
+      ∙ ap (volume (next-in (darts-in m)) (opposite-in (darts-in m)))
+      (ap first-serial (all-sides w t inside darts points vertices-in) ∙ first-tab (side-at v x b z) k (w .some-darts)
+      ∙ sym (serial-of w 0 h))
       ∙ sym (volume-carried (sited w) (getD ranks 0 0) (rank-in 0 h))
 
   serial-in : (i : ℕ) → i < k → mem (getD x i 0) (map (column m 0) reached) ≡ mem (getD ranks i 0) reached
   serial-in i h = ap (λ (y : ℕ). mem y (map (column m 0) reached)) (sym (serial-of w i h))
-      ∙ mem-map (column m 0) (getD ranks i 0) reached (λ y j e. serials-apart (sited w) (getD ranks i 0) y (rank-in i h) (volume-below (sited w .linked) (rank-in 0 (omega (arith, w .some-darts))) y j) e)
+      ∙ mem-map (column m 0) (getD ranks i 0) reached
+      (λ y j e. serials-apart (sited w) (getD ranks i 0) y (rank-in i h)
+      (volume-below (sited w .linked) (rank-in 0 (omega (arith, w .some-darts))) y j) e)
 
   -- every place is the rank of an index
   by-rank : (p : ℕ → Bool) → all (λ i. p (getD ranks i 0)) (tab (λ i. i) k) ≡ all p (tab (λ i. i) k)
@@ -122,11 +126,13 @@ module _ {v x b z keys ranks q s : List ℕ} {from k : ℕ} {m : List ℕ} (w : 
         ∙ ap (λ (l : List ℕ). length (vertices (column m 1) (column m 2) l)) (sym (ranks-taken fit)) ∙ sym (numbered .count-is)
 
     -- the numbers that the message has, beside those that its darts have
-    numbers-are : same-list (map (λ a. a .tail) (sides t)) (map (vertex-number nx op (map (column m 0) places)) (map (column m 0) places)) ≡ all (λ i. eqb (getD v i 0) (getD numbers (getD ranks i 0) 0)) (tab (λ i. i) k)
+    numbers-are : same-list (map (λ a. a .tail) (sides t)) (map (vertex-number nx op (map (column m 0) places)) (map (column m 0) places))
+        ≡ all (λ i. eqb (getD v i 0) (getD numbers (getD ranks i 0) 0)) (tab (λ i. i) k)
     numbers-are =
         ap (λ (l : List ℕ). same-list l (map (vertex-number nx op (map (column m 0) places)) (map (column m 0) places)))
         (ap (map (λ (a : Side). a .tail)) (all-sides w t inside darts points vertices-in) ∙ map-tab (λ (a : Side). a .tail) (side-at v x b z) k)
-        ∙ ap (same-list (tab (λ i. getD v i 0) k)) (ap (map (vertex-number nx op (map (column m 0) places))) (map-tab (column m 0) (λ i. getD ranks i 0) k) ∙ map-tab (vertex-number nx op (map (column m 0) places)) (λ i. column m 0 (getD ranks i 0)) k
+        ∙ ap (same-list (tab (λ i. getD v i 0) k))
+        (ap (map (vertex-number nx op (map (column m 0) places))) (map-tab (column m 0) (λ i. getD ranks i 0) k) ∙ map-tab (vertex-number nx op (map (column m 0) places)) (λ i. column m 0 (getD ranks i 0)) k
         ∙ tab-cong _ (λ i. getD numbers (getD ranks i 0) 0) k number-of)
         ∙ same-tabs (λ i. getD v i 0) (λ i. getD numbers (getD ranks i 0) 0) k
 

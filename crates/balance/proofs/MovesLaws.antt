@@ -154,7 +154,10 @@ between-there s {l} {m} {s′} {r} {a} {b} e f g u =
 
 -- counts are small
 picked-few : (o : Oracle) (m : List ℕ) → is-image rack m ≡ true → length (picked o (darts-in m)) ≤ 4096
-picked-few o m ok = few-of (ap length (picked-places o m ok) ∙ length-map kept (column m 0)) (keep-le (λ p. ltb 0 (size-at o m p)) (places (getD m 2 0))) (length-tab (λ (p : ℕ). p) (getD m 2 0)) (sited rack m ok .linked .few)
+picked-few o m ok =
+    few-of (ap length (picked-places o m ok) ∙ length-map kept (column m 0))
+    (keep-le (λ p. ltb 0 (size-at o m p)) (places (getD m 2 0))) (length-tab (λ (p : ℕ). p) (getD m 2 0))
+    (sited rack m ok .linked .few)
   where
     kept : List ℕ
     kept = keep (λ p. ltb 0 (size-at o m p)) (places (getD m 2 0))
@@ -290,7 +293,12 @@ module _ (o : Oracle) (mesh : List ℕ) {s : List ℤ} (ss : Surpluses o mesh s)
 
   pub some-of-both : {r t : Bool} → r ≡ any is-above (tab (λ i. getD s i (pos 0)) (blocks mesh)) → not r ≡ false → t ≡ any is-below (tab (λ i. getD s i (pos 0)) (blocks mesh)) → not t ≡ false
       → served (first-or blocked (all-moves o mesh)) ≡ served (next-of all-rack o (mesh-in mesh))
-  some-of-both {r} {t} e h f k = ap served (sym (next-is ∙ both (any is-above model-surpluses) (any is-below model-surpluses) (sym (any-same is-above) ∙ sym e ∙ not-false r h) (sym (any-same is-below) ∙ sym f ∙ not-false t k)))
+  some-of-both {r} {t} e h f k =
+      ap served
+      (sym
+      (next-is
+      ∙ both (any is-above model-surpluses) (any is-below model-surpluses) (sym (any-same is-above) ∙ sym e ∙ not-false r h)
+      (sym (any-same is-below) ∙ sym f ∙ not-false t k)))
     where
       both : (a b : Bool) → a ≡ true → b ≡ true → first-or (cond (not a || not b) level blocked) (all-moves o mesh) ≡ first-or blocked (all-moves o mesh)
       both a b x y = rw (x, y) refl
@@ -333,10 +341,12 @@ sound-parts mesh images right =
     }
 
 -- WHAT A SIGN SAYS
-pub below-told : {o : Oracle} {mesh : List ℕ} {s : List ℤ} → Surpluses o mesh s → (b : ℕ) → b < blocks mesh → {x : ℤ} → x ≡ getD s b (pos 0) → {t : Bool} → t ≡ is-below x → t ≡ is-below (surplus-at o mesh b)
+pub below-told : {o : Oracle} {mesh : List ℕ} {s : List ℤ} → Surpluses o mesh s → (b : ℕ) → b < blocks mesh → {x : ℤ} → x ≡ getD s b (pos 0)
+    → {t : Bool} → t ≡ is-below x → t ≡ is-below (surplus-at o mesh b)
 below-told ss b h e f = f ∙ ap is-below (e ∙ ss .entry b h)
 
-pub above-told : {o : Oracle} {mesh : List ℕ} {s : List ℤ} → Surpluses o mesh s → (b : ℕ) → b < blocks mesh → {x : ℤ} → x ≡ getD s b (pos 0) → {t : Bool} → t ≡ is-above x → t ≡ is-above (surplus-at o mesh b)
+pub above-told : {o : Oracle} {mesh : List ℕ} {s : List ℤ} → Surpluses o mesh s → (b : ℕ) → b < blocks mesh → {x : ℤ} → x ≡ getD s b (pos 0)
+    → {t : Bool} → t ≡ is-above x → t ≡ is-above (surplus-at o mesh b)
 above-told ss b h e f = f ∙ ap is-above (e ∙ ss .entry b h)
 
 -- a block that is above is none that is below

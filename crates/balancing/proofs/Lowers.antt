@@ -142,7 +142,11 @@ module _ (lims : ℕ → Limits) (fit : Fit lims) (k : ℕ) (u : State) (label :
     lowered-after : (label' : ℕ → Label) → Inv lims k u' label' → (after : List Block) → map image after ≡ map image (mesh-by k u' label') → suc (positive-surplus o after) ≡ positive-surplus o mesh
     unfolding positive-surplus
     lowered-after label' I' after e =
-        let now : counts o after ≡ tab (count-by o u') k = counts-same lims o after (mesh-by k u' label') (mesh-parts lims (mesh-by k u' label') (mesh-sound lims k u' label' I') .blocks-sound) e ∙ counts-are lims fit k u' label' I' o in
+        let now : counts o after ≡ tab (count-by o u') k =
+        counts-same lims o after (mesh-by k u' label')
+        (mesh-parts lims (mesh-by k u' label') (mesh-sound lims k u' label' I') .blocks-sound) e
+        ∙ counts-are lims fit k u' label' I' o
+        in
         ap (λ (cs : List ℕ). suc (sum (map positive-part (surpluses cs)))) now ∙ lowered
         ∙ ap (λ (cs : List ℕ). sum (map positive-part (surpluses cs))) (sym (counts-are lims fit k u label I o))
 

@@ -64,7 +64,10 @@ module _ {b z indices : List ℕ} {n k c : ℕ} {w : ℕ → ℕ → ℕ} (o : M
   off q u e l = ⊎-elim
       (λ (y : q < getD indices e 0). inl y)
       (λ (y : getD indices e 0 ≤ q). ⊎-elim
-      (λ (v : q < getD indices e 0 + getD z (getD indices e 0) 0). absurd (u e l (let i : getD indices e 0 + (q - getD indices e 0) ≡ q = omega (arith, y) in ap (λ (p : ℕ). getD b p 0) (sym i) ∙ start-of-dart e (q - getD indices e 0) l (omega (arith, y, v)))))
+      (λ (v : q < getD indices e 0 + getD z (getD indices e 0) 0). absurd
+      (u e l
+      (let i : getD indices e 0 + (q - getD indices e 0) ≡ q = omega (arith, y) in ap (λ (p : ℕ). getD b p 0) (sym i) ∙
+      start-of-dart e (q - getD indices e 0) l (omega (arith, y, v)))))
       (λ (v : getD indices e 0 + getD z (getD indices e 0) 0 ≤ q). inr v)
       (lt-or-ge q (getD indices e 0 + getD z (getD indices e 0) 0)))
       (lt-or-ge q (getD indices e 0))
@@ -95,13 +98,20 @@ module _ {A : Type 0} (part : A → List Link) (entry : ℕ → A) (s : ℕ → 
 
   pub part2-new : (e j : ℕ) → e < c → j < size e → find (λ l. l .dart) (new e j) (concat-map part (tab entry c)) ≡ some (record { dart = new e j; third = sewn (s (w e j)) })
   part2-new e j he hj = found-at (λ l. l .dart) part (new e j) entry c e he
-      (ap (find (λ l. l .dart) (new e j)) (part-is e he) ∙ sewn-new (λ j. new e j) (λ j. s (w e j)) (size e) j hj (λ i l q. let one = new-one e j e i he hj he (omega (arith, hj, l)) q in omega (arith, one .1, l)) (λ i l q. new-old e j e i he hj he (omega (arith, hj, l)) q))
+      (ap (find (λ l. l .dart) (new e j)) (part-is e he)
+      ∙ sewn-new (λ j. new e j) (λ j. s (w e j)) (size e) j hj
+      (λ i l q. let one = new-one e j e i he hj he (omega (arith, hj, l)) q in omega (arith, one .1, l))
+      (λ i l q. new-old e j e i he hj he (omega (arith, hj, l)) q))
       (λ d l. let hd : d < c = omega (arith, l, he) in none-in (new e j) d hd (λ i hi q. let one = new-one e j d i he hj hd hi q in omega (arith, one .0, l)) (λ i hi q. new-old e j d i he hj hd hi q))
 
   pub part2-old : (e j : ℕ) → e < c → j < size e → find (λ l. l .dart) (s (w e j)) (concat-map part (tab entry c)) ≡ some (record { dart = s (w e j); third = sewn (new e j) })
   part2-old e j he hj = found-at (λ l. l .dart) part (s (w e j)) entry c e he
-      (ap (find (λ l. l .dart) (s (w e j))) (part-is e he) ∙ sewn-old (λ j. new e j) (λ j. s (w e j)) (size e) j hj (λ q. new-old e j e j he hj he hj (sym q)) (λ i l q. new-old e i e j he (omega (arith, hj, l)) he hj (sym q)) (λ i l q. let one = old-one e j e i he hj he (omega (arith, hj, l)) q in omega (arith, one .1, l)))
-      (λ d l. let hd : d < c = omega (arith, l, he) in none-in (s (w e j)) d hd (λ i hi q. new-old d i e j hd hi he hj (sym q)) (λ i hi q. let one = old-one e j d i he hj hd hi q in omega (arith, one .0, l)))
+      (ap (find (λ l. l .dart) (s (w e j))) (part-is e he)
+      ∙ sewn-old (λ j. new e j) (λ j. s (w e j)) (size e) j hj (λ q. new-old e j e j he hj he hj (sym q))
+      (λ i l q. new-old e i e j he (omega (arith, hj, l)) he hj (sym q))
+      (λ i l q. let one = old-one e j e i he hj he (omega (arith, hj, l)) q in omega (arith, one .1, l)))
+      (λ d l. let hd : d < c = omega (arith, l, he) in none-in (s (w e j)) d hd (λ i hi q. new-old d i e j hd hi he hj (sym q))
+      (λ i hi q. let one = old-one e j d i he hj hd hi q in omega (arith, one .0, l)))
 
 -- ALL LINKS
 module _ (s : ℕ → ℕ) (x : List ℕ) {b z : List ℕ} (kinds links : List ℕ) {n k : ℕ} (segs : Segments b z k) (r : Apart s x n k) where
@@ -158,7 +168,8 @@ module _ {A : Type 0} (part : A → List Link) (entry : ℕ → A) (s : ℕ → 
       (part2-old part entry s x (g .serials) o part-is (v .entry) (v .at) (v .below) (v .inside)))
 
   -- a new dart on no face of part 2
-  found-off : (q : ℕ) → q < k → ((e : ℕ) → e < c → getD b q 0 ≡ getD indices e 0 → ⊥) → find (λ l. l .dart) (getD x q 0) all-links ≡ cond (mem (getD b q 0) starts) (some (link-of s x kinds links q)) none
+  found-off : (q : ℕ) → q < k → ((e : ℕ) → e < c → getD b q 0 ≡ getD indices e 0 → ⊥)
+      → find (λ l. l .dart) (getD x q 0) all-links ≡ cond (mem (getD b q 0) starts) (some (link-of s x kinds links q)) none
   found-off q h u = found-right (λ l. l .dart) (getD x q 0) (concat-map part (tab entry c)) (concat-map (face-links s x z kinds links) starts)
       (part2-none part entry s x (g .serials) o part-is (getD x q 0)
       (λ e j he hj f. let same = g .serials .new-differ q (getD indices e 0 + j) h (dart-below o e j he hj) f in u e he (ap (λ (p : ℕ). getD b p 0) same ∙ start-of-dart o e j he hj))
@@ -172,7 +183,9 @@ module _ {A : Type 0} (part : A → List Link) (entry : ℕ → A) (s : ℕ → 
       (λ e j he hj f. u e j he hj (sym (g .serials .old-differ p (w e j) h (o .met-below e j he hj) f))))
       (critical-none s x kinds links (o .segs) (g .serials) p h starts (g .before .all-start))
 
-  new-linked-off : (q : ℕ) → q < k → ((e : ℕ) → e < c → getD b q 0 ≡ getD indices e 0 → ⊥) → (getD kinds′ q 0 ≡ 0 → ⊥) → find (λ l. l .dart) (getD x q 0) all-links ≡ some (record { dart = getD x q 0; third = third-in s (getD kinds′ q 0) (getD links′ q 0) })
+  new-linked-off : (q : ℕ) → q < k → ((e : ℕ) → e < c → getD b q 0 ≡ getD indices e 0 → ⊥) → (getD kinds′ q 0 ≡ 0 → ⊥)
+      → find (λ l. l .dart) (getD x q 0) all-links
+      ≡ some (record { dart = getD x q 0; third = third-in s (getD kinds′ q 0) (getD links′ q 0) })
   new-linked-off q h u v = by-cases (mem (getD b q 0) starts)
       (λ t. found-off q h u ∙ ap (λ (d : Bool). cond d (some (link-of s x kinds links q)) none) t ∙ words (sym (kind-off q u)) (sym (link-off q u)))
       (λ t. absurd (v (kind-off q u ∙ g .before .kind-out q h t)))
@@ -189,7 +202,10 @@ module _ {A : Type 0} (part : A → List Link) (entry : ℕ → A) (s : ℕ → 
       zero-two a e m = omega arith
 
   new-linked-on : {q : ℕ} (v : On b z indices c q) → find (λ l. l .dart) (getD x q 0) all-links ≡ some (record { dart = getD x q 0; third = third-in s (getD kinds′ q 0) (getD links′ q 0) })
-  new-linked-on {q} v = found-new v ∙ ap (λ (d : Third). some (record { dart = getD x q 0; third = d })) (ap (λ (a : ℕ). sewn (s a)) (sym (link-on v)) ∙ sym (third-sewn s (getD kinds′ q 0) (getD links′ q 0) (kind-on v)))
+  new-linked-on {q} v =
+      found-new v
+      ∙ ap (λ (d : Third). some (record { dart = getD x q 0; third = d }))
+      (ap (λ (a : ℕ). sewn (s a)) (sym (link-on v)) ∙ sym (third-sewn s (getD kinds′ q 0) (getD links′ q 0) (kind-on v)))
 
 -- the words are the links
 pub linking : {A : Type 0} (part : A → List Link) (entry : ℕ → A) (m : List ℕ) {x b z indices starts kinds links kinds′ links′ : List ℕ} {n k c : ℕ} {w : ℕ → ℕ → ℕ}
@@ -201,9 +217,14 @@ linking part entry m {x} {b} {z} {indices} {starts} {kinds} {links} {kinds′} {
       (λ (v : On b z indices c i). kind-sewn (kind-on part entry s g part-is v))
       (λ (u : (e : ℕ) → e < c → getD b i 0 ≡ getD indices e 0 → ⊥). both-words (sym (kind-off part entry s g part-is i u)) (sym (link-off part entry s g part-is i u)) (g .before .kind-right i h))
       (on-or-not (g .meets) i h);
-  link-below = λ i h e. let v = sewn-on part entry s g part-is i h e in subst (λ (a : ℕ). a < n) (sym (link-on part entry s g part-is v)) (g .meets .met-below (v .entry) (v .at) (v .below) (v .inside));
+  link-below =
+      λ i h e. let v = sewn-on part entry s g part-is i h e in subst (λ (a : ℕ). a < n) (sym (link-on part entry s g part-is v))
+      (g .meets .met-below (v .entry) (v .at) (v .below) (v .inside));
   link-apart = λ i j hi hj ei ej f. let u = sewn-on part entry s g part-is i hi ei in let v = sewn-on part entry s g part-is j hj ej in
-      let one = g .meets .met-differ (u .entry) (u .at) (v .entry) (v .at) (u .below) (u .inside) (v .below) (v .inside) (sym (link-on part entry s g part-is u) ∙ f ∙ link-on part entry s g part-is v) in
+      let one =
+      g .meets .met-differ (u .entry) (u .at) (v .entry) (v .at) (u .below) (u .inside) (v .below) (v .inside)
+      (sym (link-on part entry s g part-is u) ∙ f ∙ link-on part entry s g part-is v)
+      in
       u .index ∙ same-index (one .0) (one .1) ∙ sym (v .index);
   new-free = λ i h e. ⊎-elim
       (λ (v : On b z indices c i). absurd (let f = sym e ∙ kind-on part entry s g part-is v in omega (arith, f)))

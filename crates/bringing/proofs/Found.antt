@@ -36,7 +36,9 @@ module _ {A B : Type 0} (key : A → ℕ) (of : B → List A) (y : ℕ) where
   pub found-at : (g : ℕ → B) (n p : ℕ) {d : A} → p < n → find key y (of (g p)) ≡ some d → ((i : ℕ) → i < p → find key y (of (g i)) ≡ none) → find key y (concat-map of (tab g n)) ≡ some d
   found-at g zero p l e h = absurd (omega arith)
   found-at g (suc n) zero l e h = found-left key y (of (g 0)) (concat-map of (tab (λ i. g (suc i)) n)) e
-  found-at g (suc n) (suc p) l e h = found-right key y (of (g 0)) (concat-map of (tab (λ i. g (suc i)) n)) (h 0 (omega arith)) (found-at (λ i. g (suc i)) n p (omega arith) e (λ i u. h (suc i) (omega arith)))
+  found-at g (suc n) (suc p) l e h =
+      found-right key y (of (g 0)) (concat-map of (tab (λ i. g (suc i)) n)) (h 0 (omega arith))
+      (found-at (λ i. g (suc i)) n p (omega arith) e (λ i u. h (suc i) (omega arith)))
 
 -- AMONG THE LINKS THAT SEW f TO g
 abbrev both : ℕ × ℕ → List Link
@@ -59,8 +61,10 @@ module _ (f g : ℕ → ℕ) (n : ℕ) where
   pub sewn-none : (y : ℕ) → ((j : ℕ) → j < n → y ≡ f j → ⊥) → ((j : ℕ) → j < n → y ≡ g j → ⊥) → find (λ l. l .dart) y (sew-both (tab (λ j. (f j, g j)) n)) ≡ none
   sewn-none y u v = never-found (λ l. l .dart) both y (λ j. (f j, g j)) n (λ j h. both-none y (f j) (g j) (u j h) (v j h))
 
-  pub sewn-new : (j : ℕ) → j < n → ((i : ℕ) → i < j → f j ≡ f i → ⊥) → ((i : ℕ) → i < j → f j ≡ g i → ⊥) → find (λ l. l .dart) (f j) (sew-both (tab (λ j. (f j, g j)) n)) ≡ some (record { dart = f j; third = sewn (g j) })
+  pub sewn-new : (j : ℕ) → j < n → ((i : ℕ) → i < j → f j ≡ f i → ⊥) → ((i : ℕ) → i < j → f j ≡ g i → ⊥)
+      → find (λ l. l .dart) (f j) (sew-both (tab (λ j. (f j, g j)) n)) ≡ some (record { dart = f j; third = sewn (g j) })
   sewn-new j h u v = found-at (λ l. l .dart) both (f j) (λ j. (f j, g j)) n j h (both-new (f j) (g j)) (λ i l. both-none (f j) (f i) (g i) (u i l) (v i l))
 
-  pub sewn-old : (j : ℕ) → j < n → (g j ≡ f j → ⊥) → ((i : ℕ) → i < j → g j ≡ f i → ⊥) → ((i : ℕ) → i < j → g j ≡ g i → ⊥) → find (λ l. l .dart) (g j) (sew-both (tab (λ j. (f j, g j)) n)) ≡ some (record { dart = g j; third = sewn (f j) })
+  pub sewn-old : (j : ℕ) → j < n → (g j ≡ f j → ⊥) → ((i : ℕ) → i < j → g j ≡ f i → ⊥) → ((i : ℕ) → i < j → g j ≡ g i → ⊥)
+      → find (λ l. l .dart) (g j) (sew-both (tab (λ j. (f j, g j)) n)) ≡ some (record { dart = g j; third = sewn (f j) })
   sewn-old j h o u v = found-at (λ l. l .dart) both (g j) (λ j. (f j, g j)) n j h (both-old (f j) (g j) o) (λ i l. both-none (g j) (f i) (g i) (u i l) (v i l))

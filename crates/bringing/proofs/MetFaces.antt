@@ -49,7 +49,9 @@ module _ {m : List ℕ} (site : Sited m) where
   abbrev pub met : ℕ → ℕ → ℕ
   met y j = iter (column m 1) (size y - j) y
 
-  round : (y : ℕ) → y < count-in m → (0 < size y) × (cycle (column m 1) y ≡ path (column m 1) (size y) y) × (iter (column m 1) (size y) y ≡ y) × ((k : ℕ) → 0 < k → k < size y → iter (column m 1) k y ≢ y)
+  round : (y : ℕ) → y < count-in m
+      → (0 < size y) × (cycle (column m 1) y ≡ path (column m 1) (size y) y) × (iter (column m 1) (size y) y ≡ y)
+      × ((k : ℕ) → 0 < k → k < size y → iter (column m 1) k y ≢ y)
   unfolding cycle
   round y h =
       let r = around-path (column m 1) (places (count-in m)) stays one 4096 y few (in-places (count-in m) y h) in
@@ -118,7 +120,9 @@ module _ {m : List ℕ} (site : Sited m) where
   serial-least y h = ap least (sym (cycle-carried site y h)) ∙ least-map (site .ascends) (cycle (column m 1) y) (least (cycle (column m 1) y)) (least-in-cycle y h) (on-below y h)
 
   -- OF THE ENTRIES of part 2, whose labels stand at places y
-  module _ (ms : List Part2) (entry : ℕ → Part2) (y : ℕ → ℕ) (c : ℕ) (entries : ms ≡ tab entry c) (below : (e : ℕ) → e < c → y e < count-in m) (found : (e : ℕ) → e < c → labelled (entry e .label) (darts-in m) .serial ≡ column m 0 (y e)) where
+  module _ (ms : List Part2) (entry : ℕ → Part2) (y : ℕ → ℕ) (c : ℕ) (entries : ms ≡ tab entry c)
+      (below : (e : ℕ) → e < c → y e < count-in m)
+      (found : (e : ℕ) → e < c → labelled (entry e .label) (darts-in m) .serial ≡ column m 0 (y e)) where
     apart-is : part2-apart (darts-in m) ms ≡ distinct (tab (λ e. column m 0 (least (cycle (column m 1) (y e)))) c)
     unfolding part2-apart
     apart-is = ap distinct (ap (map (λ (e : Part2). least (cycle (next-in (darts-in m)) (labelled (e .label) (darts-in m) .serial)))) entries

@@ -52,7 +52,8 @@ steps-iter f zero y = refl
 steps-iter f (suc k) y = steps-iter f k (f y)
 
 -- THE SERIALS of new darts that the block does not hold
-pub serials-apart : (m x : List ℕ) (k : ℕ) → Sited m → ((i j : ℕ) → i < k → j < k → getD x i 0 ≡ getD x j 0 → i ≡ j) → ((i : ℕ) → i < k → held (darts-in m) (getD x i 0) ≡ false) → Apart (column m 0) x (getD m 2 0) k
+pub serials-apart : (m x : List ℕ) (k : ℕ) → Sited m → ((i j : ℕ) → i < k → j < k → getD x i 0 ≡ getD x j 0 → i ≡ j)
+    → ((i : ℕ) → i < k → held (darts-in m) (getD x i 0) ≡ false) → Apart (column m 0) x (getD m 2 0) k
 serials-apart m x k site differ free = record {
   new-differ = differ;
   old-differ = λ p q hp hq e. one-place (site .ascends) hp hq e;
@@ -60,11 +61,21 @@ serials-apart m x k site differ free = record {
 }
 
 -- those that question 18 finds new, in a draft
-pub drafted-apart : (m : List ℕ) {v x b z keys ranks q s d : List ℕ} {from from′ n k : ℕ} {r : Bool} → Sited m → Draft v x b z keys ranks q s from k d → NewSerials (darts-in m) s from′ n x k keys ranks r → r ≡ true → Apart (column m 0) x (getD m 2 0) k
-drafted-apart m {x = x} {s = s} {from′ = from′} {n = n} {k = k} site draft new e = serials-apart m x k site (serials-differ draft) (λ i h. not-true _ (and-right (leb 1 (getD x i 0)) _ (all-tab (λ i. leb 1 (getD x i 0) && not (held (darts-in m) (getD x i 0))) (λ i. i) k tests i h)))
+pub drafted-apart : (m : List ℕ) {v x b z keys ranks q s d : List ℕ} {from from′ n k : ℕ} {r : Bool} → Sited m
+    → Draft v x b z keys ranks q s from k d → NewSerials (darts-in m) s from′ n x k keys ranks r → r ≡ true
+    → Apart (column m 0) x (getD m 2 0) k
+drafted-apart m {x =
+    x} {s = s} {from′ = from′} {n = n} {k = k} site draft new e = serials-apart m x k site (serials-differ draft) (λ i h. not-true
+    _
+    (and-right (leb 1 (getD x i 0)) _ (all-tab (λ i. leb 1 (getD x i 0) && not (held (darts-in m) (getD x i 0))) (λ i. i) k tests i h)))
   where
     tests : all (λ i. leb 1 (getD x i 0) && not (held (darts-in m) (getD x i 0))) (tab (λ i. i) k) ≡ true
-    tests = and-right (all finite (points-in s from′ n)) (all (λ i. leb 1 (getD x i 0) && not (held (darts-in m) (getD x i 0))) (tab (λ i. i) k)) (and-left (all finite (points-in s from′ n) && all (λ i. leb 1 (getD x i 0) && not (held (darts-in m) (getD x i 0))) (tab (λ i. i) k)) (distinct (take k x)) (sym (new .is) ∙ e))
+    tests =
+        and-right (all finite (points-in s from′ n))
+        (all (λ i. leb 1 (getD x i 0) && not (held (darts-in m) (getD x i 0))) (tab (λ i. i) k))
+        (and-left
+        (all finite (points-in s from′ n) && all (λ i. leb 1 (getD x i 0) && not (held (darts-in m) (getD x i 0))) (tab (λ i. i) k))
+        (distinct (take k x)) (sym (new .is) ∙ e))
 
 module _ (m : List ℕ) (ok : is-image rack m ≡ true) where
   steps-below : (k y : ℕ) → y < getD m 2 0 → steps (column m 1) k y < getD m 2 0
@@ -72,13 +83,17 @@ module _ (m : List ℕ) (ok : is-image rack m ≡ true) where
   steps-below (suc k) y h = steps-below k (column m 1 y) (sited rack m ok .linked .next-within y h)
 
   -- AN ENTRY whose label the dart at place y has, with a face of n darts from index i on
-  pub part2-is : (t : Transfer) (x : List ℕ) (e : Part2) (i n y : ℕ) (w : ℕ → ℕ) → face-from t (e .index) ≡ tab (λ j. getD x (i + j) 0) n → labelled (e .label) (darts-in m) ≡ dart-in m y → y < getD m 2 0 → n ≡ length (cycle (column m 1) y)
+  pub part2-is : (t : Transfer) (x : List ℕ) (e : Part2) (i n y : ℕ) (w : ℕ → ℕ) → face-from t (e .index) ≡ tab (λ j. getD x (i + j) 0) n
+      → labelled (e .label) (darts-in m) ≡ dart-in m y → y < getD m 2 0 → n ≡ length (cycle (column m 1) y)
       → ((j : ℕ) → j < n → w j ≡ steps (column m 1) (n - j) y) → part2-links (block-in m .darts) t e ≡ met-links (column m 0) x i n w
   unfolding part2-links
   part2-is t x e i n y w face found hy size met =
       ap (λ (d : Dart). sew-both (zip (face-from t (e .index)) (cycle (previous-in (darts-in m)) (d .serial)))) found
       ∙ ap (λ (f : List ℕ). sew-both (zip f (cycle (previous-in (darts-in m)) (column m 0 y)))) face
-      ∙ ap (λ (g : List ℕ). sew-both (zip (tab (λ j. getD x (i + j) 0) n) g)) (met-face m ok y hy ∙ ap (λ (c : ℕ). tab (λ j. column m 0 (iter (column m 1) (c - j) y)) c) (sym size) ∙ tab-cong (λ j. column m 0 (iter (column m 1) (n - j) y)) (λ j. column m 0 (w j)) n (λ j h. ap (column m 0) (sym (met j h ∙ steps-iter (column m 1) (n - j) y))))
+      ∙ ap (λ (g : List ℕ). sew-both (zip (tab (λ j. getD x (i + j) 0) n) g))
+      (met-face m ok y hy ∙ ap (λ (c : ℕ). tab (λ j. column m 0 (iter (column m 1) (c - j) y)) c) (sym size)
+      ∙ tab-cong (λ j. column m 0 (iter (column m 1) (n - j) y)) (λ j. column m 0 (w j)) n
+      (λ j h. ap (column m 0) (sym (met j h ∙ steps-iter (column m 1) (n - j) y))))
       ∙ sew-tab (λ j. getD x (i + j) 0) (λ j. column m 0 (w j)) n
 
 -- AN ARRAY that begins with what entries have
@@ -119,15 +134,21 @@ module _ (m : List ℕ) (ok : is-image rack m ≡ true) {t : Transfer} {v x b z 
   fit = ap (λ (d : ℕ). indices-fit b d (map index2 (t .part2)) (map index3 (t .part3)) (map index4 (t .part4))) (a .darts) ∙ sym (indices-are t (a .inside) (a .full)) ∙ right
 
   fits2 : part-fits b k [] (take (l .count2) indices) ≡ true
-  fits2 = ap (part-fits b k []) (told .indices-are) ∙ and-left (part-fits b k [] (map index2 (t .part2))) _ (and-left (part-fits b k [] (map index2 (t .part2)) && part-fits b k (map index2 (t .part2)) (map index3 (t .part3))) _ fit)
+  fits2 =
+      ap (part-fits b k []) (told .indices-are)
+      ∙ and-left (part-fits b k [] (map index2 (t .part2))) _
+      (and-left (part-fits b k [] (map index2 (t .part2)) && part-fits b k (map index2 (t .part2)) (map index3 (t .part3))) _ fit)
 
   starts-in : (others r : List ℕ) → part-fits b k others r ≡ true → all (starts-at b k) r ≡ true
   starts-in others r h = and-left (all (starts-at b k) r) _ (and-left (all (starts-at b k) r && ascending r) _ h)
 
   all-start : all (starts-at b k) (told .starts) ≡ true
   all-start = ap (all (starts-at b k)) (told .starts-are) ∙ both-start (starts-at b k) (map index3 (t .part3)) (map index4 (t .part4))
-      (starts-in (map index2 (t .part2)) (map index3 (t .part3)) (and-right (part-fits b k [] (map index2 (t .part2))) _ (and-left (part-fits b k [] (map index2 (t .part2)) && part-fits b k (map index2 (t .part2)) (map index3 (t .part3))) _ fit)))
-      (starts-in (map index2 (t .part2) ++ map index3 (t .part3)) (map index4 (t .part4)) (and-right (part-fits b k [] (map index2 (t .part2)) && part-fits b k (map index2 (t .part2)) (map index3 (t .part3))) _ fit))
+      (starts-in (map index2 (t .part2)) (map index3 (t .part3))
+      (and-right (part-fits b k [] (map index2 (t .part2))) _
+      (and-left (part-fits b k [] (map index2 (t .part2)) && part-fits b k (map index2 (t .part2)) (map index3 (t .part3))) _ fit)))
+      (starts-in (map index2 (t .part2) ++ map index3 (t .part3)) (map index4 (t .part4))
+      (and-right (part-fits b k [] (map index2 (t .part2)) && part-fits b k (map index2 (t .part2)) (map index3 (t .part3))) _ fit))
 
   abbrev at : ℕ → ℕ
   at e = getD indices e 0
@@ -154,13 +175,17 @@ module _ (m : List ℕ) (ok : is-image rack m ≡ true) {t : Transfer} {v x b z 
     -- "on different faces": a yes exactly where no place is met twice
     pub met-once : part2-apart (block-in m .darts) (t .part2) ≡ true → MetOnce z indices (l .count2) w
     met-once apart = record {
-      once = λ d i e j hd hi he hj q. apart-differ (sited rack m ok) (t .part2) entry (λ e. getD places e 0) (l .count2) entries-are (met .place-below) (λ e h. ap (λ (r : Dart). r .serial) (labelled-there e h)) apart d i e j
+      once =
+          λ d i e j hd hi he hj q. apart-differ (sited rack m ok) (t .part2) entry (λ e. getD places e 0) (l .count2) entries-are
+          (met .place-below) (λ e h. ap (λ (r : Dart). r .serial) (labelled-there e h)) apart d i e j
           hd (subst (λ (c : ℕ). i < c) (met .size-is d hd) hi) he (subst (λ (c : ℕ). j < c) (met .size-is e he) hj) (sym (met-there d i hd hi) ∙ q ∙ met-there e j he hj);
     }
 
     pub once-apart : MetOnce z indices (l .count2) w → part2-apart (block-in m .darts) (t .part2) ≡ true
     once-apart r = differ-apart (sited rack m ok) (t .part2) entry (λ e. getD places e 0) (l .count2) entries-are (met .place-below) (λ e h. ap (λ (r : Dart). r .serial) (labelled-there e h))
-        (λ d i e j hd hi he hj q. let ui = subst (λ (c : ℕ). i < c) (sym (met .size-is d hd)) hi in let uj = subst (λ (c : ℕ). j < c) (sym (met .size-is e he)) hj in r .once d i e j hd ui he uj (met-there d i hd ui ∙ q ∙ sym (met-there e j he uj)) .0)
+        (λ d i e j hd hi he hj q. let ui = subst (λ (c : ℕ). i < c) (sym (met .size-is d hd)) hi in let uj = subst
+        (λ (c : ℕ). j < c) (sym (met .size-is e he)) hj in r .once d i e j hd ui he uj
+        (met-there d i hd ui ∙ q ∙ sym (met-there e j he uj)) .0)
 
     meets : MetOnce z indices (l .count2) w → Meets b z indices (getD m 2 0) k (l .count2) w
     meets o = record {
@@ -182,7 +207,9 @@ module _ (m : List ℕ) (ok : is-image rack m ≡ true) {t : Transfer} {v x b z 
     -- the words with part 2's put over those of parts 3 and 4 are the links of the transfer
     pub brought : {kinds′ links′ : List ℕ} → MetOnce z indices (l .count2) w → Apart (column m 0) x (getD m 2 0) k → ((q : ℕ) → q < k → Kind (getD kinds q 0) (getD links q 0))
         → Faced z indices (l .count2) (λ e j. 1) kinds kinds′ → Faced z indices (l .count2) w links links′ → Linking m (getD m 2 0) k x kinds′ links′ (transfer-links (block-in m .darts) t)
-    brought {kinds′} {links′} o serials kind-right kinds-put links-put = subst (Linking m (getD m 2 0) k x kinds′ links′) (sym links-are) (linking (part2-links (block-in m .darts) t) entry m sewing entry-is)
+    brought {kinds′} {links′} o serials kind-right kinds-put links-put =
+        subst (Linking m (getD m 2 0) k x kinds′ links′) (sym links-are)
+        (linking (part2-links (block-in m .darts) t) entry m sewing entry-is)
       where
         sewing : Sewing2 (column m 0) x b z indices (told .starts) kinds links kinds′ links′ (getD m 2 0) k (l .count2) w
         sewing = record {

@@ -192,10 +192,13 @@ module _ (n : ℕ) (f : ℕ → ℕ) (marks : List ℕ) (few : n ≤ room) (wf :
   unfolding faces
   no-faces low h = ap (faces f) (none-marked low h)
 
-  pub ordering-start : (low : ℕ) (out starts seen : List ℕ) → low ≤ n → ((q : ℕ) → q < low → getD marks q 0 ≡ 1 → ⊥) → length out ≡ room → length starts ≡ room → seen ≡ replicate room 0 → Ordering n f marks low out starts seen 0 0
+  pub ordering-start : (low : ℕ) (out starts seen : List ℕ) → low ≤ n → ((q : ℕ) → q < low → getD marks q 0 ≡ 1 → ⊥) → length out ≡ room
+      → length starts ≡ room → seen ≡ replicate room 0 → Ordering n f marks low out starts seen 0 0
   unfolding concat placed
   ordering-start low out starts seen le none a b e = record {
-    so-far = subst (λ (fs : List (List ℕ)). InOrder fs out starts 0 0) (sym (no-faces low none)) (record { out-size = a; starts-size = b; order = refl; darts-are = refl; indices = refl; count-is = refl });
+    so-far =
+        subst (λ (fs : List (List ℕ)). InOrder fs out starts 0 0) (sym (no-faces low none))
+        (record { out-size = a; starts-size = b; order = refl; darts-are = refl; indices = refl; count-is = refl });
     p-le = le;
     count-le = omega arith;
     seen-size = rw e (length-replicate {A = ℕ} room 0);
@@ -237,14 +240,24 @@ module _ (n : ℕ) (f : ℕ → ℕ) (marks : List ℕ) (few : n ≤ room) (wf :
       pub face-room : darts + length (cycle f p) ≤ room
       face-room = omega (arith, faces-fit (p + 1) (omega arith), o .so-far .darts-are, ap length longer, length-append (concat (faces f (marked p marks))) (cycle f p), small)
 
-      pub ordering-put : {end : ℕ} {out′ seen′ : List ℕ} → Put (cycle f p) darts out out′ end → Painted 1 (cycle f p) seen seen′ → Ordering n f marks (p + 1) out′ (set starts count darts) seen′ end (count + 1)
+      pub ordering-put : {end : ℕ} {out′ seen′ : List ℕ} → Put (cycle f p) darts out out′ end → Painted 1 (cycle f p) seen seen′
+          → Ordering n f marks (p + 1) out′ (set starts count darts) seen′ end (count + 1)
       ordering-put {end} {out′} {seen′} w s = record {
         so-far = record {
           out-size = w .size ∙ o .so-far .out-size;
           starts-size = simp length-set (o .so-far .starts-size);
           order = w .front ∙ ap (λ (l : List ℕ). l ++ cycle f p) (o .so-far .order) ∙ sym longer;
           darts-are = omega (arith, w .end, o .so-far .darts-are, ap length longer, length-append (concat (faces f (marked p marks))) (cycle f p));
-          indices = rw (new-face, placed-more 0 (faces f (marked p marks)) (cycle f p), map-append, ← o .so-far .indices, add-one, zero-add, ← o .so-far .darts-are) (take-suc-set starts count darts (omega (arith, o .so-far .starts-size, o .count-le, few)));
+          indices =
+              rw (
+                new-face,
+                placed-more 0 (faces f (marked p marks)) (cycle f p),
+                map-append,
+                ← o .so-far .indices,
+                add-one,
+                zero-add,
+                ← o .so-far .darts-are,
+              ) (take-suc-set starts count darts (omega (arith, o .so-far .starts-size, o .count-le, few)));
           count-is = omega (arith, o .so-far .count-is, ap length new-face, length-append (faces f (marked p marks)) (cycle f p ∷ []));
         };
         p-le = omega arith;
@@ -264,9 +277,12 @@ module _ (n : ℕ) (f : ℕ → ℕ) (marks : List ℕ) (few : n ≤ room) (wf :
   passed-over zero p none = ap (λ (j : ℕ). faces f (marked j marks)) (add-zero p)
   passed-over (suc k) p none =
       let more : p + suc k ≡ (p + k) + 1 = omega arith in
-      ap (λ (j : ℕ). faces f (marked j marks)) more ∙ unmarked-adds-none f marks (p + k) (ne-eqb (getD marks (p + k) 0) 1 (none (p + k) (omega arith) (omega arith))) ∙ passed-over k p (λ q a b. none q a (omega arith))
+      ap (λ (j : ℕ). faces f (marked j marks)) more
+      ∙ unmarked-adds-none f marks (p + k) (ne-eqb (getD marks (p + k) 0) 1 (none (p + k) (omega arith) (omega arith)))
+      ∙ passed-over k p (λ q a b. none q a (omega arith))
 
-  pub ordering-pass : {p q darts count : ℕ} {out starts seen : List ℕ} → Ordering n f marks p out starts seen darts count → p ≤ q → q ≤ n → ((x : ℕ) → p ≤ x → x < q → getD marks x 0 ≡ 1 → ⊥) → Ordering n f marks q out starts seen darts count
+  pub ordering-pass : {p q darts count : ℕ} {out starts seen : List ℕ} → Ordering n f marks p out starts seen darts count → p ≤ q → q ≤ n
+      → ((x : ℕ) → p ≤ x → x < q → getD marks x 0 ≡ 1 → ⊥) → Ordering n f marks q out starts seen darts count
   ordering-pass {p} {q} {darts} {count} {out} {starts} {seen} o le small none =
       let whole : p + (q - p) ≡ q = omega arith in
       let same : faces f (marked q marks) ≡ faces f (marked p marks) = ap (λ (j : ℕ). faces f (marked j marks)) (sym whole) ∙ passed-over (q - p) p (λ x a b. none x a (omega arith)) in
@@ -282,7 +298,14 @@ module _ (n : ℕ) (f : ℕ → ℕ) (marks : List ℕ) (few : n ≤ room) (wf :
   full-stays : (p : ℕ) → p < n → length (marked n marks) ≤ length (concat (faces f (marked p marks))) → faces f (marked (p + 1) marks) ≡ faces f (marked p marks)
   full-stays p h full = by-cases (eqb (getD marks p 0) 1)
       (λ m. by-cases (all (leb p) (cycle f p))
-      (λ e. absurd (omega (arith, faces-fit (p + 1) (omega arith), ap length (face-longer f marks p (by-start f marks p m e)), length-append (concat (faces f (marked p marks))) (cycle f p), round few wf af p h .some)))
+      (λ e. absurd
+      (omega (
+        arith,
+        faces-fit (p + 1) (omega arith),
+        ap length (face-longer f marks p (by-start f marks p m e)),
+        length-append (concat (faces f (marked p marks))) (cycle f p),
+        round few wf af p h .some,
+      )))
       (λ e. no-start-adds-none f marks p m e))
       (λ m. unmarked-adds-none f marks p m)
 
@@ -302,5 +325,11 @@ module _ (n : ℕ) (f : ℕ → ℕ) (marks : List ℕ) (few : n ≤ room) (wf :
     -- before that a place is left
     pub ordering-on : darts < length (marked n marks) → p < n
     ordering-on less = eq-or-ne p n
-        (λ e. absurd (omega (arith, distinct-fewer (marked n marks) (concat (faces f (marked n marks))) marked-distinct has, o .so-far .darts-are, ap (λ (j : ℕ). length (concat (faces f (marked j marks)))) e)))
+        (λ e. absurd
+        (omega (
+          arith,
+          distinct-fewer (marked n marks) (concat (faces f (marked n marks))) marked-distinct has,
+          o .so-far .darts-are,
+          ap (λ (j : ℕ). length (concat (faces f (marked j marks)))) e,
+        )))
         (λ e. omega (arith, o .p-le))

@@ -58,7 +58,10 @@ same-order {n} {s} a x y hx hy = by-cases (leb x y)
 module _ {m : List ℕ} (site : Sited m) where
   cycle-below : (x : ℕ) → x < count-in m → (y : ℕ) → In y (cycle (column m 1) x) → y < count-in m
   unfolding cycle
-  cycle-below x h y k = places-below (count-in m) y (face-stays (column m 1) (places (count-in m)) (within-places (site .linked .next-within)) (apart-places (site .linked .next-apart)) (few-places (site .linked .few)) x y (in-places (count-in m) x h) k)
+  cycle-below x h y k =
+      places-below (count-in m) y
+      (face-stays (column m 1) (places (count-in m)) (within-places (site .linked .next-within))
+      (apart-places (site .linked .next-apart)) (few-places (site .linked .few)) x y (in-places (count-in m) x h) k)
 
   pub cycle-carried : (x : ℕ) → x < count-in m → map (column m 0) (cycle (column m 1) x) ≡ cycle (next-in (darts-in m)) (column m 0 x)
   cycle-carried x h = carry-cycle (λ p. p < count-in m) (column m 0) (serials-apart site) (column m 1) (next-in (darts-in m)) (site .linked .next-within) (site .next-is) x h
@@ -74,7 +77,8 @@ module _ {m : List ℕ} (site : Sited m) where
       ap (map (cycle (next-in (darts-in m)))) (keep-map (λ x. all (leb x) (cycle (next-in (darts-in m)) x)) (column m 0) l
       ∙ ap (map (column m 0)) (keep-cong (λ x. all (leb (column m 0 x)) (cycle (next-in (darts-in m)) (column m 0 x))) (λ x. all (leb x) (cycle (column m 1) x)) l (λ x k. start-carried x (h x k))))
       ∙ map-map (column m 0) (cycle (next-in (darts-in m))) starts
-      ∙ map-cong (λ x. cycle (next-in (darts-in m)) (column m 0 x)) (λ x. map (column m 0) (cycle (column m 1) x)) starts (λ x k. sym (cycle-carried x (h x (keep-in (λ x. all (leb x) (cycle (column m 1) x)) l x k .0))))
+      ∙ map-cong (λ x. cycle (next-in (darts-in m)) (column m 0 x)) (λ x. map (column m 0) (cycle (column m 1) x)) starts
+      (λ x k. sym (cycle-carried x (h x (keep-in (λ x. all (leb x) (cycle (column m 1) x)) l x k .0))))
       ∙ sym (map-map (cycle (column m 1)) (map (column m 0)) starts)
 
   module _ (p : ℕ) (h : p < count-in m) {marks : List ℕ} (mk : Marked (volume-of m p) marks) where

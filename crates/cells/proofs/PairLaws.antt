@@ -62,7 +62,11 @@ module _ (key nx : ℕ → ℕ) where
   unfolding pairs-once
   once-to [] d o = refl
   once-to (z ∷ v) d o = and-intro (and-intro (not-equal (key z) (key (nx z)) (o .ends-differ z (in-here z v))) (new (any (same-pair (pair z)) (map pair v)) refl))
-      (once-to v (and-right (not (mem z v)) _ d) (record { ends-differ = λ x k. o .ends-differ x (in-there x z v k); pairs-differ = λ x y i j. o .pairs-differ x y (in-there x z v i) (in-there y z v j) }))
+      (once-to v (and-right (not (mem z v)) _ d)
+      (record {
+        ends-differ = λ x k. o .ends-differ x (in-there x z v k);
+        pairs-differ = λ x y i j. o .pairs-differ x y (in-there x z v i) (in-there y z v j);
+      }))
     where
       new : (b : Bool) → any (same-pair (pair z)) (map pair v) ≡ b → not (any (same-pair (pair z)) (map pair v)) ≡ true
       new false e = rw e
@@ -103,7 +107,8 @@ stamp-more {m} {c} {l} {stamps} s b h = record {
     neither false = refl
 
 -- as the calls leave the table
-pub stamped-first : {a : ℕ} (stamps : List ℕ) {stamps′ : List ℕ} → a < length stamps → ((b : ℕ) → getD stamps b 0 ≤ a) → stamps′ ≡ set stamps a (a + 1) → Stamped (length stamps′) (a + 1) (a ∷ []) stamps′
+pub stamped-first : {a : ℕ} (stamps : List ℕ) {stamps′ : List ℕ} → a < length stamps → ((b : ℕ) → getD stamps b 0 ≤ a)
+    → stamps′ ≡ set stamps a (a + 1) → Stamped (length stamps′) (a + 1) (a ∷ []) stamps′
 stamped-first {a} stamps h low e = rw (e, length-set) (stamp-start a stamps h low)
 
 pub stamped-next : {m c b : ℕ} {l stamps stamps′ : List ℕ} → Stamped m c l stamps → b < m → stamps′ ≡ set stamps b c → Stamped m c (l ++ b ∷ []) stamps′
@@ -140,7 +145,9 @@ module _ {n : ℕ} {nx f : ℕ → ℕ} {numbers stamps : List ℕ} {m x a c k p
           not-false′ true h = refl
           not-false′ false h = sym h
 
-      whole : (a ∷ map (λ q. getD numbers (nx q) 0) (cycle f x)) ≡ ((a ∷ map (λ q. getD numbers (nx q) 0) (path f k x)) ++ b ∷ []) ++ map (λ q. getD numbers (nx q) 0) (path f (c - suc k) (iter f (suc k) x))
+      whole : (a ∷ map (λ q. getD numbers (nx q) 0) (cycle f x))
+          ≡ ((a ∷ map (λ q. getD numbers (nx q) 0) (path f k x)) ++ b ∷ [])
+          ++ map (λ q. getD numbers (nx q) 0) (path f (c - suc k) (iter f (suc k) x))
       whole =
           let parts : c ≡ suc k + (c - suc k) = omega (arith, w .going .less) in
           ap (λ (l : List ℕ). a ∷ map (λ q. getD numbers (nx q) 0) l) (r .cycle-is ∙ ap (λ (j : ℕ). path f j x) parts ∙ path-split f (suc k) (c - suc k) x)
@@ -149,7 +156,10 @@ module _ {n : ℕ} {nx f : ℕ → ℕ} {numbers stamps : List ℕ} {m x a c k p
 
       twice : distinct (a ∷ map (λ q. getD numbers (nx q) 0) (cycle f x)) ≡ true → ⊥
       twice d =
-          let front = distinct-left ((a ∷ map (λ q. getD numbers (nx q) 0) (path f k x)) ++ b ∷ []) (map (λ q. getD numbers (nx q) 0) (path f (c - suc k) (iter f (suc k) x))) (sym (ap distinct whole) ∙ d) in
+          let front =
+          distinct-left ((a ∷ map (λ q. getD numbers (nx q) 0) (path f k x)) ++ b ∷ [])
+          (map (λ q. getD numbers (nx q) 0) (path f (c - suc k) (iter f (suc k) x))) (sym (ap distinct whole) ∙ d)
+          in
           true≢false (sym there ∙ distinct-apart (a ∷ map (λ q. getD numbers (nx q) 0) (path f k x)) (b ∷ []) front b (in-here b []))
 
   -- one that is not goes with the others
@@ -177,7 +187,9 @@ pub going-in : {n : ℕ} {f : ℕ → ℕ} {x c k p : ℕ} → Round f x c → G
 going-in {n} {f} {x} {c} {k} {p} r g = rw (r .cycle-is, g .at) (in-path f c x k (g .less))
 
 -- EACH VERTEX
-pub ends-all : (nx op : ℕ → ℕ) (numbers firsts : List ℕ) (count : ℕ) → ((a : ℕ) → a < count → distinct (a ∷ ends-of nx op numbers (getD firsts a 0)) ≡ true) → true ≡ ends-once nx op numbers firsts count
+pub ends-all : (nx op : ℕ → ℕ) (numbers firsts : List ℕ) (count : ℕ)
+    → ((a : ℕ) → a < count → distinct (a ∷ ends-of nx op numbers (getD firsts a 0)) ≡ true)
+    → true ≡ ends-once nx op numbers firsts count
 unfolding ends-once
 ends-all nx op numbers firsts count h = sym (tab-all (λ a. distinct (a ∷ ends-of nx op numbers (getD firsts a 0))) (λ a. a) count h)
 

@@ -131,7 +131,9 @@ module _ (n : ℕ) (nx op : ℕ → ℕ) (few : n ≤ room) (wn : Within n nx) (
 
   ring-distinct : (x : ℕ) → In x l → distinct (ring nx op x) ≡ true
   unfolding ring cycle
-  ring-distinct x h = face-distinct (λ d. nx (op d)) (places n) (within-places (step-within n nx op few wn an wo ao)) (apart-places (step-apart n nx op few wn an wo ao)) (few-places few) x (in-places n x (w .below x h))
+  ring-distinct x h =
+      face-distinct (λ d. nx (op d)) (places n) (within-places (step-within n nx op few wn an wo ao))
+      (apart-places (step-apart n nx op few wn an wo ao)) (few-places few) x (in-places n x (w .below x h))
 
   -- what the code asks of the arrays
   pub ended : Ended n nx op numbers first count
@@ -145,7 +147,9 @@ module _ (n : ℕ) (nx op : ℕ → ℕ) (few : n ≤ room) (wn : Within n nx) (
 
   -- a dart lies in the ring of the first dart with its number
   in-ring : (x a : ℕ) → In x l → getD numbers x 0 ≡ a → a < count → In x (ring nx op (getD first a 0))
-  in-ring x a h e k = one-ring n nx op few wn an wo ao (getD first a 0) x (w .below _ (m .firsts-in a k)) (w .below x h) (one-number x (getD first a 0) h (m .firsts-in a k) (e ∙ sym (first-number a k)))
+  in-ring x a h e k =
+      one-ring n nx op few wn an wo ao (getD first a 0) x (w .below _ (m .firsts-in a k)) (w .below x h)
+      (one-number x (getD first a 0) h (m .firsts-in a k) (e ∙ sym (first-number a k)))
 
   ring-number : (x a : ℕ) → a < count → In x (ring nx op (getD first a 0)) → getD numbers x 0 ≡ a
   ring-number x a k h = let i = ring-inside (getD first a 0) x (m .firsts-in a k) h in
@@ -159,7 +163,9 @@ module _ (n : ℕ) (nx op : ℕ → ℕ) (few : n ≤ room) (wn : Within n nx) (
         (in-map (λ q. getD numbers (nx q) 0) x (ring nx op (getD first (getD numbers x 0) 0)) (in-ring x (getD numbers x 0) h refl a)) (number-one (nx x) x (w .next-in x h) h (sym e));
     pairs-differ = λ x y i j ne e f.
         let a = number-below x i in
-        map-distinct (λ q. getD numbers (nx q) 0) (ring nx op (getD first (getD numbers x 0) 0)) (and-right (not (mem (getD numbers x 0) (ends-of nx op numbers (getD first (getD numbers x 0) 0)))) _ (t (getD numbers x 0) a)) x y
+        map-distinct (λ q. getD numbers (nx q) 0) (ring nx op (getD first (getD numbers x 0) 0))
+        (and-right (not (mem (getD numbers x 0) (ends-of nx op numbers (getD first (getD numbers x 0) 0)))) _
+        (t (getD numbers x 0) a)) x y
         (in-ring x (getD numbers x 0) i refl a) (in-ring y (getD numbers x 0) j (number-one y x j i (sym e)) a) ne (number-one (nx x) (nx y) (w .next-in x i) (w .next-in y j) f);
   }
 
@@ -205,7 +211,9 @@ module _ (n : ℕ) (nx op : ℕ → ℕ) (marks : List ℕ) (few : n ≤ room) (
 
   -- pairs in message order are pairs in ascending place
   pub pairs-order : pairs-once (vertex-pairs nx op (concat (faces nx (marked n marks)))) ≡ pairs-once (vertex-pairs nx op (marked n marks))
-  pairs-order = pairs-any nx op (marked n marks) (concat (faces nx (marked n marks))) (marked-distinct n nx marks few wn an cn) (order-distinct n nx marks few wn an cn) (has n nx marks few wn an cn) (only n nx marks few wn an cn)
+  pairs-order =
+      pairs-any nx op (marked n marks) (concat (faces nx (marked n marks))) (marked-distinct n nx marks few wn an cn)
+      (order-distinct n nx marks few wn an cn) (has n nx marks few wn an cn) (only n nx marks few wn an cn)
 
 -- BY SERIAL
 pairs-map : (h f g : ℕ → ℕ) (v : List ℕ) → ((x y : ℕ) → In x v → In y v → eqb (h (f x)) (h (f y)) ≡ eqb (f x) (f y)) → ((x y : ℕ) → In x v → In y v → eqb (h (g x)) (h (g y)) ≡ eqb (g x) (g y))
@@ -213,7 +221,12 @@ pairs-map : (h f g : ℕ → ℕ) (v : List ℕ) → ((x y : ℕ) → In x v →
 unfolding pairs-once
 pairs-map h f g [] a b c = refl
 pairs-map h f g (x ∷ v) a b c =
-    rw (c x (in-here x v), same v (λ y k. in-there y x v k), pairs-map h f g v (λ y z i j. a y z (in-there y x v i) (in-there z x v j)) (λ y z i j. b y z (in-there y x v i) (in-there z x v j)) (λ y i. c y (in-there y x v i)))
+    rw (
+      c x (in-here x v),
+      same v (λ y k. in-there y x v k),
+      pairs-map h f g v (λ y z i j. a y z (in-there y x v i) (in-there z x v j))
+          (λ y z i j. b y z (in-there y x v i) (in-there z x v j)) (λ y i. c y (in-there y x v i)),
+    )
   where
     same : (l : List ℕ) → ((y : ℕ) → In y l → In y (x ∷ v)) → any (same-pair (h (f x), h (g x))) (map (λ y. (h (f y), h (g y))) l) ≡ any (same-pair (f x, g x)) (map (λ y. (f y, g y)) l)
     same [] k = refl
@@ -221,18 +234,29 @@ pairs-map h f g (x ∷ v) a b c =
 
 module _ {m : List ℕ} (site : Sited m) (p : ℕ) (h : p < count-in m) {marks : List ℕ} (mk : Marked (volume-of m p) marks) where
   -- question 13
-  pub question-13 : pairs-once (vertex-pairs (next-in (darts-in m)) (opposite-in (darts-in m)) (volume-in (darts-in m) (column m 0 p))) ≡ pairs-once (vertex-pairs (column m 1) (column m 2) (marked (count-in m) marks))
+  pub question-13 : pairs-once (vertex-pairs (next-in (darts-in m)) (opposite-in (darts-in m)) (volume-in (darts-in m) (column m 0 p)))
+      ≡ pairs-once (vertex-pairs (column m 1) (column m 2) (marked (count-in m) marks))
   unfolding vertex-pairs
   question-13 =
       let v = marked (count-in m) marks in
       let key = vertex (column m 1) (column m 2) in
       ap (λ (l : List ℕ). pairs-once (vertex-pairs (next-in (darts-in m)) (opposite-in (darts-in m)) l)) (sym (volume-marked site p h mk))
       ∙ ap pairs-once (map-map (column m 0) (λ x. (vertex (next-in (darts-in m)) (opposite-in (darts-in m)) x, vertex (next-in (darts-in m)) (opposite-in (darts-in m)) (next-in (darts-in m) x))) v
-      ∙ map-cong (λ x. (vertex (next-in (darts-in m)) (opposite-in (darts-in m)) (column m 0 x), vertex (next-in (darts-in m)) (opposite-in (darts-in m)) (next-in (darts-in m) (column m 0 x)))) (λ x. (column m 0 (key x), column m 0 (key (column m 1 x)))) v (λ x k. both x (marked-below site p h mk x k)))
+      ∙ map-cong
+      (λ x. (
+        vertex (next-in (darts-in m)) (opposite-in (darts-in m)) (column m 0 x),
+        vertex (next-in (darts-in m)) (opposite-in (darts-in m)) (next-in (darts-in m) (column m 0 x)),
+      )) (λ x. (column m 0 (key x), column m 0 (key (column m 1 x)))) v (λ x k. both x (marked-below site p h mk x k)))
       ∙ pairs-map (column m 0) key (λ x. key (column m 1 x)) v
-      (λ x y i j. test (key x) (key y) (origin x i) (origin y j)) (λ x y i j. test (key (column m 1 x)) (key (column m 1 y)) (end x i) (end y j)) (λ x i. test (key x) (key (column m 1 x)) (origin x i) (end x i))
+      (λ x y i j. test (key x) (key y) (origin x i) (origin y j))
+      (λ x y i j. test (key (column m 1 x)) (key (column m 1 y)) (end x i) (end y j))
+      (λ x i. test (key x) (key (column m 1 x)) (origin x i) (end x i))
     where
-      both : (x : ℕ) → x < count-in m → _≡_ {A = ℕ × ℕ} (vertex (next-in (darts-in m)) (opposite-in (darts-in m)) (column m 0 x), vertex (next-in (darts-in m)) (opposite-in (darts-in m)) (next-in (darts-in m) (column m 0 x)))
+      both : (x : ℕ) → x < count-in m
+          → _≡_ {A = ℕ × ℕ} (
+            vertex (next-in (darts-in m)) (opposite-in (darts-in m)) (column m 0 x),
+            vertex (next-in (darts-in m)) (opposite-in (darts-in m)) (next-in (darts-in m) (column m 0 x)),
+          )
           (column m 0 (vertex (column m 1) (column m 2) x), column m 0 (vertex (column m 1) (column m 2) (column m 1 x)))
       both x k = rw (← site .next-is x k, vertex-serial site x k, vertex-serial site (column m 1 x) (site .linked .next-within x k))
 

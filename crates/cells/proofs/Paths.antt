@@ -136,7 +136,13 @@ module _ {n : ℕ} {f : ℕ → ℕ} {x c i e p : ℕ} {o o′ : List ℕ} (wf :
   pub writing-end : {q : ℕ} → q ≡ f p → q ≡ x → c ≡ length (cycle f x) → Put (cycle f x) i o (set o′ e p) (e + 1)
   writing-end a b size =
       let more : (e + 1) - i ≡ c = omega (arith, w .from, going-end wf r g a b) in
-      record { size = writing-on .size; front = writing-on .front ∙ ap (λ (k : ℕ). take i o ++ path f k x) more ∙ ap (λ (l : List ℕ). take i o ++ l) (sym (r .cycle-is)); end = omega (arith, w .from, going-end wf r g a b, size) }
+      record {
+        size =
+            writing-on .size;
+        front = writing-on .front ∙ ap (λ (k : ℕ). take i o ++ path f k x) more
+            ∙ ap (λ (l : List ℕ). take i o ++ l) (sym (r .cycle-is));
+        end = omega (arith, w .from, going-end wf r g a b, size);
+      }
 
   -- and has painted it in a table
   pub painting-on : {v : ℕ} {t t′ : List ℕ} → Painted v (path f (e - i) x) t t′ → p < length t → Painted v (path f ((e + 1) - i) x) t (set t′ p v)

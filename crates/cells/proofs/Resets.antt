@@ -19,7 +19,8 @@ use Rattle.cells.proofs.FaceLaws.{in-marked, marked-in}
 one-more : (order : List ℕ) (i : ℕ) → i < length order → take (i + 1) order ≡ take i order ++ getD order i 0 ∷ []
 one-more order i h = ap (λ (k : ℕ). take k order) (add-one i) ∙ take-suc order i 0 h
 
-pub paint-listed : (order : List ℕ) (i : ℕ) {c : ℕ} {t t′ : List ℕ} → Painted c (take i order) t t′ → i < length order → getD order i 0 < length t → Painted c (take (i + 1) order) t (set t′ (getD order i 0) c)
+pub paint-listed : (order : List ℕ) (i : ℕ) {c : ℕ} {t t′ : List ℕ} → Painted c (take i order) t t′ → i < length order
+    → getD order i 0 < length t → Painted c (take (i + 1) order) t (set t′ (getD order i 0) c)
 paint-listed order i w h l = rw (one-more order i h) (paint-more w l)
 
 -- what is marked is in the volume
@@ -57,7 +58,10 @@ lowest-first (x ∷ order) h = record { some = omega arith; low-is = refl }
 
 module _ (order : List ℕ) (i : ℕ) {low : ℕ} (w : Lowest order i low) (h : i < length order) where
   next-least : least (take (i + 1) order) ≡ min low (getD order i 0)
-  next-least = ap least (one-more order i h) ∙ least-last (take i order) (getD order i 0) (omega (arith, w .some, length-take-le i order (omega arith))) ∙ ap (λ (k : ℕ). min k (getD order i 0)) (sym (w .low-is))
+  next-least =
+      ap least (one-more order i h)
+      ∙ least-last (take i order) (getD order i 0) (omega (arith, w .some, length-take-le i order (omega arith)))
+      ∙ ap (λ (k : ℕ). min k (getD order i 0)) (sym (w .low-is))
 
   pub lower-next : {p : ℕ} → p ≡ getD order i 0 → p < low → Lowest order (i + 1) p
   lower-next e less = record { some = omega arith; low-is = let m : min low (getD order i 0) ≡ getD order i 0 = omega arith in e ∙ sym (next-least ∙ m) }

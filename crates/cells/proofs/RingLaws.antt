@@ -116,7 +116,8 @@ pub record Numbering (n : ℕ) (nx op : ℕ → ℕ) (l done numbers first : Lis
   pub firsts-are : map (vertex nx op) (take count first) ≡ vertices nx op done
   pub firsts-in : (k : ℕ) → k < count → In (getD first k 0) done
 
-pub numbering-start : (n : ℕ) (nx op : ℕ → ℕ) (l numbers first : List ℕ) → length numbers ≡ room → ((q : ℕ) → In q l → getD numbers q 0 ≡ room) → length first ≡ room → Numbering n nx op l [] numbers first 0
+pub numbering-start : (n : ℕ) (nx op : ℕ → ℕ) (l numbers first : List ℕ) → length numbers ≡ room → ((q : ℕ) → In q l → getD numbers q 0 ≡ room)
+    → length first ≡ room → Numbering n nx op l [] numbers first 0
 unfolding vertices firsts
 numbering-start n nx op l numbers first size none fits = record {
   numbers-size = size;
@@ -172,7 +173,10 @@ module _ {n p count : ℕ} {nx op : ℕ → ℕ} {l done numbers first : List �
       count-le = omega (arith, w .count-le, length-append done (p ∷ []));
       firsts-are = rw (grown, add-one, take-suc-set first count p (omega (arith, w .first-size, w .count-le)), map-append, w .firsts-are);
       firsts-in = λ k j. last-or-below j
-          (λ e. in-append-right (getD (set first count p) k 0) done (p ∷ []) (in-eq _ p (p ∷ []) (ap (λ (j : ℕ). getD (set first count p) j 0) e ∙ getD-set-same first count p 0 (omega (arith, w .first-size, w .count-le))) (in-here p [])))
+          (λ e. in-append-right (getD (set first count p) k 0) done (p ∷ [])
+          (in-eq _ p (p ∷ [])
+          (ap (λ (j : ℕ). getD (set first count p) j 0) e
+          ∙ getD-set-same first count p 0 (omega (arith, w .first-size, w .count-le))) (in-here p [])))
           (λ e. in-append-left (getD (set first count p) k 0) done (p ∷ []) (in-eq _ (getD first k 0) done (getD-set-other first count k p 0 (λ z. omega arith)) (w .firsts-in k e)));
     }
       where
@@ -190,7 +194,9 @@ pub record Passing (n : ℕ) (nx op : ℕ → ℕ) (order : List ℕ) (darts i :
   pub passed : Numbering n nx op (take darts order) (take i order) numbers first count
   pub few : count ≤ i
 
-pub passing-start : (n : ℕ) (nx op : ℕ → ℕ) (order : List ℕ) (darts : ℕ) (numbers first : List ℕ) → length numbers ≡ room → ((q : ℕ) → In q (take darts order) → getD numbers q 0 ≡ room) → length first ≡ room → Passing n nx op order darts 0 numbers first 0
+pub passing-start : (n : ℕ) (nx op : ℕ → ℕ) (order : List ℕ) (darts : ℕ) (numbers first : List ℕ) → length numbers ≡ room
+    → ((q : ℕ) → In q (take darts order) → getD numbers q 0 ≡ room) → length first ≡ room
+    → Passing n nx op order darts 0 numbers first 0
 passing-start n nx op order darts numbers first size none fits = record { i-le = omega arith; passed = numbering-start n nx op (take darts order) numbers first size none fits; few = omega arith }
 
 module _ {n darts i count p : ℕ} {nx op : ℕ → ℕ} {order numbers first : List ℕ} (w : Passing n nx op order darts i numbers first count)
@@ -216,7 +222,17 @@ module _ {n darts i count p : ℕ} {nx op : ℕ → ℕ} {order numbers first : 
 
 pub numbering-end : {n count : ℕ} {nx op : ℕ → ℕ} {l numbers first : List ℕ} → Numbering n nx op l l numbers first count → ((p : ℕ) → In p l → p < n) → Numbered nx op l numbers first count
 unfolding vertex-number vertices
-numbering-end {n} {count} {nx} {op} {l} w h = record { numbers-size = w .numbers-size; firsts-size = w .first-size; count-le = w .count-le; firsts-in = w .firsts-in; number = λ p k. w .value p (h p k) k ∙ ap (λ (b : Bool). cond b (index-of (vertex nx op p) (vertices nx op l)) room) (there p k); count-is = w .count-is; firsts-are = w .firsts-are }
+numbering-end {n} {count} {nx} {op} {l} w h =
+    record {
+      numbers-size = w .numbers-size;
+      firsts-size = w .first-size;
+      count-le = w .count-le;
+      firsts-in = w .firsts-in;
+      number = λ p k. w .value p (h p k) k
+          ∙ ap (λ (b : Bool). cond b (index-of (vertex nx op p) (vertices nx op l)) room) (there p k);
+      count-is = w .count-is;
+      firsts-are = w .firsts-are;
+    }
   where
     there : (p : ℕ) → In p l → In (vertex nx op p) (vertices nx op l)
     there p k = mem-firsts (vertex nx op p) (map (vertex nx op) l) ∙ in-map (vertex nx op) p l k

@@ -118,7 +118,9 @@ module _ (lim : Limits) (m : List ℕ) (ok : is-image lim m ≡ true) where
 
   opposite-apart′ : Apart (count-in m) (column m 2)
   opposite-apart′ p q hp hq e = one-place ascends′ hp hq
-      (sym (links .opposite-opposite _ (serial-held p hp)) ∙ ap (opposite-in (darts-in m)) (sym (opposite-is′ p hp) ∙ ap (column m 0) e ∙ opposite-is′ q hq) ∙ links .opposite-opposite _ (serial-held q hq))
+      (sym (links .opposite-opposite _ (serial-held p hp))
+      ∙ ap (opposite-in (darts-in m)) (sym (opposite-is′ p hp) ∙ ap (column m 0) e ∙ opposite-is′ q hq)
+      ∙ links .opposite-opposite _ (serial-held q hq))
 
   -- question 2 says all of it
   pub sited : Sited m

@@ -78,7 +78,10 @@ module _ (n : ℕ) (f : ℕ → ℕ) (marks : List ℕ) (few : n ≤ room) (wf :
       let r = start-at 0 fs k (omega (arith, o .count-is)) (w .0) in
       let index : getD starts k 0 ≡ r .0 = sym (getD-take count starts k 0 h) ∙ ap (λ (l : List ℕ). getD l k 0) (o .indices) ∙ r .1 ∙ (omega arith) in
       let less : getD starts k 0 < darts = omega (arith, o .darts-are, r .2) in
-      let place : getD out (getD starts k 0) 0 ≡ start-of (getD fs k []) = sym (getD-take darts out (getD starts k 0) 0 less) ∙ ap (λ (l : List ℕ). getD l (getD starts k 0) 0) (o .order) ∙ ap (λ (j : ℕ). getD (concat fs) j 0) index ∙ r .3 in
+      let place : getD out (getD starts k 0) 0 ≡ start-of (getD fs k []) =
+      sym (getD-take darts out (getD starts k 0) 0 less) ∙ ap (λ (l : List ℕ). getD l (getD starts k 0) 0) (o .order)
+      ∙ ap (λ (j : ℕ). getD (concat fs) j 0) index ∙ r .3
+      in
       (less, place, omega (arith, w .1))
 
 -- COUNTS: of the faces before k, so many pass

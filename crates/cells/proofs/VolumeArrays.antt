@@ -35,12 +35,16 @@ module _ {m : List ℕ} (site : Sited m) (p : ℕ) (h : p < count-in m) {marks :
 
     module _ {numbers first : List ℕ} {vs : ℕ} (nb : Numbered (column m 1) (column m 2) (take darts out) numbers first vs) where
       -- the number of a dart's vertex
-      pub number-of : (q : ℕ) → In q (take darts out) → getD numbers q 0 ≡ vertex-number (next-in (darts-in m)) (opposite-in (darts-in m)) (concat (faces-in (darts-in m) (column m 0 p))) (column m 0 q)
+      pub number-of : (q : ℕ) → In q (take darts out)
+          → getD numbers q 0
+          ≡ vertex-number (next-in (darts-in m)) (opposite-in (darts-in m)) (concat (faces-in (darts-in m) (column m 0 p)))
+          (column m 0 q)
       number-of q k = nb .number q k ∙ sym (number-serial site (take darts out) (out-whole (site .linked) h mk o .below) q k)
           ∙ ap (λ (l : List ℕ). vertex-number (next-in (darts-in m)) (opposite-in (darts-in m)) l (column m 0 q)) out-serials
 
       -- the vertices, from the first dart of each
-      pub vertices-of : map (column m 0) (map (vertex (column m 1) (column m 2)) (take vs first)) ≡ vertices (next-in (darts-in m)) (opposite-in (darts-in m)) (concat (faces-in (darts-in m) (column m 0 p)))
+      pub vertices-of : map (column m 0) (map (vertex (column m 1) (column m 2)) (take vs first))
+          ≡ vertices (next-in (darts-in m)) (opposite-in (darts-in m)) (concat (faces-in (darts-in m) (column m 0 p)))
       vertices-of = ap (map (column m 0)) (nb .firsts-are) ∙ sym (vertices-serials site (take darts out) (out-whole (site .linked) h mk o .below))
           ∙ ap (vertices (next-in (darts-in m)) (opposite-in (darts-in m))) out-serials
 

@@ -107,7 +107,11 @@ module _ {n : ℕ} {v m o : List ℕ} {t : ℕ} (q : Queue n v m o t) where
       len-o = simp length-set (q .len-o);
       bits = λ k. eq-or-ne k p (λ w. rw w (omega (arith, same))) (λ w. omega (arith, other k w, q .bits k));
       count = omega (arith, sum-set m p (omega (arith, q .len-m)) z, q .count);
-      once = ap distinct (ap (λ (k : ℕ). take k (set o t p)) (add-one t) ∙ take-suc-set o t p (omega (arith, queue-room p (omega arith) z, q .len-o))) ∙ distinct-append (take t o) (p ∷ []) (q .once) refl new;
+      once =
+          ap distinct
+          (ap (λ (k : ℕ). take k (set o t p)) (add-one t)
+          ∙ take-suc-set o t p (omega (arith, queue-room p (omega arith) z, q .len-o)))
+          ∙ distinct-append (take t o) (p ∷ []) (q .once) refl new;
       queued = λ k l. last-or-below l (λ w. rw (at-last k w) (pn, same, r)) (old k);
       back = λ k e. eq-or-ne k p (λ w. (t, omega arith, last′ ∙ sym w)) (λ w. earlier (q .back k (sym (other k w) ∙ e)));
     }
@@ -187,7 +191,8 @@ module _ (n : ℕ) (f g : ℕ → ℕ) (d : ℕ) (v : List ℕ) (vol : Volume f 
           h-le = omega (arith, i .1 .longer, j .1 .longer);
           start = j .1 .grows _ (i .1 .grows _ (w .start));
           done = λ k l. rw (j .1 .kept k (omega (arith, i .1 .longer)), i .1 .kept k (omega arith)) (last-or-below l
-              (λ q. let e₁ : f (getD o k 0) ≡ a = ap (λ (z : ℕ). f (getD o z 0)) q ∙ sym ea in let e₂ : g (getD o k 0) ≡ b = ap (λ (z : ℕ). g (getD o z 0)) q ∙ sym eb in rw (e₁, e₂) (j .1 .grows _ (i .1 .new), j .1 .new))
+              (λ q. let e₁ : f (getD o k 0) ≡ a = ap (λ (z : ℕ). f (getD o z 0)) q ∙ sym ea in let e₂ : g (getD o k 0) ≡ b = ap
+              (λ (z : ℕ). g (getD o z 0)) q ∙ sym eb in rw (e₁, e₂) (j .1 .grows _ (i .1 .new), j .1 .new))
               (λ q. (j .1 .grows _ (i .1 .grows _ (w .done k q .0)), j .1 .grows _ (i .1 .grows _ (w .done k q .1)))));
         }
 

@@ -48,11 +48,14 @@ module _ (m s : List ℕ) where
   unfolding whole-mesh-checks
   image-no a e f = alone _ (ask-yes a (ask-no refl (said-no e f) refl))
 
-  pub numbers-no : mesh-lent scratch-entries m s ≡ true → all (λ b. is-image rack b) (memories m) ≡ true → {r : Bool} → r ≡ blocks-right (map block-in (memories m)) → not r ≡ true → refused 23 ≡ answered checks
+  pub numbers-no : mesh-lent scratch-entries m s ≡ true → all (λ b. is-image rack b) (memories m) ≡ true → {r : Bool}
+      → r ≡ blocks-right (map block-in (memories m)) → not r ≡ true → refused 23 ≡ answered checks
   unfolding whole-mesh-checks mesh-checks
   numbers-no a b e f = alone _ (ask-yes a (ask-yes b (ask-no refl (said-no e f) refl)))
 
-  pub serials-no : mesh-lent scratch-entries m s ≡ true → all (λ b. is-image rack b) (memories m) ≡ true → blocks-right (map block-in (memories m)) ≡ true → {r : Bool} → r ≡ serials-distinct (map block-in (memories m)) → not r ≡ true
+  pub serials-no : mesh-lent scratch-entries m s ≡ true → all (λ b. is-image rack b) (memories m) ≡ true
+      → blocks-right (map block-in (memories m)) ≡ true → {r : Bool} → r ≡ serials-distinct (map block-in (memories m))
+      → not r ≡ true
       → refused 24 ≡ answered checks
   unfolding whole-mesh-checks mesh-checks
   serials-no a b c e f = alone _ (ask-yes a (ask-yes b (ask-yes c (ask-no refl (said-no e f) refl))))

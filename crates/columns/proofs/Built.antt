@@ -56,12 +56,22 @@ module _ (b : Block) (r : ranges-right rack b ≡ true) where
   serial-at p h = word 0 p h (omega arith)
 
   above-at : (p : ℕ) → p < length (b .darts) → before (column (image b) 0) p < column (image b) 0 p
-  above-at zero h = rw (serial-at 0 h) (omega (arith, leb-true 1 (dart 0 .serial) (and-left (leb 1 (dart 0 .serial)) _ (and-left (leb 1 (dart 0 .serial) && ltb (dart 0 .serial) serial-bound) _ (in-range 0 h)))))
+  above-at zero h =
+      rw (serial-at 0 h)
+      (omega (
+        arith,
+        leb-true 1 (dart 0 .serial)
+            (and-left (leb 1 (dart 0 .serial)) _
+            (and-left (leb 1 (dart 0 .serial) && ltb (dart 0 .serial) serial-bound) _ (in-range 0 h))),
+      ))
   above-at (suc p) h = rw (serial-at p (omega arith), serial-at (suc p) h) (ascends p (suc p) (omega arith) h)
 
   kind-at : (p : ℕ) → p < length (b .darts) → Kind (column (image b) 3 p) (column (image b) 4 p)
   unfolding dart-words
-  kind-at p h = rw (word 3 p h (omega arith), word 4 p h (omega arith)) (third-kind (serials (b .darts)) (dart p .third) (and-right (leb 1 (dart p .serial) && ltb (dart p .serial) serial-bound) _ (in-range p h)))
+  kind-at p h =
+      rw (word 3 p h (omega arith), word 4 p h (omega arith))
+      (third-kind (serials (b .darts)) (dart p .third)
+      (and-right (leb 1 (dart p .serial) && ltb (dart p .serial) serial-bound) _ (in-range p h)))
 
   pub built : Ranged (image b)
   unfolding image
@@ -71,7 +81,9 @@ module _ (b : Block) (r : ranges-right rack b ≡ true) where
     few = ranges-of rack b r .few-darts;
     head = (refl, refl, refl, refl, refl);
     above = above-at;
-    serial-small = λ p h. rw (serial-at p h) (ltb-true (dart p .serial) serial-bound (and-right (leb 1 (dart p .serial)) _ (and-left (leb 1 (dart p .serial) && ltb (dart p .serial) serial-bound) _ (in-range p h))));
+    serial-small =
+        λ p h. rw (serial-at p h)
+        (ltb-true (dart p .serial) serial-bound (and-right (leb 1 (dart p .serial)) _ (and-left (leb 1 (dart p .serial) && ltb (dart p .serial) serial-bound) _ (in-range p h))));
     kinds = kind-at;
     rest = λ i h. image-rest b i h;
   }

@@ -58,7 +58,8 @@ module _ (m : List ℕ) where
   word-is e p f h k = ap (λ (x : List ℕ). column x f p) (sym e) ∙ column-is (block-in m) p f (rw (length-tab (dart-in m) (count m)) h) k
       ∙ rw (map-tab (λ d. d .serial) (dart-in m) (count m), getD-tab (dart-in m) (count m) p no-dart h) refl
 
-  kind-of : (p : ℕ) → (ss : List ℕ) → third-in-range (dart-in m p .third) ≡ true → column m 3 p ≡ kind-word (dart-in m p .third) → column m 4 p ≡ link-word ss (dart-in m p .third) → Kind (column m 3 p) (column m 4 p)
+  kind-of : (p : ℕ) → (ss : List ℕ) → third-in-range (dart-in m p .third) ≡ true → column m 3 p ≡ kind-word (dart-in m p .third)
+      → column m 4 p ≡ link-word ss (dart-in m p .third) → Kind (column m 3 p) (column m 4 p)
   unfolding third-in
   kind-of p ss r ek el = by-cases (eqb (k % 4) 0)
       (λ t. let e : dart-in m p .third ≡ free = rw t refl in kind-free (ek ∙ ap kind-word e) (el ∙ ap (link-word ss) e))
@@ -88,17 +89,23 @@ module _ (m : List ℕ) where
         number-small = omega (arith, r .number-small);
         counter-small = r .counter-small;
         few = le;
-        head = (ap (λ (x : List ℕ). getD x 3 0) (sym e), ap (λ (x : List ℕ). getD x 4 0) (sym e), ap (λ (x : List ℕ). getD x 5 0) (sym e), ap (λ (x : List ℕ). getD x 6 0) (sym e), ap (λ (x : List ℕ). getD x 7 0) (sym e));
+        head =
+            (ap (λ (x : List ℕ). getD x 3 0) (sym e), ap (λ (x : List ℕ). getD x 4 0) (sym e), ap (λ (x : List ℕ). getD x 5 0) (sym e), ap (λ (x : List ℕ). getD x 6 0) (sym e), ap (λ (x : List ℕ). getD x 7 0) (sym e));
         above = λ p h. above asc p h (each p h (r .each-dart));
         serial-small = λ p h. ltb-true (column m 0 p) (2 ^ 32) (and-right (leb 1 (column m 0 p)) _ (and-left (leb 1 (column m 0 p) && ltb (column m 0 p) (2 ^ 32)) _ (each p h (r .each-dart))));
-        kinds = λ p h. kind-of p (tab (column m 0) (count m)) (and-right (leb 1 (column m 0 p) && ltb (column m 0 p) (2 ^ 32)) _ (each p h (r .each-dart))) (word-is e p 3 h (omega arith)) (word-is e p 4 h (omega arith));
+        kinds =
+            λ p h. kind-of p (tab (column m 0) (count m))
+            (and-right (leb 1 (column m 0 p) && ltb (column m 0 p) (2 ^ 32)) _ (each p h (r .each-dart)))
+            (word-is e p 3 h (omega arith)) (word-is e p 4 h (omega arith));
         rest = λ i h. ap (λ (x : List ℕ). getD x i 0) (sym e) ∙ image-rest (block-in m) i (rw (length-tab (dart-in m) (count m)) h);
       }
     where
       each : (p : ℕ) → p < count m → all dart-in-range (tab (dart-in m) (count m)) ≡ true → (leb 1 (column m 0 p) && ltb (column m 0 p) serial-bound && third-in-range (dart-in m p .third)) ≡ true
       each p h t = all-tab dart-in-range (dart-in m) (count m) t p h
 
-      above : Ascending (count m) (column m 0) → (p : ℕ) → p < count m → (leb 1 (column m 0 p) && ltb (column m 0 p) serial-bound && third-in-range (dart-in m p .third)) ≡ true → before (column m 0) p < column m 0 p
+      above : Ascending (count m) (column m 0) → (p : ℕ) → p < count m
+          → (leb 1 (column m 0 p) && ltb (column m 0 p) serial-bound && third-in-range (dart-in m p .third)) ≡ true
+          → before (column m 0) p < column m 0 p
       above asc zero h t = omega (arith, leb-true 1 (column m 0 0) (and-left (leb 1 (column m 0 0)) _ (and-left (leb 1 (column m 0 0) && ltb (column m 0 0) serial-bound) _ t)))
       above asc (suc p) h t = asc p (suc p) (omega arith) h
 
@@ -108,7 +115,9 @@ module _ (m : List ℕ) (w : Ranged m) where
   third-ranged k a (kind-free e f) = rw (third-free (column m 0) k a e) refl
   third-ranged k a (kind-sewn e) = rw (third-sewn (column m 0) k a e) refl
   third-ranged k a (kind-critical e f g) = rw (third-critical (column m 0) k a e)
-      (and-intro (and-intro (and-intro (le-leb (k / 4) 15 (omega arith)) (le-leb (a / 4096 / 2 ^ 32) 15 (omega arith))) (lt-ltb (a / 4096 % 2 ^ 32) (2 ^ 32) (omega arith))) (le-leb (a % 4096) 4095 (omega arith)))
+      (and-intro
+      (and-intro (and-intro (le-leb (k / 4) 15 (omega arith)) (le-leb (a / 4096 / 2 ^ 32) 15 (omega arith)))
+      (lt-ltb (a / 4096 % 2 ^ 32) (2 ^ 32) (omega arith))) (le-leb (a % 4096) 4095 (omega arith)))
 
   pub ranges-yes : ranges-right rack (block-in m) ≡ true
   unfolding ranges-right dart-in-range
@@ -118,7 +127,10 @@ module _ (m : List ℕ) (w : Ranged m) where
       (rw (map-tab (λ d. d .serial) (dart-in m) (count m)) (tab-ascending (column m 0) (count m) (in-order m w)))
     where
       one : (p : ℕ) → p < count m → dart-in-range (dart-in m p) ≡ true
-      one p h = and-intro (and-intro (le-leb 1 (column m 0 p) (omega (arith, w .above p h))) (lt-ltb (column m 0 p) (2 ^ 32) (w .serial-small p h))) (third-ranged (column m 3 p) (column m 4 p) (w .kinds p h))
+      one p h =
+          and-intro
+          (and-intro (le-leb 1 (column m 0 p) (omega (arith, w .above p h))) (lt-ltb (column m 0 p) (2 ^ 32) (w .serial-small p h)))
+          (third-ranged (column m 3 p) (column m 4 p) (w .kinds p h))
 
   module _ (len : length m ≡ words) (g : Places m (count m)) (s : SewnPlaces m (count m)) where
     place-back : (p : ℕ) → p < count m → index-of (column m 0 p) (tab (column m 0) (count m)) ≡ p

@@ -40,7 +40,9 @@ unfolding codes labels
 codes-are m zero h = refl
 codes-are m (suc n) h =
     ap (λ (x : List Dart). map code (labels x)) (tab-more (dart-in m) n) ∙ ap (map code) (labels-append (tab (dart-in m) n) (dart-in m n ∷ []))
-    ∙ map-append code (labels (tab (dart-in m) n)) (labels (dart-in m n ∷ [])) ∙ ap (λ (x : List ℕ). x ++ map code (labels (dart-in m n ∷ []))) (codes-are m n (λ p l. h p (omega arith))) ∙ last (h n (omega arith))
+    ∙ map-append code (labels (tab (dart-in m) n)) (labels (dart-in m n ∷ []))
+    ∙ ap (λ (x : List ℕ). x ++ map code (labels (dart-in m n ∷ []))) (codes-are m n (λ p l. h p (omega arith)))
+    ∙ last (h n (omega arith))
   where
     last : Kind (column m 3 n) (column m 4 n) → codes m n ++ map code (labels (dart-in m n ∷ [])) ≡ codes m (suc n)
     last (kind-free e f) = rw (third-free (column m 0) (column m 3 n) (column m 4 n) e, le-ltb 1 (column m 3 n) (omega arith)) (append-nil (codes m n))
@@ -52,5 +54,6 @@ pub labels-are : (m : List ℕ) → Ranged m → (all-below (own-test m) (count 
 unfolding labels-right
 labels-are m w = rw (
   codes-are m (count m) (w .kinds),
-  all-tests (λ d. label-right (getD m 0 0) (getD m 1 0) (d .third)) (dart-in m) (own-test m) (count m) (λ p h. label-is (column m 0) (getD m 0 0) (getD m 1 0) (column m 3 p) (column m 4 p) (w .kinds p h)),
+  all-tests (λ d. label-right (getD m 0 0) (getD m 1 0) (d .third)) (dart-in m) (own-test m) (count m)
+      (λ p h. label-is (column m 0) (getD m 0 0) (getD m 1 0) (column m 3 p) (column m 4 p) (w .kinds p h)),
 ) refl

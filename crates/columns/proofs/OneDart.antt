@@ -54,7 +54,11 @@ pub dart-yes : (m : List ℕ) (n p : ℕ) → DartRight m n p → dart-test m n 
 unfolding dart-test place-test
 dart-yes m n p d =
     let k = d .words-right in
-    and-intro (and-intro (and-intro (and-intro (and-intro (and-intro (lt-ltb _ _ (d .above)) (lt-ltb _ _ (d .serial-small))) (d .finite-point)) (lt-ltb _ _ (d .next-lt))) (lt-ltb _ _ (d .opposite-lt))) (not-equal _ _ (d .other)))
+    and-intro
+    (and-intro
+    (and-intro
+    (and-intro (and-intro (and-intro (lt-ltb _ _ (d .above)) (lt-ltb _ _ (d .serial-small))) (d .finite-point))
+    (lt-ltb _ _ (d .next-lt))) (lt-ltb _ _ (d .opposite-lt))) (not-equal _ _ (d .other)))
     (kind-yes (getD m 0 0) (getD m 1 0) n (column m 3 p) (column m 4 p) (k .kind) (k .label) (k .sewn-lt))
 
 -- WITH THE DARTS THAT IT LINKS TO

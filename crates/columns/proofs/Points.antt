@@ -31,12 +31,22 @@ module _ (m : List ℕ) (w : Ranged m) (g : Places m (count m)) (s : SewnPlaces 
   agrees p x h = rw (far x h) refl
 
   point-is : (p : ℕ) → p < count m → Kind (column m 3 p) (column m 4 p)
-      → (same-point (dart-in m p .point) (dart-at (darts m) (next-in (darts m) (column m 0 (column m 2 p))) .point) && sewn-points (darts m) (dart-in m p) (third-in (column m 0) (column m 3 p) (column m 4 p))) ≡ point-test m p
+      →
+      (same-point (dart-in m p .point) (dart-at (darts m) (next-in (darts m) (column m 0 (column m 2 p))) .point)
+      && sewn-points (darts m) (dart-in m p) (third-in (column m 0) (column m 3 p) (column m 4 p))) ≡ point-test m p
   unfolding point-test
   point-is p h (kind-free e _) = rw (agrees p (column m 2 p) (g .opposite-lt p h), third-free (column m 0) (column m 3 p) (column m 4 p) e, e) refl
   point-is p h (kind-sewn e) = rw (agrees p (column m 2 p) (g .opposite-lt p h), third-sewn (column m 0) (column m 3 p) (column m 4 p) e, agrees p (column m 4 p) (s p h e), e) refl
-  point-is p h (kind-critical e o a) = rw (agrees p (column m 2 p) (g .opposite-lt p h), third-critical (column m 0) (column m 3 p) (column m 4 p) e, ne-eqb (column m 3 p) 1 (λ q. omega (arith, e, q))) refl
+  point-is p h (kind-critical e o a) =
+      rw (
+        agrees p (column m 2 p) (g .opposite-lt p h),
+        third-critical (column m 0) (column m 3 p) (column m 4 p) e,
+        ne-eqb (column m 3 p) 1 (λ q. omega (arith, e, q)),
+      ) refl
 
   pub points-are : all-below (point-test m) (count m) ≡ points-agree (darts m)
   unfolding points-agree
-  points-are = all-tests (λ d. same-point (d .point) (dart-at (darts m) (next-in (darts m) (d .opposite)) .point) && sewn-points (darts m) d (d .third)) (dart-in m) (point-test m) (count m) (λ p h. point-is p h (w .kinds p h))
+  points-are =
+      all-tests
+      (λ d. same-point (d .point) (dart-at (darts m) (next-in (darts m) (d .opposite)) .point) && sewn-points (darts m) d
+      (d .third)) (dart-in m) (point-test m) (count m) (λ p h. point-is p h (w .kinds p h))

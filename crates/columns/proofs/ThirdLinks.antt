@@ -81,7 +81,11 @@ module _ (m : List ℕ) (w : Ranged m) (g : Places m (count m)) where
     where
       one : (p : ℕ) → p < count m → Kind (column m 3 p) (column m 4 p) → third-right (darts m) (dart-in m p) (third-of m p) ≡ true
       one p h (kind-free e f) =
-          rw (third-free (column m 0) (column m 3 p) (column m 4 p) e, third-is (column m 1 p) (g .next-lt p h), third-free (column m 0) (column m 3 (column m 1 p)) (column m 4 (column m 1 p)) (same-kind m (count m) p (t p h) ∙ e)) refl
+          rw (
+            third-free (column m 0) (column m 3 p) (column m 4 p) e,
+            third-is (column m 1 p) (g .next-lt p h),
+            third-free (column m 0) (column m 3 (column m 1 p)) (column m 4 (column m 1 p)) (same-kind m (count m) p (t p h) ∙ e),
+          ) refl
       one p h (kind-sewn e) =
           let s = sewn-says m (count m) p (t p h) e in
           let l = s .sewn-lt in
@@ -94,7 +98,11 @@ module _ (m : List ℕ) (w : Ranged m) (g : Places m (count m)) where
           (eq-eqb _ _ (next-is (column m 4 (column m 1 p)) (s .next-sewn-lt) ∙ ap (column m 0) (s .along)))))
       one p h (kind-critical e f a) =
           let same = same-kind m (count m) p (t p h) in
-          rw (third-critical (column m 0) (column m 3 p) (column m 4 p) e, third-is (column m 1 p) (g .next-lt p h), third-critical (column m 0) (column m 3 (column m 1 p)) (column m 4 (column m 1 p)) (ap (λ (x : ℕ). x % 4) same ∙ e))
+          rw (
+            third-critical (column m 0) (column m 3 p) (column m 4 p) e,
+            third-is (column m 1 p) (g .next-lt p h),
+            third-critical (column m 0) (column m 3 (column m 1 p)) (column m 4 (column m 1 p)) (ap (λ (x : ℕ). x % 4) same ∙ e),
+          )
           (eq-eqb _ _ (ap (λ (x : ℕ). x / 4) (sym same)))
 
   -- QUESTION 6 IS ANSWERED YES, so the tests pass
@@ -115,7 +123,9 @@ module _ (m : List ℕ) (w : Ranged m) (g : Places m (count m)) where
         let y = column m 0 (column m 4 p) in
         let two = held (darts m) y && is-sewn-to (column m 0 p) (third-at (darts m) y) in
         let three = two && not (eqb y (column m 0 p)) in
-        let r : (three && sewn-along (darts m) y (third-at (darts m) (column m 0 (column m 1 p)))) ≡ true = sym (ap (third-right (darts m) (dart-in m p)) (third-sewn (column m 0) (column m 3 p) (column m 4 p) e)) ∙ right p h in
+        let r : (three && sewn-along (darts m) y (third-at (darts m) (column m 0 (column m 1 p)))) ≡ true =
+        sym (ap (third-right (darts m) (dart-in m p)) (third-sewn (column m 0) (column m 3 p) (column m 4 p) e)) ∙ right p h
+        in
         let c = and-left three _ r in
         let d = and-left two _ c in
         record { sewn-held = and-left (held (darts m) y) _ d; back = and-right (held (darts m) y) _ d; other = and-right two _ c; along = and-right three _ r }
@@ -130,9 +140,16 @@ module _ (m : List ℕ) (w : Ranged m) (g : Places m (count m)) where
         l : ℕ
         l = column m 4 p
 
-        go : Kind (column m 3 (column m 4 p)) (column m 4 (column m 4 p)) → is-sewn-to (column m 0 p) (third-of m (column m 4 p)) ≡ true → (column m 3 (column m 4 p) ≡ 1) × (column m 4 (column m 4 p) ≡ p)
+        go : Kind (column m 3 (column m 4 p)) (column m 4 (column m 4 p))
+            → is-sewn-to (column m 0 p) (third-of m (column m 4 p)) ≡ true
+            → (column m 3 (column m 4 p) ≡ 1) × (column m 4 (column m 4 p) ≡ p)
         go (kind-free c d) t = absurd (false≢true (sym (ap (is-sewn-to (column m 0 p)) (third-free (column m 0) (column m 3 l) (column m 4 l) c)) ∙ t))
-        go (kind-sewn c) t = (c, sym (one-serial m w h (sewn-lt l (sewn-lt p h e) c) (eqb-true _ _ (sym (ap (is-sewn-to (column m 0 p)) (third-sewn (column m 0) (column m 3 l) (column m 4 l) c)) ∙ t))))
+        go (kind-sewn c) t = (
+          c,
+          sym
+              (one-serial m w h (sewn-lt l (sewn-lt p h e) c)
+              (eqb-true _ _ (sym (ap (is-sewn-to (column m 0 p)) (third-sewn (column m 0) (column m 3 l) (column m 4 l) c)) ∙ t))),
+        )
         go (kind-critical c d f) t = absurd (false≢true (sym (ap (is-sewn-to (column m 0 p)) (third-critical (column m 0) (column m 3 l) (column m 4 l) c)) ∙ t))
 
     -- the next dart is sewn along
@@ -157,7 +174,10 @@ module _ (m : List ℕ) (w : Ranged m) (g : Places m (count m)) where
 
     kinds-same : (p : ℕ) → p < count m → Kind (column m 3 p) (column m 4 p) → Kind (column m 3 (column m 1 p)) (column m 4 (column m 1 p)) → column m 3 (column m 1 p) ≡ column m 3 p
     unfolding third-right
-    kinds-same p h (kind-free e l) kd = go kd (sym (ap is-free (third-is x (g .next-lt p h))) ∙ sym (ap (third-right (darts m) (dart-in m p)) (third-free (column m 0) (column m 3 p) (column m 4 p) e)) ∙ right p h)
+    kinds-same p h (kind-free e l) kd =
+        go kd
+        (sym (ap is-free (third-is x (g .next-lt p h)))
+        ∙ sym (ap (third-right (darts m) (dart-in m p)) (third-free (column m 0) (column m 3 p) (column m 4 p) e)) ∙ right p h)
       where
         x : ℕ
         x = column m 1 p
@@ -167,7 +187,10 @@ module _ (m : List ℕ) (w : Ranged m) (g : Places m (count m)) where
         go (kind-sewn c) t = absurd (false≢true (sym (ap is-free (third-sewn (column m 0) (column m 3 x) (column m 4 x) c)) ∙ t))
         go (kind-critical c d f) t = absurd (false≢true (sym (ap is-free (third-critical (column m 0) (column m 3 x) (column m 4 x) c)) ∙ t))
     kinds-same p h (kind-sewn e) kd = sewn-next p h e kd .0 ∙ sym e
-    kinds-same p h (kind-critical e o l) kd = go kd (sym (ap (is-critical-with (column m 3 p / 4)) (third-is x (g .next-lt p h))) ∙ sym (ap (third-right (darts m) (dart-in m p)) (third-critical (column m 0) (column m 3 p) (column m 4 p) e)) ∙ right p h)
+    kinds-same p h (kind-critical e o l) kd =
+        go kd
+        (sym (ap (is-critical-with (column m 3 p / 4)) (third-is x (g .next-lt p h)))
+        ∙ sym (ap (third-right (darts m) (dart-in m p)) (third-critical (column m 0) (column m 3 p) (column m 4 p) e)) ∙ right p h)
       where
         x : ℕ
         x = column m 1 p

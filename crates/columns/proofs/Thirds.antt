@@ -48,7 +48,10 @@ critical-says me counter n k a h e =
     let e3 = and-left three (not (eqb (k / 4) me)) e4 in
     let e2 = and-left two (ltb a (2 ^ 48)) e3 in
     record {
-      kind = kind-critical (eqb-true (k % 4) 2 (and-left (eqb (k % 4) 2) (ltb (k / 4) 16) e2)) (ltb-true (k / 4) 16 (and-right (eqb (k % 4) 2) (ltb (k / 4) 16) e2)) (ltb-true a (2 ^ 48) (and-right two (ltb a (2 ^ 48)) e3));
+      kind =
+          kind-critical (eqb-true (k % 4) 2 (and-left (eqb (k % 4) 2) (ltb (k / 4) 16) e2))
+          (ltb-true (k / 4) 16 (and-right (eqb (k % 4) 2) (ltb (k / 4) 16) e2))
+          (ltb-true a (2 ^ 48) (and-right two (ltb a (2 ^ 48)) e3));
       label = or-right (ltb k 2) _ (and-intro (and-right three (not (eqb (k / 4) me)) e4) (and-right four own e));
       sewn-lt = λ q. absurd (omega arith);
     }

@@ -116,11 +116,23 @@ module _ (m : List ℕ) (ok : is-image rack m ≡ true) (j s : ℕ) {right : Boo
 
               pub first-14 : not fits ≡ true → FirstNo m j s 14
               unfolding departure-checks
-              first-14 h = alone _ (ask-yes is-9 (ask-yes is-10 (ask-yes is-11 (ask-yes (is-12 ∙ ap not none-inside) (ask-yes (is-13 ∙ not-false once yes-13) (ask-no refl (is-14 ∙ not-true fits h) refl))))))
+              first-14 h =
+                  alone _
+                  (ask-yes is-9
+                  (ask-yes is-10
+                  (ask-yes is-11
+                  (ask-yes (is-12 ∙ ap not none-inside)
+                  (ask-yes (is-13 ∙ not-false once yes-13) (ask-no refl (is-14 ∙ not-true fits h) refl))))))
 
               all-yes : not fits ≡ false → served tt ≡ answered (departure-checks 512 (block-in m) j s)
               unfolding departure-checks
-              all-yes h = alone _ (ask-yes is-9 (ask-yes is-10 (ask-yes is-11 (ask-yes (is-12 ∙ ap not none-inside) (ask-yes (is-13 ∙ not-false once yes-13) (ask-yes (is-14 ∙ not-false fits h) (ask-end refl)))))))
+              all-yes h =
+                  alone _
+                  (ask-yes is-9
+                  (ask-yes is-10
+                  (ask-yes is-11
+                  (ask-yes (is-12 ∙ ap not none-inside)
+                  (ask-yes (is-13 ∙ not-false once yes-13) (ask-yes (is-14 ∙ not-false fits h) (ask-end refl)))))))
 
               pub departs : not fits ≡ false → Departs m j s (record { darts = darts; faces = count; vertices = vs; sewn = sewn }) marks out starts numbers firsts
               departs h = record {

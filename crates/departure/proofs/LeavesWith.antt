@@ -107,13 +107,17 @@ module _ {m : List ℕ} (site : Sited m) (ok : Passed m) where
     placed-are : placed 0 (faces-in ds (s p)) ≡ map (serial-face s) (placed 0 fs)
     placed-are = ap (placed 0) (sym (faces-serials site p h mk)) ∙ placed-serials s 0 fs
 
-    part2-law : (j : ℕ) → collect (λ f. part2-entry j (f .at) (third-at ds (start-of (f .face)))) (placed 0 (faces-in ds (s p))) ≡ map (part2-at m) (keep (λ f. critical-with m j (start-of (f .face))) (placed 0 fs))
+    part2-law : (j : ℕ)
+        → collect (λ f. part2-entry j (f .at) (third-at ds (start-of (f .face)))) (placed 0 (faces-in ds (s p)))
+        ≡ map (part2-at m) (keep (λ f. critical-with m j (start-of (f .face))) (placed 0 fs))
     part2-law j = ap (collect (λ f. part2-entry j (f .at) (third-at ds (start-of (f .face))))) placed-are
         ∙ collect-map (serial-face s) (λ f. part2-entry j (f .at) (third-at ds (start-of (f .face)))) (placed 0 fs)
         ∙ collect-each (λ f. Face m (f .face)) (λ f. part2-entry j (f .at) (third-at ds (start-of (map s (f .face))))) (λ f. critical-with m j (start-of (f .face))) (part2-at m) (placed 0 fs) each-at
         (λ f w. ap (part2-entry j (f .at)) (third-start (f .face) w) ∙ part2-is s (column m 3 (start-of (f .face))) (column m 4 (start-of (f .face))) j (f .at) (start-kind (f .face) w))
 
-    part3-law : map (λ f. f .at) (keep (λ f. is-sewn-out-of (volume-in ds (s p)) (third-at ds (start-of (f .face)))) (placed 0 (faces-in ds (s p)))) ≡ map (λ f. f .at) (keep (λ f. sewn-out m marks (start-of (f .face))) (placed 0 fs))
+    part3-law : map (λ f. f .at)
+        (keep (λ f. is-sewn-out-of (volume-in ds (s p)) (third-at ds (start-of (f .face)))) (placed 0 (faces-in ds (s p))))
+        ≡ map (λ f. f .at) (keep (λ f. sewn-out m marks (start-of (f .face))) (placed 0 fs))
     part3-law =
         let test : Placed → Bool = λ f. is-sewn-out-of (volume-in ds (s p)) (third-at ds (start-of (f .face))) in
         ap (λ (l : List Placed). map (λ f. f .at) (keep test l)) placed-are
@@ -122,7 +126,9 @@ module _ {m : List ℕ} (site : Sited m) (ok : Passed m) where
         ∙ ap (map (λ f. f .at)) (keep-each (λ f. Face m (f .face)) (λ f. test (serial-face s f)) (λ f. sewn-out m marks (start-of (f .face))) (placed 0 fs) each-at
         (λ f w. ap (λ (x : ℕ). is-sewn-out-of (volume-in ds (s p)) (third-at ds x)) (start-map s (f .face) (w .some)) ∙ sewn-out-is site p h mk (start-of (f .face)) (start-below w)))
 
-    part4-one : (j : ℕ) (f : Placed) → Face m (f .face) → part4-entry ds j (serial-face s f) (third-at ds (start-of (map s (f .face)))) ≡ cond (critical-beside m j (start-of (f .face))) (some (part4-at m f)) none
+    part4-one : (j : ℕ) (f : Placed) → Face m (f .face)
+        → part4-entry ds j (serial-face s f) (third-at ds (start-of (map s (f .face))))
+        ≡ cond (critical-beside m j (start-of (f .face))) (some (part4-at m f)) none
     part4-one j f w = ap (part4-entry ds j (serial-face s f)) (third-start (f .face) w)
         ∙ part4-is s ds (column m 3 (start-of (f .face))) (column m 4 (start-of (f .face))) j (serial-face s f) (start-kind (f .face) w)
         ∙ by-cases (critical-beside m j (start-of (f .face)))
@@ -130,10 +136,14 @@ module _ {m : List ℕ} (site : Sited m) (ok : Passed m) where
         (labels-are site ok (f .face) w (ltb-true 1 _ (and-left (ltb 1 (column m 3 (start-of (f .face)))) _ e)))))
         (λ e. rw e)
 
-    part4-law : (j : ℕ) → collect (λ f. part4-entry ds j f (third-at ds (start-of (f .face)))) (placed 0 (faces-in ds (s p))) ≡ map (part4-at m) (keep (λ f. critical-beside m j (start-of (f .face))) (placed 0 fs))
+    part4-law : (j : ℕ)
+        → collect (λ f. part4-entry ds j f (third-at ds (start-of (f .face)))) (placed 0 (faces-in ds (s p)))
+        ≡ map (part4-at m) (keep (λ f. critical-beside m j (start-of (f .face))) (placed 0 fs))
     part4-law j = ap (collect (λ f. part4-entry ds j f (third-at ds (start-of (f .face))))) placed-are
         ∙ collect-map (serial-face s) (λ f. part4-entry ds j f (third-at ds (start-of (f .face)))) (placed 0 fs)
-        ∙ collect-each (λ f. Face m (f .face)) (λ f. part4-entry ds j (serial-face s f) (third-at ds (start-of (map s (f .face))))) (λ f. critical-beside m j (start-of (f .face))) (part4-at m) (placed 0 fs) each-at (part4-one j)
+        ∙ collect-each (λ f. Face m (f .face))
+        (λ f. part4-entry ds j (serial-face s f) (third-at ds (start-of (map s (f .face)))))
+        (λ f. critical-beside m j (start-of (f .face))) (part4-at m) (placed 0 fs) each-at (part4-one j)
 
     -- THE UPDATES
     abbrev shared : ℕ → List (List ℕ)
@@ -148,7 +158,8 @@ module _ {m : List ℕ} (site : Sited m) (ok : Passed m) where
 
     labels-told : (k : ℕ) → concat-map (least-labels ds) (map (map s) (shared k)) ≡ map (least-at m) (shared k)
     labels-told k = concat-map-map (least-labels ds) (map s) (shared k)
-        ∙ concat-one (λ f. Face m f × (critical-with m k (start-of f) ≡ true)) (λ f. least-labels ds (map s f)) (least-at m) (shared k) (each-kept (Face m) (λ f. critical-with m k (start-of f)) fs each)
+        ∙ concat-one (λ f. Face m f × (critical-with m k (start-of f) ≡ true)) (λ f. least-labels ds (map s f)) (least-at m)
+        (shared k) (each-kept (Face m) (λ f. critical-with m k (start-of f)) fs each)
         (λ f w. least-is site ok f (w .0) (omega (arith, eqb-true (column m 3 (start-of f)) (2 + 4 * k) (w .1))))
 
     update-one : (j k : ℕ) (gs : List (List ℕ)) → concat-map (least-labels ds) (map (map s) gs) ≡ map (least-at m) gs → update-for (block-in m) j k (map (map s) gs) ≡ update-at m j k gs
@@ -162,7 +173,8 @@ module _ {m : List ℕ} (site : Sited m) (ok : Passed m) where
         (λ k. ap (update-for (block-in m) j k) (shared-law k) ∙ update-one j k (shared k) (labels-told k))
 
     -- THE TRANSFER
-    module _ {out starts : List ℕ} {darts count : ℕ} (o : InOrder fs out starts darts count) {numbers first : List ℕ} {vs : ℕ} (nb : Numbered (column m 1) (column m 2) (take darts out) numbers first vs) where
+    module _ {out starts : List ℕ} {darts count : ℕ} (o : InOrder fs out starts darts count) {numbers first : List ℕ} {vs : ℕ}
+        (nb : Numbered (column m 1) (column m 2) (take darts out) numbers first vs) where
       first-below : (q : ℕ) → In q (take vs first) → q < count-in m
       first-below q k =
           let r = in-getD (take vs first) q k in
@@ -175,9 +187,14 @@ module _ {m : List ℕ} (site : Sited m) (ok : Passed m) where
           ∙ map-map s (λ x. dart-at ds x .point) (map (vertex (column m 1) (column m 2)) (take vs first))
           ∙ map-map (vertex (column m 1) (column m 2)) (λ q. dart-at ds (s q) .point) (take vs first)
           ∙ map-cong (λ q. dart-at ds (s (vertex (column m 1) (column m 2) q)) .point) (λ q. dart-in m q .point) (take vs first)
-          (λ q k. ap (λ (d : Dart). d .point) (dart-place (dart-in m) (count-in m) (vertex (column m 1) (column m 2) q) (site .ascends) (vertex-below site q (first-below q k))) ∙ vertex-point q (first-below q k))
+          (λ q k. ap (λ (d : Dart). d .point)
+          (dart-place (dart-in m) (count-in m) (vertex (column m 1) (column m 2) q) (site .ascends)
+          (vertex-below site q (first-below q k))) ∙ vertex-point q (first-below q k))
 
-      faces-law : map (λ f. map (λ x. record { vertex = vertex-number (next-in ds) (opposite-in ds) (concat (faces-in ds (s p))) x; serial = x }) f) (faces-in ds (s p)) ≡ map (map (dart-entry m numbers)) fs
+      faces-law : map
+          (λ f. map
+          (λ x. record { vertex = vertex-number (next-in ds) (opposite-in ds) (concat (faces-in ds (s p))) x; serial = x }) f)
+          (faces-in ds (s p)) ≡ map (map (dart-entry m numbers)) fs
       faces-law =
           let e : ℕ → FaceDart = λ x. record { vertex = vertex-number (next-in ds) (opposite-in ds) (concat (faces-in ds (s p))) x; serial = x } in
           ap (map (map e)) (sym (faces-serials site p h mk)) ∙ map-map (map s) (map e) fs

@@ -138,7 +138,8 @@ module _ {m : List ℕ} (site : Sited m) (ok : Passed m) where
   labels-by : (f : List ℕ) → ((q : ℕ) → In q f → (q < count-in m) × (1 < column m 3 q)) → collect (λ q. label-of (third-at (darts-in m) (column m 0 q))) f ≡ map (label-at m) f
   labels-by [] h = refl
   labels-by (x ∷ f) h = let w = h x (in-here x f) in
-      rw (site .third-is x (w .0), label-is (column m 0) (column m 3 x) (column m 4 x) (ok .range .kinds x (w .0)) (w .1)) (ap (λ (l : List Label). label-at m x ∷ l) (labels-by f (λ q k. h q (in-there q x f k))))
+      rw (site .third-is x (w .0), label-is (column m 0) (column m 3 x) (column m 4 x) (ok .range .kinds x (w .0)) (w .1))
+      (ap (λ (l : List Label). label-at m x ∷ l) (labels-by f (λ q k. h q (in-there q x f k))))
 
   module _ (f : List ℕ) (w : Face m f) (c : 1 < column m 3 (start-of f)) where
     critical-all : (q : ℕ) → In q f → 1 < column m 3 q

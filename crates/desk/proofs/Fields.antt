@@ -35,13 +35,20 @@ pub blank-is : (s : List ℕ) (at a : ℕ) → a ≡ leading (belongs kind.Blank
 unfolding rest-blank
 blank-is s at a e = rw (e, rest-whole s at)
 
-at-word : (s : List ℕ) (at a b : ℕ) (r : Number) → a ≡ leading (belongs kind.Blanks) (drop at s) → b ≡ leading (belongs kind.Word) (drop (at + a) s) → r ≡ number-in (take b (drop (at + a) s)) → valued r (at + a + b) ≡ field-in s at
+at-word : (s : List ℕ) (at a b : ℕ) (r : Number) → a ≡ leading (belongs kind.Blanks) (drop at s)
+    → b ≡ leading (belongs kind.Word) (drop (at + a) s) → r ≡ number-in (take b (drop (at + a) s))
+    → valued r (at + a + b) ≡ field-in s at
 unfolding field-in field-from word-at
 at-word s at a b r ea eb er = rw (← ea, ← eb, ← er)
 
 -- a word read from its two ends
-pub field-word : (s : List ℕ) (at a b : ℕ) (r : Number) → a ≡ leading (belongs kind.Blanks) (take (length s - at) (drop at s)) → b ≡ leading (belongs kind.Word) (take (length s - (at + a)) (drop (at + a) s)) → r ≡ number-in (take (at + a + b - (at + a)) (drop (at + a) s)) → valued r (at + a + b) ≡ field-in s at
-field-word s at a b r ea eb er = let size : at + a + b - (at + a) ≡ b = omega arith in at-word s at a b r (ea ∙ ap (leading (belongs kind.Blanks)) (rest-whole s at)) (eb ∙ ap (leading (belongs kind.Word)) (rest-whole s (at + a))) (er ∙ ap (λ (k : ℕ). number-in (take k (drop (at + a) s))) size)
+pub field-word : (s : List ℕ) (at a b : ℕ) (r : Number) → a ≡ leading (belongs kind.Blanks) (take (length s - at) (drop at s))
+    → b ≡ leading (belongs kind.Word) (take (length s - (at + a)) (drop (at + a) s))
+    → r ≡ number-in (take (at + a + b - (at + a)) (drop (at + a) s)) → valued r (at + a + b) ≡ field-in s at
+field-word s at a b r ea eb er =
+    let size : at + a + b - (at + a) ≡ b = omega arith in at-word s at a b r
+    (ea ∙ ap (leading (belongs kind.Blanks)) (rest-whole s at)) (eb ∙ ap (leading (belongs kind.Word)) (rest-whole s (at + a)))
+    (er ∙ ap (λ (k : ℕ). number-in (take k (drop (at + a) s))) size)
 
 -- past the end there is no word
 pub field-past : (s : List ℕ) (at : ℕ) → length s ≤ at → field.Other ≡ field-in s at
@@ -65,12 +72,17 @@ pub line-third : (s : List ℕ) (from p to q : ℕ) → rest-blank s 0 ≡ false
 unfolding line-in
 line-third s from p to q b e₁ e₂ e₃ = rw (b, ← e₁, ← e₂, ← e₃)
 
-pub line-whole : (s : List ℕ) (from p to q serial r : ℕ) → rest-blank s 0 ≡ false → field.Value from p ≡ field-in s 0 → field.Value to q ≡ field-in s p → field.Value serial r ≡ field-in s q → cond (rest-blank s r) (line.Request from to serial) line.Other ≡ line-in s
+pub line-whole : (s : List ℕ) (from p to q serial r : ℕ) → rest-blank s 0 ≡ false → field.Value from p ≡ field-in s 0
+    → field.Value to q ≡ field-in s p → field.Value serial r ≡ field-in s q
+    → cond (rest-blank s r) (line.Request from to serial) line.Other ≡ line-in s
 unfolding line-in
 line-whole s from p to q serial r b e₁ e₂ e₃ = rw (b, ← e₁, ← e₂, ← e₃)
 
-pub line-more : (s : List ℕ) (from p to q serial r : ℕ) → rest-blank s 0 ≡ false → field.Value from p ≡ field-in s 0 → field.Value to q ≡ field-in s p → field.Value serial r ≡ field-in s q → rest-blank s r ≡ false → line.Other ≡ line-in s
+pub line-more : (s : List ℕ) (from p to q serial r : ℕ) → rest-blank s 0 ≡ false → field.Value from p ≡ field-in s 0
+    → field.Value to q ≡ field-in s p → field.Value serial r ≡ field-in s q → rest-blank s r ≡ false → line.Other ≡ line-in s
 line-more s from p to q serial r b e₁ e₂ e₃ l = subst (λ (x : Bool). cond x (line.Request from to serial) line.Other ≡ line-in s) l (line-whole s from p to q serial r b e₁ e₂ e₃)
 
-pub line-request : (s : List ℕ) (from p to q serial r : ℕ) → rest-blank s 0 ≡ false → field.Value from p ≡ field-in s 0 → field.Value to q ≡ field-in s p → field.Value serial r ≡ field-in s q → rest-blank s r ≡ true → line.Request from to serial ≡ line-in s
+pub line-request : (s : List ℕ) (from p to q serial r : ℕ) → rest-blank s 0 ≡ false → field.Value from p ≡ field-in s 0
+    → field.Value to q ≡ field-in s p → field.Value serial r ≡ field-in s q → rest-blank s r ≡ true
+    → line.Request from to serial ≡ line-in s
 line-request s from p to q serial r b e₁ e₂ e₃ l = subst (λ (x : Bool). cond x (line.Request from to serial) line.Other ≡ line-in s) l (line-whole s from p to q serial r b e₁ e₂ e₃)

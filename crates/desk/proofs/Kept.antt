@@ -106,7 +106,12 @@ module _ {C : Type 0} (b : ℕ) (c : C) where
 
   forget-turn : (f g : Files C) (i : ℕ) → Forgot f g i → Forgot f (carried b c (step.Forget i) g) (suc i)
   unfolding carried
-  forget-turn f g i h = record { same-name = h .same-name; same-mark = h .same-mark; gone = λ l. ⊎-elim (λ e. rw (eq-eqb i b e)) (λ e. rw (ne-eqb i b e) (h .gone (omega (arith, l, e)))) (eq-or-ne i b) }
+  forget-turn f g i h =
+      record {
+        same-name = h .same-name;
+        same-mark = h .same-mark;
+        gone = λ l. ⊎-elim (λ e. rw (eq-eqb i b e)) (λ e. rw (ne-eqb i b e) (h .gone (omega (arith, l, e)))) (eq-or-ne i b);
+      }
 
   forgotten : (f : Files C) (i : ℕ) → i ≤ 16 → Forgot f (first-steps (mend-step false) b c i f) i
   unfolding first-steps
@@ -121,7 +126,12 @@ module _ {C : Type 0} (b : ℕ) (c : C) where
 
   place-turn : (f g : Files C) (i : ℕ) → Finished f g i → Finished f (carried b c (step.Place i) g) (suc i)
   unfolding carried
-  place-turn f g i h = record { same-mark = h .same-mark; comes-to = place-stays i g ∙ h .comes-to; gone = λ l. ⊎-elim (λ e. rw (eq-eqb i b e)) (λ e. rw (ne-eqb i b e) (h .gone (omega (arith, l, e)))) (eq-or-ne i b) }
+  place-turn f g i h =
+      record {
+        same-mark = h .same-mark;
+        comes-to = place-stays i g ∙ h .comes-to;
+        gone = λ l. ⊎-elim (λ e. rw (eq-eqb i b e)) (λ e. rw (ne-eqb i b e) (h .gone (omega (arith, l, e)))) (eq-or-ne i b);
+      }
 
   finished : (f : Files C) (i : ℕ) → i ≤ 16 → Finished f (first-steps (mend-step true) b c i f) i
   unfolding first-steps
@@ -149,7 +159,8 @@ module _ {C : Type 0} (b : ℕ) (c : C) where
   unfolding mended
   mend-forgets f e l =
       let h = forgotten f 16 (omega arith) in
-      ap (λ (m : Bool). first-steps (mend-step m) b c 17 f) e ∙ after-16 (mend-step false) f step.Done last-forget ∙ done-stays (first-steps (mend-step false) b c 16 f) ∙ files-are (h .same-name) (h .gone l) (h .same-mark ∙ e)
+      ap (λ (m : Bool). first-steps (mend-step m) b c 17 f) e ∙ after-16 (mend-step false) f step.Done last-forget
+      ∙ done-stays (first-steps (mend-step false) b c 16 f) ∙ files-are (h .same-name) (h .gone l) (h .same-mark ∙ e)
 
   mend-finishes : (f : Files C) → f .mark ≡ true → b < 16 → mended b c f ≡ at-rest (placed (f .named) (f .new))
   unfolding mended
@@ -173,7 +184,13 @@ module _ {C : Type 0} (b : ℕ) (c : C) where
 
     write-turn : (g : Files C) (n : ℕ) → Writing g n → Writing (carried b c (step.Write n) g) (suc n)
     unfolding carried
-    write-turn g n h = record { old-name = h .old-name; no-mark = h .no-mark; written = λ l. ⊎-elim (λ e. rw (eq-eqb n b e)) (λ e. rw (ne-eqb n b e) (h .written (omega (arith, l, e)))) (eq-or-ne n b) }
+    write-turn g n h =
+        record {
+          old-name = h .old-name;
+          no-mark = h .no-mark;
+          written = λ l. ⊎-elim (λ e. rw (eq-eqb n b e)) (λ e. rw (ne-eqb n b e) (h .written (omega (arith, l, e))))
+              (eq-or-ne n b);
+        }
 
     writing : (n : ℕ) → n ≤ k → Writing (saved n) n
     unfolding first-steps
@@ -192,16 +209,27 @@ module _ {C : Type 0} (b : ℕ) (c : C) where
 
     placing-turn : (g : Files C) (j : ℕ) → Placing g j → Placing (carried b c (step.Place j) g) (suc j)
     unfolding carried
-    placing-turn g j h = record { has-mark = h .has-mark; new-one = place-stays j g ∙ h .new-one; in-place = λ l. ⊎-elim (λ e. rw (eq-eqb j b e) (h .new-one)) (λ e. rw (ne-eqb j b e) (h .in-place (omega (arith, l, e)))) (eq-or-ne j b) }
+    placing-turn g j h =
+        record {
+          has-mark = h .has-mark;
+          new-one = place-stays j g ∙ h .new-one;
+          in-place = λ l. ⊎-elim (λ e. rw (eq-eqb j b e) (h .new-one))
+              (λ e. rw (ne-eqb j b e) (h .in-place (omega (arith, l, e)))) (eq-or-ne j b);
+        }
 
     at-index : (m n j : ℕ) → m ≡ n → Placing (saved m) j → Placing (saved n) j
     at-index m n j e h = subst (λ (i : ℕ). Placing (saved i) j) e h
 
     placing : (j : ℕ) → b < k → j ≤ k → Placing (saved (k + 1 + j)) j
-    placing zero l h = at-index (suc k) (k + 1 + 0) 0 (omega arith) (subst (λ (g : Files C). Placing g 0) (sym (one-more k step.Mark (mark-at k k refl))) (mark-turn (saved k) k l (writing k (omega arith))))
+    placing zero l h =
+        at-index (suc k) (k + 1 + 0) 0 (omega arith)
+        (subst (λ (g : Files C). Placing g 0) (sym (one-more k step.Mark (mark-at k k refl)))
+        (mark-turn (saved k) k l (writing k (omega arith))))
     placing (suc j) l h =
         at-index (suc (k + 1 + j)) (k + 1 + suc j) (suc j) (omega arith)
-        (subst (λ (g : Files C). Placing g (suc j)) (sym (one-more (k + 1 + j) (step.Place j) (place-at k (k + 1 + j) j refl (omega (arith, h))))) (placing-turn (saved (k + 1 + j)) j (placing j l (omega (arith, h)))))
+        (subst (λ (g : Files C). Placing g (suc j))
+        (sym (one-more (k + 1 + j) (step.Place j) (place-at k (k + 1 + j) j refl (omega (arith, h)))))
+        (placing-turn (saved (k + 1 + j)) j (placing j l (omega (arith, h)))))
 
     -- and the mark goes
     pub record Rested (g : Files C) : Type 0 where
@@ -213,11 +241,18 @@ module _ {C : Type 0} (b : ℕ) (c : C) where
     unmark-turn g j l h = record { mark-gone = refl; name-new = h .in-place l }
 
     resting-from : (i : ℕ) → b < k → Rested (saved (k + k + 2 + i))
-    resting-from zero l = subst (λ (m : ℕ). Rested (saved m)) (index zero) (subst Rested (sym (one-more (k + 1 + k) step.Unmark (unmark-at k (k + 1 + k) refl))) (unmark-turn (saved (k + 1 + k)) k l (placing k l (omega arith))))
+    resting-from zero l =
+        subst (λ (m : ℕ). Rested (saved m)) (index zero)
+        (subst Rested (sym (one-more (k + 1 + k) step.Unmark (unmark-at k (k + 1 + k) refl)))
+        (unmark-turn (saved (k + 1 + k)) k l (placing k l (omega arith))))
       where
         index : (z : ℕ) → suc (k + 1 + k) ≡ k + k + 2 + 0
         index z = omega arith
-    resting-from (suc i) l = subst (λ (m : ℕ). Rested (saved m)) (index i) (subst Rested (sym (one-more (k + k + 2 + i) step.Done (done-at k (k + k + 2 + i) (omega arith)) ∙ done-stays (saved (k + k + 2 + i)))) (resting-from i l))
+    resting-from (suc i) l =
+        subst (λ (m : ℕ). Rested (saved m)) (index i)
+        (subst Rested
+        (sym (one-more (k + k + 2 + i) step.Done (done-at k (k + k + 2 + i) (omega arith)) ∙ done-stays (saved (k + k + 2 + i))))
+        (resting-from i l))
       where
         index : (i : ℕ) → suc (k + k + 2 + i) ≡ k + k + 2 + suc i
         index i = omega arith

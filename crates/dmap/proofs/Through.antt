@@ -37,7 +37,8 @@ told-refused {before = b} e q = record {
 pub numbered : {result : Result (Unit {0})} {given : Answer (Unit {0})} {number : ℕ} {lent : List ℕ} → number ≡ number-of given → Gives result given lent → Numbered result number lent
 numbered e g = record { number-is = e ∙ ap number-of (g .answer); left = g .left }
 
-pub counted : {result : Result ℕ} {given : Answer ℕ} {before number written : ℕ} {lent : List ℕ} → Told given before number written → Gives result given lent → Counted result before number lent written
+pub counted : {result : Result ℕ} {given : Answer ℕ} {before number written : ℕ} {lent : List ℕ} → Told given before number written
+    → Gives result given lent → Counted result before number lent written
 counted {before = b} t g = record {
   told = record { number-is = t .number-is ∙ ap number-of (g .answer); written-is = t .written-is ∙ ap (written-over b) (g .answer) };
   left = g .left;
@@ -83,7 +84,8 @@ not-four words scratch result h =
     let e : eqb (length words) 4 ≡ false = ne-eqb (length words) 4 h in
     record { told = record { number-is = rw e refl; words-are = rw e refl }; left = rw e refl }
 
-pub moved : (words scratch : List ℕ) {result : Result balance.NextMove} {given : Answer balance.NextMove} {number : ℕ} {lent after : List ℕ} → length words ≡ 4 → ToldMove given words number after → Gives result given lent
+pub moved : (words scratch : List ℕ) {result : Result balance.NextMove} {given : Answer balance.NextMove} {number : ℕ}
+    {lent after : List ℕ} → length words ≡ 4 → ToldMove given words number after → Gives result given lent
     → Moved (four-first words scratch result) words number lent after
 unfolding four-first
 moved words scratch h t g =

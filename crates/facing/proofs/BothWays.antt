@@ -183,7 +183,8 @@ module _ {m : List ℕ} (a : Asked m) where
       paired-side c f =
           let r = before-at (passed a j hj) q hq in
           paired-is a i p hi hp c f (r .0) (r .1) (r .2)
-          ∙ ap (λ (x : Bool). eqb (times (column (part m i) 4 p) (all-keys m (blocks m))) 2 && x) (sym (sides ∙ first (eqb (column (part m i) 3 p / 4) j) (eq-eqb (column (part m i) 3 p / 4) j (f .names))))
+          ∙ ap (λ (x : Bool). eqb (times (column (part m i) 4 p) (all-keys m (blocks m))) 2 && x)
+          (sym (sides ∙ first (eqb (column (part m i) 3 p / 4) j) (eq-eqb (column (part m i) 3 p / 4) j (f .names))))
         where
           first : (x : Bool) {y : Bool} → x ≡ true → (x && y) ≡ y
           first x e = rw e refl
@@ -221,7 +222,10 @@ module _ {m : List ℕ} (a : Asked m) where
           block = j;
           place = q;
           faces = F;
-          twice = sym (times-same (v / 65536)) ∙ ap (λ (x : ℕ). times x (all-keys m (blocks m))) (code-is v i p (o .block-lt) (o .place-lt) (o .is)) ∙ stands-twice a i p (o .block-lt) (o .place-lt) (o .labelled) yes;
+          twice =
+              sym (times-same (v / 65536))
+              ∙ ap (λ (x : ℕ). times x (all-keys m (blocks m))) (code-is v i p (o .block-lt) (o .place-lt) (o .is))
+              ∙ stands-twice a i p (o .block-lt) (o .place-lt) (o .labelled) yes;
           so = and-intro
               (and-right (eqb (times (column (part m i) 4 p) (all-keys m (blocks m))) 2) _ (sym (paired-side (o .block-lt) (o .place-lt) (F .block-lt) (F .place-lt) s u (o .labelled) F) ∙ yes))
               (and-right (eqb (times (column (part m j) 4 q) (all-keys m (blocks m))) 2) _ (sym (paired-side (F .block-lt) (F .place-lt) (o .block-lt) (o .place-lt) u s (F .critical-there) (turned (o .block-lt) (o .place-lt) (o .labelled) F)) ∙ back));
@@ -286,7 +290,8 @@ module _ {m : List ℕ} (a : Asked m) where
     point-flip x y e = and-intro (and-right (meet-test m (x % 65536) (y % 65536)) _ e) (and-left (meet-test m (x % 65536) (y % 65536)) _ e)
 
     -- 25
-    tests-labels : in-pairs (label-pair m t) keys ≡ true → (i p : ℕ) → i < blocks m → p < count (part m i) → paired (mesh-of m) (block-in (part m i)) (dart-in (part m i) p) (third-of (part m i) p) ≡ true
+    tests-labels : in-pairs (label-pair m t) keys ≡ true → (i p : ℕ) → i < blocks m → p < count (part m i)
+        → paired (mesh-of m) (block-in (part m i)) (dart-in (part m i) p) (third-of (part m i) p) ≡ true
     unfolding label-pair
     tests-labels e i p hi hp = by-cases (ltb 1 (column (part m i) 3 p))
         (λ k. yes (ltb-true 1 (column (part m i) 3 p) k))
@@ -303,7 +308,10 @@ module _ {m : List ℕ} (a : Asked m) where
             let s = sits v i p hi hp refl in
             let u = sits (w .twin) (f .block) (f .place) (F .block-lt) (F .place-lt) (f .is) in
             paired-side hi hp (F .block-lt) (F .place-lt) s u c F
-            ∙ and-intro (eq-eqb _ 2 (times-same (column (part m i) 4 p) ∙ ap (λ (x : ℕ). times x keys) (sym (code-is v i p hi hp refl)) ∙ w .twice)) (and-left (side-test m t (v % 65536) (w .twin % 65536)) _ (w .so))
+            ∙ and-intro
+            (eq-eqb _ 2
+            (times-same (column (part m i) 4 p) ∙ ap (λ (x : ℕ). times x keys) (sym (code-is v i p hi hp refl)) ∙ w .twice))
+            (and-left (side-test m t (v % 65536) (w .twin % 65536)) _ (w .so))
 
     pub labels-are : in-pairs (label-pair m t) keys ≡ labels-paired (mesh-of m)
     unfolding labels-paired

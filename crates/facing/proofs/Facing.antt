@@ -41,8 +41,12 @@ paired-by : (M : List Block) (b : Block) (d : Dart) (o : ℕ) (l : Label) {es : 
     → paired M b d (critical o l) ≡ (eqb n 2 && is-critical-with (b .number) (e .third) && share-label (third-at (b .darts) (d .next)) (third-at es (previous-in es (e .serial))))
 unfolding paired
 paired-by M b d o l {es} {e} {n} f g h =
-    ap (λ (x : List Dart). eqb (length (keep (λ c. has-label l (c .third)) (all-darts M))) 2 && is-critical-with (b .number) (labelled l x .third) && share-label (third-at (b .darts) (d .next)) (third-at x (previous-in x (labelled l x .serial)))) f
-    ∙ ap (λ (x : Dart). eqb (length (keep (λ c. has-label l (c .third)) (all-darts M))) 2 && is-critical-with (b .number) (x .third) && share-label (third-at (b .darts) (d .next)) (third-at es (previous-in es (x .serial)))) g
+    ap
+    (λ (x : List Dart). eqb (length (keep (λ c. has-label l (c .third)) (all-darts M))) 2 && is-critical-with (b .number)
+    (labelled l x .third) && share-label (third-at (b .darts) (d .next)) (third-at x (previous-in x (labelled l x .serial)))) f
+    ∙ ap
+    (λ (x : Dart). eqb (length (keep (λ c. has-label l (c .third)) (all-darts M))) 2 && is-critical-with (b .number) (x .third) &&
+    share-label (third-at (b .darts) (d .next)) (third-at es (previous-in es (x .serial)))) g
     ∙ ap (λ (x : ℕ). eqb x 2 && is-critical-with (b .number) (e .third) && share-label (third-at (b .darts) (d .next)) (third-at es (previous-in es (e .serial)))) h
 
 across-by : (M : List Block) (d : Dart) (o : ℕ) (l : Label) {es : List Dart} {e : Dart} → block-at M o .darts ≡ es → labelled l es ≡ e
@@ -125,14 +129,18 @@ module _ {m : List ℕ} (a : Asked m) (i p : ℕ) (hi : i < blocks m) (hp : p < 
 
         share : share-label (third-at (darts (part m i)) (column (part m i) 0 (column (part m i) 1 p))) (third-at (darts (part m j)) (previous-in (darts (part m j)) (column (part m j) 0 q)))
             ≡ eqb (column (part m i) 4 (column (part m i) 1 p)) (column (part m j) 4 r)
-        share = share-by (third-at (darts (part m i)) (column (part m i) 0 (column (part m i) 1 p))) (third-at (darts (part m j)) (previous-in (darts (part m j)) (column (part m j) 0 q))) next-key last-key
+        share =
+            share-by (third-at (darts (part m i)) (column (part m i) 0 (column (part m i) 1 p)))
+            (third-at (darts (part m j)) (previous-in (darts (part m j)) (column (part m j) 0 q))) next-key last-key
 
     -- 26
     pub across-is : same-across (mesh-of m) (dart-in (part m i) p) (third-of (part m i) p) ≡ same-point (dart-in (part m i) p .point) (dart-in (part m j) (column (part m j) 1 q) .point)
     across-is =
         ap (same-across (mesh-of m) (dart-in (part m i) p)) (critical-third here p hp c)
         ∙ across-by (mesh-of m) (dart-in (part m i) p) other label there found
-        ∙ ap (λ (d : Dart). same-point (dart-in (part m i) p .point) (d .point)) (dart-is (part m j) (passed a j (f .block-lt) .range) (column (part m j) 1 q) (next-lt (passed a j (f .block-lt)) q (f .place-lt)))
+        ∙ ap (λ (d : Dart). same-point (dart-in (part m i) p .point) (d .point))
+        (dart-is (part m j) (passed a j (f .block-lt) .range) (column (part m j) 1 q)
+        (next-lt (passed a j (f .block-lt)) q (f .place-lt)))
 
   -- WHAT A YES TO 25 SAYS
   module _ (yes : paired (mesh-of m) (block-in (part m i)) (dart-in (part m i) p) (third-of (part m i) p) ≡ true) where
@@ -145,10 +153,19 @@ module _ {m : List ℕ} (a : Asked m) (i p : ℕ) (hi : i < blocks m) (hp : p < 
         ∙ paired-by (mesh-of m) (block-in (part m i)) (dart-in (part m i) p) other label refl refl count-is) ∙ yes
 
     pub stands-twice : times (column (part m i) 4 p) (all-keys m (blocks m)) ≡ 2
-    stands-twice = eqb-true _ _ (and-left (eqb (times (column (part m i) 4 p) (all-keys m (blocks m))) 2) _ (and-left (eqb (times (column (part m i) 4 p) (all-keys m (blocks m))) 2 && is-critical-with (getD (part m i) 0 0) (labelled label es .third)) _ tests))
+    stands-twice =
+        eqb-true _ _
+        (and-left (eqb (times (column (part m i) 4 p) (all-keys m (blocks m))) 2) _
+        (and-left
+        (eqb (times (column (part m i) 4 p) (all-keys m (blocks m))) 2
+        && is-critical-with (getD (part m i) 0 0) (labelled label es .third)) _ tests))
 
     names-back : is-critical-with (getD (part m i) 0 0) (labelled label es .third) ≡ true
-    names-back = and-right (eqb (times (column (part m i) 4 p) (all-keys m (blocks m))) 2) _ (and-left (eqb (times (column (part m i) 4 p) (all-keys m (blocks m))) 2 && is-critical-with (getD (part m i) 0 0) (labelled label es .third)) _ tests)
+    names-back =
+        and-right (eqb (times (column (part m i) 4 p) (all-keys m (blocks m))) 2) _
+        (and-left
+        (eqb (times (column (part m i) 4 p) (all-keys m (blocks m))) 2
+        && is-critical-with (getD (part m i) 0 0) (labelled label es .third)) _ tests)
 
     known : other < blocks m
     known = ⊎-elim (λ h. h) (λ h. absurd (nobody (getD (part m i) 0 0) label (ap (λ (b : Block). b .darts) (block-none m other h)) names-back)) (lt-or-ge other (blocks m))

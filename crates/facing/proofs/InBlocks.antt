@@ -131,7 +131,9 @@ module _ {b : List ℕ} (w : Passed b) where
   names-other p h c e =
       let k = column b 3 p in
       let t : (ltb k 2 || (not (eqb (k / 4) (getD b 0 0)) && (not (eqb (column b 4 p / 4096 / 2 ^ 32) (getD b 0 0)) || ltb (column b 4 p / 4096 % 2 ^ 32) (getD b 1 0)))) ≡ true = w .labels p h in
-      let u : (not (eqb (k / 4) (getD b 0 0)) && (not (eqb (column b 4 p / 4096 / 2 ^ 32) (getD b 0 0)) || ltb (column b 4 p / 4096 % 2 ^ 32) (getD b 1 0))) ≡ true = rw (le-ltb k 2 (omega arith)) at t in
+      let u : (not (eqb (k / 4) (getD b 0 0)) && (not (eqb (column b 4 p / 4096 / 2 ^ 32) (getD b 0 0)) || ltb (column b 4 p / 4096 % 2 ^ 32) (getD b 1 0))) ≡ true =
+      rw (le-ltb k 2 (omega arith)) at t
+      in
       eqb-false (k / 4) (getD b 0 0) (not-true _ (and-left (not (eqb (k / 4) (getD b 0 0))) _ u)) e
 
   pub critical-third : (p : ℕ) → p < count b → 1 < column b 3 p → third-of b p ≡ critical (column b 3 p / 4) (label-in (column b 4 p))
@@ -156,7 +158,10 @@ block-is m i h = ap (λ (M : List Block). getD M i no-block) (mesh-tab m) ∙ ge
 
 pub block-none : (m : List ℕ) (i : ℕ) → blocks m ≤ i → block-at (mesh-of m) i ≡ no-block
 unfolding block-at
-block-none m i h = ap (λ (M : List Block). getD M i no-block) (mesh-tab m) ∙ List·getD-eq-default (tab (λ j. block-in (part m j)) (blocks m)) no-block (past (length-tab (λ j. block-in (part m j)) (blocks m)) h)
+block-none m i h =
+    ap (λ (M : List Block). getD M i no-block) (mesh-tab m)
+    ∙ List·getD-eq-default (tab (λ j. block-in (part m j)) (blocks m)) no-block
+    (past (length-tab (λ j. block-in (part m j)) (blocks m)) h)
   where
     past : {k n : ℕ} → k ≡ n → n ≤ i → k ≤ i
     past e l = omega arith
@@ -170,7 +175,10 @@ module _ {m : List ℕ} (a : Asked m) where
   passed i h = image-passed (part m i) (all-tab (λ b. is-image rack b) (part m) (length m / words) (a .images) i h)
 
   pub number-is : (i : ℕ) → i < blocks m → getD (part m i) 0 0 ≡ i
-  number-is i h = eqb-true _ _ (numbered-at (λ j. block-in (part m j)) (blocks m) 0 (in-order (λ j. block-in (part m j)) (blocks m) (ap blocks-right (sym (mesh-tab m)) ∙ a .numbered)) i h) ∙ from-zero i
+  number-is i h =
+      eqb-true _ _
+      (numbered-at (λ j. block-in (part m j)) (blocks m) 0
+      (in-order (λ j. block-in (part m j)) (blocks m) (ap blocks-right (sym (mesh-tab m)) ∙ a .numbered)) i h) ∙ from-zero i
     where
       from-zero : (p : ℕ) → 0 + p ≡ p
       from-zero p = omega arith

@@ -139,15 +139,19 @@ block-times l b i (suc n) hi hn kinds =
     sums e f = omega arith
 
 -- of all blocks
-pub all-times : (l : Label) (m : List ℕ) (n : ℕ) → n ≤ 16 → ((i : ℕ) → i < n → count (part m i) ≤ 4096) → ((i p : ℕ) → i < n → p < count (part m i) → Kind (column (part m i) 3 p) (column (part m i) 4 p))
+pub all-times : (l : Label) (m : List ℕ) (n : ℕ) → n ≤ 16 → ((i : ℕ) → i < n → count (part m i) ≤ 4096)
+    → ((i p : ℕ) → i < n → p < count (part m i) → Kind (column (part m i) 3 p) (column (part m i) 4 p))
     → length (keep (λ c. has-label l (c .third)) (all-darts (tab (λ i. block-in (part m i)) n))) ≡ times (code l) (all-keys m n)
 unfolding all-keys all-darts
 all-times l m zero hn few kinds = refl
 all-times l m (suc n) hn few kinds =
     ap (λ (x : List Block). length (keep (λ c. has-label l (c .third)) (all-darts x))) (sym (tab-more (λ i. block-in (part m i)) n))
-    ∙ ap (λ (x : List Dart). length (keep (λ c. has-label l (c .third)) x)) (concat-append (tab (λ i. block-in (part m i)) n) (block-in (part m n) ∷ []) ∙ ap (λ (x : List Dart). all-darts (tab (λ i. block-in (part m i)) n) ++ x) (one-block (block-in (part m n))))
+    ∙ ap (λ (x : List Dart). length (keep (λ c. has-label l (c .third)) x))
+    (concat-append (tab (λ i. block-in (part m i)) n) (block-in (part m n) ∷ [])
+    ∙ ap (λ (x : List Dart). all-darts (tab (λ i. block-in (part m i)) n) ++ x) (one-block (block-in (part m n))))
     ∙ keep-append (λ c. has-label l (c .third)) (all-darts (tab (λ i. block-in (part m i)) n)) (tab (dart-in (part m n)) (count (part m n)))
-    ∙ sums (all-times l m n (omega arith) (λ i h. few i (omega arith)) (λ i p h. kinds i p (omega arith))) (block-times l (part m n) n (count (part m n)) (omega arith) (few n (omega arith)) (λ p h. kinds n p (omega arith) h))
+    ∙ sums (all-times l m n (omega arith) (λ i h. few i (omega arith)) (λ i p h. kinds i p (omega arith)))
+    (block-times l (part m n) n (count (part m n)) (omega arith) (few n (omega arith)) (λ p h. kinds n p (omega arith) h))
     ∙ sym (total-append (λ y. eqb (code l) (y / 65536)) (all-keys m n) (keys-of (part m n) n (count (part m n))))
   where
     sums : {a b c d : ℕ} → a ≡ b → c ≡ d → a + c ≡ b + d

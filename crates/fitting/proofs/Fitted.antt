@@ -63,7 +63,9 @@ module _ {m d ranks z codes places indices kinds kinds′ links links′ : List 
 
   size : (e : ℕ) → e < c → face-size z indices e ≡ length (cycle (column m 1) (place e))
   size e h = eqb-true (face-size z indices e) (length (cycle (column m 1) (place e)))
-      (three-yes (eqb (column m 3 (place e)) (2 + 4 * from)) (eqb (face-size z indices e) (length (cycle (column m 1) (place e)))) (all (meets-at m d ranks (getD indices e 0) (face-size z indices e) (cycle (column m 1) (place e))) (tab (λ j. j) (face-size z indices e))) (passed e h .2) .1)
+      (three-yes (eqb (column m 3 (place e)) (2 + 4 * from)) (eqb (face-size z indices e) (length (cycle (column m 1) (place e))))
+      (all (meets-at m d ranks (getD indices e 0) (face-size z indices e) (cycle (column m 1) (place e)))
+      (tab (λ j. j) (face-size z indices e))) (passed e h .2) .1)
 
   placing : Placing2 m codes indices places z c (λ e. met-at (cycle (column m 1) (getD places e 0)) (face-size z indices e))
   placing = record {
@@ -112,7 +114,13 @@ module _ {m s v x b z : List ℕ} {f : Front} {l : Tail} {ranks d : List ℕ} (o
       count = sym (length-map (t .part2) code2) ∙ ap length (sym (told .codes-are)) ∙ length-take-le (l .count2) codes (omega (arith, codes-size, few))
 
       indexed : indices-right t ≡ true
-      indexed = and-left (indices-right t) _ (and-left (indices-right t && consecutive (t .part3)) _ (and-left (indices-right t && consecutive (t .part3) && all (λ k. not (eqb (k .other) (t .from)) && not (eqb (k .other) (t .to))) (t .part4)) (labels-new (block-in m) t) rest))
+      indexed =
+          and-left (indices-right t) _
+          (and-left (indices-right t && consecutive (t .part3)) _
+          (and-left
+          (indices-right t && consecutive (t .part3)
+          && all (λ k. not (eqb (k .other) (t .from)) && not (eqb (k .other) (t .to))) (t .part4)) (labels-new (block-in m) t)
+          rest))
 
       codes-are : take (length (t .part2)) codes ≡ map code2 (t .part2)
       codes-are = ap (λ (c : ℕ). take c codes) count ∙ told .codes-are
@@ -124,7 +132,9 @@ module _ {m s v x b z : List ℕ} {f : Front} {l : Tail} {ranks d : List ℕ} (o
       fits = index-fits (new .draft) t (w .inside) (full w (new .right t w)) (w .darts-are) (sym (w .points-are)) (vertices-below w (new .right t w)) m ok indices indices-are indexed
 
       beside : Meetable m (count-in m) d (f .darts) ranks
-      beside = meetable (new .draft) t (w .inside) (full w (new .right t w)) (w .darts-are) (sym (w .points-are)) (vertices-below w (new .right t w)) m ok (points-finite w (new .right t w) m (new .fresh)) ranks-size
+      beside =
+          meetable (new .draft) t (w .inside) (full w (new .right t w)) (w .darts-are) (sym (w .points-are))
+          (vertices-below w (new .right t w)) m ok (points-finite w (new .right t w) m (new .fresh)) ranks-size
 
       sewn : (places : List ℕ) → length places ≡ 512 → Sewable m d ranks z places indices (count-in m) (f .darts) (f .from) (l .count2)
       sewn places n = subst (λ (c : ℕ). Sewable m d ranks z places indices (count-in m) (f .darts) (f .from) c) count
@@ -147,7 +157,10 @@ module _ {m s v x b z : List ℕ} {f : Front} {l : Tail} {ranks d : List ℕ} (o
     -- and has answered
     module _ {kinds′ links′ : List ℕ} {q : Bool} (second : Part2Done m d ranks z codes indices (f .from) (l .count2) kinds kinds′ links links′ q) where
       second-is : distinct (take (l .count2) codes) ≡ true → (t : Transfer) → TransferOutlined t s v x b z f l → q ≡ halves t
-      second-is e t w = part2-answer (new .draft) t (w .inside) (full w (new .right t w)) (w .darts-are) (sym (w .points-are)) (vertices-below w (new .right t w)) m ok indices (indices-are w) indices-size (omega (arith, count w, few w)) (fits w) (codes-are w)
+      second-is e t w =
+          part2-answer (new .draft) t (w .inside) (full w (new .right t w)) (w .darts-are) (sym (w .points-are))
+          (vertices-below w (new .right t w)) m ok indices (indices-are w) indices-size (omega (arith, count w, few w)) (fits w)
+          (codes-are w)
           (subst (λ (c : ℕ). Located m codes c (count-in m) (second .places)) (sym (count w)) (second .located e))
           (subst (λ (o : ℕ). Part2Told m d ranks z (second .places) indices (count-in m) o (length (t .part2)) kinds kinds′ links links′ q) (w .from-is)
           (subst (λ (c : ℕ). Part2Told m d ranks z (second .places) indices (count-in m) (f .from) c kinds kinds′ links links′ q) (sym (count w)) (second .told e)))
@@ -161,9 +174,13 @@ module _ {m s v x b z : List ℕ} {f : Front} {l : Tail} {ranks d : List ℕ} (o
       answer : (t : Transfer) → TransferOutlined t s v x b z f l → q ≡ parts-right (block-in m) t
       answer t w = by-cases (distinct (take (l .count2) codes))
           (λ e. second-is e t w ∙ sym (rest-then t w))
-          (λ e. second .same-code e ∙ sym (parts-split (block-in m) t ∙ last-no (rest-right (block-in m) t) (all (part2-right (darts-in m) t) (t .part2)) (part2-apart (darts-in m) (t .part2)) (one-twice e t w)))
+          (λ e. second .same-code e ∙ sym
+          (parts-split (block-in m) t
+          ∙ last-no (rest-right (block-in m) t) (all (part2-right (darts-in m) t) (t .part2)) (part2-apart (darts-in m) (t .part2))
+          (one-twice e t w)))
 
-      linked : q ≡ true → distinct (take (l .count2) codes) ≡ true → (t : Transfer) → TransferOutlined t s v x b z f l → Linking m (getD m 2 0) (f .darts) x kinds′ links′ (transfer-links (darts-in m) t)
+      linked : q ≡ true → distinct (take (l .count2) codes) ≡ true → (t : Transfer) → TransferOutlined t s v x b z f l
+          → Linking m (getD m 2 0) (f .darts) x kinds′ links′ (transfer-links (darts-in m) t)
       linked y e t w =
           let place2 = placing ok (second .located e) (second .told e) y in
           let apart : part2-apart (darts-in m) (t .part2) ≡ true = and-right (all (part2-right (darts-in m) t) (t .part2)) _ (sym (second-is e t w) ∙ y) in

@@ -59,5 +59,7 @@ module _ {m d ranks z codes indices : List ℕ} {from c : ℕ} {keys rows : List
   pub same-no : {kinds links : List ℕ} → r ≡ false → Part2Done m d ranks z codes indices from c kinds kinds links links false
   same-no e = record { same-code = λ y. refl; places = []; located = λ y. absurd (true≢false (sym y ∙ sym (ranked .is) ∙ e)); told = λ y. absurd (true≢false (sym y ∙ sym (ranked .is) ∙ e)) }
 
-  pub part2-done : r ≡ true → {kinds kinds′ links links′ places : List ℕ} {q : Bool} → Located m codes c (getD m 2 0) places → Part2Told m d ranks z places indices (getD m 2 0) from c kinds kinds′ links links′ q → Part2Done m d ranks z codes indices from c kinds kinds′ links links′ q
+  pub part2-done : r ≡ true → {kinds kinds′ links links′ places : List ℕ} {q : Bool} → Located m codes c (getD m 2 0) places
+      → Part2Told m d ranks z places indices (getD m 2 0) from c kinds kinds′ links links′ q
+      → Part2Done m d ranks z codes indices from c kinds kinds′ links links′ q
   part2-done e {places = places} l t = record { same-code = λ y. absurd (true≢false (sym e ∙ ranked .is ∙ y)); places = places; located = λ y. l; told = λ y. t }

@@ -63,5 +63,10 @@ module _ {s v x b z : List ℕ} {f : Front} {l : Tail} where
 
     pub points-finite : (m : List ℕ) {keys ranks : List ℕ} → NewSerials (block-in m .darts) s (f .points) (f .vertices) x (f .darts) keys ranks true → all finite (t .points) ≡ true
     points-finite m new =
-        ap (all finite) (sym (w .points-are)) ∙ and-left (all finite (points-in s (f .points) (f .vertices))) (all (λ i. leb 1 (getD x i 0) && not (held (block-in m .darts) (getD x i 0))) (tab (λ i. i) (f .darts)))
-        (and-left (all finite (points-in s (f .points) (f .vertices)) && all (λ i. leb 1 (getD x i 0) && not (held (block-in m .darts) (getD x i 0))) (tab (λ i. i) (f .darts))) (distinct (take (f .darts) x)) (sym (new .is)))
+        ap (all finite) (sym (w .points-are))
+        ∙ and-left (all finite (points-in s (f .points) (f .vertices)))
+        (all (λ i. leb 1 (getD x i 0) && not (held (block-in m .darts) (getD x i 0))) (tab (λ i. i) (f .darts)))
+        (and-left
+        (all finite (points-in s (f .points) (f .vertices))
+        && all (λ i. leb 1 (getD x i 0) && not (held (block-in m .darts) (getD x i 0))) (tab (λ i. i) (f .darts)))
+        (distinct (take (f .darts) x)) (sym (new .is)))

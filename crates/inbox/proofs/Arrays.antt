@@ -66,10 +66,18 @@ module _ {s : List ℕ} {at start size : ℕ} {v x b z : List ℕ} {i p : ℕ} {
         count = omega arith;
         fits = omega arith;
         inside = record {
-          vertices = rw (map-append (λ (c : FaceDart). c .vertex) (w .ds) (d ∷ [])) (grown-more i (d .vertex) (w .inside .vertices) (e ∙ ap (λ (n : ℕ). start + n) (sym (length-map (w .ds) (λ (c : FaceDart). c .vertex)))) (omega (arith, room .vertex-size)));
-          serials = rw (map-append (λ (c : FaceDart). c .serial) (w .ds) (d ∷ [])) (grown-more i (d .serial) (w .inside .serials) (e ∙ ap (λ (n : ℕ). start + n) (sym (length-map (w .ds) (λ (c : FaceDart). c .serial)))) (omega (arith, room .serial-size)));
-          starts = rw (k, replicate-more (length (w .ds)) start) (grown-more i start (w .inside .starts) (e ∙ ap (λ (n : ℕ). start + n) (sym (length-replicate (length (w .ds)) start))) (omega (arith, room .starts-size)));
-          sizes = rw (k, replicate-more (length (w .ds)) size) (grown-more i size (w .inside .sizes) (e ∙ ap (λ (n : ℕ). start + n) (sym (length-replicate (length (w .ds)) size))) (omega (arith, room .sizes-size)));
+          vertices =
+              rw (map-append (λ (c : FaceDart). c .vertex) (w .ds) (d ∷ []))
+              (grown-more i (d .vertex) (w .inside .vertices) (e ∙ ap (λ (n : ℕ). start + n) (sym (length-map (w .ds) (λ (c : FaceDart). c .vertex)))) (omega (arith, room .vertex-size)));
+          serials =
+              rw (map-append (λ (c : FaceDart). c .serial) (w .ds) (d ∷ []))
+              (grown-more i (d .serial) (w .inside .serials) (e ∙ ap (λ (n : ℕ). start + n) (sym (length-map (w .ds) (λ (c : FaceDart). c .serial)))) (omega (arith, room .serial-size)));
+          starts =
+              rw (k, replicate-more (length (w .ds)) start)
+              (grown-more i start (w .inside .starts) (e ∙ ap (λ (n : ℕ). start + n) (sym (length-replicate (length (w .ds)) start))) (omega (arith, room .starts-size)));
+          sizes =
+              rw (k, replicate-more (length (w .ds)) size)
+              (grown-more i size (w .inside .sizes) (e ∙ ap (λ (n : ℕ). start + n) (sym (length-replicate (length (w .ds)) size))) (omega (arith, room .sizes-size)));
         };
         sides = record {
           vertex-size = length-set v′ i (d .vertex) ∙ room .vertex-size;
@@ -79,7 +87,8 @@ module _ {s : List ℕ} {at start size : ℕ} {v x b z : List ℕ} {i p : ℕ} {
         };
       }
 
-  pub darts-more : {v″ x″ : List ℕ} {r : Read} {u q : ℕ} → r ≡ Value u q → i < start + size → DartRead s p i v′ v″ x′ x″ r → Darts s at start size v x b z (i + 1) q v″ x″ (set b′ i start) (set z′ i size)
+  pub darts-more : {v″ x″ : List ℕ} {r : Read} {u q : ℕ} → r ≡ Value u q → i < start + size → DartRead s p i v′ v″ x′ x″ r
+      → Darts s at start size v x b z (i + 1) q v″ x″ (set b′ i start) (set z′ i size)
   darts-more {v″} {x″} {r} {u} {q} e h t = go (subst (DartSaid s p i v′ v″ x′ x″) e (t .said))
     where
       go : DartSaid s p i v′ v″ x′ x″ (Value u q) → Darts s at start size v x b z (i + 1) q v″ x″ (set b′ i start) (set z′ i size)

@@ -143,8 +143,12 @@ module _ (s : List ℕ) (at count : ℕ) where
               few = (let k = t .3 in omega (arith, n-is));
               hollow-is = rw (hollow-more (w .fs) f, w .hollow-is, n-is);
               inside = record {
-                vertices = rw (concat-more (w .fs) f, map-append (λ (c : FaceDart). c .vertex) (concat (w .fs)) f) (front (size-all (w .fs ++ f ∷ [])) (d .vertices) (old .vertices) (omega (arith, more, length-map f (λ (c : FaceDart). c .vertex))));
-                serials = rw (concat-more (w .fs) f, map-append (λ (c : FaceDart). c .serial) (concat (w .fs)) f) (front (size-all (w .fs ++ f ∷ [])) (d .serials) (old .serials) (omega (arith, more, length-map f (λ (c : FaceDart). c .serial))));
+                vertices =
+                    rw (concat-more (w .fs) f, map-append (λ (c : FaceDart). c .vertex) (concat (w .fs)) f)
+                    (front (size-all (w .fs ++ f ∷ [])) (d .vertices) (old .vertices) (omega (arith, more, length-map f (λ (c : FaceDart). c .vertex))));
+                serials =
+                    rw (concat-more (w .fs) f, map-append (λ (c : FaceDart). c .serial) (concat (w .fs)) f)
+                    (front (size-all (w .fs ++ f ∷ [])) (d .serials) (old .serials) (omega (arith, more, length-map f (λ (c : FaceDart). c .serial))));
                 starts = rw (starts-more 0 (w .fs) f, none-before) (rw (← was) (front (size-all (w .fs ++ f ∷ [])) (d .starts) (old .starts) (omega (arith, more, length-replicate (length f) darts))));
                 sizes = rw (sizes-more (w .fs) f) (front (size-all (w .fs ++ f ∷ [])) sized (old .sizes) (omega (arith, more, length-replicate (length f) (length f))));
               };
@@ -190,13 +194,16 @@ module _ (s : List ℕ) (at count : ℕ) where
                         small-not : (k : ℕ) → 512 < k → (leb 1 k && leb k 512) ≡ false
                         small-not k h = rw (le-leb 1 k (omega arith), lt-leb k 512 h)
 
-  pub reading-end : {left darts p : ℕ} {hollow : Bool} {v x b z : List ℕ} → Reading left darts p hollow v x b z → left ≤ 0 → (out : Faces) → out .ok ≡ ltb 0 darts → out .darts ≡ darts → out .hollow ≡ hollow → out .next ≡ p
+  pub reading-end : {left darts p : ℕ} {hollow : Bool} {v x b z : List ℕ} → Reading left darts p hollow v x b z → left ≤ 0 → (out : Faces)
+      → out .ok ≡ ltb 0 darts → out .darts ≡ darts → out .hollow ≡ hollow → out .next ≡ p
       → FacesRead s at count v x b z out
   unfolding times
   reading-end {left} {darts} {p} {hollow} w none-left out ok-is darts-is hollow-is next-is = record {
     sides = w .sides;
     no = λ e fs rest k. none-there fs rest k (ltb-false 0 darts (sym ok-is ∙ e));
-    yes = λ e. (w .fs, rw next-is all-read, (let a = ltb-true 0 darts (sym ok-is ∙ e) in let b = w .darts-are in let c = w .few in and-intro (le-leb 1 (size-all (w .fs)) (omega arith)) (le-leb (size-all (w .fs)) 512 (omega arith))), darts-is ∙ w .darts-are, hollow-is ∙ w .hollow-is, w .inside);
+    yes =
+        λ e.
+        (w .fs, rw next-is all-read, (let a = ltb-true 0 darts (sym ok-is ∙ e) in let b = w .darts-are in let c = w .few in and-intro (le-leb 1 (size-all (w .fs)) (omega arith)) (le-leb (size-all (w .fs)) 512 (omega arith))), darts-is ∙ w .darts-are, hollow-is ∙ w .hollow-is, w .inside);
   }
     where
       all-read : Took (times count (counted face-dart)) s at (w .fs) p

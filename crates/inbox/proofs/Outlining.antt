@@ -103,7 +103,8 @@ module _ {A : Type 0} (l : Layout A) where
   unfolding times
   counted-short {s} {at} {n} {p} {t} b w e d = record { no = λ k. counted-half l w (subst (PassSaid (times n l) s p) e (d .said)); yes = λ k. absurd (true≢false (sym k ∙ b)) }
 
-  pub counted-good : {s : List ℕ} {at n p m q : ℕ} {t : Answer} → Took group s at n p → t ≡ Value m q → Passes (times n l) s p t → CountedRead l s at (record { ok = true; count = n; first = p; next = q })
+  pub counted-good : {s : List ℕ} {at n p m q : ℕ} {t : Answer} → Took group s at n p → t ≡ Value m q → Passes (times n l) s p t
+      → CountedRead l s at (record { ok = true; count = n; first = p; next = q })
   counted-good {s} {at} {n} {p} {m} {q} {t} w e d = record { no = λ k. absurd (true≢false k); yes = λ k. go (subst (PassSaid (times n l) s p) e (d .said)) }
     where
       go : PassSaid (times n l) s p (Value m q) → Entries l s at n p q
@@ -116,7 +117,8 @@ module _ {A : Type 0} (l : Layout A) where
 abbrev faces-layout : Layout (List (List FaceDart))
 faces-layout = such-that (counted (counted face-dart)) some-darts
 
-counted-items : {A : Type 0} (l : Layout A) {s : List ℕ} {at n p : ℕ} (xs : List A) (rest : List ℕ) → Took group s at n p → counted l .get (drop at s) ≡ some (xs, rest) → (t : List ℕ) × (get-all l n (drop p s) ≡ some (xs, t))
+counted-items : {A : Type 0} (l : Layout A) {s : List ℕ} {at n p : ℕ} (xs : List A) (rest : List ℕ) → Took group s at n p
+    → counted l .get (drop at s) ≡ some (xs, rest) → (t : List ℕ) × (get-all l n (drop p s) ≡ some (xs, t))
 unfolding counted times as-type _⊗_
 counted-items {A} l {s} {at} {n} {p} xs rest w e =
     let e′ = rw (w .value) at e in
@@ -167,7 +169,9 @@ module _ (m start : ℕ) {s : List ℕ} {at from to p : ℕ} (h : Headed 1 s at 
     no = λ e. head-half 1 (counted point ⊕ faces-layout) h (both-half (counted point) faces-layout points (faces-no count (w .no e)));
     yes = λ e. let y = w .yes e in record {
       fs = y .0;
-      took = head-took 1 (counted point ⊕ faces-layout) h (both-took (counted point) faces-layout points (such-took (counted (counted face-dart)) some-darts (counted-took (counted face-dart) count (y .1)) (y .2)));
+      took =
+          head-took 1 (counted point ⊕ faces-layout) h
+          (both-took (counted point) faces-layout points (such-took (counted (counted face-dart)) some-darts (counted-took (counted face-dart) count (y .1)) (y .2)));
       points-fit = points .within;
       some-there = y .2;
       darts-are = y .3;
@@ -190,7 +194,9 @@ module _ (fs : List (List FaceDart)) where
 
     module _ {c3 c4 : Counted} (w3 : CountedRead part3 s (c2 .next) c3) (y3 : c3 .ok ≡ true) (w4 : CountedRead (part4 fs) s (c3 .next) c4) where
       pub no-fourth : c4 .ok ≡ false → tail-layout fs .get (drop at s) ≡ none
-      no-fourth e = both-half (counted part2) (counted part3 ⊕ counted (part4 fs)) (entries-took part2 (w2 .yes y2)) (both-half (counted part3) (counted (part4 fs)) (entries-took part3 (w3 .yes y3)) (w4 .no e))
+      no-fourth e =
+          both-half (counted part2) (counted part3 ⊕ counted (part4 fs)) (entries-took part2 (w2 .yes y2))
+          (both-half (counted part3) (counted (part4 fs)) (entries-took part3 (w3 .yes y3)) (w4 .no e))
 
       pub tail-read : c4 .ok ≡ true → {end : Bool} → end ≡ eqb (c4 .next) (length s)
           → TailRead fs s at (record { ok = end; count2 = c2 .count; part2 = c2 .first; count3 = c3 .count; part3 = c3 .first; count4 = c4 .count; part4 = c4 .first })
@@ -199,7 +205,8 @@ module _ (fs : List (List FaceDart)) where
           let e3 = w3 .yes y3 in
           let e4 = w4 .yes y4 in
           let taken : Took (tail-layout fs) s at (e2 .items, (e3 .items, e4 .items)) (c4 .next)
-          = both-took (counted part2) (counted part3 ⊕ counted (part4 fs)) (entries-took part2 e2) (both-took (counted part3) (counted (part4 fs)) (entries-took part3 e3) (entries-took (part4 fs) e4)) in
+          = both-took (counted part2) (counted part3 ⊕ counted (part4 fs)) (entries-took part2 e2)
+          (both-took (counted part3) (counted (part4 fs)) (entries-took part3 e3) (entries-took (part4 fs) e4)) in
           record {
             no = λ e. whole-more (tail-layout fs) taken (eqb-false (c4 .next) (length s) (sym last ∙ e));
             yes = λ e. record {
@@ -231,7 +238,21 @@ unfolding transfer whole as-type _⊗_
 no-tail {s} {at} {p} {h} w e = rw (w .value) (go (tail-layout (h .1 .1 .1 .1) .get (drop p s)) e)
   where
     go : (r : Read (List Part2 × (List Part3 × List Part4))) → at-end r ≡ none
-        → at-end {A = Transfer} (then {A = Part1 × (List Part2 × (List Part3 × List Part4))} (then {B = Part1 × (List Part2 × (List Part3 × List Part4))} r (λ b rest. some ((h, b), rest))) (λ q rest. some (record { from = q .0 .1 .0; to = q .0 .1 .1 .0; points = q .0 .1 .1 .1 .0; faces = q .0 .1 .1 .1 .1; part2 = q .1 .0; part3 = q .1 .1 .0; part4 = q .1 .1 .1 }, rest))) ≡ none
+        → at-end {A = Transfer}
+        (then {A = Part1 × (List Part2 × (List Part3 × List Part4))}
+        (then {B = Part1 × (List Part2 × (List Part3 × List Part4))} r (λ b rest. some ((h, b), rest)))
+        (λ q rest. some (
+          record {
+            from = q .0 .1 .0;
+            to = q .0 .1 .1 .0;
+            points = q .0 .1 .1 .1 .0;
+            faces = q .0 .1 .1 .1 .1;
+            part2 = q .1 .0;
+            part3 = q .1 .1 .0;
+            part4 = q .1 .1 .1;
+          },
+          rest,
+        ))) ≡ none
     go none e = refl
     go (some r) e = ended-alike (r .0) (record { from = h .1 .0; to = h .1 .1 .0; points = h .1 .1 .1 .0; faces = h .1 .1 .1 .1; part2 = r .0 .0; part3 = r .0 .1 .0; part4 = r .0 .1 .1 }) (r .1) e
 

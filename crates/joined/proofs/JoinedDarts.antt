@@ -83,7 +83,9 @@ module _ {m c w kinds links ranks old new x : List ℕ} {n k : ℕ} {ls : List L
     dart-now t =
         let e1 = serial-same (column y 1 t) ∙ ap (column w 0) (sew .others 1 t (omega arith) (λ e. omega (arith, e)) (λ e. omega (arith, e))) in
         let e2 = serial-same (column y 2 t) ∙ ap (column w 0) (sew .others 2 t (omega arith) (λ e. omega (arith, e)) (λ e. omega (arith, e))) in
-        let e3 : third-in (column y 0) (column y 3 t) (column y 4 t) ≡ third-in (column w 0) (column y 3 t) (column y 4 t) = ap (λ (s : ℕ → ℕ). third-in s (column y 3 t) (column y 4 t)) serials-same in
+        let e3 : third-in (column y 0) (column y 3 t) (column y 4 t) ≡ third-in (column w 0) (column y 3 t) (column y 4 t) =
+        ap (λ (s : ℕ → ℕ). third-in s (column y 3 t) (column y 4 t)) serials-same
+        in
         let e5 = sew .others 5 t (omega arith) (λ e. omega (arith, e)) (λ e. omega (arith, e)) in
         let e6 = sew .others 6 t (omega arith) (λ e. omega (arith, e)) (λ e. omega (arith, e)) in
         let e7 = sew .others 7 t (omega arith) (λ e. omega (arith, e)) (λ e. omega (arith, e)) in
@@ -104,7 +106,10 @@ module _ {m c w kinds links ranks old new x : List ℕ} {n k : ℕ} {ls : List L
     met-dart i h e =
         let t = getD old (getD links i 0) 0 in
         let q = ln .link-below i h e in
-        let here : third-in (column w 0) (column y 3 t) (column y 4 t) ≡ sewn (getD x i 0) = third-sewn (column w 0) (column y 3 t) (column y 4 t) (sew .met-kind i h e) ∙ ap sewn (ap (column w 0) (sew .met-link i h e) ∙ new-serial i h) in
+        let here : third-in (column w 0) (column y 3 t) (column y 4 t) ≡ sewn (getD x i 0) =
+        third-sewn (column w 0) (column y 3 t) (column y 4 t) (sew .met-kind i h e)
+        ∙ ap sewn (ap (column w 0) (sew .met-link i h e) ∙ new-serial i h)
+        in
         ap (λ (z : Third). with-third z (dart-in w t)) here ∙ linked-some (dart-in w t) (column m 0 (getD links i 0)) (sewn (getD x i 0)) (old-serial (getD links i 0) q) (ln .met i h e)
 
     unmet-dart : (p : ℕ) → p < n → ((i : ℕ) → i < k → getD kinds i 0 ≡ 1 → getD links i 0 ≡ p → ⊥) → let t = getD old p 0 in with-third (third-now t) (dart-in w t) ≡ relink ls (dart-in w t)
@@ -123,7 +128,11 @@ module _ {m c w kinds links ranks old new x : List ℕ} {n k : ℕ} {ls : List L
         let one = eqb-true (getD kinds (r .0) 0) 1 (and-left (eqb (getD kinds (r .0) 0) 1) _ (r .2)) in
         let there = eqb-true (getD links (r .0) 0) p (and-right (eqb (getD kinds (r .0) 0) 1) _ (r .2)) in
         subst (λ (z : ℕ). with-third (third-now (getD old z 0)) (dart-in w (getD old z 0)) ≡ relink ls (dart-in w (getD old z 0))) there (met-dart (r .0) (r .1) one))
-        (λ e. unmet-dart p h (λ i l one there. true≢false (sym (tab-any (λ i. eqb (getD kinds i 0) 1 && eqb (getD links i 0) p) (λ i. i) k i l (and-intro (eq-eqb (getD kinds i 0) 1 one) (eq-eqb (getD links i 0) p there))) ∙ e)))
+        (λ e. unmet-dart p h
+        (λ i l one there. true≢false
+        (sym
+        (tab-any (λ i. eqb (getD kinds i 0) 1 && eqb (getD links i 0) p) (λ i. i) k i l
+        (and-intro (eq-eqb (getD kinds i 0) 1 one) (eq-eqb (getD links i 0) p there))) ∙ e)))
 
     -- THE NEW DARTS
     new-joined : (i : ℕ) → i < k → let t = place-of ranks new i in with-third (third-now t) (dart-in w t) ≡ relink ls (dart-in w t)
@@ -138,10 +147,14 @@ module _ {m c w kinds links ranks old new x : List ℕ} {n k : ℕ} {ls : List L
         let here : third-in (column w 0) (column y 3 t) (column y 4 t) ≡ dart-in w t .third = rw (stay 3 (omega arith), stay 4 (omega arith)) refl in
         ap (λ (z : Third). with-third z (dart-in w t)) here ∙ linked-none (dart-in w t) (getD x i 0) (new-serial i h) (ln .new-free i h e))
         (λ (d : getD kinds i 0 ≡ 0 → ⊥).
-        ap (λ (z : Third). with-third z (dart-in w t)) (linked-third i h d) ∙ linked-some (dart-in w t) (getD x i 0) (third-in (column m 0) (getD kinds i 0) (getD links i 0)) (new-serial i h) (ln .new-linked i h d))
+        ap (λ (z : Third). with-third z (dart-in w t)) (linked-third i h d)
+        ∙ linked-some (dart-in w t) (getD x i 0) (third-in (column m 0) (getD kinds i 0) (getD links i 0)) (new-serial i h)
+        (ln .new-linked i h d))
         (eq-or-ne (getD kinds i 0) 0)
       where
-        linked-third : (i : ℕ) → i < k → (getD kinds i 0 ≡ 0 → ⊥) → third-in (column w 0) (column y 3 (place-of ranks new i)) (column y 4 (place-of ranks new i)) ≡ third-in (column m 0) (getD kinds i 0) (getD links i 0)
+        linked-third : (i : ℕ) → i < k → (getD kinds i 0 ≡ 0 → ⊥)
+            → third-in (column w 0) (column y 3 (place-of ranks new i)) (column y 4 (place-of ranks new i))
+            ≡ third-in (column m 0) (getD kinds i 0) (getD links i 0)
         linked-third i h d =
             let t = place-of ranks new i in
             rw (sew .new-kind i h d, sew .new-link i h d) (⊎-elim

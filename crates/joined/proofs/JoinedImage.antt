@@ -34,10 +34,15 @@ module _ {m c w kinds links ranks old new x : List ℕ} {n k : ℕ} {ls : List L
       (λ e. let r = any-tab (λ i. eqb (getD kinds i 0) 1 && eqb (getD links i 0) p) (λ i. i) k e in
       let one = eqb-true (getD kinds (r .0) 0) 1 (and-left (eqb (getD kinds (r .0) 0) 1) _ (r .2)) in
       let there = eqb-true (getD links (r .0) 0) p (and-right (eqb (getD kinds (r .0) 0) 1) _ (r .2)) in
-      subst (λ (z : ℕ). Words (getD old z 0)) there (sewed (sew .met-kind (r .0) (r .1) one) (let b = at .new-lt (getD ranks (r .0) 0) (by .rank-below (r .0) (r .1)) in let l = sew .met-link (r .0) (r .1) one in omega (arith, b, l))))
+      subst (λ (z : ℕ). Words (getD old z 0)) there
+      (sewed (sew .met-kind (r .0) (r .1) one) (let b = at .new-lt (getD ranks (r .0) 0) (by .rank-below (r .0) (r .1)) in let l = sew .met-link (r .0) (r .1) one in omega (arith, b, l))))
       (λ e. let stay : (f : ℕ) → f < 8 → column y f (getD old p 0) ≡ column w f (getD old p 0) = λ f l. sew .stays f (getD old p 0) l
       (λ j u d g. at .apart p (getD ranks j 0) h (by .rank-below j u) g)
-      (λ j u d g. true≢false (sym (tab-any (λ i. eqb (getD kinds i 0) 1 && eqb (getD links i 0) p) (λ i. i) k j u (and-intro (eq-eqb (getD kinds j 0) 1 d) (eq-eqb (getD links j 0) p (sym (old-one at p (getD links j 0) h (ln .link-below j u d) g))))) ∙ e)) in
+      (λ j u d g. true≢false
+      (sym
+      (tab-any (λ i. eqb (getD kinds i 0) 1 && eqb (getD links i 0) p) (λ i. i) k j u
+      (and-intro (eq-eqb (getD kinds j 0) 1 d)
+      (eq-eqb (getD links j 0) p (sym (old-one at p (getD links j 0) h (ln .link-below j u d) g))))) ∙ e)) in
       same (stay 3 (omega arith)) (stay 4 (omega arith)))
 
   new-words : (i : ℕ) → i < k → Words (place-of ranks new i)
@@ -48,10 +53,15 @@ module _ {m c w kinds links ranks old new x : List ℕ} {n k : ℕ} {ls : List L
       (λ j u d g. at .apart (getD links j 0) (getD ranks i 0) (ln .link-below j u d) (by .rank-below i h) (sym g)) in
       same (stay 3 (omega arith)) (stay 4 (omega arith)))
       (λ (d : getD kinds i 0 ≡ 0 → ⊥). ⊎-elim
-      (λ (e : getD kinds i 0 ≡ 1). sewed (sew .new-kind i h d ∙ e) (let l = sew .new-link i h d ∙ ap (λ (b : Bool). cond b (getD old (getD links i 0) 0) (getD links i 0)) (eq-eqb (getD kinds i 0) 1 e) in let b = at .old-lt (getD links i 0) (ln .link-below i h e) in omega (arith, l, b)))
+      (λ (e : getD kinds i 0 ≡ 1). sewed (sew .new-kind i h d ∙ e)
+      (let l = sew .new-link i h d ∙ ap (λ (b : Bool). cond b (getD old (getD links i 0) 0) (getD links i 0))
+      (eq-eqb (getD kinds i 0) 1 e) in let b = at .old-lt (getD links i 0) (ln .link-below i h e) in omega (arith, l, b)))
       (λ (e : getD kinds i 0 ≡ 1 → ⊥).
       let link : column y 4 (place-of ranks new i) ≡ getD links i 0 = sew .new-link i h d ∙ ap (λ (b : Bool). cond b (getD old (getD links i 0) 0) (getD links i 0)) (ne-eqb (getD kinds i 0) 1 e) in
-      labelled (subst (λ (a : ℕ). Kind (column y 3 (place-of ranks new i)) a) (sym link) (subst (λ (a : ℕ). Kind a (getD links i 0)) (sym (sew .new-kind i h d)) (ln .kind-right i h))) (λ one. e (sym (sew .new-kind i h d) ∙ one)))
+      labelled
+      (subst (λ (a : ℕ). Kind (column y 3 (place-of ranks new i)) a) (sym link)
+      (subst (λ (a : ℕ). Kind a (getD links i 0)) (sym (sew .new-kind i h d)) (ln .kind-right i h)))
+      (λ one. e (sym (sew .new-kind i h d) ∙ one)))
       (eq-or-ne (getD kinds i 0) 1))
       (eq-or-ne (getD kinds i 0) 0)
 
@@ -95,7 +105,8 @@ module _ {m c w kinds links ranks old new x : List ℕ} {n k : ℕ} {ls : List L
       number-small = (let a = ranged .number-small in let e = sew .head 0 (omega arith) in omega (arith, a, e));
       counter-small = (let a = ranged .counter-small in let e = sew .head 1 (omega arith) in omega (arith, a, e));
       few = omega (arith, count-now, fits);
-      head = (sew .head 3 (omega arith) ∙ ranged .head .0, sew .head 4 (omega arith) ∙ ranged .head .1, sew .head 5 (omega arith) ∙ ranged .head .2, sew .head 6 (omega arith) ∙ ranged .head .3, sew .head 7 (omega arith) ∙ ranged .head .4);
+      head =
+          (sew .head 3 (omega arith) ∙ ranged .head .0, sew .head 4 (omega arith) ∙ ranged .head .1, sew .head 5 (omega arith) ∙ ranged .head .2, sew .head 6 (omega arith) ∙ ranged .head .3, sew .head 7 (omega arith) ∙ ranged .head .4);
       above = λ p h. above p (omega (arith, h, count-now));
       serial-small = λ p h. (let a = ranged .serial-small p (omega (arith, h, count-now, count)) in let e = serial-now p in omega (arith, a, e));
       kinds = λ p h. kind-now p (omega (arith, h, count-now));
@@ -116,8 +127,12 @@ module _ {m c w kinds links ranks old new x : List ℕ} {n k : ℕ} {ls : List L
     image-now : image (block-in y) ≡ y
     image-now = image-back y ranged-now (sew .size ∙ size)
         (record {
-          next-lt = λ p h. (let e = sew .others 1 p (omega arith) (λ e. omega (arith, e)) (λ e. omega (arith, e)) in let b = places .next-lt p (omega (arith, h, count-now)) in omega (arith, e, b, count-now));
-          opposite-lt = λ p h. (let e = sew .others 2 p (omega arith) (λ e. omega (arith, e)) (λ e. omega (arith, e)) in let b = places .opposite-lt p (omega (arith, h, count-now)) in omega (arith, e, b, count-now));
+          next-lt =
+              λ p h.
+              (let e = sew .others 1 p (omega arith) (λ e. omega (arith, e)) (λ e. omega (arith, e)) in let b = places .next-lt p (omega (arith, h, count-now)) in omega (arith, e, b, count-now));
+          opposite-lt =
+              λ p h.
+              (let e = sew .others 2 p (omega arith) (λ e. omega (arith, e)) (λ e. omega (arith, e)) in let b = places .opposite-lt p (omega (arith, h, count-now)) in omega (arith, e, b, count-now));
         })
         (λ p h one. let b = sewn-now p (omega (arith, h, count-now)) one in omega (arith, b, count-now))
 
@@ -126,7 +141,10 @@ module _ {m c w kinds links ranks old new x : List ℕ} {n k : ℕ} {ls : List L
     image-joined ds e = sym (ap image block-now) ∙ image-now
       where
         darts-now : tab (dart-in y) (getD y 2 0) ≡ map (relink ls) ds
-        darts-now = ap (tab (dart-in y)) count-now ∙ tab-cong (dart-in y) (λ t. relink ls (dart-in w t)) (n + k) (dart-joined fits few at by ln sew) ∙ sym (map-tab (relink ls) (dart-in w) (n + k)) ∙ ap (map (relink ls)) e
+        darts-now =
+            ap (tab (dart-in y)) count-now
+            ∙ tab-cong (dart-in y) (λ t. relink ls (dart-in w t)) (n + k) (dart-joined fits few at by ln sew)
+            ∙ sym (map-tab (relink ls) (dart-in w) (n + k)) ∙ ap (map (relink ls)) e
 
         block-now : block-in y ≡ record { number = getD w 0 0; counter = getD w 1 0; darts = map (relink ls) ds }
         block-now = let a = sew .head 0 (omega arith) in let b = sew .head 1 (omega arith) in λ i. record { number = a i; counter = b i; darts = darts-now i }

@@ -64,7 +64,12 @@ module _ {keys table : List ℕ} {i : ℕ} (w : Spread keys table i) {x h s : �
 
   -- the slot holds a key
   pub twice : (n : ℕ) → i < n → (s ≡ h + 64 → ⊥) → (getD table s 0 ≡ 0 → ⊥) → Told keys n 1
-  twice n l b z = record { if-apart = λ e. absurd (omega arith); if-twice = λ _ a. ⊎-elim (λ e. z e) (λ e. a (getD table s 0 - 1) i (omega (arith, w .only s, positive)) l (e ∙ ex)) (p .found (⊎-elim (λ q. absurd (b q)) (λ q. q) (eq-or-lt-of-le (p .to)))) }
+  twice n l b z =
+      record {
+        if-apart = λ e. absurd (omega arith);
+        if-twice = λ _ a. ⊎-elim (λ e. z e) (λ e. a (getD table s 0 - 1) i (omega (arith, w .only s, positive)) l (e ∙ ex))
+            (p .found (⊎-elim (λ q. absurd (b q)) (λ q. q) (eq-or-lt-of-le (p .to))));
+      }
     where
       positive : 0 < getD table s 0
       positive = ⊎-elim (λ q. q) (λ q. absurd (z (omega arith))) (lt-or-ge 0 (getD table s 0))
@@ -90,7 +95,9 @@ module _ {keys table : List ℕ} {i : ℕ} (w : Spread keys table i) {x h s : �
       new : (t : ℕ) × (slot-of (getD keys i 0) ≤ t) × (getD (set table s (i + 1)) t 0 ≡ i + 1) × ((u : ℕ) → slot-of (getD keys i 0) ≤ u → u < t → getD (set table s (i + 1)) u 0 ≡ 0 → ⊥)
       new = (s, omega (arith, p .from, here), hit, λ u a b. stays u (p .passed u (omega (arith, here)) b .0))
 
-      old : (k : ℕ) → k < i → (t : ℕ) × (slot-of (getD keys k 0) ≤ t) × (getD (set table s (i + 1)) t 0 ≡ k + 1) × ((u : ℕ) → slot-of (getD keys k 0) ≤ u → u < t → getD (set table s (i + 1)) u 0 ≡ 0 → ⊥)
+      old : (k : ℕ) → k < i
+          → (t : ℕ) × (slot-of (getD keys k 0) ≤ t) × (getD (set table s (i + 1)) t 0 ≡ k + 1)
+          × ((u : ℕ) → slot-of (getD keys k 0) ≤ u → u < t → getD (set table s (i + 1)) u 0 ≡ 0 → ⊥)
       old k b =
           let r = w .kept k b in
           let other : r .0 ≡ s → ⊥ = λ e. omega (arith, ap (λ (y : ℕ). getD table y 0) e, z, r .2) in
@@ -103,7 +110,9 @@ module _ {keys table : List ℕ} {i : ℕ} (w : Spread keys table i) {x h s : �
           let back : key-at keys table (r .0) ≡ x =
           let j : getD table (r .0) 0 - 1 ≡ k = omega (arith, r .2) in ap (λ (y : ℕ). getD keys y 0) j ∙ e ∙ sym ex in
           ⊎-elim (λ q. p .passed (r .0) (omega (arith, r .1, start)) q .1 back)
-          (λ q. ⊎-elim (λ same. omega (arith, ap (λ (y : ℕ). getD table y 0) same, z, r .2)) (λ different. r .3 s (omega (arith, p .from, start)) (omega (arith, different-lt (r .0) s q different)) z) (eq-or-ne (r .0) s))
+          (λ q. ⊎-elim (λ same. omega (arith, ap (λ (y : ℕ). getD table y 0) same, z, r .2))
+          (λ different. r .3 s (omega (arith, p .from, start)) (omega (arith, different-lt (r .0) s q different)) z)
+          (eq-or-ne (r .0) s))
           (lt-or-ge (r .0) s)
         where
           different-lt : (a b : ℕ) → b ≤ a → (a ≡ b → ⊥) → b < a

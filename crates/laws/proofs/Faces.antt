@@ -92,7 +92,10 @@ module _ (nx : ℕ → ℕ) (v : List ℕ) (stays : (x : ℕ) → In x v → In 
   -- message order: all darts of the volume and no other
   pub order-has : (x : ℕ) → In x v → In x (concat (faces nx v))
   unfolding faces cycle
-  order-has x h = in-faces (keep is-start v) (face-start x) x (in-keep is-start (face-start x) v (face-stays x (face-start x) h (start-in x h)) (start-starts x h)) (face-sym x (face-start x) h (start-in x h))
+  order-has x h =
+      in-faces (keep is-start v) (face-start x) x
+      (in-keep is-start (face-start x) v (face-stays x (face-start x) h (start-in x h)) (start-starts x h))
+      (face-sym x (face-start x) h (start-in x h))
 
   pub order-only : (x : ℕ) → In x (concat (faces nx v)) → In x v
   unfolding faces cycle

@@ -152,7 +152,10 @@ unfolding ascending
 ascending-unique [] [] a b f g = refl
 ascending-unique [] (y ∷ r) a b f g = absurd (true≢false (sym (g y (in-here y r))))
 ascending-unique (x ∷ l) [] a b f g = absurd (true≢false (sym (f x (in-here x l))))
-ascending-unique (x ∷ l) (y ∷ r) a b f g = rw (← same) (ap (λ (t : List ℕ). x ∷ t) (ascending-unique l r (and-right (all (ltb x) l) _ a) (and-right (all (ltb y) r) _ b) (λ z h. down z h) (λ z h. up z h)))
+ascending-unique (x ∷ l) (y ∷ r) a b f g =
+    rw (← same)
+    (ap (λ (t : List ℕ). x ∷ t)
+    (ascending-unique l r (and-right (all (ltb x) l) _ a) (and-right (all (ltb y) r) _ b) (λ z h. down z h) (λ z h. up z h)))
   where
     above : (z : ℕ) → In z l → x < z
     above = absent x l (and-left _ _ a)

@@ -17,7 +17,9 @@ pub stays : (m outbox : List ℕ) (s : Ending) → Ended (still m outbox (ending
 stays m outbox s = record { ending-is = refl; memories-are = refl; size = refl; left = refl; outbox-is = refl }
 
 -- a round that was played, and how it ended
-pub carried : (m outbox : List ℕ) (d r s : ℕ) {o x : Outcome} {m′ outbox′ : List ℕ} (st : Ending) → o ≡ x → ending-of st ≡ ending-by (a-move d r s) (outcome-of x) → Played m d r s outbox o m′ outbox′ → Ended (round-turn m outbox (a-move d r s)) m st m′ outbox′
+pub carried : (m outbox : List ℕ) (d r s : ℕ) {o x : Outcome} {m′ outbox′ : List ℕ} (st : Ending) → o ≡ x
+    → ending-of st ≡ ending-by (a-move d r s) (outcome-of x) → Played m d r s outbox o m′ outbox′
+    → Ended (round-turn m outbox (a-move d r s)) m st m′ outbox′
 unfolding round-turn
 carried m outbox d r s st known e p =
     record {
@@ -29,7 +31,9 @@ carried m outbox d r s st known e p =
     }
 
 -- what the next move answered, and the turn that this makes
-pub answered : (m : List ℕ) (o : Oracle) (scratch outbox : List ℕ) {a x : NextMove} {s : Ending} {m′ scratch′ outbox′ : List ℕ} → a ≡ x → Gives (calls.next-move all-rack m o scratch) (move-of a) scratch′ → Ended (turn-by m outbox (move-of x)) m s m′ outbox′ → Levelled m o scratch outbox s m′ scratch′ outbox′
+pub answered : (m : List ℕ) (o : Oracle) (scratch outbox : List ℕ) {a x : NextMove} {s : Ending} {m′ scratch′ outbox′ : List ℕ} → a ≡ x
+    → Gives (calls.next-move all-rack m o scratch) (move-of a) scratch′ → Ended (turn-by m outbox (move-of x)) m s m′ outbox′
+    → Levelled m o scratch outbox s m′ scratch′ outbox′
 unfolding turn
 answered m o scratch outbox {s = s} {m′ = m′} {outbox′ = outbox′} known g e =
     record {

@@ -21,7 +21,8 @@ byte-list (b ∷ l) h = and-intro (lt-ltb b 256 (h 0)) (byte-list l (λ i. h (su
 pub printed-as : {t u before after : List ℕ} {n : ℕ} → t ≡ u → Printed u before after n → Printed t before after n
 printed-as {before = before} {after = after} {n = n} e p = rw e p
 
-pub printed-number : {t before after : List ℕ} {m k n : ℕ} → k ≡ m → t ≡ bytes "refused " ++ decimal m ++ bytes "\n" → Printed (bytes "refused " ++ decimal k ++ bytes "\n") before after n → Printed t before after n
+pub printed-number : {t before after : List ℕ} {m k n : ℕ} → k ≡ m → t ≡ bytes "refused " ++ decimal m ++ bytes "\n"
+    → Printed (bytes "refused " ++ decimal k ++ bytes "\n") before after n → Printed t before after n
 printed-number e f p = rw f (rw e at p)
 
 pub gives-served : {R : Result (Unit {0})} {a : Answer} {l : List ℕ} → a ≡ Served → Gives R (answer-of a) l → Gives R (served tt) l

@@ -201,11 +201,18 @@ gathered-all m = ap distinct (gathered-is m (blocks m) ∙ ap (λ (l : List Bloc
 -- WHAT WAS ASKED before gives the room
 pub roomy : (m : List ℕ) → all (λ b. is-image rack b) (memories m) ≡ true → Roomy m
 unfolding memories is-image
-roomy m e i h = leb-true _ _ (and-left (leb (getD (part m i) 2 0) room) _ (and-left (leb (getD (part m i) 2 0) room && same-list (image (block-in (part m i))) (part m i)) _ (all-tab (λ b. is-image rack b) (part m) (length m / words) e i h)))
+roomy m e i h =
+    leb-true _ _
+    (and-left (leb (getD (part m i) 2 0) room) _
+    (and-left (leb (getD (part m i) 2 0) room && same-list (image (block-in (part m i))) (part m i)) _
+    (all-tab (λ b. is-image rack b) (part m) (length m / words) e i h)))
 
 few-tab : (g : ℕ → Block) (n : ℕ) → blocks-right (tab g n) ≡ true → n ≤ 16
 unfolding blocks-right
-few-tab g n e = let l : length (tab g n) ≤ 16 = leb-true _ _ (and-right (leb 1 (length (tab g n))) _ (and-left (leb 1 (length (tab g n)) && leb (length (tab g n)) 16) _ e)) in omega (arith, l, length-tab g n)
+few-tab g n e =
+    let l : length (tab g n) ≤ 16 = leb-true _ _
+    (and-right (leb 1 (length (tab g n))) _ (and-left (leb 1 (length (tab g n)) && leb (length (tab g n)) 16) _ e)) in omega
+    (arith, l, length-tab g n)
 
 pub few-blocks : (m : List ℕ) → blocks-right (map block-in (memories m)) ≡ true → blocks m ≤ 16
 few-blocks m e = few-tab (λ i. block-in (part m i)) (blocks m) (ap blocks-right (sym (mesh-tab m)) ∙ e)

@@ -78,7 +78,11 @@ third-hard s k a h = rw (ne-eqb (k % 4) 0 (λ e. omega (arith, h, e)), ne-eqb (k
 made-critical : (m : List ℕ) (o a : ℕ) → made-before (tab (λ j. block-in (part m j)) (blocks m)) (critical o (label-in a))
     ≡ (ltb (a / 4096 / 2 ^ 32) (blocks m) && ltb (a / 4096 % 2 ^ 32) (getD m (a / 4096 / 2 ^ 32 * words + 1) 0))
 unfolding made-before
-made-critical m o a = ap (λ (n : ℕ). ltb (a / 4096 / 2 ^ 32) n && ltb (a / 4096 % 2 ^ 32) (block-at (tab (λ j. block-in (part m j)) (blocks m)) (a / 4096 / 2 ^ 32) .counter)) (length-tab (λ j. block-in (part m j)) (blocks m))
+made-critical m o a =
+    ap
+    (λ (n : ℕ). ltb (a / 4096 / 2 ^ 32) n && ltb (a / 4096 % 2 ^ 32)
+    (block-at (tab (λ j. block-in (part m j)) (blocks m)) (a / 4096 / 2 ^ 32) .counter))
+    (length-tab (λ j. block-in (part m j)) (blocks m))
     ∙ ⊎-elim
     (λ h. ap (λ (c : ℕ). ltb (a / 4096 / 2 ^ 32) (blocks m) && ltb (a / 4096 % 2 ^ 32) c) (counter-at m (a / 4096 / 2 ^ 32) h))
     (λ h. unknown (ltb (a / 4096 / 2 ^ 32) (blocks m)) _ _ (le-ltb (a / 4096 / 2 ^ 32) (blocks m) h))

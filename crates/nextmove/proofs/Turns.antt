@@ -50,7 +50,8 @@ module _ (m s : List ℕ) where
     unfolding calls.next-move
     refused-oracle h e l = gives _ _ _ _ (ask-all (whole-mesh-checks all-rack m s) ((28, oracle-right o) ∷ []) mesh-numbered h (ask-no refl e l))
 
-    pub gives-move : {given : calls.Answer NextMove} {after : List ℕ} → served tt ≡ answered (whole-mesh-checks all-rack m s) → oracle-right o ≡ true → given ≡ served (next-of all-rack o (map block-in (memories m))) → after ≡ s
+    pub gives-move : {given : calls.Answer NextMove} {after : List ℕ} → served tt ≡ answered (whole-mesh-checks all-rack m s)
+        → oracle-right o ≡ true → given ≡ served (next-of all-rack o (map block-in (memories m))) → after ≡ s
         → Gives (calls.next-move all-rack m o s) given after
     unfolding calls.next-move
     gives-move h e g l =
@@ -65,7 +66,8 @@ module _ (m s : List ℕ) where
 
   module _ (n axis : ℕ) (low high : Point) {given : calls.Answer NextMove} {after : List ℕ} where
     -- by the oracle that a number has
-    by-oracle : {o : Option Oracle} → numbered-oracle n axis low high ≡ o → Gives (calls.next-move-of all-rack m o s) given after → Gives (calls.next-move-by-number all-rack m n axis low high s) given after
+    by-oracle : {o : Option Oracle} → numbered-oracle n axis low high ≡ o → Gives (calls.next-move-of all-rack m o s) given after
+        → Gives (calls.next-move-by-number all-rack m n axis low high s) given after
     unfolding calls.next-move-by-number
     by-oracle e g = subst (λ (x : Option Oracle). Gives (calls.next-move-of all-rack m x s) given after) (sym e) g
 

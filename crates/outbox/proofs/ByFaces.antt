@@ -202,15 +202,27 @@ module _ (m numbers : List ℕ) {fs : List (List ℕ)} {order starts : List ℕ}
       let q : Placed → Bool = λ p. sewn-out m marks (start-of (p .face)) in
       let ps = placed 0 fs in
       counted-bytes part3 (part3-from c (map (λ p. p .at) (keep q ps)))
-      ∙ ap (λ (n : ℕ). group .put n ++ put-all part3 (part3-from c (map (λ p. p .at) (keep q ps)))) (numbered-length c (map (λ p. p .at) (keep q ps)) ∙ length-map (keep q ps) (λ (p : Placed). p .at) ∙ count-part (sewn-out m marks))
+      ∙ ap (λ (n : ℕ). group .put n ++ put-all part3 (part3-from c (map (λ p. p .at) (keep q ps))))
+      (numbered-length c (map (λ p. p .at) (keep q ps)) ∙ length-map (keep q ps) (λ (p : Placed). p .at)
+      ∙ count-part (sewn-out m marks))
       ∙ ap (λ (r : List ℕ). group .put (tally (in-part3 m marks order starts) count) ++ r) (put-numbered none (λ p. p .at) q c ps
       ∙ ap (run _) (placed-length 0 fs ∙ sym (o .count-is)) ∙ run-cong _ (part3-put m marks c order starts) count one)
     where
       one : (f : ℕ) → f < count → cond (sewn-out m marks (start-of (getD (placed 0 fs) f none .face)))
           (part3 .put (record { number = c + tally (λ t. sewn-out m marks (start-of (getD (placed 0 fs) t none .face))) f; index = getD (placed 0 fs) f none .at })) []
           ≡ cond (in-part3 m marks order starts f) (part3 .put (record { number = c + tally (in-part3 m marks order starts) f; index = getD starts f 0 })) []
-      one f h = ap (λ (t : Bool). cond t (part3 .put (record { number = c + tally (λ t. sewn-out m marks (start-of (getD (placed 0 fs) t none .face))) f; index = getD (placed 0 fs) f none .at })) []) (test-is (sewn-out m marks) f h)
-          ∙ ap (λ (n : ℕ). cond (in-part3 m marks order starts f) (part3 .put (record { number = c + n; index = getD (placed 0 fs) f none .at })) []) (tally-cong _ _ f (λ t l. test-is (sewn-out m marks) t (omega arith)))
+      one f h =
+          ap
+          (λ (t : Bool). cond t
+          (part3 .put
+          (record {
+            number = c + tally (λ t. sewn-out m marks (start-of (getD (placed 0 fs) t none .face))) f;
+            index = getD (placed 0 fs) f none .at;
+          })) []) (test-is (sewn-out m marks) f h)
+          ∙ ap
+          (λ (n : ℕ). cond (in-part3 m marks order starts f)
+          (part3 .put (record { number = c + n; index = getD (placed 0 fs) f none .at })) [])
+          (tally-cong _ _ f (λ t l. test-is (sewn-out m marks) t (omega arith)))
           ∙ ap (λ (p : Placed). cond (in-part3 m marks order starts f) (part3 .put (record { number = c + tally (in-part3 m marks order starts) f; index = p .at })) []) (placed-is o f h none)
 
 -- POINTS

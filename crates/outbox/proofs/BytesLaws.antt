@@ -18,7 +18,9 @@ use Rattle.outbox.specs.Bytes.{Listed, Started, Vertexed, beside-put, da
 use Rattle.outbox.proofs.EntryLaws.{point-length}
 
 -- POINTS
-module _ (m firsts : List ℕ) (k : ℕ) (p : Point) (e : p ≡ point-of (column m 5 (getD firsts k 0)) (column m 6 (getD firsts k 0)) (column m 7 (getD firsts k 0))) (f : FiniteAt m (getD firsts k 0)) where
+module _ (m firsts : List ℕ) (k : ℕ) (p : Point)
+    (e : p ≡ point-of (column m 5 (getD firsts k 0)) (column m 6 (getD firsts k 0)) (column m 7 (getD firsts k 0)))
+    (f : FiniteAt m (getD firsts k 0)) where
   pub point-fine : FinitePoint p
   point-fine = rw e (point-finite _ _ _ (f .on-x) (f .on-y) (f .on-z))
 

@@ -54,7 +54,9 @@ pub first-length : (m : List ℕ) (j : ℕ) (c : Counts) (order starts numbers f
     ≡ length (group .put 1) + length (group .put (getD m 0 0)) + length (group .put j) + (length (group .put (c .vertices)) + length (run (point-put m firsts) (c .vertices)))
     + (length (group .put (c .faces)) + length (run (faces-put m numbers order starts (c .darts) (c .faces)) (c .faces)))
 unfolding first-bytes
-first-length m j c order starts numbers firsts = first-lengths (group .put 1) (group .put (getD m 0 0)) (group .put j) (group .put (c .vertices)) (run (point-put m firsts) (c .vertices)) (group .put (c .faces)) _
+first-length m j c order starts numbers firsts =
+    first-lengths (group .put 1) (group .put (getD m 0 0)) (group .put j) (group .put (c .vertices))
+    (run (point-put m firsts) (c .vertices)) (group .put (c .faces)) _
 
 pub parts-length : (m : List ℕ) (j : ℕ) (c : Counts) (marks order starts : List ℕ) → length (parts-bytes m j c marks order starts)
     ≡ (length (group .put (tally (in-part2 m j order starts) (c .faces))) + length (run (part2-put m j order starts) (c .faces)))
@@ -98,7 +100,9 @@ module _ (m : List ℕ) (ok : is-image rack m ≡ true) (j : ℕ) {c : Counts} {
 
   pub part4-entries : length (transfer-for m j c marks numbers firsts .part4) ≡ tally (in-part4 m j order starts) (c .faces)
   unfolding transfer-at
-  part4-entries = length-map (keep (λ p. critical-beside m j (start-of (p .face))) (placed 0 (faces-at m marks))) (part4-at m) ∙ count-part m numbers (s .order) (some-face m ok s) (critical-beside m j)
+  part4-entries =
+      length-map (keep (λ p. critical-beside m j (start-of (p .face))) (placed 0 (faces-at m marks))) (part4-at m)
+      ∙ count-part m numbers (s .order) (some-face m ok s) (critical-beside m j)
 
   -- SIZES
   pub rest-length : j ≤ 15 → length (transfer .put (transfer-for m j c marks numbers firsts))
@@ -125,7 +129,8 @@ module _ (m : List ℕ) (ok : is-image rack m ≡ true) (j : ℕ) {c : Counts} {
   framed-length = length-append (group .put (length (transfer .put (transfer-for m j c marks numbers firsts)))) (transfer .put (transfer-for m j c marks numbers firsts))
 
   pub sized : (z : Sizes) → z .part2 ≡ tally (in-part2 m j order starts) (c .faces) → z .part4 ≡ tally (in-part4 m j order starts) (c .faces)
-      → z .rest ≡ length (transfer .put (transfer-for m j c marks numbers firsts)) → z .whole ≡ length (group .put (z .rest)) + z .rest → z .whole < 2 ^ 32 → Sized (transfer-for m j c marks numbers firsts) z
+      → z .rest ≡ length (transfer .put (transfer-for m j c marks numbers firsts))
+      → z .whole ≡ length (group .put (z .rest)) + z .rest → z .whole < 2 ^ 32 → Sized (transfer-for m j c marks numbers firsts) z
   sized z p q r w b = record {
     part2-is = p ∙ sym part2-entries;
     part4-is = q ∙ sym part4-entries;
@@ -167,7 +172,8 @@ pub record Bounds (m : List ℕ) (j : ℕ) (c : Counts) (marks order starts numb
   pub three-bytes : length (run (part3-put m marks (getD m 1 0) order starts) (c .faces)) ≤ 5120
   pub four-bytes : length (run (part4-put m j order starts (c .darts) (c .faces)) (c .faces)) ≤ 3937280
 
-pub bounds : (m : List ℕ) (ok : is-image rack m ≡ true) (j : ℕ) {c : Counts} {marks order starts numbers firsts : List ℕ} → Surveyed m c marks order starts numbers firsts → Bounds m j c marks order starts numbers
+pub bounds : (m : List ℕ) (ok : is-image rack m ≡ true) (j : ℕ) {c : Counts} {marks order starts numbers firsts : List ℕ}
+    → Surveyed m c marks order starts numbers firsts → Bounds m j c marks order starts numbers
 bounds m ok j {c} {marks} {order} {starts} {numbers} s = let few = started m ok s .few in
     record {
       vertices-few = pointed m ok s .few;

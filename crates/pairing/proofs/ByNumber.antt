@@ -142,7 +142,9 @@ module _ {m : List ℕ} (a : Asked m) where
       len = length-set t (i * 4096 + x) p ∙ w .len;
       below = λ j q l k. getD-set-other t (i * 4096 + x) (j * 4096 + column (part m j) 1 q) p 0 (far j (column (part m j) 1 q) l (next-in j q (below-lt l hi) k)) ∙ w .below j q l k;
       here = λ q l. ⊎-elim
-          (λ u. ap (λ (y : ℕ). getD (set t (i * 4096 + x) p) (i * 4096 + column (part m i) 1 y) 0) u ∙ ap (λ (y : ℕ). getD (set t (i * 4096 + x) p) (i * 4096 + y) 0) (sym e) ∙ getD-set-same t (i * 4096 + x) p 0 (write-lt e) ∙ sym u)
+          (λ u. ap (λ (y : ℕ). getD (set t (i * 4096 + x) p) (i * 4096 + column (part m i) 1 y) 0) u ∙ ap
+          (λ (y : ℕ). getD (set t (i * 4096 + x) p) (i * 4096 + y) 0) (sym e) ∙ getD-set-same t (i * 4096 + x) p 0 (write-lt e) ∙
+          sym u)
           (λ u. getD-set-other t (i * 4096 + x) (i * 4096 + column (part m i) 1 q) p 0 (near q u) ∙ w .here q u)
           (last-or-below l);
     }

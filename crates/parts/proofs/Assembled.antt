@@ -121,7 +121,9 @@ module _ {b z : List ℕ} {k : ℕ} (segs : Segments b z k) (few : k ≤ 512) (o
 
   -- the start of a dart inside
   pub start-of : (e : ℕ) → e < c → (j : ℕ) → j < getD z (at e) 0 → (at e + j < k) × (getD b (at e + j) 0 ≡ at e)
-  start-of e l j h = let s = start e l in let w = segs .end-within (at e) (below e l) in (omega (arith, s, w, h), segs .same-start (at e) (below e l) (at e + j) (omega (arith, s)) (omega (arith, s, h)) ∙ s)
+  start-of e l j h =
+      let s = start e l in let w = segs .end-within (at e) (below e l) in
+      (omega (arith, s, w, h), segs .same-start (at e) (below e l) (at e + j) (omega (arith, s)) (omega (arith, s, h)) ∙ s)
 
 module _ {t : Transfer} {v x b z s : List ℕ} {k from to : ℕ} {l : Tail} (w : Arrives t v x b z s k from to l) where
   -- TOO MANY ENTRIES
@@ -132,7 +134,10 @@ module _ {t : Transfer} {v x b z s : List ℕ} {k from to : ℕ} {l : Tail} (w :
     where
       fits : indices-right t ≡ true → few-entries l ≡ true
       fits u =
-          let r = indices-few b (size-all (t .faces)) (map (λ m. m .index) (t .part2)) (map (λ m. m .index) (t .part3)) (map (λ m. m .index) (t .part4)) (sym (indices-are t (w .inside) (w .full)) ∙ u) in
+          let r =
+          indices-few b (size-all (t .faces)) (map (λ m. m .index) (t .part2)) (map (λ m. m .index) (t .part3))
+          (map (λ m. m .index) (t .part4)) (sym (indices-are t (w .inside) (w .full)) ∙ u)
+          in
           let d = w .darts in
           let a = r .0 in
           let c = r .1 in
@@ -142,7 +147,9 @@ module _ {t : Transfer} {v x b z s : List ℕ} {k from to : ℕ} {l : Tail} (w :
           (le-leb (l .count4) 512 (omega (arith, few, d, f, length-map (t .part4) index4, took-length (part4 (t .faces)) (l .count4) (w .part4-in))))
 
   -- THE ENTRIES
-  module _ {codes i2 numbers i3 i4 others places : List ℕ} (read2 : EntriesRead part2 code2 index2 s (l .part2) (l .count2) codes i2) (read3 : EntriesRead part3 number3 index3 s (l .part3) (l .count3) numbers i3)
+  module _ {codes i2 numbers i3 i4 others places : List ℕ}
+      (read2 : EntriesRead part2 code2 index2 s (l .part2) (l .count2) codes i2)
+      (read3 : EntriesRead part3 number3 index3 s (l .part3) (l .count3) numbers i3)
       (read4 : Part4Read (t .faces) z s (l .part4) (l .count4) i4 others places) (n4 : length i4 ≡ 512) (o4 : length others ≡ 512) (few4 : l .count4 ≤ 512) where
     fourth : t .part4 ≡ tab (entry-at z s i4 others places) (l .count4)
     fourth = read4 .entries-are (t .part4) (w .past4) (w .part4-in)
@@ -172,7 +179,9 @@ module _ {t : Transfer} {v x b z s : List ℕ} {k from to : ℕ} {l : Tail} (w :
         neither-is others (t .from) (t .to) (t .part4) (omega arith) (ap (λ (c : ℕ). take c others) n ∙ others4) ∙ ap (λ (c : ℕ). all (neither-at others (t .from) (t .to)) (tab (λ e. e) c)) n
         ∙ ap (λ (o : ℕ). all (neither-at others o (t .to)) (tab (λ e. e) (l .count4))) (sym (w .from-is)) ∙ ap (λ (o : ℕ). all (neither-at others from o) (tab (λ e. e) (l .count4))) (sym (w .to-is))
 
-    pub entries-told : (indices-right t && consecutive (t .part3) && all (λ k. not (eqb (k .other) (t .from)) && not (eqb (k .other) (t .to))) (t .part4)) ≡ entries-fit b k from to i2 (l .count2) i3 numbers (l .count3) i4 others (l .count4)
+    pub entries-told : (indices-right t && consecutive (t .part3)
+        && all (λ k. not (eqb (k .other) (t .from)) && not (eqb (k .other) (t .to))) (t .part4))
+        ≡ entries-fit b k from to i2 (l .count2) i3 numbers (l .count3) i4 others (l .count4)
     entries-told = three indices-told numbers-told others-told
       where
         three : {a c d e f g : Bool} → a ≡ c → d ≡ e → f ≡ g → (a && d && f) ≡ (c && e && g)
@@ -202,7 +211,10 @@ module _ {t : Transfer} {v x b z s : List ℕ} {k from to : ℕ} {l : Tail} (w :
       spans4 = spans segs few (take (l .count2) i2 ++ take (l .count3) i3) i4 (l .count4) room4 fits4
 
       pub numbers-small : (e : ℕ) → e < l .count3 → getD numbers e 0 < 2 ^ 32
-      numbers-small e h = subst (λ (y : ℕ). y < 2 ^ 32) (ap (λ (m : List ℕ). getD m e 0) (sym (read3 .firsts-are (t .part3) (w .past3) (w .part3-in))) ∙ getD-take (l .count3) numbers e 0 h) (took-numbers (l .count3) (w .part3-in) e)
+      numbers-small e h =
+          subst (λ (y : ℕ). y < 2 ^ 32)
+          (ap (λ (m : List ℕ). getD m e 0) (sym (read3 .firsts-are (t .part3) (w .past3) (w .part3-in)))
+          ∙ getD-take (l .count3) numbers e 0 h) (took-numbers (l .count3) (w .part3-in) e)
 
       pub others-small : (e : ℕ) → e < l .count4 → getD others e 0 ≤ 15
       others-small = read4 .small (t .part4) (w .past4) (w .part4-in)
@@ -220,13 +232,16 @@ module _ {t : Transfer} {v x b z s : List ℕ} {k from to : ℕ} {l : Tail} (w :
       apart3 : (y : ℕ) → In y starts3 → mem y starts4 ≡ false
       apart3 y h = by-cases (mem y starts4)
           (λ u. absurd (true≢false (sym (in-append-right y (take (l .count2) i2) (take (l .count3) i3) (subst (λ (m : List ℕ). In y m) (sym (front-tab i3 (l .count3) room3)) h))
-          ∙ not-true _ (all-in (λ i. not (mem i (take (l .count2) i2 ++ take (l .count3) i3))) starts4 (not-others segs few (take (l .count2) i2 ++ take (l .count3) i3) i4 (l .count4) room4 fits4) y u))))
+          ∙ not-true _
+          (all-in (λ i. not (mem i (take (l .count2) i2 ++ take (l .count3) i3))) starts4 (not-others segs few (take (l .count2) i2 ++ take (l .count3) i3) i4 (l .count4) room4 fits4) y u))))
           (λ u. u)
 
       -- words written for part 3, then for part 4
       module _ {f g : ℕ → ℕ → ℕ} {a a′ a″ : List ℕ} (w3 : Faced z i3 (l .count3) f a a′) (w4 : Faced z i4 (l .count4) g a′ a″) where
         word-else : (q : ℕ) → q < k → mem (getD b q 0) starts3 ≡ false → mem (getD b q 0) starts4 ≡ false → getD a″ q 0 ≡ getD a q 0
-        word-else q h m3 m4 = w4 .outside q (outside segs few (take (l .count2) i2 ++ take (l .count3) i3) i4 (l .count4) room4 fits4 q h m4) ∙ w3 .outside q (outside segs few (take (l .count2) i2) i3 (l .count3) room3 fits3 q h m3)
+        word-else q h m3 m4 =
+            w4 .outside q (outside segs few (take (l .count2) i2 ++ take (l .count3) i3) i4 (l .count4) room4 fits4 q h m4)
+            ∙ w3 .outside q (outside segs few (take (l .count2) i2) i3 (l .count3) room3 fits3 q h m3)
 
         word3 : (e : ℕ) → e < l .count3 → (j : ℕ) → j < getD z (getD i3 e 0) 0 → getD a″ (getD i3 e 0 + j) 0 ≡ f e j
         word3 e h j u =
@@ -238,10 +253,16 @@ module _ {t : Transfer} {v x b z s : List ℕ} {k from to : ℕ} {l : Tail} (w :
         word4 = w4 .inside
 
         -- what holds of the words of both parts holds of a dart on one of their faces
-        on-faces : (P : ℕ → Type 0) → ((e j : ℕ) → e < l .count3 → j < getD z (getD i3 e 0) 0 → P (f e j)) → ((e j : ℕ) → e < l .count4 → j < getD z (getD i4 e 0) 0 → P (g e j)) → (q : ℕ) → q < k → In (getD b q 0) (starts3 ++ starts4) → P (getD a″ q 0)
+        on-faces : (P : ℕ → Type 0) → ((e j : ℕ) → e < l .count3 → j < getD z (getD i3 e 0) 0 → P (f e j))
+            → ((e j : ℕ) → e < l .count4 → j < getD z (getD i4 e 0) 0 → P (g e j)) → (q : ℕ) → q < k
+            → In (getD b q 0) (starts3 ++ starts4) → P (getD a″ q 0)
         on-faces P p3 p4 q h i = ⊎-elim
-            (λ (u : In (getD b q 0) starts3). let r = inside segs few (take (l .count2) i2) i3 (l .count3) room3 fits3 q h u in subst P (sym (ap (λ (y : ℕ). getD a″ y 0) (r .4) ∙ word3 (r .0) (r .1) (r .2) (r .3))) (p3 (r .0) (r .2) (r .1) (r .3)))
-            (λ (u : In (getD b q 0) starts4). let r = inside segs few (take (l .count2) i2 ++ take (l .count3) i3) i4 (l .count4) room4 fits4 q h u in subst P (sym (ap (λ (y : ℕ). getD a″ y 0) (r .4) ∙ word4 (r .0) (r .1) (r .2) (r .3))) (p4 (r .0) (r .2) (r .1) (r .3)))
+            (λ (u : In (getD b q 0) starts3). let r = inside segs few (take (l .count2) i2) i3 (l .count3) room3 fits3 q h u in
+            subst P (sym (ap (λ (y : ℕ). getD a″ y 0) (r .4) ∙ word3 (r .0) (r .1) (r .2) (r .3)))
+            (p3 (r .0) (r .2) (r .1) (r .3)))
+            (λ (u : In (getD b q 0) starts4). let r = inside segs few (take (l .count2) i2 ++ take (l .count3) i3) i4 (l .count4)
+            room4 fits4 q h u in subst P (sym (ap (λ (y : ℕ). getD a″ y 0) (r .4) ∙ word4 (r .0) (r .1) (r .2) (r .3)))
+            (p4 (r .0) (r .2) (r .1) (r .3)))
             (append-in (getD b q 0) starts3 starts4 i)
 
         pub off-faces : (q : ℕ) → q < k → mem (getD b q 0) (starts3 ++ starts4) ≡ false → getD a″ q 0 ≡ getD a q 0
@@ -256,7 +277,9 @@ module _ {t : Transfer} {v x b z s : List ℕ} {k from to : ℕ} {l : Tail} (w :
         pub links-small : (q : ℕ) → q < k → getD links″ q 0 < 2 ^ 48
         links-small q h = by-cases (mem (getD b q 0) (starts3 ++ starts4))
             (λ u. on-faces l3 l4 (λ y. y < 2 ^ 48)
-            (λ e j c d. let r = numbers-small e c in let y = z-few (getD i3 e 0) (below segs few (take (l .count2) i2) i3 (l .count3) room3 fits3 e c) (start segs few (take (l .count2) i2) i3 (l .count3) room3 fits3 e c) in omega arith)
+            (λ e j c d. let r = numbers-small e c in let y = z-few (getD i3 e 0)
+            (below segs few (take (l .count2) i2) i3 (l .count3) room3 fits3 e c)
+            (start segs few (take (l .count2) i2) i3 (l .count3) room3 fits3 e c) in omega arith)
             (λ e j c d. took-small (getD z (getD i4 e 0) 0) (labels-there e c .took) j) q h u)
             (λ u. rw (off-faces l3 l4 q h u ∙ ap (λ (m : List ℕ). getD m q 0) zero-links ∙ getD-zeros 512 q) (omega arith))
 
@@ -267,7 +290,11 @@ module _ {t : Transfer} {v x b z s : List ℕ} {k from to : ℕ} {l : Tail} (w :
               (λ (u : In i starts3). all-in (starts-at b k) starts3 (all-start segs few (take (l .count2) i2) i3 (l .count3) room3 fits3) i u)
               (λ (u : In i starts4). all-in (starts-at b k) starts4 (all-start segs few (take (l .count2) i2 ++ take (l .count3) i3) i4 (l .count4) room4 fits4) i u)
               (append-in i starts3 starts4 h));
-          once = distinct-append starts3 starts4 (ascending-distinct starts3 (up segs few (take (l .count2) i2) i3 (l .count3) room3 fits3)) (ascending-distinct starts4 (up segs few (take (l .count2) i2 ++ take (l .count3) i3) i4 (l .count4) room4 fits4)) apart3;
+          once =
+              distinct-append starts3 starts4
+              (ascending-distinct starts3 (up segs few (take (l .count2) i2) i3 (l .count3) room3 fits3))
+              (ascending-distinct starts4 (up segs few (take (l .count2) i2 ++ take (l .count3) i3) i4 (l .count4) room4 fits4))
+              apart3;
           kind-in = λ q h m. on-faces k3 k4 (λ y. y % 4 ≡ 2) (λ e j c d. omega arith) (λ e j c d. omega arith) q h m;
           kind-out = λ q h m. rw (off-faces k3 k4 q h m ∙ ap (λ (y : List ℕ). getD y q 0) zero-kinds ∙ getD-zeros 512 q) (omega arith);
           small = links-small;
@@ -280,14 +307,19 @@ module _ {t : Transfer} {v x b z s : List ℕ} {k from to : ℕ} {l : Tail} (w :
         pub words-right : (q : ℕ) → q < k → Kind (getD kinds″ q 0) (getD links″ q 0)
         words-right q h = by-cases (mem (getD b q 0) (starts3 ++ starts4))
             (λ u. kind-critical (words .kind-in q h u) (kinds-small q h u) (links-small q h))
-            (λ u. kind-free (off-faces k3 k4 q h u ∙ ap (λ (y : List ℕ). getD y q 0) zero-kinds ∙ getD-zeros 512 q) (off-faces l3 l4 q h u ∙ ap (λ (y : List ℕ). getD y q 0) zero-links ∙ getD-zeros 512 q))
+            (λ u. kind-free (off-faces k3 k4 q h u ∙ ap (λ (y : List ℕ). getD y q 0) zero-kinds ∙ getD-zeros 512 q)
+            (off-faces l3 l4 q h u ∙ ap (λ (y : List ℕ). getD y q 0) zero-links ∙ getD-zeros 512 q))
 
         third-tab : t .part3 ≡ tab (λ e. record { number = getD numbers e 0; index = getD i3 e 0 }) (l .count3)
         third-tab =
             let n = took-length part3 (l .count3) (w .part3-in) in
             sym (ap (tab (λ e. record { number = getD numbers e 0; index = getD i3 e 0 })) (sym n) ∙ tab-list none (t .part3) (λ e. record { number = getD numbers e 0; index = getD i3 e 0 })
             (λ e h. let a : getD numbers e 0 ≡ getD (t .part3) e none .number = sym (getD-take (l .count3) numbers e 0 (omega (arith, h, n))) ∙ ap (λ (m : List ℕ). getD m e 0) (read3 .firsts-are (t .part3) (w .past3) (w .part3-in)) ∙ map-at number3 none 0 (t .part3) e h in
-            let c : getD i3 e 0 ≡ getD (t .part3) e none .index = sym (getD-take (l .count3) i3 e 0 (omega (arith, h, n))) ∙ ap (λ (m : List ℕ). getD m e 0) (read3 .seconds-are (t .part3) (w .past3) (w .part3-in)) ∙ map-at index3 none 0 (t .part3) e h in
+            let c : getD i3 e 0 ≡ getD (t .part3) e none .index =
+            sym (getD-take (l .count3) i3 e 0 (omega (arith, h, n)))
+            ∙ ap (λ (m : List ℕ). getD m e 0) (read3 .seconds-are (t .part3) (w .past3) (w .part3-in))
+            ∙ map-at index3 none 0 (t .part3) e h
+            in
             λ i. record { number = a i; index = c i }))
           where
             none : Part3
@@ -297,16 +329,27 @@ module _ {t : Transfer} {v x b z s : List ℕ} {k from to : ℕ} {l : Tail} (w :
         pub links-told : (serials : ℕ → ℕ) → critical-links t ≡ concat-map (face-links serials x z kinds″ links″) (starts3 ++ starts4)
         links-told serials = critical-are t (face-links serials x z kinds″ links″) (λ e. record { number = getD numbers e 0; index = getD i3 e 0 }) (λ e. getD i3 e 0) (l .count3)
             (entry-at z s i4 others places) (λ e. getD i4 e 0) (l .count4) third-tab fourth
-            (λ e h. part3-is t serials x z kinds″ links″ (getD i3 e 0) (face3 e h) (getD numbers e 0) (numbers-small e h) (let r = z-few (getD i3 e 0) (below segs few (take (l .count2) i2) i3 (l .count3) room3 fits3 e h) (start segs few (take (l .count2) i2) i3 (l .count3) room3 fits3 e h) in omega arith)
+            (λ e h. part3-is t serials x z kinds″ links″ (getD i3 e 0) (face3 e h) (getD numbers e 0) (numbers-small e h)
+            (let r = z-few (getD i3 e 0) (below segs few (take (l .count2) i2) i3 (l .count3) room3 fits3 e h) (start segs few (take (l .count2) i2) i3 (l .count3) room3 fits3 e h) in omega arith)
             (λ j u. word3 k3 k4 e h j u ∙ ap (λ (o : ℕ). 2 + 4 * o) (w .from-is)) (λ j u. word3 l3 l4 e h j u ∙ ap (λ (o : ℕ). (o * 2 ^ 32 + getD numbers e 0) * 4096 + j) (w .from-is)))
-            (λ e h. part4-is t serials x z kinds″ links″ (getD i4 e 0) (face4 e h) (getD others e 0) (labels-at s (getD places e 0) (getD z (getD i4 e 0) 0)) (took-count (getD z (getD i4 e 0) 0) (labels-there e h .took)) (took-back (getD z (getD i4 e 0) 0) (labels-there e h .took))
+            (λ e h. part4-is t serials x z kinds″ links″ (getD i4 e 0) (face4 e h) (getD others e 0)
+            (labels-at s (getD places e 0) (getD z (getD i4 e 0) 0))
+            (took-count (getD z (getD i4 e 0) 0) (labels-there e h .took))
+            (took-back (getD z (getD i4 e 0) 0) (labels-there e h .took))
             (λ j u. word4 k3 k4 e h j u) (λ j u. word4 l3 l4 e h j u))
           where
             face3 : (e : ℕ) → e < l .count3 → face-from t (getD i3 e 0) ≡ tab (λ j. getD x (getD i3 e 0 + j) 0) (getD z (getD i3 e 0) 0)
-            face3 e h = face-is v x b z t (w .inside) (w .full) (getD i3 e 0) (let r = below segs few (take (l .count2) i2) i3 (l .count3) room3 fits3 e h in let d = w .darts in omega arith) (start segs few (take (l .count2) i2) i3 (l .count3) room3 fits3 e h)
+            face3 e h =
+                face-is v x b z t (w .inside) (w .full) (getD i3 e 0)
+                (let r = below segs few (take (l .count2) i2) i3 (l .count3) room3 fits3 e h in let d = w .darts in omega arith)
+                (start segs few (take (l .count2) i2) i3 (l .count3) room3 fits3 e h)
 
             face4 : (e : ℕ) → e < l .count4 → face-from t (getD i4 e 0) ≡ tab (λ j. getD x (getD i4 e 0 + j) 0) (getD z (getD i4 e 0) 0)
-            face4 e h = face-is v x b z t (w .inside) (w .full) (getD i4 e 0) (let r = below segs few (take (l .count2) i2 ++ take (l .count3) i3) i4 (l .count4) room4 fits4 e h in let d = w .darts in omega arith) (start segs few (take (l .count2) i2 ++ take (l .count3) i3) i4 (l .count4) room4 fits4 e h)
+            face4 e h =
+                face-is v x b z t (w .inside) (w .full) (getD i4 e 0)
+                (let r = below segs few (take (l .count2) i2 ++ take (l .count3) i3) i4 (l .count4) room4 fits4 e h in let d = w
+                .darts in omega arith)
+                (start segs few (take (l .count2) i2 ++ take (l .count3) i3) i4 (l .count4) room4 fits4 e h)
 
 pub three-tests : {a c d e f g : Bool} → a ≡ c → d ≡ e → f ≡ g → (a && d && f) ≡ (c && e && g)
 three-tests p q r = rw (p, q, r)

@@ -93,7 +93,9 @@ module _ (m : List ℕ) (ok : is-image rack m ≡ true) where
   steps zero y h = refl
   steps (suc k) y h = ap (iter (next-in (darts-in m)) k) (sym (site .next-is y h)) ∙ steps k (column m 1 y) (site .linked .next-within y h)
 
-  pub met-face : (y : ℕ) → y < count-in m → cycle (previous-in (darts-in m)) (column m 0 y) ≡ tab (λ j. column m 0 (iter (column m 1) (length (cycle (column m 1) y) - j) y)) (length (cycle (column m 1) y))
+  pub met-face : (y : ℕ) → y < count-in m
+      → cycle (previous-in (darts-in m)) (column m 0 y)
+      ≡ tab (λ j. column m 0 (iter (column m 1) (length (cycle (column m 1) y) - j) y)) (length (cycle (column m 1) y))
   met-face y h =
       let size : length (cycle (next-in (darts-in m)) (column m 0 y)) ≡ length (cycle (column m 1) y) = ap length (sym (cycle-carried site y h)) ∙ length-map (cycle (column m 1) y) (column m 0) in
       cycle-back (next-in (darts-in m)) (previous-in (darts-in m)) (serials (darts-in m)) (let f = site .linked .few in omega (arith, ap length serials-tab, length-tab (column m 0) (count-in m)))

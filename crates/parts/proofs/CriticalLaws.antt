@@ -51,7 +51,9 @@ module _ (m b : List ℕ) (from to : ℕ) (l : Tail) {s z : List ℕ} {k : ℕ} 
   abbrev fit : Bool
   fit = entries-fit b k from to i2 (l .count2) i3 numbers (l .count3) i4 others (l .count4)
 
-  told-by : {t : Transfer} {v x : List ℕ} (w : Arrives t v x b z s k from to l) → (indices-right t && consecutive (t .part3) && all (λ k. not (eqb (k .other) (t .from)) && not (eqb (k .other) (t .to))) (t .part4)) ≡ fit
+  told-by : {t : Transfer} {v x : List ℕ} (w : Arrives t v x b z s k from to l)
+      → (indices-right t && consecutive (t .part3)
+      && all (λ k. not (eqb (k .other) (t .from)) && not (eqb (k .other) (t .to))) (t .part4)) ≡ fit
   told-by {t} w = entries-told w read2 read3 (read4 .3 (t .faces) (sized w)) (read4 .0) (read4 .1) (few4 l small)
 
   pub entries-no : {kinds links : List ℕ} → fit ≡ false → CriticalRight m s b z k from to l codes i2 kinds links false
@@ -59,7 +61,11 @@ module _ (m b : List ℕ) (from to : ℕ) (l : Tail) {s z : List ℕ} {k : ℕ} 
 
   module _ (few : k ≤ 512) (ok : fit ≡ true) where
     ok-indices : indices-fit b k (take (l .count2) i2) (take (l .count3) i3) (take (l .count4) i4) ≡ true
-    ok-indices = and-left (indices-fit b k (take (l .count2) i2) (take (l .count3) i3) (take (l .count4) i4)) _ (and-left (indices-fit b k (take (l .count2) i2) (take (l .count3) i3) (take (l .count4) i4) && all (follows-at numbers) (tab (λ e. e) (l .count3 - 1))) _ ok)
+    ok-indices =
+        and-left (indices-fit b k (take (l .count2) i2) (take (l .count3) i3) (take (l .count4) i4)) _
+        (and-left
+        (indices-fit b k (take (l .count2) i2) (take (l .count3) i3) (take (l .count4) i4)
+        && all (follows-at numbers) (tab (λ e. e) (l .count3 - 1))) _ ok)
 
     module _ {t : Transfer} {v x : List ℕ} (w : Arrives t v x b z s k from to l) where
       pub put-spans3 : Spans z i3 (l .count3)
@@ -85,7 +91,10 @@ module _ (m b : List ℕ) (from to : ℕ) (l : Tail) {s z : List ℕ} {k : ℕ} 
 
       pub labels-tell : is-image rack m ≡ true → {r : Bool} → r ≡ labels-fit m (getD m 2 0) kinds″ links″ k → CriticalRight m s b z k from to l codes i2 kinds″ links″ r
       labels-tell image {r} e = record {
-        answer = λ t v x w. e ∙ sym (labels-are (column m 0) x (the-words w) (image-passed m image .range) t (the-links w (column m 0))) ∙ sym (ap (λ (c : Bool). c && labels-new (block-in m) t) (told-by w ∙ ok));
+        answer =
+            λ t v x w. e ∙ sym
+            (labels-are (column m 0) x (the-words w) (image-passed m image .range) t (the-links w (column m 0))) ∙ sym
+            (ap (λ (c : Bool). c && labels-new (block-in m) t) (told-by w ∙ ok));
         told = λ q t v x w. record {
           codes-are = read2 .firsts-are (t .part2) (w .past2) (w .part2-in);
           indices-are = read2 .seconds-are (t .part2) (w .past2) (w .part2-in);
@@ -94,7 +103,9 @@ module _ (m b : List ℕ) (from to : ℕ) (l : Tail) {s z : List ℕ} {k : ℕ} 
               (sym (front-tab i4 (l .count4) (let n = read4 .0 in let f = few4 l small in omega arith)) ∙ sym (indices4 w read2 read3 (read4 .3 (t .faces) (sized w)) (read4 .0) (read4 .1) (few4 l small)));
           links-are = the-links w;
           kind-in = the-words w .kind-in;
-          kind-out = λ p h u. off-faces w read2 read3 (read4 .3 (t .faces) (sized w)) (read4 .0) (read4 .1) (few4 l small) few (few3 l small) ok-indices k3 k4 p h u ∙ ap (λ (y : List ℕ). getD y p 0) zero-kinds ∙ getD-zeros 512 p;
+          kind-out =
+              λ p h u. off-faces w read2 read3 (read4 .3 (t .faces) (sized w)) (read4 .0) (read4 .1) (few4 l small) few
+              (few3 l small) ok-indices k3 k4 p h u ∙ ap (λ (y : List ℕ). getD y p 0) zero-kinds ∙ getD-zeros 512 p;
           words-right = words-right w read2 read3 (read4 .3 (t .faces) (sized w)) (read4 .0) (read4 .1) (few4 l small) few (few3 l small) ok-indices from-small zero-kinds zero-links k3 k4 l3 l4;
         };
       }
@@ -102,7 +113,10 @@ module _ (m b : List ℕ) (from to : ℕ) (l : Tail) {s z : List ℕ} {k : ℕ} 
           the-words : {t : Transfer} {v x : List ℕ} → Arrives t v x b z s k from to l → Words b z kinds″ links″ k (tab (λ e. getD i3 e 0) (l .count3) ++ tab (λ e. getD i4 e 0) (l .count4))
           the-words {t} w = words w read2 read3 (read4 .3 (t .faces) (sized w)) (read4 .0) (read4 .1) (few4 l small) few (few3 l small) ok-indices from-small zero-kinds zero-links k3 k4 l3 l4
 
-          the-links : {t : Transfer} {v x : List ℕ} (w : Arrives t v x b z s k from to l) (serials : ℕ → ℕ) → critical-links t ≡ concat-map (face-links serials x z kinds″ links″) (tab (λ e. getD i3 e 0) (l .count3) ++ tab (λ e. getD i4 e 0) (l .count4))
+          the-links : {t : Transfer} {v x : List ℕ} (w : Arrives t v x b z s k from to l) (serials : ℕ → ℕ)
+              → critical-links t
+              ≡ concat-map (face-links serials x z kinds″ links″)
+              (tab (λ e. getD i3 e 0) (l .count3) ++ tab (λ e. getD i4 e 0) (l .count4))
           the-links {t} w = links-told w read2 read3 (read4 .3 (t .faces) (sized w)) (read4 .0) (read4 .1) (few4 l small) few (few3 l small) ok-indices from-small zero-kinds zero-links k3 k4 l3 l4
 
           two : {p q r u : List ℕ} → p ≡ q → r ≡ u → p ++ r ≡ q ++ u

@@ -27,7 +27,9 @@ use Rattle.parts.specs.Segments.{link-of, face-links}
 module _ {A : Type 0} (key : A → ℕ) where
   find-left : (y : ℕ) (l r : List A) {d : A} → find key y l ≡ some d → find key y (l ++ r) ≡ some d
   find-left y [] r e = absurd (Option·none-ne-some _ e)
-  find-left y (a ∷ l) r {d} e = by-cases (eqb y (key a)) (λ t. rw t (sym (ap (λ (c : Bool). cond c (some a) (find key y l)) t) ∙ e)) (λ t. rw t (find-left y l r (sym (ap (λ (c : Bool). cond c (some a) (find key y l)) t) ∙ e)))
+  find-left y (a ∷ l) r {d} e =
+      by-cases (eqb y (key a)) (λ t. rw t (sym (ap (λ (c : Bool). cond c (some a) (find key y l)) t) ∙ e))
+      (λ t. rw t (find-left y l r (sym (ap (λ (c : Bool). cond c (some a) (find key y l)) t) ∙ e)))
 
   find-right : (y : ℕ) (l r : List A) → find key y l ≡ none → find key y (l ++ r) ≡ find key y r
   find-right y [] r e = refl
@@ -47,7 +49,9 @@ module _ (s : ℕ → ℕ) (x : List ℕ) {b z : List ℕ} (kinds links : List �
   link-found [] t q h = refl
   link-found (i ∷ l) t q h = ⊎-elim
       (λ (e : getD b q 0 ≡ i). find-left (λ m. m .dart) (getD x q 0) (face-links s x z kinds links i) (concat-map (face-links s x z kinds links) l) (here e) ∙ sym (rw (eq-eqb (getD b q 0) i e) refl))
-      (λ (e : getD b q 0 ≡ i → ⊥). find-right (λ m. m .dart) (getD x q 0) (face-links s x z kinds links i) (concat-map (face-links s x z kinds links) l) (not-here e) ∙ link-found l (and-right (starts-at b k i) _ t) q h ∙ sym (rw (ne-eqb (getD b q 0) i e) refl))
+      (λ (e : getD b q 0 ≡ i → ⊥). find-right (λ m. m .dart) (getD x q 0) (face-links s x z kinds links i)
+      (concat-map (face-links s x z kinds links) l) (not-here e) ∙ link-found l (and-right (starts-at b k i) _ t) q h ∙ sym
+      (rw (ne-eqb (getD b q 0) i e) refl))
       (eq-or-ne (getD b q 0) i)
     where
       small : i < k
@@ -76,7 +80,9 @@ module _ (s : ℕ → ℕ) (x : List ℕ) {b z : List ℕ} (kinds links : List �
 abbrev no-label : Label
 no-label = record { maker = 0; number = 0; position = 0 }
 
-zip-links : (other : ℕ) (f : ℕ → ℕ) (n : ℕ) (ls : List Label) → length ls ≡ n → map {B = Link} (λ p. record { dart = p .0; third = critical other (p .1) }) (zip (tab f n) ls) ≡ tab (λ j. record { dart = f j; third = critical other (getD ls j no-label) }) n
+zip-links : (other : ℕ) (f : ℕ → ℕ) (n : ℕ) (ls : List Label) → length ls ≡ n
+    → map {B = Link} (λ p. record { dart = p .0; third = critical other (p .1) }) (zip (tab f n) ls)
+    ≡ tab (λ j. record { dart = f j; third = critical other (getD ls j no-label) }) n
 zip-links other f zero ls e = refl
 zip-links other f (suc n) [] e = absurd (omega (arith, e))
 zip-links other f (suc n) (l ∷ ls) e = ap (λ (m : List Link). record { dart = f 0; third = critical other l } ∷ m) (zip-links other (λ j. f (suc j)) n ls (omega (arith, e)))
@@ -88,12 +94,18 @@ third-is s o a = rw (ne-eqb ((2 + 4 * o) % 4) 0 (λ e. omega arith), ne-eqb ((2 
     other : (2 + 4 * o) / 4 ≡ o
     other = omega arith
 
-labels-tab : (o maker number pos : ℕ) (f : ℕ → ℕ) (n : ℕ) → label-links (λ x. x) o maker number pos (tab f n) ≡ tab (λ j. record { dart = f j; third = critical o (record { maker = maker; number = number; position = pos + j }) }) n
+labels-tab : (o maker number pos : ℕ) (f : ℕ → ℕ) (n : ℕ)
+    → label-links (λ x. x) o maker number pos (tab f n)
+    ≡ tab (λ j. record { dart = f j; third = critical o (record { maker = maker; number = number; position = pos + j }) }) n
 unfolding label-links
 labels-tab o maker number pos f zero = refl
 labels-tab o maker number pos f (suc n) = two
     (ap (λ (p : ℕ). record { dart = f 0; third = critical o (record { maker = maker; number = number; position = p }) }) (none-more pos))
-    (labels-tab o maker number (suc pos) (λ j. f (suc j)) n ∙ tab-cong _ _ n (λ j h. ap (λ (p : ℕ). record { dart = f (suc j); third = critical o (record { maker = maker; number = number; position = p }) }) (one-more pos j)))
+    (labels-tab o maker number (suc pos) (λ j. f (suc j)) n
+    ∙ tab-cong _ _ n
+    (λ j h. ap
+    (λ (p : ℕ). record { dart = f (suc j); third = critical o (record { maker = maker; number = number; position = p }) })
+    (one-more pos j)))
   where
     none-more : (p : ℕ) → p ≡ p + 0
     none-more p = omega arith
@@ -112,19 +124,30 @@ numbered-back maker number j h l = ap label-in same ∙ label-code (record { mak
     same = omega arith
 
 module _ (t : Transfer) (s : ℕ → ℕ) (x z kinds links : List ℕ) (i : ℕ) (face : face-from t i ≡ tab (λ j. getD x (i + j) 0) (getD z i 0)) where
-  pub part3-is : (number : ℕ) → number < 2 ^ 32 → getD z i 0 ≤ 4096 → ((j : ℕ) → j < getD z i 0 → getD kinds (i + j) 0 ≡ 2 + 4 * t .from) → ((j : ℕ) → j < getD z i 0 → getD links (i + j) 0 ≡ (t .from * 2 ^ 32 + number) * 4096 + j)
+  pub part3-is : (number : ℕ) → number < 2 ^ 32 → getD z i 0 ≤ 4096 → ((j : ℕ) → j < getD z i 0 → getD kinds (i + j) 0 ≡ 2 + 4 * t .from)
+      → ((j : ℕ) → j < getD z i 0 → getD links (i + j) 0 ≡ (t .from * 2 ^ 32 + number) * 4096 + j)
       → part3-links t (record { number = number; index = i }) ≡ face-links s x z kinds links i
   unfolding part3-links
   part3-is number small few kind link = ap (label-links (λ x. x) (t .from) (t .from) number 0) face ∙ labels-tab (t .from) (t .from) number 0 (λ j. getD x (i + j) 0) (getD z i 0)
-      ∙ tab-cong _ _ (getD z i 0) (λ j h. ap (λ (d : Third). record { dart = getD x (i + j) 0; third = d }) (sym (ap (λ (w : ℕ). third-in s w (getD links (i + j) 0)) (kind j h) ∙ third-is s (t .from) (getD links (i + j) 0) ∙ ap (critical (t .from)) (ap label-in (link j h) ∙ numbered-back (t .from) number j small (omega arith)))))
+      ∙ tab-cong _ _ (getD z i 0)
+      (λ j h. ap (λ (d : Third). record { dart = getD x (i + j) 0; third = d })
+      (sym
+      (ap (λ (w : ℕ). third-in s w (getD links (i + j) 0)) (kind j h) ∙ third-is s (t .from) (getD links (i + j) 0)
+      ∙ ap (critical (t .from)) (ap label-in (link j h) ∙ numbered-back (t .from) number j small (omega arith)))))
 
   -- PART 4
-  pub part4-is : (other : ℕ) (ls : List Label) → length ls ≡ getD z i 0 → map label-in (map code ls) ≡ ls → ((j : ℕ) → j < getD z i 0 → getD kinds (i + j) 0 ≡ 2 + 4 * other) → ((j : ℕ) → j < getD z i 0 → getD links (i + j) 0 ≡ getD (map code ls) j 0)
+  pub part4-is : (other : ℕ) (ls : List Label) → length ls ≡ getD z i 0 → map label-in (map code ls) ≡ ls
+      → ((j : ℕ) → j < getD z i 0 → getD kinds (i + j) 0 ≡ 2 + 4 * other)
+      → ((j : ℕ) → j < getD z i 0 → getD links (i + j) 0 ≡ getD (map code ls) j 0)
       → part4-links t (record { index = i; other = other; labels = ls }) ≡ face-links s x z kinds links i
   unfolding part4-links
   part4-is other ls count back kind link = ap (λ (f : List ℕ). map {B = Link} (λ p. record { dart = p .0; third = critical other (p .1) }) (zip f ls)) face
       ∙ zip-links other (λ j. getD x (i + j) 0) (getD z i 0) ls count
-      ∙ tab-cong _ _ (getD z i 0) (λ j h. ap (λ (d : Third). record { dart = getD x (i + j) 0; third = d }) (sym (ap (λ (w : ℕ). third-in s w (getD links (i + j) 0)) (kind j h) ∙ third-is s other (getD links (i + j) 0) ∙ ap (critical other) (ap label-in (link j h) ∙ same j h))))
+      ∙ tab-cong _ _ (getD z i 0)
+      (λ j h. ap (λ (d : Third). record { dart = getD x (i + j) 0; third = d })
+      (sym
+      (ap (λ (w : ℕ). third-in s w (getD links (i + j) 0)) (kind j h) ∙ third-is s other (getD links (i + j) 0)
+      ∙ ap (critical other) (ap label-in (link j h) ∙ same j h))))
     where
       same : (j : ℕ) → j < getD z i 0 → label-in (getD (map code ls) j 0) ≡ getD ls j no-label
       same j h = sym (map-at label-in 0 no-label (map code ls) j (omega (arith, h, count, length-map ls code))) ∙ ap (λ (l : List Label). getD l j no-label) back
@@ -135,14 +158,16 @@ concat-map-append f [] r = refl
 concat-map-append f (a ∷ l) r = ap (λ (m : List _). f a ++ m) (concat-map-append f l r) ∙ sym (append-assoc (f a) (concat-map f l) (concat-map f r))
 
 -- of the entries of a part, in arrays
-part-are : {A : Type 0} (parts : A → List Link) (of : ℕ → List Link) (entry : ℕ → A) (index : ℕ → ℕ) (c : ℕ) → ((e : ℕ) → e < c → parts (entry e) ≡ of (index e)) → concat-map parts (tab entry c) ≡ concat-map of (tab index c)
+part-are : {A : Type 0} (parts : A → List Link) (of : ℕ → List Link) (entry : ℕ → A) (index : ℕ → ℕ) (c : ℕ)
+    → ((e : ℕ) → e < c → parts (entry e) ≡ of (index e)) → concat-map parts (tab entry c) ≡ concat-map of (tab index c)
 part-are parts of entry index zero h = refl
 part-are parts of entry index (suc c) h = two (h 0 (omega arith)) (part-are parts of (λ e. entry (suc e)) (λ e. index (suc e)) c (λ e l. h (suc e) (omega arith)))
   where
     two : {a b l m : List Link} → a ≡ b → l ≡ m → a ++ l ≡ b ++ m
     two p q = rw (p, q) refl
 
-pub critical-are : (t : Transfer) (of : ℕ → List Link) (entry3 : ℕ → Part3) (index3 : ℕ → ℕ) (c3 : ℕ) (entry4 : ℕ → Part4) (index4 : ℕ → ℕ) (c4 : ℕ) → t .part3 ≡ tab entry3 c3 → t .part4 ≡ tab entry4 c4
+pub critical-are : (t : Transfer) (of : ℕ → List Link) (entry3 : ℕ → Part3) (index3 : ℕ → ℕ) (c3 : ℕ) (entry4 : ℕ → Part4) (index4 : ℕ → ℕ)
+    (c4 : ℕ) → t .part3 ≡ tab entry3 c3 → t .part4 ≡ tab entry4 c4
     → ((e : ℕ) → e < c3 → part3-links t (entry3 e) ≡ of (index3 e)) → ((e : ℕ) → e < c4 → part4-links t (entry4 e) ≡ of (index4 e)) → critical-links t ≡ concat-map of (tab index3 c3 ++ tab index4 c4)
 unfolding critical-links
 critical-are t of entry3 index3 c3 entry4 index4 c4 p q g h =

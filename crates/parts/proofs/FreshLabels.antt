@@ -32,7 +32,10 @@ use Rattle.parts.specs.Fresh.{own-at, fresh-at, clear-at, labels-fit}
 -- VALUES THAT DIFFER
 pub tab-once : (f : ℕ → ℕ) (n : ℕ) → ((i j : ℕ) → i < n → j < n → f i ≡ f j → i ≡ j) → distinct (tab f n) ≡ true
 tab-once f zero h = refl
-tab-once f (suc n) h = and-intro (ap not (mem-none (λ i. f (suc i)) n (f 0) (λ p l e. let r = h (suc p) 0 (omega arith) (omega arith) e in omega (arith, r)))) (tab-once (λ i. f (suc i)) n (λ i j a b e. let r = h (suc i) (suc j) (omega arith) (omega arith) e in omega (arith, r)))
+tab-once f (suc n) h =
+    and-intro
+    (ap not (mem-none (λ i. f (suc i)) n (f 0) (λ p l e. let r = h (suc p) 0 (omega arith) (omega arith) e in omega (arith, r))))
+    (tab-once (λ i. f (suc i)) n (λ i j a b e. let r = h (suc i) (suc j) (omega arith) (omega arith) e in omega (arith, r)))
 
 pub once-tab : (f : ℕ → ℕ) (n : ℕ) → distinct (tab f n) ≡ true → (i j : ℕ) → i < n → j < n → f i ≡ f j → i ≡ j
 once-tab f zero d i j a b e = absurd (omega arith)
@@ -97,14 +100,18 @@ module _ {b z : List ℕ} (links : List ℕ) {k : ℕ} (segs : Segments b z k) w
       let ur = segs .end-above r hr in
       let sq : getD z i 0 ≡ getD z q 0 = segs .same-size q hq i (omega arith) (omega arith) in
       let sr : getD z i 0 ≡ getD z r 0 = segs .same-size r hr i (omega arith) (omega arith) in
-      let same = once-tab (λ j. getD links (i + j) 0) (getD z i 0) d (q - i) (r - i) (omega arith) (omega arith) (ap (λ (p : ℕ). getD links p 0) (omega arith) ∙ e ∙ ap (λ (p : ℕ). getD links p 0) (omega arith)) in
+      let same =
+      once-tab (λ j. getD links (i + j) 0) (getD z i 0) d (q - i) (r - i) (omega arith) (omega arith)
+      (ap (λ (p : ℕ). getD links p 0) (omega arith) ∙ e ∙ ap (λ (p : ℕ). getD links p 0) (omega arith))
+      in
       omega arith
 
   in-faces : (l : List ℕ) (q : ℕ) → q < k → In (getD b q 0) l → In (getD links q 0) (concat-map face-codes l)
   in-faces [] q h i = absurd (true≢false (sym i))
   in-faces (a ∷ l) q h i = ⊎-elim
       (λ (e : getD b q 0 ≡ a). in-append-left (getD links q 0) (face-codes a) (concat-map face-codes l) (in-face q a h e))
-      (λ (e : getD b q 0 ≡ a → ⊥). in-append-right (getD links q 0) (face-codes a) (concat-map face-codes l) (in-faces l q h (sym (ap (λ (c : Bool). c || mem (getD b q 0) l) (ne-eqb (getD b q 0) a e)) ∙ i)))
+      (λ (e : getD b q 0 ≡ a → ⊥). in-append-right (getD links q 0) (face-codes a) (concat-map face-codes l)
+      (in-faces l q h (sym (ap (λ (c : Bool). c || mem (getD b q 0) l) (ne-eqb (getD b q 0) a e)) ∙ i)))
       (eq-or-ne (getD b q 0) a)
 
   faces-in : (l : List ℕ) → all (starts-at b k) l ≡ true → (v : ℕ) → In v (concat-map face-codes l) → (q : ℕ) × (q < k) × In (getD b q 0) l × (getD links q 0 ≡ v)
@@ -129,12 +136,17 @@ module _ {b z : List ℕ} (links : List ℕ) {k : ℕ} (segs : Segments b z k) w
       (eq-or-ne (getD b r 0) a))
       (λ (x : getD b q 0 ≡ a → ⊥). ⊎-elim
       (λ (y : getD b r 0 ≡ a). absurd (never r q hr hq y (mem-later a (getD b q 0) l iq x) (sym e)))
-      (λ (y : getD b r 0 ≡ a → ⊥). faces-once l (and-right (starts-at b k a) _ t) (distinct-right (face-codes a) (concat-map face-codes l) d) q r hq hr (mem-later a (getD b q 0) l iq x) (mem-later a (getD b r 0) l ir y) e)
+      (λ (y : getD b r 0 ≡ a → ⊥). faces-once l (and-right (starts-at b k a) _ t)
+      (distinct-right (face-codes a) (concat-map face-codes l) d) q r hq hr (mem-later a (getD b q 0) l iq x)
+      (mem-later a (getD b r 0) l ir y) e)
       (eq-or-ne (getD b r 0) a))
       (eq-or-ne (getD b q 0) a)
     where
       never : (q r : ℕ) → q < k → r < k → getD b q 0 ≡ a → In (getD b r 0) l → getD links q 0 ≡ getD links r 0 → ⊥
-      never q r hq hr x i e = true≢false (sym (subst (λ (v : ℕ). In v (face-codes a)) e (in-face q a hq x)) ∙ distinct-apart (face-codes a) (concat-map face-codes l) d (getD links r 0) (in-faces l r hr i))
+      never q r hq hr x i e =
+          true≢false
+          (sym (subst (λ (v : ℕ). In v (face-codes a)) e (in-face q a hq x))
+          ∙ distinct-apart (face-codes a) (concat-map face-codes l) d (getD links r 0) (in-faces l r hr i))
 
   once-faces : (l : List ℕ) → all (starts-at b k) l ≡ true → distinct l ≡ true → Apart l → distinct (concat-map face-codes l) ≡ true
   once-faces [] t o h = refl
@@ -179,7 +191,9 @@ collect-append (d ∷ l) r = go (label-of (d .third)) (collect-append l r)
 
 collect-tab : (f : ℕ → Link) (g : ℕ → Label) (n : ℕ) → ((j : ℕ) → j < n → label-of (f j .third) ≡ some (g j)) → collect (λ d. label-of (d .third)) (tab f n) ≡ tab g n
 collect-tab f g zero h = refl
-collect-tab f g (suc n) h = ap (λ (o : Option Label). more o (collect (λ d. label-of (d .third)) (tab (λ j. f (suc j)) n))) (h 0 (omega arith)) ∙ ap (λ (m : List Label). g 0 ∷ m) (collect-tab (λ j. f (suc j)) (λ j. g (suc j)) n (λ j l. h (suc j) (omega arith)))
+collect-tab f g (suc n) h =
+    ap (λ (o : Option Label). more o (collect (λ d. label-of (d .third)) (tab (λ j. f (suc j)) n))) (h 0 (omega arith))
+    ∙ ap (λ (m : List Label). g 0 ∷ m) (collect-tab (λ j. f (suc j)) (λ j. g (suc j)) n (λ j l. h (suc j) (omega arith)))
 
 -- the words of the new darts: those on the faces that start at l are critical, no other is
 pub record Words (b z kinds links : List ℕ) (k : ℕ) (l : List ℕ) : Type 0 where
@@ -191,7 +205,9 @@ pub record Words (b z kinds links : List ℕ) (k : ℕ) (l : List ℕ) : Type 0 
   pub small : (q : ℕ) → q < k → getD links q 0 < 2 ^ 48
 
 module _ (s : ℕ → ℕ) (x : List ℕ) {b z kinds links : List ℕ} {k : ℕ} {l : List ℕ} (w : Words b z kinds links k l) where
-  labels-told : (m : List ℕ) → all (starts-at b k) m ≡ true → ((i : ℕ) → In i m → In i l) → collect (λ d. label-of (d .third)) (concat-map (face-links s x z kinds links) m) ≡ map label-in (concat-map (face-codes links (w .segs)) m)
+  labels-told : (m : List ℕ) → all (starts-at b k) m ≡ true → ((i : ℕ) → In i m → In i l)
+      → collect (λ d. label-of (d .third)) (concat-map (face-links s x z kinds links) m)
+      ≡ map label-in (concat-map (face-codes links (w .segs)) m)
   labels-told [] t h = refl
   labels-told (i ∷ m) t h =
       collect-append (face-links s x z kinds links i) (concat-map (face-links s x z kinds links) m)
@@ -250,13 +266,19 @@ module _ (s : ℕ → ℕ) (x : List ℕ) {b z kinds links : List ℕ} {k : ℕ}
     value-out q c = rw (lt-ltb (getD kinds q 0) 2 c) refl
 
     to-fit : (all new all-codes && distinct all-codes) ≡ true → labels-fit m (count m) kinds links k ≡ true
-    to-fit t = and-intro (and-intro (tab-all (own-at (getD m 0 0) (getD m 1 0) kinds links) (λ q. q) k owned) (tab-once (fresh-at kinds links) k once)) (tab-all (clear-at m (tab (fresh-at kinds links) k)) (λ p. p) (count m) clear)
+    to-fit t =
+        and-intro
+        (and-intro (tab-all (own-at (getD m 0 0) (getD m 1 0) kinds links) (λ q. q) k owned)
+        (tab-once (fresh-at kinds links) k once)) (tab-all (clear-at m (tab (fresh-at kinds links) k)) (λ p. p) (count m) clear)
       where
         each : (q : ℕ) → q < k → 2 ≤ getD kinds q 0 → new (getD links q 0) ≡ true
         each q h c = all-in new all-codes (and-left (all new all-codes) _ t) (getD links q 0) (in-faces links (w .segs) l q h (fresh-in q h c))
 
         owned : (q : ℕ) → q < k → own-at (getD m 0 0) (getD m 1 0) kinds links q ≡ true
-        owned q h = ⊎-elim (λ (c : getD kinds q 0 < 2). rw (lt-ltb (getD kinds q 0) 2 c) refl) (λ (c : 2 ≤ getD kinds q 0). rw (le-ltb (getD kinds q 0) 2 c) (and-right (not (mem (getD links q 0) (codes m (count m)))) _ (each q h c))) (lt-or-ge (getD kinds q 0) 2)
+        owned q h =
+            ⊎-elim (λ (c : getD kinds q 0 < 2). rw (lt-ltb (getD kinds q 0) 2 c) refl)
+            (λ (c : 2 ≤ getD kinds q 0). rw (le-ltb (getD kinds q 0) 2 c)
+            (and-right (not (mem (getD links q 0) (codes m (count m)))) _ (each q h c))) (lt-or-ge (getD kinds q 0) 2)
 
         once : (i j : ℕ) → i < k → j < k → fresh-at kinds links i ≡ fresh-at kinds links j → i ≡ j
         once i j hi hj e = ⊎-elim
@@ -266,7 +288,8 @@ module _ (s : ℕ → ℕ) (x : List ℕ) {b z kinds links : List ℕ} {k : ℕ}
             (lt-or-ge (getD kinds j 0) 2))
             (λ (c : 2 ≤ getD kinds i 0). ⊎-elim
             (λ (d : getD kinds j 0 < 2). let r = sym (value-in i c) ∙ e ∙ value-out j d in let u = w .small i hi in absurd (omega (arith, r, u)))
-            (λ (d : 2 ≤ getD kinds j 0). faces-once links (w .segs) l (w .starts) (and-right (all new all-codes) _ t) i j hi hj (fresh-in i hi c) (fresh-in j hj d) (sym (value-in i c) ∙ e ∙ value-in j d))
+            (λ (d : 2 ≤ getD kinds j 0). faces-once links (w .segs) l (w .starts) (and-right (all new all-codes) _ t) i j hi hj
+            (fresh-in i hi c) (fresh-in j hj d) (sym (value-in i c) ∙ e ∙ value-in j d))
             (lt-or-ge (getD kinds j 0) 2))
             (lt-or-ge (getD kinds i 0) 2)
 
@@ -279,11 +302,19 @@ module _ (s : ℕ → ℕ) (x : List ℕ) {b z kinds links : List ℕ} {k : ℕ}
             never : (p : ℕ) → p < count m → 2 ≤ column m 3 p → (q : ℕ) → q < k → fresh-at kinds links q ≡ column m 4 p → ⊥
             never p h c q hq e = ⊎-elim
                 (λ (d : getD kinds q 0 < 2). let r = sym (value-out q d) ∙ e in let u = link-small p h c in omega (arith, r, u))
-                (λ (d : 2 ≤ getD kinds q 0). true≢false (sym (subst (λ (y : ℕ). In y (codes m (count m))) (sym (sym (value-in q d) ∙ e)) (codes-have m (count m) p h (omega arith))) ∙ not-true _ (and-left (not (mem (getD links q 0) (codes m (count m)))) _ (each q hq d))))
+                (λ (d : 2 ≤ getD kinds q 0). true≢false
+                (sym
+                (subst (λ (y : ℕ). In y (codes m (count m))) (sym (sym (value-in q d) ∙ e))
+                (codes-have m (count m) p h (omega arith)))
+                ∙ not-true _ (and-left (not (mem (getD links q 0) (codes m (count m)))) _ (each q hq d))))
                 (lt-or-ge (getD kinds q 0) 2)
 
     of-fit : labels-fit m (count m) kinds links k ≡ true → (all new all-codes && distinct all-codes) ≡ true
-    of-fit t = and-intro (all-from new all-codes (λ v i. let r = faces-in links (w .segs) l (w .starts) v i in subst (λ (y : ℕ). new y ≡ true) (r .3) (each (r .0) (r .1) (r .2)))) (once-faces links (w .segs) l (w .starts) (w .once) apart)
+    of-fit t =
+        and-intro
+        (all-from new all-codes
+        (λ v i. let r = faces-in links (w .segs) l (w .starts) v i in subst (λ (y : ℕ). new y ≡ true) (r .3)
+        (each (r .0) (r .1) (r .2)))) (once-faces links (w .segs) l (w .starts) (w .once) apart)
       where
         two : (all (own-at (getD m 0 0) (getD m 1 0) kinds links) (tab (λ q. q) k) && distinct (tab (fresh-at kinds links) k)) ≡ true
         two = and-left (all (own-at (getD m 0 0) (getD m 1 0) kinds links) (tab (λ q. q) k) && distinct (tab (fresh-at kinds links) k)) _ t
@@ -292,13 +323,20 @@ module _ (s : ℕ → ℕ) (x : List ℕ) {b z kinds links : List ℕ} {k : ℕ}
         owned q h = all-tab (own-at (getD m 0 0) (getD m 1 0) kinds links) (λ q. q) k (and-left (all (own-at (getD m 0 0) (getD m 1 0) kinds links) (tab (λ q. q) k)) _ two) q h
 
         clear : (p : ℕ) → p < count m → clear-at m (tab (fresh-at kinds links) k) p ≡ true
-        clear p h = all-tab (clear-at m (tab (fresh-at kinds links) k)) (λ p. p) (count m) (and-right (all (own-at (getD m 0 0) (getD m 1 0) kinds links) (tab (λ q. q) k) && distinct (tab (fresh-at kinds links) k)) _ t) p h
+        clear p h =
+            all-tab (clear-at m (tab (fresh-at kinds links) k)) (λ p. p) (count m)
+            (and-right
+            (all (own-at (getD m 0 0) (getD m 1 0) kinds links) (tab (λ q. q) k) && distinct (tab (fresh-at kinds links) k)) _ t)
+            p h
 
         absent : (q : ℕ) → q < k → 2 ≤ getD kinds q 0 → mem (getD links q 0) (codes m (count m)) ≡ false
         absent q h c = by-cases (mem (getD links q 0) (codes m (count m)))
             (λ u. let r = codes-had m (count m) (getD links q 0) u in
             let held : mem (column m 4 (r .0)) (tab (fresh-at kinds links) k) ≡ true = mem-place (fresh-at kinds links) k q (column m 4 (r .0)) h (value-in q c ∙ sym (r .3)) in
-            let here : not (mem (column m 4 (r .0)) (tab (fresh-at kinds links) k)) ≡ true = ap (λ (d : Bool). d || not (mem (column m 4 (r .0)) (tab (fresh-at kinds links) k))) (sym (le-ltb (column m 3 (r .0)) 2 (let g = r .2 in omega arith))) ∙ clear (r .0) (r .1) in
+            let here : not (mem (column m 4 (r .0)) (tab (fresh-at kinds links) k)) ≡ true =
+            ap (λ (d : Bool). d || not (mem (column m 4 (r .0)) (tab (fresh-at kinds links) k)))
+            (sym (le-ltb (column m 3 (r .0)) 2 (let g = r .2 in omega arith))) ∙ clear (r .0) (r .1)
+            in
             absurd (true≢false (sym held ∙ not-true _ here)))
             (λ u. u)
 
@@ -306,14 +344,18 @@ module _ (s : ℕ → ℕ) (x : List ℕ) {b z kinds links : List ℕ} {k : ℕ}
         each q h i = let c = in-fresh q h i in and-intro (ap not (absent q h c)) (ap (λ (d : Bool). d || own (getD links q 0)) (sym (le-ltb (getD kinds q 0) 2 c)) ∙ owned q h)
 
         apart : (q r : ℕ) → q < k → r < k → In (getD b q 0) l → In (getD b r 0) l → getD links q 0 ≡ getD links r 0 → q ≡ r
-        apart q r hq hr iq ir e = once-tab (fresh-at kinds links) k (and-right (all (own-at (getD m 0 0) (getD m 1 0) kinds links) (tab (λ q. q) k)) _ two) q r hq hr (value-in q (in-fresh q hq iq) ∙ e ∙ sym (value-in r (in-fresh r hr ir)))
+        apart q r hq hr iq ir e =
+            once-tab (fresh-at kinds links) k
+            (and-right (all (own-at (getD m 0 0) (getD m 1 0) kinds links) (tab (λ q. q) k)) _ two) q r hq hr
+            (value-in q (in-fresh q hq iq) ∙ e ∙ sym (value-in r (in-fresh r hr ir)))
 
     -- THE MODEL'S TEST
     pub labels-are : (t : Transfer) → critical-links t ≡ concat-map (face-links s x z kinds links) l → labels-new (block-in m) t ≡ labels-fit m (count m) kinds links k
     unfolding labels-new
     labels-are t e = ap (λ (ks : List Link). all (label-new (block-in m)) (collect (λ d. label-of (d .third)) ks) && distinct (map code (collect (λ d. label-of (d .third)) ks))) e
         ∙ ap (λ (ls : List Label). all (label-new (block-in m)) ls && distinct (map code ls)) (labels-told l (w .starts) (λ i h. h))
-        ∙ both (all-map (label-new (block-in m)) label-in all-codes ∙ all-cong _ _ all-codes (λ a h. new-is a)) (ap distinct (map-map label-in code all-codes ∙ map-cong _ _ all-codes (λ a h. code-label a) ∙ map-self all-codes))
+        ∙ both (all-map (label-new (block-in m)) label-in all-codes ∙ all-cong _ _ all-codes (λ a h. new-is a))
+        (ap distinct (map-map label-in code all-codes ∙ map-cong _ _ all-codes (λ a h. code-label a) ∙ map-self all-codes))
         ∙ same-truth _ _ to-fit of-fit
       where
         both : {p q r u : Bool} → p ≡ q → r ≡ u → (p && r) ≡ (q && u)

@@ -85,5 +85,10 @@ module _ (m : List ℕ) (n : ℕ) (kinds links : List ℕ) (k : ℕ) where
     where
       same : (x : ℕ) → mem x (tab (value-at keys) k) ≡ mem x (tab (fresh-at kinds links) k)
       same x = same-truth _ _
-          (λ u. let a = place-mem (value-at keys) k x u in mem-place (fresh-at kinds links) k (index-at keys (a .0)) x (w .index-below (a .0) (a .1)) (sym (value-is s (index-at keys (a .0)) (w .index-below (a .0) (a .1))) ∙ sym (w .value-is (a .0) (a .1)) ∙ a .2))
-          (λ u. let a = place-mem (fresh-at kinds links) k x u in mem-place (value-at keys) k (getD ranks (a .0) 0) x (w .rank-below (a .0) (a .1)) (w .value-is (getD ranks (a .0) 0) (w .rank-below (a .0) (a .1)) ∙ ap (λ (i : ℕ). getD values i 0) (w .index-rank (a .0) (a .1)) ∙ value-is s (a .0) (a .1) ∙ a .2))
+          (λ u. let a = place-mem (value-at keys) k x u in mem-place (fresh-at kinds links) k (index-at keys (a .0)) x
+          (w .index-below (a .0) (a .1))
+          (sym (value-is s (index-at keys (a .0)) (w .index-below (a .0) (a .1))) ∙ sym (w .value-is (a .0) (a .1)) ∙ a .2))
+          (λ u. let a = place-mem (fresh-at kinds links) k x u in mem-place (value-at keys) k (getD ranks (a .0) 0) x
+          (w .rank-below (a .0) (a .1))
+          (w .value-is (getD ranks (a .0) 0) (w .rank-below (a .0) (a .1))
+          ∙ ap (λ (i : ℕ). getD values i 0) (w .index-rank (a .0) (a .1)) ∙ value-is s (a .0) (a .1) ∙ a .2))

@@ -77,7 +77,12 @@ marking-more {idx} {marks} {marks′} {e} {y} w s h = record {
         (last-or-below (r .1)))
 
 pub marking-end : {idx marks marks′ : List ℕ} {e c : ℕ} → Marking idx marks marks′ e → e ≤ c → c ≤ e → c ≤ length idx → MarkedBy (take c idx) marks marks′
-marking-end {idx} {marks} {marks′} {e} {c} w a b n = record { size = w .size; each = λ q. w .each q ∙ ap (λ (l : List ℕ). cond (mem q l) 1 (getD marks q 0)) (ap (tab (λ j. getD idx j 0)) same ∙ sym (front-tab idx c n)) }
+marking-end {idx} {marks} {marks′} {e} {c} w a b n =
+    record {
+      size = w .size;
+      each = λ q. w .each q
+          ∙ ap (λ (l : List ℕ). cond (mem q l) 1 (getD marks q 0)) (ap (tab (λ j. getD idx j 0)) same ∙ sym (front-tab idx c n));
+    }
   where
     same : e ≡ c
     same = omega arith
@@ -131,10 +136,17 @@ module _ (idx b marks l : List ℕ) (k c : ℕ) (n : c ≤ length idx) (w : Mark
       start e h = and-left (eqb (getD b (at e) 0) (at e)) _ (last e h)
 
       up : (e : ℕ) → suc e < c → at e < at (suc e)
-      up e h = let q : suc e - 1 ≡ e = omega arith in ltb-true (at e) (at (suc e)) (sym (ap (λ (d : ℕ). ltb (at d) (at (suc e))) q) ∙ ap (λ (d : Bool). d || ltb (at (suc e - 1)) (at (suc e))) (sym (ne-eqb (suc e) 0 (λ z. omega (arith, z)))) ∙ and-right (ltb (at (suc e)) k) _ (front (suc e) h))
+      up e h =
+          let q : suc e - 1 ≡ e = omega arith in ltb-true (at e) (at (suc e))
+          (sym (ap (λ (d : ℕ). ltb (at d) (at (suc e))) q)
+          ∙ ap (λ (d : Bool). d || ltb (at (suc e - 1)) (at (suc e))) (sym (ne-eqb (suc e) 0 (λ z. omega (arith, z))))
+          ∙ and-right (ltb (at (suc e)) k) _ (front (suc e) h))
 
   there-fits : part-fits b k l (tab at c) ≡ true → all (fits-at idx b marks k) (tab (λ e. e) c) ≡ true
-  there-fits t = tab-all (fits-at idx b marks k) (λ e. e) c (λ e h. and-intro (and-intro (and-left (ltb (at e) k) _ (starts e h)) (before e h)) (and-intro (and-right (ltb (at e) k) _ (starts e h)) (w .tells (at e) ∙ free e h)))
+  there-fits t =
+      tab-all (fits-at idx b marks k) (λ e. e) c
+      (λ e h. and-intro (and-intro (and-left (ltb (at e) k) _ (starts e h)) (before e h))
+      (and-intro (and-right (ltb (at e) k) _ (starts e h)) (w .tells (at e) ∙ free e h)))
     where
       two : (all (starts-at b k) (tab at c) && ascending (tab at c)) ≡ true
       two = and-left (all (starts-at b k) (tab at c) && ascending (tab at c)) _ t
@@ -210,7 +222,10 @@ module _ (p : ℕ → Bool) (a b c : List ℕ) where
       (λ (i : In x (a ++ b)). ⊎-elim (λ (j : In x a). all-in p a (first a [] ta) x j) (λ (j : In x b). all-in p b (first b a tb) x j) (append-in x a b i))
       (λ (i : In x c). all-in p c (first c (a ++ b) tc) x i)
       (append-in x (a ++ b) c h))) (up a [] ta)) (up b a tb)) (up c (a ++ b) tc))
-      (distinct-append (a ++ b) c (distinct-append a b (ascending-distinct a (up a [] ta)) (ascending-distinct b (up b a tb)) (apart-back a b (and-right (all p b && ascending b) _ tb))) (ascending-distinct c (up c (a ++ b) tc)) (apart-back (a ++ b) c (and-right (all p c && ascending c) _ tc)))
+      (distinct-append (a ++ b) c
+      (distinct-append a b (ascending-distinct a (up a [] ta)) (ascending-distinct b (up b a tb))
+      (apart-back a b (and-right (all p b && ascending b) _ tb))) (ascending-distinct c (up c (a ++ b) tc))
+      (apart-back (a ++ b) c (and-right (all p c && ascending c) _ tc)))
     where
       ta : fits [] a ≡ true
       ta = and-left (fits [] a) _ (and-left (fits [] a && fits a b) _ t)
@@ -234,7 +249,8 @@ module _ {v x b z : List ℕ} (t : Transfer) (inside : FacesIn (t .faces) v x b 
   pub indices-are : indices-right t ≡ indices-fit b (size-all (t .faces)) (map (λ m. m .index) (t .part2)) (map (λ m. m .index) (t .part3)) (map (λ m. m .index) (t .part4))
   unfolding indices-right
   indices-are = whole-is (λ i. mem i (map (λ p. p .at) (placed-faces t))) (map (λ m. m .index) (t .part2)) (map (λ m. m .index) (t .part3)) (map (λ m. m .index) (t .part4))
-      ∙ three (same [] (map (λ m. m .index) (t .part2))) (same (map (λ m. m .index) (t .part2)) (map (λ m. m .index) (t .part3))) (same (map (λ m. m .index) (t .part2) ++ map (λ m. m .index) (t .part3)) (map (λ m. m .index) (t .part4)))
+      ∙ three (same [] (map (λ m. m .index) (t .part2))) (same (map (λ m. m .index) (t .part2)) (map (λ m. m .index) (t .part3)))
+      (same (map (λ m. m .index) (t .part2) ++ map (λ m. m .index) (t .part3)) (map (λ m. m .index) (t .part4)))
     where
       same : (others l : List ℕ) → (all (λ i. mem i (map (λ p. p .at) (placed-faces t))) l && ascending l && all (λ i. not (mem i others)) l) ≡ part-fits b (size-all (t .faces)) others l
       same others l = ap (λ (q : Bool). q && ascending l && all (λ i. not (mem i others)) l) (all-cong _ _ l (λ i h. starts-are v x b z t inside full i))
@@ -246,12 +262,16 @@ module _ {v x b z : List ℕ} (t : Transfer) (inside : FacesIn (t .faces) v x b 
 part-few : (b : List ℕ) (k : ℕ) (others l : List ℕ) → part-fits b k others l ≡ true → length l ≤ k
 part-few b k others l t =
     let two = and-left (all (starts-at b k) l && ascending l) _ t in
-    distinct-few l k (ascending-distinct l (and-right (all (starts-at b k) l) _ two)) (λ i h. ltb-true i k (and-left (ltb i k) _ (all-in (starts-at b k) l (and-left (all (starts-at b k) l) _ two) i h)))
+    distinct-few l k (ascending-distinct l (and-right (all (starts-at b k) l) _ two))
+    (λ i h. ltb-true i k (and-left (ltb i k) _ (all-in (starts-at b k) l (and-left (all (starts-at b k) l) _ two) i h)))
 
 pub indices-few : (b : List ℕ) (k : ℕ) (l2 l3 l4 : List ℕ) → indices-fit b k l2 l3 l4 ≡ true → (length l2 ≤ k) × (length l3 ≤ k) × (length l4 ≤ k)
 indices-few b k l2 l3 l4 t =
-    let two = and-left (part-fits b k [] l2 && part-fits b k l2 l3) _ t in
-    (part-few b k [] l2 (and-left (part-fits b k [] l2) _ two), part-few b k l2 l3 (and-right (part-fits b k [] l2) _ two), part-few b k (l2 ++ l3) l4 (and-right (part-fits b k [] l2 && part-fits b k l2 l3) _ t))
+    let two = and-left (part-fits b k [] l2 && part-fits b k l2 l3) _ t in (
+      part-few b k [] l2 (and-left (part-fits b k [] l2) _ two),
+      part-few b k l2 l3 (and-right (part-fits b k [] l2) _ two),
+      part-few b k (l2 ++ l3) l4 (and-right (part-fits b k [] l2 && part-fits b k l2 l3) _ t),
+    )
 
 -- THE FUNCTION
 module _ (b i2 i3 i4 : List ℕ) (k c2 c3 c4 : ℕ) where

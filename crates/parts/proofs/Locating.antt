@@ -25,7 +25,8 @@ module _ (m keys : List ℕ) (c p : ℕ) (a : List ℕ) (len : length a ≡ 512)
   pub noted-none : place-in (value-at keys) c (column m 4 p) ≡ Nothing → Noted m keys c p a a
   noted-none e = record { size = len; hit = λ k r h q. absurd (place-nothing (value-at keys) c (column m 4 p) e r h q); other = λ d k. refl }
 
-  pub noted-found : {r : Place} → 2 ≤ column m 3 p → Ascending c (value-at keys) → c ≤ 512 → ((r : ℕ) → r < c → index-at keys r < c) → place-in (value-at keys) c (column m 4 p) ≡ At r → Noted m keys c p a (set a (index-at keys (r .0)) p)
+  pub noted-found : {r : Place} → 2 ≤ column m 3 p → Ascending c (value-at keys) → c ≤ 512 → ((r : ℕ) → r < c → index-at keys r < c)
+      → place-in (value-at keys) c (column m 4 p) ≡ At r → Noted m keys c p a (set a (index-at keys (r .0)) p)
   noted-found {r} h up few below e =
       let w = place-at (value-at keys) c (column m 4 p) e in
       record {

@@ -27,11 +27,14 @@ pub follows-is : (a b : ℕ) → a < b → eqb (b - a) 1 ≡ eqb (suc a) b
 follows-is a b h = same-truth _ _ (λ t. eq-eqb (suc a) b (let e = eqb-true (b - a) 1 t in omega arith)) (λ t. eq-eqb (b - a) 1 (let e = eqb-true (suc a) b t in omega arith))
 
 -- the model's test
-consecutive-by : (s : ℕ → ℕ) (m : Part3) (ms : List Part3) → ((e : ℕ) → e < suc (length ms) → s e ≡ getD (map number3 (m ∷ ms)) e 0) → consecutive (m ∷ ms) ≡ all (λ e. eqb (suc (s e)) (s (e + 1))) (tab (λ e. e) (length ms))
+consecutive-by : (s : ℕ → ℕ) (m : Part3) (ms : List Part3) → ((e : ℕ) → e < suc (length ms) → s e ≡ getD (map number3 (m ∷ ms)) e 0)
+    → consecutive (m ∷ ms) ≡ all (λ e. eqb (suc (s e)) (s (e + 1))) (tab (λ e. e) (length ms))
 consecutive-by s m [] h = refl
 consecutive-by s m (n ∷ ms) h = both
     (ap (λ (a : ℕ). eqb (suc a) (n .number)) (sym (h 0 (omega arith))) ∙ ap (eqb (suc (s 0))) (sym (h 1 (omega arith)) ∙ ap s first))
-    (consecutive-by (λ e. s (suc e)) n ms (λ e l. h (suc e) (omega arith)) ∙ all-same _ _ (length ms) (λ i l. ap (λ (a : ℕ). eqb (suc (s (suc i))) (s a)) (shift i)) ∙ sym (all-index (λ e. eqb (suc (s e)) (s (e + 1))) suc (length ms)))
+    (consecutive-by (λ e. s (suc e)) n ms (λ e l. h (suc e) (omega arith))
+    ∙ all-same _ _ (length ms) (λ i l. ap (λ (a : ℕ). eqb (suc (s (suc i))) (s a)) (shift i))
+    ∙ sym (all-index (λ e. eqb (suc (s e)) (s (e + 1))) suc (length ms)))
   where
     first : 1 ≡ 0 + 1
     first = omega arith
@@ -44,7 +47,10 @@ consecutive-by s m (n ∷ ms) h = both
 
 pub consecutive-is : (numbers : List ℕ) (ms : List Part3) → take (length ms) numbers ≡ map number3 ms → consecutive ms ≡ all (follows-at numbers) (tab (λ e. e) (length ms - 1))
 consecutive-is numbers [] e = refl
-consecutive-is numbers (m ∷ ms) e = consecutive-by (λ e. getD numbers e 0) m ms (λ i h. sym (getD-take (suc (length ms)) numbers i 0 h) ∙ ap (λ (l : List ℕ). getD l i 0) e) ∙ ap (λ (n : ℕ). all (follows-at numbers) (tab (λ e. e) n)) less
+consecutive-is numbers (m ∷ ms) e =
+    consecutive-by (λ e. getD numbers e 0) m ms
+    (λ i h. sym (getD-take (suc (length ms)) numbers i 0 h) ∙ ap (λ (l : List ℕ). getD l i 0) e)
+    ∙ ap (λ (n : ℕ). all (follows-at numbers) (tab (λ e. e) n)) less
   where
     less : length ms ≡ suc (length ms) - 1
     less = omega arith

@@ -50,7 +50,8 @@ last true false g h r = refl
 last false false g h r = refl
 
 module _ {v x b z keys ranks q s : List ℕ} {at k : ℕ} {d : List ℕ} (w : Draft v x b z keys ranks q s at k d)
-    (t : Transfer) (inside : FacesIn (t .faces) v x b z) (full : is-hollow (t .faces) ≡ false) (darts : k ≡ size-all (t .faces)) {p : ℕ} (points : t .points ≡ points-in s at p) (vertices : (i : ℕ) → i < k → getD v i 0 < p)
+    (t : Transfer) (inside : FacesIn (t .faces) v x b z) (full : is-hollow (t .faces) ≡ false) (darts : k ≡ size-all (t .faces))
+    {p : ℕ} (points : t .points ≡ points-in s at p) (vertices : (i : ℕ) → i < k → getD v i 0 < p)
     (m : List ℕ) (ok : is-image rack m ≡ true) where
   new-at : (i : ℕ) → i < count-in d → dart-at (new-darts t) (column d 0 i) ≡ dart-in d i
   new-at i h = same-darts w t inside darts points vertices (column d 0 i) ∙ dart-place (dart-in d) (count-in d) i (drafts.sited w .ascends) h
@@ -81,25 +82,37 @@ module _ {v x b z keys ranks q s : List ℕ} {at k : ℕ} {d : List ℕ} (w : Dr
 pub entry-none : (ds : List Dart) (t : Transfer) (e : Part2) → labelled (e .label) ds ≡ no-dart → part2-right ds t e ≡ false
 unfolding part2-right no-dart
 entry-none ds t e found =
-    ap (λ (h : Dart). is-critical-with (t .from) (h .third) && eqb (length (face-from t (e .index))) (length (cycle (previous-in ds) (h .serial))) && all (λ p. points-meet ds t (p .0) (p .1)) (zip (face-from t (e .index)) (cycle (previous-in ds) (h .serial)))) found
+    ap
+    (λ (h : Dart). is-critical-with (t .from) (h .third) && eqb (length (face-from t (e .index)))
+    (length (cycle (previous-in ds) (h .serial))) && all (λ p. points-meet ds t (p .0) (p .1))
+    (zip (face-from t (e .index)) (cycle (previous-in ds) (h .serial)))) found
 
 -- FACES by their least dart
 module _ {m : List ℕ} (site : Sited m) where
   self : (x : ℕ) → x < count-in m → In x (cycle (column m 1) x)
   unfolding cycle
-  self x h = face-self (column m 1) (places (count-in m)) (within-places (site .linked .next-within)) (apart-places (site .linked .next-apart)) (few-places (site .linked .few)) x (in-places (count-in m) x h)
+  self x h =
+      face-self (column m 1) (places (count-in m)) (within-places (site .linked .next-within))
+      (apart-places (site .linked .next-apart)) (few-places (site .linked .few)) x (in-places (count-in m) x h)
 
   stays : (x y : ℕ) → x < count-in m → In y (cycle (column m 1) x) → y < count-in m
   unfolding cycle
-  stays x y h k = places-below (count-in m) y (face-stays (column m 1) (places (count-in m)) (within-places (site .linked .next-within)) (apart-places (site .linked .next-apart)) (few-places (site .linked .few)) x y (in-places (count-in m) x h) k)
+  stays x y h k =
+      places-below (count-in m) y
+      (face-stays (column m 1) (places (count-in m)) (within-places (site .linked .next-within))
+      (apart-places (site .linked .next-apart)) (few-places (site .linked .few)) x y (in-places (count-in m) x h) k)
 
   along : (x y z : ℕ) → x < count-in m → In y (cycle (column m 1) x) → In z (cycle (column m 1) y) → In z (cycle (column m 1) x)
   unfolding cycle
-  along x y z h = face-trans (column m 1) (places (count-in m)) (within-places (site .linked .next-within)) (apart-places (site .linked .next-apart)) (few-places (site .linked .few)) x y z (in-places (count-in m) x h)
+  along x y z h =
+      face-trans (column m 1) (places (count-in m)) (within-places (site .linked .next-within))
+      (apart-places (site .linked .next-apart)) (few-places (site .linked .few)) x y z (in-places (count-in m) x h)
 
   back : (x y : ℕ) → x < count-in m → In y (cycle (column m 1) x) → In x (cycle (column m 1) y)
   unfolding cycle
-  back x y h = face-sym (column m 1) (places (count-in m)) (within-places (site .linked .next-within)) (apart-places (site .linked .next-apart)) (few-places (site .linked .few)) x y (in-places (count-in m) x h)
+  back x y h =
+      face-sym (column m 1) (places (count-in m)) (within-places (site .linked .next-within))
+      (apart-places (site .linked .next-apart)) (few-places (site .linked .few)) x y (in-places (count-in m) x h)
 
   lowest : (x : ℕ) → x < count-in m → In (least (cycle (column m 1) x)) (cycle (column m 1) x)
   lowest x h = least-among (cycle (column m 1) x) x (self x h)
@@ -139,7 +152,10 @@ by-entries : (passes right : ℕ → Bool) (key : ℕ → ℕ) (c : ℕ) → ((e
     → all passes (tab (λ e. e) c) ≡ (all right (tab (λ e. e) c) && distinct (tab key c))
 by-entries passes right key c one two three = same-truth _ _
     (λ t. and-intro (tab-all right (λ e. e) c (λ e h. one e h (all-tab passes (λ e. e) c t e h))) (tab-once key c (λ i j hi hj q. differ t i j hi hj q)))
-    (λ t. tab-all passes (λ e. e) c (three (λ e h. all-tab right (λ e. e) c (and-left (all right (tab (λ e. e) c)) (distinct (tab key c)) t) e h) (λ d e l h q. let r = once-tab key c (and-right (all right (tab (λ e. e) c)) (distinct (tab key c)) t) d e (omega arith) h q in omega (arith, r, l))))
+    (λ t. tab-all passes (λ e. e) c
+    (three (λ e h. all-tab right (λ e. e) c (and-left (all right (tab (λ e. e) c)) (distinct (tab key c)) t) e h)
+    (λ d e l h q. let r = once-tab key c (and-right (all right (tab (λ e. e) c)) (distinct (tab key c)) t) d e (omega arith) h q in
+    omega (arith, r, l))))
   where
     differ : all passes (tab (λ e. e) c) ≡ true → (i j : ℕ) → i < c → j < c → key i ≡ key j → i ≡ j
     differ t i j hi hj q = ⊎-elim
@@ -163,7 +179,8 @@ entries-tab t = sym (tab-list no-entry (t .part2) (entry t) (λ p h. refl))
 
 module _ (m d ranks z codes places indices : List ℕ) (t : Transfer) (ok : is-image rack m ≡ true)
     (codes-are : take (length (t .part2)) codes ≡ map code2 (t .part2)) (located : Located m codes (length (t .part2)) (count-in m) places)
-    (each : (e y : ℕ) → e < length (t .part2) → y < count-in m → labelled (entry t e .label) (darts-in m) ≡ dart-in m y → part2-right (darts-in m) t (entry t e) ≡ entry-right m d ranks (t .from) y (getD indices e 0) (face-size z indices e)) where
+    (each : (e y : ℕ) → e < length (t .part2) → y < count-in m → labelled (entry t e .label) (darts-in m) ≡ dart-in m y
+    → part2-right (darts-in m) t (entry t e) ≡ entry-right m d ranks (t .from) y (getD indices e 0) (face-size z indices e)) where
   abbrev pub right : ℕ → Bool
   right e = part2-right (darts-in m) t (entry t e)
 
@@ -186,13 +203,19 @@ module _ (m d ranks z codes places indices : List ℕ) (t : Transfer) (ok : is-i
     where
       go : LocatedAt m (getD codes e 0) (count-in m) (getD places e 0) → Found e ⊎ ((count-in m ≤ getD places e 0) × (right e ≡ false))
       go (inl f) = inl (f .0, labelled-at (image-passed m ok) (entry t e .label) (getD places e 0) (f .0) (f .1) (f .2 ∙ code-of e h))
-      go (inr f) = inr ((let few = sited rack m ok .linked .few in let y = f .0 in omega (arith, few, y)), entry-none (darts-in m) t (entry t e) (labelled-none (image-passed m ok) (entry t e .label) (λ p l k q. f .1 p l k (q ∙ sym (code-of e h)))))
+      go (inr f) =
+          inr (
+            (let few = sited rack m ok .linked .few in let y = f .0 in omega (arith, few, y)),
+            entry-none (darts-in m) t (entry t e)
+                (labelled-none (image-passed m ok) (entry t e .label) (λ p l k q. f .1 p l k (q ∙ sym (code-of e h)))),
+          )
 
   key-is : (e : ℕ) → Found e → key e ≡ column m 0 (least (cycle (column m 1) (getD places e 0)))
   key-is e f = ap (λ (h : Dart). least (cycle (next-in (darts-in m)) (h .serial))) (f .1) ∙ least-serial (sited rack m ok) (getD places e 0) (f .0)
 
   pub parts-of : (e : ℕ) → passes e ≡ true
-      → (ltb (getD places e 0) (count-in m) ≡ true) × (clear-of m places e (getD places e 0) ≡ true) × (entry-right m d ranks (t .from) (getD places e 0) (getD indices e 0) (face-size z indices e) ≡ true)
+      → (ltb (getD places e 0) (count-in m) ≡ true) × (clear-of m places e (getD places e 0) ≡ true)
+      × (entry-right m d ranks (t .from) (getD places e 0) (getD indices e 0) (face-size z indices e) ≡ true)
   parts-of e q = three-yes (ltb (getD places e 0) (count-in m)) (clear-of m places e (getD places e 0)) (entry-right m d ranks (t .from) (getD places e 0) (getD indices e 0) (face-size z indices e)) q
 
   pub passes-found : (e : ℕ) → e < length (t .part2) → passes e ≡ true → Found e
@@ -218,17 +241,24 @@ module _ (m d ranks z codes places indices : List ℕ) (t : Transfer) (ok : is-i
       let g = passes-found e h pe in
       let site = sited rack m ok in
       let low = one-place (site .ascends) (low-below site (getD places d 0) (f .0)) (low-below site (getD places e 0) (g .0)) (sym (key-is d f) ∙ q ∙ key-is e g) in
-      let clear : not (mem (getD places e 0) (cycle (column m 1) (getD places d 0))) ≡ true = all-tab (λ d. not (mem (getD places e 0) (cycle (column m 1) (getD places d 0)))) (λ d. d) e (parts-of e pe .1) d l in
+      let clear : not (mem (getD places e 0) (cycle (column m 1) (getD places d 0))) ≡ true =
+      all-tab (λ d. not (mem (getD places e 0) (cycle (column m 1) (getD places d 0)))) (λ d. d) e (parts-of e pe .1) d l
+      in
       true≢false (sym clear ∙ ap not (least-same site (getD places d 0) (getD places e 0) (f .0) (g .0) low))
 
   three : ((e : ℕ) → e < length (t .part2) → right e ≡ true) → ((d e : ℕ) → d < e → e < length (t .part2) → key d ≡ key e → ⊥) → (e : ℕ) → e < length (t .part2) → passes e ≡ true
   three rights apart e h =
       let g = right-found e h (rights e h) in
-      yes-three (lt-ltb (getD places e 0) (count-in m) (g .0)) (tab-all (λ d. not (mem (getD places e 0) (cycle (column m 1) (getD places d 0)))) (λ d. d) e (λ d l. clear d l g)) (sym (each e (getD places e 0) h (g .0) (g .1)) ∙ rights e h)
+      yes-three (lt-ltb (getD places e 0) (count-in m) (g .0))
+      (tab-all (λ d. not (mem (getD places e 0) (cycle (column m 1) (getD places d 0)))) (λ d. d) e (λ d l. clear d l g))
+      (sym (each e (getD places e 0) h (g .0) (g .1)) ∙ rights e h)
     where
       clear : (d : ℕ) → d < e → Found e → not (mem (getD places e 0) (cycle (column m 1) (getD places d 0))) ≡ true
       clear d l g = by-cases (mem (getD places e 0) (cycle (column m 1) (getD places d 0)))
-          (λ q. let f = right-found d (omega arith) (rights d (omega arith)) in absurd (apart d e l h (key-is d f ∙ ap (column m 0) (same-least (sited rack m ok) (getD places d 0) (getD places e 0) (f .0) (g .0) q) ∙ sym (key-is e g))))
+          (λ q. let f = right-found d (omega arith) (rights d (omega arith)) in absurd
+          (apart d e l h
+          (key-is d f ∙ ap (column m 0) (same-least (sited rack m ok) (getD places d 0) (getD places e 0) (f .0) (g .0) q)
+          ∙ sym (key-is e g))))
           (λ q. ap not q)
 
   -- all entries pass exactly if the model says yes
@@ -237,7 +267,10 @@ module _ (m d ranks z codes places indices : List ℕ) (t : Transfer) (ok : is-i
   part2-told =
       by-entries passes right key (length (t .part2)) one two three
       ∙ both (sym (ap (all (part2-right (darts-in m) t)) (entries-tab t) ∙ all-index (part2-right (darts-in m) t) (entry t) (length (t .part2))))
-      (ap distinct (sym (ap (map (λ e. least (cycle (next-in (darts-in m)) (labelled (e .label) (darts-in m) .serial)))) (entries-tab t) ∙ map-tab (λ e. least (cycle (next-in (darts-in m)) (labelled (e .label) (darts-in m) .serial))) (entry t) (length (t .part2)))))
+      (ap distinct
+      (sym
+      (ap (map (λ e. least (cycle (next-in (darts-in m)) (labelled (e .label) (darts-in m) .serial)))) (entries-tab t)
+      ∙ map-tab (λ e. least (cycle (next-in (darts-in m)) (labelled (e .label) (darts-in m) .serial))) (entry t) (length (t .part2)))))
     where
       both : {a b c g : Bool} → a ≡ b → c ≡ g → (a && c) ≡ (b && g)
       both p q = rw (p, q) refl

@@ -42,10 +42,18 @@ finite-words : (m : List ℕ) (i : ℕ) (p : Point) → finite p ≡ true → co
 unfolding finite
 finite-words m i p e ex ey ez =
     let two = and-left (finite-bits (p .x) && finite-bits (p .y)) _ e in
-    record { on-x = ap finite-bits ex ∙ and-left (finite-bits (p .x)) _ two; on-y = ap finite-bits ey ∙ and-right (finite-bits (p .x)) _ two; on-z = ap finite-bits ez ∙ and-right (finite-bits (p .x) && finite-bits (p .y)) _ e }
+    record {
+      on-x =
+          ap finite-bits ex ∙ and-left (finite-bits (p .x)) _ two;
+      on-y = ap finite-bits ey
+          ∙ and-right (finite-bits (p .x)) _ two;
+      on-z = ap finite-bits ez
+          ∙ and-right (finite-bits (p .x) && finite-bits (p .y)) _ e;
+    }
 
 -- the met face by what each dart of a new face meets
-met-tab : (m : List ℕ) (ok : is-image rack m ≡ true) (y n : ℕ) → y < count-in m → n ≡ length (cycle (column m 1) y) → cycle (previous-in (darts-in m)) (column m 0 y) ≡ tab (λ j. column m 0 (met-at (cycle (column m 1) y) n j)) n
+met-tab : (m : List ℕ) (ok : is-image rack m ≡ true) (y n : ℕ) → y < count-in m → n ≡ length (cycle (column m 1) y)
+    → cycle (previous-in (darts-in m)) (column m 0 y) ≡ tab (λ j. column m 0 (met-at (cycle (column m 1) y) n j)) n
 met-tab m ok y n hy e =
     met-face m ok y hy ∙ tab-cong _ _ (length (cycle (column m 1) y)) (λ j l. ap (column m 0) (sym (met-is (sited rack m ok .linked) hy j l)))
     ∙ ap (λ (c : ℕ). tab (λ j. column m 0 (met-at (cycle (column m 1) y) c j)) c) (sym e)
@@ -57,7 +65,8 @@ zipped : {f g f′ g′ : List ℕ} → f ≡ f′ → g ≡ g′ → zip f g �
 zipped p q = rw (p, q) refl
 
 module _ {v x b z keys ranks q s : List ℕ} {at k : ℕ} {d : List ℕ} (w : Draft v x b z keys ranks q s at k d)
-    (t : Transfer) (inside : FacesIn (t .faces) v x b z) (full : is-hollow (t .faces) ≡ false) (darts : k ≡ size-all (t .faces)) {p : ℕ} (points : t .points ≡ points-in s at p) (vertices : (i : ℕ) → i < k → getD v i 0 < p)
+    (t : Transfer) (inside : FacesIn (t .faces) v x b z) (full : is-hollow (t .faces) ≡ false) (darts : k ≡ size-all (t .faces))
+    {p : ℕ} (points : t .points ≡ points-in s at p) (vertices : (i : ℕ) → i < k → getD v i 0 < p)
     (m : List ℕ) (ok : is-image rack m ≡ true) where
   new-finite : all finite (t .points) ≡ true → (i : ℕ) → i < k → FiniteAt d i
   unfolding points-in
@@ -90,7 +99,9 @@ module _ {v x b z keys ranks q s : List ℕ} {at k : ℕ} {d : List ℕ} (w : Dr
       ∙ and-left (part-fits b (size-all (t .faces)) [] two) (part-fits b (size-all (t .faces)) two three)
       (and-left (part-fits b (size-all (t .faces)) [] two && part-fits b (size-all (t .faces)) two three) (part-fits b (size-all (t .faces)) (two ++ three) four) whole)
 
-  module _ (indices : List ℕ) (indices-are : take (length (t .part2)) indices ≡ map index2 (t .part2)) (long : length indices ≡ 512) (few : length (t .part2) ≤ 512) (fits : part-fits b k [] (take (length (t .part2)) indices) ≡ true) where
+  module _ (indices : List ℕ) (indices-are : take (length (t .part2)) indices ≡ map index2 (t .part2))
+      (long : length indices ≡ 512) (few : length (t .part2) ≤ 512)
+      (fits : part-fits b k [] (take (length (t .part2)) indices) ≡ true) where
     inside-it : length (t .part2) ≤ length indices
     inside-it = omega (arith, long, few)
 
@@ -100,7 +111,8 @@ module _ {v x b z keys ranks q s : List ℕ} {at k : ℕ} {d : List ℕ} (w : Dr
         let start = assembled.start (w .segs) (w .few) [] indices (length (t .part2)) inside-it fits e h in
         let r = w .segs .end-within (getD indices e 0) below in omega (arith, start, r)
 
-    pub sewable : {places : List ℕ} → Meetable m (count-in m) d k ranks → t .from ≤ 15 → length z ≡ 512 → length places ≡ 512 → Sewable m d ranks z places indices (count-in m) k (t .from) (length (t .part2))
+    pub sewable : {places : List ℕ} → Meetable m (count-in m) d k ranks → t .from ≤ 15 → length z ≡ 512 → length places ≡ 512
+        → Sewable m d ranks z places indices (count-in m) k (t .from) (length (t .part2))
     sewable o small nz np = record {
       beside = o;
       sender = small;
@@ -113,14 +125,23 @@ module _ {v x b z keys ranks q s : List ℕ} {at k : ℕ} {d : List ℕ} (w : Dr
     }
 
     index-of : (e : ℕ) → e < length (t .part2) → entry t e .index ≡ getD indices e 0
-    index-of e h = sym (sym (getD-take (length (t .part2)) indices e 0 h) ∙ ap (λ (l : List ℕ). getD l e 0) (indices-are ∙ ap (map index2) (entries-tab t) ∙ map-tab index2 (entry t) (length (t .part2)))
+    index-of e h =
+        sym
+        (sym (getD-take (length (t .part2)) indices e 0 h)
+        ∙ ap (λ (l : List ℕ). getD l e 0)
+        (indices-are ∙ ap (map index2) (entries-tab t) ∙ map-tab index2 (entry t) (length (t .part2)))
         ∙ getD-tab (λ e. index2 (entry t e)) (length (t .part2)) e 0 h)
 
-    each-entry : (e y : ℕ) → e < length (t .part2) → y < count-in m → labelled (entry t e .label) (darts-in m) ≡ dart-in m y → part2-right (darts-in m) t (entry t e) ≡ entry-right m d ranks (t .from) y (getD indices e 0) (face-size z indices e)
+    each-entry : (e y : ℕ) → e < length (t .part2) → y < count-in m → labelled (entry t e .label) (darts-in m) ≡ dart-in m y
+        → part2-right (darts-in m) t (entry t e) ≡ entry-right m d ranks (t .from) y (getD indices e 0) (face-size z indices e)
     each-entry e y h hy found =
-        entry-is w t inside full darts points vertices m ok (entry t e) (getD indices e 0) y (index-of e h) (assembled.below (w .segs) (w .few) [] indices (length (t .part2)) inside-it fits e h) (assembled.start (w .segs) (w .few) [] indices (length (t .part2)) inside-it fits e h) (within e h) hy found
+        entry-is w t inside full darts points vertices m ok (entry t e) (getD indices e 0) y (index-of e h)
+        (assembled.below (w .segs) (w .few) [] indices (length (t .part2)) inside-it fits e h)
+        (assembled.start (w .segs) (w .few) [] indices (length (t .part2)) inside-it fits e h) (within e h) hy found
 
-    module _ {codes places kinds kinds′ links links′ : List ℕ} {r : Bool} (codes-are : take (length (t .part2)) codes ≡ map code2 (t .part2)) (located : Located m codes (length (t .part2)) (count-in m) places)
+    module _ {codes places kinds kinds′ links links′ : List ℕ} {r : Bool}
+        (codes-are : take (length (t .part2)) codes ≡ map code2 (t .part2))
+        (located : Located m codes (length (t .part2)) (count-in m) places)
         (told : Part2Told m d ranks z places indices (count-in m) (t .from) (length (t .part2)) kinds kinds′ links links′ r) where
       -- the answer is the model's
       pub part2-answer : r ≡ (all (part2-right (darts-in m) t) (t .part2) && part2-apart (darts-in m) (t .part2))
@@ -133,9 +154,17 @@ module _ {v x b z keys ranks q s : List ℕ} {at k : ℕ} {d : List ℕ} (w : Dr
       part2-linked u e h =
           let passed = all-tab (passes-at m d ranks z places indices (count-in m) (t .from)) (λ e. e) (length (t .part2)) (sym (told .said) ∙ u) e h in
           let found = passes-found m d ranks z codes places indices t ok codes-are located each-entry e h passed in
-          let size = eqb-true (face-size z indices e) (length (cycle (column m 1) (getD places e 0))) (same-size m d ranks (t .from) (getD places e 0) (getD indices e 0) (face-size z indices e) (parts-of m d ranks z codes places indices t ok codes-are located each-entry e passed .2)) in
+          let size =
+          eqb-true (face-size z indices e) (length (cycle (column m 1) (getD places e 0)))
+          (same-size m d ranks (t .from) (getD places e 0) (getD indices e 0) (face-size z indices e)
+          (parts-of m d ranks z codes places indices t ok codes-are located each-entry e passed .2))
+          in
           ap sew-both
-          (zipped (ap (face-from t) (index-of e h) ∙ face-is v x b z t inside full (getD indices e 0) (let l = assembled.below (w .segs) (w .few) [] indices (length (t .part2)) inside-it fits e h in omega (arith, l, darts)) (assembled.start (w .segs) (w .few) [] indices (length (t .part2)) inside-it fits e h))
+          (zipped
+          (ap (face-from t) (index-of e h)
+          ∙ face-is v x b z t inside full (getD indices e 0)
+          (let l = assembled.below (w .segs) (w .few) [] indices (length (t .part2)) inside-it fits e h in omega (arith, l, darts))
+          (assembled.start (w .segs) (w .few) [] indices (length (t .part2)) inside-it fits e h))
           (ap (λ (h : Dart). cycle (previous-in (darts-in m)) (h .serial)) (found .1) ∙ met-tab m ok (getD places e 0) (face-size z indices e) (found .0) size
           ∙ tab-cong _ _ (face-size z indices e) (λ j l. ap (column m 0) (sym (told .links-are u .inside e h j l))))
           ∙ zip-tab (λ j. getD x (getD indices e 0 + j) 0) (λ j. column m 0 (getD links′ (getD indices e 0 + j) 0)) (face-size z indices e))

@@ -35,7 +35,8 @@ use Rattle.inbox.proofs.Passing.{no-label, took-label, size-there, part4-pass}
 use Rattle.parts.specs.Entries.{EntriesRead}
 
 -- an array has the numbers f of the entries so far
-front-more : {A : Type 0} (f : A → ℕ) (items : List A) (m : A) (a : List ℕ) (i y : ℕ) → length a ≡ most → i < most → take i a ≡ map f items → y ≡ f m → take (i + 1) (set a i y) ≡ map f (items ++ m ∷ [])
+front-more : {A : Type 0} (f : A → ℕ) (items : List A) (m : A) (a : List ℕ) (i y : ℕ) → length a ≡ most → i < most → take i a ≡ map f items
+    → y ≡ f m → take (i + 1) (set a i y) ≡ map f (items ++ m ∷ [])
 front-more f items m a i y n h e q = ap (λ (k : ℕ). take k (set a i y)) (add-one i) ∙ take-suc-set a i y (omega arith) ∙ ap (λ (l : List ℕ). l ++ y ∷ []) e
     ∙ ap (λ (c : ℕ). map f items ++ c ∷ []) q ∙ sym (map-append f items (m ∷ []))
 
@@ -122,24 +123,33 @@ labels-are n t = rw (t .value) refl
 part4-took : (fs : List (List FaceDart)) {s : List ℕ} {at p index other q next : ℕ} {ls : List Label} → Took (such-that group (λ i. ltb i (size-all fs))) s at index p → Took (at-most 15) s p other q
     → Took (times (size-at index fs) label) s q ls next → Took (part4 fs) s at (record { index = index; other = other; labels = ls }) next
 unfolding part4
-part4-took fs {index = index} a b c = as-took _ _ _ (pair-took (such-that group (λ i. ltb i (size-all fs))) (λ i. at-most 15 ⊕ times (size-at i fs) label) a (both-took (at-most 15) (times (size-at index fs) label) b c))
+part4-took fs {index =
+    index} a b c = as-took _ _ _ (pair-took (such-that group (λ i. ltb i (size-all fs)))
+    (λ i. at-most 15 ⊕ times (size-at i fs) label) a (both-took (at-most 15) (times (size-at index fs) label) b c))
 
 pub entry-no : (fs : List (List FaceDart)) {z s : List ℕ} {at : ℕ} {r : Entry} → r .ok ≡ false → Passes (part4 fs) s at Bad → EntryRead fs z s at r
 entry-no fs e d = record { no = λ q. d .said; yes = λ q. absurd (true≢false (sym q ∙ e)) }
 
-module _ (fs : List (List FaceDart)) {s z : List ℕ} {at p index other labels darts n : ℕ} (sized : Sized fs darts z) (first : Took group s at index p) (h : index < darts) (second : Took (at-most 15) s p other labels) (same : n ≡ getD z index 0) where
+module _ (fs : List (List FaceDart)) {s z : List ℕ} {at p index other labels darts n : ℕ} (sized : Sized fs darts z)
+    (first : Took group s at index p) (h : index < darts) (second : Took (at-most 15) s p other labels)
+    (same : n ≡ getD z index 0) where
   pub entry-half : {r : Entry} {a : Answer} → r .ok ≡ false → a ≡ Bad → Passes (times n label) s labels a → EntryRead fs z s at r
   entry-half {r} {a} e q d = entry-no fs e (part4-pass fs first sized h second same (subst (λ (b : Answer). Passes (times n label) s labels b) q d))
 
-  pub entry-yes : {a : Answer} {u next : ℕ} → a ≡ Value u next → Passes (times n label) s labels a → EntryRead fs z s at (record { ok = true; index = index; other = other; labels = labels; next = next })
+  pub entry-yes : {a : Answer} {u next : ℕ} → a ≡ Value u next → Passes (times n label) s labels a
+      → EntryRead fs z s at (record { ok = true; index = index; other = other; labels = labels; next = next })
   entry-yes {a} {u} {next} q d = record { no = λ e. absurd (true≢false e); yes = λ e. go (subst (PassSaid (times n label) s labels) q (d .said)) }
     where
       go : PassSaid (times n label) s labels (Value u next) → EntryThere fs z s at index other labels next
       go d =
           let t : Took (times (getD z index 0) label) s labels (d .0) next = subst (λ (k : ℕ). Took (times k label) s labels (d .0) next) same (d .1) in
           let l = labels-are (getD z index 0) t in
-          let t′ : Took (times (getD z index 0) label) s labels (labels-at s labels (getD z index 0)) next = subst (λ (ls : List Label). Took (times (getD z index 0) label) s labels ls next) (sym l) t in
-          let t″ : Took (times (size-at index fs) label) s labels (labels-at s labels (getD z index 0)) next = subst (λ (k : ℕ). Took (times k label) s labels (labels-at s labels (getD z index 0)) next) (size-there sized h) t′ in
+          let t′ : Took (times (getD z index 0) label) s labels (labels-at s labels (getD z index 0)) next =
+          subst (λ (ls : List Label). Took (times (getD z index 0) label) s labels ls next) (sym l) t
+          in
+          let t″ : Took (times (size-at index fs) label) s labels (labels-at s labels (getD z index 0)) next =
+          subst (λ (k : ℕ). Took (times k label) s labels (labels-at s labels (getD z index 0)) next) (size-there sized h) t′
+          in
           record {
             small = at-most-bound 15 _ other _ (second .value);
             there = record { past = next; took = t′ };
@@ -157,7 +167,16 @@ pub record Reading4 (fs : List (List FaceDart)) (z s : List ℕ) (at count : ℕ
   pub there : (e : ℕ) → e < i → LabelsThere s (getD places e 0) (getD z (getD indices e 0) 0)
 
 pub reading4-start : (fs : List (List FaceDart)) (z : List ℕ) {s : List ℕ} (at count : ℕ) (indices others places : List ℕ) → at ≤ length s → Reading4 fs z s at count indices others places 0 at
-reading4-start fs z at count indices others places h = record { i-le = omega arith; items = []; so-far = so-far-start (part4 fs) at h; read = refl; items-are = refl; small = λ e l. absurd (omega arith); there = λ e l. absurd (omega arith) }
+reading4-start fs z at count indices others places h =
+    record {
+      i-le = omega arith;
+      items = [];
+      so-far = so-far-start (part4 fs) at h;
+      read = refl;
+      items-are = refl;
+      small = λ e l. absurd (omega arith);
+      there = λ e l. absurd (omega arith);
+    }
 
 module _ (fs : List (List FaceDart)) {z s : List ℕ} {at count : ℕ} {indices others places : List ℕ} {i p : ℕ} (w : Reading4 fs z s at count indices others places i p) where
   pub reading4-more : {index other labels next : ℕ} → i < count → i < length indices → i < length others → i < length places → EntryThere fs z s p index other labels next
@@ -167,7 +186,9 @@ module _ (fs : List (List FaceDart)) {z s : List ℕ} {at count : ℕ} {indices 
     items = w .items ++ entry ∷ [];
     so-far = so-far-more (part4 fs) (w .so-far) (t .took);
     read = let n = w .read in omega (arith, length-append (w .items) (entry ∷ []));
-    items-are = ap (λ (l : List Part4). l ++ entry ∷ []) (w .items-are ∙ tab-cong _ _ i (λ e l. sym (entry-same e l))) ∙ ap (λ (m : Part4). tab now i ++ m ∷ []) (sym entry-new) ∙ tab-more now i ∙ ap (tab now) (sym (add-one i));
+    items-are =
+        ap (λ (l : List Part4). l ++ entry ∷ []) (w .items-are ∙ tab-cong _ _ i (λ e l. sym (entry-same e l)))
+        ∙ ap (λ (m : Part4). tab now i ++ m ∷ []) (sym entry-new) ∙ tab-more now i ∙ ap (tab now) (sym (add-one i));
     small = λ e l. ⊎-elim (λ (q : e ≡ i). rw (ap (λ (d : ℕ). getD (set others i other) d 0) q ∙ other-new) (t .small)) (λ (q : e < i). rw (kept others other e q) (w .small e q)) (last-or-below l);
     there = λ e l. ⊎-elim
         (λ (q : e ≡ i). rw (q, place-new, index-new) (t .there))

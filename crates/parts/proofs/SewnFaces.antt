@@ -131,5 +131,7 @@ pub entered-said : {m d ranks : List ℕ} (z places indices : List ℕ) {n from 
 entered-said {m} {d} {ranks} z places indices {n} {from} e w v =
     v .said ∙ ap (λ (b : Bool). ltb (getD places e 0) n && b && entry-right m d ranks from (getD places e 0) (getD indices e 0) (face-size z indices e)) (seen-is w (getD places e 0))
 
-pub part2-no : {m d ranks z places indices : List ℕ} {n from c : ℕ} {kinds kinds′ links links′ : List ℕ} → false ≡ all (passes-at m d ranks z places indices n from) (tab (λ e. e) c) → Part2Told m d ranks z places indices n from c kinds kinds′ links links′ false
+pub part2-no : {m d ranks z places indices : List ℕ} {n from c : ℕ} {kinds kinds′ links links′ : List ℕ}
+    → false ≡ all (passes-at m d ranks z places indices n from) (tab (λ e. e) c)
+    → Part2Told m d ranks z places indices n from c kinds kinds′ links links′ false
 part2-no e = record { said = e; kinds-are = λ t. absurd (true≢false (sym t)); links-are = λ t. absurd (true≢false (sym t)) }

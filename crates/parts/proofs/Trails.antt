@@ -106,7 +106,9 @@ met-below {n} {size} {trail} j l t = ⊎-elim
 
 -- what meet_at asks
 abbrev Ready : List ℕ → List ℕ → ℕ → ℕ → Type 0
-Ready m d p w = ((length m ≡ words) × (length d ≡ words) × (p < room) × (w < room) × (column d 1 p < room) × (column m 1 w < room)) × (FiniteAt d p × FiniteAt d (column d 1 p) × FiniteAt m w × FiniteAt m (column m 1 w))
+Ready m d p w =
+    ((length m ≡ words) × (length d ≡ words) × (p < room) × (w < room) × (column d 1 p < room) × (column m 1 w < room))
+    × (FiniteAt d p × FiniteAt d (column d 1 p) × FiniteAt m w × FiniteAt m (column m 1 w))
 
 module _ {m d ranks : List ℕ} {n k : ℕ} (o : Meetable m n d k ranks) (at : ℕ) {size j : ℕ} {trail : List ℕ} (fits : at + size ≤ k) (l : j < size) (t : Trailed n size trail) where
   pub ready : {w : ℕ} → w ≡ met-at trail size j → Ready m d (getD ranks (at + j) 0) w
@@ -117,8 +119,17 @@ module _ {m d ranks : List ℕ} {n k : ℕ} (o : Meetable m n d k ranks) (at : �
       let np = o .new-within p hp in
       let nw = o .linked .next-within w hw in
       let few = o .few in
-      let many = o .linked .few in
-      ((o .linked .size, o .draft-size, omega (arith, hp, few), omega (arith, hw, many), omega (arith, np, few), omega (arith, nw, many)), (o .new-finite p hp, o .new-finite (column d 1 p) np, o .finite w hw, o .finite (column m 1 w) nw))
+      let many = o .linked .few in (
+        (
+          o .linked .size,
+          o .draft-size,
+          omega (arith, hp, few),
+          omega (arith, hw, many),
+          omega (arith, np, few),
+          omega (arith, nw, many),
+        ),
+        (o .new-finite p hp, o .new-finite (column d 1 p) np, o .finite w hw, o .finite (column m 1 w) nw),
+      )
 
 pub meets-told : (m d ranks : List ℕ) (at size j : ℕ) (trail : List ℕ) {w : ℕ} {r : Bool} → w ≡ met-at trail size j → r ≡ meet-at m d (getD ranks (at + j) 0) w → r ≡ meets-at m d ranks at size trail j
 meets-told m d ranks at size j trail e q = q ∙ ap (meet-at m d (getD ranks (at + j) 0)) e
@@ -140,12 +151,21 @@ module _ (m d ranks : List ℕ) (from y at size : ℕ) {trail : List ℕ} where
   not-critical h e ne = record { len = h; said = first-no _ _ _ (ne-eqb (column m 3 y) (2 + 4 * from) (λ s. ne (e ∙ s))); front = λ t. absurd (true≢false (sym t)) }
 
   pub not-equal : Walked m y size trail false → EntryRight m d ranks from y at size trail false
-  not-equal w = record { len = w .len; said = second-no (eqb (column m 3 y) (2 + 4 * from)) (eqb size (length (cycle (column m 1) y))) (all (meets-at m d ranks at size (cycle (column m 1) y)) (tab (λ j. j) size)) (sym (w .said)); front = λ t. absurd (true≢false (sym t)) }
+  not-equal w =
+      record {
+        len = w .len;
+        said = second-no (eqb (column m 3 y) (2 + 4 * from)) (eqb size (length (cycle (column m 1) y)))
+            (all (meets-at m d ranks at size (cycle (column m 1) y)) (tab (λ j. j) size)) (sym (w .said));
+        front = λ t. absurd (true≢false (sym t));
+      }
 
-  pub entry-told : {v : ℕ} {r : Bool} → v ≡ column m 3 y → v ≡ 2 + 4 * from → Walked m y size trail true → r ≡ all (meets-at m d ranks at size trail) (tab (λ j. j) size) → EntryRight m d ranks from y at size trail r
+  pub entry-told : {v : ℕ} {r : Bool} → v ≡ column m 3 y → v ≡ 2 + 4 * from → Walked m y size trail true
+      → r ≡ all (meets-at m d ranks at size trail) (tab (λ j. j) size) → EntryRight m d ranks from y at size trail r
   entry-told e c w q = record {
     len = w .len;
-    said = both-yes _ _ _ (eq-eqb (column m 3 y) (2 + 4 * from) (sym e ∙ c)) (sym (w .said)) (q ∙ all-same _ _ size (λ j h. ap (meet-at m d (getD ranks (at + j) 0)) (met-same trail (cycle (column m 1) y) size j h one)));
+    said =
+        both-yes _ _ _ (eq-eqb (column m 3 y) (2 + 4 * from) (sym e ∙ c)) (sym (w .said))
+        (q ∙ all-same _ _ size (λ j h. ap (meet-at m d (getD ranks (at + j) 0)) (met-same trail (cycle (column m 1) y) size j h one)));
     front = λ t. w .front refl;
   }
     where

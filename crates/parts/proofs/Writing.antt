@@ -46,7 +46,8 @@ over-all {at} {j} {n} {f} {a} {a′} w h k = let e : j ≡ n = omega arith in rw
 pub faced-none : (z indices : List ℕ) (f : ℕ → ℕ → ℕ) (a : List ℕ) → length a ≡ 512 → Faced z indices 0 f a a
 faced-none z indices f a n = record { size = n; inside = λ e h. absurd (omega arith); outside = λ q h. refl }
 
-pub faced-more : {z indices : List ℕ} {c e : ℕ} {f : ℕ → ℕ → ℕ} {a a′ a″ : List ℕ} → Spans z indices c → Faced z indices e f a a′ → e < c → Over (getD indices e 0) (getD z (getD indices e 0) 0) (f e) a′ a″ → Faced z indices (e + 1) f a a″
+pub faced-more : {z indices : List ℕ} {c e : ℕ} {f : ℕ → ℕ → ℕ} {a a′ a″ : List ℕ} → Spans z indices c → Faced z indices e f a a′ → e < c
+    → Over (getD indices e 0) (getD z (getD indices e 0) 0) (f e) a′ a″ → Faced z indices (e + 1) f a a″
 faced-more {z} {indices} {c} {e} {f} {a} {a′} {a″} s w h o = record {
   size = o .size;
   inside = λ d l j k. ⊎-elim (λ (q : d ≡ e). here d q j k) (λ (q : d < e). o .outside (getD indices d 0 + j) (inl (let r = s .apart d e q h in omega arith)) ∙ w .inside d q j k) (last-or-below l);

@@ -130,7 +130,8 @@ module _ (n : ℕ) (f g : ℕ → ℕ) (d : ℕ) (v : List ℕ) (vol : Volume f 
           first = λ k l. rw (kept k (omega (arith, w .from-le, w .h-le))) (w .first k l);
           start = grows d (w .start);
           done = λ k l. rw (kept k (omega arith)) (last-or-below l
-              (λ q. let e₁ : f (getD o k 0) ≡ a = ap (λ (z : ℕ). f (getD o z 0)) q ∙ sym ea in let e₂ : g (getD o k 0) ≡ b = ap (λ (z : ℕ). g (getD o z 0)) q ∙ sym eb in rw (e₁, e₂) (two .1 .grows _ (one .1 .new), two .1 .new))
+              (λ q. let e₁ : f (getD o k 0) ≡ a = ap (λ (z : ℕ). f (getD o z 0)) q ∙ sym ea in let e₂ : g (getD o k 0) ≡ b = ap
+              (λ (z : ℕ). g (getD o z 0)) q ∙ sym eb in rw (e₁, e₂) (two .1 .grows _ (one .1 .new), two .1 .new))
               (λ q. (grows _ (w .done k q .0), grows _ (w .done k q .1))));
           new-in = new;
         }

@@ -57,7 +57,9 @@ function callee = record {
   outlives = [];
   params = 1;
   locals = local S′.mir valueLocal ∷ local (T′.mir (named 0)) valueLocal ∷ local (sliceTy (tyRef erased imm (tyInt w8))) valueLocal ∷ local (tyInt w64) valueLocal ∷ [];
-  body = seq (assign (place 2 []) (rvOpd (copy (place 1 (field 0 ∷ []))))) (seq (assign (place 3 []) (rvOpd (copy (place 1 (field 1 ∷ []))))) (seq (call callee (copy (place 2 []) ∷ copy (place 3 []) ∷ []) (place 0 [])) return));
+  body =
+      seq (assign (place 2 []) (rvOpd (copy (place 1 (field 0 ∷ [])))))
+      (seq (assign (place 3 []) (rvOpd (copy (place 1 (field 1 ∷ []))))) (seq (call callee (copy (place 2 []) ∷ copy (place 3 []) ∷ []) (place 0 [])) return));
 }
 
 -- the struct's type, over the signature's lifetimes
@@ -125,7 +127,9 @@ module _ (l : Layout ℕ) {M : Type 1} (𝓤 : URA M) (H : Heap 𝓤) (A : Atoms
   apart fits =
       qed W ((‵ (flft κ q) ⊛ ‵ ftrue) ∷ ‵ (owns (B (κ, tt) ∷ []) (d, tt) (mach ∷ [], tt)) ∷ []) ∵
       move ! (1 ∷ []) $ fsplit ! $ move ! (1 ∷ []) $ drop ! $ use1 W (‵ Own ⊛ ‵ Own) (LL.copy D (T′.the-copy (namedLft 1 0 tt (κ, tt))) 𝓤 H A W .twice d (mach ∷ [])) $ split ! $
-      use1 W (given (mach ∷ [] ≡ mach ∷ []) (‵ (all-own (D .parts) L vd))) (own-open 𝓤 H A W D L vd mach) $ learn ! (λ _. use1 W (‵ (ownAt (D .parts) L 0 (d .src)) ⊛ ‵ (rest (D .parts) L 0 vd)) (own-out 𝓤 H A W (D .parts) L 0 vd) $ split ! $
+      use1 W (given (mach ∷ [] ≡ mach ∷ []) (‵ (all-own (D .parts) L vd))) (own-open 𝓤 H A W D L vd mach) $
+      learn !
+      (λ _. use1 W (‵ (ownAt (D .parts) L 0 (d .src)) ⊛ ‵ (rest (D .parts) L 0 vd)) (own-out 𝓤 H A W (D .parts) L 0 vd) $ split ! $
       -- [what src owns; what at owns; what the struct owns; the token]
       move ! (1 ∷ []) $ drop ! $ nothing ! $ owned ! usize (Is usize) (uint-makes 𝓤 H A W w64) (d .at) _ (refl, fits) $ fjoin ! $ move ! (1 ∷ 0 ∷ []) $ fjoin ! $
       move ! (2 ∷ 0 ∷ []) $ use2 W (raw (ReadAt l 𝓤 H A .pre to)) asked $ frame ! $ done !)
@@ -149,7 +153,11 @@ module _ (l : Layout ℕ) {M : Type 1} (𝓤 : URA M) (H : Heap 𝓤) (A : Atoms
         assigns ! (of-opd ! (load ! (from ! (fld ! refl (stop !))) (look-in ! 4 (sub ! 1 refl (whole !))))) (from ! (stop !)) (init ! 0 refl (tt, wt .1 .1 .0)) $
         move ! (8 ∷ []) $ use1 W (raw (ReadAt l 𝓤 H A .pre to) ⊛ ‵ Own) (apart (wt .1 .1 .0 .fits)) $ split ! $
         calls-at ! fm (ReadAt l 𝓤 H A) known to (and-then ! (load ! (from ! (stop !)) (look ! 4 refl)) (and-then ! (load ! (from ! (stop !)) (look ! 2 refl)) (no-more !))) (λ u.
-        use1 W (later (some (λ (r : Read). ((‵ (flft κ q) ⊛ ‵ ftrue) ⊛ ‵ (S.the-row .own r (u ∷ []))) ⊛ raw (ensured 𝓤 H A leaf.ended (placed l 𝓤) (κ, tt) (d .src, (d .at, tt)) tt r)))) (id⊢ 𝓤 _) $ await ! tt $ pick ! (λ r.
+        use1 W
+        (later
+        (some
+        (λ (r : Read). ((‵ (flft κ q) ⊛ ‵ ftrue) ⊛ ‵ (S.the-row .own r (u ∷ []))) ⊛ raw
+        (ensured 𝓤 H A leaf.ended (placed l 𝓤) (κ, tt) (d .src, (d .at, tt)) tt r)))) (id⊢ 𝓤 _) $ await ! tt $ pick ! (λ r.
         split ! $ move ! (1 ∷ []) $ use1 W (raw (fact 𝓤 (r ≡ found))) (said r) $ heard ! (r ≡ found) (λ e. split ! $ move ! (1 ∷ []) $
         -- [the result; the token; what the struct owns; _3; …; _2; …; _1; …; room for _0; …]
         peeks ! S.the-row (Is S.the-row) (shows 𝓤 H A S.the-row) r (u ∷ []) (λ is.
@@ -160,11 +168,18 @@ module _ (l : Layout ℕ) {M : Type 1} (𝓤 : URA M) (H : Heap 𝓤) (A : Atoms
 module _ (l : Layout ℕ) {M : Type 1} (𝓤 : URA M) (H : Heap 𝓤) (A : Atoms 𝓤) (W : Given 𝓤 H A) where
   walks : (callee : Name) (C : Calls 𝓤 H) (Λ : Loops 𝓤 H) → FmC 𝓤 H (W .laws) C → Triple 𝓤 (C callee) (ReadAt l 𝓤 H A)
       → Walks 𝓤 H A thin.ended stayed (WpFn 𝓤 H C Λ (function callee)) (next l 𝓤)
-  walks callee C Λ fm known = walked 𝓤 H A thin.ended stayed (next l 𝓤) (WpFn 𝓤 H C Λ (function callee)) (λ κs. (LL.vals (T.the-type (namedLft 1 0 tt κs)) (T′.the-laws (namedLft 1 0 tt κs)), tt)) (λ κs. (LL.tells (T.the-type (namedLft 1 0 tt κs)) (T′.the-laws (namedLft 1 0 tt κs)), tt))
-      (λ κs qs bounds a g are. via 𝓤 _ (fst∗ 𝓤 _ (emp 𝓤)) (walk l 𝓤 H A W (κs .0) (qs .0) (a .0) callee C Λ fm known (LL.lawful (T.the-type (namedLft 1 0 tt κs)) (T′.the-laws (namedLft 1 0 tt κs)) 𝓤 H A W .typed (a .0) _ (are .0) .0)))
+  walks callee C Λ fm known =
+      walked 𝓤 H A thin.ended stayed (next l 𝓤) (WpFn 𝓤 H C Λ (function callee))
+      (λ κs. (LL.vals (T.the-type (namedLft 1 0 tt κs)) (T′.the-laws (namedLft 1 0 tt κs)), tt))
+      (λ κs. (LL.tells (T.the-type (namedLft 1 0 tt κs)) (T′.the-laws (namedLft 1 0 tt κs)), tt))
+      (λ κs qs bounds a g are. via 𝓤 _ (fst∗ 𝓤 _ (emp 𝓤))
+      (walk l 𝓤 H A W (κs .0) (qs .0) (a .0) callee C Λ fm known
+      (LL.lawful (T.the-type (namedLft 1 0 tt κs)) (T′.the-laws (namedLft 1 0 tt κs)) 𝓤 H A W .typed (a .0) _ (are .0) .0)))
 
 pub meets : (l : Layout ℕ) {M : Type 1} (𝓤 : URA M) (H : Heap 𝓤) (A : Atoms 𝓤) (W : Given 𝓤 H A) (callee : Name) (𝓣 : Tables 𝓤 H)
     → Triple 𝓤 (𝓣 .C callee) (ReadAt l 𝓤 H A)
     → Meets 𝓤 H A thin.signature (WpFn 𝓤 H (𝓣 .C) (𝓣 .Λ) (function callee)) (closing 𝓤 H A thin.ended (next l 𝓤))
-meets l 𝓤 H A W callee 𝓣 known-read = walk-meets 𝓤 H A thin.ended stayed W (goes-none 𝓤 H A W 1 B yes (λ κs x f. refl), tt) (next l 𝓤) (WpFn 𝓤 H (𝓣 .C) (𝓣 .Λ) (function callee)) (WpFn-mono 𝓤 H (W .laws) 𝓣 (function callee))
+meets l 𝓤 H A W callee 𝓣 known-read =
+    walk-meets 𝓤 H A thin.ended stayed W (goes-none 𝓤 H A W 1 B yes (λ κs x f. refl), tt) (next l 𝓤)
+    (WpFn 𝓤 H (𝓣 .C) (𝓣 .Λ) (function callee)) (WpFn-mono 𝓤 H (W .laws) 𝓣 (function callee))
     (walks l 𝓤 H A W callee (𝓣 .C) (𝓣 .Λ) (fmOf 𝓤 H (W .laws) 𝓣) known-read)

@@ -47,7 +47,13 @@ pub record-placed : (ss m : List ℕ) (p : ℕ) {r : Record} {next opposite link
     → after ≡ put m p (record-words (record { serial = r .serial; next = next; opposite = opposite; kind = r .kind; link = link; x = r .x; y = r .y; z = r .z }))
     → after ≡ put m p (place-words ss m p)
 unfolding place-words
-record-placed ss m p {r} e a b l h = h ∙ rw (a, b, l) (ap (λ (w : Record). put m p (w .serial ∷ index-of (w .next) ss ∷ index-of (w .opposite) ss ∷ w .kind ∷ place-link ss (w .kind) (w .link) ∷ w .x ∷ w .y ∷ w .z ∷ [])) e)
+record-placed ss m p {r} e a b l h =
+    h
+    ∙ rw (a, b, l)
+    (ap
+    (λ (w : Record). put m p
+    (w .serial ∷ index-of (w .next) ss ∷ index-of (w .opposite) ss ∷ w .kind ∷ place-link ss (w .kind) (w .link) ∷ w .x ∷ w .y
+    ∷ w .z ∷ [])) e)
 
 words-8 : (ss m : List ℕ) (p : ℕ) → length (place-words ss m p) ≡ 8
 unfolding place-words

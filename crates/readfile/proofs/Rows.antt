@@ -94,4 +94,6 @@ module _ (m : List ℕ) (rows : List (List ℕ)) (e : Eights rows) (h : 8 + leng
       ap (λ (x : List ℕ). put x p r) parts ∙ stored
       ∙ ap (λ (x : List ℕ). front ++ (r ++ x)) (drop-drop 8 (8 + length rows * 8) m ∙ ap (λ (k : ℕ). drop k m) on)
       ∙ append-assoc (take 8 m) (concat rows) (r ++ drop (8 + length (rows ++ r ∷ []) * 8) m)
-      ∙ ap (λ (x : List ℕ). take 8 m ++ x) (sym (append-assoc (concat rows) r (drop (8 + length (rows ++ r ∷ []) * 8) m)) ∙ ap (λ (x : List ℕ). x ++ drop (8 + length (rows ++ r ∷ []) * 8) m) (sym (concat-snoc rows r)))
+      ∙ ap (λ (x : List ℕ). take 8 m ++ x)
+      (sym (append-assoc (concat rows) r (drop (8 + length (rows ++ r ∷ []) * 8) m))
+      ∙ ap (λ (x : List ℕ). x ++ drop (8 + length (rows ++ r ∷ []) * 8) m) (sym (concat-snoc rows r)))

@@ -56,7 +56,8 @@ pub record StoredGot (s : List ℕ) (at last : ℕ) (m : List ℕ) (p : ℕ) (af
   pub above : ltb last (dart .serial) ≡ true
   pub memory-is : after ≡ put m p (raw-words dart)
 
-pub stored-got : {s : List ℕ} {at last : ℕ} {m : List ℕ} {p : ℕ} {after : List ℕ} {serial next : ℕ} → DartStored s at last m p after (read.Value serial next) → StoredGot s at last m p after serial next
+pub stored-got : {s : List ℕ} {at last : ℕ} {m : List ℕ} {p : ℕ} {after : List ℕ} {serial next : ℕ}
+    → DartStored s at last m p after (read.Value serial next) → StoredGot s at last m p after serial next
 unfolding dart-after such-that
 stored-got {s} {at} {last} {m} {p} {after} {serial} {next} w = go (dart-after last .get (drop at s)) refl (w .answer) (w .memory)
   where

@@ -55,7 +55,8 @@ module _ (m : List ℕ) {s v x b z : List ℕ} {f : Front} {l : Tail} where
     no-17 h = record { said = λ t e w. alone _ (ask-no refl (said-no (here-is t w) h) refl) }
 
     -- 18
-    module _ (yes-17 : not here ≡ false) {keys ranks : List ℕ} {fresh : Bool} (fit : f .darts ≤ length x) (eighteen : NewSerials (block-in m .darts) s (f .points) (f .vertices) x (f .darts) keys ranks fresh) where
+    module _ (yes-17 : not here ≡ false) {keys ranks : List ℕ} {fresh : Bool} (fit : f .darts ≤ length x)
+        (eighteen : NewSerials (block-in m .darts) s (f .points) (f .vertices) x (f .darts) keys ranks fresh) where
       new-is : (t : Transfer) → TransferOutlined t s v x b z f l → fresh ≡ serials-new (block-in m .darts) t
       new-is t w = eighteen .is ∙ sym (eighteen-is (block-in m .darts) (told-of w) fit)
 
@@ -87,7 +88,9 @@ module _ (m : List ℕ) {s v x b z : List ℕ} {f : Front} {l : Tail} where
                   (ask-yes (said-yes (twenty .is t w) yes-20) (ask-no refl (lt-leb (length (block-in m .darts) + size-all (t .faces)) 4096 (omega (arith, h, count-is t w))) refl)))));
             }
 
-            pub yes-all : {q c : List ℕ} → getD m 2 0 + f .darts ≤ 4096 → Draft v x b z keys ranks q s (f .points) (f .darts) c → length kinds ≡ 512 → length links ≡ 512 → length ranks ≡ 512 → AskedAll m s v x b z f l keys ranks q c kinds links asked.Yes
+            pub yes-all : {q c : List ℕ} → getD m 2 0 + f .darts ≤ 4096 → Draft v x b z keys ranks q s (f .points) (f .darts) c
+                → length kinds ≡ 512 → length links ≡ 512 → length ranks ≡ 512
+                → AskedAll m s v x b z f l keys ranks q c kinds links asked.Yes
             unfolding receive-checks
             yes-all h d lk ll lr = record {
               said = (
@@ -115,7 +118,8 @@ elem-tab g zero i h = absurd (omega (arith, h))
 elem-tab g (suc n) zero h = inl refl
 elem-tab g (suc n) (suc i) h = inr (elem-tab (λ k. g (suc k)) n i (omega (arith, h)))
 
-pub serials-small : {s v x b z : List ℕ} {f : Front} {l : Tail} {t : Transfer} → Bytes s → message-in s ≡ a-transfer t → TransferOutlined t s v x b z f l → (i : ℕ) → i < f .darts → getD x i 0 < serial-bound
+pub serials-small : {s v x b z : List ℕ} {f : Front} {l : Tail} {t : Transfer} → Bytes s → message-in s ≡ a-transfer t
+    → TransferOutlined t s v x b z f l → (i : ℕ) → i < f .darts → getD x i 0 < serial-bound
 serials-small {s} {v} {x} {b} {z} {f} {l} {t} bytes e w i h =
     high t (fits t (transfer-read s bytes t e)) (side-at v x b z i)
     (subst (Elem (side-at v x b z i)) (sym (sides-are v x b z t (w .inside))) (elem-tab (side-at v x b z) (size-all (t .faces)) i (omega (arith, h, w .darts-are))))
@@ -125,7 +129,8 @@ pub sender-small : {s v x b z : List ℕ} {f : Front} {l : Tail} {t : Transfer} 
 sender-small {s} {t = t} bytes e w = let a = fits t (transfer-read s bytes t e) .from-small in let b = w .from-is in omega (arith, a, b)
 
 -- what question 20 asks of a transfer
-pub new-volume : {m s v x b z : List ℕ} {f : Front} {l : Tail} {keys ranks q c : List ℕ} {fresh right : Bool} → NewSerials (block-in m .darts) s (f .points) (f .vertices) x (f .darts) keys ranks fresh → not fresh ≡ false
+pub new-volume : {m s v x b z : List ℕ} {f : Front} {l : Tail} {keys ranks q c : List ℕ} {fresh right : Bool}
+    → NewSerials (block-in m .darts) s (f .points) (f .vertices) x (f .darts) keys ranks fresh → not fresh ≡ false
     → ((t : Transfer) → Told t v x b z s (f .points) (f .vertices) (f .darts) (f .hollow) → right ≡ volume-right t) → not right ≡ false → Draft v x b z keys ranks q s (f .points) (f .darts) c
     → {t : Transfer} → TransferOutlined t s v x b z f l → NewVolume m s v x b z f l ranks c
 new-volume {m} {s} {v} {x} {b} {z} {f} {l} {keys} {ranks} {q} {c} eighteen yes-18 nineteen yes-19 d {t} w = record {
@@ -161,7 +166,9 @@ module _ (m : List ℕ) (ok : is-image rack m ≡ true) where
   size : length m ≡ words
   size = sited rack m ok .linked .size
 
-  asked-by : (r : Message) {given : Answer (Unit {0})} {lent : List ℕ} → Asks (receive-checks rack (block-in m) r) m tt (image (received-from (block-in m) r)) given lent → Gives (receive-by m r) given lent
+  asked-by : (r : Message) {given : Answer (Unit {0})} {lent : List ℕ}
+      → Asks (receive-checks rack (block-in m) r) m tt (image (received-from (block-in m) r)) given lent
+      → Gives (receive-by m r) given lent
   unfolding receive-by storing memory-checks
   asked-by r a = gives _ _ _ _ (ask-yes (eq-eqb (length m) words size) (ask-yes ok a))
 
@@ -179,7 +186,11 @@ module _ (m : List ℕ) (ok : is-image rack m ≡ true) where
 
   -- a transfer: the first no, or the memory that is left
   pub transfer-refused : (t : Transfer) {n : ℕ} → refused n ≡ answered (receive-checks rack (block-in m) (a-transfer t)) → Gives (receive-by m (a-transfer t)) (refused n) m
-  transfer-refused t {n} e = asked-by (a-transfer t) (subst (λ (qs : List Check). Asks qs m tt (image (received-from (block-in m) (a-transfer t))) (refused n) m) (append-nil (receive-checks rack (block-in m) (a-transfer t))) (ask-first (receive-checks rack (block-in m) (a-transfer t)) [] e refl))
+  transfer-refused t {n} e =
+      asked-by (a-transfer t)
+      (subst (λ (qs : List Check). Asks qs m tt (image (received-from (block-in m) (a-transfer t))) (refused n) m)
+      (append-nil (receive-checks rack (block-in m) (a-transfer t)))
+      (ask-first (receive-checks rack (block-in m) (a-transfer t)) [] e refl))
 
   pub transfer-served : (t : Transfer) {y : List ℕ} → AllYes m t → y ≡ image (received (block-in m) t) → Gives (receive-by m (a-transfer t)) (served tt) y
   unfolding receive-checks
@@ -202,5 +213,6 @@ module _ {s v x b z : List ℕ} {r : Received} {f : Front} {l : Tail} (e : r ≡
   pub outline-of : (t : Transfer) × (message-in s ≡ a-transfer t) × TransferOutlined t s v x b z f l
   outline-of = subst (MessageSaid s v x b z) e (k .said)
 
-pub taken : (m s : List ℕ) {v x b z : List ℕ} {r : Received} {f : Front} {l : Tail} → r ≡ received.Transfer f l → MessageRead s v x b z r → {given : Answer (Unit {0})} {lent : List ℕ} → Takes m s v x b z f l given lent → Gives (receive rack m s) given lent
+pub taken : (m s : List ℕ) {v x b z : List ℕ} {r : Received} {f : Front} {l : Tail} → r ≡ received.Transfer f l → MessageRead s v x b z r
+    → {given : Answer (Unit {0})} {lent : List ℕ} → Takes m s v x b z f l given lent → Gives (receive rack m s) given lent
 taken m s e k w = let o = outline-of e k in by-message m s (a-transfer (o .0)) (o .1) (w .gives (o .0) (o .1) (o .2))

@@ -12,7 +12,8 @@ use Rattle.sewing.specs.Thirds.{Sewable, Sewn}
 use Rattle.joined.proofs.JoinedDarts.{sewable}
 use Rattle.receive.specs.Taken.{MayJoin, Joins}
 
-module _ {m c : List ℕ} {n k : ℕ} {kinds links ranks : List ℕ} (w : MayJoin m c n k kinds links ranks) (old new : List ℕ) (olds : Tabled (up (column m 0) (column c 0) k) n old) (news : Tabled (up (column c 0) (column m 0) n) k new) where
+module _ {m c : List ℕ} {n k : ℕ} {kinds links ranks : List ℕ} (w : MayJoin m c n k kinds links ranks) (old new : List ℕ)
+    (olds : Tabled (up (column m 0) (column c 0) k) n old) (news : Tabled (up (column c 0) (column m 0) n) k new) where
   at : Stands m c (woven-at m n c k) n k old new
   at = stands (w .drafted) old new refl olds news
 

@@ -54,11 +54,13 @@ module _ {v x b z keys ranks q s : List ℕ} {from k : ℕ} {c : List ℕ} (d : 
     pub weaves : Drafted m c (count-in m) (count-in c)
     weaves = drafted m c ok (sited d .linked) (sited d .ascends)
         (λ p h. indexed .free p (omega (arith, h, d .drafted .count-is)))
-        (λ p r hp hr e. let l : r < k = omega (arith, hr, d .drafted .count-is) in let i = indexed .index-of r l in absent p (i .0) hp (i .1) (e ∙ ap (column c 0) (sym (i .2)) ∙ serial-of d (i .0) (i .1)))
+        (λ p r hp hr e. let l : r < k = omega (arith, hr, d .drafted .count-is) in let i = indexed .index-of r l in absent p (i .0)
+        hp (i .1) (e ∙ ap (column c 0) (sym (i .2)) ∙ serial-of d (i .0) (i .1)))
         (omega (arith, fit, d .drafted .count-is))
 
     -- with the links that a transfer brings
-    module _ {n : ℕ} {hollow : Bool} {t : Transfer} (told : Told t v x b z s from n k hollow) (fine : transfer .ok t ≡ true) (yes : first-no (receive-checks rack (block-in m) (a-transfer t)) ≡ 0) (right : volume-right t ≡ true) where
+    module _ {n : ℕ} {hollow : Bool} {t : Transfer} (told : Told t v x b z s from n k hollow) (fine : transfer .ok t ≡ true)
+        (yes : first-no (receive-checks rack (block-in m) (a-transfer t)) ≡ 0) (right : volume-right t ≡ true) where
       below : (i : ℕ) → i < k → getD v i 0 < n
       below = each-below told (vertices-fit told (is-numbered told right))
 
@@ -67,7 +69,10 @@ module _ {v x b z keys ranks q s : List ℕ} {from k : ℕ} {c : List ℕ} (d : 
       order = tab (λ i. getD ranks i 0) k
 
       new-are : new-darts t ≡ map (dart-in c) order
-      new-are = all-new d t (told .inside) (told .darts) (told .points) below ∙ tab-cong _ (λ i. dart-in c (getD ranks i 0)) k (dart-there d t (told .inside) (told .darts) (told .points) below) ∙ sym (map-tab (dart-in c) (λ i. getD ranks i 0) k)
+      new-are =
+          all-new d t (told .inside) (told .darts) (told .points) below
+          ∙ tab-cong _ (λ i. dart-in c (getD ranks i 0)) k (dart-there d t (told .inside) (told .darts) (told .points) below)
+          ∙ sym (map-tab (dart-in c) (λ i. getD ranks i 0) k)
 
       order-low : (r : ℕ) → In r order → r < count-in c
       order-low r h = let i = place-mem (λ i. getD ranks i 0) k r h in let l = d .ranked .rank-below (i .0) (i .1) in omega (arith, l, i .2, d .drafted .count-is)
@@ -85,21 +90,31 @@ module _ {v x b z keys ranks q s : List ℕ} {from k : ℕ} {c : List ℕ} (d : 
       w = woven-at m (count-in m) c (count-in c)
 
       woven-is : image (record { number = getD m 0 0; counter = getD m 1 0; darts = all-darts }) ≡ w
-      woven-is = ap (λ (l : List Dart). image (record { number = getD m 0 0; counter = getD m 1 0; darts = insert-all l (block-in m .darts) })) new-are ∙ woven-image weaves order order-once order-size order-low
+      woven-is =
+          ap
+          (λ (l : List Dart). image
+          (record { number = getD m 0 0; counter = getD m 1 0; darts = insert-all l (block-in m .darts) })) new-are
+          ∙ woven-image weaves order order-once order-size order-low
 
       woven-sound : is-image rack w ≡ true
       woven-sound = subst (λ (l : List ℕ). is-image rack l ≡ true) woven-is (is-image-of rack (record { number = getD m 0 0; counter = getD m 1 0; darts = all-darts }) (omega arith)
           (unlinked-sound rack (block-in m) t (omega arith) (image-is rack m ok .1) (fits t fine) (passed rack (block-in m) t yes)))
 
       darts-woven : tab (dart-in w) (count-in m + count-in c) ≡ all-darts
-      darts-woven = ap (tab (dart-in w)) (sym (count-is weaves)) ∙ ap (λ (a : Block). a .darts) (woven-block weaves order order-once order-size order-low) ∙ ap (λ (l : List Dart). insert-all l (block-in m .darts)) (sym new-are)
+      darts-woven =
+          ap (tab (dart-in w)) (sym (count-is weaves))
+          ∙ ap (λ (a : Block). a .darts) (woven-block weaves order order-once order-size order-low)
+          ∙ ap (λ (l : List Dart). insert-all l (block-in m .darts)) (sym new-are)
 
-      pub taken-image : {kinds links y : List ℕ} → Linking m (count-in m) (count-in c) x kinds links (transfer-links (block-in m .darts) t) → Joins m c (count-in m) (count-in c) kinds links ranks y → y ≡ image (received (block-in m) t)
+      pub taken-image : {kinds links y : List ℕ} → Linking m (count-in m) (count-in c) x kinds links (transfer-links (block-in m .darts) t)
+          → Joins m c (count-in m) (count-in c) kinds links ranks y → y ≡ image (received (block-in m) t)
       taken-image {kinds} {links} {y} ln j =
           let p = image-passed w woven-sound in
           let count : getD w 2 0 ≡ count-in m + count-in c = count-is weaves in
           sym (ap image (received-is (block-in m) t)
           ∙ (λ i. image (record { number = sym (number-is weaves) i; counter = sym (counter-is weaves) i; darts = map (relink (transfer-links (block-in m .darts) t)) all-darts }))
           ∙ image-joined (weaves .weaves .fits) (omega (arith, d .few, d .drafted .count-is)) (j .stand) (subst (Indexed c x ranks) (sym (d .drafted .count-is)) indexed) ln (j .sewn)
-          (p .range) (size-is weaves) count (subst (Places w) count (places w (count-in w) (p .links))) (λ a h one. subst (λ (e : ℕ). column w 4 a < e) count (sewn-places w (count-in w) (p .thirds) a (omega (arith, h, count)) one))
+          (p .range) (size-is weaves) count (subst (Places w) count (places w (count-in w) (p .links)))
+          (λ a h one. subst (λ (e : ℕ). column w 4 a < e) count
+          (sewn-places w (count-in w) (p .thirds) a (omega (arith, h, count)) one))
           all-darts darts-woven)

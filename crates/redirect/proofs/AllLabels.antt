@@ -83,7 +83,13 @@ index-named m from {codes} {c} l ready e p = by-cases (critical-with m from p) (
         ∙ index-mem (face-code m p) (tab (λ k. getD codes k 0) c) ∙ ap (mem (face-code m p)) list ∙ any-sorted (eqb (face-code m p)) l
 
 pub rewritten-by : {m m′ : List ℕ} {test other : ℕ → Bool} {word n : ℕ} → ((p : ℕ) → p < n → test p ≡ other p) → Rewritten m m′ test word n → Rewritten m m′ other word n
-rewritten-by {m} {m′} {test} {other} {word} {n} e w = record { size = w .size; head = w .head; others = w .others; kinds = λ p. w .kinds p ∙ by-cases (ltb p n) (λ t. rw (t, e p (ltb-true p n t))) (λ t. rw t) }
+rewritten-by {m} {m′} {test} {other} {word} {n} e w =
+    record {
+      size = w .size;
+      head = w .head;
+      others = w .others;
+      kinds = λ p. w .kinds p ∙ by-cases (ltb p n) (λ t. rw (t, e p (ltb-true p n t))) (λ t. rw t);
+    }
 
 -- WHAT THE ARRAYS SAY
 module _ (m : List ℕ) (from : ℕ) {s read : List ℕ} {at count : ℕ} (codes : List ℕ) {fine : Bool} (few : count ≤ room) (told : CodesRead s at count read)
@@ -148,10 +154,15 @@ module _ {m : List ℕ} {n : ℕ} (l : Linked m n) (same : n ≡ getD m 2 0) whe
   few-named from cs t =
       let held = and-left (all (names-at m from) cs) (distinct cs) t in
       let apart = and-right (all (names-at m from) cs) (distinct cs) t in
-      let most = pigeonhole (length cs) (λ k. getD cs k 0) (map (column m 4) (places n)) (λ k h. code-held from (getD cs k 0) (all-in (names-at m from) cs held (getD cs k 0) (getD-in cs k h))) (distinct-at cs apart) in
+      let most =
+      pigeonhole (length cs) (λ k. getD cs k 0) (map (column m 4) (places n))
+      (λ k h. code-held from (getD cs k 0) (all-in (names-at m from) cs held (getD cs k 0) (getD-in cs k h)))
+      (distinct-at cs apart)
+      in
       omega (arith, length-map (places n) (column m 4), length-tab (λ (q : ℕ). q) n)
 
-  pub too-many : (from : ℕ) {s : List ℕ} {at count past : ℕ} (ls : List Label) → Took (times count label) s at ls past → room < count → (all (names-at m from) (map code ls) && distinct (map code ls)) ≡ false
+  pub too-many : (from : ℕ) {s : List ℕ} {at count past : ℕ} (ls : List Label) → Took (times count label) s at ls past → room < count
+      → (all (names-at m from) (map code ls) && distinct (map code ls)) ≡ false
   unfolding times
   too-many from {s} {at} {count} {past} ls t h = by-cases (all (names-at m from) (map code ls) && distinct (map code ls))
       (λ e. let a = few-named from (map code ls) e in let b = l .few in absurd (omega (arith, length-map ls code, took-length label count (drop at s) ls (drop past s) (t .value))))

@@ -56,7 +56,9 @@ module _ (m : List ℕ) (ok : is-image rack m ≡ true) where
   size : length m ≡ words
   size = sited rack m ok .linked .size
 
-  asked-by : (r : Message) {given : Answer (Unit {0})} {lent : List ℕ} → Asks (redirect-checks (block-in m) r) m tt (image (redirected-from (block-in m) r)) given lent → Gives (redirect-by m r) given lent
+  asked-by : (r : Message) {given : Answer (Unit {0})} {lent : List ℕ}
+      → Asks (redirect-checks (block-in m) r) m tt (image (redirected-from (block-in m) r)) given lent
+      → Gives (redirect-by m r) given lent
   unfolding redirect-by storing memory-checks
   asked-by r a = gives _ _ _ _ (ask-yes (eq-eqb (length m) words size) (ask-yes ok a))
 
@@ -82,13 +84,19 @@ module _ (m : List ℕ) (ok : is-image rack m ≡ true) where
     unfolding redirect-checks
     right-no h e = asked-by (an-update u) (ask-yes h (ask-no refl e refl))
 
-    all-yes : addressed (u .from) (u .to) (block-in m) ≡ true → update-right (block-in m) u ≡ true → {m′ : List ℕ} → m′ ≡ image (redirected (block-in m) u) → Gives (redirect-by m (an-update u)) (served tt) m′
+    all-yes : addressed (u .from) (u .to) (block-in m) ≡ true → update-right (block-in m) u ≡ true → {m′ : List ℕ}
+        → m′ ≡ image (redirected (block-in m) u) → Gives (redirect-by m (an-update u)) (served tt) m′
     unfolding redirect-checks
     all-yes h e q = asked-by (an-update u) (ask-yes h (ask-yes e (ask-end q)))
 
-    right-is : update-right (block-in m) u ≡ ((not (eqb (u .block) (u .from)) && not (eqb (u .block) (u .to))) && (all (names-at m (u .from)) (map code (u .labels)) && distinct (map code (u .labels))))
+    right-is : update-right (block-in m) u
+        ≡ ((not (eqb (u .block) (u .from)) && not (eqb (u .block) (u .to)))
+        && (all (names-at m (u .from)) (map code (u .labels)) && distinct (map code (u .labels))))
     unfolding update-right
-    right-is = ap (λ (b : Bool). (not (eqb (u .block) (u .from)) && not (eqb (u .block) (u .to))) && b && distinct (map code (u .labels))) (names-all (sited rack m ok) (image-passed m ok) (u .from) (u .labels))
+    right-is =
+        ap
+        (λ (b : Bool). (not (eqb (u .block) (u .from)) && not (eqb (u .block) (u .to))) && b && distinct (map code (u .labels)))
+        (names-all (sited rack m ok) (image-passed m ok) (u .from) (u .labels))
         ∙ together (not (eqb (u .block) (u .from)) && not (eqb (u .block) (u .to))) (all (names-at m (u .from)) (map code (u .labels))) (distinct (map code (u .labels)))
       where
         together : (a b c : Bool) → ((a && b) && c) ≡ (a && (b && c))
@@ -125,7 +133,9 @@ module _ (m : List ℕ) (ok : is-image rack m ≡ true) where
         pub redirects-unnamed : not named ≡ true → Redirects m s o (refused 22) m
         redirects-unnamed e = labels-no (λ u w. sym (n .said (u .labels) (w .past) (w .labels-in)) ∙ not-true named e)
 
-        pub redirects-served : not ends ≡ false → not named ≡ false → Follows s o → {m′ : List ℕ} → Rewritten m m′ (λ p. ltb (getD table p 0) (o .count)) (2 + 4 * o .block) (getD m 2 0) → Redirects m s o (served tt) m′
+        pub redirects-served : not ends ≡ false → not named ≡ false → Follows s o → {m′ : List ℕ}
+            → Rewritten m m′ (λ p. ltb (getD table p 0) (o .count)) (2 + 4 * o .block) (getD m 2 0)
+            → Redirects m s o (served tt) m′
         redirects-served e k small {m′} r = record { gives = λ u w. go u w }
           where
             go : (u : Update) → UpdateOutlined u s o → Gives (redirect-by m (an-update u)) (served tt) m′
@@ -151,7 +161,8 @@ follows {s} {r} {o} e k = go (subst (KindSaid s) e (k .said))
     go t = let w = t .2 in record { from-small = w .from-small; block-small = w .block-small; labels-within = (let a = w .labels-in .onward in let b = w .labels-in .within in omega arith) }
 
 -- and the call on it is the call on the message
-pub update-told : (m s : List ℕ) {r : Received} {o : UpdateOutline} {given : Answer (Unit {0})} {lent : List ℕ} → r ≡ received.Update o → KindRead s r → Redirects m s o given lent → Gives (redirect rack m s) given lent
+pub update-told : (m s : List ℕ) {r : Received} {o : UpdateOutline} {given : Answer (Unit {0})} {lent : List ℕ} → r ≡ received.Update o
+    → KindRead s r → Redirects m s o given lent → Gives (redirect rack m s) given lent
 update-told m s {r} {o} {given} {lent} e k d = go (subst (KindSaid s) e (k .said))
   where
     go : KindSaid s (received.Update o) → Gives (redirect rack m s) given lent

@@ -51,7 +51,10 @@ module _ {m : List ℕ} {n : ℕ} (l : Linked m n) where
   -- its least label stands at one of its darts, and is that of each
   pub code-there : (x : ℕ) → x < n → (y : ℕ) × In y (cycle (column m 1) x) × (face-code m x ≡ column m 4 y)
   unfolding face-code
-  code-there x h = map-in (column m 4) (cycle (column m 1) x) (face-code m x) (least-among (map (column m 4) (cycle (column m 1) x)) (column m 4 x) (in-map (column m 4) x (cycle (column m 1) x) (self-in x h)))
+  code-there x h =
+      map-in (column m 4) (cycle (column m 1) x) (face-code m x)
+      (least-among (map (column m 4) (cycle (column m 1) x)) (column m 4 x)
+      (in-map (column m 4) x (cycle (column m 1) x) (self-in x h)))
 
   code-least : (x y : ℕ) → In y (cycle (column m 1) x) → face-code m x ≤ column m 4 y
   unfolding face-code
@@ -76,7 +79,8 @@ module _ {m : List ℕ} (site : Sited m) (ok : Passed m) where
   one-kind x y h k =
       let l = site .linked in
       let n = count-in m in
-      along-face (column m 1) (places n) (within-places (l .next-within)) (apart-places (l .next-apart)) (few-places (l .few)) (λ z. column m 3 z ≡ column m 3 x) (λ z i e. next-kind z (places-below n z i) ∙ e) x y (in-places n x h) refl k
+      along-face (column m 1) (places n) (within-places (l .next-within)) (apart-places (l .next-apart)) (few-places (l .few))
+      (λ z. column m 3 z ≡ column m 3 x) (λ z i e. next-kind z (places-below n z i) ∙ e) x y (in-places n x h) refl k
 
   face-of : (x : ℕ) → x < count-in m → Face m (cycle (column m 1) x)
   face-of x h =

@@ -36,7 +36,8 @@ hitting-start index {n} {table} {hits} few t e = record {
 }
 
 -- a face gets its index, which is marked
-pub hitting-face : {index : ℕ → ℕ} {n p k : ℕ} {f table table′ hits : List ℕ} → Hitting index n table hits → p < n → k ≡ index p → k < 4097 → Painted k f table table′ → Hitting index n table′ (set hits k 1)
+pub hitting-face : {index : ℕ → ℕ} {n p k : ℕ} {f table table′ hits : List ℕ} → Hitting index n table hits → p < n → k ≡ index p → k < 4097
+    → Painted k f table table′ → Hitting index n table′ (set hits k 1)
 hitting-face {index} {n} {p} {k} {f} {table} {table′} {hits} w below e h d = record {
   size = simp length-set (w .size);
   only = λ j t. eq-or-ne j k (λ s. (p, below, sym e ∙ sym s)) (λ s. w .only j (sym (getD-set-other hits k j 1 0 s) ∙ t));
@@ -87,7 +88,8 @@ module _ (m : List ℕ) (from : ℕ) {codes : List ℕ} {c : ℕ} (ready : Ready
           eq-eqb (getD hits k 0) 1 (ap (λ (j : ℕ). getD hits j 0) (sym i) ∙ w .marked (r .0) (r .1) (omega (arith, i, h, ready .few)))
 
   -- what table and marks say
-  pub each-named : {table hits : List ℕ} {n : ℕ} {r : Bool} → n ≡ getD m 2 0 → Indexed (code-index m from codes c) n table → HitsAre (code-index m from codes c) n hits → r ≡ all-hit hits c → EachNamed m from codes c table r
+  pub each-named : {table hits : List ℕ} {n : ℕ} {r : Bool} → n ≡ getD m 2 0 → Indexed (code-index m from codes c) n table
+      → HitsAre (code-index m from codes c) n hits → r ≡ all-hit hits c → EachNamed m from codes c table r
   each-named {table} {hits} {n} {r} e d w k = record { said = k ∙ hits-names (rw e at w); indexed = rw e at d }
 
 -- ALL PASSED

@@ -42,7 +42,8 @@ module _ (m : List ℕ) (from : ℕ) (codes : List ℕ) (c p : ℕ) where
   index-there read same face e = rw (eq-eqb (column m 3 p) (2 + 4 * from) (sym read ∙ same)) (e ∙ ap (λ (y : ℕ). index-of y (tab (λ j. getD codes j 0) c)) face)
 
 -- is that of its whole face
-pub index-along : (m : List ℕ) (ok : is-image rack m ≡ true) (from : ℕ) (codes : List ℕ) (c x y : ℕ) → x < getD m 2 0 → In y (cycle (column m 1) x) → code-index m from codes c y ≡ code-index m from codes c x
+pub index-along : (m : List ℕ) (ok : is-image rack m ≡ true) (from : ℕ) (codes : List ℕ) (c x y : ℕ) → x < getD m 2 0
+    → In y (cycle (column m 1) x) → code-index m from codes c y ≡ code-index m from codes c x
 unfolding code-index
 index-along m ok from codes c x y h i =
     let site = sited rack m ok in
@@ -88,7 +89,12 @@ module _ {index : ℕ → ℕ} {n p : ℕ} {t : List ℕ} (w : Indexing index n 
 
   -- the face of one
   pub indexing-face : {f t′ : List ℕ} {v : ℕ} → v ≡ index p → In p f → ((q : ℕ) → In q f → index q ≡ index p) → Painted v f t t′ → Indexing index n (p + 1) t′
-  indexing-face {f} {t′} {v} e self along d = record { size = d .size ∙ w .size; p-le = omega arith; each = λ q k. by-cases (mem q f) (λ i. inl (d .value q ∙ rw i (e ∙ sym (along q i)))) (λ i. go q i (w .each q k)) }
+  indexing-face {f} {t′} {v} e self along d =
+      record {
+        size = d .size ∙ w .size;
+        p-le = omega arith;
+        each = λ q k. by-cases (mem q f) (λ i. inl (d .value q ∙ rw i (e ∙ sym (along q i)))) (λ i. go q i (w .each q k));
+      }
     where
       go : (q : ℕ) → mem q f ≡ false → (getD t q 0 ≡ index q) ⊎ ((p ≤ q) × (getD t q 0 ≡ 4097)) → (getD t′ q 0 ≡ index q) ⊎ ((p + 1 ≤ q) × (getD t′ q 0 ≡ 4097))
       go q i (inl a) = inl (d .value q ∙ rw i a)
@@ -106,6 +112,7 @@ module _ (m : List ℕ) (ok : is-image rack m ≡ true) {n : ℕ} (same : n ≡ 
   pub linked-by : Linked m n
   linked-by = subst (Linked m) (sym same) (sited rack m ok .linked)
 
-  pub indexing-whole : (from : ℕ) (codes : List ℕ) (c : ℕ) {p v : ℕ} {t t′ : List ℕ} → Indexing (code-index m from codes c) n p t → p < n → v ≡ code-index m from codes c p → Painted v (cycle (column m 1) p) t t′
+  pub indexing-whole : (from : ℕ) (codes : List ℕ) (c : ℕ) {p v : ℕ} {t t′ : List ℕ} → Indexing (code-index m from codes c) n p t → p < n
+      → v ≡ code-index m from codes c p → Painted v (cycle (column m 1) p) t t′
       → Indexing (code-index m from codes c) n (p + 1) t′
   indexing-whole from codes c {p} w h e d = indexing-face w h e (self-in linked-by p h) (λ q i. index-along m ok from codes c p q (omega arith) i) d

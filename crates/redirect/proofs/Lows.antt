@@ -20,7 +20,8 @@ pub record Lowest (f v : ℕ → ℕ) (x k low : ℕ) : Type 0 where
 pub lowest-start : (f v : ℕ → ℕ) (x : ℕ) {low : ℕ} → low ≡ v x → Lowest f v x 0 low
 lowest-start f v x e = record { low-is = e }
 
-module _ {n : ℕ} {f : ℕ → ℕ} {x c k p : ℕ} (wf : Within n f) (r : Round f x c) (g : Going n f x c k p) (v : ℕ → ℕ) {low code next : ℕ} (w : Lowest f v x k low) (read : code ≡ v p) (lower : next ≡ min low code) where
+module _ {n : ℕ} {f : ℕ → ℕ} {x c k p : ℕ} (wf : Within n f) (r : Round f x c) (g : Going n f x c k p) (v : ℕ → ℕ)
+    {low code next : ℕ} (w : Lowest f v x k low) (read : code ≡ v p) (lower : next ≡ min low code) where
   pub lowest-next : Lowest f v x (k + 1) next
   lowest-next =
       let more : k + 1 ≡ suc k = omega arith in

@@ -111,13 +111,22 @@ module _ {m : List ℕ} (site : Sited m) (ok : Passed m) where
 
       go : Labelled l → names-face (darts-in m) from l ≡ names-at m from (code l)
       go (at-place y h c k e) = test-at from l y h c e ∙ same-truth (critical-with m from y && eqb (code l) (face-code m y)) (names-at m from (code l))
-          (λ t. tab-any test (λ q. q) (count-in m) y h (and-intro (and-left (critical-with m from y) (eqb (code l) (face-code m y)) t) (eq-eqb (face-code m y) (code l) (sym (eqb-true (code l) (face-code m y) (and-right (critical-with m from y) (eqb (code l) (face-code m y)) t))))))
+          (λ t. tab-any test (λ q. q) (count-in m) y h
+          (and-intro (and-left (critical-with m from y) (eqb (code l) (face-code m y)) t)
+          (eq-eqb (face-code m y) (code l)
+          (sym (eqb-true (code l) (face-code m y) (and-right (critical-with m from y) (eqb (code l) (face-code m y)) t))))))
           (λ t. let w = any-tab test (λ q. q) (count-in m) t in
           let z = holder from l (w .0) (w .1) (w .2) in
           let same : z .0 ≡ y = labels-apart m (count-in m) (z .0) y (ok .differ) (z .1) h (z .3) c (z .4 ∙ sym k) in
           let there : In y (cycle (column m 1) (w .0)) = in-eq y (z .0) (cycle (column m 1) (w .0)) (sym same) (z .2) in
-          and-intro (eq-eqb (column m 3 y) (2 + 4 * from) (one-kind site ok (w .0) y (w .1) there ∙ kind-q from l (w .0) (w .1) (w .2))) (eq-eqb (code l) (face-code m y) (sym (one-code (site .linked) (w .0) y (w .1) there ∙ code-q from l (w .0) (w .1) (w .2)))))
-      go (nowhere never e) = test-none (darts-in m) from l e ∙ by-cases (names-at m from (code l)) (λ t. let w = any-tab test (λ q. q) (count-in m) t in let z = holder from l (w .0) (w .1) (w .2) in absurd (never (z .0) (z .1) (z .3) (z .4))) (λ t. sym t)
+          and-intro
+          (eq-eqb (column m 3 y) (2 + 4 * from) (one-kind site ok (w .0) y (w .1) there ∙ kind-q from l (w .0) (w .1) (w .2)))
+          (eq-eqb (code l) (face-code m y) (sym (one-code (site .linked) (w .0) y (w .1) there ∙ code-q from l (w .0) (w .1) (w .2)))))
+      go (nowhere never e) =
+          test-none (darts-in m) from l e
+          ∙ by-cases (names-at m from (code l))
+          (λ t. let w = any-tab test (λ q. q) (count-in m) t in let z = holder from l (w .0) (w .1) (w .2) in absurd
+          (never (z .0) (z .1) (z .3) (z .4))) (λ t. sym t)
 
   -- THE FACE THAT A LABEL NAMES: its darts are those of its least label
   pub face-has : (from : ℕ) (l : Label) → names-face (darts-in m) from l ≡ true → (p : ℕ) → p < count-in m

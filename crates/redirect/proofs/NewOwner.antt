@@ -77,7 +77,9 @@ module _ {m : List ℕ} (site : Sited m) (ok : Passed m) where
 
   named-is : (from : ℕ) (ls : List Label) → all (names-face (darts-in m) from) ls ≡ true → (p : ℕ) → p < count-in m
       → any (λ l. mem (column m 0 p) (face-with (darts-in m) l)) ls ≡ named-at m from (map code ls) p
-  named-is from ls e p h = named-any from ls e p h ∙ any-and (critical-with m from p) (λ l. eqb (face-code m p) (code l)) ls ∙ ap (λ (b : Bool). critical-with m from p && b) (sym (any-map (eqb (face-code m p)) code ls))
+  named-is from ls e p h =
+      named-any from ls e p h ∙ any-and (critical-with m from p) (λ l. eqb (face-code m p) (code l)) ls
+      ∙ ap (λ (b : Bool). critical-with m from p && b) (sym (any-map (eqb (face-code m p)) code ls))
 
 -- A THIRD LINK by its words: one with another block, and one that stays
 other-third : (s s′ : ℕ → ℕ) (k a from new : ℕ) → k ≡ 2 + 4 * from → third-in s′ (2 + 4 * new) a ≡ with-other new (third-in s k a)
@@ -139,7 +141,9 @@ module _ {m m′ : List ℕ} (site : Sited m) (ok : Passed m) (u : Update) (righ
   block-now =
       let e0 = w .head 0 (omega arith) in
       let e1 = w .head 1 (omega arith) in
-      let e2 : tab (dart-in m′) (getD m′ 2 0) ≡ map (relink (update-links (darts-in m) u)) (tab (dart-in m) (getD m 2 0)) = ap (tab (dart-in m′)) (w .head 2 (omega arith)) ∙ tab-cong (dart-in m′) (λ p. relink (update-links (darts-in m) u) (dart-in m p)) (getD m 2 0) dart-told
+      let e2 : tab (dart-in m′) (getD m′ 2 0) ≡ map (relink (update-links (darts-in m) u)) (tab (dart-in m) (getD m 2 0)) = ap
+      (tab (dart-in m′)) (w .head 2 (omega arith)) ∙ tab-cong (dart-in m′)
+      (λ p. relink (update-links (darts-in m) u) (dart-in m p)) (getD m 2 0) dart-told
       ∙ sym (map-tab (relink (update-links (darts-in m) u)) (dart-in m) (getD m 2 0)) in
       λ i. record { number = e0 i; counter = e1 i; darts = e2 i }
 
@@ -168,7 +172,8 @@ module _ {m m′ : List ℕ} (site : Sited m) (ok : Passed m) (u : Update) (righ
         number-small = (let a = r .number-small in let e = w .head 0 (omega arith) in omega arith);
         counter-small = (let a = r .counter-small in let e = w .head 1 (omega arith) in omega arith);
         few = (let a = r .few in omega arith);
-        head = (w .head 3 (omega arith) ∙ r .head .0, w .head 4 (omega arith) ∙ r .head .1, w .head 5 (omega arith) ∙ r .head .2, w .head 6 (omega arith) ∙ r .head .3, w .head 7 (omega arith) ∙ r .head .4);
+        head =
+            (w .head 3 (omega arith) ∙ r .head .0, w .head 4 (omega arith) ∙ r .head .1, w .head 5 (omega arith) ∙ r .head .2, w .head 6 (omega arith) ∙ r .head .3, w .head 7 (omega arith) ∙ r .head .4);
         above = λ p h. above p (omega arith);
         serial-small = λ p h. (let a = r .serial-small p (omega arith) in let e = col 0 p (omega arith) (λ z. omega arith) in omega arith);
         kinds = λ p h. kind-now p (omega arith);

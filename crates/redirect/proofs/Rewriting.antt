@@ -28,7 +28,14 @@ module _ {m m′ : List ℕ} {test : ℕ → Bool} {word p : ℕ} (w : Rewritten
       (λ e. rw e (le-ltb q (p + 1) (let h = ltb-false q p e in omega arith)))
 
   pub rewritten-skip : test p ≡ false → Rewritten m m′ test word (p + 1)
-  rewritten-skip t = record { size = w .size; head = w .head; others = w .others; kinds = λ q. eq-or-ne q p (λ s. here q s) (λ s. w .kinds q ∙ ap (λ (b : Bool). cond (b && test q) word (column m 3 q)) (sym (other q s))) }
+  rewritten-skip t =
+      record {
+        size = w .size;
+        head = w .head;
+        others = w .others;
+        kinds = λ q. eq-or-ne q p (λ s. here q s)
+            (λ s. w .kinds q ∙ ap (λ (b : Bool). cond (b && test q) word (column m 3 q)) (sym (other q s)));
+      }
     where
       here : (q : ℕ) → q ≡ p → column m′ 3 q ≡ cond (ltb q (p + 1) && test q) word (column m 3 q)
       here q s = ap (column m′ 3) s ∙ still ∙ ap (column m 3) (sym s) ∙ rw (lt-ltb q (p + 1) (omega arith), ap test s ∙ t)
@@ -38,17 +45,21 @@ module _ {m m′ : List ℕ} {test : ℕ → Bool} {word p : ℕ} (w : Rewritten
     size = simp length-set (w .size);
     head = λ i k. getD-set-other m′ (8 + p * 8 + 3) i word 0 (λ e. omega arith) ∙ w .head i k;
     others = λ f q k n. getD-set-other m′ (8 + p * 8 + 3) (8 + q * 8 + f) word 0 (λ e. n (omega arith)) ∙ w .others f q k n;
-    kinds = λ q. eq-or-ne q p (λ s. here q s) (λ s. getD-set-other m′ (8 + p * 8 + 3) (8 + q * 8 + 3) word 0 (λ e. s (omega arith)) ∙ w .kinds q ∙ ap (λ (b : Bool). cond (b && test q) word (column m 3 q)) (sym (other q s)));
+    kinds =
+        λ q. eq-or-ne q p (λ s. here q s)
+        (λ s. getD-set-other m′ (8 + p * 8 + 3) (8 + q * 8 + 3) word 0 (λ e. s (omega arith)) ∙ w .kinds q ∙ ap (λ (b : Bool). cond (b && test q) word (column m 3 q)) (sym (other q s)));
   }
     where
       here : (q : ℕ) → q ≡ p → column (set m′ (8 + p * 8 + 3) word) 3 q ≡ cond (ltb q (p + 1) && test q) word (column m 3 q)
       here q s = ap (column (set m′ (8 + p * 8 + 3) word) 3) s ∙ getD-set-same m′ (8 + p * 8 + 3) word 0 (let n = w .size in omega arith) ∙ rw (lt-ltb q (p + 1) (omega arith), ap test s ∙ t)
 
 -- a turn of the loop: the dart stays, or its word is set
-pub rewriting-skip : (table : List ℕ) (c : ℕ) {m m′ : List ℕ} {word p : ℕ} → Rewritten m m′ (λ q. ltb (getD table q 0) c) word p → c ≤ getD table p 0 → Rewritten m m′ (λ q. ltb (getD table q 0) c) word (p + 1)
+pub rewriting-skip : (table : List ℕ) (c : ℕ) {m m′ : List ℕ} {word p : ℕ} → Rewritten m m′ (λ q. ltb (getD table q 0) c) word p
+    → c ≤ getD table p 0 → Rewritten m m′ (λ q. ltb (getD table q 0) c) word (p + 1)
 rewriting-skip table c {m} {m′} {word} {p} w h = rewritten-skip w (le-ltb (getD table p 0) c h)
 
-pub rewriting-set : (table : List ℕ) (c : ℕ) {m m′ m″ : List ℕ} {word p : ℕ} → Rewritten m m′ (λ q. ltb (getD table q 0) c) word p → getD table p 0 < c → 8 + p * 8 + 3 < length m → m″ ≡ set m′ (8 + p * 8 + 3) word
+pub rewriting-set : (table : List ℕ) (c : ℕ) {m m′ m″ : List ℕ} {word p : ℕ} → Rewritten m m′ (λ q. ltb (getD table q 0) c) word p
+    → getD table p 0 < c → 8 + p * 8 + 3 < length m → m″ ≡ set m′ (8 + p * 8 + 3) word
     → Rewritten m m″ (λ q. ltb (getD table q 0) c) word (p + 1)
 rewriting-set table c {m} {m′} {m″} {word} {p} w h k e = rw e (rewritten-set w (lt-ltb (getD table p 0) c h) k)
 

@@ -30,7 +30,8 @@ use Rattle.removal.proofs.PutLinks.{links-append}
 use Rattle.release.specs.Asks.{Sewing, Same}
 
 -- ONE LABEL: two stores are a link
-pub link-stored : (b : List ℕ) (q j : ℕ) (l : Label) {x y : List ℕ} {w : ℕ} → w ≡ code l → x ≡ set b (8 + q * 8 + 3) (2 + 4 * j) → y ≡ set x (8 + q * 8 + 4) w → y ≡ with-link b (record { dart = q; third = critical j l })
+pub link-stored : (b : List ℕ) (q j : ℕ) (l : Label) {x y : List ℕ} {w : ℕ} → w ≡ code l → x ≡ set b (8 + q * 8 + 3) (2 + 4 * j)
+    → y ≡ set x (8 + q * 8 + 4) w → y ≡ with-link b (record { dart = q; third = critical j l })
 link-stored b q j l e f g = rw (g, f, e)
 
 -- MEMORY THAT IS THE SAME WITHIN THE VOLUME
@@ -71,7 +72,9 @@ sewing-stays {m} {marks} {x} {n} w a = record {
   closed = λ p h i. ap (λ (y : ℕ). getD marks y 0) (a .next p) ∙ w .closed p h i;
   along = λ p h i. ap (column x 3) (a .next p) ∙ a .inside (column m 1 p) 3 (omega arith) (w .closed p h i) ∙ w .along p h i ∙ sym (a .inside p 3 (omega arith) i);
   kinds = λ p h i e. a .inside p 3 (omega arith) i ∙ w .kinds p h i (ap (λ (k : ℕ). k % 4) (sym (a .inside p 3 (omega arith) i)) ∙ e);
-  away = λ p h i e. let r = w .away p h i (sym (a .inside p 3 (omega arith) i) ∙ e) in (omega (arith, r .0, a .inside p 4 (omega arith) i), λ o. r .1 (ap (λ (y : ℕ). getD marks y 0) (sym (a .inside p 4 (omega arith) i)) ∙ o));
+  away =
+      λ p h i e. let r = w .away p h i (sym (a .inside p 3 (omega arith) i) ∙ e) in
+      (omega (arith, r .0, a .inside p 4 (omega arith) i), λ o. r .1 (ap (λ (y : ℕ). getD marks y 0) (sym (a .inside p 4 (omega arith) i)) ∙ o));
 }
 
 -- ROUND ONE FACE: the darts sewn to those before p have labels, i of c
@@ -110,7 +113,9 @@ module _ {m marks : List ℕ} {n : ℕ} (w : Sewing m marks n) (j number start :
     same-on : Same m marks (with-link x new-link)
     same-on = same-link (g .same) new-link (across .1)
 
-    rest-on : with-links (with-link x new-link) (label-links (column m 4) j (getD m 0 0) number (suc i) (path (column m 1) (length-of - suc i) (column m 1 p))) ≡ with-links m (label-links (column m 4) j (getD m 0 0) number 0 (cycle (column m 1) start))
+    rest-on : with-links (with-link x new-link)
+        (label-links (column m 4) j (getD m 0 0) number (suc i) (path (column m 1) (length-of - suc i) (column m 1 p)))
+        ≡ with-links m (label-links (column m 4) j (getD m 0 0) number 0 (cycle (column m 1) start))
     unfolding label-links with-links
     rest-on =
         let z : suc (length-of - suc i) ≡ length-of - i = omega (arith, g .going .less) in
@@ -142,7 +147,8 @@ module _ {m marks : List ℕ} {n : ℕ} (w : Sewing m marks n) (j number start :
     pub same-end : {a : ℕ} {y : List ℕ} → a ≡ column x 4 p → y ≡ with-link x (link-at a) → Same m marks y
     same-end e₀ e₁ = rw (put-is e₀ e₁) same-on
 
-    pub walking-end : {a : ℕ} {y : List ℕ} {q : ℕ} → a ≡ column x 4 p → y ≡ with-link x (link-at a) → q ≡ column y 1 p → q ≡ start → y ≡ with-links m (label-links (column m 4) j (getD m 0 0) number 0 (cycle (column m 1) start))
+    pub walking-end : {a : ℕ} {y : List ℕ} {q : ℕ} → a ≡ column x 4 p → y ≡ with-link x (link-at a) → q ≡ column y 1 p → q ≡ start
+        → y ≡ with-links m (label-links (column m 4) j (getD m 0 0) number 0 (cycle (column m 1) start))
     unfolding label-links with-links
     walking-end {a} {y} {q} e₀ e₁ f s =
         let e = put-is e₀ e₁ in
@@ -211,7 +217,14 @@ module _ {m marks : List ℕ} {j : ℕ} {x : List ℕ} {number f : ℕ} (a : Fac
   pub facing-skip : sewn-out m marks (start-of (getD (faces-at m marks) f [])) ≡ false → Facing m marks j x number (f + 1)
   facing-skip e =
       let same-later : later m marks f ≡ later m marks (f + 1) = later-is ∙ rw e in
-      record { same = a .same; number-is = ap (λ (l : List (List ℕ)). number + length l) (sym same-later) ∙ a .number-is; rest = ap (λ (l : List (List ℕ)). with-links x (label-faces (column m 4) j (getD m 0 0) number l)) (sym same-later) ∙ a .rest }
+      record {
+        same =
+            a .same;
+        number-is = ap (λ (l : List (List ℕ)). number + length l) (sym same-later)
+            ∙ a .number-is;
+        rest = ap (λ (l : List (List ℕ)). with-links x (label-faces (column m 4) j (getD m 0 0) number l))
+            (sym same-later) ∙ a .rest;
+      }
 
   module _ (e : sewn-out m marks (start-of (getD (faces-at m marks) f [])) ≡ true) where
     one-later : later m marks f ≡ getD (faces-at m marks) f [] ∷ later m marks (f + 1)
@@ -243,7 +256,9 @@ pub record Starting (m marks order starts : List ℕ) (n darts f : ℕ) : Type 0
   pub face-is : getD (faces (column m 1) (marked n marks)) f [] ≡ cycle (column m 1) (getD order (getD starts f 0) 0)
   pub start-is : start-of (getD (faces (column m 1) (marked n marks)) f []) ≡ getD order (getD starts f 0) 0
 
-pub starting : {m marks order starts : List ℕ} {n darts count : ℕ} → Sewing m marks n → InOrder (faces (column m 1) (marked n marks)) order starts darts count → (f : ℕ) → f < count → Starting m marks order starts n darts f
+pub starting : {m marks order starts : List ℕ} {n darts count : ℕ} → Sewing m marks n
+    → InOrder (faces (column m 1) (marked n marks)) order starts darts count → (f : ℕ) → f < count
+    → Starting m marks order starts n darts f
 starting {m} {marks} {order} {starts} {n} w o f h =
     let r = start-place n (column m 1) marks (w .few) (w .next-within) (w .next-apart) o f h in
     let a = face-at w f (omega (arith, o .count-is)) in
@@ -256,7 +271,8 @@ starting {m} {marks} {order} {starts} {n} w o f h =
       start-is = sym (r .1);
     }
 
-module _ {m marks order starts : List ℕ} {darts count j : ℕ} {x : List ℕ} {number f : ℕ} (w : Sewing m marks (getD m 2 0)) (o : InOrder (faces-at m marks) order starts darts count) (h : f < count) (a : Facing m marks j x number f) where
+module _ {m marks order starts : List ℕ} {darts count j : ℕ} {x : List ℕ} {number f : ℕ} (w : Sewing m marks (getD m 2 0))
+    (o : InOrder (faces-at m marks) order starts darts count) (h : f < count) (a : Facing m marks j x number f) where
   abbrev at : ℕ
   at = getD order (getD starts f 0) 0
 

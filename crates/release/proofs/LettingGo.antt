@@ -49,7 +49,9 @@ module _ (m : List ℕ) (ok : is-image rack m ≡ true) (j d : ℕ) {c : Counts}
     closed = closed-next (site .linked) (w .survey .place-below) (w .survey .volume-marked);
     along = λ q h i. same-kind m n q (pass .thirds q h);
     kinds = λ q h i e. kind-one (pass .range .kinds q h) e;
-    away = λ q h i e. (sewn site pass p (w .survey .place-below) (w .survey .volume-marked) q h e .sewn-lt, away site pass p (w .survey .place-below) (w .survey .volume-marked) (none-within m ok j d w) q h i e);
+    away =
+        λ q h i e.
+        (sewn site pass p (w .survey .place-below) (w .survey .volume-marked) q h e .sewn-lt, away site pass p (w .survey .place-below) (w .survey .volume-marked) (none-within m ok j d w) q h i e);
   }
 
   pub labels-fit : getD m 1 0 + length (sewn-at m marks) < 2 ^ 32
@@ -96,12 +98,15 @@ module _ (m : List ℕ) (j s : ℕ) where
 
   module _ (ok : is-image rack m ≡ true) where
     -- 1 and 2 before
-    block-given : {given : Answer (Unit {0})} {lent : List ℕ} → Asks (departure-checks 512 (block-in m) j s ++ []) m tt (image (released (block-in m) j s)) given lent → Gives (release rack m j s) given lent
+    block-given : {given : Answer (Unit {0})} {lent : List ℕ}
+        → Asks (departure-checks 512 (block-in m) j s ++ []) m tt (image (released (block-in m) j s)) given lent
+        → Gives (release rack m j s) given lent
     unfolding release storing memory-checks departure-checks
     block-given a = gives _ _ _ _ (ask-yes (eq-eqb (length m) words (sited rack m ok .linked .size)) (ask-yes ok a))
 
     pub volume-refused : {q : ℕ} → refused q ≡ answered (departure-checks 512 (block-in m) j s) → Gives (release rack m j s) (refused q) m
     volume-refused e = block-given (ask-first (departure-checks 512 (block-in m) j s) [] e refl)
 
-    pub volume-released : {c : Counts} {marks out starts numbers firsts y : List ℕ} → Departs m j s c marks out starts numbers firsts → y ≡ released-at m marks j → Gives (release rack m j s) (served tt) y
+    pub volume-released : {c : Counts} {marks out starts numbers firsts y : List ℕ} → Departs m j s c marks out starts numbers firsts
+        → y ≡ released-at m marks j → Gives (release rack m j s) (served tt) y
     volume-released w e = block-given (ask-all (departure-checks 512 (block-in m) j s) [] (unfold departure-checks in refl) (w .asked) (ask-end (e ∙ sym (released-image m ok j s w))))

@@ -66,7 +66,8 @@ record-moved m i at t e f g h q = q ∙ rw (h, g, f, e)
 same-link : (t u : ℕ → ℕ) (k a : ℕ) → (k ≡ 1 → t a ≡ u a) → moved-link t k a ≡ moved-link u k a
 same-link t u k a h = ⊎-elim (λ e. sym (link-sewn t k a e) ∙ h e ∙ link-sewn u k a e) (λ e. sym (link-other t k a e) ∙ link-other u k a e) (eq-or-ne k 1)
 
-pub same-words : (t u : ℕ → ℕ) (m : List ℕ) (p : ℕ) → t (column m 1 p) ≡ u (column m 1 p) → t (column m 2 p) ≡ u (column m 2 p) → (column m 3 p ≡ 1 → t (column m 4 p) ≡ u (column m 4 p)) → moved-words t m p ≡ moved-words u m p
+pub same-words : (t u : ℕ → ℕ) (m : List ℕ) (p : ℕ) → t (column m 1 p) ≡ u (column m 1 p) → t (column m 2 p) ≡ u (column m 2 p)
+    → (column m 3 p ≡ 1 → t (column m 4 p) ≡ u (column m 4 p)) → moved-words t m p ≡ moved-words u m p
 unfolding moved-words
 same-words t u m p e f g = rw (e, f, same-link t u (column m 3 p) (column m 4 p) g)
 
@@ -76,14 +77,26 @@ same-column x m p f e = sym (getD-drop (8 + p * 8) x f 0) ∙ ap (λ (l : List �
 
 words-after : (t : ℕ → ℕ) (x m : List ℕ) (p : ℕ) → drop (8 + p * 8) x ≡ drop (8 + p * 8) m → moved-words t x p ≡ moved-words t m p
 unfolding moved-words
-words-after t x m p e = rw (same-column x m p 0 e, same-column x m p 1 e, same-column x m p 2 e, same-column x m p 3 e, same-column x m p 4 e, same-column x m p 5 e, same-column x m p 6 e, same-column x m p 7 e)
+words-after t x m p e =
+    rw (
+      same-column x m p 0 e,
+      same-column x m p 1 e,
+      same-column x m p 2 e,
+      same-column x m p 3 e,
+      same-column x m p 4 e,
+      same-column x m p 5 e,
+      same-column x m p 6 e,
+      same-column x m p 7 e,
+    )
 
 -- a record stored at place t: the front that ends with it, and what lies behind it
 module _ (x r : List ℕ) (t : ℕ) (h : 16 + t * 8 ≤ length x) (l : length r ≡ 8) where
   front-put : take (8 + (t + 1) * 8) (put x t r) ≡ take (8 + t * 8) x ++ r
   front-put =
       let e : 8 + (t + 1) * 8 ≡ 8 + t * 8 + 8 = omega arith in
-      rw (e, ← append-assoc (take (8 + t * 8) x) r (drop (16 + t * 8) x)) (take-at (take (8 + t * 8) x ++ r) _ (8 + t * 8 + 8) (omega (arith, length-append (take (8 + t * 8) x) r, length-take (8 + t * 8) x)))
+      rw (e, ← append-assoc (take (8 + t * 8) x) r (drop (16 + t * 8) x))
+      (take-at (take (8 + t * 8) x ++ r) _ (8 + t * 8 + 8)
+      (omega (arith, length-append (take (8 + t * 8) x) r, length-take (8 + t * 8) x)))
 
   after-put : (k : ℕ) → t < k → drop (8 + k * 8) (put x t r) ≡ drop (8 + k * 8) x
   after-put k less =
@@ -121,7 +134,14 @@ module _ {g : ℕ → List ℕ} {m marks : List ℕ} {i : ℕ} {x : List ℕ} {w
   count-le = omega (arith, v .count, rank-le i marks)
 
   pub moved-none : getD marks i 0 ≡ 1 → {y : List ℕ} {u : ℕ} → y ≡ x → u ≡ w → Moved g m marks (i + 1) y u
-  moved-none h e f = rw (e, f) (record { count = v .count ∙ sym (rank-none i marks h); len = v .len; front = v .front ∙ ap (λ (l : List ℕ). take 8 m ++ l) (sym (records-none g marks i h)); after = one-later x m i (v .after) })
+  moved-none h e f =
+      rw (e, f)
+      (record {
+        count = v .count ∙ sym (rank-none i marks h);
+        len = v .len;
+        front = v .front ∙ ap (λ (l : List ℕ). take 8 m ++ l) (sym (records-none g marks i h));
+        after = one-later x m i (v .after);
+      })
 
   pub moved-one : (getD marks i 0 ≡ 1 → ⊥) → {y r : List ℕ} {u : ℕ} → length r ≡ 8 → r ≡ g i → y ≡ put x w r → u ≡ w + 1 → Moved g m marks (i + 1) y u
   moved-one h {y} {r} {u} eight same e f = rw (e, f) (record {
@@ -178,7 +198,9 @@ all-removed m marks {x} {y} {z} {w} {counter} size few zeros v e f =
     sum = omega (arith, v .count, rank-le n marks)
 
     tail : replicate ((8 + n * 8) - (8 + w * 8)) 0 ++ drop (8 + n * 8) x ≡ replicate ((room - w) * 8) 0
-    tail = ap (λ (l : List ℕ). replicate ((8 + n * 8) - (8 + w * 8)) 0 ++ l) (v .after ∙ zeros) ∙ replicate-append-replicate {A = ℕ} ((8 + n * 8) - (8 + w * 8)) ((room - n) * 8) 0 ∙ ap (λ (k : ℕ). replicate k 0) sum
+    tail =
+        ap (λ (l : List ℕ). replicate ((8 + n * 8) - (8 + w * 8)) 0 ++ l) (v .after ∙ zeros)
+        ∙ replicate-append-replicate {A = ℕ} ((8 + n * 8) - (8 + w * 8)) ((room - n) * 8) 0 ∙ ap (λ (k : ℕ). replicate k 0) sum
 
     whole : y ≡ take 8 m ++ (rows ++ replicate ((room - w) * 8) 0)
     whole = e ∙ ap (λ (l : List ℕ). take (8 + w * 8) x ++ l) tail ∙ ap (λ (l : List ℕ). l ++ replicate ((room - w) * 8) 0) (v .front) ∙ append-assoc (take 8 m) rows (replicate ((room - w) * 8) 0)

@@ -53,11 +53,15 @@ module _ {m : List ℕ} (site : Sited m) (pass : Passed m) (p : ℕ) (h : p < co
       let inj = apart-places (l .next-apart) in
       let few = few-places (l .few) in
       let after = in-cycle (column m 1) (places n) stays inj 4096 q 1 few (in-places n q k) in
-      out (along-face (column m 1) (places n) stays inj few (λ y. getD marks y 0 ≡ 1) (λ y i. closed-next l h mk y (places-below n y i)) (column m 1 q) q (in-places n (column m 1 q) (l .next-within q k)) e
+      out
+      (along-face (column m 1) (places n) stays inj few (λ y. getD marks y 0 ≡ 1) (λ y i. closed-next l h mk y (places-below n y i)) (column m 1 q) q (in-places n (column m 1 q) (l .next-within q k)) e
       (face-sym (column m 1) (places n) stays inj few q (column m 1 q) (in-places n q k) after))
 
   pub opposite-stays : (q : ℕ) → q < n → (getD marks q 0 ≡ 1 → ⊥) → getD marks (column m 2 q) 0 ≡ 1 → ⊥
-  opposite-stays q k out e = out (sym (ap (λ (x : ℕ). getD marks x 0) (linked m n q (pass .links q k) .back)) ∙ closed-opposite (site .linked) h mk (column m 2 q) (site .linked .opposite-within q k) e)
+  opposite-stays q k out e =
+      out
+      (sym (ap (λ (x : ℕ). getD marks x 0) (linked m n q (pass .links q k) .back))
+      ∙ closed-opposite (site .linked) h mk (column m 2 q) (site .linked .opposite-within q k) e)
 
   -- NO DART IS SEWN WITHIN THE VOLUME
   module _ (none : any (sewn-in m marks) v ≡ false) where
@@ -103,12 +107,18 @@ module _ {m : List ℕ} (site : Sited m) (pass : Passed m) (p : ℕ) (h : p < co
 
     pub cut-is : (q : ℕ) → In q (concat (sewn-at m marks)) → Cut q
     cut-is q k =
-        let r = kept-in (column m 1) v stays inj small order test (λ x. column m 3 x ≡ 1) goes (λ x i e. eqb-true (column m 3 x) 1 (sym (test-cycle x i) ∙ e)) (λ x i e. test-cycle x i ∙ eq-eqb (column m 3 x) 1 e) q k in
+        let r =
+        kept-in (column m 1) v stays inj small order test (λ x. column m 3 x ≡ 1) goes
+        (λ x i e. eqb-true (column m 3 x) 1 (sym (test-cycle x i) ∙ e)) (λ x i e. test-cycle x i ∙ eq-eqb (column m 3 x) 1 e)
+        q k
+        in
         let b = marked-in n marks q (r .0) in
         record { below = b .0; inside = b .1; kind = r .1 }
 
     pub in-cut : (q : ℕ) → Cut q → In q (concat (sewn-at m marks))
-    in-cut q k = in-kept (column m 1) v stays inj small order test (λ x. column m 3 x ≡ 1) goes (λ x i e. eqb-true (column m 3 x) 1 (sym (test-cycle x i) ∙ e)) (λ x i e. test-cycle x i ∙ eq-eqb (column m 3 x) 1 e)
+    in-cut q k =
+        in-kept (column m 1) v stays inj small order test (λ x. column m 3 x ≡ 1) goes
+        (λ x i e. eqb-true (column m 3 x) 1 (sym (test-cycle x i) ∙ e)) (λ x i e. test-cycle x i ∙ eq-eqb (column m 3 x) 1 e)
         q (in-marked n marks q (k .below) (k .inside)) (k .kind)
 
     cut-distinct : distinct (concat (sewn-at m marks)) ≡ true

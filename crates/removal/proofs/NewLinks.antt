@@ -57,7 +57,8 @@ module _ (h of by : ℕ → ℕ) (j i : ℕ) where
   )
 
 -- the link of a dart by its other name, where no other dart has that name
-pub find-renamed : (h : ℕ → ℕ) (x : ℕ) (ks : List Link) → ((y : ℕ) → In y (map (λ k. k .dart) ks) → h x ≡ h y → x ≡ y) → find (λ k. k .dart) (h x) (map (renamed h) ks) ≡ Option·map (renamed h) (find (λ k. k .dart) x ks)
+pub find-renamed : (h : ℕ → ℕ) (x : ℕ) (ks : List Link) → ((y : ℕ) → In y (map (λ k. k .dart) ks) → h x ≡ h y → x ≡ y)
+    → find (λ k. k .dart) (h x) (map (renamed h) ks) ≡ Option·map (renamed h) (find (λ k. k .dart) x ks)
 find-renamed h x [] a = refl
 find-renamed h x (k ∷ ks) a = by-cases (eqb x (k .dart))
     (λ e. rw (e, eq-eqb (h x) (h (k .dart)) (ap h (eqb-true x (k .dart) e))))

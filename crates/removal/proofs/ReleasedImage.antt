@@ -56,7 +56,8 @@ link-moved s t ss k a (kind-critical e f g) h = ap (link-word ss) (third-critica
 abbrev parts : ℕ → ℕ → ℕ → List ℕ → List ℕ
 parts number counter count rows = (number ∷ counter ∷ count ∷ 0 ∷ 0 ∷ 0 ∷ 0 ∷ 0 ∷ []) ++ (rows ++ replicate ((room - count) * 8) 0)
 
-module _ {m : List ℕ} (site : Sited m) (pass : Passed m) (p : ℕ) (h : p < count-in m) {marks : List ℕ} (mk : Marked (volume-of m p) marks) (apart : any (sewn-in m marks) (marked (count-in m) marks) ≡ false) (j : ℕ) where
+module _ {m : List ℕ} (site : Sited m) (pass : Passed m) (p : ℕ) (h : p < count-in m) {marks : List ℕ}
+    (mk : Marked (volume-of m p) marks) (apart : any (sewn-in m marks) (marked (count-in m) marks) ≡ false) (j : ℕ) where
   abbrev s : ℕ → ℕ
   s = column m 0
 
@@ -195,7 +196,9 @@ module _ {m : List ℕ} (site : Sited m) (pass : Passed m) (p : ℕ) (h : p < co
           record {
             kind = ap kind-word t ∙ kind-back s (column m 3 q) (column m 4 q) kind-is ∙ three;
             link = ap (link-word (serials after)) t
-                ∙ link-moved s (rank marks) (serials after) (column m 3 q) (column m 4 q) kind-is (λ one. index (column m 4 q) (sewn site pass p h mk q k one .sewn-lt) (λ i. true≢false (sym (sewn-named q k one i) ∙ out)))
+                ∙ link-moved s (rank marks) (serials after) (column m 3 q) (column m 4 q) kind-is
+                (λ one. index (column m 4 q) (sewn site pass p h mk q k one .sewn-lt)
+                (λ i. true≢false (sym (sewn-named q k one i) ∙ out)))
                 ∙ (λ i. moved-link (rank marks) (three i) (four i));
           }
 
@@ -220,8 +223,14 @@ module _ {m : List ℕ} (site : Sited m) (pass : Passed m) (p : ℕ) (h : p < co
       let r = unmarked-in n marks q k in
       let w = third-words q (r .0) (r .1) in
       let col : (f : ℕ) → f < 8 → (f ≡ 3 → ⊥) → (f ≡ 4 → ⊥) → column m f q ≡ column x f q = λ f a b c. sym (column-stays m new q f a b c) in
-      let next = index (column m 1 q) (site .linked .next-within q (r .0)) (next-stays site pass p h mk q (r .0) (r .1)) ∙ ap (rank marks) (col 1 (omega arith) (λ e. omega arith) (λ e. omega arith)) in
-      let opposite = index (column m 2 q) (site .linked .opposite-within q (r .0)) (opposite-stays site pass p h mk q (r .0) (r .1)) ∙ ap (rank marks) (col 2 (omega arith) (λ e. omega arith) (λ e. omega arith)) in
+      let next =
+      index (column m 1 q) (site .linked .next-within q (r .0)) (next-stays site pass p h mk q (r .0) (r .1))
+      ∙ ap (rank marks) (col 1 (omega arith) (λ e. omega arith) (λ e. omega arith))
+      in
+      let opposite =
+      index (column m 2 q) (site .linked .opposite-within q (r .0)) (opposite-stays site pass p h mk q (r .0) (r .1))
+      ∙ ap (rank marks) (col 2 (omega arith) (λ e. omega arith) (λ e. omega arith))
+      in
       λ i. col 0 (omega arith) (λ e. omega arith) (λ e. omega arith) i ∷ next i ∷ opposite i ∷ w .kind i ∷ w .link i
       ∷ col 5 (omega arith) (λ e. omega arith) (λ e. omega arith) i ∷ col 6 (omega arith) (λ e. omega arith) (λ e. omega arith) i ∷ col 7 (omega arith) (λ e. omega arith) (λ e. omega arith) i ∷ []
 
@@ -253,7 +262,9 @@ module _ (m : List ℕ) (ok : is-image rack m ≡ true) (j d : ℕ) {c : Counts}
       let q10 = yes-first 10 _ _ (λ z. omega arith) (q9 .1) in
       let q11 = yes-first 11 _ _ (λ z. omega arith) (q10 .1) in
       let q12 = yes-first 12 _ _ (λ z. omega arith) (q11 .1) in
-      not-true (any (sewn-in m marks) (marked (count-in m) marks)) (sym (question-12 (sited rack m ok) (w .survey .place) (w .survey .place-below) (w .survey .volume-marked)) ∙ rw (w .serial-is) (q12 .0))
+      not-true (any (sewn-in m marks) (marked (count-in m) marks))
+      (sym (question-12 (sited rack m ok) (w .survey .place) (w .survey .place-below) (w .survey .volume-marked))
+      ∙ rw (w .serial-is) (q12 .0))
 
   -- THE LAW OF RELEASE
   pub released-image : image (released (block-in m) j d) ≡ released-at m marks j

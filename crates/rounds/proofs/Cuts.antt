@@ -79,14 +79,22 @@ module _ {bs : List ℕ} {n next : ℕ} (w : Took group bs 0 n next) where
   cut-short h = let l = length-take (message-length bs (group .get bs)) bs in let s = size-is in let g = w .within in omega (arith, l, s, h, g)
 
 take-fits : (n : ℕ) (l : List ℕ) → take (length (take n l)) l ≡ take n l
-take-fits n l = ⊎-elim (λ (h : n ≤ length l). ap (λ (k : ℕ). take k l) (length-take-le n l h)) (λ (h : length l ≤ n). ap (λ (k : ℕ). take k l) (ap length (take-all n l h)) ∙ take-length l ∙ sym (take-all n l h)) (le-or-ge n (length l))
+take-fits n l =
+    ⊎-elim (λ (h : n ≤ length l). ap (λ (k : ℕ). take k l) (length-take-le n l h))
+    (λ (h : length l ≤ n). ap (λ (k : ℕ). take k l) (ap length (take-all n l h)) ∙ take-length l ∙ sym (take-all n l h))
+    (le-or-ge n (length l))
 
 drop-fits : (n : ℕ) (l : List ℕ) → drop (length (take n l)) l ≡ drop n l
-drop-fits n l = ⊎-elim (λ (h : n ≤ length l). ap (λ (k : ℕ). drop k l) (length-take-le n l h)) (λ (h : length l ≤ n). ap (λ (k : ℕ). drop k l) (ap length (take-all n l h)) ∙ drop-length l ∙ sym (drop-of-length-le l h)) (le-or-ge n (length l))
+drop-fits n l =
+    ⊎-elim (λ (h : n ≤ length l). ap (λ (k : ℕ). drop k l) (length-take-le n l h))
+    (λ (h : length l ≤ n). ap (λ (k : ℕ). drop k l) (ap length (take-all n l h)) ∙ drop-length l ∙ sym (drop-of-length-le l h))
+    (le-or-ge n (length l))
 
 -- the first message as a part of the slice, and those behind it
 pub first-part : (u : List ℕ) (at end : ℕ) → end ≡ at + length (first-in (drop at u)) → take (end - at) (drop at u) ≡ first-in (drop at u)
-first-part u at end e = let k : end - at ≡ length (first-in (drop at u)) = omega (arith, e) in ap (λ (n : ℕ). take n (drop at u)) k ∙ take-fits (message-length (drop at u) (group .get (drop at u))) (drop at u)
+first-part u at end e =
+    let k : end - at ≡ length (first-in (drop at u)) = omega (arith, e) in ap (λ (n : ℕ). take n (drop at u)) k ∙ take-fits
+    (message-length (drop at u) (group .get (drop at u))) (drop at u)
 
 pub behind-first : (u : List ℕ) (at end : ℕ) → end ≡ at + length (first-in (drop at u)) → rest-in (drop at u) ≡ drop end u
 behind-first u at end e = sym (drop-fits (message-length (drop at u) (group .get (drop at u))) (drop at u)) ∙ drop-drop (length (first-in (drop at u))) at u ∙ ap (λ (n : ℕ). drop n u) (sym e)
@@ -137,7 +145,10 @@ first-is (x ∷ bs) = ap (λ (l : List (List ℕ)). getD l 0 []) (first-then (x 
 
 pub others-are : (bs : List ℕ) (n : ℕ) → n ≡ length (first-in bs) → drop 1 (messages-in bs) ≡ messages-in (drop n bs)
 others-are [] n e = ap (drop 1) nothing-in ∙ sym (ap messages-in (drop-nil n) ∙ nothing-in)
-others-are (x ∷ bs) n e = ap (drop 1) (first-then (x ∷ bs) (omega arith)) ∙ ap messages-in (sym (drop-fits (message-length (x ∷ bs) (group .get (x ∷ bs))) (x ∷ bs)) ∙ ap (λ (k : ℕ). drop k (x ∷ bs)) (sym e))
+others-are (x ∷ bs) n e =
+    ap (drop 1) (first-then (x ∷ bs) (omega arith))
+    ∙ ap messages-in
+    (sym (drop-fits (message-length (x ∷ bs) (group .get (x ∷ bs))) (x ∷ bs)) ∙ ap (λ (k : ℕ). drop k (x ∷ bs)) (sym e))
 
 pub first-front : (bs : List ℕ) (n : ℕ) → n ≡ length (first-in bs) → take n bs ≡ first-in bs
 first-front bs n e = ap (λ (k : ℕ). take k bs) e ∙ take-fits (message-length bs (group .get bs)) bs

@@ -34,7 +34,9 @@ use Rattle.rounds.proofs.Cuts.{first-is, others-are, first-front}
 use Rattle.rounds.proofs.Placed.{memory-is, no-memory}
 
 -- SEND at a block of the mesh
-pub sent-part : (m : List ℕ) (b a : ℕ) → a ≡ b * 32776 → (to serial : ℕ) (outbox : List ℕ) {given : List ℕ} {r : Answer ℕ} → Gives (send rack (take (a + 32776 - a) (drop a m)) to serial outbox) r given → Gives (send rack (part m b) to serial outbox) r given
+pub sent-part : (m : List ℕ) (b a : ℕ) → a ≡ b * 32776 → (to serial : ℕ) (outbox : List ℕ) {given : List ℕ} {r : Answer ℕ}
+    → Gives (send rack (take (a + 32776 - a) (drop a m)) to serial outbox) r given
+    → Gives (send rack (part m b) to serial outbox) r given
 sent-part m b a e to serial outbox {given} {r} w = subst (λ (x : List ℕ). Gives (send rack x to serial outbox) r given) (part-is m b a e) w
 
 -- every question has a number above 0
@@ -109,7 +111,8 @@ module _ (m : List ℕ) (from to serial : ℕ) (sent : List ℕ) where
         left = v .left;
       }
 
-  pub taken-there : (n : ℕ) {m₁ m₂ : List ℕ} {ok : Bool} (o : Outcome) → n ≡ length (first-in sent) → outcome-of o ≡ cond ok runs.finished runs.unfinished → Stepped m (at-block to (receiving (first-in sent))) 0 m₁
+  pub taken-there : (n : ℕ) {m₁ m₂ : List ℕ} {ok : Bool} (o : Outcome) → n ≡ length (first-in sent)
+      → outcome-of o ≡ cond ok runs.finished runs.unfinished → Stepped m (at-block to (receiving (first-in sent))) 0 m₁
       → Ran m₁ (at-block from (releasing to serial) ∷ map redirect-step (messages-in (drop n sent))) ok m₂ → Delivered m from to serial sent o m₂
   unfolding delivered
   taken-there n {m₁} {m₂} {ok} o l f w r =
@@ -132,7 +135,8 @@ yes-finished e = rw e refl
 no-finished : {ok : Bool} → ok ≡ false → runs.unfinished ≡ cond ok runs.finished runs.unfinished
 no-finished e = rw e refl
 
-module _ (m : List ℕ) (from to serial : ℕ) (sent : List ℕ) (n : ℕ) (l : n ≡ length (first-in sent)) (a : answers.Answer) {m₁ : List ℕ} (w : Stepped m (at-block to (receiving (take n sent))) (number-of (answer-of a)) m₁) where
+module _ (m : List ℕ) (from to serial : ℕ) (sent : List ℕ) (n : ℕ) (l : n ≡ length (first-in sent)) (a : answers.Answer)
+    {m₁ : List ℕ} (w : Stepped m (at-block to (receiving (take n sent))) (number-of (answer-of a)) m₁) where
   first-got : {k : ℕ} → number-of (answer-of a) ≡ k → Stepped m (at-block to (receiving (first-in sent))) k m₁
   first-got {k} e = subst (λ (x : List ℕ). Stepped m (at-block to (receiving x)) k m₁) (first-front sent n l) (subst (λ (k : ℕ). Stepped m (at-block to (receiving (take n sent))) k m₁) e w)
 
@@ -164,10 +168,13 @@ fits-in qs out bytes n e = go (eqb (first-no (with-fifteen qs out bytes)) 0) ref
         let k : _≡_ {A = ℕ} 0 (first-no (with-fifteen qs out bytes)) = ap number-of (e ∙ ap (λ (r : Result ℕ). r .answer) s) in
         absurd (eqb-false (first-no (with-fifteen qs out bytes)) 0 q (sym k))
 
-pub within-outbox : (x : List ℕ) (to serial : ℕ) (outbox : List ℕ) {n : ℕ} {w : answers-written.Written} {outbox′ : List ℕ} → Gives (send rack x to serial outbox) (written-of w) outbox′ → w ≡ written-as.Served n → n ≤ length outbox′
+pub within-outbox : (x : List ℕ) (to serial : ℕ) (outbox : List ℕ) {n : ℕ} {w : answers-written.Written} {outbox′ : List ℕ}
+    → Gives (send rack x to serial outbox) (written-of w) outbox′ → w ≡ written-as.Served n → n ≤ length outbox′
 unfolding send
 within-outbox x to serial outbox {n} {w} {outbox′} g e =
-    subst (λ (k : List ℕ). n ≤ length k) (sym (g .left)) (fits-in (memory-checks rack x ++ departure-checks (rack .volume-darts) (block-in x) to serial) outbox (concat (messages (block-in x) to serial)) n (sym (ap written-of e) ∙ g .answer))
+    subst (λ (k : List ℕ). n ≤ length k) (sym (g .left))
+    (fits-in (memory-checks rack x ++ departure-checks (rack .volume-darts) (block-in x) to serial) outbox
+    (concat (messages (block-in x) to serial)) n (sym (ap written-of e) ∙ g .answer))
 
 -- SENT, or not
 module _ (m : List ℕ) (from to serial : ℕ) (outbox : List ℕ) where
@@ -210,7 +217,9 @@ module _ (m : List ℕ) (from to serial : ℕ) (outbox : List ℕ) where
         outbox-is = w .left;
       }
 
-  pub refused-here : from < length m / 32776 → (q : Refusal) {outbox′ : List ℕ} → Gives (send rack (part m from) to serial outbox) (refused (question q)) outbox′ → Played m from to serial outbox (outcome.Refused q) m outbox′
+  pub refused-here : from < length m / 32776 → (q : Refusal) {outbox′ : List ℕ}
+      → Gives (send rack (part m from) to serial outbox) (refused (question q)) outbox′
+      → Played m from to serial outbox (outcome.Refused q) m outbox′
   refused-here h q w = not-sent q (at-home h w)
 
   pub nobody-here : length m / 32776 ≤ from → Played m from to serial outbox (outcome.Refused refusal.MemorySize) m outbox
@@ -219,7 +228,9 @@ module _ (m : List ℕ) (from to serial : ℕ) (outbox : List ℕ) where
       none : _≡_ {A = ℕ} 0 32776 → ⊥
       none e = absurd (omega (arith, e))
 
-  pub was-sent : from < length m / 32776 → (n : ℕ) {outbox′ m′ : List ℕ} (o : Outcome) → Gives (send rack (part m from) to serial outbox) (served n) outbox′ → Delivered m from to serial (take n outbox′) o m′ → Played m from to serial outbox o m′ outbox′
+  pub was-sent : from < length m / 32776 → (n : ℕ) {outbox′ m′ : List ℕ} (o : Outcome)
+      → Gives (send rack (part m from) to serial outbox) (served n) outbox′ → Delivered m from to serial (take n outbox′) o m′
+      → Played m from to serial outbox o m′ outbox′
   was-sent h n {outbox′} {m′} o g d =
       let w = at-home h g in
       let k = number-there w in
@@ -233,8 +244,12 @@ module _ (m : List ℕ) (from to serial : ℕ) (outbox : List ℕ) where
         outbox-is = w .left;
       }
 
-  pub refused-by-send : from < length m / 32776 → (q : Refusal) {w : answers-written.Written} {outbox′ : List ℕ} → Gives (send rack (part m from) to serial outbox) (written-of w) outbox′ → w ≡ written-as.Refused q → Played m from to serial outbox (outcome.Refused q) m outbox′
+  pub refused-by-send : from < length m / 32776 → (q : Refusal) {w : answers-written.Written} {outbox′ : List ℕ}
+      → Gives (send rack (part m from) to serial outbox) (written-of w) outbox′ → w ≡ written-as.Refused q
+      → Played m from to serial outbox (outcome.Refused q) m outbox′
   refused-by-send h q {w} {outbox′} g e = refused-here h q (subst (λ (x : answers-written.Written). Gives (send rack (part m from) to serial outbox) (written-of x) outbox′) e g)
 
-  pub was-played : from < length m / 32776 → (n : ℕ) (o : Outcome) {w : answers-written.Written} {outbox′ m′ : List ℕ} → Gives (send rack (part m from) to serial outbox) (written-of w) outbox′ → w ≡ written-as.Served n → Delivered m from to serial (take n outbox′) o m′ → Played m from to serial outbox o m′ outbox′
+  pub was-played : from < length m / 32776 → (n : ℕ) (o : Outcome) {w : answers-written.Written} {outbox′ m′ : List ℕ}
+      → Gives (send rack (part m from) to serial outbox) (written-of w) outbox′ → w ≡ written-as.Served n
+      → Delivered m from to serial (take n outbox′) o m′ → Played m from to serial outbox o m′ outbox′
   was-played h n o {w} {outbox′} g e d = was-sent h n o (subst (λ (x : answers-written.Written). Gives (send rack (part m from) to serial outbox) (written-of x) outbox′) e g) d

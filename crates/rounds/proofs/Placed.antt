@@ -97,7 +97,8 @@ module _ {m p m′ : List ℕ} {i : ℕ} (w : Replaced m i p m′) (h : i < leng
   pub left-as-was : left-over m′ ≡ left-over m
   left-as-was = ext-getD 0 (left-over m′) (left-over m)
       (length-drop (length m′ / 32776 * 32776) m′ ∙ ap (λ (n : ℕ). n - n / 32776 * 32776) (w .size) ∙ sym (length-drop (length m / 32776 * 32776) m))
-      (λ t l. getD-drop (length m′ / 32776 * 32776) m′ t 0 ∙ ap (λ (n : ℕ). getD m′ (n / 32776 * 32776 + t) 0) (w .size) ∙ high-from (length m / 32776 * 32776 + t) (omega (arith, h)) ∙ sym (getD-drop (length m / 32776 * 32776) m t 0))
+      (λ t l. getD-drop (length m′ / 32776 * 32776) m′ t 0 ∙ ap (λ (n : ℕ). getD m′ (n / 32776 * 32776 + t) 0) (w .size) ∙
+      high-from (length m / 32776 * 32776 + t) (omega (arith, h)) ∙ sym (getD-drop (length m / 32776 * 32776) m t 0))
 
 -- the memory of a block that the mesh has
 pub memory-is : (m : List ℕ) (i : ℕ) → i < length m / 32776 → getD (memories m) i [] ≡ part m i
@@ -107,4 +108,7 @@ memory-is m i h = getD-tab (part m) (length m / 32776) i [] h
 -- and of one that it has not
 pub no-memory : (m : List ℕ) (i : ℕ) → length m / 32776 ≤ i → (getD (memories m) i [] ≡ []) × ((p : List ℕ) → set (memories m) i p ≡ memories m)
 unfolding memories
-no-memory m i h = (List·getD-eq-default (tab (part m) (length m / 32776)) [] (rw (length-tab (part m) (length m / 32776)) h), λ p. set-out (tab (part m) (length m / 32776)) i p (rw (length-tab (part m) (length m / 32776)) h))
+no-memory m i h = (
+  List·getD-eq-default (tab (part m) (length m / 32776)) [] (rw (length-tab (part m) (length m / 32776)) h),
+  λ p. set-out (tab (part m) (length m / 32776)) i p (rw (length-tab (part m) (length m / 32776)) h),
+)

@@ -68,18 +68,25 @@ pub none-told : (m u : List ℕ) → Telling m u 0 true m
 none-told m u = record { within = omega arith; told = []; all-are = refl; ran = none-ran m }
 
 module _ {m u m′ : List ℕ} {at : ℕ} {ok : Bool} (w : Telling m u at ok m′) where
-  pub one-more : at < length u → (end : ℕ) → end ≡ at + length (first-in (drop at u)) → {b : Bool} {m″ : List ℕ} → Ran m′ (redirect-step (first-in (drop at u)) ∷ []) b m″ → Telling m u end (ok && b) m″
+  pub one-more : at < length u → (end : ℕ) → end ≡ at + length (first-in (drop at u)) → {b : Bool} {m″ : List ℕ}
+      → Ran m′ (redirect-step (first-in (drop at u)) ∷ []) b m″ → Telling m u end (ok && b) m″
   one-more h end e r = record {
     within = let l = first-fits (drop at u) in let d = length-drop at u in omega (arith, e, l, d, h);
     told = w .told ++ redirect-step (first-in (drop at u)) ∷ [];
     all-are = w .all-are
-        ∙ ap (λ (l : List (List ℕ)). w .told ++ map redirect-step l) (first-then (drop at u) (let d = length-drop at u in omega (arith, d, h)) ∙ ap (λ (q : List ℕ). first-in (drop at u) ∷ messages-in q) (behind-first u at end e))
+        ∙ ap (λ (l : List (List ℕ)). w .told ++ map redirect-step l)
+        (first-then (drop at u) (let d = length-drop at u in omega (arith, d, h))
+        ∙ ap (λ (q : List ℕ). first-in (drop at u) ∷ messages-in q) (behind-first u at end e))
         ∙ sym (append-assoc (w .told) (redirect-step (first-in (drop at u)) ∷ []) (map redirect-step (messages-in (drop end u))));
     ran = then-ran (w .ran) r;
   }
 
   pub all-told : length u ≤ at → Ran m (map redirect-step (messages-in u)) ok m′
-  all-told h = rw (w .all-are ∙ ap (λ (q : List ℕ). w .told ++ map redirect-step (messages-in q)) (ap (λ (n : ℕ). drop n u) end ∙ drop-length u) ∙ ap (λ (l : List (List ℕ)). w .told ++ map redirect-step l) nothing-in ∙ append-nil (w .told)) (w .ran)
+  all-told h =
+      rw
+      (w .all-are
+      ∙ ap (λ (q : List ℕ). w .told ++ map redirect-step (messages-in q)) (ap (λ (n : ℕ). drop n u) end ∙ drop-length u)
+      ∙ ap (λ (l : List (List ℕ)). w .told ++ map redirect-step l) nothing-in ∙ append-nil (w .told)) (w .ran)
     where
       end : at ≡ length u
       end = let k = w .within in omega (arith, h, k)

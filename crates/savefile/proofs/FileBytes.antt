@@ -109,7 +109,9 @@ link-length m p = rw (length-append (serial .put (column m 0 p)), length-append 
 
 pub dart-length : (m : List ℕ) (p : ℕ)
     → length (a-dart .put (dart-in m p))
-    ≡ length (serial .put (column m 0 p)) + (length (serial .put (column m 0 (column m 1 p))) + (length (serial .put (column m 0 (column m 2 p))) + (length (third-bytes (column m 3 p) (third-named m p)) + 24)))
+    ≡ length (serial .put (column m 0 p)) +
+    (length (serial .put (column m 0 (column m 1 p))) +
+    (length (serial .put (column m 0 (column m 2 p))) + (length (third-bytes (column m 3 p) (third-named m p)) + 24)))
 dart-length m p =
     let t = third-bytes (column m 3 p) (third-named m p) in
     let q = point .put (dart-in m p .point) in

@@ -111,7 +111,8 @@ sewn-none w kinds links ranks old new = record {
   stays = λ f p h a b. refl;
 }
 
-module _ {w kinds links ranks old new : List ℕ} {n k i : ℕ} {m : List ℕ} (ok : Sewable n k kinds links ranks old new) (size : length m ≡ words) (so-far : Sewn w kinds links ranks old new i m) (h : i < k) where
+module _ {w kinds links ranks old new : List ℕ} {n k i : ℕ} {m : List ℕ} (ok : Sewable n k kinds links ranks old new)
+    (size : length m ≡ words) (so-far : Sewn w kinds links ranks old new i m) (h : i < k) where
   stepped : Step m (sewn-at m (getD kinds i 0) (getD links i 0) old (place-of ranks new i)) (getD kinds i 0) (getD links i 0) old (place-of ranks new i)
   stepped = step m (getD kinds i 0) (getD links i 0) old (place-of ranks new i)
       (let a = ok .new-below i h in let f = ok .fits in omega (arith, a, f, size))

@@ -81,7 +81,8 @@ module _ (m : List ℕ) (n p : ℕ) where
     point-go e ek k1 el ew er = and-go (sym same-is ∙ e) (rw (eq-eqb (column m 3 p) 1 (sym ek ∙ k1)) (er ∙ rw (ew, el) refl))
 
   -- 2, with the darts that it links to
-  module _ {a b k c j v : ℕ} {s : Bool} (ea : a ≡ column m 1 p) (eb : b ≡ column m 2 p) (ek : k ≡ column m 3 p) (ec : c ≡ column m 2 b) (ej : j ≡ column m 3 a) (ev : v ≡ column m 1 b) (es : s ≡ same-at m p v) where
+  module _ {a b k c j v : ℕ} {s : Bool} (ea : a ≡ column m 1 p) (eb : b ≡ column m 2 p) (ek : k ≡ column m 3 p)
+      (ec : c ≡ column m 2 b) (ej : j ≡ column m 3 a) (ev : v ≡ column m 1 b) (es : s ≡ same-at m p v) where
     near-is : (eqb c p && eqb j k && s) ≡ (eqb (column m 2 (column m 2 p)) p && eqb (column m 3 (column m 1 p)) (column m 3 p) && same-at m p (column m 1 (column m 2 p)))
     near-is = rw (es, ev, ec, ej, ek, ea, eb) refl
 
@@ -105,7 +106,14 @@ module _ (m : List ℕ) (n p : ℕ) where
 pub same-go : (m : List ℕ) (p v : ℕ) → FiniteAt m p → FiniteAt m v → {a b : Point} {r : Bool}
     → a ≡ point-of (column m 5 p) (column m 6 p) (column m 7 p) → b ≡ point-of (column m 5 v) (column m 6 v) (column m 7 v)
     → r ≡ same-point (patterns a) (patterns b) → r ≡ same-at m p v
-same-go m p v fp fv ea eb er = er ∙ rw (ea, eb, point-patterns (column m 5 p) (column m 6 p) (column m 7 p) (fp .on-x) (fp .on-y) (fp .on-z), point-patterns (column m 5 v) (column m 6 v) (column m 7 v) (fv .on-x) (fv .on-y) (fv .on-z)) refl
+same-go m p v fp fv ea eb er =
+    er
+    ∙ rw (
+      ea,
+      eb,
+      point-patterns (column m 5 p) (column m 6 p) (column m 7 p) (fp .on-x) (fp .on-y) (fp .on-z),
+      point-patterns (column m 5 v) (column m 6 v) (column m 7 v) (fv .on-x) (fv .on-y) (fv .on-z),
+    ) refl
 
 -- 2, by itself: kind words
 pub near-go : (me counter n k a : ℕ) → k < 2 → ((eqb k 0 && eqb a 0) || (eqb k 1 && ltb a n)) ≡ kind-test me counter n k a

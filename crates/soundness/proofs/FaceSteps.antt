@@ -203,7 +203,15 @@ module _ (S : List ℕ) (nx pv : ℕ → ℕ) (one : (x y : ℕ) → In x S → 
 
   paired-back : (a z : ℕ) → In a S → Pair (nx a) z → (w : ℕ) × Pair a w
   paired-back a z h (k, l, inl e) = let j = downs k l in (iter pv (j .0) y, (j .0, j .1, inl (one a (iter nx (j .0) x) h (in-along (j .0) (j .1)) (e .0 ∙ j .2), refl)))
-  paired-back a z h (k, l, inr e) = let j = ups k l in (iter nx (j .0) x, (j .0, j .1, inr (one a (iter pv (j .0) y) h (in-against (j .0) (j .1)) (e .0 ∙ sym (next-back k l) ∙ ap nx (sym (j .3))), refl)))
+  paired-back a z h (k, l, inr e) =
+      let j = ups k l in (
+        iter nx (j .0) x,
+        (
+          j .0,
+          j .1,
+          inr (one a (iter pv (j .0) y) h (in-against (j .0) (j .1)) (e .0 ∙ sym (next-back k l) ∙ ap nx (sym (j .3))), refl),
+        ),
+      )
 
   pub faces-sewn : (pt : ℕ → Point) (me counter : ℕ) (T : ℕ → Third) → Good S nx pt me counter T
       → ((a c : ℕ) → Pair a c → pt a ≡ pt (nx c)) → ((a c z : ℕ) → Pair a c → T a ≡ sewn z → ⊥)

@@ -97,10 +97,14 @@ module _ (lim : Limits) (b : Block) (t : Transfer) (s : sound-block lim b ≡ tr
   free-new x h = ap (λ (d : Dart). d .third) (new-at x h) ∙ (let r = new-side t x h in ap (third-at (new-darts t)) (r .2) ∙ free-side t once (r .0) (r .1))
 
   frame-new : Frame (new-serials t) (next-in joined-darts) (opposite-in joined-darts) (point-of joined-darts)
-  frame-new = frame-cong (new-serials t) _ _ _ _ _ _ (λ x h. ap (λ (d : Dart). d .next) (new-at x h)) (λ x h. ap (λ (d : Dart). d .opposite) (new-at x h)) (λ x h. ap (λ (d : Dart). d .point) (new-at x h)) frame
+  frame-new =
+      frame-cong (new-serials t) _ _ _ _ _ _ (λ x h. ap (λ (d : Dart). d .next) (new-at x h))
+      (λ x h. ap (λ (d : Dart). d .opposite) (new-at x h)) (λ x h. ap (λ (d : Dart). d .point) (new-at x h)) frame
 
   frame-old : Frame (serials (b .darts)) (next-in joined-darts) (opposite-in joined-darts) (point-of joined-darts)
-  frame-old = frame-cong (serials (b .darts)) _ _ _ _ _ _ (λ x h. ap (λ (d : Dart). d .next) (old-at x h)) (λ x h. ap (λ (d : Dart). d .opposite) (old-at x h)) (λ x h. ap (λ (d : Dart). d .point) (old-at x h)) (frame-of lim b s)
+  frame-old =
+      frame-cong (serials (b .darts)) _ _ _ _ _ _ (λ x h. ap (λ (d : Dart). d .next) (old-at x h))
+      (λ x h. ap (λ (d : Dart). d .opposite) (old-at x h)) (λ x h. ap (λ (d : Dart). d .point) (old-at x h)) (frame-of lim b s)
 
   few : length joined-darts ≤ lim .block-darts
   few = let r = insert-all-length (new-darts t) (b .darts) in

@@ -201,7 +201,9 @@ module _ (lim : Limits) (b : Block) (t : Transfer) (small : lim .block-darts ≤
     once-here x y v h k e g =
         let a = at-key x h in
         let c = at-key y k in
-        a .3 ∙ codes-one (λ k. k .third) (λ k. k .dart) ks (distinct-left (codes (λ k. k .third) ks) K new-codes) v (a .0) (c .0) (a .1) (c .1) (ap label-key (sym (a .2)) ∙ e) (ap label-key (sym (c .2)) ∙ g) ∙ sym (c .3)
+        a .3
+        ∙ codes-one (λ k. k .third) (λ k. k .dart) ks (distinct-left (codes (λ k. k .third) ks) K new-codes) v (a .0) (c .0) (a .1)
+        (c .1) (ap label-key (sym (a .2)) ∙ e) (ap label-key (sym (c .2)) ∙ g) ∙ sym (c .3)
 
     pub label-step : Stage (after ks T) (i ∷ is) rs (codes (λ k. k .third) ks ++ K)
     label-step = record {
@@ -230,7 +232,10 @@ module _ (lim : Limits) (b : Block) (t : Transfer) (small : lim .block-darts ≤
       ap (λ (l : List ℕ). l ++ K) (codes-append (λ k. k .third) (links m) rest) ∙ append-assoc (codes (λ k. k .third) (links m)) (codes (λ k. k .third) rest) K in
       let c' : distinct (codes (λ k. k .third) (links m) ++ (codes (λ k. k .third) rest ++ K)) ≡ true = subst (λ (l : List ℕ). distinct l ≡ true) e c in
       let later = label-parts index links ms (λ n h. L n (inr h)) T is K G (and-right (not (mem (index m) (map index ms ++ is))) _ d) (distinct-right (codes (λ k. k .third) (links m)) _ c') in
-      let here = label-step (after rest T) (map index ms ++ is) [] (codes (λ k. k .third) rest ++ K) later (index m) (links m) (L m (inl refl)) (not-true (mem (index m) (map index ms ++ is)) (and-left _ _ d)) c' in
+      let here =
+      label-step (after rest T) (map index ms ++ is) [] (codes (λ k. k .third) rest ++ K) later (index m) (links m)
+      (L m (inl refl)) (not-true (mem (index m) (map index ms ++ is)) (and-left _ _ d)) c'
+      in
       subst (λ (l : List ℕ). Stage (after (links m ++ rest) T) (index m ∷ map index ms ++ is) [] l) (sym e)
       (subst (λ (U : ℕ → Third). Stage U (index m ∷ map index ms ++ is) [] (codes (λ k. k .third) (links m) ++ (codes (λ k. k .third) rest ++ K))) (after-append (links m) rest T) here)
 
@@ -259,7 +264,10 @@ module _ (lim : Limits) (b : Block) (t : Transfer) (small : lim .block-darts ≤
   least-back y h =
       let z = previous-in ds y in
       let hz = back-in y h in
-      let near : In y (around (next-in ds) z 4096 z) = in-eq y (next-in ds z) (around (next-in ds) z 4096 z) (sym (LB .next-previous y h)) (in-cycle (next-in ds) old (LB .next-in-block) next-one 4096 z 1 few-old hz) in
+      let near : In y (around (next-in ds) z 4096 z) =
+      in-eq y (next-in ds z) (around (next-in ds) z 4096 z) (sym (LB .next-previous y h))
+      (in-cycle (next-in ds) old (LB .next-in-block) next-one 4096 z 1 few-old hz)
+      in
       least-same _ _ z (face-self (next-in ds) old (LB .next-in-block) next-one few-old z hz)
       (λ w k. face-trans (next-in ds) old (LB .next-in-block) next-one few-old y z w h (face-sym (next-in ds) old (LB .next-in-block) next-one few-old z y hz near) k)
       (λ w k. face-trans (next-in ds) old (LB .next-in-block) next-one few-old z y w hz near k)
@@ -345,7 +353,10 @@ module _ (lim : Limits) (b : Block) (t : Transfer) (small : lim .block-darts ≤
       where
         go : (p : ℕ) × (0 < p) × (p ≤ 4096) × (around pv y₀ 4096 y₀ ≡ path pv p y₀) × (iter pv p y₀ ≡ y₀) × ((k : ℕ) → 0 < k → k < p → iter pv k y₀ ≢ y₀) → Against
         go r =
-            let e : r .0 ≡ fm .along .size = sym (path-length pv (r .0) y₀) ∙ ap length (sym (r .3)) ∙ sym (asked .same-size) ∙ ap length (fm .along .is-path) ∙ path-length nx (fm .along .size) (fm .along .first) in
+            let e : r .0 ≡ fm .along .size =
+            sym (path-length pv (r .0) y₀) ∙ ap length (sym (r .3)) ∙ sym (asked .same-size) ∙ ap length (fm .along .is-path)
+            ∙ path-length nx (fm .along .size) (fm .along .first)
+            in
             let is : met ≡ path pv (fm .along .size) y₀ = r .3 ∙ ap (λ (n : ℕ). path pv n y₀) e in
             record {
               met-is = is;
@@ -394,7 +405,8 @@ module _ (lim : Limits) (b : Block) (t : Transfer) (small : lim .block-darts ≤
 
     meet-at : (k : ℕ) → k < n₀ → points-meet ds t (iter nx k x₀) (iter pv k y₀) ≡ true
     meet-at k h = all-elem (λ p. points-meet ds t (p .0) (p .1)) (zip (path nx n₀ x₀) (path pv n₀ y₀))
-        (subst (λ (l : List (ℕ × ℕ)). all (λ p. points-meet ds t (p .0) (p .1)) l ≡ true) (ap (λ (l : List ℕ). zip l met) (fm .along .is-path) ∙ ap (zip (path nx n₀ x₀)) (against .met-is)) (asked .all-meet))
+        (subst (λ (l : List (ℕ × ℕ)). all (λ p. points-meet ds t (p .0) (p .1)) l ≡ true)
+        (ap (λ (l : List ℕ). zip l met) (fm .along .is-path) ∙ ap (zip (path nx n₀ x₀)) (against .met-is)) (asked .all-meet))
         (iter nx k x₀, iter pv k y₀) (zip-at nx pv n₀ x₀ y₀ k h)
 
     -- the points of both
@@ -434,7 +446,9 @@ module _ (lim : Limits) (b : Block) (t : Transfer) (small : lim .block-darts ≤
 
       sewn-stage : Stage T' (m .index ∷ is) (least-of y₀ ∷ rs) K
       sewn-stage = record {
-        good = faces-sewn S nx pv one n₀ x₀ y₀ (fm .along .round) (against .met-round) (λ k h. in-new _ (along-new k h)) (λ k h. in-old _ (against-old k)) next-back once-along (against .met-once) disjoint
+        good =
+            faces-sewn S nx pv one n₀ x₀ y₀ (fm .along .round) (against .met-round) (λ k h. in-new _ (along-new k h))
+            (λ k h. in-old _ (against-old k)) next-back once-along (against .met-once) disjoint
             pt (b .number) (b .counter) T (G .good) point-pair not-sewn;
         still-free = λ i x h e g. let q = not-head i (m .index) is e in
             ⊎-elim (λ r. r .0 ∙ G .still-free i x h (q .1) g) (λ r. absurd (q .0 (pair-new i x (r .0) h g (r .1)))) (sewing-after nx pv n₀ x₀ y₀ T x);
@@ -460,5 +474,8 @@ module _ (lim : Limits) (b : Block) (t : Transfer) (small : lim .block-darts ≤
       let later-is = map (λ m. m .index) ms ++ is in
       let later-rs = map (λ m. least-of (met-dart m)) ms ++ rs in
       let later = sew-parts ms (λ n k. h n (inr k)) (λ n k. r n (inr k)) T is rs K G (and-right (not (mem (m .index) later-is)) _ d) (and-right (not (mem (least-of (met-dart m)) later-rs)) _ c) in
-      let here = sew-step m (h m (inl refl)) (r m (inl refl)) (after rest T) later-is later-rs K later (not-true (mem (m .index) later-is) (and-left _ _ d)) (not-true (mem (least-of (met-dart m)) later-rs) (and-left _ _ c)) in
+      let here =
+      sew-step m (h m (inl refl)) (r m (inl refl)) (after rest T) later-is later-rs K later
+      (not-true (mem (m .index) later-is) (and-left _ _ d)) (not-true (mem (least-of (met-dart m)) later-rs) (and-left _ _ c))
+      in
       subst (λ (U : ℕ → Third). Stage U (m .index ∷ later-is) (least-of (met-dart m) ∷ later-rs) K) (after-append (part2-links ds t m) rest T) here

@@ -27,7 +27,12 @@ module _ {A : Type 0} (f : A → ℕ × ℕ) where
   pair-row (x ∷ l) p a c h k e g = go h k (pair-row l (and-right (not (eqb (f x .0) (f x .1)) && not (any (same-pair (f x)) (map f l))) _ p) a c)
     where
       none-again : any (same-pair (f x)) (map f l) ≡ true → ⊥
-      none-again q = true≢false (sym q ∙ not-true (any (same-pair (f x)) (map f l)) (and-right (not (eqb (f x .0) (f x .1))) _ (and-left (not (eqb (f x .0) (f x .1)) && not (any (same-pair (f x)) (map f l))) _ p)))
+      none-again q =
+          true≢false
+          (sym q
+          ∙ not-true (any (same-pair (f x)) (map f l))
+          (and-right (not (eqb (f x .0) (f x .1))) _
+          (and-left (not (eqb (f x .0) (f x .1)) && not (any (same-pair (f x)) (map f l))) _ p)))
 
       again : (y z : A) → y ≡ x → Elem z l → f y .0 ≡ f z .0 → f y .1 ≡ f z .1 → ⊥
       again y z q j u v = none-again (elem-any (same-pair (f x)) (map f l) (f z) (elem-map f z l j)
@@ -244,7 +249,9 @@ module _ (t : Transfer) where
           let p = facing a h in
           let q = facing (p .across) (p .across-there) in
           ap (opposite-in (new-darts t)) (p .serial-across) ∙ q .serial-across
-          ∙ ap (λ (s : Side). s .serial) (pair-row (λ a. (a .tail, a .head)) ss one-pair (q .across) a (q .across-there) h (sym (q .head-tail) ∙ sym (p .tail-head)) (sym (q .tail-head) ∙ sym (p .head-tail)))
+          ∙ ap (λ (s : Side). s .serial)
+          (pair-row (λ a. (a .tail, a .head)) ss one-pair (q .across) a (q .across-there) h
+          (sym (q .head-tail) ∙ sym (p .tail-head)) (sym (q .tail-head) ∙ sym (p .head-tail)))
 
       other : (a : Side) → Elem a ss → opposite-in (new-darts t) (a .serial) ≢ a .serial
       other a h e =
@@ -256,7 +263,9 @@ module _ (t : Transfer) where
       round a h =
           let p = facing a h in
           let n = side-after (p .across) (p .across-there) in
-          let e : next-in (new-darts t) (opposite-in (new-darts t) (a .serial)) ≡ n .then-side .serial = ap (next-in (new-darts t)) (p .serial-across) ∙ next-side (p .across) (p .across-there) ∙ sym (n .serial-is) in
+          let e : next-in (new-darts t) (opposite-in (new-darts t) (a .serial)) ≡ n .then-side .serial =
+          ap (next-in (new-darts t)) (p .serial-across) ∙ next-side (p .across) (p .across-there) ∙ sym (n .serial-is)
+          in
           point-side a h ∙ ap (λ (i : ℕ). getD (t .points) i no-point) (p .tail-head ∙ sym (n .tail-is)) ∙ sym (point-side (n .then-side) (n .there)) ∙ ap (point-of (new-darts t)) (sym e)
 
       module _ (points : all finite (t .points) ≡ true) (low : (a : Side) → Elem a ss → 1 ≤ a .serial) (high : (a : Side) → Elem a ss → a .serial < serial-bound) where
@@ -269,7 +278,9 @@ module _ (t : Transfer) where
 
         pub new-frame : Frame new-serials (next-in (new-darts t)) (opposite-in (new-darts t)) (point-of (new-darts t))
         new-frame = record {
-          next-stays = by-side (λ x. In (next-in (new-darts t) x) new-serials) (λ a h. let n = side-after a h in in-eq _ _ new-serials (next-side a h ∙ sym (n .serial-is)) (side-in (n .then-side) (n .there)));
+          next-stays =
+              by-side (λ x. In (next-in (new-darts t) x) new-serials)
+              (λ a h. let n = side-after a h in in-eq _ _ new-serials (next-side a h ∙ sym (n .serial-is)) (side-in (n .then-side) (n .there)));
           next-onto = by-side (λ x. (y : ℕ) × In y new-serials × (next-in (new-darts t) y ≡ x))
               (λ a h. let n = side-before a h in (n .then-side .serial, side-in (n .then-side) (n .there), next-side (n .then-side) (n .there) ∙ n .next-is));
           opposite-stays = by-side (λ x. In (opposite-in (new-darts t) x) new-serials) (λ a h. let p = facing a h in in-eq _ _ new-serials (p .serial-across) (side-in (p .across) (p .across-there)));

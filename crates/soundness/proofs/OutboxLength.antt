@@ -116,7 +116,12 @@ module _ (b : Block) (j : ℕ) where
     where
       go : (gs : List (List ℕ)) → keep (λ f. is-critical-with k (third-of-face f)) F ≡ gs
           → length (concat (map (framed update) (collect (update-to F) l))) ≤ length l * 30 + sum (map (darts-with third-of-face F) l) * 15
-          → length (concat (map (framed update) (more (update-for b j k (keep (λ f. is-critical-with k (third-of-face f)) F)) (collect (update-to F) l)))) ≤ suc (length l) * 30 + (length (concat (keep (λ f. is-critical-with k (third-of-face f)) F)) + sum (map (darts-with third-of-face F) l)) * 15
+          → length
+          (concat
+          (map (framed update)
+          (more (update-for b j k (keep (λ f. is-critical-with k (third-of-face f)) F)) (collect (update-to F) l)))) ≤ suc
+          (length l) * 30 +
+          (length (concat (keep (λ f. is-critical-with k (third-of-face f)) F)) + sum (map (darts-with third-of-face F) l)) * 15
       go [] e ih = rw e (omega arith)
       go (f ∷ gs) e ih = rw e (by-cases (eqb k j)
           (λ q. rw q (omega arith))
@@ -264,7 +269,11 @@ module _ (lim : Limits) (b : Block) (fits : lim .block-darts ≤ 4096) (few-sent
 
   transfer-fits : length (transfer .put (transfer-of b j s)) ≤ 48168
   transfer-fits =
-      let a = transfer-long (transfer-of b j s) (5 + length (concat F) * 24) (5 + (length F * 5 + length (concat F) * 10)) (5 + length F * 20) (5 + length F * 10) (5 + (length F * 10 + length (concat F) * 15)) points-put faces-long parts2-put parts3-put parts4-long in
+      let a =
+      transfer-long (transfer-of b j s) (5 + length (concat F) * 24) (5 + (length F * 5 + length (concat F) * 10))
+      (5 + length F * 20) (5 + length F * 10) (5 + (length F * 10 + length (concat F) * 15)) points-put faces-long parts2-put
+      parts3-put parts4-long
+      in
       let c = darts-few in
       let d = faces-few in
       omega arith
@@ -310,7 +319,10 @@ outbox-suffices lim fits few-sent m j s outbox enough e =
     let none = eqb-true (first-no qs) 0 z in
     let a = after-memory lim fits m (departure-checks (lim .volume-darts) (block-in m) j s) none in
     let long = messages-fit lim (block-in m) fits few-sent (a .0) j s (a .1) in
-    let yes = first-no-append qs ((15, leb (length bytes) (length outbox)) ∷ []) none refl ∙ yes-then 15 (leb (length bytes) (length outbox)) [] (le-leb (length bytes) (length outbox) (omega arith)) ∙ no-more in
+    let yes =
+    first-no-append qs ((15, leb (length bytes) (length outbox)) ∷ []) none refl
+    ∙ yes-then 15 (leb (length bytes) (length outbox)) [] (le-leb (length bytes) (length outbox) (omega arith)) ∙ no-more
+    in
     let zero-15 : 0 ≡ 15 = sym yes ∙ asked-15 in
     omega arith)
     (λ z. not-among 15 qs (λ q. omega arith) refl (sym (first-no-stays qs ((15, leb (length bytes) (length outbox)) ∷ []) (eqb-false (first-no qs) 0 z)) ∙ asked-15))

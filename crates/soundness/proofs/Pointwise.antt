@@ -180,7 +180,8 @@ unfolding Apart labels
 codes-distinct [] u a = refl
 codes-distinct (d ∷ ds) u a =
     let rest = codes-distinct ds u' (λ x y o p l k hx hy ex ey e.
-    a x y o p l k (in-there x (d .serial) (serials ds) hx) (in-there y (d .serial) (serials ds) hy) (ap (λ (c : Dart). c .third) (later-at d ds x u hx) ∙ ex) (ap (λ (c : Dart). c .third) (later-at d ds y u hy) ∙ ey) e) in
+    a x y o p l k (in-there x (d .serial) (serials ds) hx) (in-there y (d .serial) (serials ds) hy)
+    (ap (λ (c : Dart). c .third) (later-at d ds x u hx) ∙ ex) (ap (λ (c : Dart). c .third) (later-at d ds y u hy) ∙ ey) e) in
     by-third (d .third)
     (λ t. subst (λ (l : List ℕ). distinct l ≡ true) (sym (codes-none d ds t)) rest)
     (λ y t. subst (λ (l : List ℕ). distinct l ≡ true) (sym (codes-sewn d ds y t)) rest)
@@ -301,7 +302,12 @@ module _ (lim : Limits) (n c : ℕ) (ds : List Dart) (R : Right lim n c ds) wher
   link-back x h =
       let s = serial-held ds x h in
       let y = R .next-onto x h in
-      and-intro (and-intro (and-intro (and-intro (R .next-held x h) (any-held (λ e. eqb (e .next) (dart-at ds x .serial)) ds (y .0) u (y .1) (eq-eqb (next-in ds (y .0)) (dart-at ds x .serial) (y .2 ∙ sym s))))
+      and-intro
+      (and-intro
+      (and-intro
+      (and-intro (R .next-held x h)
+      (any-held (λ e. eqb (e .next) (dart-at ds x .serial)) ds (y .0) u (y .1)
+      (eq-eqb (next-in ds (y .0)) (dart-at ds x .serial) (y .2 ∙ sym s))))
       (R .opposite-held x h)) (eq-eqb (opposite-in ds (opposite-in ds x)) (dart-at ds x .serial) (R .opposite-twice x h ∙ sym s)))
       (not-equal (opposite-in ds x) (dart-at ds x .serial) (λ q. R .opposite-other x h (q ∙ s)))
 

@@ -54,7 +54,10 @@ zip-elem (x ∷ f) (l ∷ ls) p (inl e) = inl (ap (λ (q : ℕ × Label). q .1) 
 zip-elem (x ∷ f) (l ∷ ls) p (inr h) = inr (zip-elem f ls p h)
 
 critical-range : (o : ℕ) (l : Label) → o ≤ 15 → LabelFits l → third-in-range (critical o l) ≡ true
-critical-range o l h F = and-intro (and-intro (and-intro (le-leb o 15 h) (le-leb (l .maker) 15 (F .maker-small))) (lt-ltb (l .number) (2 ^ 32) (F .number-small))) (le-leb (l .position) 4095 (F .position-small))
+critical-range o l h F =
+    and-intro
+    (and-intro (and-intro (le-leb o 15 h) (le-leb (l .maker) 15 (F .maker-small))) (lt-ltb (l .number) (2 ^ 32) (F .number-small)))
+    (le-leb (l .position) 4095 (F .position-small))
 
 module _ (lim : Limits) (b : Block) (t : Transfer) (small : lim .block-darts ≤ 4096) (s : sound-block lim b ≡ true) (F : Fits t) (P : Passed lim b t) where
   abbrev ds : List Dart
@@ -84,7 +87,8 @@ module _ (lim : Limits) (b : Block) (t : Transfer) (small : lim .block-darts ≤
         let few = start-few t (P .ordered) (P .once) (m .index) a-start in
         let total = F .few-darts in
         let low : r .0 ≤ 4095 = omega (arith, r .1) in
-        subst (λ (u : Third). third-in-range u ≡ true) (sym (r .2)) (critical-range (t .from) _ (F .from-small) (record { maker-small = F .from-small; number-small = F .part3-small m h; position-small = low }));
+        subst (λ (u : Third). third-in-range u ≡ true) (sym (r .2))
+        (critical-range (t .from) _ (F .from-small) (record { maker-small = F .from-small; number-small = F .part3-small m h; position-small = low }));
     own-right = λ k e. let r = label-elem (t .from) (t .from) (m .number) 0 face k e in
         own-third k (elem-left k (concat-map (part3-links t) (t .part3)) (concat-map (part4-links t) (t .part4)) (elem-concat (part3-links t) k m (t .part3) h e)) (t .from) _ (r .2) (P .from-other);
   }
@@ -113,7 +117,8 @@ module _ (lim : Limits) (b : Block) (t : Transfer) (small : lim .block-darts ≤
       a-start : In (m .index) (starts t)
       a-start = P .index-starts (m .index) (in-append-right (m .index) (indices2 t) _ (in-append-right (m .index) (indices3 t) (indices4 t) (elem-key (λ (m : Part4). m .index) m (t .part4) h)))
 
-      of : (k : Link) → Elem k (map (part4-link (m .other)) (zip (face-from t (m .index)) (m .labels))) → (p : ℕ × Label) × Elem p (zip (face-from t (m .index)) (m .labels)) × (k ≡ part4-link (m .other) p)
+      of : (k : Link) → Elem k (map (part4-link (m .other)) (zip (face-from t (m .index)) (m .labels)))
+          → (p : ℕ × Label) × Elem p (zip (face-from t (m .index)) (m .labels)) × (k ≡ part4-link (m .other) p)
       of k e = map-elem (part4-link (m .other)) k (zip (face-from t (m .index)) (m .labels)) e
 
   -- ALL STAGES
@@ -128,7 +133,10 @@ module _ (lim : Limits) (b : Block) (t : Transfer) (small : lim .block-darts ≤
 
   codes-once : distinct (codes (λ k. k .third) links3 ++ (codes (λ k. k .third) links4 ++ old-codes)) ≡ true
   unfolding labels-new critical-links
-  codes-once = subst (λ (l : List ℕ). distinct l ≡ true) (ap (λ (l : List ℕ). l ++ old-codes) (codes-append (λ k. k .third) links3 links4) ∙ append-assoc (codes (λ k. k .third) links3) (codes (λ k. k .third) links4) old-codes)
+  codes-once =
+      subst (λ (l : List ℕ). distinct l ≡ true)
+      (ap (λ (l : List ℕ). l ++ old-codes) (codes-append (λ k. k .third) links3 links4)
+      ∙ append-assoc (codes (λ k. k .third) links3) (codes (λ k. k .third) links4) old-codes)
       (distinct-append (codes (λ k. k .third) (links3 ++ links4)) old-codes (and-right (all (label-new b) new-labels) _ (P .labels-fresh)) old-once not-old)
     where
       old-once : distinct old-codes ≡ true
@@ -152,12 +160,17 @@ module _ (lim : Limits) (b : Block) (t : Transfer) (small : lim .block-darts ≤
       (distinct-right (codes (λ k. k .third) links3) (codes (λ k. k .third) links4 ++ old-codes) codes-once))
 
   stage3 : Stage lim b t small s F P (after links3 (after links4 start-third)) (indices3 t ++ indices4 t) [] (codes (λ k. k .third) links3 ++ (codes (λ k. k .third) links4 ++ old-codes))
-  stage3 = label-parts lim b t small s F P (λ m. m .index) (part3-links t) (t .part3) third-part (after links4 start-third) (indices4 t) (codes (λ k. k .third) links4 ++ old-codes) stage4 indices34 codes-once
+  stage3 =
+      label-parts lim b t small s F P (λ m. m .index) (part3-links t) (t .part3) third-part (after links4 start-third)
+      (indices4 t) (codes (λ k. k .third) links4 ++ old-codes) stage4 indices34 codes-once
 
   linked : Good (serials (insert-all (new-darts t) (b .darts))) (next-in (insert-all (new-darts t) (b .darts))) (point-of (insert-all (new-darts t) (b .darts))) (b .number) (b .counter)
       (after (transfer-links ds t) start-third)
   unfolding transfer-links critical-links part2-apart
-  linked = subst (Good _ _ _ (b .number) (b .counter)) (ap (after (concat-map (part2-links ds t) (t .part2))) (after-append links3 links4 start-third) ∙ after-append (concat-map (part2-links ds t) (t .part2)) (links3 ++ links4) start-third)
+  linked =
+      subst (Good _ _ _ (b .number) (b .counter))
+      (ap (after (concat-map (part2-links ds t) (t .part2))) (after-append links3 links4 start-third)
+      ∙ after-append (concat-map (part2-links ds t) (t .part2)) (links3 ++ links4) start-third)
       (sew-parts lim b t small s F P (t .part2) (λ m h. P .index-starts (m .index) (in-append-left (m .index) (indices2 t) _ (elem-key (λ (m : Part2). m .index) m (t .part2) h))) (P .meets)
       (after links3 (after links4 start-third)) (indices3 t ++ indices4 t) [] (codes (λ k. k .third) links3 ++ (codes (λ k. k .third) links4 ++ old-codes)) stage3 (P .indices-once)
       (rw (append-nil _) (P .meets-apart)) .good)
@@ -166,7 +179,11 @@ module _ (lim : Limits) (b : Block) (t : Transfer) (small : lim .block-darts ≤
 pub received-is : (b : Block) (t : Transfer)
     → received b t ≡ record { number = b .number; counter = b .counter; darts = map (relink (transfer-links (b .darts) t)) (insert-all (new-darts t) (b .darts)) }
 unfolding received
-received-is b t = ap (λ (l : List Dart). record { number = b .number; counter = b .counter; darts = l }) (sym (insert-all-map (relink (transfer-links (b .darts) t)) (same-serial (transfer-links (b .darts) t) (b .darts)) (new-darts t) (b .darts)))
+received-is b t =
+    ap (λ (l : List Dart). record { number = b .number; counter = b .counter; darts = l })
+    (sym
+    (insert-all-map (relink (transfer-links (b .darts) t)) (same-serial (transfer-links (b .darts) t) (b .darts)) (new-darts t)
+    (b .darts)))
 
 -- THE THEOREM
 pub received-sound : (lim : Limits) (b : Block) (t : Transfer) → lim .block-darts ≤ 4096 → sound-block lim b ≡ true → transfer .ok t ≡ true → first-no (receive-checks lim b (a-transfer t)) ≡ 0
@@ -175,4 +192,5 @@ received-sound lim b t small s o q =
     let F = fits t o in
     let P = passed lim b t q in
     subst (λ (c : Block). sound-block lim c ≡ true) (sym (received-is b t))
-    (relinked-sound lim (record { number = b .number; counter = b .counter; darts = insert-all (new-darts t) (b .darts) }) (transfer-links (b .darts) t) (unlinked-sound lim b t small s F P) (linked lim b t small s F P))
+    (relinked-sound lim (record { number = b .number; counter = b .counter; darts = insert-all (new-darts t) (b .darts) })
+    (transfer-links (b .darts) t) (unlinked-sound lim b t small s F P) (linked lim b t small s F P))

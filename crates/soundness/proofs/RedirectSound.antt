@@ -140,7 +140,10 @@ module _ (lim : Limits) (b : Block) (fits : lim .block-darts ≤ 4096) (sound : 
     unfolding names-face face-with
     tells-next x h [] a = refl
     tells-next x h (l ∷ ls) a =
-        let name = and-left (is-critical-with (u .from) (labelled l ds .third)) _ (and-left (is-critical-with (u .from) (labelled l ds .third) && eqb (code l) (least-label ds (face-with ds l))) _ a) in
+        let name =
+        and-left (is-critical-with (u .from) (labelled l ds .third)) _
+        (and-left (is-critical-with (u .from) (labelled l ds .third) && eqb (code l) (least-label ds (face-with ds l))) _ a)
+        in
         let rest = tells-next x h ls (and-right (is-critical-with (u .from) (labelled l ds .third) && eqb (code l) (least-label ds (face-with ds l))) _ a) in
         ors _ _ _ _ (face-next (labelled l ds .serial) x (labelled-held (u .from) l name) h) rest
       where
@@ -174,16 +177,21 @@ module _ (lim : Limits) (b : Block) (fits : lim .block-darts ≤ 4096) (sound : 
       third-sewn : (x y : ℕ) → third-at ds x ≡ sewn y → T lim (b .number) (b .counter) ds R ks q x ≡ third-at ds x
       third-sewn x y e = after x ∙ ap (told-third (u .block) (tells x)) e ∙ sewn-told (u .block) y (tells x) ∙ sym e
 
-      critical-after : (x o : ℕ) (l : Label) → S x → T lim (b .number) (b .counter) ds R ks q x ≡ critical o l → CriticalRight (b .number) (b .counter) (left lim (b .number) (b .counter) ds R ks q) x o l
+      critical-after : (x o : ℕ) (l : Label) → S x → T lim (b .number) (b .counter) ds R ks q x ≡ critical o l
+          → CriticalRight (b .number) (b .counter) (left lim (b .number) (b .counter) ds R ks q) x o l
       critical-after x o l s e =
           let w = told-critical (u .block) (tells x) (third-at ds x) o l (sym (after x) ∙ e) in
           let c = R .critical-right x (w .0) l (s .here) (w .1) in
           let sn : S (next-in ds x) = record { here = R .next-held x (s .here); kept = refl } in
           record {
             next-label = c .next-label;
-            goes-on = ap (third-at (left lim (b .number) (b .counter) ds R ks q)) (next-left lim (b .number) (b .counter) ds R ks q x s) ∙ third-left lim (b .number) (b .counter) ds R ks q (next-in ds x) sn
+            goes-on =
+                ap (third-at (left lim (b .number) (b .counter) ds R ks q)) (next-left lim (b .number) (b .counter) ds R ks q x s)
+                ∙ third-left lim (b .number) (b .counter) ds R ks q (next-in ds x) sn
                 ∙ after (next-in ds x) ∙ ap (told-third (u .block) (tells (next-in ds x))) (c .goes-on)
-                ∙ ap (λ (t : Bool). told-third (u .block) t (critical (w .0) (c .next-label))) (tells-next x (s .here) (u .labels) (facts .1)) ∙ one (tells x) (w .0) (c .next-label) ∙ ap (λ (z : ℕ). critical z (c .next-label)) (sym (w .2));
+                ∙ ap (λ (t : Bool). told-third (u .block) t (critical (w .0) (c .next-label)))
+                (tells-next x (s .here) (u .labels) (facts .1)) ∙ one (tells x) (w .0) (c .next-label)
+                ∙ ap (λ (z : ℕ). critical z (c .next-label)) (sym (w .2));
             elsewhere = λ z. apart-from (tells x) (w .0) (c .elsewhere) (sym (w .2) ∙ z);
             own-below = c .own-below;
           }

@@ -162,7 +162,9 @@ module _ (lim : Limits) (b : Block) (fits : lim .block-darts ≤ 4096) (sound : 
 
   next-back : (x : ℕ) → In x all-serials → In (next-in ds x) v → In x v
   next-back x h k =
-      let on : In (next-in ds x) (face (next-in ds) all-serials (R .next-held) (next-one lim b fits sound) (few lim b fits sound) x) = in-cycle (next-in ds) all-serials (R .next-held) (next-one lim b fits sound) 4096 x 1 (few lim b fits sound) h in
+      let on : In (next-in ds x) (face (next-in ds) all-serials (R .next-held) (next-one lim b fits sound) (few lim b fits sound) x) =
+      in-cycle (next-in ds) all-serials (R .next-held) (next-one lim b fits sound) 4096 x 1 (few lim b fits sound) h
+      in
       along-face (next-in ds) all-serials (R .next-held) (next-one lim b fits sound) (few lim b fits sound) (λ y. In y v) (λ y q p. closed-next y p) (next-in ds x) x (R .next-held x h) k
       (face-sym (next-in ds) all-serials (R .next-held) (next-one lim b fits sound) (few lim b fits sound) x (next-in ds x) h on)
 
@@ -207,7 +209,9 @@ module _ (lim : Limits) (b : Block) (fits : lim .block-darts ≤ 4096) (sound : 
   new-range : (z : ℕ) → In z (concat fs) → Ranged (new z)
   new-range z h = record {
     number-range = omega (arith, fresh-high n c fs z h, asked .counter);
-    position-range = subst (λ (l : List (List ℕ)). fresh-of n c l z .position ≤ 4095) (sym faces-are) (fresh-position n c (keep p (faces (next-in ds) v)) z (kept-few (next-in ds) v closed-next v-one v-few in-order p));
+    position-range =
+        subst (λ (l : List (List ℕ)). fresh-of n c l z .position ≤ 4095) (sym faces-are)
+        (fresh-position n c (keep p (faces (next-in ds) v)) z (kept-few (next-in ds) v closed-next v-one v-few in-order p));
   }
 
   abbrev q : ℕ → Bool
@@ -223,10 +227,15 @@ module _ (lim : Limits) (b : Block) (fits : lim .block-darts ≤ 4096) (sound : 
   S = Stays lim n c ds R ks q
 
   gives : Gives ks T'
-  gives = faces-agree (λ x. partner (third-at ds x)) T' j n c fs (subst (λ (l : List (List ℕ)). distinct (concat l) ≡ true) (sym faces-are) (kept-distinct (next-in ds) v closed-next v-one v-few in-order p))
+  gives =
+      faces-agree (λ x. partner (third-at ds x)) T' j n c fs
+      (subst (λ (l : List (List ℕ)). distinct (concat l) ≡ true) (sym faces-are)
+      (kept-distinct (next-in ds) v closed-next v-one v-few in-order p))
       (λ x h. let w = cut-in x h in
       let e = w .1 .third in
-      ap (λ (t : Third). T' (partner t)) e ∙ ap (cut-third (λ z. mem z v) new j) (R .sewn-right x (w .1 .to) (in-block x (w .0)) e .back) ∙ ap (λ (t : Bool). cond t (critical j (new x)) (sewn x)) (w .0))
+      ap (λ (t : Third). T' (partner t)) e
+      ∙ ap (cut-third (λ z. mem z v) new j) (R .sewn-right x (w .1 .to) (in-block x (w .0)) e .back)
+      ∙ ap (λ (t : Bool). cond t (critical j (new x)) (sewn x)) (w .0))
 
   out : (x : ℕ) → S x → mem x v ≡ false
   out x st = not-true (mem x v) (st .kept)
@@ -264,7 +273,8 @@ module _ (lim : Limits) (b : Block) (fits : lim .block-darts ≤ 4096) (sound : 
       (λ e. ap (λ (t : Third). third-in-range (cut-third (λ z. mem z v) new j t)) e)
       (λ z e. ap (λ (t : Third). third-in-range (cut-third (λ z. mem z v) new j t)) e ∙ by-cases (mem z v)
       (λ h. let w = new-range z (partner-cut x z st e h) in
-      rw h (and-intro (and-intro (and-intro (le-leb j 15 (asked .small)) (le-leb (new z .maker) 15 (omega (arith, fresh-maker n c fs z, R .number-small)))) (lt-ltb (new z .number) (2 ^ 32) (w .number-range))) (le-leb (new z .position) 4095 (w .position-range))))
+      rw h
+      (and-intro (and-intro (and-intro (le-leb j 15 (asked .small)) (le-leb (new z .maker) 15 (omega (arith, fresh-maker n c fs z, R .number-small)))) (lt-ltb (new z .number) (2 ^ 32) (w .number-range))) (le-leb (new z .position) 4095 (w .position-range))))
       (λ h. rw h))
       (λ o l e. ap (λ (t : Third). third-in-range (cut-third (λ z. mem z v) new j t)) e ∙ sym (ap third-in-range e) ∙ old-range x (st .here))
 
@@ -303,7 +313,10 @@ module _ (lim : Limits) (b : Block) (fits : lim .block-darts ≤ 4096) (sound : 
           let on-in : In (w .on) v = next-back (w .on) on-held (in-eq (next-in ds (w .on)) z v (w .meets) (a .cut)) in
           record {
             next-label = new (w .on);
-            goes-on = next-third x st ∙ ap (cut-third (λ z. mem z v) new j) (w .goes-on) ∙ ap (λ (t : Bool). cond t (critical j (new (w .on))) (sewn (w .on))) on-in ∙ ap (λ (i : ℕ). critical i (new (w .on))) (sym (a .other));
+            goes-on =
+                next-third x st ∙ ap (cut-third (λ z. mem z v) new j) (w .goes-on)
+                ∙ ap (λ (t : Bool). cond t (critical j (new (w .on))) (sewn (w .on))) on-in
+                ∙ ap (λ (i : ℕ). critical i (new (w .on))) (sym (a .other));
             elsewhere = λ i. asked .elsewhere (sym (a .other) ∙ i);
             own-below = ap (λ (k : Label). not (eqb (k .maker) n) || ltb (k .number) (c + length fs)) (a .label) ∙ low z (partner-cut x z st (a .was) (a .cut));
           }
@@ -321,7 +334,9 @@ module _ (lim : Limits) (b : Block) (fits : lim .block-darts ≤ 4096) (sound : 
       omega (arith, fresh-low n c fs z)
 
   apart-after : (x y o p : ℕ) (l k : Label) → S x → S y → T lim n c ds R ks q x ≡ critical o l → T lim n c ds R ks q y ≡ critical p k → code l ≡ code k → x ≡ y
-  apart-after x y o p l k sx sy ex ey e = go (cut-critical (λ z. mem z v) new j o l (third-at ds x) (sym (after x sx) ∙ ex)) (cut-critical (λ z. mem z v) new j p k (third-at ds y) (sym (after y sy) ∙ ey))
+  apart-after x y o p l k sx sy ex ey e =
+      go (cut-critical (λ z. mem z v) new j o l (third-at ds x) (sym (after x sx) ∙ ex))
+      (cut-critical (λ z. mem z v) new j p k (third-at ds y) (sym (after y sy) ∙ ey))
     where
       ranged : (x o : ℕ) (l : Label) → S x → third-at ds x ≡ critical o l → Ranged l
       ranged x o l st was = critical-range o l (sym (ap third-in-range was) ∙ old-range x (st .here))
@@ -351,7 +366,9 @@ module _ (lim : Limits) (b : Block) (fits : lim .block-darts ≤ 4096) (sound : 
     counter-fits = asked .counter;
     next-stays = λ x st. next-st x st .kept;
     before-stays = λ x h e. stays x (λ k. true≢false (sym (closed-next x k) ∙ not-true (mem (next-in ds x) v) e));
-    opposite-stays = λ x st. stays (opposite-in ds x) (λ k. true≢false (sym (in-eq x (opposite-in ds (opposite-in ds x)) v (sym (R .opposite-twice x (st .here))) (closed-opposite (opposite-in ds x) k)) ∙ out x st));
+    opposite-stays =
+        λ x st. stays (opposite-in ds x)
+        (λ k. true≢false (sym (in-eq x (opposite-in ds (opposite-in ds x)) v (sym (R .opposite-twice x (st .here))) (closed-opposite (opposite-in ds x) k)) ∙ out x st));
     range-fits = λ x st. ap third-in-range (after x st) ∙ range-after x st;
     free-fits = λ x st e. after (next-in ds x) (next-st x st) ∙ ap (cut-third (λ z. mem z v) new j) (R .free-on x (st .here) (cut-free (λ z. mem z v) new j (third-at ds x) (sym (after x st) ∙ e)));
     sewn-before = λ x y st e. was-sewn x y st e .0;

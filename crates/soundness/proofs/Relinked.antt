@@ -74,7 +74,8 @@ relinked-sound lim b ks s G =
     let ds = b .darts in
     let e = linked-serials ks ds in
     let T = after ks (third-at ds) in
-    sound-back lim (record { number = b .number; counter = b .counter; darts = map (relink ks) ds }) (r .number-small) (r .counter-small) (omega (arith, length-map ds (relink ks), r .few-darts)) (rw e (r .in-order))
+    sound-back lim (record { number = b .number; counter = b .counter; darts = map (relink ks) ds }) (r .number-small)
+    (r .counter-small) (omega (arith, length-map ds (relink ks), r .few-darts)) (rw e (r .in-order))
     (subst (λ (S : List ℕ). Frame S (next-in (map (relink ks) ds)) (opposite-in (map (relink ks) ds)) (point-of (map (relink ks) ds))) (sym e)
     (frame-cong (serials ds) _ _ _ _ _ _ (linked-next ks ds) (linked-opposite ks ds) (linked-point ks ds) (frame-of lim b s)))
     T (λ x h. linked-third ks ds x (rw e at h))

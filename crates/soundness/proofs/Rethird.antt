@@ -43,7 +43,10 @@ module _ (lim : Limits) (n c : ℕ) (ds : List Dart) (R : Right lim n c ds) (ks 
   unfolding dart-at relink
   dart-left x s =
       let f = held-found x ds (s .here) in
-      ap or-no-dart (find-map (λ d. d .serial) (relink ks) (λ d. refl) x (keep (λ d. q (d .serial)) ds) ∙ ap (Option·map (relink ks)) (find-keep (λ d. d .serial) q x ds ∙ ap (λ (b : Bool). cond b (find (λ d. d .serial) x ds) none) (s .kept) ∙ f .1))
+      ap or-no-dart
+      (find-map (λ d. d .serial) (relink ks) (λ d. refl) x (keep (λ d. q (d .serial)) ds)
+      ∙ ap (Option·map (relink ks))
+      (find-keep (λ d. d .serial) q x ds ∙ ap (λ (b : Bool). cond b (find (λ d. d .serial) x ds) none) (s .kept) ∙ f .1))
       ∙ ap (λ (y : ℕ). with-third (third-or (f .0 .third) (find (λ k. k .dart) y ks)) (f .0)) (f .2)
       ∙ ap (λ (o : Option Dart). with-third (third-or (or-no-dart o .third) (find (λ k. k .dart) x ks)) (or-no-dart o)) (sym (f .1))
 
@@ -84,7 +87,10 @@ module _ (lim : Limits) (n c : ℕ) (ds : List Dart) (R : Right lim n c ds) (ks 
 
     range-left : (x : ℕ) → Stays x → dart-in-range (dart-at left x) ≡ true
     unfolding dart-in-range
-    range-left x s = subst (λ (d : Dart). dart-in-range d ≡ true) (sym (dart-left x s)) (and-intro (and-left (leb 1 (dart-at ds x .serial) && ltb (dart-at ds x .serial) serial-bound) _ (R .in-range x (s .here))) (F .range-fits x s))
+    range-left x s =
+        subst (λ (d : Dart). dart-in-range d ≡ true) (sym (dart-left x s))
+        (and-intro (and-left (leb 1 (dart-at ds x .serial) && ltb (dart-at ds x .serial) serial-bound) _ (R .in-range x (s .here)))
+        (F .range-fits x s))
 
     sewn-left : (x y : ℕ) → Stays x → T x ≡ sewn y → SewnRight left x y
     sewn-left x y s e =
@@ -100,7 +106,10 @@ module _ (lim : Limits) (n c : ℕ) (ds : List Dart) (R : Right lim n c ds) (ks 
           on = w .on;
           goes-on = ap (third-at left) (next-left x s) ∙ third-left (next-in ds x) sn ∙ en;
           meets = next-left (w .on) so ∙ w .meets;
-          one-point = ap (λ (d : Dart). d .point) (dart-left x s) ∙ w .one-point ∙ sym (ap (λ (z : ℕ). dart-at left z .point) (next-left y sy) ∙ ap (λ (d : Dart). d .point) (dart-left (next-in ds y) (nexts y sy)));
+          one-point =
+              ap (λ (d : Dart). d .point) (dart-left x s) ∙ w .one-point
+              ∙ sym
+              (ap (λ (z : ℕ). dart-at left z .point) (next-left y sy) ∙ ap (λ (d : Dart). d .point) (dart-left (next-in ds y) (nexts y sy)));
         }
 
     onto-left : (x : ℕ) → Stays x → (y : ℕ) × In y (serials left) × (next-in left y ≡ x)

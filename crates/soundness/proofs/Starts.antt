@@ -59,7 +59,8 @@ placed-one i (f ∷ fs) d p q (inr h) (inl k) x a b =
 placed-one i (f ∷ fs) d p q (inr h) (inr k) x a b = placed-one (i + length f) fs (distinct-right f (concat fs) d) p q h k x a b
 
 -- the size that the layout reads
-placed-size : (i : ℕ) (fs : List (List FaceDart)) → ((f : List FaceDart) → Elem f fs → 0 < length f) → (p : Placed) → Elem p (placed i (map face-serials fs)) → size-at (p .at - i) fs ≡ length (p .face)
+placed-size : (i : ℕ) (fs : List (List FaceDart)) → ((f : List FaceDart) → Elem f fs → 0 < length f) → (p : Placed)
+    → Elem p (placed i (map face-serials fs)) → size-at (p .at - i) fs ≡ length (p .face)
 unfolding placed size-at
 placed-size i [] some-dart p h = absurd h
 placed-size i (f ∷ fs) some-dart p (inl e) =
@@ -91,7 +92,10 @@ module _ (t : Transfer) where
     where
       go : (l : List (List FaceDart)) → map (λ a. a .serial) (concat-map sides-of l) ≡ concat (map face-serials l)
       go [] = refl
-      go (f ∷ l) = map-append (λ (a : Side). a .serial) (sides-of f) (concat-map sides-of l) ∙ ap (λ (r : List ℕ). r ++ map (λ a. a .serial) (concat-map sides-of l)) (sides-serials f) ∙ ap (λ (r : List ℕ). face-serials f ++ r) (go l)
+      go (f ∷ l) =
+          map-append (λ (a : Side). a .serial) (sides-of f) (concat-map sides-of l)
+          ∙ ap (λ (r : List ℕ). r ++ map (λ a. a .serial) (concat-map sides-of l)) (sides-serials f)
+          ∙ ap (λ (r : List ℕ). face-serials f ++ r) (go l)
 
   -- how many darts
   pub count-serials : length (new-serials t) ≡ size-all (t .faces)
@@ -106,7 +110,11 @@ module _ (t : Transfer) where
     pub some-dart : (f : List FaceDart) → Elem f (t .faces) → 0 < length f
     unfolding faces-ordered
     some-dart f h =
-        let e = all-elem (λ f. ltb 0 (length f) && all (leb (start-of f)) f) fs (and-left (all (λ f. ltb 0 (length f) && all (leb (start-of f)) f) fs) _ ordered) (face-serials f) (elem-map face-serials f (t .faces) h) in
+        let e =
+        all-elem (λ f. ltb 0 (length f) && all (leb (start-of f)) f) fs
+        (and-left (all (λ f. ltb 0 (length f) && all (leb (start-of f)) f) fs) _ ordered) (face-serials f)
+        (elem-map face-serials f (t .faces) h)
+        in
         let a = ltb-true 0 (length (face-serials f)) (and-left (ltb 0 (length (face-serials f))) _ e) in
         omega (arith, length-map f (λ (c : FaceDart). c .serial))
 
@@ -135,7 +143,9 @@ module _ (t : Transfer) where
     start-one i j x h k a b =
         let p = start i h in
         let q = start j k in
-        p .at-is ∙ placed-one 0 fs (rw (← faces-serials) once) (p .place) (q .place) (p .there) (q .there) x (subst (λ (w : List ℕ). In x w) (p .place-is) a) (subst (λ (w : List ℕ). In x w) (q .place-is) b) ∙ sym (q .at-is)
+        p .at-is
+        ∙ placed-one 0 fs (rw (← faces-serials) once) (p .place) (q .place) (p .there) (q .there) x
+        (subst (λ (w : List ℕ). In x w) (p .place-is) a) (subst (λ (w : List ℕ). In x w) (q .place-is) b) ∙ sym (q .at-is)
 
     pub start-size : (i : ℕ) → In i starts → size-at i (t .faces) ≡ length (face-from t i)
     start-size i h =

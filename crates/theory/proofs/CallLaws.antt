@@ -74,11 +74,13 @@ storing-refuses qs m b e = refused-gives qs m tt (image b) e
 abbrev pub with-fifteen : List Check → List ℕ → List ℕ → List Check
 with-fifteen qs out bytes = qs ++ (15, leb (length bytes) (length out)) ∷ []
 
-pub writing-serves : (qs : List Check) (out bytes : List ℕ) → first-no (with-fifteen qs out bytes) ≡ 0 → writing qs out bytes ≡ record { answer = served (length bytes); lent = bytes ++ drop (length bytes) out }
+pub writing-serves : (qs : List Check) (out bytes : List ℕ) → first-no (with-fifteen qs out bytes) ≡ 0
+    → writing qs out bytes ≡ record { answer = served (length bytes); lent = bytes ++ drop (length bytes) out }
 unfolding writing
 writing-serves qs out bytes e = served-gives _ out (length bytes) (bytes ++ drop (length bytes) out) e
 
-pub writing-refuses : (qs : List Check) (out bytes : List ℕ) → first-no (with-fifteen qs out bytes) ≢ 0 → writing qs out bytes ≡ record { answer = refused (first-no (with-fifteen qs out bytes)); lent = out }
+pub writing-refuses : (qs : List Check) (out bytes : List ℕ) → first-no (with-fifteen qs out bytes) ≢ 0
+    → writing qs out bytes ≡ record { answer = refused (first-no (with-fifteen qs out bytes)); lent = out }
 unfolding writing
 writing-refuses qs out bytes e = refused-gives _ out (length bytes) (bytes ++ drop (length bytes) out) e
 

@@ -142,8 +142,20 @@ unfolding file such-that as-type _⊕_ _⊗_ counted times group group-below ran
 ok-ranges lim b o =
     let few = leb (length (b .darts)) (lim .block-darts) in
     let positive = all (λ d. leb 1 (d .serial)) (b .darts) in
-    let test = and-right (at-most 15 .ok (b .number) && (ltb (b .counter) (2 ^ 32) && (ltb (length (b .darts)) (2 ^ 32) && (eqb (length (b .darts)) (length (b .darts)) && all (a-dart .ok) (b .darts))))) _ o in
-    let body = and-left (at-most 15 .ok (b .number) && (ltb (b .counter) (2 ^ 32) && (ltb (length (b .darts)) (2 ^ 32) && (eqb (length (b .darts)) (length (b .darts)) && all (a-dart .ok) (b .darts))))) _ o in
+    let test =
+    and-right
+    (at-most 15 .ok (b .number)
+    && (ltb (b .counter) (2 ^ 32)
+    && (ltb (length (b .darts)) (2 ^ 32) && (eqb (length (b .darts)) (length (b .darts)) && all (a-dart .ok) (b .darts))))) _
+    o
+    in
+    let body =
+    and-left
+    (at-most 15 .ok (b .number)
+    && (ltb (b .counter) (2 ^ 32)
+    && (ltb (length (b .darts)) (2 ^ 32) && (eqb (length (b .darts)) (length (b .darts)) && all (a-dart .ok) (b .darts))))) _
+    o
+    in
     let rest = and-right (at-most 15 .ok (b .number)) _ body in
     let darts = and-right (eqb (length (b .darts)) (length (b .darts))) _ (and-right (ltb (length (b .darts)) (2 ^ 32)) _ (and-right (ltb (b .counter) (2 ^ 32)) _ rest)) in
     let sizes = and-left (few && positive) _ test in

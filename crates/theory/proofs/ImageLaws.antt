@@ -93,7 +93,9 @@ module _ (b : Block) where
   serial-back x h =
       let r = place-back x (serials (b .darts)) h in
       let small : index-of x (serials (b .darts)) < length (b .darts) = omega (arith, r .1, length-map (b .darts) (λ (d : Dart). d .serial)) in
-      column-is b (index-of x (serials (b .darts))) 0 small (omega arith) ∙ first-word (serials (b .darts)) (getD (b .darts) (index-of x (serials (b .darts))) no-dart) ∙ sym (getD-serial (b .darts) (index-of x (serials (b .darts)))) ∙ r .0
+      column-is b (index-of x (serials (b .darts))) 0 small (omega arith)
+      ∙ first-word (serials (b .darts)) (getD (b .darts) (index-of x (serials (b .darts))) no-dart)
+      ∙ sym (getD-serial (b .darts) (index-of x (serials (b .darts)))) ∙ r .0
 
   pub third-back : (t : Third) → links-held (b .darts) t ≡ true → third-in-range t ≡ true
       → third-in (column (image b) 0) (kind-word t) (link-word (serials (b .darts)) t) ≡ t

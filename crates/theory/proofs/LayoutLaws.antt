@@ -142,7 +142,9 @@ module _ {A B : Type 0} where
   pub ⊗-lawful : (l : Layout A) (m : A → Layout B) → Lawful l → ((a : A) → Lawful (m a)) → Lawful (l ⊗ m)
   unfolding _⊗_
   ⊗-lawful l m L M = record {
-    back = λ p rest o. rw (append-assoc (l .put (p .0)) (m (p .0) .put (p .1)) rest, L .back (p .0) (m (p .0) .put (p .1) ++ rest) (and-left _ _ o), M (p .0) .back (p .1) rest (and-right (l .ok (p .0)) _ o));
+    back =
+        λ p rest o. rw
+        (append-assoc (l .put (p .0)) (m (p .0) .put (p .1)) rest, L .back (p .0) (m (p .0) .put (p .1) ++ rest) (and-left _ _ o), M (p .0) .back (p .1) rest (and-right (l .ok (p .0)) _ o));
     only = λ bs p rest h q. first bs p rest h (then-some (l .get bs) _ _ q);
   }
     where

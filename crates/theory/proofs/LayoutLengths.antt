@@ -43,7 +43,9 @@ coordinate-short v = omega arith
 
 pub point-short : (p : Point) → length (point .put p) ≤ 24
 unfolding point as-type
-point-short p = pair-short coordinate (coordinate ⊕ coordinate) (p .x) (p .y, p .z) 8 16 (coordinate-short (p .x)) (pair-short coordinate coordinate (p .y) (p .z) 8 8 (coordinate-short (p .y)) (coordinate-short (p .z)))
+point-short p =
+    pair-short coordinate (coordinate ⊕ coordinate) (p .x) (p .y, p .z) 8 16 (coordinate-short (p .x))
+    (pair-short coordinate coordinate (p .y) (p .z) 8 8 (coordinate-short (p .y)) (coordinate-short (p .z)))
 
 pub at-most-short : (n v : ℕ) → length (at-most n .put v) ≤ 5
 unfolding at-most such-that
@@ -55,7 +57,9 @@ exactly-short n v = group-short v
 
 pub label-short : (l : Label) → length (label .put l) ≤ 15
 unfolding label as-type
-label-short l = pair-short (at-most 15) (group ⊕ at-most 4095) (l .maker) (l .number, l .position) 5 10 (at-most-short 15 (l .maker)) (pair-short group (at-most 4095) (l .number) (l .position) 5 5 (group-short (l .number)) (at-most-short 4095 (l .position)))
+label-short l =
+    pair-short (at-most 15) (group ⊕ at-most 4095) (l .maker) (l .number, l .position) 5 10 (at-most-short 15 (l .maker))
+    (pair-short group (at-most 4095) (l .number) (l .position) 5 5 (group-short (l .number)) (at-most-short 4095 (l .position)))
 
 pub face-dart-short : (d : FaceDart) → length (face-dart .put d) ≤ 10
 unfolding face-dart as-type

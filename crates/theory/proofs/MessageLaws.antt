@@ -41,10 +41,21 @@ part1-lawful = ⊕-lawful _ _ (exactly-lawful 1) (⊕-lawful _ _ (at-most-lawful
 
 pub transfer-lawful : Lawful transfer
 unfolding transfer part1 _⊗_ _⊕_ such-that exactly
-transfer-lawful = as-type-lawful _ _ _ (⊗-lawful part1 _ part1-lawful (λ h. ⊕-lawful _ _ (counted-lawful part2 part2-lawful) (⊕-lawful _ _ (counted-lawful part3 part3-lawful) (counted-lawful _ (part4-lawful (h .1 .1 .1 .1))))))
-    (λ p. refl) (λ p o. let one = eqb-true 1 (p .0 .0) (and-right (group .ok (p .0 .0)) _ (and-left (group .ok (p .0 .0) && eqb 1 (p .0 .0)) _ (and-left (part1 .ok (p .0)) _ o))) in λ i. ((one i, p .0 .1), p .1))
+transfer-lawful =
+    as-type-lawful _ _ _
+    (⊗-lawful part1 _ part1-lawful
+    (λ h. ⊕-lawful _ _ (counted-lawful part2 part2-lawful)
+    (⊕-lawful _ _ (counted-lawful part3 part3-lawful) (counted-lawful _ (part4-lawful (h .1 .1 .1 .1))))))
+    (λ p. refl)
+    (λ p o. let one = eqb-true 1 (p .0 .0)
+    (and-right (group .ok (p .0 .0)) _ (and-left (group .ok (p .0 .0) && eqb 1 (p .0 .0)) _ (and-left (part1 .ok (p .0)) _ o))) in
+    λ i. ((one i, p .0 .1), p .1))
 
 pub update-lawful : Lawful update
 unfolding update _⊗_ _⊕_ such-that exactly
-update-lawful = as-type-lawful _ _ _ (⊕-lawful _ _ (exactly-lawful 2) (⊕-lawful _ _ (at-most-lawful 15) (⊕-lawful _ _ (at-most-lawful 15) (⊕-lawful _ _ (at-most-lawful 15) (counted-lawful label label-lawful)))))
+update-lawful =
+    as-type-lawful _ _ _
+    (⊕-lawful _ _ (exactly-lawful 2)
+    (⊕-lawful _ _ (at-most-lawful 15)
+    (⊕-lawful _ _ (at-most-lawful 15) (⊕-lawful _ _ (at-most-lawful 15) (counted-lawful label label-lawful)))))
     (λ p. refl) (λ p o. let two = eqb-true 2 (p .0) (and-right (group .ok (p .0)) _ (and-left (group .ok (p .0) && eqb 2 (p .0)) _ o)) in λ i. (two i, p .1))

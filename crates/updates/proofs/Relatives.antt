@@ -51,7 +51,11 @@ collected g e (suc n) = first-message (g (e 0)) (collect g (tab (λ k. e (suc k)
     ∙ ap (λ (l : List ℕ). message-of (g (e 0)) ++ l) (collected g (λ k. e (suc k)) n) ∙ run-first (λ k. message-of (g (e k))) n
 
 -- ONE UPDATE by its layout
-layout-bytes : (u : Update) → update .put u ≡ group .put 2 ++ (group .put (u .from) ++ (group .put (u .to) ++ (group .put (u .block) ++ (group .put (length (u .labels)) ++ put-all label (u .labels)))))
+layout-bytes : (u : Update)
+    → update .put u
+    ≡ group .put 2
+    ++ (group .put (u .from)
+    ++ (group .put (u .to) ++ (group .put (u .block) ++ (group .put (length (u .labels)) ++ put-all label (u .labels)))))
 unfolding update as-type _⊗_ _⊕_ exactly at-most such-that counted times
 layout-bytes u = refl
 
@@ -114,7 +118,8 @@ module _ (m : List ℕ) {fs : List (List ℕ)} {order starts : List ℕ} {darts 
       told-is (g ∷ gs) n l = by-cases (eqb k j)
           (λ e. rw e (sym (told-none m j order starts darts count k n (other e))))
           (λ e. rw e (message-is m j k (map (least-at m) (g ∷ gs)) x y z (sym (length-map (g ∷ gs) (least-at m))) refl
-          ∙ sym (told-some m j order starts darts count k n (told e) ∙ update-of m j order starts darts count k n (ap length l) ∙ ap (λ (t : List ℕ). head-bytes m j k (length (g ∷ gs)) (rest-for (length (g ∷ gs)) (length (put-all label (map (least-at m) (g ∷ gs))))) ++ t) (sym l))))
+          ∙ sym
+          (told-some m j order starts darts count k n (told e) ∙ update-of m j order starts darts count k n (ap length l) ∙ ap (λ (t : List ℕ). head-bytes m j k (length (g ∷ gs)) (rest-for (length (g ∷ gs)) (length (put-all label (map (least-at m) (g ∷ gs))))) ++ t) (sym l))))
         where
           other : eqb k j ≡ true → relative j k (length (g ∷ gs)) ≡ false
           other e = rw (e, lt-ltb 0 (length (g ∷ gs)) (omega arith))

@@ -80,7 +80,8 @@ module _ {m order starts : List ℕ} {darts count f : ℕ} {labels bytes : List 
       bytes-are = λ k l. ⊎-elim
           (λ i. rw i (getD-set-same bytes (w / 4) (getD bytes (w / 4) 0 + size) 0 (omega (arith, s .bytes-size))
           ∙ ap (λ (x : ℕ). x + size) (s .bytes-are (w / 4) (omega arith)) ∙ sym (longer-by (least-put m (w / 4) order starts darts count) f (size-is (w / 4) refl))))
-          (λ n. getD-set-other bytes (w / 4) k (getD bytes (w / 4) 0 + size) 0 n ∙ s .bytes-are k l ∙ sym (longer-none (least-put m k order starts darts count) f (least-none m k order starts darts count f (unshared k n))))
+          (λ n. getD-set-other bytes (w / 4) k (getD bytes (w / 4) 0 + size) 0 n ∙ s .bytes-are k l ∙ sym
+          (longer-none (least-put m k order starts darts count) f (least-none m k order starts darts count f (unshared k n))))
           (eq-or-ne k (w / 4));
     }
       where

@@ -93,7 +93,17 @@ pub record Placing (s : ℕ → ℕ) (n : ℕ) (f : ℕ → ℕ) (k : ℕ) (old 
   pub news : (y : ℕ) → j ≤ y → y < k → getD new y 0 ≡ up f s n y
 
 pub placing-start : {s : ℕ → ℕ} {n : ℕ} {f : ℕ → ℕ} {k : ℕ} {old new : List ℕ} → length old ≡ room → length new ≡ room → Placing s n f k old new n k
-placing-start a b = record { i-le = omega arith; j-le = omega arith; old-size = a; new-size = b; low = λ x y l g u. absurd (omega arith); high = λ x y g u l. absurd (omega arith); olds = λ x g u. absurd (omega arith); news = λ y g u. absurd (omega arith) }
+placing-start a b =
+    record {
+      i-le = omega arith;
+      j-le = omega arith;
+      old-size = a;
+      new-size = b;
+      low = λ x y l g u. absurd (omega arith);
+      high = λ x y g u l. absurd (omega arith);
+      olds = λ x g u. absurd (omega arith);
+      news = λ y g u. absurd (omega arith);
+    }
 
 -- from one place earlier on
 earlier : (i x : ℕ) → 0 < i → i - 1 ≤ x → (x ≡ i - 1) ⊎ (i ≤ x)
@@ -112,7 +122,9 @@ module _ {s : ℕ → ℕ} {n : ℕ} {f : ℕ → ℕ} {k : ℕ} (w : Between s 
         new-size = v .new-size;
         low = λ x y l g u. v .low x y (omega arith) g u;
         high = λ x y g u l. ⊎-elim (λ q. rw q (t .1 y l)) (λ q. v .high x y q u l) (earlier i x (t .0) g);
-        olds = λ x g u. ⊎-elim (λ q. rw q (getD-set-same old (i - 1) (i + j - 1) 0 size ∙ here)) (λ q. getD-set-other old (i - 1) x (i + j - 1) 0 (λ r. omega (arith, t .0)) ∙ v .olds x q u) (earlier i x (t .0) g);
+        olds =
+            λ x g u. ⊎-elim (λ q. rw q (getD-set-same old (i - 1) (i + j - 1) 0 size ∙ here))
+            (λ q. getD-set-other old (i - 1) x (i + j - 1) 0 (λ r. omega (arith, t .0)) ∙ v .olds x q u) (earlier i x (t .0) g);
         news = v .news;
       }
 
@@ -129,7 +141,9 @@ module _ {s : ℕ → ℕ} {n : ℕ} {f : ℕ → ℕ} {k : ℕ} (w : Between s 
         low = λ x y l g u. ⊎-elim (λ q. rw q (t .1 x l)) (λ q. v .low x y l q u) (earlier j y (t .0) g);
         high = λ x y g u l. v .high x y g u (omega arith);
         olds = v .olds;
-        news = λ y g u. ⊎-elim (λ q. rw q (getD-set-same new (j - 1) (i + j - 1) 0 size ∙ here)) (λ q. getD-set-other new (j - 1) y (i + j - 1) 0 (λ r. omega (arith, t .0)) ∙ v .news y q u) (earlier j y (t .0) g);
+        news =
+            λ y g u. ⊎-elim (λ q. rw q (getD-set-same new (j - 1) (i + j - 1) 0 size ∙ here))
+            (λ q. getD-set-other new (j - 1) y (i + j - 1) 0 (λ r. omega (arith, t .0)) ∙ v .news y q u) (earlier j y (t .0) g);
       }
 
 pub placing-end : {s : ℕ → ℕ} {n : ℕ} {f : ℕ → ℕ} {k : ℕ} {old new : List ℕ} {i j : ℕ} → Placing s n f k old new i j → i + j ≤ 0
@@ -187,7 +201,8 @@ unfolding moved-words
 record-words t x p e = rw e
 
 -- as it stores it
-pub stored-moved : (m : List ℕ) (at : ℕ) (r : Record) (table : List ℕ) {a o l : ℕ} {y : List ℕ} → a ≡ getD table (r .next) 0 → o ≡ getD table (r .opposite) 0 → l ≡ moved-link (λ p. getD table p 0) (r .kind) (r .link)
+pub stored-moved : (m : List ℕ) (at : ℕ) (r : Record) (table : List ℕ) {a o l : ℕ} {y : List ℕ} → a ≡ getD table (r .next) 0
+    → o ≡ getD table (r .opposite) 0 → l ≡ moved-link (λ p. getD table p 0) (r .kind) (r .link)
     → y ≡ put m at (r .serial ∷ a ∷ o ∷ r .kind ∷ l ∷ r .x ∷ r .y ∷ r .z ∷ []) → y ≡ put m at (moved-record (λ p. getD table p 0) r)
 stored-moved m at r table e f g q = q ∙ rw (e, f, g)
 
@@ -257,7 +272,11 @@ module _ {m c : List ℕ} {n k : ℕ} (a : Weaves m c n k) {x : List ℕ} {i j :
     old-turn old t q =
         let last = last-yes (a .keys) (w .i-le) (w .j-le) more (sym is-last ∙ e) in
         let u : ℕ → ℕ = up (column m 0) (column c 0) k in
-        let is : moved-record (λ p. getD old p 0) r ≡ moved-words u m (i - 1) = record-words (λ p. getD old p 0) x (i - 1) read ∙ front-words (λ p. getD old p 0) x m i (i - 1) (w .front) (omega (arith, last .0)) ∙ by-table m old u n (i - 1) (a .block) t old-lt in
+        let is : moved-record (λ p. getD old p 0) r ≡ moved-words u m (i - 1) =
+        record-words (λ p. getD old p 0) x (i - 1) read
+        ∙ front-words (λ p. getD old p 0) x m i (i - 1) (w .front) (omega (arith, last .0))
+        ∙ by-table m old u n (i - 1) (a .block) t old-lt
+        in
         let z : i ≡ suc (i - 1) = omega (arith, last .0) in
         rw (q ∙ ap (put x (i + j - 1)) is) (step (moved-words u m (i - 1)) (i - 1) j
         (ap (λ (y : ℕ). rows m n c k y j) z ∙ weave-old (column m 0) (column c 0) (moved-words u m) (moved-words (up (column c 0) (column m 0) n) c) (i - 1) j (last .1))

@@ -64,12 +64,16 @@ or-assoc true false c = refl
 or-assoc false true c = refl
 or-assoc false false c = refl
 
-put-all : (r : ℕ → Bool) (ns l : List Dart) → ascending (serials l) ≡ true → Each (λ d. find (λ e. e .serial) (d .serial) l ≡ some d) ns → Each (λ d. r (d .serial) ≡ false) ns → distinct (serials ns) ≡ true
+put-all : (r : ℕ → Bool) (ns l : List Dart) → ascending (serials l) ≡ true → Each (λ d. find (λ e. e .serial) (d .serial) l ≡ some d) ns
+    → Each (λ d. r (d .serial) ≡ false) ns → distinct (serials ns) ≡ true
     → insert-all ns (keep (λ e. not (mem (e .serial) (serials ns) || r (e .serial))) l) ≡ keep (λ e. not (r (e .serial))) l
 put-all r [] l a f o d = refl
 put-all r (n ∷ ns) l a f o d =
     ap (λ (z : List Dart). insert (λ e. e .serial) n (insert-all ns z)) (λ i. keep (λ e. not (or-assoc (eqb (e .serial) (n .serial)) (mem (e .serial) (serials ns)) (r (e .serial)) i)) l)
-    ∙ ap (insert (λ e. e .serial) n) (put-all (λ x. eqb x (n .serial) || r x) ns l a (f .1) (out ns (not-true (mem (n .serial) (serials ns)) (and-left _ _ d)) (o .1)) (and-right (not (mem (n .serial) (serials ns))) _ d))
+    ∙ ap (insert (λ e. e .serial) n)
+    (put-all (λ x. eqb x (n .serial) || r x) ns l a (f .1)
+    (out ns (not-true (mem (n .serial) (serials ns)) (and-left _ _ d)) (o .1))
+    (and-right (not (mem (n .serial) (serials ns))) _ d))
     ∙ put-back (λ e. e .serial) r n l a (f .0) (o .0)
   where
     out : (ms : List Dart) → mem (n .serial) (serials ms) ≡ false → Each (λ d. r (d .serial) ≡ false) ms → Each (λ d. (eqb (d .serial) (n .serial) || r (d .serial)) ≡ false) ms

@@ -141,7 +141,15 @@ module _ {A : Type 0} (s f : ℕ → ℕ) (g h : ℕ → A) (d : A) where
 
   none-yet : Rows s f g h d 0 0
   unfolding weave
-  none-yet = record { count = refl; old-lt = λ x v. absurd (omega arith); old-at = λ x v. absurd (omega arith); new-lt = λ y v. absurd (omega arith); new-at = λ y v. absurd (omega arith); from = λ t v. absurd (omega arith) }
+  none-yet =
+      record {
+        count = refl;
+        old-lt = λ x v. absurd (omega arith);
+        old-at = λ x v. absurd (omega arith);
+        new-lt = λ y v. absurd (omega arith);
+        new-at = λ y v. absurd (omega arith);
+        from = λ t v. absurd (omega arith);
+      }
 
 pub woven-rows : {A : Type 0} {s : ℕ → ℕ} {n : ℕ} {f : ℕ → ℕ} {k : ℕ} → Between s n f k → (g h : ℕ → A) (d : A) → Rows s f g h d n k
 woven-rows {A} {s} {n} {f} {k} w g h d = by-weaving w (Rows s f g h d) (none-yet s f g h d) (λ p j a b us uf r. more-old s f g h d p j uf r) (λ i q a b us uf r. more-new s f g h d i q us r)

@@ -32,7 +32,8 @@ use Rattle.woven.proofs.Inserted.{inserted, all-there}
 
 -- the words of a dart where the serial at place x has index t x
 words-moved : (m ss : List ℕ) (t : ℕ → ℕ) (p : ℕ) → Kind (column m 3 p) (column m 4 p)
-    → index-of (column m 0 (column m 1 p)) ss ≡ t (column m 1 p) → index-of (column m 0 (column m 2 p)) ss ≡ t (column m 2 p) → (column m 3 p ≡ 1 → index-of (column m 0 (column m 4 p)) ss ≡ t (column m 4 p))
+    → index-of (column m 0 (column m 1 p)) ss ≡ t (column m 1 p) → index-of (column m 0 (column m 2 p)) ss ≡ t (column m 2 p)
+    → (column m 3 p ≡ 1 → index-of (column m 0 (column m 4 p)) ss ≡ t (column m 4 p))
     → dart-words ss (dart-in m p) ≡ moved-words t m p
 unfolding dart-words moved-words
 words-moved m ss t p kind next opposite link =
@@ -104,11 +105,14 @@ module _ {m c : List ℕ} {n k : ℕ} (a : Drafted m c n k) where
   -- their words
   pub old-words : (p : ℕ) → p < n → dart-words (serials all-darts) (dart-in m p) ≡ moved-words (up s f k) m p
   old-words p h = let b = a .weaves .block in
-      words-moved m (serials all-darts) (up s f k) p (a .kinds p h) (old-index (column m 1 p) (b .next-lt p h)) (old-index (column m 2 p) (b .opposite-lt p h)) (λ e. old-index (column m 4 p) (b .sewn-lt p h e))
+      words-moved m (serials all-darts) (up s f k) p (a .kinds p h) (old-index (column m 1 p) (b .next-lt p h))
+      (old-index (column m 2 p) (b .opposite-lt p h)) (λ e. old-index (column m 4 p) (b .sewn-lt p h e))
 
   pub new-words : (q : ℕ) → q < k → dart-words (serials all-darts) (dart-in c q) ≡ moved-words (up f s n) c q
   new-words q h = let b = a .weaves .draft in
-      words-moved c (serials all-darts) (up f s n) q (kind-free (a .free q h .0) (a .free q h .1)) (new-index (column c 1 q) (b .next-lt q h)) (new-index (column c 2 q) (b .opposite-lt q h)) (λ e. new-index (column c 4 q) (b .sewn-lt q h e))
+      words-moved c (serials all-darts) (up f s n) q (kind-free (a .free q h .0) (a .free q h .1))
+      (new-index (column c 1 q) (b .next-lt q h)) (new-index (column c 2 q) (b .opposite-lt q h))
+      (λ e. new-index (column c 4 q) (b .sewn-lt q h e))
 
   all-words : map (dart-words (serials all-darts)) all-darts ≡ rows m n c k n k
   all-words = map-weave w (dart-words (serials all-darts)) (dart-in m) (dart-in c) (moved-words (up s f k) m) (moved-words (up f s n) c) old-words new-words
@@ -157,7 +161,11 @@ module _ {m c : List ℕ} {n k : ℕ} (a : Drafted m c n k) where
     new-once = ap distinct new-serials ∙ distinct-map f ps once (λ x y i j e. one-place (w .f-up) (low x i) (low y j) e)
 
     pub darts-both : insert-all (map (dart-in c) ps) (tab (dart-in m) n) ≡ all-darts
-    darts-both = ap (insert-all (map (dart-in c) ps)) (sym (keep-weave w (λ e. not (mem (e .serial) (serials (map (dart-in c) ps)) || false)) (dart-in m) (dart-in c) (λ p h. rw (old-out p h)) (λ q h. rw (new-in q h))))
+    darts-both =
+        ap (insert-all (map (dart-in c) ps))
+        (sym
+        (keep-weave w (λ e. not (mem (e .serial) (serials (map (dart-in c) ps)) || false)) (dart-in m) (dart-in c)
+        (λ p h. rw (old-out p h)) (λ q h. rw (new-in q h))))
         ∙ inserted (map (dart-in c) ps) all-darts order (each-map (λ d. find (λ e. e .serial) (d .serial) all-darts ≡ some d) (dart-in c) ps (λ q i. new-found q (low q i))) new-once
 
 -- THE LAW: whatever order the new darts come in, the block is the same

@@ -49,7 +49,8 @@ moved-to m x t p q e = record {
 
 -- it is the same dart, where serials have moved alike
 module _ {m x : List ℕ} {t : ℕ → ℕ} {p q : ℕ} (r : MovedTo m x t p q) where
-  third-same : Kind (column m 3 p) (column m 4 p) → (column m 3 p ≡ 1 → column x 0 (t (column m 4 p)) ≡ column m 0 (column m 4 p)) → third-in (column x 0) (column x 3 q) (column x 4 q) ≡ third-in (column m 0) (column m 3 p) (column m 4 p)
+  third-same : Kind (column m 3 p) (column m 4 p) → (column m 3 p ≡ 1 → column x 0 (t (column m 4 p)) ≡ column m 0 (column m 4 p))
+      → third-in (column x 0) (column x 3 q) (column x 4 q) ≡ third-in (column m 0) (column m 3 p) (column m 4 p)
   third-same (kind-free e f) h = third-free (column x 0) (column x 3 q) (column x 4 q) (r .kind ∙ e) ∙ sym (third-free (column m 0) (column m 3 p) (column m 4 p) e)
   third-same (kind-sewn e) h =
       third-sewn (column x 0) (column x 3 q) (column x 4 q) (r .kind ∙ e)
@@ -116,7 +117,8 @@ module _ {m c : List ℕ} {n k : ℕ} (a : Drafted m c n k) where
 
   new-dart : (q : ℕ) → q < k → dart-in x (to-new q) ≡ dart-in c q
   new-dart q h = let b = a .weaves .draft in
-      dart-same (new-record q h) (kind-free (a .free q h .0) (a .free q h .1)) (new-serial (column c 1 q) (b .next-lt q h)) (new-serial (column c 2 q) (b .opposite-lt q h)) (λ e. new-serial (column c 4 q) (b .sewn-lt q h e))
+      dart-same (new-record q h) (kind-free (a .free q h .0) (a .free q h .1)) (new-serial (column c 1 q) (b .next-lt q h))
+      (new-serial (column c 2 q) (b .opposite-lt q h)) (λ e. new-serial (column c 4 q) (b .sewn-lt q h e))
 
   dart-is : (t : ℕ) → t < n + k → dart-in x t ≡ getD (all-darts a) t no-dart
   dart-is t h = ⊎-elim
@@ -164,7 +166,9 @@ module _ {m c : List ℕ} {n k : ℕ} (a : Drafted m c n k) where
   size-is = ap length (sym (image-both a)) ∙ image-length (both a) (omega (arith, darts-at a .count, a .weaves .fits))
 
   -- THE LINKS of one kind, next or opposite, by their columns
-  module _ (g : ℕ) (old-is : (p : ℕ) → p < n → column x g (to-old p) ≡ to-old (column m g p)) (new-is : (q : ℕ) → q < k → column x g (to-new q) ≡ to-new (column c g q)) (old-in : Within n (column m g)) (new-in : Within k (column c g)) where
+  module _ (g : ℕ) (old-is : (p : ℕ) → p < n → column x g (to-old p) ≡ to-old (column m g p))
+      (new-is : (q : ℕ) → q < k → column x g (to-new q) ≡ to-new (column c g q)) (old-in : Within n (column m g))
+      (new-in : Within k (column c g)) where
     link-within : Within (n + k) (column x g)
     link-within t h = ⊎-elim
         (λ r. omega (arith, ap (column x g) (r .2), old-is (r .0) (r .1), darts-at a .old-lt (column m g (r .0)) (old-in (r .0) (r .1))))
@@ -190,7 +194,8 @@ module _ {m c : List ℕ} {n k : ℕ} (a : Drafted m c n k) where
   sewn-within t h e = ⊎-elim
       (λ r. let w = old-record (r .0) (r .1) in
       let one : column m 3 (r .0) ≡ 1 = kind-one (a .kinds (r .0) (r .1)) (omega (arith, ap (column x 3) (r .2), w .kind)) in
-      omega (arith, ap (column x 4) (r .2), w .link, link-sewn to-old (column m 3 (r .0)) (column m 4 (r .0)) one, darts-at a .old-lt (column m 4 (r .0)) (a .weaves .block .sewn-lt (r .0) (r .1) one)))
+      omega
+      (arith, ap (column x 4) (r .2), w .link, link-sewn to-old (column m 3 (r .0)) (column m 4 (r .0)) one, darts-at a .old-lt (column m 4 (r .0)) (a .weaves .block .sewn-lt (r .0) (r .1) one)))
       (λ r. let w = new-record (r .0) (r .1) in absurd (omega (arith, ap (column x 3) (r .2), w .kind, a .free (r .0) (r .1) .0)))
       (darts-at a .from t h)
 
@@ -235,8 +240,12 @@ module _ {m c : List ℕ} {n k : ℕ} (a : Drafted m c n k) where
     new-lt = λ q h. omega (arith, w q h, darts-at a .new-lt q h);
     old-dart = λ p h. ap (dart-in x) (o p h) ∙ old-dart p h;
     new-dart = λ q h. ap (dart-in x) (w q h) ∙ new-dart q h;
-    old-moved = λ p h. moved-to m x (λ y. getD old y 0) p (getD old p 0) (λ g b. ap (column x g) (o p h) ∙ old-word p g h b ∙ ap (λ (l : List ℕ). getD l g 0) (sym (by-table m old to-old n p (a .weaves .block) o h)));
-    new-moved = λ q h. moved-to c x (λ y. getD new y 0) q (getD new q 0) (λ g b. ap (column x g) (w q h) ∙ new-word q g h b ∙ ap (λ (l : List ℕ). getD l g 0) (sym (by-table c new to-new k q (a .weaves .draft) w h)));
+    old-moved =
+        λ p h. moved-to m x (λ y. getD old y 0) p (getD old p 0)
+        (λ g b. ap (column x g) (o p h) ∙ old-word p g h b ∙ ap (λ (l : List ℕ). getD l g 0) (sym (by-table m old to-old n p (a .weaves .block) o h)));
+    new-moved =
+        λ q h. moved-to c x (λ y. getD new y 0) q (getD new q 0)
+        (λ g b. ap (column x g) (w q h) ∙ new-word q g h b ∙ ap (λ (l : List ℕ). getD l g 0) (sym (by-table c new to-new k q (a .weaves .draft) w h)));
     old-up = λ p q l h. omega (arith, o p (omega arith), o q h, old-ascend p q l h);
     new-up = λ p q l h. omega (arith, w p (omega arith), w q h, new-ascend p q l h);
     apart = λ p q h b e. never-meet p q h b (sym (o p h) ∙ e ∙ w q b);
@@ -254,4 +263,7 @@ module _ {m c : List ℕ} {n k : ℕ} (a : Drafted m c n k) where
 
 pub woven-block : {m c : List ℕ} (a : Drafted m c (count-in m) (count-in c)) (ps : List ℕ) → distinct ps ≡ true → length ps ≡ count-in c → ((q : ℕ) → In q ps → q < count-in c)
     → block-in (woven-at m (count-in m) c (count-in c)) ≡ record { number = getD m 0 0; counter = getD m 1 0; darts = insert-all (map (dart-in c) ps) (block-in m .darts) }
-woven-block {m} {c} a ps once size low = block-both a ∙ ap (λ (l : List Dart). record { number = getD m 0 0; counter = getD m 1 0; darts = l }) (sym (darts-both a ps once low (all-there (count-in c) ps once size low)))
+woven-block {m} {c} a ps once size low =
+    block-both a
+    ∙ ap (λ (l : List Dart). record { number = getD m 0 0; counter = getD m 1 0; darts = l })
+    (sym (darts-both a ps once low (all-there (count-in c) ps once size low)))

@@ -46,7 +46,10 @@ part-first-leaving-end c = search needs
 first-leaving-requires : tie.Need-first-leaving-requires
 first-leaving-requires c κs =
     let start : tie.Start = search in
-    let q = leaving-ready (start .pre .0) (start .args .d) (start .args .to) (start .pre .1) (start .pre .2) (start .pre .3) (part-is (start .args .mesh .now) (start .args .d) _ refl) in
+    let d = start .args .d in
+    let to = start .args .to in
+    let mesh = start .args .mesh .now in
+    let q = leaving-ready (start .pre .0) d to (start .pre .1) (start .pre .2) (start .pre .3) (part-is mesh d _ refl) in
     (q .0, q .1, q .2, start .pre .4)
 
 same-length : tie.Need-same-length
@@ -55,8 +58,12 @@ same-length c = search needs
 returns : tie.Need-returns
 returns c =
     let start : tie.Start = search in
+    let sizes = start .args .sizes .now in
+    let mesh = start .args .mesh .now in
+    let d = start .args .d in
+    let to = start .args .to in
     let first-leaving-ensures = (let p : tie.After-first-leaving = search in p .first-leaving .ensures) in
-    between-there (start .args .sizes .now) (part-is (start .args .mesh .now) (start .args .d) _ refl) (ap (λ (x : ℕ). 4096 - x) (sym (count-word (start .args .mesh .now) (start .args .to)))) (first-leaving-ensures .0) (first-leaving-ensures .1)
+    between-there sizes (part-is mesh d _ refl) (ap (λ (x : ℕ). 4096 - x) (sym (count-word mesh to))) (first-leaving-ensures .0) (first-leaving-ensures .1)
 
 pub between-spec : {M : Type 1} → statement M
 between-spec =

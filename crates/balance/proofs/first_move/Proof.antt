@@ -33,53 +33,48 @@ loop-holds c =
     (start .pre .2, searching-start _ _ _)
 
 add-d : tie.Need-add-d Inv-loop μ-loop
-add-d c =
-    let start : tie.Start Inv-loop μ-loop = search in
-    omega (arith, c .loop-test .taken, start .pre .0 .few)
+add-d c = omega arith
 
 mul-s : tie.Need-mul-s Inv-loop μ-loop
-mul-s c =
-    let start : tie.Start Inv-loop μ-loop = search in
-    omega (arith, c .loop-test .taken, start .pre .0 .few)
+mul-s c = omega arith
 
 array-copy-out-s : tie.Need-array-copy-out-s Inv-loop μ-loop
-array-copy-out-s c =
-    let start : tie.Start Inv-loop μ-loop = search in
-    omega (arith, c .loop-test .taken, start .pre .0 .few, start .pre .1 .size)
+array-copy-out-s c = omega arith
 
 is-above-requires : tie.Need-is-above-requires Inv-loop μ-loop
 is-above-requires c κs = search needs
 
 loop-less : tie.Need-loop-less Inv-loop μ-loop
-loop-less c =
-    let loop-test-taken = (let p : tie.In-loop Inv-loop μ-loop = search in p .loop-test .taken) in
-    omega (arith, loop-test-taken)
+loop-less c = omega arith
 
 loop-again : tie.Need-loop-again Inv-loop μ-loop
 loop-again c =
     let start : tie.Start Inv-loop μ-loop = search in
+    let t3 = start .args .t3 in
     let loop-d = (let p : tie.At-loop Inv-loop μ-loop = search in p .loop .d) in
     let loop-inv = (let p : tie.At-loop Inv-loop μ-loop = search in p .loop .inv) in
     let loop-test-taken = (let p : tie.In-loop Inv-loop μ-loop = search in p .loop-test .taken) in
     let is-above-ensures = (let p : tie.After-is-above Inv-loop μ-loop = search in p .is-above .ensures) in
-    let e : toZ w32 (ofZ w32 (getD (start .args .t3) loop-d (pos 0))) ≡ getD (start .args .t3) loop-d (pos 0) = toZ-ofZ w32 (getD (start .args .t3) loop-d (pos 0)) (search needs) in
-    (loop-inv .0, searching-skip (loop-inv .1) loop-test-taken (sym (above-told (start .pre .1) loop-d loop-test-taken e is-above-ensures) ∙ not-true _ (c .if1 .taken)))
+    let e : toZ w32 (ofZ w32 (getD t3 loop-d (pos 0))) ≡ getD t3 loop-d (pos 0) = toZ-ofZ w32 (getD t3 loop-d (pos 0)) (search needs) in (
+      loop-inv .0,
+      searching-skip (loop-inv .1) loop-test-taken
+          (sym (above-told (start .pre .1) loop-d loop-test-taken e is-above-ensures) ∙ not-true _ (c .if1 .taken)),
+    )
 
 from-donor-requires : tie.Need-from-donor-requires Inv-loop μ-loop
 from-donor-requires c κs =
     let start : tie.Start Inv-loop μ-loop = search in
+    let t3 = start .args .t3 in
     let loop-d = (let p : tie.At-loop Inv-loop μ-loop = search in p .loop .d) in
     let loop-inv = (let p : tie.At-loop Inv-loop μ-loop = search in p .loop .inv) in
     let loop-test-taken = (let p : tie.In-loop Inv-loop μ-loop = search in p .loop-test .taken) in
     let is-above-ensures = (let p : tie.After-is-above Inv-loop μ-loop = search in p .is-above .ensures) in
     let if1-left = (let p : tie.Else1 Inv-loop μ-loop = search in p .if1 .left) in
-    let e : toZ w32 (ofZ w32 (getD (start .args .t3) loop-d (pos 0))) ≡ getD (start .args .t3) loop-d (pos 0) = toZ-ofZ w32 (getD (start .args .t3) loop-d (pos 0)) (search needs) in
+    let e : toZ w32 (ofZ w32 (getD t3 loop-d (pos 0))) ≡ getD t3 loop-d (pos 0) = toZ-ofZ w32 (getD t3 loop-d (pos 0)) (search needs) in
     ((start .pre .0, loop-test-taken, loop-inv .0), (start .pre .1, ap is-above (sym e) ∙ sym is-above-ensures ∙ not-false _ if1-left))
 
 loop-less-2 : tie.Need-loop-less-2 Inv-loop μ-loop
-loop-less-2 c =
-    let loop-test-taken = (let p : tie.In-loop Inv-loop μ-loop = search in p .loop-test .taken) in
-    omega (arith, loop-test-taken)
+loop-less-2 c = omega arith
 
 loop-again-2 : tie.Need-loop-again-2 Inv-loop μ-loop
 loop-again-2 c =
@@ -89,15 +84,10 @@ loop-again-2 c =
     (from-donor-ensures .2, searching-none (loop-inv .1) loop-test-taken (from-donor-ensures .0 .nothing (c .if2 .taken)))
 
 cast-t21 : tie.Need-cast-t21 Inv-loop μ-loop
-cast-t21 c =
-    let start : tie.Start Inv-loop μ-loop = search in
-    let loop-test-taken = (let p : tie.In-loop Inv-loop μ-loop = search in p .loop-test .taken) in
-    omega (arith, loop-test-taken, start .pre .0 .few)
+cast-t21 c = omega arith
 
 cast-t22 : tie.Need-cast-t22 Inv-loop μ-loop
-cast-t22 c =
-    let from-donor-ensures = (let p : tie.After-from-donor Inv-loop μ-loop = search in p .from-donor .ensures) in
-    omega (arith, from-donor-ensures .1)
+cast-t22 c = omega arith
 
 same-length : tie.Need-same-length Inv-loop μ-loop
 same-length c =
@@ -108,6 +98,9 @@ same-length c =
 returns : tie.Need-returns Inv-loop μ-loop
 returns c =
     let start : tie.Start Inv-loop μ-loop = search in
+    let t3 = start .args .t3 in
+    let o = start .args .o in
+    let mesh = start .args .mesh .now in
     let loop-d = (let p : tie.At-loop Inv-loop μ-loop = search in p .loop .d) in
     let loop-inv = (let p : tie.At-loop Inv-loop μ-loop = search in p .loop .inv) in
     let loop-test-taken = (let p : tie.In-loop Inv-loop μ-loop = search in p .loop-test .taken) in
@@ -115,8 +108,10 @@ returns c =
     let if1-left = (let p : tie.Else1 Inv-loop μ-loop = search in p .if1 .left) in
     let from-donor-ensures = (let p : tie.After-from-donor Inv-loop μ-loop = search in p .from-donor .ensures) in
     let if2-left = (let p : tie.Else2 Inv-loop μ-loop = search in p .if2 .left) in
-    let e : toZ w32 (ofZ w32 (getD (start .args .t3) loop-d (pos 0))) ≡ getD (start .args .t3) loop-d (pos 0) = toZ-ofZ w32 (getD (start .args .t3) loop-d (pos 0)) (search needs) in
-    donor-found (oracle-of (start .args .o)) (start .args .mesh .now) (loop-inv .1) loop-test-taken (sym (above-told (start .pre .1) loop-d loop-test-taken e is-above-ensures) ∙ not-false _ if1-left) (from-donor-ensures .0) if2-left
+    let e : toZ w32 (ofZ w32 (getD t3 loop-d (pos 0))) ≡ getD t3 loop-d (pos 0) = toZ-ofZ w32 (getD t3 loop-d (pos 0)) (search needs) in
+    donor-found (oracle-of o) mesh (loop-inv .1) loop-test-taken
+    (sym (above-told (start .pre .1) loop-d loop-test-taken e is-above-ensures) ∙ not-false _ if1-left) (from-donor-ensures .0)
+    if2-left
 
 same-length-2 : tie.Need-same-length-2 Inv-loop μ-loop
 same-length-2 c =

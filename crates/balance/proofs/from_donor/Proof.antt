@@ -36,66 +36,69 @@ loop-holds c =
     λ o z s. giving-start z
 
 add-r : tie.Need-add-r Inv-loop μ-loop
-add-r c =
-    let start : tie.Start Inv-loop μ-loop = search in
-    omega (arith, c .loop-test .taken, start .pre .0 .0 .few)
+add-r c = omega arith
 
 mul-s : tie.Need-mul-s Inv-loop μ-loop
-mul-s c =
-    let start : tie.Start Inv-loop μ-loop = search in
-    omega (arith, c .loop-test .taken, start .pre .0 .0 .few)
+mul-s c = omega arith
 
 array-copy-out-s : tie.Need-array-copy-out-s Inv-loop μ-loop
-array-copy-out-s c =
-    let start : tie.Start Inv-loop μ-loop = search in
-    omega (arith, c .loop-test .taken, start .pre .0 .0 .few, start .pre .1 .0 .size)
+array-copy-out-s c = omega arith
 
 is-below-requires : tie.Need-is-below-requires Inv-loop μ-loop
 is-below-requires c κs = search needs
 
 loop-less : tie.Need-loop-less Inv-loop μ-loop
-loop-less c =
-    let loop-test-taken = (let p : tie.In-loop Inv-loop μ-loop = search in p .loop-test .taken) in
-    omega (arith, loop-test-taken)
+loop-less c = omega arith
 
 loop-again : tie.Need-loop-again Inv-loop μ-loop
 loop-again c =
     let start : tie.Start Inv-loop μ-loop = search in
+    let t3 = start .args .t3 in
     let loop-inv = (let p : tie.At-loop Inv-loop μ-loop = search in p .loop .inv) in
     let loop-r = (let p : tie.At-loop Inv-loop μ-loop = search in p .loop .r) in
     let loop-test-taken = (let p : tie.In-loop Inv-loop μ-loop = search in p .loop-test .taken) in
     let is-below-ensures = (let p : tie.After-is-below Inv-loop μ-loop = search in p .is-below .ensures) in
-    let e : toZ w32 (ofZ w32 (getD (start .args .t3) loop-r (pos 0))) ≡ getD (start .args .t3) loop-r (pos 0) = toZ-ofZ w32 (getD (start .args .t3) loop-r (pos 0)) (search needs) in
+    let e : toZ w32 (ofZ w32 (getD t3 loop-r (pos 0))) ≡ getD t3 loop-r (pos 0) = toZ-ofZ w32 (getD t3 loop-r (pos 0)) (search needs) in
     λ o z s. giving-skip (loop-inv o z s) loop-test-taken (sym (below-told s loop-r loop-test-taken e is-below-ensures) ∙ not-true _ (c .if1 .taken))
 
 between-requires : tie.Need-between-requires Inv-loop μ-loop
 between-requires c κs =
     let start : tie.Start Inv-loop μ-loop = search in
+    let t3 = start .args .t3 in
+    let d = start .args .d in
+    let o = start .args .o in
     let sizes-at-ensures = (let p : tie.After-sizes-at Inv-loop μ-loop = search in p .sizes-at .ensures) in
     let loop-inv = (let p : tie.At-loop Inv-loop μ-loop = search in p .loop .inv) in
     let loop-r = (let p : tie.At-loop Inv-loop μ-loop = search in p .loop .r) in
     let loop-test-taken = (let p : tie.In-loop Inv-loop μ-loop = search in p .loop-test .taken) in
     let is-below-ensures = (let p : tie.After-is-below Inv-loop μ-loop = search in p .is-below .ensures) in
     let if1-left = (let p : tie.Else1 Inv-loop μ-loop = search in p .if1 .left) in
-    let e : toZ w32 (ofZ w32 (getD (start .args .t3) loop-r (pos 0))) ≡ getD (start .args .t3) loop-r (pos 0) = toZ-ofZ w32 (getD (start .args .t3) loop-r (pos 0)) (search needs) in
-    (start .pre .0 .0, start .pre .0 .1, loop-test-taken, blocks-apart (start .args .t3) (start .args .d) loop-r (start .pre .1 .1) e is-below-ensures (not-false _ if1-left), (loop-inv (oracle-of (start .args .o)) sizes-at-ensures (start .pre .1 .0)) .untried .len)
+    let e : toZ w32 (ofZ w32 (getD t3 loop-r (pos 0))) ≡ getD t3 loop-r (pos 0) = toZ-ofZ w32 (getD t3 loop-r (pos 0)) (search needs) in (
+      start .pre .0 .0,
+      start .pre .0 .1,
+      loop-test-taken,
+      blocks-apart t3 d loop-r (start .pre .1 .1) e is-below-ensures (not-false _ if1-left),
+      (loop-inv (oracle-of o) sizes-at-ensures (start .pre .1 .0)) .untried .len,
+    )
 
 loop-less-2 : tie.Need-loop-less-2 Inv-loop μ-loop
-loop-less-2 c =
-    let loop-test-taken = (let p : tie.In-loop Inv-loop μ-loop = search in p .loop-test .taken) in
-    omega (arith, loop-test-taken)
+loop-less-2 c = omega arith
 
 loop-again-2 : tie.Need-loop-again-2 Inv-loop μ-loop
 loop-again-2 c =
     let start : tie.Start Inv-loop μ-loop = search in
+    let t3 = start .args .t3 in
+    let d = start .args .d in
     let loop-inv = (let p : tie.At-loop Inv-loop μ-loop = search in p .loop .inv) in
     let loop-r = (let p : tie.At-loop Inv-loop μ-loop = search in p .loop .r) in
     let loop-test-taken = (let p : tie.In-loop Inv-loop μ-loop = search in p .loop-test .taken) in
     let is-below-ensures = (let p : tie.After-is-below Inv-loop μ-loop = search in p .is-below .ensures) in
     let if1-left = (let p : tie.Else1 Inv-loop μ-loop = search in p .if1 .left) in
     let between-ensures = (let p : tie.After-between Inv-loop μ-loop = search in p .between .ensures) in
-    let e : toZ w32 (ofZ w32 (getD (start .args .t3) loop-r (pos 0))) ≡ getD (start .args .t3) loop-r (pos 0) = toZ-ofZ w32 (getD (start .args .t3) loop-r (pos 0)) (search needs) in
-    λ o z s. giving-none (loop-inv o z s) loop-test-taken (start .pre .0 .0) (start .pre .0 .1) (blocks-apart (start .args .t3) (start .args .d) loop-r (start .pre .1 .1) e is-below-ensures (not-false _ if1-left)) (between-ensures .0) (c .if2 .taken) (between-ensures .1)
+    let e : toZ w32 (ofZ w32 (getD t3 loop-r (pos 0))) ≡ getD t3 loop-r (pos 0) = toZ-ofZ w32 (getD t3 loop-r (pos 0)) (search needs) in
+    λ o z s. giving-none (loop-inv o z s) loop-test-taken (start .pre .0 .0) (start .pre .0 .1)
+    (blocks-apart t3 d loop-r (start .pre .1 .1) e is-below-ensures (not-false _ if1-left)) (between-ensures .0) (c .if2 .taken)
+    (between-ensures .1)
 
 same-length : tie.Need-same-length Inv-loop μ-loop
 same-length c =
@@ -106,6 +109,9 @@ same-length c =
 returns : tie.Need-returns Inv-loop μ-loop
 returns c =
     let start : tie.Start Inv-loop μ-loop = search in
+    let t3 = start .args .t3 in
+    let o = start .args .o in
+    let d = start .args .d in
     let sizes-at-ensures = (let p : tie.After-sizes-at Inv-loop μ-loop = search in p .sizes-at .ensures) in
     let loop-inv = (let p : tie.At-loop Inv-loop μ-loop = search in p .loop .inv) in
     let loop-r = (let p : tie.At-loop Inv-loop μ-loop = search in p .loop .r) in
@@ -113,8 +119,14 @@ returns c =
     let is-below-ensures = (let p : tie.After-is-below Inv-loop μ-loop = search in p .is-below .ensures) in
     let if1-left = (let p : tie.Else1 Inv-loop μ-loop = search in p .if1 .left) in
     let between-ensures = (let p : tie.After-between Inv-loop μ-loop = search in p .between .ensures) in
-    let e : toZ w32 (ofZ w32 (getD (start .args .t3) loop-r (pos 0))) ≡ getD (start .args .t3) loop-r (pos 0) = toZ-ofZ w32 (getD (start .args .t3) loop-r (pos 0)) (search needs) in
-    (giving-found (loop-inv (oracle-of (start .args .o)) sizes-at-ensures (start .pre .1 .0)) loop-test-taken (start .pre .0 .0) (start .pre .0 .1) (blocks-apart (start .args .t3) (start .args .d) loop-r (start .pre .1 .1) e is-below-ensures (not-false _ if1-left)) (between-ensures .0) (c .if2 .left) (sym (below-told (start .pre .1 .0) loop-r loop-test-taken e is-below-ensures) ∙ not-false _ if1-left), omega (arith, loop-test-taken, start .pre .0 .0 .few), between-ensures .1 .len)
+    let e : toZ w32 (ofZ w32 (getD t3 loop-r (pos 0))) ≡ getD t3 loop-r (pos 0) = toZ-ofZ w32 (getD t3 loop-r (pos 0)) (search needs) in (
+      giving-found (loop-inv (oracle-of o) sizes-at-ensures (start .pre .1 .0)) loop-test-taken (start .pre .0 .0)
+          (start .pre .0 .1) (blocks-apart t3 d loop-r (start .pre .1 .1) e is-below-ensures (not-false _ if1-left))
+          (between-ensures .0) (c .if2 .left)
+          (sym (below-told (start .pre .1 .0) loop-r loop-test-taken e is-below-ensures) ∙ not-false _ if1-left),
+      omega (arith, loop-test-taken, start .pre .0 .0 .few),
+      between-ensures .1 .len,
+    )
 
 same-length-2 : tie.Need-same-length-2 Inv-loop μ-loop
 same-length-2 c =
@@ -126,9 +138,13 @@ same-length-2 c =
 returns-2 : tie.Need-returns-2 Inv-loop μ-loop
 returns-2 c =
     let start : tie.Start Inv-loop μ-loop = search in
+    let o = start .args .o in
     let sizes-at-ensures = (let p : tie.After-sizes-at Inv-loop μ-loop = search in p .sizes-at .ensures) in
-    let loop-inv = (let p : tie.At-loop Inv-loop μ-loop = search in p .loop .inv) in
-    (giving-end (loop-inv (oracle-of (start .args .o)) sizes-at-ensures (start .pre .1 .0)) (c .loop-test .left), omega arith, (loop-inv (oracle-of (start .args .o)) sizes-at-ensures (start .pre .1 .0)) .untried .len)
+    let loop-inv = (let p : tie.At-loop Inv-loop μ-loop = search in p .loop .inv) in (
+      giving-end (loop-inv (oracle-of o) sizes-at-ensures (start .pre .1 .0)) (c .loop-test .left),
+      omega arith,
+      (loop-inv (oracle-of o) sizes-at-ensures (start .pre .1 .0)) .untried .len,
+    )
 
 pub from-donor-spec : {M : Type 1} → statement M
 from-donor-spec =

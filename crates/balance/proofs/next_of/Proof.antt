@@ -19,9 +19,11 @@ some-above-requires c κs =
 returns : tie.Need-returns
 returns c =
     let start : tie.Start = search in
+    let o = start .args .o in
+    let mesh = start .args .mesh .now in
     let surpluses-ensures = (let p : tie.After-surpluses = search in p .surpluses .ensures) in
     let some-above-ensures = (let p : tie.After-some-above = search in p .some-above .ensures) in
-    nobody-above (oracle-of (start .args .o)) (start .args .mesh .now) surpluses-ensures some-above-ensures (c .if1 .taken) ∙ model-mesh (oracle-of (start .args .o)) (start .args .mesh .now)
+    nobody-above (oracle-of o) mesh surpluses-ensures some-above-ensures (c .if1 .taken) ∙ model-mesh (oracle-of o) mesh
 
 some-below-requires : tie.Need-some-below-requires
 some-below-requires c κs =
@@ -31,9 +33,11 @@ some-below-requires c κs =
 returns-2 : tie.Need-returns-2
 returns-2 c =
     let start : tie.Start = search in
+    let o = start .args .o in
+    let mesh = start .args .mesh .now in
     let surpluses-ensures = (let p : tie.After-surpluses = search in p .surpluses .ensures) in
     let some-below-ensures = (let p : tie.After-some-below = search in p .some-below .ensures) in
-    nobody-below (oracle-of (start .args .o)) (start .args .mesh .now) surpluses-ensures some-below-ensures (c .if2 .taken) ∙ model-mesh (oracle-of (start .args .o)) (start .args .mesh .now)
+    nobody-below (oracle-of o) mesh surpluses-ensures some-below-ensures (c .if2 .taken) ∙ model-mesh (oracle-of o) mesh
 
 slice-aggregate-first-move : tie.Need-slice-aggregate-first-move
 slice-aggregate-first-move c = search needs
@@ -47,13 +51,16 @@ first-move-requires c κs =
 returns-3 : tie.Need-returns-3
 returns-3 c =
     let start : tie.Start = search in
+    let o = start .args .o in
+    let mesh = start .args .mesh .now in
     let surpluses-ensures = (let p : tie.After-surpluses = search in p .surpluses .ensures) in
     let some-above-ensures = (let p : tie.After-some-above = search in p .some-above .ensures) in
     let if1-left = (let p : tie.Else1 = search in p .if1 .left) in
     let some-below-ensures = (let p : tie.After-some-below = search in p .some-below .ensures) in
     let if2-left = (let p : tie.Else2 = search in p .if2 .left) in
     let first-move-ensures = (let p : tie.After-first-move = search in p .first-move .ensures) in
-    first-move-ensures ∙ some-of-both (oracle-of (start .args .o)) (start .args .mesh .now) surpluses-ensures some-above-ensures if1-left some-below-ensures if2-left ∙ model-mesh (oracle-of (start .args .o)) (start .args .mesh .now)
+    first-move-ensures ∙ some-of-both (oracle-of o) mesh surpluses-ensures some-above-ensures if1-left some-below-ensures if2-left
+    ∙ model-mesh (oracle-of o) mesh
 
 pub next-of-spec : {M : Type 1} → statement M
 next-of-spec =

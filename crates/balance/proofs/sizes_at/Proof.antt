@@ -32,7 +32,9 @@ part-sizes-of-end c = search needs
 sizes-of-requires : tie.Need-sizes-of-requires
 sizes-of-requires c κs =
     let start : tie.Start = search in
-    (subst (λ (l : List ℕ). is-image rack l ≡ true) (sym (part-is (start .args .mesh .now) (start .args .i) _ refl)) (start .pre .0 .image (start .args .i) (start .pre .1)), start .pre .2)
+    let mesh = start .args .mesh .now in
+    let i = start .args .i in
+    (subst (λ (l : List ℕ). is-image rack l ≡ true) (sym (part-is mesh i _ refl)) (start .pre .0 .image i (start .pre .1)), start .pre .2)
 
 same-length : tie.Need-same-length
 same-length c = search needs

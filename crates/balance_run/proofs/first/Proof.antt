@@ -18,8 +18,8 @@ returns-2 c = search needs
 
 slice-aggregate-show : tie.Need-slice-aggregate-show
 slice-aggregate-show c =
-    let st : tie.Start = search in
-    sym (length-take-le (st .args .k * 32776) (st .args .mesh .now) (omega arith))
+    let start : tie.Start = search in
+    sym (length-take-le (start .args .k * 32776) (start .args .mesh .now) (omega arith))
 
 show-requires : tie.Need-show-requires
 show-requires c κs = search needs

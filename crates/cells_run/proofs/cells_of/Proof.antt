@@ -22,8 +22,20 @@ message-order-requires c κs =
     let start : tie.Start = search in
     let volume-ensures = (let p : tie.After-volume = search in p .volume .ensures) in
     let mk = volume-ensures .0 in
-    let listed = volume-ensures .1 .1 in
-    ((start .pre .0, mk .size, closed-next (start .pre .0) (start .pre .1) mk, volume-ensures .1 .0 ∙ sym (ap length (marked-places mk _))), (listed-some _ listed (volume-linked (start .pre .0) (start .pre .1) .here), listed-marked mk listed, start .pre .4, start .pre .5))
+    let listed = volume-ensures .1 .1 in (
+      (
+        start .pre .0,
+        mk .size,
+        closed-next (start .pre .0) (start .pre .1) mk,
+        volume-ensures .1 .0 ∙ sym (ap length (marked-places mk _)),
+      ),
+      (
+        listed-some _ listed (volume-linked (start .pre .0) (start .pre .1) .here),
+        listed-marked mk listed,
+        start .pre .4,
+        start .pre .5,
+      ),
+    )
 
 sewn-within-requires : tie.Need-sewn-within-requires
 sewn-within-requires c κs =

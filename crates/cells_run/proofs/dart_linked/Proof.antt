@@ -46,6 +46,8 @@ field-requires-4 c κs = search needs
 returns-5 : tie.Need-returns-5
 returns-5 c =
     let start : tie.Start = search in
+    let block = start .args .block .now in
+    let back = start .args .back .now in
     let field-ensures = (let p : tie.After-field = search in p .field .ensures) in
     let if1-left = (let p : tie.Else1 = search in p .if1 .left) in
     let if2-left = (let p : tie.Else2 = search in p .if2 .left) in
@@ -54,7 +56,8 @@ returns-5 c =
     let field3-ensures = (let p : tie.After-field3 = search in p .field3 .ensures) in
     let if4-left = (let p : tie.Else4 = search in p .if4 .left) in
     let field4-ensures = (let p : tie.After-field4 = search in p .field4 .ensures) in
-    λ e. linked-at (start .args .block .now) _ (start .args .back .now) _ field-ensures (omega (arith, if1-left)) if2-left field2-ensures (omega (arith, if3-left)) field3-ensures if4-left (λ s. absurd (c .if5 .taken (ap (λ (k : ℕ). k % 4) field4-ensures ∙ s)))
+    λ e. linked-at block _ back _ field-ensures (omega (arith, if1-left)) if2-left field2-ensures (omega (arith, if3-left))
+    field3-ensures if4-left (λ s. absurd (c .if5 .taken (ap (λ (k : ℕ). k % 4) field4-ensures ∙ s)))
 
 field-requires-5 : tie.Need-field-requires-5
 field-requires-5 c κs = search needs
@@ -62,6 +65,9 @@ field-requires-5 c κs = search needs
 returns-6 : tie.Need-returns-6
 returns-6 c =
     let start : tie.Start = search in
+    let block = start .args .block .now in
+    let back = start .args .back .now in
+    let n = start .args .n in
     let field-ensures = (let p : tie.After-field = search in p .field .ensures) in
     let if1-left = (let p : tie.Else1 = search in p .if1 .left) in
     let if2-left = (let p : tie.Else2 = search in p .if2 .left) in
@@ -69,7 +75,8 @@ returns-6 c =
     let if3-left = (let p : tie.Else3 = search in p .if3 .left) in
     let field3-ensures = (let p : tie.After-field3 = search in p .field3 .ensures) in
     let if4-left = (let p : tie.Else4 = search in p .if4 .left) in
-    λ e. linked-at (start .args .block .now) _ (start .args .back .now) _ field-ensures (omega (arith, if1-left)) if2-left field2-ensures (omega (arith, if3-left)) field3-ensures if4-left (λ s. omega (arith, ltb-true (c .field5 .result) (start .args .n) e, c .field5 .ensures))
+    λ e. linked-at block _ back _ field-ensures (omega (arith, if1-left)) if2-left field2-ensures (omega (arith, if3-left))
+    field3-ensures if4-left (λ s. omega (arith, ltb-true (c .field5 .result) n e, c .field5 .ensures))
 
 pub dart-linked-spec : {M : Type 1} → statement M
 dart-linked-spec =

@@ -33,18 +33,19 @@ add-p : tie.Need-add-p Inv-loop μ-loop
 add-p c = search needs
 
 loop-less : tie.Need-loop-less Inv-loop μ-loop
-loop-less c =
-    let loop-test-taken = (let p : tie.In-loop Inv-loop μ-loop = search in p .loop-test .taken) in
-    omega (arith, loop-test-taken)
+loop-less c = omega arith
 
 loop-again : tie.Need-loop-again Inv-loop μ-loop
 loop-again c =
     let start : tie.Start Inv-loop μ-loop = search in
+    let block = start .args .block .now in
+    let n = start .args .n in
+    let back = start .args .back .now in
     let loop-inv = (let p : tie.At-loop Inv-loop μ-loop = search in p .loop .inv) in
     let loop-p = (let p : tie.At-loop Inv-loop μ-loop = search in p .loop .p) in
     let loop-test-taken = (let p : tie.In-loop Inv-loop μ-loop = search in p .loop-test .taken) in
     let dart-linked-ensures = (let p : tie.After-dart-linked Inv-loop μ-loop = search in p .dart-linked .ensures) in
-    (omega (arith, loop-test-taken), linked-more (LinkedAt (start .args .block .now) (start .args .n) (start .args .back .now)) loop-p (loop-inv .1) (dart-linked-ensures (not-false _ (c .if1 .left))))
+    (omega (arith, loop-test-taken), linked-more (LinkedAt block n back) loop-p (loop-inv .1) (dart-linked-ensures (not-false _ (c .if1 .left))))
 
 returns-2 : tie.Need-returns-2 Inv-loop μ-loop
 returns-2 c =

@@ -46,12 +46,14 @@ same-length-3 c = search needs
 returns-3 : tie.Need-returns-3
 returns-3 c =
     let start : tie.Start = search in
+    let mesh = start .args .mesh .now in
+    let scratch = start .args .scratch .now in
     let mesh-lent-ensures = (let p : tie.After-mesh-lent = search in p .mesh-lent .ensures) in
     let if1-left = (let p : tie.Else1 = search in p .if1 .left) in
     let all-sound-ensures = (let p : tie.After-all-sound = search in p .all-sound .ensures) in
     let if2-left = (let p : tie.Else2 = search in p .if2 .left) in
     let blocks-right-ensures = (let p : tie.After-blocks-right = search in p .blocks-right .ensures) in
-    (numbers-no (start .args .mesh .now) (start .args .scratch .now) (said-yes mesh-lent-ensures if1-left) (said-yes all-sound-ensures if2-left) blocks-right-ensures (c .if3 .taken), refl)
+    (numbers-no mesh scratch (said-yes mesh-lent-ensures if1-left) (said-yes all-sound-ensures if2-left) blocks-right-ensures (c .if3 .taken), refl)
 
 serials-distinct-requires : tie.Need-serials-distinct-requires
 serials-distinct-requires c κs =
@@ -69,26 +71,35 @@ same-length-4 c = search needs
 returns-4 : tie.Need-returns-4
 returns-4 c =
     let start : tie.Start = search in
+    let mesh = start .args .mesh .now in
+    let scratch = start .args .scratch .now in
     let mesh-lent-ensures = (let p : tie.After-mesh-lent = search in p .mesh-lent .ensures) in
     let if1-left = (let p : tie.Else1 = search in p .if1 .left) in
     let all-sound-ensures = (let p : tie.After-all-sound = search in p .all-sound .ensures) in
     let if2-left = (let p : tie.Else2 = search in p .if2 .left) in
     let blocks-right-ensures = (let p : tie.After-blocks-right = search in p .blocks-right .ensures) in
     let if3-left = (let p : tie.Else3 = search in p .if3 .left) in
-    let serials-distinct-ensures = (let p : tie.After-serials-distinct = search in p .serials-distinct .ensures) in
-    (serials-no (start .args .mesh .now) (start .args .scratch .now) (said-yes mesh-lent-ensures if1-left) (said-yes all-sound-ensures if2-left) (said-yes blocks-right-ensures if3-left) (serials-distinct-ensures .0) (c .if4 .taken), serials-distinct-ensures .1)
+    let serials-distinct-ensures = (let p : tie.After-serials-distinct = search in p .serials-distinct .ensures) in (
+      serials-no mesh scratch (said-yes mesh-lent-ensures if1-left) (said-yes all-sound-ensures if2-left)
+          (said-yes blocks-right-ensures if3-left) (serials-distinct-ensures .0) (c .if4 .taken),
+      serials-distinct-ensures .1,
+    )
 
 paired-requires : tie.Need-paired-requires
 paired-requires c κs =
     let start : tie.Start = search in
+    let mesh = start .args .mesh .now in
     let mesh-lent-ensures = (let p : tie.After-mesh-lent = search in p .mesh-lent .ensures) in
     let if1-left = (let p : tie.Else1 = search in p .if1 .left) in
     let all-sound-ensures = (let p : tie.After-all-sound = search in p .all-sound .ensures) in
     let if2-left = (let p : tie.Else2 = search in p .if2 .left) in
     let blocks-right-ensures = (let p : tie.After-blocks-right = search in p .blocks-right .ensures) in
     let if3-left = (let p : tie.Else3 = search in p .if3 .left) in
-    let serials-distinct-ensures = (let p : tie.After-serials-distinct = search in p .serials-distinct .ensures) in
-    (subst (λ (x : List ℕ). mesh-lent scratch-entries (start .args .mesh .now) x ≡ true) (sym (serials-distinct-ensures .1)) (said-yes mesh-lent-ensures if1-left), record { images = said-yes all-sound-ensures if2-left; numbered = said-yes blocks-right-ensures if3-left })
+    let serials-distinct-ensures = (let p : tie.After-serials-distinct = search in p .serials-distinct .ensures) in (
+      subst (λ (x : List ℕ). mesh-lent scratch-entries mesh x ≡ true) (sym (serials-distinct-ensures .1))
+          (said-yes mesh-lent-ensures if1-left),
+      record { images = said-yes all-sound-ensures if2-left; numbered = said-yes blocks-right-ensures if3-left },
+    )
 
 enum-told : tie.Need-enum-told
 enum-told c = search needs
@@ -99,6 +110,8 @@ same-length-5 c = search needs
 returns-5 : tie.Need-returns-5
 returns-5 c =
     let start : tie.Start = search in
+    let mesh = start .args .mesh .now in
+    let scratch = start .args .scratch .now in
     let mesh-lent-ensures = (let p : tie.After-mesh-lent = search in p .mesh-lent .ensures) in
     let if1-left = (let p : tie.Else1 = search in p .if1 .left) in
     let all-sound-ensures = (let p : tie.After-all-sound = search in p .all-sound .ensures) in
@@ -107,8 +120,16 @@ returns-5 c =
     let if3-left = (let p : tie.Else3 = search in p .if3 .left) in
     let serials-distinct-ensures = (let p : tie.After-serials-distinct = search in p .serials-distinct .ensures) in
     let if4-left = (let p : tie.Else4 = search in p .if4 .left) in
-    let paired-ensures = (let p : tie.After-paired = search in p .paired .ensures) in
-    (labels-no (start .args .mesh .now) (start .args .scratch .now) (record { lent = said-yes mesh-lent-ensures if1-left; images = said-yes all-sound-ensures if2-left; numbered = said-yes blocks-right-ensures if3-left; serials = said-yes (serials-distinct-ensures .0) if4-left }) (paired-ensures .0) (c .enum-told .given .1), paired-ensures .1 ∙ serials-distinct-ensures .1)
+    let paired-ensures = (let p : tie.After-paired = search in p .paired .ensures) in (
+      labels-no mesh scratch
+          (record {
+            lent = said-yes mesh-lent-ensures if1-left;
+            images = said-yes all-sound-ensures if2-left;
+            numbered = said-yes blocks-right-ensures if3-left;
+            serials = said-yes (serials-distinct-ensures .0) if4-left;
+          }) (paired-ensures .0) (c .enum-told .given .1),
+      paired-ensures .1 ∙ serials-distinct-ensures .1,
+    )
 
 enum-told-2 : tie.Need-enum-told-2
 enum-told-2 c = search needs
@@ -119,6 +140,8 @@ same-length-6 c = search needs
 returns-6 : tie.Need-returns-6
 returns-6 c =
     let start : tie.Start = search in
+    let mesh = start .args .mesh .now in
+    let scratch = start .args .scratch .now in
     let mesh-lent-ensures = (let p : tie.After-mesh-lent = search in p .mesh-lent .ensures) in
     let if1-left = (let p : tie.Else1 = search in p .if1 .left) in
     let all-sound-ensures = (let p : tie.After-all-sound = search in p .all-sound .ensures) in
@@ -127,8 +150,16 @@ returns-6 c =
     let if3-left = (let p : tie.Else3 = search in p .if3 .left) in
     let serials-distinct-ensures = (let p : tie.After-serials-distinct = search in p .serials-distinct .ensures) in
     let if4-left = (let p : tie.Else4 = search in p .if4 .left) in
-    let paired-ensures = (let p : tie.After-paired = search in p .paired .ensures) in
-    (points-no (start .args .mesh .now) (start .args .scratch .now) (record { lent = said-yes mesh-lent-ensures if1-left; images = said-yes all-sound-ensures if2-left; numbered = said-yes blocks-right-ensures if3-left; serials = said-yes (serials-distinct-ensures .0) if4-left }) (paired-ensures .0) (c .enum-told2 .given .1), paired-ensures .1 ∙ serials-distinct-ensures .1)
+    let paired-ensures = (let p : tie.After-paired = search in p .paired .ensures) in (
+      points-no mesh scratch
+          (record {
+            lent = said-yes mesh-lent-ensures if1-left;
+            images = said-yes all-sound-ensures if2-left;
+            numbered = said-yes blocks-right-ensures if3-left;
+            serials = said-yes (serials-distinct-ensures .0) if4-left;
+          }) (paired-ensures .0) (c .enum-told2 .given .1),
+      paired-ensures .1 ∙ serials-distinct-ensures .1,
+    )
 
 enum-told-3 : tie.Need-enum-told-3
 enum-told-3 c = search needs
@@ -145,6 +176,8 @@ same-length-7 c = search needs
 returns-7 : tie.Need-returns-7
 returns-7 c =
     let start : tie.Start = (let c : tie.After-mesh-lent = search in search) in
+    let mesh = start .args .mesh .now in
+    let scratch = start .args .scratch .now in
     let mesh-lent-ensures = (let p : tie.After-mesh-lent = search in p .mesh-lent .ensures) in
     let if1-left = (let p : tie.Else1 = search in p .if1 .left) in
     let all-sound-ensures = (let p : tie.After-all-sound = search in p .all-sound .ensures) in
@@ -155,8 +188,16 @@ returns-7 c =
     let if4-left = (let p : tie.Else4 = search in p .if4 .left) in
     let paired-ensures = (let p : tie.After-paired = search in p .paired .ensures) in
     let enum-told3-given = (let p : tie.After-enum-told3 = search in p .enum-told3 .given) in
-    let makers-right-ensures = (let p : tie.After-makers-right = search in p .makers-right .ensures) in
-    (makers-no (start .args .mesh .now) (start .args .scratch .now) (record { lent = said-yes mesh-lent-ensures if1-left; images = said-yes all-sound-ensures if2-left; numbered = said-yes blocks-right-ensures if3-left; serials = said-yes (serials-distinct-ensures .0) if4-left }) (paired-ensures .0) (enum-told3-given .1) makers-right-ensures (c .if5 .taken), paired-ensures .1 ∙ serials-distinct-ensures .1)
+    let makers-right-ensures = (let p : tie.After-makers-right = search in p .makers-right .ensures) in (
+      makers-no mesh scratch
+          (record {
+            lent = said-yes mesh-lent-ensures if1-left;
+            images = said-yes all-sound-ensures if2-left;
+            numbered = said-yes blocks-right-ensures if3-left;
+            serials = said-yes (serials-distinct-ensures .0) if4-left;
+          }) (paired-ensures .0) (enum-told3-given .1) makers-right-ensures (c .if5 .taken),
+      paired-ensures .1 ∙ serials-distinct-ensures .1,
+    )
 
 same-length-8 : tie.Need-same-length-8
 same-length-8 c = search needs
@@ -164,6 +205,8 @@ same-length-8 c = search needs
 returns-8 : tie.Need-returns-8
 returns-8 c =
     let start : tie.Start = (let c : tie.After-mesh-lent = search in search) in
+    let mesh = start .args .mesh .now in
+    let scratch = start .args .scratch .now in
     let mesh-lent-ensures = (let p : tie.After-mesh-lent = search in p .mesh-lent .ensures) in
     let if1-left = (let p : tie.Else1 = search in p .if1 .left) in
     let all-sound-ensures = (let p : tie.After-all-sound = search in p .all-sound .ensures) in
@@ -174,8 +217,16 @@ returns-8 c =
     let if4-left = (let p : tie.Else4 = search in p .if4 .left) in
     let paired-ensures = (let p : tie.After-paired = search in p .paired .ensures) in
     let enum-told3-given = (let p : tie.After-enum-told3 = search in p .enum-told3 .given) in
-    let makers-right-ensures = (let p : tie.After-makers-right = search in p .makers-right .ensures) in
-    (all-yes (start .args .mesh .now) (start .args .scratch .now) (record { lent = said-yes mesh-lent-ensures if1-left; images = said-yes all-sound-ensures if2-left; numbered = said-yes blocks-right-ensures if3-left; serials = said-yes (serials-distinct-ensures .0) if4-left }) (paired-ensures .0) (enum-told3-given .1) makers-right-ensures (c .if5 .left), paired-ensures .1 ∙ serials-distinct-ensures .1)
+    let makers-right-ensures = (let p : tie.After-makers-right = search in p .makers-right .ensures) in (
+      all-yes mesh scratch
+          (record {
+            lent = said-yes mesh-lent-ensures if1-left;
+            images = said-yes all-sound-ensures if2-left;
+            numbered = said-yes blocks-right-ensures if3-left;
+            serials = said-yes (serials-distinct-ensures .0) if4-left;
+          }) (paired-ensures .0) (enum-told3-given .1) makers-right-ensures (c .if5 .left),
+      paired-ensures .1 ∙ serials-distinct-ensures .1,
+    )
 
 pub mesh-asked-spec : {M : Type 1} → statement M
 mesh-asked-spec =

@@ -27,10 +27,10 @@ destination-right-requires c κs =
 returns : tie.Need-returns
 returns c =
     let destination-right-ensures = (let p : tie.After-destination-right = search in p .destination-right .ensures) in
-    let st : tie.Start = search in
-    let m = st .args .block .now in
-    let ok = st .pre .0 in
-    (first-9 m ok (st .args .to) (st .args .serial) destination-right-ensures (c .if1 .taken), (st .pre .1 .0 .0, st .pre .1 .0 .3))
+    let start : tie.Start = search in
+    let m = start .args .block .now in
+    let ok = start .pre .0 in
+    (first-9 m ok (start .args .to) (start .args .serial) destination-right-ensures (c .if1 .taken), (start .pre .1 .0 .0, start .pre .1 .0 .3))
 
 shared-slice-read-n : tie.Need-shared-slice-read-n
 shared-slice-read-n c =
@@ -39,9 +39,9 @@ shared-slice-read-n c =
 
 place-of-requires : tie.Need-place-of-requires
 place-of-requires c κs =
-    let st : tie.Start = search in
-    let m = st .args .block .now in
-    let ok = st .pre .0 in
+    let start : tie.Start = search in
+    let m = start .args .block .now in
+    let ok = start .pre .0 in
     (sited rack m ok .linked .few, sited rack m ok .linked .size, sited rack m ok .ascends)
 
 enum-known-place : tie.Need-enum-known-place
@@ -55,10 +55,12 @@ returns-2 c =
     let destination-right-ensures = (let p : tie.After-destination-right = search in p .destination-right .ensures) in
     let if1-left = (let p : tie.Else1 = search in p .if1 .left) in
     let place-of-ensures = (let p : tie.After-place-of = search in p .place-of .ensures) in
-    let st : tie.Start = search in
-    let m = st .args .block .now in
-    let ok = st .pre .0 in
-    (first-10 m ok (st .args .to) (st .args .serial) destination-right-ensures if1-left place-of-ensures (c .enum-told .given .1), (st .pre .1 .0 .0, st .pre .1 .0 .3))
+    let start : tie.Start = search in
+    let to = start .args .to in
+    let serial = start .args .serial in
+    let m = start .args .block .now in
+    let ok = start .pre .0 in
+    (first-10 m ok to serial destination-right-ensures if1-left place-of-ensures (c .enum-told .given .1), (start .pre .1 .0 .0, start .pre .1 .0 .3))
 
 volume-requires : tie.Need-volume-requires
 volume-requires c κs =
@@ -66,21 +68,20 @@ volume-requires c κs =
     let if1-left = (let p : tie.Else1 = search in p .if1 .left) in
     let place-of-ensures = (let p : tie.After-place-of = search in p .place-of .ensures) in
     let place-given = (let p : tie.After-place = search in p .place .given) in
-    let st : tie.Start = search in
-    let m = st .args .block .now in
-    let ok = st .pre .0 in
+    let start : tie.Start = search in
+    let m = start .args .block .now in
+    let ok = start .pre .0 in
     let linked = sited rack m ok .linked in
-    let low = below m ok (st .args .to) (st .args .serial) destination-right-ensures if1-left place-of-ensures (place-given .1) in
-    (linked, low, st .pre .1 .0 .1, st .pre .1 .0 .0)
+    let low = below m ok (start .args .to) (start .args .serial) destination-right-ensures if1-left place-of-ensures (place-given .1) in
+    (linked, low, start .pre .1 .0 .1, start .pre .1 .0 .0)
 
 unmark-requires : tie.Need-unmark-requires
 unmark-requires c κs =
     let volume-ensures = (let p : tie.After-volume = search in p .volume .ensures) in
     let c : tie.After-volume = search in
     let start : tie.Start = search in
-    let st = start in
-    let m = st .args .block .now in
-    let ok = st .pre .0 in
+    let m = start .args .block .now in
+    let ok = start .pre .0 in
     let linked = sited rack m ok .linked in
     let listed = volume-ensures .1 .1 in
     (listed .few, omega (arith, listed .few, listed .size), volume-ensures .0 .size, λ k h. omega (arith, listed .below k h, linked .few))
@@ -102,11 +103,15 @@ returns-3 c =
     let destination-right-ensures = (let p : tie.After-destination-right = search in p .destination-right .ensures) in
     let c : tie.After-destination-right = search in
     let start : tie.Start = search in
-    let st = start in
-    let m = st .args .block .now in
-    let ok = st .pre .0 in
-    let mk = volume-ensures .0 in
-    (first-11 m ok (st .args .to) (st .args .serial) destination-right-ensures if1-left place-of-ensures (place-given .1) mk (volume-ensures .1 .0) if2-taken, (unmarked mk (volume-ensures .1 .1 .has) unmark-ensures, st .pre .1 .0 .3))
+    let to = start .args .to in
+    let serial = start .args .serial in
+    let m = start .args .block .now in
+    let ok = start .pre .0 in
+    let mk = volume-ensures .0 in (
+      first-11 m ok to serial destination-right-ensures if1-left place-of-ensures (place-given .1) mk (volume-ensures .1 .0)
+          if2-taken,
+      (unmarked mk (volume-ensures .1 .1 .has) unmark-ensures, start .pre .1 .0 .3),
+    )
 
 message-order-requires : tie.Need-message-order-requires
 message-order-requires c κs =
@@ -115,14 +120,18 @@ message-order-requires c κs =
     let place-of-ensures = (let p : tie.After-place-of = search in p .place-of .ensures) in
     let place-given = (let p : tie.After-place = search in p .place .given) in
     let volume-ensures = (let p : tie.After-volume = search in p .volume .ensures) in
-    let st : tie.Start = (let c : tie.After-destination-right = search in search) in
-    let m = st .args .block .now in
-    let ok = st .pre .0 in
+    let start : tie.Start = (let c : tie.After-destination-right = search in search) in
+    let to = start .args .to in
+    let serial = start .args .serial in
+    let m = start .args .block .now in
+    let ok = start .pre .0 in
     let linked = sited rack m ok .linked in
-    let low = below m ok (st .args .to) (st .args .serial) destination-right-ensures if1-left place-of-ensures (place-given .1) in
+    let low = below m ok to serial destination-right-ensures if1-left place-of-ensures (place-given .1) in
     let mk = volume-ensures .0 in
-    let listed = volume-ensures .1 .1 in
-    ((linked, mk .size, closed-next linked low mk, volume-ensures .1 .0 ∙ sym (ap length (marked-places mk (getD m 2 0)))), (listed-some _ listed (volume-linked linked low .here), listed-marked mk listed, st .pre .1 .0 .2, st .pre .1 .0 .3))
+    let listed = volume-ensures .1 .1 in (
+      (linked, mk .size, closed-next linked low mk, volume-ensures .1 .0 ∙ sym (ap length (marked-places mk (getD m 2 0)))),
+      (listed-some _ listed (volume-linked linked low .here), listed-marked mk listed, start .pre .1 .0 .2, start .pre .1 .0 .3),
+    )
 
 sewn-within-requires : tie.Need-sewn-within-requires
 sewn-within-requires c κs =
@@ -134,11 +143,10 @@ sewn-within-requires c κs =
     let if1-left = (let p : tie.Else1 = search in p .if1 .left) in
     let destination-right-ensures = (let p : tie.After-destination-right = search in p .destination-right .ensures) in
     let start : tie.Start = search in
-    let st = start in
-    let m = st .args .block .now in
-    let ok = st .pre .0 in
+    let m = start .args .block .now in
+    let ok = start .pre .0 in
     let linked = sited rack m ok .linked in
-    let low = below m ok (st .args .to) (st .args .serial) destination-right-ensures if1-left place-of-ensures (place-given .1) in
+    let low = below m ok (start .args .to) (start .args .serial) destination-right-ensures if1-left place-of-ensures (place-given .1) in
     let mk = volume-ensures .0 in
     let o = message-order-ensures .0 in
     ((linked, mk .size), (in-order-few o .0, out-long linked low mk o, out-below linked low mk o))
@@ -154,14 +162,20 @@ forget-requires c κs =
     let destination-right-ensures = (let p : tie.After-destination-right = search in p .destination-right .ensures) in
     let c : tie.After-destination-right = search in
     let start : tie.Start = search in
-    let st = start in
-    let m = st .args .block .now in
-    let ok = st .pre .0 in
+    let to = start .args .to in
+    let serial = start .args .serial in
+    let m = start .args .block .now in
+    let ok = start .pre .0 in
     let linked = sited rack m ok .linked in
-    let low = below m ok (st .args .to) (st .args .serial) destination-right-ensures if1-left place-of-ensures (place-given .1) in
+    let low = below m ok to serial destination-right-ensures if1-left place-of-ensures (place-given .1) in
     let mk = volume-ensures .0 in
-    let o = message-order-ensures .0 in
-    (in-order-few o .0, out-long linked low mk o, (λ k h. omega (arith, out-below linked low mk o k h, linked .few)), out-marked linked low mk o, message-order-ensures .1)
+    let o = message-order-ensures .0 in (
+      in-order-few o .0,
+      out-long linked low mk o,
+      (λ k h. omega (arith, out-below linked low mk o k h, linked .few)),
+      out-marked linked low mk o,
+      message-order-ensures .1,
+    )
 
 same-length-3 : tie.Need-same-length-3
 same-length-3 c = search needs
@@ -190,11 +204,15 @@ returns-4 c =
     let destination-right-ensures = (let p : tie.After-destination-right = search in p .destination-right .ensures) in
     let c : tie.After-destination-right = search in
     let start : tie.Start = search in
-    let st = start in
-    let m = st .args .block .now in
-    let ok = st .pre .0 in
-    let mk = volume-ensures .0 in
-    (first-12 m ok (st .args .to) (st .args .serial) destination-right-ensures if1-left place-of-ensures (place-given .1) mk (volume-ensures .1 .0) (omega (arith, if2-left)) (message-order-ensures .0) sewn-within-ensures if3-taken, forget-ensures)
+    let to = start .args .to in
+    let serial = start .args .serial in
+    let m = start .args .block .now in
+    let ok = start .pre .0 in
+    let mk = volume-ensures .0 in (
+      first-12 m ok to serial destination-right-ensures if1-left place-of-ensures (place-given .1) mk (volume-ensures .1 .0)
+          (omega (arith, if2-left)) (message-order-ensures .0) sewn-within-ensures if3-taken,
+      forget-ensures,
+    )
 
 number-vertices-requires : tie.Need-number-vertices-requires
 number-vertices-requires c κs =
@@ -207,14 +225,13 @@ number-vertices-requires c κs =
     let destination-right-ensures = (let p : tie.After-destination-right = search in p .destination-right .ensures) in
     let c : tie.After-destination-right = search in
     let start : tie.Start = search in
-    let st = start in
-    let m = st .args .block .now in
-    let ok = st .pre .0 in
+    let m = start .args .block .now in
+    let ok = start .pre .0 in
     let linked = sited rack m ok .linked in
-    let low = below m ok (st .args .to) (st .args .serial) destination-right-ensures if1-left place-of-ensures (place-given .1) in
+    let low = below m ok (start .args .to) (start .args .serial) destination-right-ensures if1-left place-of-ensures (place-given .1) in
     let mk = volume-ensures .0 in
     let o = message-order-ensures .0 in
-    ((linked, in-order-few o .0, out-long linked low mk o, out-below linked low mk o), (st .pre .1 .1 .0, st .pre .1 .1 .1))
+    ((linked, in-order-few o .0, out-long linked low mk o, out-below linked low mk o), (start .pre .1 .1 .0, start .pre .1 .1 .1))
 
 pairs-once-requires : tie.Need-pairs-once-requires
 pairs-once-requires c κs =
@@ -232,15 +249,25 @@ pairs-once-requires c κs =
     let if1-left = (let p : tie.Else1 = search in p .if1 .left) in
     let destination-right-ensures = (let p : tie.After-destination-right = search in p .destination-right .ensures) in
     let start : tie.Start = search in
-    let st = start in
-    let m = st .args .block .now in
-    let ok = st .pre .0 in
+    let to = start .args .to in
+    let serial = start .args .serial in
+    let m = start .args .block .now in
+    let ok = start .pre .0 in
     let linked = sited rack m ok .linked in
-    let low = below m ok (st .args .to) (st .args .serial) destination-right-ensures if1-left place-of-ensures (place-given .1) in
+    let low = below m ok to serial destination-right-ensures if1-left place-of-ensures (place-given .1) in
     let mk = volume-ensures .0 in
-    let o = message-order-ensures .0 in
-    let nb = number-vertices-ensures in
-    (linked, ends-ready linked low mk o nb, omega (arith, nb .count-le, length-take-le (message-order-result .darts) (message-order-last .1 .1 .1 .1 .0) (out-long linked low mk o), darts-few m ok (st .args .to) (st .args .serial) destination-right-ensures if1-left place-of-ensures (place-given .1) mk (volume-ensures .1 .0) (omega (arith, if2-left)) (message-order-ensures .0) sewn-within-ensures, st .pre .1 .1 .2))
+    let o = message-order-ensures .0 in (
+      linked,
+      ends-ready linked low mk o number-vertices-ensures,
+      omega (
+        arith,
+        number-vertices-ensures .count-le,
+        length-take-le (message-order-result .darts) (message-order-last .1 .1 .1 .1 .0) (out-long linked low mk o),
+        darts-few m ok to serial destination-right-ensures if1-left place-of-ensures (place-given .1) mk (volume-ensures .1 .0)
+            (omega (arith, if2-left)) (message-order-ensures .0) sewn-within-ensures,
+        start .pre .1 .1 .2,
+      ),
+    )
 
 forget-requires-2 : tie.Need-forget-requires-2
 forget-requires-2 c κs =
@@ -253,14 +280,20 @@ forget-requires-2 c κs =
     let if1-left = (let p : tie.Else1 = search in p .if1 .left) in
     let destination-right-ensures = (let p : tie.After-destination-right = search in p .destination-right .ensures) in
     let start : tie.Start = search in
-    let st = start in
-    let m = st .args .block .now in
-    let ok = st .pre .0 in
+    let to = start .args .to in
+    let serial = start .args .serial in
+    let m = start .args .block .now in
+    let ok = start .pre .0 in
     let linked = sited rack m ok .linked in
-    let low = below m ok (st .args .to) (st .args .serial) destination-right-ensures if1-left place-of-ensures (place-given .1) in
+    let low = below m ok to serial destination-right-ensures if1-left place-of-ensures (place-given .1) in
     let mk = volume-ensures .0 in
-    let o = message-order-ensures .0 in
-    (in-order-few o .0, out-long linked low mk o, (λ k h. omega (arith, out-below linked low mk o k h, linked .few)), out-marked linked low mk o, message-order-ensures .1)
+    let o = message-order-ensures .0 in (
+      in-order-few o .0,
+      out-long linked low mk o,
+      (λ k h. omega (arith, out-below linked low mk o k h, linked .few)),
+      out-marked linked low mk o,
+      message-order-ensures .1,
+    )
 
 same-length-7 : tie.Need-same-length-7
 same-length-7 c =
@@ -314,11 +347,16 @@ returns-5 c =
     let destination-right-ensures = (let p : tie.After-destination-right = search in p .destination-right .ensures) in
     let c : tie.After-destination-right = search in
     let start : tie.Start = search in
-    let st = start in
-    let m = st .args .block .now in
-    let ok = st .pre .0 in
-    let mk = volume-ensures .0 in
-    (first-13 m ok (st .args .to) (st .args .serial) destination-right-ensures if1-left place-of-ensures (place-given .1) mk (volume-ensures .1 .0) (omega (arith, if2-left)) (message-order-ensures .0) sewn-within-ensures if3-left number-vertices-ensures pairs-once-ensures if4-taken, forget2-ensures)
+    let to = start .args .to in
+    let serial = start .args .serial in
+    let m = start .args .block .now in
+    let ok = start .pre .0 in
+    let mk = volume-ensures .0 in (
+      first-13 m ok to serial destination-right-ensures if1-left place-of-ensures (place-given .1) mk (volume-ensures .1 .0)
+          (omega (arith, if2-left)) (message-order-ensures .0) sewn-within-ensures if3-left number-vertices-ensures pairs-once-ensures
+          if4-taken,
+      forget2-ensures,
+    )
 
 count-sewn-requires : tie.Need-count-sewn-requires
 count-sewn-requires c κs =
@@ -327,9 +365,8 @@ count-sewn-requires c κs =
     let volume-ensures = (let p : tie.After-volume = search in p .volume .ensures) in
     let c : tie.After-volume = search in
     let start : tie.Start = search in
-    let st = start in
-    let m = st .args .block .now in
-    let ok = st .pre .0 in
+    let m = start .args .block .now in
+    let ok = start .pre .0 in
     (sited rack m ok .linked, volume-ensures .0 .size, message-order-ensures .0)
 
 counter-fits-requires : tie.Need-counter-fits-requires
@@ -340,9 +377,8 @@ counter-fits-requires c κs =
     let c : tie.After-message-order = search in
     let c : tie.After-slice-known6 = search in
     let start : tie.Start = search in
-    let st = start in
-    let m = st .args .block .now in
-    let ok = st .pre .0 in
+    let m = start .args .block .now in
+    let ok = start .pre .0 in
     (sited rack m ok .linked .size, ranges-in m ok .counter-small, sewn-few _ (message-order-ensures .0) count-sewn-ensures)
 
 forget-requires-3 : tie.Need-forget-requires-3
@@ -357,14 +393,20 @@ forget-requires-3 c κs =
     let destination-right-ensures = (let p : tie.After-destination-right = search in p .destination-right .ensures) in
     let c : tie.After-destination-right = search in
     let start : tie.Start = search in
-    let st = start in
-    let m = st .args .block .now in
-    let ok = st .pre .0 in
+    let to = start .args .to in
+    let serial = start .args .serial in
+    let m = start .args .block .now in
+    let ok = start .pre .0 in
     let linked = sited rack m ok .linked in
-    let low = below m ok (st .args .to) (st .args .serial) destination-right-ensures if1-left place-of-ensures (place-given .1) in
+    let low = below m ok to serial destination-right-ensures if1-left place-of-ensures (place-given .1) in
     let mk = volume-ensures .0 in
-    let o = message-order-ensures .0 in
-    (in-order-few o .0, out-long linked low mk o, (λ k h. omega (arith, out-below linked low mk o k h, linked .few)), out-marked linked low mk o, message-order-ensures .1)
+    let o = message-order-ensures .0 in (
+      in-order-few o .0,
+      out-long linked low mk o,
+      (λ k h. omega (arith, out-below linked low mk o k h, linked .few)),
+      out-marked linked low mk o,
+      message-order-ensures .1,
+    )
 
 same-length-14 : tie.Need-same-length-14
 same-length-14 c =
@@ -433,11 +475,16 @@ returns-6 c =
     let if1-left = (let p : tie.Else1 = search in p .if1 .left) in
     let destination-right-ensures = (let p : tie.After-destination-right = search in p .destination-right .ensures) in
     let start : tie.Start = search in
-    let st = start in
-    let m = st .args .block .now in
-    let ok = st .pre .0 in
-    let mk = volume-ensures .0 in
-    (first-14 m ok (st .args .to) (st .args .serial) destination-right-ensures if1-left place-of-ensures (place-given .1) mk (volume-ensures .1 .0) (omega (arith, if2-left)) (message-order-ensures .0) sewn-within-ensures if3-left number-vertices-ensures pairs-once-ensures if4-left count-sewn-ensures counter-fits-ensures if5-taken, forget3-ensures)
+    let to = start .args .to in
+    let serial = start .args .serial in
+    let m = start .args .block .now in
+    let ok = start .pre .0 in
+    let mk = volume-ensures .0 in (
+      first-14 m ok to serial destination-right-ensures if1-left place-of-ensures (place-given .1) mk (volume-ensures .1 .0)
+          (omega (arith, if2-left)) (message-order-ensures .0) sewn-within-ensures if3-left number-vertices-ensures pairs-once-ensures
+          if4-left count-sewn-ensures counter-fits-ensures if5-taken,
+      forget3-ensures,
+    )
 
 same-length-21 : tie.Need-same-length-21
 same-length-21 c =
@@ -492,11 +539,16 @@ returns-7 c =
     let destination-right-ensures = (let p : tie.After-destination-right = search in p .destination-right .ensures) in
     let c : tie.After-destination-right = search in
     let start : tie.Start = search in
-    let st = start in
-    let m = st .args .block .now in
-    let ok = st .pre .0 in
-    let mk = volume-ensures .0 in
-    (departs m ok (st .args .to) (st .args .serial) destination-right-ensures if1-left place-of-ensures (place-given .1) mk (volume-ensures .1 .0) (omega (arith, if2-left)) (message-order-ensures .0) sewn-within-ensures if3-left number-vertices-ensures pairs-once-ensures if4-left count-sewn-ensures counter-fits-ensures if5-left, tt)
+    let to = start .args .to in
+    let serial = start .args .serial in
+    let m = start .args .block .now in
+    let ok = start .pre .0 in
+    let mk = volume-ensures .0 in (
+      departs m ok to serial destination-right-ensures if1-left place-of-ensures (place-given .1) mk (volume-ensures .1 .0)
+          (omega (arith, if2-left)) (message-order-ensures .0) sewn-within-ensures if3-left number-vertices-ensures pairs-once-ensures
+          if4-left count-sewn-ensures counter-fits-ensures if5-left,
+      tt,
+    )
 
 pub leaves-spec : {M : Type 1} → statement M
 leaves-spec =

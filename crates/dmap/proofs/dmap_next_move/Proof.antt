@@ -10,7 +10,18 @@ use Rattle.dmap.proofs.dmap_next_move.Tie as tie
 returns : tie.Need-returns
 returns c =
     let start : tie.Start = search in
-    not-four (start .args .answer .now) (start .args .scratch .now) (next-move-by-number all-rack (start .args .mesh .now) (start .args .oracle) (start .args .axis) (point-words (start .args .x0) (start .args .y0) (start .args .z0)) (point-words (start .args .x1) (start .args .y1) (start .args .z1)) (start .args .scratch .now)) (c .if1 .taken)
+    let answer = start .args .answer .now in
+    let scratch = start .args .scratch .now in
+    let mesh = start .args .mesh .now in
+    let oracle = start .args .oracle in
+    let axis = start .args .axis in
+    let x0 = start .args .x0 in
+    let y0 = start .args .y0 in
+    let z0 = start .args .z0 in
+    let x1 = start .args .x1 in
+    let y1 = start .args .y1 in
+    let z1 = start .args .z1 in
+    not-four answer scratch (next-move-by-number all-rack mesh oracle axis (point-words x0 y0 z0) (point-words x1 y1 z1) scratch) (c .if1 .taken)
 
 next-move-by-number-requires : tie.Need-next-move-by-number-requires
 next-move-by-number-requires c κs = search needs

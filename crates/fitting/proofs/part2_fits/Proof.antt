@@ -42,8 +42,14 @@ locate-requires : tie.Need-locate-requires
 locate-requires c κs =
     let start : tie.Start = search in
     let rank-codes-ensures = (let p : tie.After-rank-codes = search in p .rank-codes .ensures) in
-    let if1-left = (let p : tie.Else1 = search in p .if1 .left) in
-    (beside (start .pre .0) .linked .size, beside (start .pre .0) .linked .few, rank-codes-ensures .keys-size, few-entries (start .pre .0), refl, rank-codes-ensures .ranked (not-false _ if1-left))
+    let if1-left = (let p : tie.Else1 = search in p .if1 .left) in (
+      beside (start .pre .0) .linked .size,
+      beside (start .pre .0) .linked .few,
+      rank-codes-ensures .keys-size,
+      few-entries (start .pre .0),
+      refl,
+      rank-codes-ensures .ranked (not-false _ if1-left),
+    )
 
 slice-aggregate-part2-right : tie.Need-slice-aggregate-part2-right
 slice-aggregate-part2-right c = search needs

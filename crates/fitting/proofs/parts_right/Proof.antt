@@ -17,8 +17,26 @@ slice-aggregate-critical-right-2 c = search needs
 
 critical-right-requires : tie.Need-critical-right-requires
 critical-right-requires c κs =
-    let start : tie.Start = search in
-    ((start .pre .0 .0, start .pre .0 .1, start .pre .0 .2, refl, refl, start .pre .0 .4, start .pre .0 .5, told-of (start .pre .1 .2 .outlined) .some-darts, told-of (start .pre .1 .2 .outlined) .few, start .pre .0 .6), (start .pre .1 .2 .brought, start .pre .1 .0, start .pre .1 .1, arrives (start .pre .1 .2 .outlined) (start .pre .1 .2 .right _ (start .pre .1 .2 .outlined))))
+    let start : tie.Start = search in (
+      (
+        start .pre .0 .0,
+        start .pre .0 .1,
+        start .pre .0 .2,
+        refl,
+        refl,
+        start .pre .0 .4,
+        start .pre .0 .5,
+        told-of (start .pre .1 .2 .outlined) .some-darts,
+        told-of (start .pre .1 .2 .outlined) .few,
+        start .pre .0 .6,
+      ),
+      (
+        start .pre .1 .2 .brought,
+        start .pre .1 .0,
+        start .pre .1 .1,
+        arrives (start .pre .1 .2 .outlined) (start .pre .1 .2 .right _ (start .pre .1 .2 .outlined)),
+      ),
+    )
 
 same-length : tie.Need-same-length
 same-length c = search needs
@@ -43,8 +61,12 @@ part2-fits-requires c κs =
     let if1-left = (let p : tie.Else1 = search in p .if1 .left) in
     let critical-right-ensures = (let p : tie.After-critical-right = search in p .critical-right .ensures) in
     let c : tie.After-critical-right = search in
-    let start : tie.Start = search in
-    (ready (start .pre .0 .0) (start .pre .1 .2) (critical-right-ensures .0) (not-false _ if1-left) (critical-right-ensures .1) (critical-right-ensures .2) (start .pre .0 .2) (start .pre .0 .3) (start .pre .0 .6), critical-right-ensures .3, critical-right-ensures .4)
+    let start : tie.Start = search in (
+      ready (start .pre .0 .0) (start .pre .1 .2) (critical-right-ensures .0) (not-false _ if1-left) (critical-right-ensures .1)
+          (critical-right-ensures .2) (start .pre .0 .2) (start .pre .0 .3) (start .pre .0 .6),
+      critical-right-ensures .3,
+      critical-right-ensures .4,
+    )
 
 same-length-3 : tie.Need-same-length-3
 same-length-3 c = search needs
@@ -57,8 +79,12 @@ returns-2 c =
     let start : tie.Start = (let c : tie.Else1 = search in let c : tie.After-critical-right = search in search) in
     let critical-right-ensures = (let c : tie.Else1 = search in let p : tie.After-critical-right = search in p .critical-right .ensures) in
     let if1-left = (let p : tie.Else1 = search in p .if1 .left) in
-    let part2-fits-ensures = (let p : tie.After-part2-fits = search in p .part2-fits .ensures) in
-    ((λ v x n. parted (start .pre .0 .0) n (critical-right-ensures .0) (not-false _ if1-left) (critical-right-ensures .1) (critical-right-ensures .2) (start .pre .0 .2) (start .pre .0 .3) (start .pre .0 .6) part2-fits-ensures), same-length-3 c ∙ ap length (start .pre .0 .4), same-length-4 c ∙ ap length (start .pre .0 .5))
+    let part2-fits-ensures = (let p : tie.After-part2-fits = search in p .part2-fits .ensures) in (
+      (λ v x n. parted (start .pre .0 .0) n (critical-right-ensures .0) (not-false _ if1-left) (critical-right-ensures .1)
+          (critical-right-ensures .2) (start .pre .0 .2) (start .pre .0 .3) (start .pre .0 .6) part2-fits-ensures),
+      same-length-3 c ∙ ap length (start .pre .0 .4),
+      same-length-4 c ∙ ap length (start .pre .0 .5),
+    )
 
 pub parts-right-spec : {M : Type 1} → statement M
 parts-right-spec =

@@ -38,7 +38,15 @@ add-result-2 c =
     let group-count-ensures = (let p : tie.After-group-count = search in p .group-count .ensures) in
     let group-count2-ensures = (let p : tie.After-group-count2 = search in p .group-count2 .ensures) in
     let a = start .args .code in
-    omega (arith, group-count-ensures, group-count2-ensures, c .group-count3 .ensures, count-most (a / 4096 / 2 ^ 32) (omega arith), count-most (a / 4096 % 2 ^ 32) (omega arith), count-most (a % 4096) (omega arith))
+    omega (
+      arith,
+      group-count-ensures,
+      group-count2-ensures,
+      c .group-count3 .ensures,
+      count-most (a / 4096 / 2 ^ 32) (omega arith),
+      count-most (a / 4096 % 2 ^ 32) (omega arith),
+      count-most (a % 4096) (omega arith),
+    )
 
 returns : tie.Need-returns
 returns c =
@@ -46,7 +54,16 @@ returns c =
     let group-count-ensures = (let p : tie.After-group-count = search in p .group-count .ensures) in
     let group-count2-ensures = (let p : tie.After-group-count2 = search in p .group-count2 .ensures) in
     let a = start .args .code in
-    omega (arith, group-count-ensures, group-count2-ensures, c .group-count3 .ensures, label-length a, group-length (a / 4096 / 2 ^ 32) (omega arith), group-length (a / 4096 % 2 ^ 32) (omega arith), group-length (a % 4096) (omega arith))
+    omega (
+      arith,
+      group-count-ensures,
+      group-count2-ensures,
+      c .group-count3 .ensures,
+      label-length a,
+      group-length (a / 4096 / 2 ^ 32) (omega arith),
+      group-length (a / 4096 % 2 ^ 32) (omega arith),
+      group-length (a % 4096) (omega arith),
+    )
 
 pub label-count-spec : {M : Type 1} → statement M
 label-count-spec =

@@ -29,9 +29,18 @@ cast-put-group-3 c = search needs
 put-group-requires-3 : tie.Need-put-group-requires-3
 put-group-requires-3 c κs =
     let start : tie.Start = search in
+    let code = start .args .code in
     let put-group-ensures = (let p : tie.After-put-group = search in p .put-group .ensures) in
     let put-group2-ensures = (let p : tie.After-put-group2 = search in p .put-group2 .ensures) in
-    omega (arith, start .pre, label-length (start .args .code), stored-length put-group-ensures, put-group-ensures .past, stored-length put-group2-ensures, put-group2-ensures .past)
+    omega (
+      arith,
+      start .pre,
+      label-length code,
+      stored-length put-group-ensures,
+      put-group-ensures .past,
+      stored-length put-group2-ensures,
+      put-group2-ensures .past,
+    )
 
 same-length : tie.Need-same-length
 same-length c = search needs

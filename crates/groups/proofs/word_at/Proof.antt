@@ -125,7 +125,8 @@ returns c =
     let wide5-ensures = (let p : tie.After-wide5 = search in p .wide5 .ensures) in
     let wide6-ensures = (let p : tie.After-wide6 = search in p .wide6 .ensures) in
     let wide7-ensures = (let p : tie.After-wide7 = search in p .wide7 .ensures) in
-    coordinate-word _ _ _ _ _ _ _ _ _ _ (start .pre) (wide-ensures .0) (wide2-ensures .0) (wide3-ensures .0) (wide4-ensures .0) (wide5-ensures .0) (wide6-ensures .0) (wide7-ensures .0) (c .wide8 .ensures .0)
+    coordinate-word _ _ _ _ _ _ _ _ _ _ (start .pre) (wide-ensures .0) (wide2-ensures .0) (wide3-ensures .0) (wide4-ensures .0)
+    (wide5-ensures .0) (wide6-ensures .0) (wide7-ensures .0) (c .wide8 .ensures .0)
 
 pub word-at-spec : {M : Type 1} → statement M
 word-at-spec =

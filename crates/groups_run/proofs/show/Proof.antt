@@ -42,11 +42,14 @@ slice-reshare-prefix-bytes c =
 slice-aggregate-bytes : tie.Need-slice-aggregate-bytes
 slice-aggregate-bytes c =
     let start : tie.Start = search in
+    let v = start .args .v in
     let if1-left = (let p : tie.Else1 = search in p .if1 .left) in
     let put-group-ensures = (let p : tie.After-put-group = search in p .put-group .ensures) in
     let put-group-last = (let p : tie.After-put-group = search in p .put-group .last) in
     let put-group-result = (let p : tie.After-put-group = search in p .put-group .result) in
-    sym (length-take-le put-group-result (put-group-last .0) (omega (arith, group-most (start .args .v) (omega arith), if1-left, put-group-ensures .past, stored-length put-group-ensures)))
+    sym
+    (length-take-le put-group-result (put-group-last .0)
+    (omega (arith, group-most v (omega arith), if1-left, put-group-ensures .past, stored-length put-group-ensures)))
 
 bytes-requires : tie.Need-bytes-requires
 bytes-requires c κs = search needs
@@ -61,11 +64,14 @@ slice-reshare-prefix-read-group c =
 slice-aggregate-read-group : tie.Need-slice-aggregate-read-group
 slice-aggregate-read-group c =
     let start : tie.Start = search in
+    let v = start .args .v in
     let if1-left = (let p : tie.Else1 = search in p .if1 .left) in
     let put-group-ensures = (let p : tie.After-put-group = search in p .put-group .ensures) in
     let put-group-last = (let p : tie.After-put-group = search in p .put-group .last) in
     let put-group-result = (let p : tie.After-put-group = search in p .put-group .result) in
-    sym (length-take-le put-group-result (put-group-last .0) (omega (arith, group-most (start .args .v) (omega arith), if1-left, put-group-ensures .past, stored-length put-group-ensures)))
+    sym
+    (length-take-le put-group-result (put-group-last .0)
+    (omega (arith, group-most v (omega arith), if1-left, put-group-ensures .past, stored-length put-group-ensures)))
 
 read-group-requires : tie.Need-read-group-requires
 read-group-requires c κs = search needs

@@ -24,11 +24,14 @@ slice-reshare-prefix-read-coordinate c =
 slice-aggregate-read-coordinate : tie.Need-slice-aggregate-read-coordinate
 slice-aggregate-read-coordinate c =
     let start : tie.Start = search in
+    let word = start .args .word in
     let if1-left = (let p : tie.Else1 = search in p .if1 .left) in
     let put-coordinate-ensures = (let p : tie.After-put-coordinate = search in p .put-coordinate .ensures) in
     let put-coordinate-last = (let p : tie.After-put-coordinate = search in p .put-coordinate .last) in
     let put-coordinate-result = (let p : tie.After-put-coordinate = search in p .put-coordinate .result) in
-    sym (length-take-le put-coordinate-result (put-coordinate-last .0) (omega (arith, coordinate-length (start .args .word), if1-left, put-coordinate-ensures .past, stored-length put-coordinate-ensures)))
+    sym
+    (length-take-le put-coordinate-result (put-coordinate-last .0)
+    (omega (arith, coordinate-length word, if1-left, put-coordinate-ensures .past, stored-length put-coordinate-ensures)))
 
 read-coordinate-requires : tie.Need-read-coordinate-requires
 read-coordinate-requires c κs = search needs

@@ -36,11 +36,14 @@ slice-reshare-prefix-bytes c =
 slice-aggregate-bytes : tie.Need-slice-aggregate-bytes
 slice-aggregate-bytes c =
     let start : tie.Start = search in
+    let code = start .args .code in
     let if1-left = (let p : tie.Else1 = search in p .if1 .left) in
     let put-label-ensures = (let p : tie.After-put-label = search in p .put-label .ensures) in
     let put-label-last = (let p : tie.After-put-label = search in p .put-label .last) in
     let put-label-result = (let p : tie.After-put-label = search in p .put-label .result) in
-    sym (length-take-le put-label-result (put-label-last .0) (omega (arith, label-most (start .args .code) (omega arith), if1-left, put-label-ensures .past, stored-length put-label-ensures)))
+    sym
+    (length-take-le put-label-result (put-label-last .0)
+    (omega (arith, label-most code (omega arith), if1-left, put-label-ensures .past, stored-length put-label-ensures)))
 
 bytes-requires : tie.Need-bytes-requires
 bytes-requires c κs = search needs
@@ -55,11 +58,14 @@ slice-reshare-prefix-read-label c =
 slice-aggregate-read-label : tie.Need-slice-aggregate-read-label
 slice-aggregate-read-label c =
     let start : tie.Start = search in
+    let code = start .args .code in
     let if1-left = (let p : tie.Else1 = search in p .if1 .left) in
     let put-label-ensures = (let p : tie.After-put-label = search in p .put-label .ensures) in
     let put-label-last = (let p : tie.After-put-label = search in p .put-label .last) in
     let put-label-result = (let p : tie.After-put-label = search in p .put-label .result) in
-    sym (length-take-le put-label-result (put-label-last .0) (omega (arith, label-most (start .args .code) (omega arith), if1-left, put-label-ensures .past, stored-length put-label-ensures)))
+    sym
+    (length-take-le put-label-result (put-label-last .0)
+    (omega (arith, label-most code (omega arith), if1-left, put-label-ensures .past, stored-length put-label-ensures)))
 
 read-label-requires : tie.Need-read-label-requires
 read-label-requires c κs = search needs

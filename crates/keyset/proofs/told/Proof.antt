@@ -76,17 +76,18 @@ add-i : tie.Need-add-i Inv-loop μ-loop
 add-i c = search needs
 
 loop-less : tie.Need-loop-less Inv-loop μ-loop
-loop-less c =
-    let loop-test-taken = (let p : tie.In-loop Inv-loop μ-loop = search in p .loop-test .taken) in
-    omega (arith, loop-test-taken)
+loop-less c = omega arith
 
 loop-again : tie.Need-loop-again Inv-loop μ-loop
 loop-again c =
     let loop-inv = (let p : tie.At-loop Inv-loop μ-loop = search in p .loop .inv) in
     let loop-test-taken = (let p : tie.In-loop Inv-loop μ-loop = search in p .loop-test .taken) in
     let slot-of-ensures = (let p : tie.After-slot-of Inv-loop μ-loop = search in p .slot-of .ensures) in
-    let probe-ensures = (let p : tie.After-probe Inv-loop μ-loop = search in p .probe .ensures) in
-    (one-more (loop-inv .0) refl (slot-of-ensures .0) probe-ensures (omega (arith, probe-ensures .to, slot-of-ensures .1)) (c .if2 .left), omega (arith, loop-test-taken))
+    let probe-ensures = (let p : tie.After-probe Inv-loop μ-loop = search in p .probe .ensures) in (
+      one-more (loop-inv .0) refl (slot-of-ensures .0) probe-ensures (omega (arith, probe-ensures .to, slot-of-ensures .1))
+          (c .if2 .left),
+      omega (arith, loop-test-taken),
+    )
 
 returns-3 : tie.Need-returns-3 Inv-loop μ-loop
 returns-3 c =

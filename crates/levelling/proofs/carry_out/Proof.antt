@@ -26,8 +26,13 @@ same-length-2 c = search needs
 returns : tie.Need-returns
 returns c =
     let start : tie.Start = search in
+    let mesh = start .args .mesh .now in
+    let outbox = start .args .outbox .now in
+    let donor = start .args .donor in
+    let recipient = start .args .recipient in
+    let serial = start .args .serial in
     let play-ensures = (let p : tie.After-play = search in p .play .ensures) in
-    carried (start .args .mesh .now) (start .args .outbox .now) (start .args .donor) (start .args .recipient) (start .args .serial) _ (c .enum-told .given .1) refl play-ensures
+    carried mesh outbox donor recipient serial _ (c .enum-told .given .1) refl play-ensures
 
 same-length-3 : tie.Need-same-length-3
 same-length-3 c = search needs
@@ -38,8 +43,13 @@ same-length-4 c = search needs
 returns-2 : tie.Need-returns-2
 returns-2 c =
     let start : tie.Start = search in
+    let mesh = start .args .mesh .now in
+    let outbox = start .args .outbox .now in
+    let donor = start .args .donor in
+    let recipient = start .args .recipient in
+    let serial = start .args .serial in
     let play-ensures = (let p : tie.After-play = search in p .play .ensures) in
-    carried (start .args .mesh .now) (start .args .outbox .now) (start .args .donor) (start .args .recipient) (start .args .serial) _ (c .enum-told2 .given .1) refl play-ensures
+    carried mesh outbox donor recipient serial _ (c .enum-told2 .given .1) refl play-ensures
 
 same-length-5 : tie.Need-same-length-5
 same-length-5 c = search needs
@@ -50,9 +60,14 @@ same-length-6 c = search needs
 returns-3 : tie.Need-returns-3
 returns-3 c =
     let start : tie.Start = search in
+    let mesh = start .args .mesh .now in
+    let outbox = start .args .outbox .now in
+    let donor = start .args .donor in
+    let recipient = start .args .recipient in
+    let serial = start .args .serial in
     let play-ensures = (let p : tie.After-play = search in p .play .ensures) in
     let r-given = (let p : tie.After-r = search in p .r .given) in
-    carried (start .args .mesh .now) (start .args .outbox .now) (start .args .donor) (start .args .recipient) (start .args .serial) _ (r-given .1) refl play-ensures
+    carried mesh outbox donor recipient serial _ (r-given .1) refl play-ensures
 
 pub carry-out-spec : {M : Type 1} → statement M
 carry-out-spec =

@@ -32,8 +32,12 @@ same-length-2 c = search needs
 returns : tie.Need-returns
 returns c =
     let start : tie.Start = search in
+    let mesh = start .args .mesh .now in
+    let o = start .args .o in
+    let scratch = start .args .scratch .now in
+    let outbox = start .args .outbox .now in
     let next-move-ensures = (let p : tie.After-next-move = search in p .next-move .ensures) in
-    answered (start .args .mesh .now) (oracle-of (start .args .o)) (start .args .scratch .now) (start .args .outbox .now) (c .enum-told .given .1) next-move-ensures (stays (start .args .mesh .now) (start .args .outbox .now) _)
+    answered mesh (oracle-of o) scratch outbox (c .enum-told .given .1) next-move-ensures (stays mesh outbox _)
 
 same-length-3 : tie.Need-same-length-3
 same-length-3 c = search needs
@@ -44,8 +48,12 @@ same-length-4 c = search needs
 returns-2 : tie.Need-returns-2
 returns-2 c =
     let start : tie.Start = search in
+    let mesh = start .args .mesh .now in
+    let o = start .args .o in
+    let scratch = start .args .scratch .now in
+    let outbox = start .args .outbox .now in
     let next-move-ensures = (let p : tie.After-next-move = search in p .next-move .ensures) in
-    answered (start .args .mesh .now) (oracle-of (start .args .o)) (start .args .scratch .now) (start .args .outbox .now) (c .enum-told2 .given .1) next-move-ensures (stays (start .args .mesh .now) (start .args .outbox .now) _)
+    answered mesh (oracle-of o) scratch outbox (c .enum-told2 .given .1) next-move-ensures (stays mesh outbox _)
 
 same-length-5 : tie.Need-same-length-5
 same-length-5 c = search needs
@@ -59,10 +67,14 @@ same-length-7 c = search needs
 returns-3 : tie.Need-returns-3
 returns-3 c =
     let start : tie.Start = search in
+    let mesh = start .args .mesh .now in
+    let o = start .args .o in
+    let scratch = start .args .scratch .now in
+    let outbox = start .args .outbox .now in
     let next-move-ensures = (let p : tie.After-next-move = search in p .next-move .ensures) in
     let donor-given = (let p : tie.After-donor = search in p .donor .given) in
     let carry-out-ensures = (let p : tie.After-carry-out = search in p .carry-out .ensures) in
-    answered (start .args .mesh .now) (oracle-of (start .args .o)) (start .args .scratch .now) (start .args .outbox .now) (donor-given .1) next-move-ensures carry-out-ensures
+    answered mesh (oracle-of o) scratch outbox (donor-given .1) next-move-ensures carry-out-ensures
 
 same-length-8 : tie.Need-same-length-8
 same-length-8 c = search needs
@@ -73,9 +85,13 @@ same-length-9 c = search needs
 returns-4 : tie.Need-returns-4
 returns-4 c =
     let start : tie.Start = search in
+    let mesh = start .args .mesh .now in
+    let o = start .args .o in
+    let scratch = start .args .scratch .now in
+    let outbox = start .args .outbox .now in
     let next-move-ensures = (let p : tie.After-next-move = search in p .next-move .ensures) in
     let q-given = (let p : tie.After-q = search in p .q .given) in
-    answered (start .args .mesh .now) (oracle-of (start .args .o)) (start .args .scratch .now) (start .args .outbox .now) (q-given .1) next-move-ensures (stays (start .args .mesh .now) (start .args .outbox .now) _)
+    answered mesh (oracle-of o) scratch outbox (q-given .1) next-move-ensures (stays mesh outbox _)
 
 pub step-spec : {M : Type 1} → statement M
 step-spec =

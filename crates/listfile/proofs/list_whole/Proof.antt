@@ -33,10 +33,14 @@ slice-aggregate-put-listing c = search needs
 put-listing-requires : tie.Need-put-listing-requires
 put-listing-requires c κs =
     let start : tie.Start = search in
+    let file = start .args .file .now in
     let shared-slice-known-given = (let p : tie.After-shared-slice-known = search in p .shared-slice-known .given) in
     let read-file-ensures = (let p : tie.After-read-file = search in p .read-file .ensures) in
-    let enum-told-given = (let p : tie.After-enum-told = search in p .enum-told .given) in
-    (served-image rack (start .args .file .now) _ (omega arith) (byte-list (start .args .file .now) (λ i. fits-lt-pow (shared-slice-known-given i))) (gives-served (enum-told-given .1) read-file-ensures), start .pre)
+    let enum-told-given = (let p : tie.After-enum-told = search in p .enum-told .given) in (
+      served-image rack file _ (omega arith) (byte-list file (λ i. fits-lt-pow (shared-slice-known-given i)))
+          (gives-served (enum-told-given .1) read-file-ensures),
+      start .pre,
+    )
 
 -- src/lib.rt:19:25
 enum-known-r : tie.Need-enum-known-r

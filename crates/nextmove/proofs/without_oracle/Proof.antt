@@ -19,9 +19,11 @@ same-length c = search needs
 returns : tie.Need-returns
 returns c =
     let start : tie.Start = search in
+    let mesh = start .args .mesh .now in
+    let scratch = start .args .scratch .now in
     let mesh-asked-ensures = (let p : tie.After-mesh-asked = search in p .mesh-asked .ensures) in
     let q-given = (let p : tie.After-q = search in p .q .given) in
-    other-mesh (start .args .mesh .now) (start .args .scratch .now) (mesh-no (start .args .mesh .now) (start .args .scratch .now) (q-given .1) (mesh-asked-ensures .0)) (mesh-asked-ensures .1)
+    other-mesh mesh scratch (mesh-no mesh scratch (q-given .1) (mesh-asked-ensures .0)) (mesh-asked-ensures .1)
 
 same-length-2 : tie.Need-same-length-2
 same-length-2 c = search needs
@@ -29,8 +31,10 @@ same-length-2 c = search needs
 returns-2 : tie.Need-returns-2
 returns-2 c =
     let start : tie.Start = search in
+    let mesh = start .args .mesh .now in
+    let scratch = start .args .scratch .now in
     let mesh-asked-ensures = (let p : tie.After-mesh-asked = search in p .mesh-asked .ensures) in
-    other-number (start .args .mesh .now) (start .args .scratch .now) (mesh-yes (start .args .mesh .now) (start .args .scratch .now) (c .enum-told .given .1) (mesh-asked-ensures .0)) (mesh-asked-ensures .1)
+    other-number mesh scratch (mesh-yes mesh scratch (c .enum-told .given .1) (mesh-asked-ensures .0)) (mesh-asked-ensures .1)
 
 pub without-oracle-spec : {M : Type 1} → statement M
 without-oracle-spec =

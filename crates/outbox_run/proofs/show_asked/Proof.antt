@@ -26,9 +26,8 @@ show-transfer-requires c κs =
     let leaves-ensures = (let p : tie.After-leaves = search in p .leaves .ensures) in
     let c : tie.After-leaves = search in
     let start : tie.Start = search in
-    let st = start in
-    let d = departs-told (st .args .block .now) (st .args .to) (st .args .serial) _ _ _ _ _ (leaves-ensures .0) (counts-given .1) in
-    (st .pre .0, (d .survey, (d .to-block, d .counter-fits)))
+    let d = departs-told (start .args .block .now) (start .args .to) (start .args .serial) _ _ _ _ _ (leaves-ensures .0) (counts-given .1) in
+    (start .pre .0, (d .survey, (d .to-block, d .counter-fits)))
 
 same-length : tie.Need-same-length
 same-length c = search needs

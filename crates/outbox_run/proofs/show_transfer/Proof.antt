@@ -35,9 +35,9 @@ put-transfer-requires : tie.Need-put-transfer-requires
 put-transfer-requires c κs =
     let transfer-sizes-ensures = (let p : tie.After-transfer-sizes = search in p .transfer-sizes .ensures) in
     let if1-left = (let p : tie.Else1 = search in p .if1 .left) in
-    let st : tie.Start = search in
-    let sv = st .pre .1 .0 in
-    (st .pre .0, (sv, (st .pre .1 .1, (transfer-sizes-ensures (st .args .firsts .now) sv, omega (arith, if1-left)))))
+    let start : tie.Start = search in
+    let sv = start .pre .1 .0 in
+    (start .pre .0, (sv, (start .pre .1 .1, (transfer-sizes-ensures (start .args .firsts .now) sv, omega (arith, if1-left)))))
 
 number-requires-6 : tie.Need-number-requires-6
 number-requires-6 c κs = search needs

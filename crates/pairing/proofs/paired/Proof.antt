@@ -26,9 +26,14 @@ same-length c = search needs
 returns : tie.Need-returns
 returns c =
     let start : tie.Start = search in
+    let scratch = start .args .scratch .now in
+    let mesh = start .args .mesh .now in
     let with-room-ensures = (let p : tie.After-with-room = search in p .with-room .ensures) in
-    let clear-ensures = (let p : tie.After-clear = search in p .clear .ensures) in
-    (with-room-ensures .0, cleared-again (start .args .scratch .now) (scratch-zero (start .args .mesh .now) (start .args .scratch .now) (start .pre .0)) (with-room-ensures .1 ∙ sym (scratch-length (start .args .mesh .now) (start .args .scratch .now) (start .pre .0))) clear-ensures)
+    let clear-ensures = (let p : tie.After-clear = search in p .clear .ensures) in (
+      with-room-ensures .0,
+      cleared-again scratch (scratch-zero mesh scratch (start .pre .0))
+          (with-room-ensures .1 ∙ sym (scratch-length mesh scratch (start .pre .0))) clear-ensures,
+    )
 
 pub paired-spec : {M : Type 1} → statement M
 paired-spec =

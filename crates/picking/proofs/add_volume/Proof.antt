@@ -14,7 +14,8 @@ use Rattle.picking.proofs.add_volume.Tie as tie
 
 abbrev Inv-loop : tie.InvT-loop
 Inv-loop block n start order₀ tail marks₀ end₀ head₀ order marks end head =
-    (m o : List ℕ) → Marking n (column block 1) (column block 2) m o tail → Visited start m o tail marks₀ order₀ end₀ → Going n (column block 1) (column block 2) start (volume-of block start) m tail marks order end head
+    (m o : List ℕ) → Marking n (column block 1) (column block 2) m o tail → Visited start m o tail marks₀ order₀ end₀
+    → Going n (column block 1) (column block 2) start (volume-of block start) m tail marks order end head
 
 abbrev μ-loop : tie.MeasureT-loop
 μ-loop block n start order₀ tail marks₀ end₀ head₀ order marks end head =
@@ -89,9 +90,18 @@ visit-requires-3 c κs =
     let visit-ensures = (let p : tie.After-visit Inv-loop μ-loop = search in p .visit .ensures) in
     let c : tie.After-visit Inv-loop μ-loop = search in
     let start : tie.Start Inv-loop μ-loop = search in
-    let q = going-mid _ _ _ _ _ (volume-linked (start .pre .0) (start .pre .1)) (start .pre .0 .few) (start .pre .2) (loop-inv _ _ (start .pre .2) visit-ensures) (start .pre .0 .next-within) (start .pre .0 .opposite-within) loop-test-taken field-ensures visit2-ensures in
-    let x = start .pre .0 .opposite-within _ ((loop-inv _ _ (start .pre .2) visit-ensures) .queue .queued _ loop-test-taken .0) in
-    (q .len-m, q .len-o, omega (arith, x, field2-ensures, start .pre .0 .few), queue-le q, queue-room q _ (omega (arith, x, field2-ensures, start .pre .0 .few)))
+    let q =
+    going-mid _ _ _ _ _ (volume-linked (start .pre .0) (start .pre .1)) (start .pre .0 .few) (start .pre .2)
+    (loop-inv _ _ (start .pre .2) visit-ensures) (start .pre .0 .next-within) (start .pre .0 .opposite-within) loop-test-taken
+    field-ensures visit2-ensures
+    in
+    let x = start .pre .0 .opposite-within _ ((loop-inv _ _ (start .pre .2) visit-ensures) .queue .queued _ loop-test-taken .0) in (
+      q .len-m,
+      q .len-o,
+      omega (arith, x, field2-ensures, start .pre .0 .few),
+      queue-le q,
+      queue-room q _ (omega (arith, x, field2-ensures, start .pre .0 .few)),
+    )
 
 loop-less : tie.Need-loop-less Inv-loop μ-loop
 loop-less c =
@@ -112,7 +122,9 @@ loop-again c =
     let loop-inv = (let p : tie.At-loop Inv-loop μ-loop = search in p .loop .inv) in
     let c : tie.At-loop Inv-loop μ-loop = search in
     let start : tie.Start Inv-loop μ-loop = search in
-    λ m o k x. going-step _ _ _ _ _ (volume-linked (start .pre .0) (start .pre .1)) (start .pre .0 .few) k (loop-inv m o k x) (start .pre .0 .next-within) (start .pre .0 .opposite-within) loop-test-taken field-ensures visit2-ensures field2-ensures visit3-ensures
+    λ m o k x. going-step _ _ _ _ _ (volume-linked (start .pre .0) (start .pre .1)) (start .pre .0 .few) k (loop-inv m o k x)
+    (start .pre .0 .next-within) (start .pre .0 .opposite-within) loop-test-taken field-ensures visit2-ensures field2-ensures
+    visit3-ensures
 
 same-length : tie.Need-same-length Inv-loop μ-loop
 same-length c =
@@ -136,7 +148,8 @@ returns c =
     let l = start .pre .0 in
     let v = volume-linked l (start .pre .1) in (
       going-marks _ _ _ _ _ v (l .few) (start .pre .2) (loop-inv _ _ (start .pre .2) visit-ensures) (c .loop-test .left),
-      going-added _ _ _ _ _ v (l .few) (start .pre .2) (loop-inv _ _ (start .pre .2) visit-ensures) (c .loop-test .left) (volume-away l (start .pre .1) (start .pre .2) (start .pre .3)) (volume-below l (start .pre .1)),
+      going-added _ _ _ _ _ v (l .few) (start .pre .2) (loop-inv _ _ (start .pre .2) visit-ensures) (c .loop-test .left)
+          (volume-away l (start .pre .1) (start .pre .2) (start .pre .3)) (volume-below l (start .pre .1)),
     )
 
 pub add-volume-spec : {M : Type 1} → statement M

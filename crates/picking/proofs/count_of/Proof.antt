@@ -31,18 +31,17 @@ add-p : tie.Need-add-p Inv-loop μ-loop
 add-p c = search needs
 
 loop-less : tie.Need-loop-less Inv-loop μ-loop
-loop-less c =
-    let loop-test-taken = (let p : tie.In-loop Inv-loop μ-loop = search in p .loop-test .taken) in
-    omega (arith, loop-test-taken)
+loop-less c = omega arith
 
 loop-again : tie.Need-loop-again Inv-loop μ-loop
 loop-again c =
     let start : tie.Start Inv-loop μ-loop = search in
+    let sizes = start .args .sizes .now in
     let loop-c = (let p : tie.At-loop Inv-loop μ-loop = search in p .loop .c) in
     let loop-inv = (let p : tie.At-loop Inv-loop μ-loop = search in p .loop .inv) in
     let loop-p = (let p : tie.At-loop Inv-loop μ-loop = search in p .loop .p) in
     let loop-test-taken = (let p : tie.In-loop Inv-loop μ-loop = search in p .loop-test .taken) in
-    (omega (arith, loop-test-taken), count-no (λ x. ltb 0 (getD (start .args .sizes .now) x 0)) loop-p loop-c (loop-inv .1) (is-zero (start .args .sizes .now) loop-p _ refl (c .if1 .taken)))
+    (omega (arith, loop-test-taken), count-no (λ x. ltb 0 (getD sizes x 0)) loop-p loop-c (loop-inv .1) (is-zero sizes loop-p _ refl (c .if1 .taken)))
 
 add-c : tie.Need-add-c Inv-loop μ-loop
 add-c c =
@@ -52,18 +51,17 @@ add-c c =
     omega (arith, loop-inv .0, loop-inv .1, count-few (λ x. ltb 0 (getD (start .args .sizes .now) x 0)) loop-p, start .pre .0)
 
 loop-less-2 : tie.Need-loop-less-2 Inv-loop μ-loop
-loop-less-2 c =
-    let loop-test-taken = (let p : tie.In-loop Inv-loop μ-loop = search in p .loop-test .taken) in
-    omega (arith, loop-test-taken)
+loop-less-2 c = omega arith
 
 loop-again-2 : tie.Need-loop-again-2 Inv-loop μ-loop
 loop-again-2 c =
     let start : tie.Start Inv-loop μ-loop = search in
+    let sizes = start .args .sizes .now in
     let loop-c = (let p : tie.At-loop Inv-loop μ-loop = search in p .loop .c) in
     let loop-inv = (let p : tie.At-loop Inv-loop μ-loop = search in p .loop .inv) in
     let loop-p = (let p : tie.At-loop Inv-loop μ-loop = search in p .loop .p) in
     let loop-test-taken = (let p : tie.In-loop Inv-loop μ-loop = search in p .loop-test .taken) in
-    (omega (arith, loop-test-taken), count-yes (λ x. ltb 0 (getD (start .args .sizes .now) x 0)) loop-p loop-c (loop-inv .1) (not-zero (start .args .sizes .now) loop-p _ refl (c .if1 .left)))
+    (omega (arith, loop-test-taken), count-yes (λ x. ltb 0 (getD sizes x 0)) loop-p loop-c (loop-inv .1) (not-zero sizes loop-p _ refl (c .if1 .left)))
 
 returns : tie.Need-returns Inv-loop μ-loop
 returns c =

@@ -9,9 +9,7 @@ use Rattle.picking.proofs.measure.Statement.{statement}
 use Rattle.picking.proofs.measure.Tie as tie
 
 slice-read-if1 : tie.Need-slice-read-if1
-slice-read-if1 c =
-    let start : tie.Start = search in
-    omega (arith, start .pre .2 .marking .len-marks, start .pre .1, start .pre .0 .linked .few)
+slice-read-if1 c = omega arith
 
 returns : tie.Need-returns
 returns c =
@@ -19,9 +17,7 @@ returns c =
     measured-none (oracle-of (start .args .o)) (start .pre .0) (start .pre .1) (start .pre .2) (c .if1 .taken)
 
 shared-slice-read-n : tie.Need-shared-slice-read-n
-shared-slice-read-n c =
-    let start : tie.Start = search in
-    omega (arith, start .pre .0 .linked .size)
+shared-slice-read-n c = omega arith
 
 add-volume-requires : tie.Need-add-volume-requires
 add-volume-requires c κs =
@@ -51,10 +47,12 @@ same-length-2 c =
 returns-2 : tie.Need-returns-2
 returns-2 c =
     let start : tie.Start = search in
+    let o = start .args .o in
     let if1-left = (let p : tie.Else1 = search in p .if1 .left) in
     let add-volume-ensures = (let p : tie.After-add-volume = search in p .add-volume .ensures) in
     let some-ensures = (let p : tie.After-some = search in p .some .ensures) in
-    measured-first (oracle-of (start .args .o)) (start .pre .0) (start .pre .1) (start .pre .2) if1-left (add-volume-ensures .0) (add-volume-ensures .1) some-ensures (c .if2 .taken)
+    measured-first (oracle-of o) (start .pre .0) (start .pre .1) (start .pre .2) if1-left (add-volume-ensures .0)
+    (add-volume-ensures .1) some-ensures (c .if2 .taken)
 
 some-requires-2 : tie.Need-some-requires-2
 some-requires-2 c κs =
@@ -78,17 +76,17 @@ same-length-4 c =
 returns-3 : tie.Need-returns-3
 returns-3 c =
     let start : tie.Start = search in
+    let o = start .args .o in
     let if1-left = (let p : tie.Else1 = search in p .if1 .left) in
     let add-volume-ensures = (let p : tie.After-add-volume = search in p .add-volume .ensures) in
     let some-ensures = (let p : tie.After-some = search in p .some .ensures) in
     let if2-left = (let p : tie.Else2 = search in p .if2 .left) in
     let some2-ensures = (let p : tie.After-some2 = search in p .some2 .ensures) in
-    measured-second (oracle-of (start .args .o)) (start .pre .0) (start .pre .1) (start .pre .2) if1-left (add-volume-ensures .0) (add-volume-ensures .1) some-ensures if2-left some2-ensures (c .if3 .taken)
+    measured-second (oracle-of o) (start .pre .0) (start .pre .1) (start .pre .2) if1-left (add-volume-ensures .0)
+    (add-volume-ensures .1) some-ensures if2-left some2-ensures (c .if3 .taken)
 
 sub-t23 : tie.Need-sub-t23
-sub-t23 c =
-    let add-volume-ensures = (let p : tie.After-add-volume = search in p .add-volume .ensures) in
-    omega (arith, add-volume-ensures .1 .size)
+sub-t23 c = omega arith
 
 same-length-5 : tie.Need-same-length-5
 same-length-5 c =
@@ -105,12 +103,14 @@ same-length-6 c =
 returns-4 : tie.Need-returns-4
 returns-4 c =
     let start : tie.Start = search in
+    let o = start .args .o in
     let if1-left = (let p : tie.Else1 = search in p .if1 .left) in
     let add-volume-ensures = (let p : tie.After-add-volume = search in p .add-volume .ensures) in
     let some-ensures = (let p : tie.After-some = search in p .some .ensures) in
     let if2-left = (let p : tie.Else2 = search in p .if2 .left) in
     let some2-ensures = (let p : tie.After-some2 = search in p .some2 .ensures) in
-    measured (oracle-of (start .args .o)) (start .pre .0) (start .pre .1) (start .pre .2) if1-left (add-volume-ensures .0) (add-volume-ensures .1) some-ensures if2-left some2-ensures (c .if3 .left)
+    measured (oracle-of o) (start .pre .0) (start .pre .1) (start .pre .2) if1-left (add-volume-ensures .0)
+    (add-volume-ensures .1) some-ensures if2-left some2-ensures (c .if3 .left)
 
 pub measure-spec : {M : Type 1} → statement M
 measure-spec =

@@ -18,9 +18,7 @@ abbrev μ-loop : tie.MeasureT-loop
     n - p
 
 shared-slice-read-n : tie.Need-shared-slice-read-n Inv-loop μ-loop
-shared-slice-read-n c =
-    let start : tie.Start Inv-loop μ-loop = search in
-    omega (arith, start .pre .0 .linked .size)
+shared-slice-read-n c = omega arith
 
 loop-holds : tie.Need-loop-holds Inv-loop μ-loop
 loop-holds c =
@@ -35,28 +33,16 @@ measure-requires c κs =
     (start .pre .0, loop-test-taken, loop-inv .through)
 
 mul-sizes : tie.Need-mul-sizes Inv-loop μ-loop
-mul-sizes c =
-    let start : tie.Start Inv-loop μ-loop = search in
-    let loop-test-taken = (let p : tie.In-loop Inv-loop μ-loop = search in p .loop-test .taken) in
-    omega (arith, loop-test-taken, start .pre .0 .linked .few)
+mul-sizes c = omega arith
 
 slice-write-sizes : tie.Need-slice-write-sizes Inv-loop μ-loop
-slice-write-sizes c =
-    let start : tie.Start Inv-loop μ-loop = search in
-    let loop-inv = (let p : tie.At-loop Inv-loop μ-loop = search in p .loop .inv) in
-    let loop-test-taken = (let p : tie.In-loop Inv-loop μ-loop = search in p .loop-test .taken) in
-    omega (arith, loop-test-taken, start .pre .0 .linked .few, loop-inv .len)
+slice-write-sizes c = omega arith
 
 add-p : tie.Need-add-p Inv-loop μ-loop
-add-p c =
-    let start : tie.Start Inv-loop μ-loop = search in
-    let loop-test-taken = (let p : tie.In-loop Inv-loop μ-loop = search in p .loop-test .taken) in
-    omega (arith, loop-test-taken, start .pre .0 .linked .few)
+add-p c = omega arith
 
 loop-less : tie.Need-loop-less Inv-loop μ-loop
-loop-less c =
-    let loop-test-taken = (let p : tie.In-loop Inv-loop μ-loop = search in p .loop-test .taken) in
-    omega (arith, loop-test-taken)
+loop-less c = omega arith
 
 loop-again : tie.Need-loop-again Inv-loop μ-loop
 loop-again c =

@@ -21,9 +21,7 @@ loop-holds c =
     looking-start _ _ _
 
 mul-p : tie.Need-mul-p Inv-loop μ-loop
-mul-p c =
-    let start : tie.Start Inv-loop μ-loop = search in
-    omega (arith, c .loop-test .taken, start .pre .2)
+mul-p c = omega arith
 
 shared-slice-read-p : tie.Need-shared-slice-read-p Inv-loop μ-loop
 shared-slice-read-p c = search needs
@@ -41,28 +39,37 @@ holds-requires c κs = search needs
 returns : tie.Need-returns Inv-loop μ-loop
 returns c =
     let start : tie.Start Inv-loop μ-loop = search in
+    let to = start .args .to in
+    let o = start .args .o in
+    let second = start .args .second in
+    let block = start .args .block .now in
     let loop-inv = (let p : tie.At-loop Inv-loop μ-loop = search in p .loop .inv) in
     let loop-test-taken = (let p : tie.In-loop Inv-loop μ-loop = search in p .loop-test .taken) in
     let point-at-ensures = (let p : tie.After-point-at Inv-loop μ-loop = search in p .point-at .ensures) in
     let holds-ensures = (let p : tie.After-holds Inv-loop μ-loop = search in p .holds .ensures) in
-    looked-found loop-inv (start .args .to) loop-test-taken (held (oracle-of (start .args .o)) (start .args .second) (start .args .block .now) _ (start .pre .0 .finite-at _ (start .pre .3 _ loop-test-taken)) point-at-ensures holds-ensures) (c .if1 .taken)
+    looked-found loop-inv to loop-test-taken
+    (held (oracle-of o) second block _ (start .pre .0 .finite-at _ (start .pre .3 _ loop-test-taken)) point-at-ensures
+    holds-ensures) (c .if1 .taken)
 
 add-i : tie.Need-add-i Inv-loop μ-loop
 add-i c = search needs
 
 loop-less : tie.Need-loop-less Inv-loop μ-loop
-loop-less c =
-    let loop-test-taken = (let p : tie.In-loop Inv-loop μ-loop = search in p .loop-test .taken) in
-    omega (arith, loop-test-taken)
+loop-less c = omega arith
 
 loop-again : tie.Need-loop-again Inv-loop μ-loop
 loop-again c =
     let start : tie.Start Inv-loop μ-loop = search in
+    let o = start .args .o in
+    let second = start .args .second in
+    let block = start .args .block .now in
     let loop-inv = (let p : tie.At-loop Inv-loop μ-loop = search in p .loop .inv) in
     let loop-test-taken = (let p : tie.In-loop Inv-loop μ-loop = search in p .loop-test .taken) in
     let point-at-ensures = (let p : tie.After-point-at Inv-loop μ-loop = search in p .point-at .ensures) in
     let holds-ensures = (let p : tie.After-holds Inv-loop μ-loop = search in p .holds .ensures) in
-    looking-next loop-inv (held (oracle-of (start .args .o)) (start .args .second) (start .args .block .now) _ (start .pre .0 .finite-at _ (start .pre .3 _ loop-test-taken)) point-at-ensures holds-ensures) (c .if1 .left)
+    looking-next loop-inv
+    (held (oracle-of o) second block _ (start .pre .0 .finite-at _ (start .pre .3 _ loop-test-taken)) point-at-ensures
+    holds-ensures) (c .if1 .left)
 
 returns-2 : tie.Need-returns-2 Inv-loop μ-loop
 returns-2 c =

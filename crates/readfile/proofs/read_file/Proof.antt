@@ -48,11 +48,13 @@ slice-aggregate-copy c = search needs
 copy-requires : tie.Need-copy-requires
 copy-requires c κs =
     let start : tie.Start = search in
+    let block = start .args .block .now in
+    let file = start .args .file .now in
     let shared-slice-known-given = (let p : tie.After-shared-slice-known = search in p .shared-slice-known .given) in
     let if1-left = (let p : tie.Else1 = search in p .if1 .left) in
     let read-image-ensures = (let p : tie.After-read-image = search in p .read-image .ensures) in
     let if2-left = (let p : tie.Else2 = search in p .if2 .left) in
-    if1-left ∙ sym (image-long _ (start .args .block .now) if1-left read-image-ensures if2-left (bytes-are (start .args .file .now) (λ i. shared-slice-known-given i .fits)))
+    if1-left ∙ sym (image-long _ block if1-left read-image-ensures if2-left (bytes-are file (λ i. shared-slice-known-given i .fits)))
 
 enum-known-r : tie.Need-enum-known-r
 enum-known-r c = search needs

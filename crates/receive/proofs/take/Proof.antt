@@ -68,8 +68,20 @@ join-requires c κs =
     let questions-ensures = (let p : tie.After-questions = search in p .questions .ensures) in
     let c : tie.After-questions = search in
     let start : tie.Start = search in
-    let y = asked-yes (questions-ensures .0) (enum-told-given .1) in
-    ((questions-ensures .1, questions-ensures .2), (y .3, y .4, y .5, may-join (start .pre .0) (let l = start .pre .1 .serial-size in let f = told-of (start .pre .2 .2) .few in omega (arith, l, f)) y (start .pre .2 .0) (start .pre .2 .1) (start .pre .2 .2), few-new (start .pre .0) (let l = start .pre .1 .serial-size in let f = told-of (start .pre .2 .2) .few in omega (arith, l, f)) y (start .pre .2 .0) (start .pre .2 .1) (start .pre .2 .2)))
+    let y = asked-yes (questions-ensures .0) (enum-told-given .1) in (
+      (questions-ensures .1, questions-ensures .2),
+      (
+        y .3,
+        y .4,
+        y .5,
+        may-join (start .pre .0)
+            (let l = start .pre .1 .serial-size in let f = told-of (start .pre .2 .2) .few in omega (arith, l, f)) y
+            (start .pre .2 .0) (start .pre .2 .1) (start .pre .2 .2),
+        few-new (start .pre .0)
+            (let l = start .pre .1 .serial-size in let f = told-of (start .pre .2 .2) .few in omega (arith, l, f)) y
+            (start .pre .2 .0) (start .pre .2 .1) (start .pre .2 .2),
+      ),
+    )
 
 same-length : tie.Need-same-length
 same-length c = search needs
@@ -94,8 +106,14 @@ returns-2 c =
     let c : tie.After-questions = search in
     let shared-slice-known-given = (let p : tie.After-shared-slice-known = search in p .shared-slice-known .given) in
     let start : tie.Start = search in
+    let message = start .args .message .now in
     let y = asked-yes (questions-ensures .0) (enum-told-given .1) in
-    record { gives = λ t e w. served-image (start .pre .0) (let l = start .pre .1 .serial-size in let f = told-of w .few in omega (arith, l, f)) y t e w (bytes-in (start .args .message .now) (λ i. fits-lt-pow (shared-slice-known-given i))) join-ensures }
+    record {
+      gives =
+          λ t e w. served-image (start .pre .0)
+          (let l = start .pre .1 .serial-size in let f = told-of w .few in omega (arith, l, f)) y t e w
+          (bytes-in message (λ i. fits-lt-pow (shared-slice-known-given i))) join-ensures;
+    }
 
 pub take-spec : {M : Type 1} → statement M
 take-spec =

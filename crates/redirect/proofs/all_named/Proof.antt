@@ -28,9 +28,12 @@ order-requires c κs = search needs
 returns : tie.Need-returns
 returns c =
     let start : tie.Start = search in
+    let block = start .args .block .now in
+    let from = start .args .from in
     let read-codes-ensures = (let p : tie.After-read-codes = search in p .read-codes .ensures) in
     let order-ensures = (let p : tie.After-order = search in p .order .ensures) in
-    not-apart (start .args .block .now) (start .args .from) _ (start .pre .0 .4) read-codes-ensures order-ensures (not-true _ (c .if1 .taken)) (ap length (start .pre .1) ∙ length-replicate {A = ℕ} room 4097)
+    not-apart block from _ (start .pre .0 .4) read-codes-ensures order-ensures (not-true _ (c .if1 .taken))
+    (ap length (start .pre .1) ∙ length-replicate {A = ℕ} room 4097)
 
 slice-aggregate-each-named : tie.Need-slice-aggregate-each-named
 slice-aggregate-each-named c = search needs
@@ -38,10 +41,17 @@ slice-aggregate-each-named c = search needs
 each-named-requires : tie.Need-each-named-requires
 each-named-requires c κs =
     let start : tie.Start = search in
+    let block = start .args .block .now in
+    let from = start .args .from in
     let read-codes-ensures = (let p : tie.After-read-codes = search in p .read-codes .ensures) in
     let order-ensures = (let p : tie.After-order = search in p .order .ensures) in
-    let if1-left = (let p : tie.Else1 = search in p .if1 .left) in
-    (start .pre .0 .0, start .pre .0 .1, start .pre .0 .2, apart-ready (start .args .block .now) (start .args .from) _ (start .pre .0 .4) read-codes-ensures order-ensures (not-false _ if1-left), start .pre .1)
+    let if1-left = (let p : tie.Else1 = search in p .if1 .left) in (
+      start .pre .0 .0,
+      start .pre .0 .1,
+      start .pre .0 .2,
+      apart-ready block from _ (start .pre .0 .4) read-codes-ensures order-ensures (not-false _ if1-left),
+      start .pre .1,
+    )
 
 same-length : tie.Need-same-length
 same-length c = search needs

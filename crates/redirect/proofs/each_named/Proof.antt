@@ -25,8 +25,10 @@ same-length c = search needs
 returns : tie.Need-returns
 returns c =
     let start : tie.Start = search in
+    let block = start .args .block .now in
+    let from = start .args .from in
     let index-faces-ensures = (let p : tie.After-index-faces = search in p .index-faces .ensures) in
-    each-named (start .args .block .now) (start .args .from) (start .pre .3) (start .pre .1) (index-faces-ensures .0) (index-faces-ensures .1) (c .all-hit .ensures)
+    each-named block from (start .pre .3) (start .pre .1) (index-faces-ensures .0) (index-faces-ensures .1) (c .all-hit .ensures)
 
 pub each-named-spec : {M : Type 1} → statement M
 each-named-spec =

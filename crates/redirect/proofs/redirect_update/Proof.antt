@@ -75,14 +75,10 @@ returns-4 c =
     redirects-unnamed _ (start .pre .0) for-here-ensures if1-left neither-ensures all-named-ensures (c .if4 .taken)
 
 mul-rewrite : tie.Need-mul-rewrite
-mul-rewrite c =
-    let start : tie.Start = search in
-    omega (arith, start .pre .1 .block-small)
+mul-rewrite c = omega arith
 
 add-rewrite : tie.Need-add-rewrite
-add-rewrite c =
-    let start : tie.Start = search in
-    omega (arith, start .pre .1 .block-small)
+add-rewrite c = omega arith
 
 slice-aggregate-rewrite : tie.Need-slice-aggregate-rewrite
 slice-aggregate-rewrite c = search needs

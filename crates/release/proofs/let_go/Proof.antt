@@ -11,20 +11,29 @@ slice-read-counter c =
     omega (arith, sewing _ (start .pre .0) (start .args .to) (start .pre .1 .serial) (start .pre .1 .departs) .size)
 
 add-counter : tie.Need-add-counter
-add-counter c =
-    let start : tie.Start = search in
-    omega (arith, start .pre .1 .departs .counter-fits)
+add-counter c = omega arith
 
 label-faces-requires : tie.Need-label-faces-requires
 label-faces-requires c κs =
     let start : tie.Start = search in
-    (sewing _ (start .pre .0) (start .args .to) (start .pre .1 .serial) (start .pre .1 .departs), start .pre .1 .departs .survey .order, start .pre .1 .departs .to-block, labels-fit _ (start .pre .0) (start .args .to) (start .pre .1 .serial) (start .pre .1 .departs))
+    let to = start .args .to in (
+      sewing _ (start .pre .0) to (start .pre .1 .serial) (start .pre .1 .departs),
+      start .pre .1 .departs .survey .order,
+      start .pre .1 .departs .to-block,
+      labels-fit _ (start .pre .0) to (start .pre .1 .serial) (start .pre .1 .departs),
+    )
 
 remove-requires : tie.Need-remove-requires
 remove-requires c κs =
     let start : tie.Start = search in
-    let label-faces-ensures = (let p : tie.After-label-faces = search in p .label-faces .ensures) in
-    ((bounded _ (start .pre .0) (start .args .to) (start .pre .1 .serial) (start .pre .1 .departs) label-faces-ensures, start .pre .1 .departs .survey .volume-marked .size), rest-zero _ (start .pre .0) (start .args .to) (start .pre .1 .serial) (start .pre .1 .departs) label-faces-ensures)
+    let to = start .args .to in
+    let label-faces-ensures = (let p : tie.After-label-faces = search in p .label-faces .ensures) in (
+      (
+        bounded _ (start .pre .0) to (start .pre .1 .serial) (start .pre .1 .departs) label-faces-ensures,
+        start .pre .1 .departs .survey .volume-marked .size,
+      ),
+      rest-zero _ (start .pre .0) to (start .pre .1 .serial) (start .pre .1 .departs) label-faces-ensures,
+    )
 
 same-length : tie.Need-same-length
 same-length c = search needs

@@ -20,7 +20,17 @@ let-go-requires c κs =
     let leaves-ensures = (let p : tie.After-leaves = search in p .leaves .ensures) in
     let c : tie.After-leaves = search in
     let start : tie.Start = search in
-    (start .pre .0, record { serial = start .args .serial; numbers = _; firsts = _; departs = departs-told (start .args .block .now) (start .args .to) (start .args .serial) _ _ _ _ _ (leaves-ensures .0) (counts-given .1) })
+    let serial' = start .args .serial in
+    let block = start .args .block .now in
+    let to = start .args .to in (
+      start .pre .0,
+      record {
+        serial = serial';
+        numbers = _;
+        firsts = _;
+        departs = departs-told block to serial' _ _ _ _ _ (leaves-ensures .0) (counts-given .1);
+      },
+    )
 
 same-length : tie.Need-same-length
 same-length c = search needs
@@ -52,7 +62,10 @@ returns c =
     let leaves-ensures = (let p : tie.After-leaves = search in p .leaves .ensures) in
     let c : tie.After-leaves = search in
     let start : tie.Start = search in
-    volume-refused (start .args .block .now) (start .args .to) (start .args .serial) (start .pre .0) (refused-told (start .args .block .now) (start .args .to) (start .args .serial) _ _ _ _ _ (leaves-ensures .0) (r-given .1))
+    let block = start .args .block .now in
+    let to = start .args .to in
+    let serial = start .args .serial in
+    volume-refused block to serial (start .pre .0) (refused-told block to serial _ _ _ _ _ (leaves-ensures .0) (r-given .1))
 
 same-length-9 : tie.Need-same-length-9
 same-length-9 c = search needs
@@ -86,7 +99,10 @@ returns-2 c =
     let leaves-ensures = (let p : tie.After-leaves = search in p .leaves .ensures) in
     let c : tie.After-leaves = search in
     let start : tie.Start = search in
-    volume-released (start .args .block .now) (start .args .to) (start .args .serial) (start .pre .0) (departs-told (start .args .block .now) (start .args .to) (start .args .serial) _ _ _ _ _ (leaves-ensures .0) (counts-given .1)) let-go-ensures
+    let block = start .args .block .now in
+    let to = start .args .to in
+    let serial = start .args .serial in
+    volume-released block to serial (start .pre .0) (departs-told block to serial _ _ _ _ _ (leaves-ensures .0) (counts-given .1)) let-go-ensures
 
 pub release-asked-spec : {M : Type 1} → statement M
 release-asked-spec =

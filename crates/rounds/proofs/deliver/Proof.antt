@@ -55,13 +55,19 @@ same-length c = search needs
 returns : tie.Need-returns
 returns c =
     let start : tie.Start = search in
+    let mesh = start .args .mesh .now in
+    let from = start .args .from in
+    let to = start .args .to in
+    let serial = start .args .serial in
+    let sent = start .args .sent .now in
     let first-message-ensures = (let p : tie.After-first-message = search in p .first-message .ensures) in
     let first-message-result = (let p : tie.After-first-message = search in p .first-message .result) in
     let receive-at-ensures = (let p : tie.After-receive-at = search in p .receive-at .ensures) in
     let receive-at-result = (let p : tie.After-receive-at = search in p .receive-at .result) in
     let enum-told-given = (let p : tie.After-enum-told = search in p .enum-told .given) in
     let finish-ensures = (let p : tie.After-finish = search in p .finish .ensures) in
-    deliver-finished (start .args .mesh .now) (start .args .from) (start .args .to) (start .args .serial) (start .args .sent .now) first-message-result first-message-ensures receive-at-result receive-at-ensures (enum-told-given .1) finish-ensures (c .if1 .taken)
+    deliver-finished mesh from to serial sent first-message-result first-message-ensures receive-at-result receive-at-ensures
+    (enum-told-given .1) finish-ensures (c .if1 .taken)
 
 same-length-2 : tie.Need-same-length-2
 same-length-2 c = search needs
@@ -69,12 +75,17 @@ same-length-2 c = search needs
 returns-2 : tie.Need-returns-2
 returns-2 c =
     let start : tie.Start = search in
+    let mesh = start .args .mesh .now in
+    let from = start .args .from in
+    let to = start .args .to in
+    let serial = start .args .serial in
+    let sent = start .args .sent .now in
     let first-message-ensures = (let p : tie.After-first-message = search in p .first-message .ensures) in
     let first-message-result = (let p : tie.After-first-message = search in p .first-message .result) in
     let receive-at-ensures = (let p : tie.After-receive-at = search in p .receive-at .ensures) in
     let receive-at-result = (let p : tie.After-receive-at = search in p .receive-at .result) in
     let r-given = (let p : tie.After-r = search in p .r .given) in
-    deliver-refused (start .args .mesh .now) (start .args .from) (start .args .to) (start .args .serial) (start .args .sent .now) first-message-result first-message-ensures receive-at-result receive-at-ensures _ (r-given .1)
+    deliver-refused mesh from to serial sent first-message-result first-message-ensures receive-at-result receive-at-ensures _ (r-given .1)
 
 same-length-3 : tie.Need-same-length-3
 same-length-3 c = search needs
@@ -82,13 +93,19 @@ same-length-3 c = search needs
 returns-3 : tie.Need-returns-3
 returns-3 c =
     let start : tie.Start = search in
+    let mesh = start .args .mesh .now in
+    let from = start .args .from in
+    let to = start .args .to in
+    let serial = start .args .serial in
+    let sent = start .args .sent .now in
     let first-message-ensures = (let p : tie.After-first-message = search in p .first-message .ensures) in
     let first-message-result = (let p : tie.After-first-message = search in p .first-message .result) in
     let receive-at-ensures = (let p : tie.After-receive-at = search in p .receive-at .ensures) in
     let receive-at-result = (let p : tie.After-receive-at = search in p .receive-at .result) in
     let enum-told-given = (let p : tie.After-enum-told = search in p .enum-told .given) in
     let finish-ensures = (let p : tie.After-finish = search in p .finish .ensures) in
-    deliver-unfinished (start .args .mesh .now) (start .args .from) (start .args .to) (start .args .serial) (start .args .sent .now) first-message-result first-message-ensures receive-at-result receive-at-ensures (enum-told-given .1) finish-ensures (c .if1 .left)
+    deliver-unfinished mesh from to serial sent first-message-result first-message-ensures receive-at-result receive-at-ensures
+    (enum-told-given .1) finish-ensures (c .if1 .left)
 
 pub deliver-spec : {M : Type 1} → statement M
 deliver-spec =

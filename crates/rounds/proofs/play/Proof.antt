@@ -47,10 +47,15 @@ same-length-2 c = search needs
 returns-2 : tie.Need-returns-2
 returns-2 c =
     let start : tie.Start = search in
+    let mesh = start .args .mesh .now in
+    let from = start .args .from in
+    let to = start .args .to in
+    let serial = start .args .serial in
+    let outbox = start .args .outbox .now in
     let if1-left = (let p : tie.Else1 = search in p .if1 .left) in
     let send-part-ensures = (let p : tie.After-send-part = search in p .send-part .ensures) in
     let r-given = (let p : tie.After-r = search in p .r .given) in
-    refused-by-send (start .args .mesh .now) (start .args .from) (start .args .to) (start .args .serial) (start .args .outbox .now) if1-left _ send-part-ensures (r-given .1)
+    refused-by-send mesh from to serial outbox if1-left _ send-part-ensures (r-given .1)
 
 same-length-3 : tie.Need-same-length-3
 same-length-3 c = search needs
@@ -61,11 +66,16 @@ same-length-4 c = search needs
 returns-3 : tie.Need-returns-3
 returns-3 c =
     let start : tie.Start = search in
+    let mesh = start .args .mesh .now in
+    let from = start .args .from in
+    let to = start .args .to in
+    let serial = start .args .serial in
+    let outbox = start .args .outbox .now in
     let if1-left = (let p : tie.Else1 = search in p .if1 .left) in
     let send-part-ensures = (let p : tie.After-send-part = search in p .send-part .ensures) in
     let n-given = (let p : tie.After-n = search in p .n .given) in
     let deliver-ensures = (let p : tie.After-deliver = search in p .deliver .ensures) in
-    was-played (start .args .mesh .now) (start .args .from) (start .args .to) (start .args .serial) (start .args .outbox .now) if1-left _ _ send-part-ensures (n-given .1) deliver-ensures
+    was-played mesh from to serial outbox if1-left _ _ send-part-ensures (n-given .1) deliver-ensures
 
 pub play-spec : {M : Type 1} → statement M
 play-spec =

@@ -55,8 +55,14 @@ sew-at-requires : tie.Need-sew-at-requires Inv-loop μ-loop
 sew-at-requires c κs =
     let start : tie.Start Inv-loop μ-loop = search in
     let loop-i = (let p : tie.At-loop Inv-loop μ-loop = search in p .loop .i) in
-    let loop-inv = (let p : tie.At-loop Inv-loop μ-loop = search in p .loop .inv) in
-    (loop-inv .0 .size ∙ start .pre .0, start .pre .4, (let a = start .pre .6 .new-below loop-i (omega arith) in let f = start .pre .6 .fits in omega (arith, a, f)), (λ e. let a = start .pre .6 .link-below loop-i (omega arith) e in let f = start .pre .6 .fits in omega (arith, a, f)), (λ e. let a = start .pre .6 .old-below _ (start .pre .6 .link-below loop-i (omega arith) e) in let f = start .pre .6 .fits in omega (arith, a, f)))
+    let loop-inv = (let p : tie.At-loop Inv-loop μ-loop = search in p .loop .inv) in (
+      loop-inv .0 .size ∙ start .pre .0,
+      start .pre .4,
+      (let a = start .pre .6 .new-below loop-i (omega arith) in let f = start .pre .6 .fits in omega (arith, a, f)),
+      (λ e. let a = start .pre .6 .link-below loop-i (omega arith) e in let f = start .pre .6 .fits in omega (arith, a, f)),
+      (λ e. let a = start .pre .6 .old-below _ (start .pre .6 .link-below loop-i (omega arith) e) in let f = start .pre .6 .fits in
+          omega (arith, a, f)),
+    )
 
 add-i : tie.Need-add-i Inv-loop μ-loop
 add-i c = search needs

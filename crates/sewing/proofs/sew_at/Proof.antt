@@ -44,9 +44,13 @@ put-third-requires-2 c κs =
 put-third-requires-3 : tie.Need-put-third-requires-3
 put-third-requires-3 c κs =
     let start : tie.Start = search in
+    let block = start .args .block .now in
+    let p' = start .args .p in
+    let old = start .args .old .now in
+    let link = start .args .link in
     let if2-left = (let p : tie.Else2 = search in p .if2 .left) in
     let put-third2-ensures = (let p : tie.After-put-third2 = search in p .put-third2 .ensures) in
-    (start .pre .4 if2-left, ap length put-third2-ensures ∙ third-length (start .args .block .now) (start .args .p) 1 (getD (start .args .old .now) (start .args .link) 0) ∙ start .pre .0)
+    (start .pre .4 if2-left, ap length put-third2-ensures ∙ third-length block p' 1 (getD old link 0) ∙ start .pre .0)
 
 same-length-2 : tie.Need-same-length-2
 same-length-2 c = search needs

@@ -60,7 +60,10 @@ returns-2 c =
     let field-ensures = (let p : tie.After-field Inv-loop μ-loop = search in p .field .ensures) in
     let field2-ensures = (let p : tie.After-field2 Inv-loop μ-loop = search in p .field2 .ensures) in
     let kind-right-ensures = (let p : tie.After-kind-right Inv-loop μ-loop = search in p .kind-right .ensures) in
-    as-darts (test-no (loop-inv .0) loop-test-taken (kind-is _ _ _ place-at-ensures (loop-inv .1) (not-false _ if1-left) kind-right-ensures field-ensures field2-ensures (loop-inv .2) (loop-inv .3)) (not-true _ (c .if2 .taken)))
+    as-darts
+    (test-no (loop-inv .0) loop-test-taken
+    (kind-is _ _ _ place-at-ensures (loop-inv .1) (not-false _ if1-left) kind-right-ensures field-ensures field2-ensures
+    (loop-inv .2) (loop-inv .3)) (not-true _ (c .if2 .taken)))
 
 field-requires-3 : tie.Need-field-requires-3 Inv-loop μ-loop
 field-requires-3 c κs = search needs
@@ -74,7 +77,10 @@ element-copy-out-if3 c =
     let field2-ensures = (let p : tie.After-field2 Inv-loop μ-loop = search in p .field2 .ensures) in
     let kind-right-ensures = (let p : tie.After-kind-right Inv-loop μ-loop = search in p .kind-right .ensures) in
     let if2-left = (let p : tie.Else2 Inv-loop μ-loop = search in p .if2 .left) in
-    let dart = kind-is _ _ _ place-at-ensures (loop-inv .1) (not-false _ if1-left) kind-right-ensures field-ensures field2-ensures (loop-inv .2) (loop-inv .3) in
+    let dart =
+    kind-is _ _ _ place-at-ensures (loop-inv .1) (not-false _ if1-left) kind-right-ensures field-ensures field2-ensures
+    (loop-inv .2) (loop-inv .3)
+    in
     let lt = next-below _ _ _ dart (not-false _ if2-left) in
     omega (arith, lt, c .field3 .ensures)
 
@@ -95,7 +101,10 @@ element-write-seen c =
     let kind-right-ensures = (let p : tie.After-kind-right Inv-loop μ-loop = search in p .kind-right .ensures) in
     let if2-left = (let p : tie.Else2 Inv-loop μ-loop = search in p .if2 .left) in
     let field3-ensures = (let p : tie.After-field3 Inv-loop μ-loop = search in p .field3 .ensures) in
-    let dart = kind-is _ _ _ place-at-ensures (loop-inv .1) (not-false _ if1-left) kind-right-ensures field-ensures field2-ensures (loop-inv .2) (loop-inv .3) in
+    let dart =
+    kind-is _ _ _ place-at-ensures (loop-inv .1) (not-false _ if1-left) kind-right-ensures field-ensures field2-ensures
+    (loop-inv .2) (loop-inv .3)
+    in
     let lt = next-below _ _ _ dart (not-false _ if2-left) in
     omega (arith, lt, field3-ensures)
 
@@ -120,9 +129,16 @@ loop-again c =
     let if2-left = (let p : tie.Else2 Inv-loop μ-loop = search in p .if2 .left) in
     let field3-ensures = (let p : tie.After-field3 Inv-loop μ-loop = search in p .field3 .ensures) in
     let if3-left = (let p : tie.Else3 Inv-loop μ-loop = search in p .if3 .left) in
-    let dart = kind-is _ _ _ place-at-ensures (loop-inv .1) (not-false _ if1-left) kind-right-ensures field-ensures field2-ensures (loop-inv .2) (loop-inv .3) in
-    let lt = next-below _ _ _ dart (not-false _ if2-left) in
-    (passing-more (loop-inv .0) loop-test-taken dart (not-false _ if2-left) (omega (arith, lt)) field3-ensures if3-left, rw add-one (c .field4 .ensures), loop-inv .2, loop-inv .3)
+    let dart =
+    kind-is _ _ _ place-at-ensures (loop-inv .1) (not-false _ if1-left) kind-right-ensures field-ensures field2-ensures
+    (loop-inv .2) (loop-inv .3)
+    in
+    let lt = next-below _ _ _ dart (not-false _ if2-left) in (
+      passing-more (loop-inv .0) loop-test-taken dart (not-false _ if2-left) (omega (arith, lt)) field3-ensures if3-left,
+      rw add-one (c .field4 .ensures),
+      loop-inv .2,
+      loop-inv .3,
+    )
 
 returns-4 : tie.Need-returns-4 Inv-loop μ-loop
 returns-4 c =

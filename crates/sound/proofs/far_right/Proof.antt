@@ -48,8 +48,10 @@ loop-again c =
     let loop-inv = (let p : tie.At-loop Inv-loop μ-loop = search in p .loop .inv) in
     let loop-test-taken = (let p : tie.In-loop Inv-loop μ-loop = search in p .loop-test .taken) in
     let far-at-ensures = (let p : tie.After-far-at Inv-loop μ-loop = search in p .far-at .ensures) in
-    let if1-left = (let p : tie.Else1 Inv-loop μ-loop = search in p .if1 .left) in
-    (going-more (loop-inv .0) loop-test-taken far-at-ensures (not-false _ if1-left), gather-more (loop-inv .1) loop-test-taken (start .pre .0) (c .put-label .ensures))
+    let if1-left = (let p : tie.Else1 Inv-loop μ-loop = search in p .if1 .left) in (
+      going-more (loop-inv .0) loop-test-taken far-at-ensures (not-false _ if1-left),
+      gather-more (loop-inv .1) loop-test-taken (start .pre .0) (c .put-label .ensures),
+    )
 
 returns-2 : tie.Need-returns-2 Inv-loop μ-loop
 returns-2 c =

@@ -101,7 +101,9 @@ returns-6 c =
     let far-right-ensures = (let p : tie.After-far-right = search in p .far-right .ensures) in
     let if5-left = (let p : tie.Else5 = search in p .if5 .left) in
     let apart-ensures = (let p : tie.After-apart = search in p .apart .ensures) in
-    labels-last _ if1-left header-right-ensures (not-false _ if2-left) zeros-ensures (not-false _ if3-left) darts-right-ensures (not-false _ if4-left) (far-right-ensures .0) (not-false _ if5-left) (apart-ensures ∙ ap distinct (far-right-ensures .1 .0 (not-false _ if5-left) .1))
+    labels-last _ if1-left header-right-ensures (not-false _ if2-left) zeros-ensures (not-false _ if3-left) darts-right-ensures
+    (not-false _ if4-left) (far-right-ensures .0) (not-false _ if5-left)
+    (apart-ensures ∙ ap distinct (far-right-ensures .1 .0 (not-false _ if5-left) .1))
 
 pub is-sound-spec : {M : Type 1} → statement M
 is-sound-spec =

@@ -45,7 +45,11 @@ returns c =
     let tables-ensures = (let p : tie.After-tables = search in p .tables .ensures) in
     let c : tie.After-tables = search in
     let start : tie.Start = search in
-    (all-woven (start .args .block .now) (start .args .draft .now) (getD (start .args .block .now) 2 0) (getD (start .args .draft .now) 2 0) (start .pre .0 .block .size) merge-ensures write-ensures, ((tables-ensures .0, tables-ensures .1), (tables-ensures .2, tables-ensures .3)))
+    let block = start .args .block .now in
+    let draft = start .args .draft .now in (
+      all-woven block draft (getD block 2 0) (getD draft 2 0) (start .pre .0 .block .size) merge-ensures write-ensures,
+      ((tables-ensures .0, tables-ensures .1), (tables-ensures .2, tables-ensures .3)),
+    )
 
 pub insert-spec : {M : Type 1} → statement M
 insert-spec =

@@ -21,15 +21,10 @@ loop-holds c =
     weaving-start _ _ _ _
 
 add-loop : tie.Need-add-loop Inv-loop μ-loop
-add-loop c =
-    let start : tie.Start Inv-loop μ-loop = search in
-    omega (arith, c .loop .inv .i-le, c .loop .inv .j-le, start .pre .0 .0 .fits)
+add-loop c = omega arith
 
 add-t : tie.Need-add-t Inv-loop μ-loop
-add-t c =
-    let start : tie.Start Inv-loop μ-loop = search in
-    let loop-inv = (let p : tie.At-loop Inv-loop μ-loop = search in p .loop .inv) in
-    omega (arith, loop-inv .i-le, loop-inv .j-le, start .pre .0 .0 .fits)
+add-t c = omega arith
 
 sub-t : tie.Need-sub-t Inv-loop μ-loop
 sub-t c = search needs
@@ -37,8 +32,12 @@ sub-t c = search needs
 last-is-old-requires : tie.Need-last-is-old-requires Inv-loop μ-loop
 last-is-old-requires c κs =
     let start : tie.Start Inv-loop μ-loop = search in
-    let loop-inv = (let p : tie.At-loop Inv-loop μ-loop = search in p .loop .inv) in
-    (loop-inv .size ∙ start .pre .0 .0 .block .size, start .pre .0 .0 .draft .size, omega (arith, loop-inv .i-le, start .pre .0 .0 .block .few), omega (arith, loop-inv .j-le, start .pre .0 .0 .draft .few))
+    let loop-inv = (let p : tie.At-loop Inv-loop μ-loop = search in p .loop .inv) in (
+      loop-inv .size ∙ start .pre .0 .0 .block .size,
+      start .pre .0 .0 .draft .size,
+      omega (arith, loop-inv .i-le, start .pre .0 .0 .block .few),
+      omega (arith, loop-inv .j-le, start .pre .0 .0 .draft .few),
+    )
 
 sub-p : tie.Need-sub-p Inv-loop μ-loop
 sub-p c =
@@ -54,8 +53,15 @@ record-at-requires c κs =
     let loop-inv = (let p : tie.At-loop Inv-loop μ-loop = search in p .loop .inv) in
     let loop-test-taken = (let p : tie.In-loop Inv-loop μ-loop = search in p .loop-test .taken) in
     let last-is-old-ensures = (let p : tie.After-last-is-old Inv-loop μ-loop = search in p .last-is-old .ensures) in
-    let if1-taken = (let p : tie.Then1 Inv-loop μ-loop = search in p .if1 .taken) in
-    (omega (arith, loop-inv .i-le, start .pre .0 .0 .block .few, old-left (start .pre .0 .0) loop-inv loop-test-taken last-is-old-ensures if1-taken), loop-inv .size ∙ start .pre .0 .0 .block .size)
+    let if1-taken = (let p : tie.Then1 Inv-loop μ-loop = search in p .if1 .taken) in (
+      omega (
+        arith,
+        loop-inv .i-le,
+        start .pre .0 .0 .block .few,
+        old-left (start .pre .0 .0) loop-inv loop-test-taken last-is-old-ensures if1-taken,
+      ),
+      loop-inv .size ∙ start .pre .0 .0 .block .size,
+    )
 
 put-moved-requires : tie.Need-put-moved-requires Inv-loop μ-loop
 put-moved-requires c κs =
@@ -65,8 +71,14 @@ put-moved-requires c κs =
     let last-is-old-ensures = (let p : tie.After-last-is-old Inv-loop μ-loop = search in p .last-is-old .ensures) in
     let if1-taken = (let p : tie.Then1 Inv-loop μ-loop = search in p .if1 .taken) in
     let record-at-ensures = (let p : tie.After-record-at Inv-loop μ-loop = search in p .record-at .ensures) in
-    let w = old-fits (start .pre .0 .0) loop-inv loop-test-taken last-is-old-ensures if1-taken record-at-ensures in
-    (loop-inv .size ∙ start .pre .0 .0 .block .size, start .pre .0 .1, omega (arith, loop-test-taken, loop-inv .i-le, loop-inv .j-le, start .pre .0 .0 .fits), w .next, w .opposite, w .link)
+    let w = old-fits (start .pre .0 .0) loop-inv loop-test-taken last-is-old-ensures if1-taken record-at-ensures in (
+      loop-inv .size ∙ start .pre .0 .0 .block .size,
+      start .pre .0 .1,
+      omega (arith, loop-test-taken, loop-inv .i-le, loop-inv .j-le, start .pre .0 .0 .fits),
+      w .next,
+      w .opposite,
+      w .link,
+    )
 
 loop-less : tie.Need-loop-less Inv-loop μ-loop
 loop-less c =
@@ -80,13 +92,14 @@ loop-less c =
 loop-again : tie.Need-loop-again Inv-loop μ-loop
 loop-again c =
     let start : tie.Start Inv-loop μ-loop = search in
+    let old = start .args .old .now in
     let loop-inv = (let p : tie.At-loop Inv-loop μ-loop = search in p .loop .inv) in
     let loop-test-taken = (let p : tie.In-loop Inv-loop μ-loop = search in p .loop-test .taken) in
     let last-is-old-ensures = (let p : tie.After-last-is-old Inv-loop μ-loop = search in p .last-is-old .ensures) in
     let if1-taken = (let p : tie.Then1 Inv-loop μ-loop = search in p .if1 .taken) in
     let record-at-ensures = (let p : tie.After-record-at Inv-loop μ-loop = search in p .record-at .ensures) in
     let put-moved-ensures = (let p : tie.After-put-moved Inv-loop μ-loop = search in p .put-moved .ensures) in
-    old-turn (start .pre .0 .0) loop-inv loop-test-taken last-is-old-ensures if1-taken record-at-ensures (start .args .old .now) (start .pre .1 .0) put-moved-ensures
+    old-turn (start .pre .0 .0) loop-inv loop-test-taken last-is-old-ensures if1-taken record-at-ensures old (start .pre .1 .0) put-moved-ensures
 
 sub-q : tie.Need-sub-q Inv-loop μ-loop
 sub-q c =
@@ -101,8 +114,15 @@ record-at-requires-2 c κs =
     let start : tie.Start Inv-loop μ-loop = search in
     let loop-inv = (let p : tie.At-loop Inv-loop μ-loop = search in p .loop .inv) in
     let loop-test-taken = (let p : tie.In-loop Inv-loop μ-loop = search in p .loop-test .taken) in
-    let last-is-old-ensures = (let p : tie.After-last-is-old Inv-loop μ-loop = search in p .last-is-old .ensures) in
-    (omega (arith, loop-inv .j-le, start .pre .0 .0 .draft .few, new-left (start .pre .0 .0) loop-inv loop-test-taken last-is-old-ensures (c .if1 .left)), start .pre .0 .0 .draft .size)
+    let last-is-old-ensures = (let p : tie.After-last-is-old Inv-loop μ-loop = search in p .last-is-old .ensures) in (
+      omega (
+        arith,
+        loop-inv .j-le,
+        start .pre .0 .0 .draft .few,
+        new-left (start .pre .0 .0) loop-inv loop-test-taken last-is-old-ensures (c .if1 .left),
+      ),
+      start .pre .0 .0 .draft .size,
+    )
 
 put-moved-requires-2 : tie.Need-put-moved-requires-2 Inv-loop μ-loop
 put-moved-requires-2 c κs =
@@ -112,8 +132,14 @@ put-moved-requires-2 c κs =
     let last-is-old-ensures = (let p : tie.After-last-is-old Inv-loop μ-loop = search in p .last-is-old .ensures) in
     let if1-left = (let p : tie.Else1 Inv-loop μ-loop = search in p .if1 .left) in
     let record-at2-ensures = (let p : tie.After-record-at2 Inv-loop μ-loop = search in p .record-at2 .ensures) in
-    let w = new-fits (start .pre .0 .0) loop-inv loop-test-taken last-is-old-ensures if1-left record-at2-ensures in
-    (loop-inv .size ∙ start .pre .0 .0 .block .size, start .pre .0 .2, omega (arith, loop-test-taken, loop-inv .i-le, loop-inv .j-le, start .pre .0 .0 .fits), w .next, w .opposite, w .link)
+    let w = new-fits (start .pre .0 .0) loop-inv loop-test-taken last-is-old-ensures if1-left record-at2-ensures in (
+      loop-inv .size ∙ start .pre .0 .0 .block .size,
+      start .pre .0 .2,
+      omega (arith, loop-test-taken, loop-inv .i-le, loop-inv .j-le, start .pre .0 .0 .fits),
+      w .next,
+      w .opposite,
+      w .link,
+    )
 
 loop-less-2 : tie.Need-loop-less-2 Inv-loop μ-loop
 loop-less-2 c =
@@ -127,13 +153,14 @@ loop-less-2 c =
 loop-again-2 : tie.Need-loop-again-2 Inv-loop μ-loop
 loop-again-2 c =
     let start : tie.Start Inv-loop μ-loop = search in
+    let new = start .args .new .now in
     let loop-inv = (let p : tie.At-loop Inv-loop μ-loop = search in p .loop .inv) in
     let loop-test-taken = (let p : tie.In-loop Inv-loop μ-loop = search in p .loop-test .taken) in
     let last-is-old-ensures = (let p : tie.After-last-is-old Inv-loop μ-loop = search in p .last-is-old .ensures) in
     let if1-left = (let p : tie.Else1 Inv-loop μ-loop = search in p .if1 .left) in
     let record-at2-ensures = (let p : tie.After-record-at2 Inv-loop μ-loop = search in p .record-at2 .ensures) in
     let put-moved2-ensures = (let p : tie.After-put-moved2 Inv-loop μ-loop = search in p .put-moved2 .ensures) in
-    new-turn (start .pre .0 .0) loop-inv loop-test-taken last-is-old-ensures if1-left record-at2-ensures (start .args .new .now) (start .pre .1 .1) put-moved2-ensures
+    new-turn (start .pre .0 .0) loop-inv loop-test-taken last-is-old-ensures if1-left record-at2-ensures new (start .pre .1 .1) put-moved2-ensures
 
 same-length : tie.Need-same-length Inv-loop μ-loop
 same-length c =

@@ -22,11 +22,15 @@ same-length c = search needs
 returns : tie.Need-returns
 returns c =
     let start : tie.Start = search in
+    let block = start .args .block .now in
+    let at = start .args .at in
+    let r = start .args .r in
+    let table = start .args .table .now in
     let moved-ensures = (let p : tie.After-moved = search in p .moved .ensures) in
     let moved2-ensures = (let p : tie.After-moved2 = search in p .moved2 .ensures) in
     let moved-link-ensures = (let p : tie.After-moved-link = search in p .moved-link .ensures) in
     let put-record-ensures = (let p : tie.After-put-record = search in p .put-record .ensures) in
-    stored-moved (start .args .block .now) (start .args .at) (start .args .r) (start .args .table .now) moved-ensures moved2-ensures moved-link-ensures put-record-ensures
+    stored-moved block at r table moved-ensures moved2-ensures moved-link-ensures put-record-ensures
 
 pub put-moved-spec : {M : Type 1} → statement M
 put-moved-spec =

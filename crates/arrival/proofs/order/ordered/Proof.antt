@@ -31,9 +31,12 @@ order-at-requires c κs =
 returns : tie.Need-returns Inv-loop μ-loop
 returns c =
     let start : tie.Start Inv-loop μ-loop = search in
+    let serial = start .args .serial .now in
+    let starts = start .args .starts .now in
+    let k = start .args .k in
     let loop-i = (let p : tie.At-loop Inv-loop μ-loop = search in p .loop .i) in
     let order-at-ensures = (let p : tie.After-order-at Inv-loop μ-loop = search in p .order-at .ensures) in
-    passing-not (order-at (start .args .serial .now) (start .args .starts .now)) loop-i (start .args .k) (omega arith) (sym order-at-ensures ∙ not-true _ (c .if1 .taken))
+    passing-not (order-at serial starts) loop-i k (omega arith) (sym order-at-ensures ∙ not-true _ (c .if1 .taken))
 
 add-i : tie.Need-add-i Inv-loop μ-loop
 add-i c = search needs

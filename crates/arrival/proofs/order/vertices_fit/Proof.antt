@@ -36,8 +36,11 @@ shared-slice-read-if2 c = search needs
 returns-2 : tie.Need-returns-2 Inv-loop μ-loop
 returns-2 c =
     let start : tie.Start Inv-loop μ-loop = search in
+    let count = start .args .count in
+    let k = start .args .k in
+    let vertex = start .args .vertex .now in
     let loop-i = (let p : tie.At-loop Inv-loop μ-loop = search in p .loop .i) in
-    few-then (start .args .count) (start .args .k) _ (omega arith) (passing-not (λ j. ltb (getD (start .args .vertex .now) j 0) (start .args .count)) loop-i (start .args .k) (omega arith) (le-ltb (getD (start .args .vertex .now) loop-i 0) (start .args .count) (omega arith)))
+    few-then count k _ (omega arith) (passing-not (λ j. ltb (getD vertex j 0) count) loop-i k (omega arith) (le-ltb (getD vertex loop-i 0) count (omega arith)))
 
 add-i : tie.Need-add-i Inv-loop μ-loop
 add-i c = search needs

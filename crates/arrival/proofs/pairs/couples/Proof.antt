@@ -69,9 +69,7 @@ mul-opposite : tie.Need-mul-opposite Inv-loop μ-loop
 mul-opposite c = search needs
 
 slice-write-opposite : tie.Need-slice-write-opposite Inv-loop μ-loop
-slice-write-opposite c =
-    let loop-inv = (let p : tie.At-loop Inv-loop μ-loop = search in p .loop .inv) in
-    omega (arith, loop-inv .len)
+slice-write-opposite c = omega arith
 
 mul-opposite-2 : tie.Need-mul-opposite-2 Inv-loop μ-loop
 mul-opposite-2 c = search needs
@@ -85,9 +83,7 @@ add-r : tie.Need-add-r Inv-loop μ-loop
 add-r c = search needs
 
 loop-less : tie.Need-loop-less Inv-loop μ-loop
-loop-less c =
-    let loop-test-taken = (let p : tie.In-loop Inv-loop μ-loop = search in p .loop-test .taken) in
-    omega (arith, loop-test-taken)
+loop-less c = omega arith
 
 loop-again : tie.Need-loop-again Inv-loop μ-loop
 loop-again c =

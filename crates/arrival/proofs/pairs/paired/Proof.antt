@@ -18,8 +18,12 @@ put-pairs-requires c κs = search needs
 returns : tie.Need-returns
 returns c =
     let start : tie.Start = search in
+    let vertex = start .args .vertex .now in
+    let starts = start .args .starts .now in
+    let sizes = start .args .sizes .now in
+    let k = start .args .k in
     let put-pairs-ensures = (let p : tie.After-put-pairs = search in p .put-pairs .ensures) in
-    (paired-ends (start .args .vertex .now) (start .args .starts .now) (start .args .sizes .now) (start .args .k) (sym (put-pairs-ensures .0) ∙ not-true _ (c .if1 .taken)), start .pre .0 .3)
+    (paired-ends vertex starts sizes k (sym (put-pairs-ensures .0) ∙ not-true _ (c .if1 .taken)), start .pre .0 .3)
 
 slice-aggregate-rank : tie.Need-slice-aggregate-rank
 slice-aggregate-rank c = search needs
@@ -36,17 +40,36 @@ slice-aggregate-rank-4 c = search needs
 rank-requires : tie.Need-rank-requires
 rank-requires c κs =
     let start : tie.Start = search in
+    let vertex = start .args .vertex .now in
+    let starts = start .args .starts .now in
+    let sizes = start .args .sizes .now in
+    let k = start .args .k in
     let put-pairs-ensures = (let p : tie.After-put-pairs = search in p .put-pairs .ensures) in
-    let put-pairs-last = (let p : tie.After-put-pairs = search in p .put-pairs .last) in
-    ((start .pre .0 .4, start .pre .0 .5, (let l = put-pairs-ensures .2 in let f = start .pre .0 .5 in omega (arith, l, f)), pair-fits (start .args .vertex .now) (start .args .starts .now) (start .args .sizes .now) (start .args .k) (start .pre .1 .0) (start .pre .1 .1) (put-pairs-last .1 .1 .1 .1 .0) (put-pairs-ensures .1)), search needs)
+    let put-pairs-last = (let p : tie.After-put-pairs = search in p .put-pairs .last) in (
+      (
+        start .pre .0 .4,
+        start .pre .0 .5,
+        (let l = put-pairs-ensures .2 in let f = start .pre .0 .5 in omega (arith, l, f)),
+        pair-fits vertex starts sizes k (start .pre .1 .0) (start .pre .1 .1) (put-pairs-last .1 .1 .1 .1 .0)
+            (put-pairs-ensures .1),
+      ),
+      search needs,
+    )
 
 returns-2 : tie.Need-returns-2
 returns-2 c =
     let start : tie.Start = search in
+    let vertex = start .args .vertex .now in
+    let starts = start .args .starts .now in
+    let sizes = start .args .sizes .now in
+    let k = start .args .k in
     let put-pairs-ensures = (let p : tie.After-put-pairs = search in p .put-pairs .ensures) in
     let put-pairs-last = (let p : tie.After-put-pairs = search in p .put-pairs .last) in
-    let rank-ensures = (let p : tie.After-rank = search in p .rank .ensures) in
-    (paired-twice (start .args .vertex .now) (start .args .starts .now) (start .args .sizes .now) (start .args .k) (start .pre .1 .0) (start .pre .1 .1) (put-pairs-last .1 .1 .1 .1 .0) (put-pairs-ensures .1) (sym (rank-ensures .0) ∙ not-true _ (c .if2 .taken)), start .pre .0 .3)
+    let rank-ensures = (let p : tie.After-rank = search in p .rank .ensures) in (
+      paired-twice vertex starts sizes k (start .pre .1 .0) (start .pre .1 .1) (put-pairs-last .1 .1 .1 .1 .0)
+          (put-pairs-ensures .1) (sym (rank-ensures .0) ∙ not-true _ (c .if2 .taken)),
+      start .pre .0 .3,
+    )
 
 slice-aggregate-couples : tie.Need-slice-aggregate-couples
 slice-aggregate-couples c = search needs
@@ -65,13 +88,21 @@ same-length c = search needs
 returns-3 : tie.Need-returns-3
 returns-3 c =
     let start : tie.Start = (let c : tie.After-put-pairs = search in search) in
+    let vertex = start .args .vertex .now in
+    let starts = start .args .starts .now in
+    let sizes = start .args .sizes .now in
+    let k = start .args .k in
     let put-pairs-ensures = (let p : tie.After-put-pairs = search in p .put-pairs .ensures) in
     let put-pairs-last = (let p : tie.After-put-pairs = search in p .put-pairs .last) in
     let if1-left = (let p : tie.Else1 = search in p .if1 .left) in
     let rank-ensures = (let p : tie.After-rank = search in p .rank .ensures) in
     let if2-left = (let p : tie.Else2 = search in p .if2 .left) in
-    let couples-ensures = (let p : tie.After-couples = search in p .couples .ensures) in
-    (paired-found (start .args .vertex .now) (start .args .starts .now) (start .args .sizes .now) (start .args .k) (start .pre .1 .0) (start .pre .1 .1) (put-pairs-last .1 .1 .1 .1 .0) (put-pairs-ensures .1) (sym (put-pairs-ensures .0) ∙ not-false _ if1-left) (sym (rank-ensures .0) ∙ not-false _ if2-left) (rank-ensures .1 .0 (not-false _ if2-left)) (couples-ensures .0), couples-ensures .1)
+    let couples-ensures = (let p : tie.After-couples = search in p .couples .ensures) in (
+      paired-found vertex starts sizes k (start .pre .1 .0) (start .pre .1 .1) (put-pairs-last .1 .1 .1 .1 .0)
+          (put-pairs-ensures .1) (sym (put-pairs-ensures .0) ∙ not-false _ if1-left) (sym (rank-ensures .0) ∙ not-false _ if2-left)
+          (rank-ensures .1 .0 (not-false _ if2-left)) (couples-ensures .0),
+      couples-ensures .1,
+    )
 
 pub paired-spec : {M : Type 1} → statement M
 paired-spec =

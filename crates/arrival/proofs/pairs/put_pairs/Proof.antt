@@ -25,8 +25,13 @@ loop-holds c =
 next-index-requires : tie.Need-next-index-requires Inv-loop μ-loop
 next-index-requires c κs =
     let start : tie.Start Inv-loop μ-loop = search in
-    let loop-i = (let p : tie.At-loop Inv-loop μ-loop = search in p .loop .i) in
-    (start .pre .0 .1, start .pre .0 .2, omega arith, (let r = start .pre .1 .0 .start-le loop-i (omega arith) in omega arith), (let r = start .pre .1 .0 .end-within loop-i (omega arith) in omega arith))
+    let loop-i = (let p : tie.At-loop Inv-loop μ-loop = search in p .loop .i) in (
+      start .pre .0 .1,
+      start .pre .0 .2,
+      omega arith,
+      (let r = start .pre .1 .0 .start-le loop-i (omega arith) in omega arith),
+      (let r = start .pre .1 .0 .end-within loop-i (omega arith) in omega arith),
+    )
 
 mul-ok : tie.Need-mul-ok Inv-loop μ-loop
 mul-ok c = search needs
@@ -74,8 +79,11 @@ couple-requires c κs =
     let loop-i = (let p : tie.At-loop Inv-loop μ-loop = search in p .loop .i) in
     let loop-test-taken = (let p : tie.In-loop Inv-loop μ-loop = search in p .loop-test .taken) in
     let next-index-ensures = (let p : tie.After-next-index Inv-loop μ-loop = search in p .next-index .ensures) in
-    let next-index-result = (let p : tie.After-next-index Inv-loop μ-loop = search in p .next-index .result) in
-    (start .pre .1 .1 loop-i loop-test-taken, start .pre .1 .1 next-index-result (let n = next-below (start .pre .1 .0) loop-i (omega arith) in omega (arith, n, next-index-ensures)))
+    let next-index-result = (let p : tie.After-next-index Inv-loop μ-loop = search in p .next-index .result) in (
+      start .pre .1 .1 loop-i loop-test-taken,
+      start .pre .1 .1 next-index-result
+          (let n = next-below (start .pre .1 .0) loop-i (omega arith) in omega (arith, n, next-index-ensures)),
+    )
 
 mul-pairs : tie.Need-mul-pairs Inv-loop μ-loop
 mul-pairs c = search needs

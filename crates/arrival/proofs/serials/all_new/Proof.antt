@@ -43,9 +43,13 @@ gap-of-requires c κs =
 returns : tie.Need-returns Inv-loop μ-loop
 returns c =
     let start : tie.Start Inv-loop μ-loop = search in
+    let serial = start .args .serial .now in
+    let block = start .args .block .now in
+    let k = start .args .k in
     let loop-i = (let p : tie.At-loop Inv-loop μ-loop = search in p .loop .i) in
     let gap-of-ensures = (let p : tie.After-gap-of Inv-loop μ-loop = search in p .gap-of .ensures) in
-    passing-not (λ j. leb 1 (getD (start .args .serial .now) j 0) && not (held (block-in (start .args .block .now) .darts) (getD (start .args .serial .now) j 0))) loop-i (start .args .k) (omega arith) (sym gap-of-ensures ∙ lt-leb _ _ (c .if1 .taken))
+    passing-not (λ j. leb 1 (getD serial j 0) && not (held (block-in block .darts) (getD serial j 0))) loop-i k (omega arith)
+    (sym gap-of-ensures ∙ lt-leb _ _ (c .if1 .taken))
 
 add-i : tie.Need-add-i Inv-loop μ-loop
 add-i c = search needs

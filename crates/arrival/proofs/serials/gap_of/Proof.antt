@@ -53,20 +53,26 @@ add-result-3 c = search needs
 returns-4 : tie.Need-returns-4
 returns-4 c =
     let start : tie.Start = search in
+    let block = start .args .block .now in
     let if1-left = (let p : tie.Else1 = search in p .if1 .left) in
     let last-of-ensures = (let p : tie.After-last-of = search in p .last-of .ensures) in
     let field-ensures = (let p : tie.After-field = search in p .field .ensures) in
     let if3-left = (let p : tie.Else3 = search in p .if3 .left) in
-    gap-new (start .args .block .now) if1-left (start .pre .0) (λ p h e. if3-left (field-ensures ∙ sym (ap (column (start .args .block .now) 0) (last-of-ensures .1 p h e)) ∙ e)) (omega (arith, last-of-ensures .0))
+    gap-new block if1-left (start .pre .0)
+    (λ p h e. if3-left (field-ensures ∙ sym (ap (column block 0) (last-of-ensures .1 p h e)) ∙ e))
+    (omega (arith, last-of-ensures .0))
 
 returns-5 : tie.Need-returns-5
 returns-5 c =
     let start : tie.Start = search in
+    let block = start .args .block .now in
     let if1-left = (let p : tie.Else1 = search in p .if1 .left) in
     let last-of-ensures = (let p : tie.After-last-of = search in p .last-of .ensures) in
     let field-ensures = (let p : tie.After-field = search in p .field .ensures) in
     let if3-left = (let p : tie.Else3 = search in p .if3 .left) in
-    gap-new (start .args .block .now) if1-left (start .pre .0) (λ p h e. if3-left (field-ensures ∙ sym (ap (column (start .args .block .now) 0) (last-of-ensures .1 p h e)) ∙ e)) (omega (arith, last-of-ensures .0))
+    gap-new block if1-left (start .pre .0)
+    (λ p h e. if3-left (field-ensures ∙ sym (ap (column block 0) (last-of-ensures .1 p h e)) ∙ e))
+    (omega (arith, last-of-ensures .0))
 
 pub gap-of-spec : {M : Type 1} → statement M
 gap-of-spec =

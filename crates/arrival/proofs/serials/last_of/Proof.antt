@@ -32,8 +32,11 @@ up-requires : tie.Need-up-requires Inv-loop μ-loop
 up-requires c κs =
     let start : tie.Start Inv-loop μ-loop = search in
     let loop-left = (let p : tie.At-loop Inv-loop μ-loop = search in p .loop .left) in
-    let loop-low = (let p : tie.At-loop Inv-loop μ-loop = search in p .loop .low) in
-    (omega arith, (let small = start .pre .4 (loop-low + loop-left / 2) (omega arith) in omega (arith, small, c .field .ensures)), (let small = start .pre .5 in omega (arith, small)))
+    let loop-low = (let p : tie.At-loop Inv-loop μ-loop = search in p .loop .low) in (
+      omega arith,
+      (let small = start .pre .4 (loop-low + loop-left / 2) (omega arith) in omega (arith, small, c .field .ensures)),
+      (let small = start .pre .5 in omega (arith, small)),
+    )
 
 sub-left : tie.Need-sub-left Inv-loop μ-loop
 sub-left c = search needs

@@ -33,8 +33,15 @@ slice-aggregate-rank c = search needs
 
 rank-requires : tie.Need-rank-requires
 rank-requires c κs =
-    let start : tie.Start = search in
-    ((start .pre .1 .3, start .pre .1 .4, (let l = start .pre .1 .0 in let f = start .pre .1 .4 in omega (arith, l, f)), (λ i h. let b = start .pre .1 .6 i h in omega (arith, b))), (start .pre .1 .1, search needs, start .pre .1 .2))
+    let start : tie.Start = search in (
+      (
+        start .pre .1 .3,
+        start .pre .1 .4,
+        (let l = start .pre .1 .0 in let f = start .pre .1 .4 in omega (arith, l, f)),
+        (λ i h. let b = start .pre .1 .6 i h in omega (arith, b)),
+      ),
+      (start .pre .1 .1, search needs, start .pre .1 .2),
+    )
 
 same-length : tie.Need-same-length
 same-length c = search needs
@@ -48,8 +55,12 @@ returns-3 c =
     let if1-left = (let p : tie.Else1 = search in p .if1 .left) in
     let all-new-ensures = (let p : tie.After-all-new = search in p .all-new .ensures) in
     let if2-left = (let p : tie.Else2 = search in p .if2 .left) in
-    let rank-ensures = (let p : tie.After-rank = search in p .rank .ensures) in
-    (new-ranked (sym points-finite-ensures ∙ not-false _ if1-left) (sym all-new-ensures ∙ not-false _ if2-left) (rank-ensures .0) (rank-ensures .1 .0), rank-ensures .1 .1, rank-ensures .1 .2)
+    let rank-ensures = (let p : tie.After-rank = search in p .rank .ensures) in (
+      new-ranked (sym points-finite-ensures ∙ not-false _ if1-left) (sym all-new-ensures ∙ not-false _ if2-left) (rank-ensures .0)
+          (rank-ensures .1 .0),
+      rank-ensures .1 .1,
+      rank-ensures .1 .2,
+    )
 
 pub new-serials-spec : {M : Type 1} → statement M
 new-serials-spec =

@@ -36,9 +36,13 @@ point-finite-requires c κs = search needs
 returns : tie.Need-returns Inv-loop μ-loop
 returns c =
     let start : tie.Start Inv-loop μ-loop = search in
+    let message = start .args .message .now in
+    let from = start .args .from in
+    let count = start .args .count in
     let loop-j = (let p : tie.At-loop Inv-loop μ-loop = search in p .loop .j) in
     let point-finite-ensures = (let p : tie.After-point-finite Inv-loop μ-loop = search in p .point-finite .ensures) in
-    passing-not (λ i. finite (point-in (start .args .message .now) (start .args .from + 24 * i))) loop-j (start .args .count) (omega arith) (sym point-finite-ensures ∙ not-true _ (c .if1 .taken)) ∙ sym (points-tested (start .args .message .now) (start .args .from) (start .args .count))
+    passing-not (λ i. finite (point-in message (from + 24 * i))) loop-j count (omega arith)
+    (sym point-finite-ensures ∙ not-true _ (c .if1 .taken)) ∙ sym (points-tested message from count)
 
 add-j : tie.Need-add-j Inv-loop μ-loop
 add-j c = search needs

@@ -8,8 +8,15 @@ use Rattle.arrival.proofs.volume.numbered.Tie as tie
 
 number-vertices-requires : tie.Need-number-vertices-requires
 number-vertices-requires c κs =
-    let start : tie.Start = search in
-    ((start .pre .0, (let f = start .pre .3 in omega (arith, f)), (let l = start .pre .2 in let f = start .pre .3 in omega (arith, l, f)), start .pre .4), (start .pre .5, start .pre .6))
+    let start : tie.Start = search in (
+      (
+        start .pre .0,
+        (let f = start .pre .3 in omega (arith, f)),
+        (let l = start .pre .2 in let f = start .pre .3 in omega (arith, l, f)),
+        start .pre .4,
+      ),
+      (start .pre .5, start .pre .6),
+    )
 
 numbers-same-requires : tie.Need-numbers-same-requires
 numbers-same-requires c κs = search needs
@@ -24,8 +31,17 @@ returns : tie.Need-returns
 returns c =
     let number-vertices-ensures = (let p : tie.After-number-vertices = search in p .number-vertices .ensures) in
     let number-vertices-last = (let p : tie.After-number-vertices = search in p .number-vertices .last) in
-    let number-vertices-result = (let p : tie.After-number-vertices = search in p .number-vertices .result) in
-    (record { numbers = number-vertices-last .1 .1 .1 .1 .0; firsts = number-vertices-last .1 .1 .1 .1 .1 .0; count = number-vertices-result; numbered = number-vertices-ensures; result = rw (c .numbers-same .ensures) refl }, number-vertices-ensures .numbers-size, number-vertices-ensures .firsts-size)
+    let number-vertices-result = (let p : tie.After-number-vertices = search in p .number-vertices .result) in (
+      record {
+        numbers = number-vertices-last .1 .1 .1 .1 .0;
+        firsts = number-vertices-last .1 .1 .1 .1 .1 .0;
+        count = number-vertices-result;
+        numbered = number-vertices-ensures;
+        result = rw (c .numbers-same .ensures) refl;
+      },
+      number-vertices-ensures .numbers-size,
+      number-vertices-ensures .firsts-size,
+    )
 
 pub numbered-spec : {M : Type 1} → statement M
 numbered-spec =

@@ -49,8 +49,12 @@ shared-slice-read-if1-3 c =
 returns : tie.Need-returns Inv-loop μ-loop
 returns c =
     let start : tie.Start Inv-loop μ-loop = search in
+    let vertex = start .args .vertex .now in
+    let numbers = start .args .numbers .now in
+    let ranks = start .args .ranks .now in
+    let k = start .args .k in
     let loop-i = (let p : tie.At-loop Inv-loop μ-loop = search in p .loop .i) in
-    passing-not (λ j. eqb (getD (start .args .vertex .now) j 0) (getD (start .args .numbers .now) (getD (start .args .ranks .now) j 0) 0)) loop-i (start .args .k) (omega arith) (ne-eqb _ _ (c .if1 .taken))
+    passing-not (λ j. eqb (getD vertex j 0) (getD numbers (getD ranks j 0) 0)) loop-i k (omega arith) (ne-eqb _ _ (c .if1 .taken))
 
 add-i : tie.Need-add-i Inv-loop μ-loop
 add-i c = search needs

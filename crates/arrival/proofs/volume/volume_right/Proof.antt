@@ -23,8 +23,10 @@ ordered-requires c κs =
 returns-2 : tie.Need-returns-2
 returns-2 c =
     let start : tie.Start = search in
-    let ordered-ensures = (let p : tie.After-ordered = search in p .ordered .ensures) in
-    ((λ t w. order-no w (sym ordered-ensures ∙ not-true _ (c .if2 .taken))), ((λ y. absurd (true≢false (sym y))), start .pre .0 .6, start .pre .0 .7, start .pre .0 .8, start .pre .0 .9))
+    let ordered-ensures = (let p : tie.After-ordered = search in p .ordered .ensures) in (
+      (λ t w. order-no w (sym ordered-ensures ∙ not-true _ (c .if2 .taken))),
+      ((λ y. absurd (true≢false (sym y))), start .pre .0 .6, start .pre .0 .7, start .pre .0 .8, start .pre .0 .9),
+    )
 
 vertices-fit-requires : tie.Need-vertices-fit-requires
 vertices-fit-requires c κs =
@@ -34,15 +36,26 @@ vertices-fit-requires c κs =
 returns-3 : tie.Need-returns-3
 returns-3 c =
     let start : tie.Start = search in
-    let vertices-fit-ensures = (let p : tie.After-vertices-fit = search in p .vertices-fit .ensures) in
-    ((λ t w. fit-no w (sym vertices-fit-ensures ∙ not-true _ (c .if3 .taken))), ((λ y. absurd (true≢false (sym y))), start .pre .0 .6, start .pre .0 .7, start .pre .0 .8, start .pre .0 .9))
+    let vertices-fit-ensures = (let p : tie.After-vertices-fit = search in p .vertices-fit .ensures) in (
+      (λ t w. fit-no w (sym vertices-fit-ensures ∙ not-true _ (c .if3 .taken))),
+      ((λ y. absurd (true≢false (sym y))), start .pre .0 .6, start .pre .0 .7, start .pre .0 .8, start .pre .0 .9),
+    )
 
 paired-requires : tie.Need-paired-requires
 paired-requires c κs =
     let start : tie.Start = search in
     let vertices-fit-ensures = (let p : tie.After-vertices-fit = search in p .vertices-fit .ensures) in
-    let if3-left = (let p : tie.Else3 = search in p .if3 .left) in
-    ((start .pre .0 .0, start .pre .0 .2, start .pre .0 .3, start .pre .0 .6, (start .pre .1 .1 .1) .some-darts, (start .pre .1 .1 .1) .few), (segs (start .pre .1 .1 .1), small (start .pre .1 .1 .1) (sym vertices-fit-ensures ∙ not-false _ if3-left)))
+    let if3-left = (let p : tie.Else3 = search in p .if3 .left) in (
+      (
+        start .pre .0 .0,
+        start .pre .0 .2,
+        start .pre .0 .3,
+        start .pre .0 .6,
+        (start .pre .1 .1 .1) .some-darts,
+        (start .pre .1 .1 .1) .few,
+      ),
+      (segs (start .pre .1 .1 .1), small (start .pre .1 .1 .1) (sym vertices-fit-ensures ∙ not-false _ if3-left)),
+    )
 
 same-length : tie.Need-same-length
 same-length c = search needs
@@ -52,8 +65,10 @@ returns-4 c =
     let start : tie.Start = search in
     let vertices-fit-ensures = (let p : tie.After-vertices-fit = search in p .vertices-fit .ensures) in
     let if3-left = (let p : tie.Else3 = search in p .if3 .left) in
-    let paired-ensures = (let p : tie.After-paired = search in p .paired .ensures) in
-    ((λ t w. paired-no w (sym vertices-fit-ensures ∙ not-false _ if3-left) (paired-ensures .0) (not-true _ (c .if4 .taken))), ((λ y. absurd (true≢false (sym y))), paired-ensures .1, start .pre .0 .7, start .pre .0 .8, start .pre .0 .9))
+    let paired-ensures = (let p : tie.After-paired = search in p .paired .ensures) in (
+      (λ t w. paired-no w (sym vertices-fit-ensures ∙ not-false _ if3-left) (paired-ensures .0) (not-true _ (c .if4 .taken))),
+      ((λ y. absurd (true≢false (sym y))), paired-ensures .1, start .pre .0 .7, start .pre .0 .8, start .pre .0 .9),
+    )
 
 put-draft-requires : tie.Need-put-draft-requires
 put-draft-requires c κs =
@@ -62,8 +77,19 @@ put-draft-requires c κs =
     let if3-left = (let p : tie.Else3 = search in p .if3 .left) in
     let vertices-fit-ensures = (let p : tie.After-vertices-fit = search in p .vertices-fit .ensures) in
     let c : tie.After-vertices-fit = search in
-    let start : tie.Start = search in
-    ((start .pre .0 .0, start .pre .0 .2, start .pre .0 .3, start .pre .0 .4, start .pre .0 .5, paired-ensures .1, start .pre .0 .7), draftable (start .pre .1 .1 .1) (sym vertices-fit-ensures ∙ not-false _ if3-left) (start .pre .1 .0) (paired-ensures .0) (not-false _ if4-left))
+    let start : tie.Start = search in (
+      (
+        start .pre .0 .0,
+        start .pre .0 .2,
+        start .pre .0 .3,
+        start .pre .0 .4,
+        start .pre .0 .5,
+        paired-ensures .1,
+        start .pre .0 .7,
+      ),
+      draftable (start .pre .1 .1 .1) (sym vertices-fit-ensures ∙ not-false _ if3-left) (start .pre .1 .0) (paired-ensures .0)
+          (not-false _ if4-left),
+    )
 
 shared-slice-read-one-volume : tie.Need-shared-slice-read-one-volume
 shared-slice-read-one-volume c =
@@ -79,8 +105,13 @@ one-volume-requires c κs =
     let if3-left = (let p : tie.Else3 = search in p .if3 .left) in
     let vertices-fit-ensures = (let p : tie.After-vertices-fit = search in p .vertices-fit .ensures) in
     let c : tie.After-vertices-fit = search in
-    let start : tie.Start = search in
-    (links (draft-of (start .pre .1 .1 .1) (sym vertices-fit-ensures ∙ not-false _ if3-left) (start .pre .1 .0) (paired-ensures .0) (not-false _ if4-left) put-draft-ensures), start .pre .1 .0 .rank-below 0 ((start .pre .1 .1 .1) .some-darts), start .pre .0 .8)
+    let start : tie.Start = search in (
+      links
+          (draft-of (start .pre .1 .1 .1) (sym vertices-fit-ensures ∙ not-false _ if3-left) (start .pre .1 .0) (paired-ensures .0)
+          (not-false _ if4-left) put-draft-ensures),
+      start .pre .1 .0 .rank-below 0 ((start .pre .1 .1 .1) .some-darts),
+      start .pre .0 .8,
+    )
 
 same-length-2 : tie.Need-same-length-2
 same-length-2 c = search needs
@@ -102,7 +133,12 @@ returns-5 c =
     let vertices-fit-ensures = (let p : tie.After-vertices-fit = search in p .vertices-fit .ensures) in
     let c : tie.After-vertices-fit = search in
     let start : tie.Start = search in
-    ((λ t w. volume-no w (sym vertices-fit-ensures ∙ not-false _ if3-left) (draft-of w (sym vertices-fit-ensures ∙ not-false _ if3-left) (start .pre .1 .0) (paired-ensures .0) (not-false _ if4-left) put-draft-ensures) (sym (one-volume-ensures .0) ∙ not-true _ if5-taken)), ((λ y. absurd (true≢false (sym y))), paired-ensures .1, put-draft-ensures .size, one-volume-ensures .1, start .pre .0 .9))
+    let vertices-fit-yes = sym vertices-fit-ensures ∙ not-false _ if3-left in (
+      (λ t w. volume-no w vertices-fit-yes
+          (draft-of w vertices-fit-yes (start .pre .1 .0) (paired-ensures .0) (not-false _ if4-left) put-draft-ensures)
+          (sym (one-volume-ensures .0) ∙ not-true _ if5-taken)),
+      ((λ y. absurd (true≢false (sym y))), paired-ensures .1, put-draft-ensures .size, one-volume-ensures .1, start .pre .0 .9),
+    )
 
 numbered-requires : tie.Need-numbered-requires
 numbered-requires c κs =
@@ -113,8 +149,17 @@ numbered-requires c κs =
     let if3-left = (let p : tie.Else3 = search in p .if3 .left) in
     let c : tie.Else3 = search in
     let vertices-fit-ensures = (let p : tie.After-vertices-fit = search in p .vertices-fit .ensures) in
-    let start : tie.Start = search in
-    (links (draft-of (start .pre .1 .1 .1) (sym vertices-fit-ensures ∙ not-false _ if3-left) (start .pre .1 .0) (paired-ensures .0) (not-false _ if4-left) put-draft-ensures), start .pre .0 .0, start .pre .0 .5, (start .pre .1 .1 .1) .few, start .pre .1 .0 .rank-below, one-volume-ensures .1, start .pre .0 .9)
+    let start : tie.Start = search in (
+      links
+          (draft-of (start .pre .1 .1 .1) (sym vertices-fit-ensures ∙ not-false _ if3-left) (start .pre .1 .0) (paired-ensures .0)
+          (not-false _ if4-left) put-draft-ensures),
+      start .pre .0 .0,
+      start .pre .0 .5,
+      (start .pre .1 .1 .1) .few,
+      start .pre .1 .0 .rank-below,
+      one-volume-ensures .1,
+      start .pre .0 .9,
+    )
 
 same-length-5 : tie.Need-same-length-5
 same-length-5 c = search needs
@@ -144,7 +189,23 @@ returns-6 c =
     let if1-left = (let p : tie.Else1 = search in p .if1 .left) in
     let c : tie.Else1 = search in
     let start : tie.Start = search in
-    ((λ t w. numbered-ensures .0 .result ∙ numbers-tell w (sym vertices-fit-ensures ∙ not-false _ if3-left) (draft-of w (sym vertices-fit-ensures ∙ not-false _ if3-left) (start .pre .1 .0) (paired-ensures .0) (not-false _ if4-left) put-draft-ensures) (let l = start .pre .0 .5 in let f = w .few in omega (arith, l, f)) (numbered-ensures .0 .numbered) (order-yes w if1-left (sym ordered-ensures ∙ not-false _ if2-left)) (paired-yes w (sym vertices-fit-ensures ∙ not-false _ if3-left) (start .pre .1 .0) (paired-ensures .0) (not-false _ if4-left)) (sym (one-volume-ensures .0) ∙ not-false _ if5-left)), ((λ y. (draft-of (start .pre .1 .1 .1) (sym vertices-fit-ensures ∙ not-false _ if3-left) (start .pre .1 .0) (paired-ensures .0) (not-false _ if4-left) put-draft-ensures)), paired-ensures .1, put-draft-ensures .size, numbered-ensures .1, numbered-ensures .2))
+    let vertices-fit-yes = sym vertices-fit-ensures ∙ not-false _ if3-left in (
+      (λ t w. numbered-ensures .0 .result ∙ numbers-tell w vertices-fit-yes
+          (draft-of w vertices-fit-yes (start .pre .1 .0) (paired-ensures .0) (not-false _ if4-left) put-draft-ensures)
+          (let l = start .pre .0 .5 in let f = w .few in omega (arith, l, f)) (numbered-ensures .0 .numbered)
+          (order-yes w if1-left (sym ordered-ensures ∙ not-false _ if2-left))
+          (paired-yes w vertices-fit-yes (start .pre .1 .0) (paired-ensures .0) (not-false _ if4-left))
+          (sym (one-volume-ensures .0) ∙ not-false _ if5-left)),
+      (
+        (λ y.
+            (draft-of (start .pre .1 .1 .1) vertices-fit-yes (start .pre .1 .0) (paired-ensures .0) (not-false _ if4-left)
+            put-draft-ensures)),
+        paired-ensures .1,
+        put-draft-ensures .size,
+        numbered-ensures .1,
+        numbered-ensures .2,
+      ),
+    )
 
 pub volume-right-spec : {M : Type 1} → statement M
 volume-right-spec =

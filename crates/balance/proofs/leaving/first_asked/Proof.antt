@@ -48,9 +48,7 @@ slice-read-s c =
     omega (arith, loop-test-taken, sited rack (start .args .block .now) (start .pre .0 .0) .linked .few, loop-inv .0 .untried .len)
 
 loop-less : tie.Need-loop-less Inv-loop μ-loop
-loop-less c =
-    let loop-test-taken = (let p : tie.In-loop Inv-loop μ-loop = search in p .loop-test .taken) in
-    omega (arith, loop-test-taken)
+loop-less c = omega arith
 
 loop-again : tie.Need-loop-again Inv-loop μ-loop
 loop-again c =
@@ -59,9 +57,7 @@ loop-again c =
     (trying-none (loop-inv .0) loop-test-taken refl (c .if1 .taken), loop-inv .1)
 
 loop-less-2 : tie.Need-loop-less-2 Inv-loop μ-loop
-loop-less-2 c =
-    let loop-test-taken = (let p : tie.In-loop Inv-loop μ-loop = search in p .loop-test .taken) in
-    omega (arith, loop-test-taken)
+loop-less-2 c = omega arith
 
 loop-again-2 : tie.Need-loop-again-2 Inv-loop μ-loop
 loop-again-2 c =
@@ -72,8 +68,9 @@ loop-again-2 c =
 field-requires : tie.Need-field-requires Inv-loop μ-loop
 field-requires c κs =
     let start : tie.Start Inv-loop μ-loop = search in
+    let block = start .args .block .now in
     let loop-test-taken = (let p : tie.In-loop Inv-loop μ-loop = search in p .loop-test .taken) in
-    (omega (arith, loop-test-taken, sited rack (start .args .block .now) (start .pre .0 .0) .linked .few), omega arith, sited rack (start .args .block .now) (start .pre .0 .0) .linked .size)
+    (omega (arith, loop-test-taken, sited rack block (start .pre .0 .0) .linked .few), omega arith, sited rack block (start .pre .0 .0) .linked .size)
 
 may-leave-requires : tie.Need-may-leave-requires Inv-loop μ-loop
 may-leave-requires c κs =
@@ -155,13 +152,18 @@ same-length-8 c =
 returns : tie.Need-returns Inv-loop μ-loop
 returns c =
     let start : tie.Start Inv-loop μ-loop = (let c : tie.After-may-leave Inv-loop μ-loop = search in let c : tie.At-loop Inv-loop μ-loop = search in search) in
+    let block = start .args .block .now in
     let loop-inv = (let c : tie.After-may-leave Inv-loop μ-loop = search in let p : tie.At-loop Inv-loop μ-loop = search in p .loop .inv) in
     let loop-test-taken = (let c : tie.After-may-leave Inv-loop μ-loop = search in let p : tie.In-loop Inv-loop μ-loop = search in p .loop-test .taken) in
     let if1-left = (let c : tie.After-may-leave Inv-loop μ-loop = search in let p : tie.Else1 Inv-loop μ-loop = search in p .if1 .left) in
     let if2-left = (let c : tie.After-may-leave Inv-loop μ-loop = search in let p : tie.Else2 Inv-loop μ-loop = search in p .if2 .left) in
     let field-ensures = (let c : tie.After-may-leave Inv-loop μ-loop = search in let p : tie.After-field Inv-loop μ-loop = search in p .field .ensures) in
-    let may-leave-ensures = (let p : tie.After-may-leave Inv-loop μ-loop = search in p .may-leave .ensures) in
-    (field-ensures ∙ tried-found (loop-inv .0) loop-test-taken refl if1-left if2-left (ap (can-leave (start .args .block .now)) (sym field-ensures) ∙ sym (may-leave-ensures .0) ∙ c .if3 .taken), loop-inv .0 .untried)
+    let may-leave-ensures = (let p : tie.After-may-leave Inv-loop μ-loop = search in p .may-leave .ensures) in (
+      field-ensures
+          ∙ tried-found (loop-inv .0) loop-test-taken refl if1-left if2-left
+          (ap (can-leave block) (sym field-ensures) ∙ sym (may-leave-ensures .0) ∙ c .if3 .taken),
+      loop-inv .0 .untried,
+    )
 
 mul-sizes : tie.Need-mul-sizes Inv-loop μ-loop
 mul-sizes c =
@@ -179,19 +181,20 @@ slice-write-sizes c =
     omega (arith, loop-test-taken, sited rack (start .args .block .now) (start .pre .0 .0) .linked .few, loop-inv .0 .untried .len)
 
 loop-less-3 : tie.Need-loop-less-3 Inv-loop μ-loop
-loop-less-3 c =
-    let c : tie.After-may-leave-arg Inv-loop μ-loop = search in
-    let loop-test-taken = (let p : tie.In-loop Inv-loop μ-loop = search in p .loop-test .taken) in
-    omega (arith, loop-test-taken)
+loop-less-3 c = omega arith
 
 loop-again-3 : tie.Need-loop-again-3 Inv-loop μ-loop
 loop-again-3 c =
     let start : tie.Start Inv-loop μ-loop = (let c : tie.After-may-leave Inv-loop μ-loop = search in let c : tie.At-loop Inv-loop μ-loop = search in search) in
+    let block = start .args .block .now in
     let loop-inv = (let c : tie.After-may-leave Inv-loop μ-loop = search in let p : tie.At-loop Inv-loop μ-loop = search in p .loop .inv) in
     let loop-test-taken = (let c : tie.After-may-leave Inv-loop μ-loop = search in let p : tie.In-loop Inv-loop μ-loop = search in p .loop-test .taken) in
     let field-ensures = (let c : tie.After-may-leave Inv-loop μ-loop = search in let p : tie.After-field Inv-loop μ-loop = search in p .field .ensures) in
-    let may-leave-ensures = (let p : tie.After-may-leave Inv-loop μ-loop = search in p .may-leave .ensures) in
-    (trying-strike (loop-inv .0) (sited rack (start .args .block .now) (start .pre .0 .0) .linked .few) loop-test-taken (ap (can-leave (start .args .block .now)) (sym field-ensures) ∙ sym (may-leave-ensures .0) ∙ c .if3 .left), may-leave-ensures .1 (c .if3 .left))
+    let may-leave-ensures = (let p : tie.After-may-leave Inv-loop μ-loop = search in p .may-leave .ensures) in (
+      trying-strike (loop-inv .0) (sited rack block (start .pre .0 .0) .linked .few) loop-test-taken
+          (ap (can-leave block) (sym field-ensures) ∙ sym (may-leave-ensures .0) ∙ c .if3 .left),
+      may-leave-ensures .1 (c .if3 .left),
+    )
 
 same-length-9 : tie.Need-same-length-9 Inv-loop μ-loop
 same-length-9 c = search needs

@@ -45,7 +45,13 @@ returns c =
     let leaves-ensures = (let p : tie.After-leaves = search in p .leaves .ensures) in
     let c : tie.After-leaves = search in
     let start : tie.Start = search in
-    (leaves-yes (start .args .block .now) (start .args .to) (start .args .serial) (start .pre .0 .1) (start .pre .0 .2) (departs-told (start .args .block .now) (start .args .to) (start .args .serial) _ _ _ _ _ (leaves-ensures .0) (enum-told-given .1) .asked), λ e. absurd (true≢false e))
+    let block = start .args .block .now in
+    let to = start .args .to in
+    let serial = start .args .serial in (
+      leaves-yes block to serial (start .pre .0 .1) (start .pre .0 .2)
+          (departs-told block to serial _ _ _ _ _ (leaves-ensures .0) (enum-told-given .1) .asked),
+      λ e. absurd (true≢false e),
+    )
 
 same-length-8 : tie.Need-same-length-8
 same-length-8 c = search needs
@@ -74,10 +80,14 @@ returns-2 c =
     let leaves-ensures = (let p : tie.After-leaves = search in p .leaves .ensures) in
     let c : tie.After-leaves = search in
     let start : tie.Start = search in
+    let block = start .args .block .now in
+    let to = start .args .to in
+    let serial = start .args .serial in
     let a = start .pre .1 in
     let f = forgotten-told _ _ (leaves-ensures .1) (enum-told2-given .1) in (
-      leaves-no (start .args .block .now) (start .args .to) (start .args .serial) (start .pre .0 .1) (start .pre .0 .2) _ (refused-told (start .args .block .now) (start .args .to) (start .args .serial) _ _ _ _ _ (leaves-ensures .0) (enum-told2-given .1)),
-      λ e. record { unmarked = f .0; order-size = search needs; starts-size = search needs; unseen = f .1; numbers-size = search needs; firsts-size = search needs; stamps-size = search needs },
+      leaves-no block to serial (start .pre .0 .1) (start .pre .0 .2) _ (refused-told block to serial _ _ _ _ _ (leaves-ensures .0) (enum-told2-given .1)),
+      λ e. record
+          { unmarked = f .0; order-size = search needs; starts-size = search needs; unseen = f .1; numbers-size = search needs; firsts-size = search needs; stamps-size = search needs },
     )
 
 pub may-leave-spec : {M : Type 1} → statement M

@@ -35,16 +35,20 @@ part-count-end c = search needs
 count-requires : tie.Need-count-requires
 count-requires c κs =
     let start : tie.Start = search in
-    subst (λ (l : List ℕ). is-image rack l ≡ true) (sym (part-is (start .args .mesh .now) (start .args .i) _ refl)) (start .pre .0 .image (start .args .i) (start .pre .1))
+    let mesh = start .args .mesh .now in
+    let i = start .args .i in
+    subst (λ (l : List ℕ). is-image rack l ≡ true) (sym (part-is mesh i _ refl)) (start .pre .0 .image i (start .pre .1))
 
 cast-result : tie.Need-cast-result
-cast-result c =
-    omega (arith, c .count .ensures .1)
+cast-result c = omega arith
 
 returns : tie.Need-returns
 returns c =
     let start : tie.Start = search in
-    (c .count .ensures .0 ∙ ap (λ (l : List ℕ). length (picked (oracle-of (start .args .o)) (block-in l .darts))) (part-is (start .args .mesh .now) (start .args .i) _ refl), c .count .ensures .1)
+    let o = start .args .o in
+    let mesh = start .args .mesh .now in
+    let i = start .args .i in
+    (c .count .ensures .0 ∙ ap (λ (l : List ℕ). length (picked (oracle-of o) (block-in l .darts))) (part-is mesh i _ refl), c .count .ensures .1)
 
 pub count-part-spec : {M : Type 1} → statement M
 count-part-spec =

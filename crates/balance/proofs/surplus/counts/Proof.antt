@@ -26,28 +26,16 @@ count-part-requires c κs =
     (start .pre, c .loop-test .taken)
 
 mul-c : tie.Need-mul-c Inv-loop μ-loop
-mul-c c =
-    let start : tie.Start Inv-loop μ-loop = search in
-    let loop-test-taken = (let p : tie.In-loop Inv-loop μ-loop = search in p .loop-test .taken) in
-    omega (arith, loop-test-taken, start .pre .few)
+mul-c c = omega arith
 
 array-write-c : tie.Need-array-write-c Inv-loop μ-loop
-array-write-c c =
-    let start : tie.Start Inv-loop μ-loop = search in
-    let loop-inv = (let p : tie.At-loop Inv-loop μ-loop = search in p .loop .inv) in
-    let loop-test-taken = (let p : tie.In-loop Inv-loop μ-loop = search in p .loop-test .taken) in
-    omega (arith, loop-test-taken, start .pre .few, loop-inv .size)
+array-write-c c = omega arith
 
 add-i : tie.Need-add-i Inv-loop μ-loop
-add-i c =
-    let start : tie.Start Inv-loop μ-loop = search in
-    let loop-test-taken = (let p : tie.In-loop Inv-loop μ-loop = search in p .loop-test .taken) in
-    omega (arith, loop-test-taken, start .pre .few)
+add-i c = omega arith
 
 loop-less : tie.Need-loop-less Inv-loop μ-loop
-loop-less c =
-    let loop-test-taken = (let p : tie.In-loop Inv-loop μ-loop = search in p .loop-test .taken) in
-    omega (arith, loop-test-taken)
+loop-less c = omega arith
 
 loop-again : tie.Need-loop-again Inv-loop μ-loop
 loop-again c =

@@ -24,15 +24,10 @@ loop-holds c =
     filling-start _ _ _ _ refl
 
 mul-surplus-of : tie.Need-mul-surplus-of Inv-loop μ-loop
-mul-surplus-of c =
-    let start : tie.Start Inv-loop μ-loop = search in
-    omega (arith, c .loop-test .taken, start .pre .0)
+mul-surplus-of c = omega arith
 
 array-read-surplus-of : tie.Need-array-read-surplus-of Inv-loop μ-loop
-array-read-surplus-of c =
-    let start : tie.Start Inv-loop μ-loop = search in
-    let n : length (start .args .t1) ≡ 16 = start .good .0 .1 .0 .1 in
-    omega (arith, c .loop-test .taken, start .pre .0)
+array-read-surplus-of c = omega arith
 
 surplus-of-requires : tie.Need-surplus-of-requires Inv-loop μ-loop
 surplus-of-requires c κs =
@@ -41,28 +36,16 @@ surplus-of-requires c κs =
     (omega (arith, start .pre .2 loop-i (c .loop-test .taken)), start .pre .1)
 
 mul-s : tie.Need-mul-s Inv-loop μ-loop
-mul-s c =
-    let start : tie.Start Inv-loop μ-loop = search in
-    let loop-test-taken = (let p : tie.In-loop Inv-loop μ-loop = search in p .loop-test .taken) in
-    omega (arith, loop-test-taken, start .pre .0)
+mul-s c = omega arith
 
 array-set-from-s : tie.Need-array-set-from-s Inv-loop μ-loop
-array-set-from-s c =
-    let start : tie.Start Inv-loop μ-loop = search in
-    let loop-inv = (let p : tie.At-loop Inv-loop μ-loop = search in p .loop .inv) in
-    let loop-test-taken = (let p : tie.In-loop Inv-loop μ-loop = search in p .loop-test .taken) in
-    omega (arith, loop-test-taken, start .pre .0, loop-inv .size)
+array-set-from-s c = omega arith
 
 add-i : tie.Need-add-i Inv-loop μ-loop
-add-i c =
-    let start : tie.Start Inv-loop μ-loop = search in
-    let loop-test-taken = (let p : tie.In-loop Inv-loop μ-loop = search in p .loop-test .taken) in
-    omega (arith, loop-test-taken, start .pre .0)
+add-i c = omega arith
 
 loop-less : tie.Need-loop-less Inv-loop μ-loop
-loop-less c =
-    let loop-test-taken = (let p : tie.In-loop Inv-loop μ-loop = search in p .loop-test .taken) in
-    omega (arith, loop-test-taken)
+loop-less c = omega arith
 
 loop-again : tie.Need-loop-again Inv-loop μ-loop
 loop-again c =

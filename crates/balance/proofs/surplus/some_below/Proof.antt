@@ -26,15 +26,10 @@ loop-holds c =
     seeking-start _ _
 
 mul-x : tie.Need-mul-x Inv-loop μ-loop
-mul-x c =
-    let start : tie.Start Inv-loop μ-loop = search in
-    omega (arith, c .loop-test .taken, start .pre)
+mul-x c = omega arith
 
 array-copy-out-x : tie.Need-array-copy-out-x Inv-loop μ-loop
-array-copy-out-x c =
-    let start : tie.Start Inv-loop μ-loop = search in
-    let n : length (start .args .t1) ≡ 16 = start .good .0 .1 .0 .1 in
-    omega (arith, c .loop-test .taken, start .pre)
+array-copy-out-x c = omega arith
 
 is-below-requires : tie.Need-is-below-requires Inv-loop μ-loop
 is-below-requires c κs = search needs
@@ -42,31 +37,29 @@ is-below-requires c κs = search needs
 returns : tie.Need-returns Inv-loop μ-loop
 returns c =
     let start : tie.Start Inv-loop μ-loop = search in
+    let t1 = start .args .t1 in
+    let k = start .args .k in
     let loop-i = (let p : tie.At-loop Inv-loop μ-loop = search in p .loop .i) in
     let loop-inv = (let p : tie.At-loop Inv-loop μ-loop = search in p .loop .inv) in
     let loop-test-taken = (let p : tie.In-loop Inv-loop μ-loop = search in p .loop-test .taken) in
     let is-below-ensures = (let p : tie.After-is-below Inv-loop μ-loop = search in p .is-below .ensures) in
-    let e : toZ w32 (ofZ w32 (getD (start .args .t1) loop-i (pos 0))) ≡ getD (start .args .t1) loop-i (pos 0) = toZ-ofZ w32 (getD (start .args .t1) loop-i (pos 0)) (search needs) in
-    sought loop-inv (start .args .k) loop-test-taken (ap is-below (sym e) ∙ sym is-below-ensures ∙ c .if1 .taken)
+    let e : toZ w32 (ofZ w32 (getD t1 loop-i (pos 0))) ≡ getD t1 loop-i (pos 0) = toZ-ofZ w32 (getD t1 loop-i (pos 0)) (search needs) in
+    sought loop-inv k loop-test-taken (ap is-below (sym e) ∙ sym is-below-ensures ∙ c .if1 .taken)
 
 add-i : tie.Need-add-i Inv-loop μ-loop
-add-i c =
-    let start : tie.Start Inv-loop μ-loop = search in
-    let loop-test-taken = (let p : tie.In-loop Inv-loop μ-loop = search in p .loop-test .taken) in
-    omega (arith, loop-test-taken, start .pre)
+add-i c = omega arith
 
 loop-less : tie.Need-loop-less Inv-loop μ-loop
-loop-less c =
-    let loop-test-taken = (let p : tie.In-loop Inv-loop μ-loop = search in p .loop-test .taken) in
-    omega (arith, loop-test-taken)
+loop-less c = omega arith
 
 loop-again : tie.Need-loop-again Inv-loop μ-loop
 loop-again c =
     let start : tie.Start Inv-loop μ-loop = search in
+    let t1 = start .args .t1 in
     let loop-i = (let p : tie.At-loop Inv-loop μ-loop = search in p .loop .i) in
     let loop-inv = (let p : tie.At-loop Inv-loop μ-loop = search in p .loop .inv) in
     let is-below-ensures = (let p : tie.After-is-below Inv-loop μ-loop = search in p .is-below .ensures) in
-    let e : toZ w32 (ofZ w32 (getD (start .args .t1) loop-i (pos 0))) ≡ getD (start .args .t1) loop-i (pos 0) = toZ-ofZ w32 (getD (start .args .t1) loop-i (pos 0)) (search needs) in
+    let e : toZ w32 (ofZ w32 (getD t1 loop-i (pos 0))) ≡ getD t1 loop-i (pos 0) = toZ-ofZ w32 (getD t1 loop-i (pos 0)) (search needs) in
     seeking-next loop-inv (ap is-below (sym e) ∙ sym is-below-ensures ∙ c .if1 .left)
 
 returns-2 : tie.Need-returns-2 Inv-loop μ-loop

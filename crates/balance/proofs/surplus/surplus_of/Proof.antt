@@ -21,7 +21,9 @@ sub-result c =
 
 returns : tie.Need-returns
 returns c =
-    rw (signed (c .args .count) (omega arith), signed (c .args .mean) (omega arith)) (toZ-ofZ w32 (pos (c .args .count) -ℤ pos (c .args .mean)) (in-width (c .args .count) (c .args .mean) (omega arith) (omega arith)) ∙ difference-is (c .args .count) (c .args .mean))
+    rw (signed (c .args .count) (omega arith), signed (c .args .mean) (omega arith))
+    (toZ-ofZ w32 (pos (c .args .count) -ℤ pos (c .args .mean))
+    (in-width (c .args .count) (c .args .mean) (omega arith) (omega arith)) ∙ difference-is (c .args .count) (c .args .mean))
 
 pub surplus-of-spec : {M : Type 1} → statement M
 surplus-of-spec = tie.close (tie.spec cast-result cast-result-2 sub-result returns)

@@ -30,9 +30,11 @@ less-mean-requires c κs =
 returns : tie.Need-returns
 returns c =
     let start : tie.Start = search in
+    let o = start .args .o in
+    let mesh = start .args .mesh .now in
     let counts-ensures = (let p : tie.After-counts = search in p .counts .ensures) in
     let total-ensures = (let p : tie.After-total = search in p .total .ensures) in
-    surpluses-told (oracle-of (start .args .o)) (start .args .mesh .now) counts-ensures (total-ensures .0) refl (c .less-mean .ensures .0) (c .less-mean .ensures .1)
+    surpluses-told (oracle-of o) mesh counts-ensures (total-ensures .0) refl (c .less-mean .ensures .0) (c .less-mean .ensures .1)
 
 pub surpluses-spec : {M : Type 1} → statement M
 surpluses-spec =

@@ -20,15 +20,10 @@ loop-holds c =
     summing-start _ _
 
 mul-t : tie.Need-mul-t Inv-loop μ-loop
-mul-t c =
-    let start : tie.Start Inv-loop μ-loop = search in
-    omega (arith, c .loop-test .taken, start .pre .0)
+mul-t c = omega arith
 
 array-read-t : tie.Need-array-read-t Inv-loop μ-loop
-array-read-t c =
-    let start : tie.Start Inv-loop μ-loop = search in
-    let n : length (start .args .t1) ≡ 16 = start .good .0 .1 .0 .1 in
-    omega (arith, c .loop-test .taken, start .pre .0)
+array-read-t c = omega arith
 
 add-t : tie.Need-add-t Inv-loop μ-loop
 add-t c =
@@ -38,13 +33,10 @@ add-t c =
     omega (arith, c .loop-test .taken, start .pre .0, start .pre .1 loop-i (c .loop-test .taken), loop-inv .small-sum)
 
 add-i : tie.Need-add-i Inv-loop μ-loop
-add-i c =
-    let start : tie.Start Inv-loop μ-loop = search in
-    omega (arith, c .loop-test .taken, start .pre .0)
+add-i c = omega arith
 
 loop-less : tie.Need-loop-less Inv-loop μ-loop
-loop-less c =
-    omega (arith, c .loop-test .taken)
+loop-less c = omega arith
 
 loop-again : tie.Need-loop-again Inv-loop μ-loop
 loop-again c =

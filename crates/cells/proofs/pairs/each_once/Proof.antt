@@ -16,7 +16,8 @@ use Rattle.cells.proofs.pairs.each_once.Tie as tie
 
 abbrev Inv-loop : tie.InvT-loop
 Inv-loop block n numbers firsts count stamps₀ a₀ stamps a =
-    (a ≤ count) × (length stamps ≡ count) × ((b : ℕ) → getD stamps b 0 ≤ a) × ((k : ℕ) → k < a → distinct (k ∷ ends-of (column block 1) (column block 2) numbers (getD firsts k 0)) ≡ true)
+    (a ≤ count) × (length stamps ≡ count) × ((b : ℕ) → getD stamps b 0 ≤ a)
+    × ((k : ℕ) → k < a → distinct (k ∷ ends-of (column block 1) (column block 2) numbers (getD firsts k 0)) ≡ true)
 
 abbrev μ-loop : tie.MeasureT-loop
 μ-loop block n numbers firsts count stamps₀ a₀ stamps a =
@@ -25,25 +26,30 @@ abbrev μ-loop : tie.MeasureT-loop
 loop-holds : tie.Need-loop-holds Inv-loop μ-loop
 loop-holds c =
     let start : tie.Start Inv-loop μ-loop = search in
-    (omega arith, ap length (start .pre .2) ∙ length-replicate {A = ℕ} (start .args .count) 0, clear-stamps (start .args .count) (start .args .stamps .now) (start .pre .2), λ k h. absurd (omega arith))
+    let count = start .args .count in
+    let stamps = start .args .stamps .now in
+    (omega arith, ap length (start .pre .2) ∙ length-replicate {A = ℕ} count 0, clear-stamps count stamps (start .pre .2), λ k h. absurd (omega arith))
 
 mul-p : tie.Need-mul-p Inv-loop μ-loop
-mul-p c =
-    let start : tie.Start Inv-loop μ-loop = search in
-    omega (arith, c .loop-test .taken, start .pre .1 .count-few)
+mul-p c = omega arith
 
 shared-slice-read-p : tie.Need-shared-slice-read-p Inv-loop μ-loop
-shared-slice-read-p c =
-    let start : tie.Start Inv-loop μ-loop = search in
-    let loop-test-taken = (let p : tie.In-loop Inv-loop μ-loop = search in p .loop-test .taken) in
-    omega (arith, loop-test-taken, start .pre .1 .count-few, start .pre .1 .firsts-size)
+shared-slice-read-p c = omega arith
 
 ends-differ-requires : tie.Need-ends-differ-requires Inv-loop μ-loop
 ends-differ-requires c κs =
     let start : tie.Start Inv-loop μ-loop = search in
     let loop-inv = (let p : tie.At-loop Inv-loop μ-loop = search in p .loop .inv) in
-    let loop-test-taken = (let p : tie.In-loop Inv-loop μ-loop = search in p .loop-test .taken) in
-    ((start .pre .0, start .pre .1 .first-below _ loop-test-taken, omega (arith, loop-test-taken, loop-inv .1), start .pre .1 .numbers-size, omega (arith, loop-inv .1, start .pre .1 .count-few)), (λ q k. rw (loop-inv .1) (start .pre .1 .end-below _ loop-test-taken q k), loop-inv .2))
+    let loop-test-taken = (let p : tie.In-loop Inv-loop μ-loop = search in p .loop-test .taken) in (
+      (
+        start .pre .0,
+        start .pre .1 .first-below _ loop-test-taken,
+        omega (arith, loop-test-taken, loop-inv .1),
+        start .pre .1 .numbers-size,
+        omega (arith, loop-inv .1, start .pre .1 .count-few),
+      ),
+      (λ q k. rw (loop-inv .1) (start .pre .1 .end-below _ loop-test-taken q k), loop-inv .2),
+    )
 
 same-length : tie.Need-same-length Inv-loop μ-loop
 same-length c =
@@ -60,24 +66,27 @@ returns c =
     ends-not _ _ _ _ _ loop-a loop-test-taken (sym (ends-differ-ensures .0) ∙ not-true _ (c .if1 .taken))
 
 add-a : tie.Need-add-a Inv-loop μ-loop
-add-a c =
-    let start : tie.Start Inv-loop μ-loop = search in
-    let loop-test-taken = (let p : tie.In-loop Inv-loop μ-loop = search in p .loop-test .taken) in
-    omega (arith, loop-test-taken, start .pre .1 .count-few)
+add-a c = omega arith
 
 loop-less : tie.Need-loop-less Inv-loop μ-loop
-loop-less c =
-    let loop-test-taken = (let p : tie.In-loop Inv-loop μ-loop = search in p .loop-test .taken) in
-    omega (arith, loop-test-taken)
+loop-less c = omega arith
 
 loop-again : tie.Need-loop-again Inv-loop μ-loop
 loop-again c =
     let start : tie.Start Inv-loop μ-loop = search in
+    let block = start .args .block .now in
+    let numbers = start .args .numbers .now in
+    let firsts = start .args .firsts .now in
     let loop-a = (let p : tie.At-loop Inv-loop μ-loop = search in p .loop .a) in
     let loop-inv = (let p : tie.At-loop Inv-loop μ-loop = search in p .loop .inv) in
     let loop-test-taken = (let p : tie.In-loop Inv-loop μ-loop = search in p .loop-test .taken) in
-    let ends-differ-ensures = (let p : tie.After-ends-differ Inv-loop μ-loop = search in p .ends-differ .ensures) in
-    (omega (arith, loop-test-taken), ends-differ-ensures .1 .1 ∙ loop-inv .1, ends-differ-ensures .1 .0, true-more (λ k. distinct (k ∷ ends-of (column (start .args .block .now) 1) (column (start .args .block .now) 2) (start .args .numbers .now) (getD (start .args .firsts .now) k 0))) loop-a (loop-inv .3) (sym (ends-differ-ensures .0) ∙ not-false _ (c .if1 .left)))
+    let ends-differ-ensures = (let p : tie.After-ends-differ Inv-loop μ-loop = search in p .ends-differ .ensures) in (
+      omega (arith, loop-test-taken),
+      ends-differ-ensures .1 .1 ∙ loop-inv .1,
+      ends-differ-ensures .1 .0,
+      true-more (λ k. distinct (k ∷ ends-of (column block 1) (column block 2) numbers (getD firsts k 0))) loop-a (loop-inv .3)
+          (sym (ends-differ-ensures .0) ∙ not-false _ (c .if1 .left)),
+    )
 
 same-length-2 : tie.Need-same-length-2 Inv-loop μ-loop
 same-length-2 c =

@@ -16,7 +16,8 @@ use Rattle.cells.proofs.pairs.ends_differ.Tie as tie
 
 abbrev Inv-loop : tie.InvT-loop
 Inv-loop block n start a numbers stamps₀ colour steps₀ p₀ stamps steps p =
-    Ending n (column block 1) (λ d. column block 1 (column block 2 d)) numbers (length stamps₀) start a (length (cycle (λ d. column block 1 (column block 2 d)) start)) steps p stamps
+    Ending n (column block 1) (λ d. column block 1 (column block 2 d)) numbers (length stamps₀) start a
+    (length (cycle (λ d. column block 1 (column block 2 d)) start)) steps p stamps
 
 abbrev μ-loop : tie.MeasureT-loop
 μ-loop block n start a numbers stamps₀ colour steps₀ p₀ stamps steps p =
@@ -31,12 +32,17 @@ stamp-requires c κs = search needs
 loop-holds : tie.Need-loop-holds Inv-loop μ-loop
 loop-holds c =
     let start : tie.Start Inv-loop μ-loop = search in
+    let stamps = start .args .stamps .now in
     let stamp-ensures = (let p : tie.After-stamp Inv-loop μ-loop = search in p .stamp .ensures) in
     let l = start .pre .0 .0 in
     record {
-      going = going-start (round (l .few) (step-within _ _ _ (l .few) (l .next-within) (l .next-apart) (l .opposite-within) (l .opposite-apart)) (step-apart _ _ _ (l .few) (l .next-within) (l .next-apart) (l .opposite-within) (l .opposite-apart)) _ (start .pre .0 .1)) (start .pre .0 .1);
+      going =
+          going-start
+          (round (l .few) (step-within _ _ _ (l .few) (l .next-within) (l .next-apart) (l .opposite-within) (l .opposite-apart))
+          (step-apart _ _ _ (l .few) (l .next-within) (l .next-apart) (l .opposite-within) (l .opposite-apart)) _
+          (start .pre .0 .1)) (start .pre .0 .1);
       differ = refl;
-      stamped = stamped-first (start .args .stamps .now) (start .pre .0 .2) (start .pre .1 .1) (stamp-ensures .1);
+      stamped = stamped-first stamps (start .pre .0 .2) (start .pre .1 .1) (stamp-ensures .1);
     }
 
 field-requires : tie.Need-field-requires Inv-loop μ-loop
@@ -61,13 +67,23 @@ stamp-requires-2 : tie.Need-stamp-requires-2 Inv-loop μ-loop
 unfolding ring
 stamp-requires-2 c κs =
     let start : tie.Start Inv-loop μ-loop = search in
+    let stamps = start .args .stamps .now in
+    let numbers = start .args .numbers .now in
     let stamp-ensures = (let p : tie.After-stamp Inv-loop μ-loop = search in p .stamp .ensures) in
     let loop-inv = (let p : tie.At-loop Inv-loop μ-loop = search in p .loop .inv) in
     let field-ensures = (let p : tie.After-field Inv-loop μ-loop = search in p .field .ensures) in
     let l = start .pre .0 .0 in
     let w = step-within _ _ _ (l .few) (l .next-within) (l .next-apart) (l .opposite-within) (l .opposite-apart) in
-    let r = round (l .few) w (step-apart _ _ _ (l .few) (l .next-within) (l .next-apart) (l .opposite-within) (l .opposite-apart)) _ (start .pre .0 .1) in
-    (omega (arith, loop-inv .stamped .size, ap length (stamp-ensures .1) ∙ length-set (start .args .stamps .now) _ _, start .pre .0 .4), omega (arith, loop-inv .stamped .size, ap length (stamp-ensures .1) ∙ length-set (start .args .stamps .now) _ _, ap (λ (z : ℕ). getD (start .args .numbers .now) z 0) field-ensures, start .pre .1 .0 _ (going-in r (loop-inv .going))))
+    let r = round (l .few) w (step-apart _ _ _ (l .few) (l .next-within) (l .next-apart) (l .opposite-within) (l .opposite-apart)) _ (start .pre .0 .1) in (
+      omega (arith, loop-inv .stamped .size, ap length (stamp-ensures .1) ∙ length-set stamps _ _, start .pre .0 .4),
+      omega (
+        arith,
+        loop-inv .stamped .size,
+        ap length (stamp-ensures .1) ∙ length-set stamps _ _,
+        ap (λ (z : ℕ). getD numbers z 0) field-ensures,
+        start .pre .1 .0 _ (going-in r (loop-inv .going)),
+      ),
+    )
 
 same-length : tie.Need-same-length Inv-loop μ-loop
 same-length c =
@@ -81,6 +97,8 @@ returns : tie.Need-returns Inv-loop μ-loop
 unfolding ring
 returns c =
     let start : tie.Start Inv-loop μ-loop = search in
+    let numbers = start .args .numbers .now in
+    let stamps = start .args .stamps .now in
     let stamp-ensures = (let p : tie.After-stamp Inv-loop μ-loop = search in p .stamp .ensures) in
     let stamp-last = (let p : tie.After-stamp Inv-loop μ-loop = search in p .stamp .last) in
     let loop-inv = (let p : tie.At-loop Inv-loop μ-loop = search in p .loop .inv) in
@@ -90,10 +108,14 @@ returns c =
     let l = start .pre .0 .0 in
     let w = step-within _ _ _ (l .few) (l .next-within) (l .next-apart) (l .opposite-within) (l .opposite-apart) in
     let r = round (l .few) w (step-apart _ _ _ (l .few) (l .next-within) (l .next-apart) (l .opposite-within) (l .opposite-apart)) _ (start .pre .0 .1) in
-    let e = ap (λ (z : ℕ). getD (start .args .numbers .now) z 0) field-ensures in
-    let small : getD (start .args .numbers .now) field-result 0 < length (stamp-last .0) = omega (arith, e, ap length (stamp-ensures .1) ∙ length-set (start .args .stamps .now) _ _, start .pre .1 .0 _ (going-in r (loop-inv .going))) in
-    let s = stamped-next (loop-inv .stamped) small (stamp2-ensures .1) in
-    (ending-twice w r loop-inv e small (sym (stamp2-ensures .0) ∙ not-true _ (c .if1 .taken)), (s .bound, s .size ∙ ap length (stamp-ensures .1) ∙ length-set (start .args .stamps .now) _ _))
+    let e = ap (λ (z : ℕ). getD numbers z 0) field-ensures in
+    let small : getD numbers field-result 0 < length (stamp-last .0) =
+    omega (arith, e, ap length (stamp-ensures .1) ∙ length-set stamps _ _, start .pre .1 .0 _ (going-in r (loop-inv .going)))
+    in
+    let s = stamped-next (loop-inv .stamped) small (stamp2-ensures .1) in (
+      ending-twice w r loop-inv e small (sym (stamp2-ensures .0) ∙ not-true _ (c .if1 .taken)),
+      (s .bound, s .size ∙ ap length (stamp-ensures .1) ∙ length-set stamps _ _),
+    )
 
 add-steps : tie.Need-add-steps Inv-loop μ-loop
 add-steps c =
@@ -122,6 +144,8 @@ returns-2 : tie.Need-returns-2 Inv-loop μ-loop
 unfolding ring
 returns-2 c =
     let start : tie.Start Inv-loop μ-loop = search in
+    let numbers = start .args .numbers .now in
+    let stamps = start .args .stamps .now in
     let stamp-ensures = (let p : tie.After-stamp Inv-loop μ-loop = search in p .stamp .ensures) in
     let stamp-last = (let p : tie.After-stamp Inv-loop μ-loop = search in p .stamp .last) in
     let loop-inv = (let p : tie.At-loop Inv-loop μ-loop = search in p .loop .inv) in
@@ -133,20 +157,24 @@ returns-2 c =
     let l = start .pre .0 .0 in
     let w = step-within _ _ _ (l .few) (l .next-within) (l .next-apart) (l .opposite-within) (l .opposite-apart) in
     let r = round (l .few) w (step-apart _ _ _ (l .few) (l .next-within) (l .next-apart) (l .opposite-within) (l .opposite-apart)) _ (start .pre .0 .1) in
-    let e = ap (λ (z : ℕ). getD (start .args .numbers .now) z 0) field-ensures in
-    let small : getD (start .args .numbers .now) field-result 0 < length (stamp-last .0) = omega (arith, e, ap length (stamp-ensures .1) ∙ length-set (start .args .stamps .now) _ _, start .pre .1 .0 _ (going-in r (loop-inv .going))) in
-    let s = stamped-next (loop-inv .stamped) small (stamp2-ensures .1) in
-    (ending-all w r loop-inv e small (sym (stamp2-ensures .0) ∙ not-false _ if1-left) ring-step-ensures (c .if2 .taken), (s .bound, s .size ∙ ap length (stamp-ensures .1) ∙ length-set (start .args .stamps .now) _ _))
+    let e = ap (λ (z : ℕ). getD numbers z 0) field-ensures in
+    let small : getD numbers field-result 0 < length (stamp-last .0) =
+    omega (arith, e, ap length (stamp-ensures .1) ∙ length-set stamps _ _, start .pre .1 .0 _ (going-in r (loop-inv .going)))
+    in
+    let s = stamped-next (loop-inv .stamped) small (stamp2-ensures .1) in (
+      ending-all w r loop-inv e small (sym (stamp2-ensures .0) ∙ not-false _ if1-left) ring-step-ensures (c .if2 .taken),
+      (s .bound, s .size ∙ ap length (stamp-ensures .1) ∙ length-set stamps _ _),
+    )
 
 loop-less : tie.Need-loop-less Inv-loop μ-loop
-loop-less c =
-    let loop-inv = (let p : tie.At-loop Inv-loop μ-loop = search in p .loop .inv) in
-    omega (arith, loop-inv .going .less)
+loop-less c = omega arith
 
 loop-again : tie.Need-loop-again Inv-loop μ-loop
 unfolding ring
 loop-again c =
     let start : tie.Start Inv-loop μ-loop = search in
+    let numbers = start .args .numbers .now in
+    let stamps = start .args .stamps .now in
     let stamp-ensures = (let p : tie.After-stamp Inv-loop μ-loop = search in p .stamp .ensures) in
     let stamp-last = (let p : tie.After-stamp Inv-loop μ-loop = search in p .stamp .last) in
     let loop-inv = (let p : tie.At-loop Inv-loop μ-loop = search in p .loop .inv) in
@@ -158,9 +186,12 @@ loop-again c =
     let l = start .pre .0 .0 in
     let w = step-within _ _ _ (l .few) (l .next-within) (l .next-apart) (l .opposite-within) (l .opposite-apart) in
     let r = round (l .few) w (step-apart _ _ _ (l .few) (l .next-within) (l .next-apart) (l .opposite-within) (l .opposite-apart)) _ (start .pre .0 .1) in
-    let e = ap (λ (z : ℕ). getD (start .args .numbers .now) z 0) field-ensures in
-    let small : getD (start .args .numbers .now) field-result 0 < length (stamp-last .0) = omega (arith, e, ap length (stamp-ensures .1) ∙ length-set (start .args .stamps .now) _ _, start .pre .1 .0 _ (going-in r (loop-inv .going))) in
-    ending-more w r loop-inv e small (sym (stamp2-ensures .0) ∙ not-false _ if1-left) (stamp2-ensures .1) (going-next w r (loop-inv .going) ring-step-ensures (c .if2 .left))
+    let e = ap (λ (z : ℕ). getD numbers z 0) field-ensures in
+    let small : getD numbers field-result 0 < length (stamp-last .0) =
+    omega (arith, e, ap length (stamp-ensures .1) ∙ length-set stamps _ _, start .pre .1 .0 _ (going-in r (loop-inv .going)))
+    in
+    ending-more w r loop-inv e small (sym (stamp2-ensures .0) ∙ not-false _ if1-left) (stamp2-ensures .1)
+    (going-next w r (loop-inv .going) ring-step-ensures (c .if2 .left))
 
 pub ends-differ-spec : {M : Type 1} → statement M
 ends-differ-spec =

@@ -21,19 +21,13 @@ loop-holds c =
     clear-none _
 
 mul-table : tie.Need-mul-table Inv-loop μ-loop
-mul-table c =
-    let start : tie.Start Inv-loop μ-loop = search in
-    let loop-inv = (let p : tie.At-loop Inv-loop μ-loop = search in p .loop .inv) in
-    omega (arith, c .loop-test .taken, loop-inv .len, start .pre)
+mul-table c = omega arith
 
 slice-write-table : tie.Need-slice-write-table Inv-loop μ-loop
 slice-write-table c = search needs
 
 add-i : tie.Need-add-i Inv-loop μ-loop
-add-i c =
-    let start : tie.Start Inv-loop μ-loop = search in
-    let loop-inv = (let p : tie.At-loop Inv-loop μ-loop = search in p .loop .inv) in
-    omega (arith, c .loop-test .taken, loop-inv .len, start .pre)
+add-i c = omega arith
 
 loop-less : tie.Need-loop-less Inv-loop μ-loop
 loop-less c =

@@ -39,16 +39,31 @@ shared-slice-read-i c =
 mul-p : tie.Need-mul-p Inv-loop μ-loop
 mul-p c =
     let start : tie.Start Inv-loop μ-loop = search in
+    let block = start .args .block .now in
+    let marks = start .args .marks .now in
     let loop-f = (let p : tie.At-loop Inv-loop μ-loop = search in p .loop .f) in
     let loop-test-taken = (let p : tie.In-loop Inv-loop μ-loop = search in p .loop-test .taken) in
-    omega (arith, start-place _ (column (start .args .block .now) 1) (start .args .marks .now) (start .pre .0 .few) (start .pre .0 .next-within) (start .pre .0 .next-apart) (start .pre .2) loop-f loop-test-taken .0, in-order-few (start .pre .2) .0)
+    omega (
+      arith,
+      start-place _ (column block 1) marks (start .pre .0 .few) (start .pre .0 .next-within) (start .pre .0 .next-apart)
+          (start .pre .2) loop-f loop-test-taken .0,
+      in-order-few (start .pre .2) .0,
+    )
 
 shared-slice-read-p : tie.Need-shared-slice-read-p Inv-loop μ-loop
 shared-slice-read-p c =
     let start : tie.Start Inv-loop μ-loop = search in
+    let block = start .args .block .now in
+    let marks = start .args .marks .now in
     let loop-f = (let p : tie.At-loop Inv-loop μ-loop = search in p .loop .f) in
     let loop-test-taken = (let p : tie.In-loop Inv-loop μ-loop = search in p .loop-test .taken) in
-    omega (arith, start-place _ (column (start .args .block .now) 1) (start .args .marks .now) (start .pre .0 .few) (start .pre .0 .next-within) (start .pre .0 .next-apart) (start .pre .2) loop-f loop-test-taken .0, in-order-few (start .pre .2) .0, start .pre .2 .out-size)
+    omega (
+      arith,
+      start-place _ (column block 1) marks (start .pre .0 .few) (start .pre .0 .next-within) (start .pre .0 .next-apart)
+          (start .pre .2) loop-f loop-test-taken .0,
+      in-order-few (start .pre .2) .0,
+      start .pre .2 .out-size,
+    )
 
 add-f : tie.Need-add-f Inv-loop μ-loop
 add-f c =
@@ -59,24 +74,39 @@ add-f c =
 sewn-away-requires : tie.Need-sewn-away-requires Inv-loop μ-loop
 sewn-away-requires c κs =
     let start : tie.Start Inv-loop μ-loop = search in
+    let block = start .args .block .now in
+    let marks = start .args .marks .now in
     let loop-f = (let p : tie.At-loop Inv-loop μ-loop = search in p .loop .f) in
-    let loop-test-taken = (let p : tie.In-loop Inv-loop μ-loop = search in p .loop-test .taken) in
-    (start .pre .0, start .pre .1, start-place _ (column (start .args .block .now) 1) (start .args .marks .now) (start .pre .0 .few) (start .pre .0 .next-within) (start .pre .0 .next-apart) (start .pre .2) loop-f loop-test-taken .2)
+    let loop-test-taken = (let p : tie.In-loop Inv-loop μ-loop = search in p .loop-test .taken) in (
+      start .pre .0,
+      start .pre .1,
+      start-place _ (column block 1) marks (start .pre .0 .few) (start .pre .0 .next-within) (start .pre .0 .next-apart)
+          (start .pre .2) loop-f loop-test-taken .2,
+    )
 
 loop-less : tie.Need-loop-less Inv-loop μ-loop
-loop-less c =
-    let loop-test-taken = (let p : tie.In-loop Inv-loop μ-loop = search in p .loop-test .taken) in
-    omega (arith, loop-test-taken)
+loop-less c = omega arith
 
 loop-again : tie.Need-loop-again Inv-loop μ-loop
 loop-again c =
     let start : tie.Start Inv-loop μ-loop = search in
+    let block = start .args .block .now in
+    let marks = start .args .marks .now in
+    let n = start .args .n in
     let loop-f = (let p : tie.At-loop Inv-loop μ-loop = search in p .loop .f) in
     let loop-inv = (let p : tie.At-loop Inv-loop μ-loop = search in p .loop .inv) in
     let loop-test-taken = (let p : tie.In-loop Inv-loop μ-loop = search in p .loop-test .taken) in
     let sewn-away-ensures = (let p : tie.After-sewn-away Inv-loop μ-loop = search in p .sewn-away .ensures) in
-    let at = start-place _ (column (start .args .block .now) 1) (start .args .marks .now) (start .pre .0 .few) (start .pre .0 .next-within) (start .pre .0 .next-apart) (start .pre .2) loop-f loop-test-taken .1 in
-    (omega (arith, loop-test-taken), omega (arith, loop-inv .1), count-skip (λ l. sewn-out (start .args .block .now) (start .args .marks .now) (start-of l)) (faces (column (start .args .block .now) 1) (marked (start .args .n) (start .args .marks .now))) loop-f _ (loop-inv .2) (omega (arith, loop-test-taken, start .pre .2 .count-is)) (sym (sewn-away-ensures ∙ ap (sewn-out (start .args .block .now) (start .args .marks .now)) at) ∙ not-true _ (c .if1 .taken)))
+    let at =
+    start-place _ (column block 1) marks (start .pre .0 .few) (start .pre .0 .next-within) (start .pre .0 .next-apart)
+    (start .pre .2) loop-f loop-test-taken .1
+    in (
+      omega (arith, loop-test-taken),
+      omega (arith, loop-inv .1),
+      count-skip (λ l. sewn-out block marks (start-of l)) (faces (column block 1) (marked n marks)) loop-f _ (loop-inv .2)
+          (omega (arith, loop-test-taken, start .pre .2 .count-is))
+          (sym (sewn-away-ensures ∙ ap (sewn-out block marks) at) ∙ not-true _ (c .if1 .taken)),
+    )
 
 add-sewn : tie.Need-add-sewn Inv-loop μ-loop
 add-sewn c =
@@ -86,26 +116,39 @@ add-sewn c =
     omega (arith, loop-inv .1, loop-test-taken, in-order-few (start .pre .2) .1)
 
 loop-less-2 : tie.Need-loop-less-2 Inv-loop μ-loop
-loop-less-2 c =
-    let loop-test-taken = (let p : tie.In-loop Inv-loop μ-loop = search in p .loop-test .taken) in
-    omega (arith, loop-test-taken)
+loop-less-2 c = omega arith
 
 loop-again-2 : tie.Need-loop-again-2 Inv-loop μ-loop
 loop-again-2 c =
     let start : tie.Start Inv-loop μ-loop = search in
+    let block = start .args .block .now in
+    let marks = start .args .marks .now in
+    let n = start .args .n in
     let loop-f = (let p : tie.At-loop Inv-loop μ-loop = search in p .loop .f) in
     let loop-inv = (let p : tie.At-loop Inv-loop μ-loop = search in p .loop .inv) in
     let loop-test-taken = (let p : tie.In-loop Inv-loop μ-loop = search in p .loop-test .taken) in
     let sewn-away-ensures = (let p : tie.After-sewn-away Inv-loop μ-loop = search in p .sewn-away .ensures) in
-    let at = start-place _ (column (start .args .block .now) 1) (start .args .marks .now) (start .pre .0 .few) (start .pre .0 .next-within) (start .pre .0 .next-apart) (start .pre .2) loop-f loop-test-taken .1 in
-    (omega (arith, loop-test-taken), omega (arith, loop-inv .1), count-one (λ l. sewn-out (start .args .block .now) (start .args .marks .now) (start-of l)) (faces (column (start .args .block .now) 1) (marked (start .args .n) (start .args .marks .now))) loop-f _ (loop-inv .2) (omega (arith, loop-test-taken, start .pre .2 .count-is)) (sym (sewn-away-ensures ∙ ap (sewn-out (start .args .block .now) (start .args .marks .now)) at) ∙ not-false _ (c .if1 .left)))
+    let at =
+    start-place _ (column block 1) marks (start .pre .0 .few) (start .pre .0 .next-within) (start .pre .0 .next-apart)
+    (start .pre .2) loop-f loop-test-taken .1
+    in (
+      omega (arith, loop-test-taken),
+      omega (arith, loop-inv .1),
+      count-one (λ l. sewn-out block marks (start-of l)) (faces (column block 1) (marked n marks)) loop-f _ (loop-inv .2)
+          (omega (arith, loop-test-taken, start .pre .2 .count-is))
+          (sym (sewn-away-ensures ∙ ap (sewn-out block marks) at) ∙ not-false _ (c .if1 .left)),
+    )
 
 returns : tie.Need-returns Inv-loop μ-loop
 returns c =
     let start : tie.Start Inv-loop μ-loop = search in
+    let block = start .args .block .now in
+    let marks = start .args .marks .now in
+    let n = start .args .n in
     let loop-f = (let p : tie.At-loop Inv-loop μ-loop = search in p .loop .f) in
     let loop-inv = (let p : tie.At-loop Inv-loop μ-loop = search in p .loop .inv) in
-    count-all (λ l. sewn-out (start .args .block .now) (start .args .marks .now) (start-of l)) (faces (column (start .args .block .now) 1) (marked (start .args .n) (start .args .marks .now))) loop-f _ (loop-inv .2) (omega (arith, c .loop-test .left, start .pre .2 .count-is))
+    count-all (λ l. sewn-out block marks (start-of l)) (faces (column block 1) (marked n marks)) loop-f _ (loop-inv .2)
+    (omega (arith, c .loop-test .left, start .pre .2 .count-is))
 
 pub count-sewn-spec : {M : Type 1} → statement M
 count-sewn-spec =

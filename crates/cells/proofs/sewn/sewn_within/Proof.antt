@@ -23,15 +23,10 @@ loop-holds c =
     (omega arith, λ k h. absurd (omega arith))
 
 mul-p : tie.Need-mul-p Inv-loop μ-loop
-mul-p c =
-    let start : tie.Start Inv-loop μ-loop = search in
-    omega (arith, c .loop-test .taken, start .pre .1 .0)
+mul-p c = omega arith
 
 shared-slice-read-p : tie.Need-shared-slice-read-p Inv-loop μ-loop
-shared-slice-read-p c =
-    let start : tie.Start Inv-loop μ-loop = search in
-    let loop-test-taken = (let p : tie.In-loop Inv-loop μ-loop = search in p .loop-test .taken) in
-    omega (arith, loop-test-taken, start .pre .1 .1)
+shared-slice-read-p c = omega arith
 
 sewn-at-requires : tie.Need-sewn-at-requires Inv-loop μ-loop
 sewn-at-requires c κs =
@@ -42,35 +37,41 @@ sewn-at-requires c κs =
 returns : tie.Need-returns Inv-loop μ-loop
 returns c =
     let start : tie.Start Inv-loop μ-loop = search in
+    let block = start .args .block .now in
+    let marks = start .args .marks .now in
+    let order = start .args .order .now in
+    let darts = start .args .darts in
     let loop-i = (let p : tie.At-loop Inv-loop μ-loop = search in p .loop .i) in
     let loop-test-taken = (let p : tie.In-loop Inv-loop μ-loop = search in p .loop-test .taken) in
     let sewn-at-ensures = (let p : tie.After-sewn-at Inv-loop μ-loop = search in p .sewn-at .ensures) in
-    some-first (sewn-in (start .args .block .now) (start .args .marks .now)) (start .args .order .now) (start .args .darts) loop-i loop-test-taken (start .pre .1 .1) (sym sewn-at-ensures ∙ c .if1 .taken)
+    some-first (sewn-in block marks) order darts loop-i loop-test-taken (start .pre .1 .1) (sym sewn-at-ensures ∙ c .if1 .taken)
 
 add-i : tie.Need-add-i Inv-loop μ-loop
-add-i c =
-    let start : tie.Start Inv-loop μ-loop = search in
-    let loop-test-taken = (let p : tie.In-loop Inv-loop μ-loop = search in p .loop-test .taken) in
-    omega (arith, loop-test-taken, start .pre .1 .0)
+add-i c = omega arith
 
 loop-less : tie.Need-loop-less Inv-loop μ-loop
-loop-less c =
-    let loop-test-taken = (let p : tie.In-loop Inv-loop μ-loop = search in p .loop-test .taken) in
-    omega (arith, loop-test-taken)
+loop-less c = omega arith
 
 loop-again : tie.Need-loop-again Inv-loop μ-loop
 loop-again c =
     let start : tie.Start Inv-loop μ-loop = search in
+    let block = start .args .block .now in
+    let marks = start .args .marks .now in
+    let order = start .args .order .now in
     let loop-inv = (let p : tie.At-loop Inv-loop μ-loop = search in p .loop .inv) in
     let loop-test-taken = (let p : tie.In-loop Inv-loop μ-loop = search in p .loop-test .taken) in
     let sewn-at-ensures = (let p : tie.After-sewn-at Inv-loop μ-loop = search in p .sewn-at .ensures) in
-    (omega (arith, loop-test-taken), none-more (λ k. sewn-in (start .args .block .now) (start .args .marks .now) (getD (start .args .order .now) k 0)) _ (loop-inv .1) (sym sewn-at-ensures ∙ c .if1 .left))
+    (omega (arith, loop-test-taken), none-more (λ k. sewn-in block marks (getD order k 0)) _ (loop-inv .1) (sym sewn-at-ensures ∙ c .if1 .left))
 
 returns-2 : tie.Need-returns-2 Inv-loop μ-loop
 returns-2 c =
     let start : tie.Start Inv-loop μ-loop = search in
+    let block = start .args .block .now in
+    let marks = start .args .marks .now in
+    let order = start .args .order .now in
+    let darts = start .args .darts in
     let loop-inv = (let p : tie.At-loop Inv-loop μ-loop = search in p .loop .inv) in
-    none-first (sewn-in (start .args .block .now) (start .args .marks .now)) (start .args .order .now) (start .args .darts) (λ k h. loop-inv .1 k (omega (arith, c .loop-test .left))) (start .pre .1 .1)
+    none-first (sewn-in block marks) order darts (λ k h. loop-inv .1 k (omega (arith, c .loop-test .left))) (start .pre .1 .1)
 
 pub sewn-within-spec : {M : Type 1} → statement M
 sewn-within-spec =

@@ -22,21 +22,13 @@ loop-holds c =
     passing-start _ (column (start .args .block .now) 1) (column (start .args .block .now) 2) _ _ _ _ (start .pre .1 .0) (start .pre .1 .1) (start .pre .1 .2)
 
 mul-p : tie.Need-mul-p Inv-loop μ-loop
-mul-p c =
-    let start : tie.Start Inv-loop μ-loop = search in
-    omega (arith, c .loop-test .taken, start .pre .0 .1)
+mul-p c = omega arith
 
 shared-slice-read-p : tie.Need-shared-slice-read-p Inv-loop μ-loop
-shared-slice-read-p c =
-    let start : tie.Start Inv-loop μ-loop = search in
-    let loop-test-taken = (let p : tie.In-loop Inv-loop μ-loop = search in p .loop-test .taken) in
-    omega (arith, loop-test-taken, start .pre .0 .2)
+shared-slice-read-p c = omega arith
 
 add-i : tie.Need-add-i Inv-loop μ-loop
-add-i c =
-    let start : tie.Start Inv-loop μ-loop = search in
-    let loop-test-taken = (let p : tie.In-loop Inv-loop μ-loop = search in p .loop-test .taken) in
-    omega (arith, loop-test-taken, start .pre .0 .1)
+add-i c = omega arith
 
 mul-if1 : tie.Need-mul-if1 Inv-loop μ-loop
 mul-if1 c =
@@ -52,9 +44,7 @@ slice-read-if1 c =
     omega (arith, start .pre .0 .3 _ loop-test-taken, start .pre .0 .0 .few, loop-inv .passed .numbers-size)
 
 loop-less : tie.Need-loop-less Inv-loop μ-loop
-loop-less c =
-    let loop-test-taken = (let p : tie.In-loop Inv-loop μ-loop = search in p .loop-test .taken) in
-    omega (arith, loop-test-taken)
+loop-less c = omega arith
 
 loop-again : tie.Need-loop-again Inv-loop μ-loop
 loop-again c =
@@ -71,30 +61,16 @@ paint-ring-requires c κs =
     (start .pre .0 .0, start .pre .0 .3 _ loop-test-taken, loop-inv .passed .numbers-size)
 
 mul-firsts : tie.Need-mul-firsts Inv-loop μ-loop
-mul-firsts c =
-    let start : tie.Start Inv-loop μ-loop = search in
-    let loop-inv = (let p : tie.At-loop Inv-loop μ-loop = search in p .loop .inv) in
-    let loop-test-taken = (let p : tie.In-loop Inv-loop μ-loop = search in p .loop-test .taken) in
-    omega (arith, loop-test-taken, loop-inv .few, start .pre .0 .1)
+mul-firsts c = omega arith
 
 slice-write-firsts : tie.Need-slice-write-firsts Inv-loop μ-loop
-slice-write-firsts c =
-    let start : tie.Start Inv-loop μ-loop = search in
-    let loop-inv = (let p : tie.At-loop Inv-loop μ-loop = search in p .loop .inv) in
-    let loop-test-taken = (let p : tie.In-loop Inv-loop μ-loop = search in p .loop-test .taken) in
-    omega (arith, loop-test-taken, loop-inv .few, loop-inv .passed .first-size, start .pre .0 .1)
+slice-write-firsts c = omega arith
 
 add-count : tie.Need-add-count Inv-loop μ-loop
-add-count c =
-    let start : tie.Start Inv-loop μ-loop = search in
-    let loop-inv = (let p : tie.At-loop Inv-loop μ-loop = search in p .loop .inv) in
-    let loop-test-taken = (let p : tie.In-loop Inv-loop μ-loop = search in p .loop-test .taken) in
-    omega (arith, loop-test-taken, loop-inv .few, start .pre .0 .1)
+add-count c = omega arith
 
 loop-less-2 : tie.Need-loop-less-2 Inv-loop μ-loop
-loop-less-2 c =
-    let loop-test-taken = (let p : tie.In-loop Inv-loop μ-loop = search in p .loop-test .taken) in
-    omega (arith, loop-test-taken)
+loop-less-2 c = omega arith
 
 loop-again-2 : tie.Need-loop-again-2 Inv-loop μ-loop
 loop-again-2 c =
@@ -104,7 +80,8 @@ loop-again-2 c =
     let if1-left = (let p : tie.Else1 Inv-loop μ-loop = search in p .if1 .left) in
     let paint-ring-ensures = (let p : tie.After-paint-ring Inv-loop μ-loop = search in p .paint-ring .ensures) in
     let l = start .pre .0 .0 in
-    passing-new loop-inv loop-test-taken (start .pre .0 .1) (start .pre .0 .2) (start .pre .0 .3) refl if1-left (ring-test _ _ _ (l .few) (l .next-within) (l .next-apart) (l .opposite-within) (l .opposite-apart)) paint-ring-ensures
+    passing-new loop-inv loop-test-taken (start .pre .0 .1) (start .pre .0 .2) (start .pre .0 .3) refl if1-left
+    (ring-test _ _ _ (l .few) (l .next-within) (l .next-apart) (l .opposite-within) (l .opposite-apart)) paint-ring-ensures
 
 same-length : tie.Need-same-length Inv-loop μ-loop
 same-length c =

@@ -14,7 +14,8 @@ use Rattle.cells.proofs.vertex.paint_ring.Tie as tie
 
 abbrev Inv-loop : tie.InvT-loop
 Inv-loop block n start number numbers₀ steps₀ p₀ numbers steps p =
-    Going n (λ d. column block 1 (column block 2 d)) start (length (cycle (λ d. column block 1 (column block 2 d)) start)) steps p × Painted number (path (λ d. column block 1 (column block 2 d)) steps start) numbers₀ numbers
+    Going n (λ d. column block 1 (column block 2 d)) start (length (cycle (λ d. column block 1 (column block 2 d)) start)) steps p
+    × Painted number (path (λ d. column block 1 (column block 2 d)) steps start) numbers₀ numbers
 
 abbrev μ-loop : tie.MeasureT-loop
 μ-loop block n start number numbers₀ steps₀ p₀ numbers steps p =
@@ -23,18 +24,19 @@ abbrev μ-loop : tie.MeasureT-loop
 loop-holds : tie.Need-loop-holds Inv-loop μ-loop
 loop-holds c =
     let start : tie.Start Inv-loop μ-loop = search in
-    let l = start .pre .0 in
-    (going-start (round (l .few) (step-within _ _ _ (l .few) (l .next-within) (l .next-apart) (l .opposite-within) (l .opposite-apart)) (step-apart _ _ _ (l .few) (l .next-within) (l .next-apart) (l .opposite-within) (l .opposite-apart)) _ (start .pre .1)) (start .pre .1), paint-none _ _)
+    let l = start .pre .0 in (
+      going-start
+          (round (l .few) (step-within _ _ _ (l .few) (l .next-within) (l .next-apart) (l .opposite-within) (l .opposite-apart))
+          (step-apart _ _ _ (l .few) (l .next-within) (l .next-apart) (l .opposite-within) (l .opposite-apart)) _ (start .pre .1))
+          (start .pre .1),
+      paint-none _ _,
+    )
 
 mul-numbers : tie.Need-mul-numbers Inv-loop μ-loop
-mul-numbers c =
-    let start : tie.Start Inv-loop μ-loop = search in
-    omega (arith, c .loop .inv .0 .below, start .pre .0 .few)
+mul-numbers c = omega arith
 
 slice-write-numbers : tie.Need-slice-write-numbers Inv-loop μ-loop
-slice-write-numbers c =
-    let start : tie.Start Inv-loop μ-loop = search in
-    omega (arith, c .loop .inv .0 .below, start .pre .0 .few, c .loop .inv .1 .size, start .pre .2)
+slice-write-numbers c = omega arith
 
 add-steps : tie.Need-add-steps Inv-loop μ-loop
 add-steps c =
@@ -62,12 +64,13 @@ returns c =
     let ring-step-ensures = (let p : tie.After-ring-step Inv-loop μ-loop = search in p .ring-step .ensures) in
     let l = start .pre .0 in
     let w = step-within _ _ _ (l .few) (l .next-within) (l .next-apart) (l .opposite-within) (l .opposite-apart) in
-    paint-last w (round (l .few) w (step-apart _ _ _ (l .few) (l .next-within) (l .next-apart) (l .opposite-within) (l .opposite-apart)) _ (start .pre .1)) (loop-inv .0) (loop-inv .1) (omega (arith, loop-inv .0 .below, l .few, start .pre .2)) ring-step-ensures (c .if1 .taken)
+    paint-last w
+    (round (l .few) w (step-apart _ _ _ (l .few) (l .next-within) (l .next-apart) (l .opposite-within) (l .opposite-apart)) _
+    (start .pre .1)) (loop-inv .0) (loop-inv .1) (omega (arith, loop-inv .0 .below, l .few, start .pre .2)) ring-step-ensures
+    (c .if1 .taken)
 
 loop-less : tie.Need-loop-less Inv-loop μ-loop
-loop-less c =
-    let loop-inv = (let p : tie.At-loop Inv-loop μ-loop = search in p .loop .inv) in
-    omega (arith, loop-inv .0 .less)
+loop-less c = omega arith
 
 loop-again : tie.Need-loop-again Inv-loop μ-loop
 loop-again c =
@@ -76,8 +79,10 @@ loop-again c =
     let ring-step-ensures = (let p : tie.After-ring-step Inv-loop μ-loop = search in p .ring-step .ensures) in
     let l = start .pre .0 in
     let w = step-within _ _ _ (l .few) (l .next-within) (l .next-apart) (l .opposite-within) (l .opposite-apart) in
-    let r = round (l .few) w (step-apart _ _ _ (l .few) (l .next-within) (l .next-apart) (l .opposite-within) (l .opposite-apart)) _ (start .pre .1) in
-    (going-next w r (loop-inv .0) ring-step-ensures (c .if1 .left), paint-next w r (loop-inv .0) (loop-inv .1) (omega (arith, loop-inv .0 .below, l .few, start .pre .2)))
+    let r = round (l .few) w (step-apart _ _ _ (l .few) (l .next-within) (l .next-apart) (l .opposite-within) (l .opposite-apart)) _ (start .pre .1) in (
+      going-next w r (loop-inv .0) ring-step-ensures (c .if1 .left),
+      paint-next w r (loop-inv .0) (loop-inv .1) (omega (arith, loop-inv .0 .below, l .few, start .pre .2)),
+    )
 
 pub paint-ring-spec : {M : Type 1} → statement M
 paint-ring-spec =

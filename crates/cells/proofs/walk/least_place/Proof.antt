@@ -34,30 +34,28 @@ add-i : tie.Need-add-i Inv-loop μ-loop
 add-i c = search needs
 
 loop-less : tie.Need-loop-less Inv-loop μ-loop
-loop-less c =
-    let loop-test-taken = (let p : tie.In-loop Inv-loop μ-loop = search in p .loop-test .taken) in
-    omega (arith, loop-test-taken)
+loop-less c = omega arith
 
 loop-again : tie.Need-loop-again Inv-loop μ-loop
 loop-again c =
     let start : tie.Start Inv-loop μ-loop = search in
+    let order = start .args .order .now in
     let loop-i = (let p : tie.At-loop Inv-loop μ-loop = search in p .loop .i) in
     let loop-inv = (let p : tie.At-loop Inv-loop μ-loop = search in p .loop .inv) in
     let loop-test-taken = (let p : tie.In-loop Inv-loop μ-loop = search in p .loop-test .taken) in
-    (omega (arith, loop-test-taken), lower-next (start .args .order .now) loop-i (loop-inv .1) (omega (arith, loop-test-taken, start .pre .2)) refl (c .if1 .taken))
+    (omega (arith, loop-test-taken), lower-next order loop-i (loop-inv .1) (omega (arith, loop-test-taken, start .pre .2)) refl (c .if1 .taken))
 
 loop-less-2 : tie.Need-loop-less-2 Inv-loop μ-loop
-loop-less-2 c =
-    let loop-test-taken = (let p : tie.In-loop Inv-loop μ-loop = search in p .loop-test .taken) in
-    omega (arith, loop-test-taken)
+loop-less-2 c = omega arith
 
 loop-again-2 : tie.Need-loop-again-2 Inv-loop μ-loop
 loop-again-2 c =
     let start : tie.Start Inv-loop μ-loop = search in
+    let order = start .args .order .now in
     let loop-i = (let p : tie.At-loop Inv-loop μ-loop = search in p .loop .i) in
     let loop-inv = (let p : tie.At-loop Inv-loop μ-loop = search in p .loop .inv) in
     let loop-test-taken = (let p : tie.In-loop Inv-loop μ-loop = search in p .loop-test .taken) in
-    (omega (arith, loop-test-taken), higher-next (start .args .order .now) loop-i (loop-inv .1) (omega (arith, loop-test-taken, start .pre .2)) refl (omega (arith, c .if1 .left)))
+    (omega (arith, loop-test-taken), higher-next order loop-i (loop-inv .1) (omega (arith, loop-test-taken, start .pre .2)) refl (omega (arith, c .if1 .left)))
 
 returns : tie.Need-returns Inv-loop μ-loop
 returns c =

@@ -78,9 +78,17 @@ visit-requires-3 c κs =
     let loop-inv = (let p : tie.At-loop Inv-loop μ-loop = search in p .loop .inv) in
     let c : tie.At-loop Inv-loop μ-loop = search in
     let start : tie.Start Inv-loop μ-loop = search in
-    let q = walk-mid _ _ _ _ _ (volume-linked (start .pre .0) (start .pre .1)) (start .pre .0 .few) loop-inv (start .pre .0 .next-within) loop-test-taken field-ensures visit2-ensures in
-    let x = start .pre .0 .opposite-within _ (loop-inv .queue .queued _ loop-test-taken .0) in
-    (q .len-m, q .len-o, omega (arith, x, field2-ensures, start .pre .0 .few), queue-le q, queue-room q _ (omega (arith, x, field2-ensures, start .pre .0 .few)))
+    let q =
+    walk-mid _ _ _ _ _ (volume-linked (start .pre .0) (start .pre .1)) (start .pre .0 .few) loop-inv
+    (start .pre .0 .next-within) loop-test-taken field-ensures visit2-ensures
+    in
+    let x = start .pre .0 .opposite-within _ (loop-inv .queue .queued _ loop-test-taken .0) in (
+      q .len-m,
+      q .len-o,
+      omega (arith, x, field2-ensures, start .pre .0 .few),
+      queue-le q,
+      queue-room q _ (omega (arith, x, field2-ensures, start .pre .0 .few)),
+    )
 
 loop-less : tie.Need-loop-less Inv-loop μ-loop
 loop-less c =
@@ -98,7 +106,8 @@ loop-again c =
     let loop-inv = (let p : tie.At-loop Inv-loop μ-loop = search in p .loop .inv) in
     let c : tie.At-loop Inv-loop μ-loop = search in
     let start : tie.Start Inv-loop μ-loop = search in
-    walk-step _ _ _ _ _ (volume-linked (start .pre .0) (start .pre .1)) (start .pre .0 .few) loop-inv (start .pre .0 .next-within) (start .pre .0 .opposite-within) loop-test-taken field-ensures visit2-ensures field2-ensures visit3-ensures
+    walk-step _ _ _ _ _ (volume-linked (start .pre .0) (start .pre .1)) (start .pre .0 .few) loop-inv (start .pre .0 .next-within)
+    (start .pre .0 .opposite-within) loop-test-taken field-ensures visit2-ensures field2-ensures visit3-ensures
 
 same-length : tie.Need-same-length Inv-loop μ-loop
 same-length c =
@@ -115,8 +124,13 @@ same-length-2 c =
 returns : tie.Need-returns Inv-loop μ-loop
 returns c =
     let start : tie.Start Inv-loop μ-loop = search in
-    let loop-inv = (let p : tie.At-loop Inv-loop μ-loop = search in p .loop .inv) in
-    (walk-end _ _ _ _ _ (volume-linked (start .pre .0) (start .pre .1)) (start .pre .0 .few) loop-inv (c .loop-test .left), (walk-count _ _ _ _ _ (volume-linked (start .pre .0) (start .pre .1)) (start .pre .0 .few) loop-inv (c .loop-test .left), walk-listed _ _ _ _ _ (volume-linked (start .pre .0) (start .pre .1)) (start .pre .0 .few) loop-inv (c .loop-test .left)))
+    let loop-inv = (let p : tie.At-loop Inv-loop μ-loop = search in p .loop .inv) in (
+      walk-end _ _ _ _ _ (volume-linked (start .pre .0) (start .pre .1)) (start .pre .0 .few) loop-inv (c .loop-test .left),
+      (
+        walk-count _ _ _ _ _ (volume-linked (start .pre .0) (start .pre .1)) (start .pre .0 .few) loop-inv (c .loop-test .left),
+        walk-listed _ _ _ _ _ (volume-linked (start .pre .0) (start .pre .1)) (start .pre .0 .few) loop-inv (c .loop-test .left),
+      ),
+    )
 
 pub volume-spec : {M : Type 1} → statement M
 volume-spec =

@@ -84,7 +84,13 @@ returns-5 c =
     let same4-ensures = (let p : tie.After-same4 = search in p .same4 .ensures) in
     let if4-left = (let p : tie.Else4 = search in p .if4 .left) in
     let same5-ensures = (let p : tie.After-same5 = search in p .same5 .ensures) in
-    rw (sym same-ensures ∙ if1-left, sym same2-ensures ∙ if2-left, sym same3-ensures ∙ if3-left, sym same4-ensures ∙ if4-left, sym same5-ensures ∙ c .if5 .taken)
+    rw (
+      sym same-ensures ∙ if1-left,
+      sym same2-ensures ∙ if2-left,
+      sym same3-ensures ∙ if3-left,
+      sym same4-ensures ∙ if4-left,
+      sym same5-ensures ∙ c .if5 .taken,
+    )
 
 slice-aggregate-same-6 : tie.Need-slice-aggregate-same-6
 slice-aggregate-same-6 c = search needs
@@ -106,7 +112,14 @@ returns-6 c =
     let same5-ensures = (let p : tie.After-same5 = search in p .same5 .ensures) in
     let if5-left = (let p : tie.Else5 = search in p .if5 .left) in
     let same6-ensures = (let p : tie.After-same6 = search in p .same6 .ensures) in
-    rw (sym same-ensures ∙ if1-left, sym same2-ensures ∙ if2-left, sym same3-ensures ∙ if3-left, sym same4-ensures ∙ if4-left, sym same5-ensures ∙ if5-left, sym same6-ensures ∙ c .if6 .taken)
+    rw (
+      sym same-ensures ∙ if1-left,
+      sym same2-ensures ∙ if2-left,
+      sym same3-ensures ∙ if3-left,
+      sym same4-ensures ∙ if4-left,
+      sym same5-ensures ∙ if5-left,
+      sym same6-ensures ∙ c .if6 .taken,
+    )
 
 returns-7 : tie.Need-returns-7
 unfolding command-in bytes
@@ -122,7 +135,14 @@ returns-7 c =
     let same5-ensures = (let p : tie.After-same5 = search in p .same5 .ensures) in
     let if5-left = (let p : tie.Else5 = search in p .if5 .left) in
     let same6-ensures = (let p : tie.After-same6 = search in p .same6 .ensures) in
-    rw (sym same-ensures ∙ if1-left, sym same2-ensures ∙ if2-left, sym same3-ensures ∙ if3-left, sym same4-ensures ∙ if4-left, sym same5-ensures ∙ if5-left, sym same6-ensures ∙ c .if6 .left)
+    rw (
+      sym same-ensures ∙ if1-left,
+      sym same2-ensures ∙ if2-left,
+      sym same3-ensures ∙ if3-left,
+      sym same4-ensures ∙ if4-left,
+      sym same5-ensures ∙ if5-left,
+      sym same6-ensures ∙ c .if6 .left,
+    )
 
 pub command-of-spec : {M : Type 1} → statement M
 command-of-spec =

@@ -60,23 +60,27 @@ enum-told c = search needs
 returns-2 : tie.Need-returns-2
 returns-2 c =
     let start : tie.Start = search in
+    let line = start .args .line .now in
+    let at = start .args .at in
     let leading-ensures = (let p : tie.After-leading = search in p .leading .ensures) in
     let leading-result = (let p : tie.After-leading = search in p .leading .result) in
     let leading2-ensures = (let p : tie.After-leading2 = search in p .leading2 .ensures) in
     let leading2-result = (let p : tie.After-leading2 = search in p .leading2 .result) in
     let number-in-ensures = (let p : tie.After-number-in = search in p .number-in .ensures) in
     let n-given = (let p : tie.After-n = search in p .n .given) in
-    field-word (start .args .line .now) (start .args .at) leading-result leading2-result _ (leading-ensures .0) (leading2-ensures .0) (sym (n-given .1) ∙ number-in-ensures)
+    field-word line at leading-result leading2-result _ (leading-ensures .0) (leading2-ensures .0) (sym (n-given .1) ∙ number-in-ensures)
 
 returns-3 : tie.Need-returns-3
 returns-3 c =
     let start : tie.Start = search in
+    let line = start .args .line .now in
+    let at = start .args .at in
     let leading-ensures = (let p : tie.After-leading = search in p .leading .ensures) in
     let leading-result = (let p : tie.After-leading = search in p .leading .result) in
     let leading2-ensures = (let p : tie.After-leading2 = search in p .leading2 .ensures) in
     let leading2-result = (let p : tie.After-leading2 = search in p .leading2 .result) in
     let number-in-ensures = (let p : tie.After-number-in = search in p .number-in .ensures) in
-    field-word (start .args .line .now) (start .args .at) leading-result leading2-result _ (leading-ensures .0) (leading2-ensures .0) (sym (c .enum-told .given .1) ∙ number-in-ensures)
+    field-word line at leading-result leading2-result _ (leading-ensures .0) (leading2-ensures .0) (sym (c .enum-told .given .1) ∙ number-in-ensures)
 
 pub field-at-spec : {M : Type 1} → statement M
 field-at-spec =

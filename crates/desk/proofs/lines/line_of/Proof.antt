@@ -66,7 +66,8 @@ returns-4 c =
     let field-at2-ensures = (let p : tie.After-field-at2 = search in p .field-at2 .ensures) in
     let to-given = (let p : tie.After-to = search in p .to .given) in
     let field-at3-ensures = (let p : tie.After-field-at3 = search in p .field-at3 .ensures) in
-    line-third _ _ _ _ _ (sym is-rest-blank-ensures ∙ if1-left) (sym (from-given .1) ∙ field-at-ensures) (sym (to-given .1) ∙ field-at2-ensures) (sym (c .enum-told3 .given .1) ∙ field-at3-ensures)
+    line-third _ _ _ _ _ (sym is-rest-blank-ensures ∙ if1-left) (sym (from-given .1) ∙ field-at-ensures)
+    (sym (to-given .1) ∙ field-at2-ensures) (sym (c .enum-told3 .given .1) ∙ field-at3-ensures)
 
 is-rest-blank-requires-2 : tie.Need-is-rest-blank-requires-2
 is-rest-blank-requires-2 c κs = search needs
@@ -82,7 +83,9 @@ returns-5 c =
     let field-at3-ensures = (let p : tie.After-field-at3 = search in p .field-at3 .ensures) in
     let serial-given = (let p : tie.After-serial = search in p .serial .given) in
     let is-rest-blank2-ensures = (let p : tie.After-is-rest-blank2 = search in p .is-rest-blank2 .ensures) in
-    line-more _ _ _ _ _ _ _ (sym is-rest-blank-ensures ∙ if1-left) (sym (from-given .1) ∙ field-at-ensures) (sym (to-given .1) ∙ field-at2-ensures) (sym (serial-given .1) ∙ field-at3-ensures) (sym is-rest-blank2-ensures ∙ not-true _ (c .if2 .taken))
+    line-more _ _ _ _ _ _ _ (sym is-rest-blank-ensures ∙ if1-left) (sym (from-given .1) ∙ field-at-ensures)
+    (sym (to-given .1) ∙ field-at2-ensures) (sym (serial-given .1) ∙ field-at3-ensures)
+    (sym is-rest-blank2-ensures ∙ not-true _ (c .if2 .taken))
 
 returns-6 : tie.Need-returns-6
 returns-6 c =
@@ -95,7 +98,9 @@ returns-6 c =
     let field-at3-ensures = (let p : tie.After-field-at3 = search in p .field-at3 .ensures) in
     let serial-given = (let p : tie.After-serial = search in p .serial .given) in
     let is-rest-blank2-ensures = (let p : tie.After-is-rest-blank2 = search in p .is-rest-blank2 .ensures) in
-    line-request _ _ _ _ _ _ _ (sym is-rest-blank-ensures ∙ if1-left) (sym (from-given .1) ∙ field-at-ensures) (sym (to-given .1) ∙ field-at2-ensures) (sym (serial-given .1) ∙ field-at3-ensures) (sym is-rest-blank2-ensures ∙ not-false _ (c .if2 .left))
+    line-request _ _ _ _ _ _ _ (sym is-rest-blank-ensures ∙ if1-left) (sym (from-given .1) ∙ field-at-ensures)
+    (sym (to-given .1) ∙ field-at2-ensures) (sym (serial-given .1) ∙ field-at3-ensures)
+    (sym is-rest-blank2-ensures ∙ not-false _ (c .if2 .left))
 
 pub line-of-spec : {M : Type 1} → statement M
 line-of-spec =

@@ -32,10 +32,12 @@ belongs-requires c κs = search needs
 returns : tie.Need-returns Inv-loop μ-loop
 returns c =
     let start : tie.Start Inv-loop μ-loop = search in
+    let kind = start .args .kind in
+    let text = start .args .text .now in
     let loop-i = (let p : tie.At-loop Inv-loop μ-loop = search in p .loop .i) in
     let loop-inv = (let p : tie.At-loop Inv-loop μ-loop = search in p .loop .inv) in
     let belongs-ensures = (let p : tie.After-belongs Inv-loop μ-loop = search in p .belongs .ensures) in
-    (sym (leading-stop (belongs (start .args .kind)) (start .args .text .now) loop-i (omega arith) (sym belongs-ensures ∙ not-true _ (c .if1 .taken))) ∙ loop-inv .1, omega arith)
+    (sym (leading-stop (belongs kind) text loop-i (omega arith) (sym belongs-ensures ∙ not-true _ (c .if1 .taken))) ∙ loop-inv .1, omega arith)
 
 add-i : tie.Need-add-i Inv-loop μ-loop
 add-i c = search needs
@@ -46,10 +48,12 @@ loop-less c = search needs
 loop-again : tie.Need-loop-again Inv-loop μ-loop
 loop-again c =
     let start : tie.Start Inv-loop μ-loop = search in
+    let kind = start .args .kind in
+    let text = start .args .text .now in
     let loop-i = (let p : tie.At-loop Inv-loop μ-loop = search in p .loop .i) in
     let loop-inv = (let p : tie.At-loop Inv-loop μ-loop = search in p .loop .inv) in
     let belongs-ensures = (let p : tie.After-belongs Inv-loop μ-loop = search in p .belongs .ensures) in
-    (omega arith, sym (leading-on (belongs (start .args .kind)) (start .args .text .now) loop-i (omega arith) (sym belongs-ensures ∙ not-false _ (c .if1 .left))) ∙ loop-inv .1)
+    (omega arith, sym (leading-on (belongs kind) text loop-i (omega arith) (sym belongs-ensures ∙ not-false _ (c .if1 .left))) ∙ loop-inv .1)
 
 returns-2 : tie.Need-returns-2 Inv-loop μ-loop
 returns-2 c =

@@ -50,12 +50,12 @@ digit-requires c κs =
     sym is-digit-ensures ∙ not-false _ (c .if2 .left)
 
 add-v : tie.Need-add-v Inv-loop μ-loop
-add-v c =
-    omega (arith, c .digit .ensures .1)
+add-v c = omega arith
 
 returns-3 : tie.Need-returns-3 Inv-loop μ-loop
 returns-3 c =
     let start : tie.Start Inv-loop μ-loop = search in
+    let text = start .args .text .now in
     let loop-i = (let p : tie.At-loop Inv-loop μ-loop = search in p .loop .i) in
     let loop-inv = (let p : tie.At-loop Inv-loop μ-loop = search in p .loop .inv) in
     let loop-n = (let p : tie.At-loop Inv-loop μ-loop = search in p .loop .n) in
@@ -63,7 +63,9 @@ returns-3 c =
     let if2-left = (let p : tie.Else2 Inv-loop μ-loop = search in p .if2 .left) in
     let digit-ensures = (let p : tie.After-digit Inv-loop μ-loop = search in p .digit .ensures) in
     let digit-result = (let p : tie.After-digit Inv-loop μ-loop = search in p .digit .result) in
-    sym (digits-too-many (start .args .text .now) loop-n loop-i (10 * loop-n + digit-result) (omega arith) (sym is-digit-ensures ∙ not-false _ if2-left) (omega (arith, digit-ensures .0)) (omega arith)) ∙ loop-inv .2
+    sym
+    (digits-too-many text loop-n loop-i (10 * loop-n + digit-result) (omega arith) (sym is-digit-ensures ∙ not-false _ if2-left)
+    (omega (arith, digit-ensures .0)) (omega arith)) ∙ loop-inv .2
 
 add-i : tie.Need-add-i Inv-loop μ-loop
 add-i c = search needs
@@ -75,14 +77,20 @@ loop-less c =
 loop-again : tie.Need-loop-again Inv-loop μ-loop
 loop-again c =
     let start : tie.Start Inv-loop μ-loop = search in
+    let text = start .args .text .now in
     let loop-i = (let p : tie.At-loop Inv-loop μ-loop = search in p .loop .i) in
     let loop-inv = (let p : tie.At-loop Inv-loop μ-loop = search in p .loop .inv) in
     let loop-n = (let p : tie.At-loop Inv-loop μ-loop = search in p .loop .n) in
     let is-digit-ensures = (let p : tie.After-is-digit Inv-loop μ-loop = search in p .is-digit .ensures) in
     let if2-left = (let p : tie.Else2 Inv-loop μ-loop = search in p .if2 .left) in
     let digit-ensures = (let p : tie.After-digit Inv-loop μ-loop = search in p .digit .ensures) in
-    let digit-result = (let p : tie.After-digit Inv-loop μ-loop = search in p .digit .result) in
-    (omega arith, omega (arith, c .if3 .left), sym (digits-on (start .args .text .now) loop-n loop-i (10 * loop-n + digit-result) (omega arith) (sym is-digit-ensures ∙ not-false _ if2-left) (omega (arith, digit-ensures .0)) (omega arith)) ∙ loop-inv .2)
+    let digit-result = (let p : tie.After-digit Inv-loop μ-loop = search in p .digit .result) in (
+      omega arith,
+      omega (arith, c .if3 .left),
+      sym
+          (digits-on text loop-n loop-i (10 * loop-n + digit-result) (omega arith) (sym is-digit-ensures ∙ not-false _ if2-left)
+          (omega (arith, digit-ensures .0)) (omega arith)) ∙ loop-inv .2,
+    )
 
 returns-4 : tie.Need-returns-4 Inv-loop μ-loop
 returns-4 c =

@@ -48,9 +48,11 @@ loop-less c =
 loop-again : tie.Need-loop-again Inv-loop μ-loop
 loop-again c =
     let start : tie.Start Inv-loop μ-loop = search in
+    let one = start .args .one .now in
+    let other = start .args .other .now in
     let loop-i = (let p : tie.At-loop Inv-loop μ-loop = search in p .loop .i) in
     let loop-inv = (let p : tie.At-loop Inv-loop μ-loop = search in p .loop .inv) in
-    (omega arith, loop-inv .1, sym (same-on (start .args .one .now) (start .args .other .now) loop-i (omega arith) (omega (arith, loop-inv .1)) (c .if2 .left)) ∙ loop-inv .2)
+    (omega arith, loop-inv .1, sym (same-on one other loop-i (omega arith) (omega (arith, loop-inv .1)) (c .if2 .left)) ∙ loop-inv .2)
 
 returns-3 : tie.Need-returns-3 Inv-loop μ-loop
 returns-3 c =

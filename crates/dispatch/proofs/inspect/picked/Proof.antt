@@ -9,7 +9,8 @@ is-sound-requires c κs = search needs
 
 count-requires : tie.Need-count-requires
 count-requires c κs =
-    sym (c .before .is-sound .ensures) ∙ c .if1 .taken
+    let is-sound-ensures = (let p : tie.After-is-sound = search in p .is-sound .ensures) in
+    sym is-sound-ensures ∙ c .if1 .taken
 
 returns : tie.Need-returns
 returns c = search needs

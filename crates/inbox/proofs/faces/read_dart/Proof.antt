@@ -46,7 +46,14 @@ returns-2 c =
     let read-group-ensures = (let p : tie.After-read-group = search in p .read-group .ensures) in
     let v-given = (let p : tie.After-v = search in p .v .given) in
     let read-serial-ensures = (let p : tie.After-read-serial = search in p .read-serial .ensures) in
-    record { said = (dart-half (took-group (sym (v-given .1) ∙ read-group-ensures)) (bad-at serial _ _ (sym (c .enum-told2 .given .1) ∙ read-serial-ensures)), refl, refl) }
+    record {
+      said = (
+        dart-half (took-group (sym (v-given .1) ∙ read-group-ensures))
+            (bad-at serial _ _ (sym (c .enum-told2 .given .1) ∙ read-serial-ensures)),
+        refl,
+        refl,
+      );
+    }
 
 -- src/faces.rt:33:5
 mul-vertex : tie.Need-mul-vertex

@@ -33,9 +33,11 @@ no-counted-requires c κs = search needs
 returns : tie.Need-returns
 returns c =
     let start : tie.Start = search in
+    let s = start .args .s .now in
+    let at = start .args .at in
     let read-group-ensures = (let p : tie.After-read-group = search in p .read-group .ensures) in
     let enum-told-given = (let p : tie.After-enum-told = search in p .enum-told .given) in
-    λ fs z. counted-bad (part4 fs) (start .args .s .now) (start .args .at) (c .no-counted .ensures) (bad-at group _ _ (sym (enum-told-given .1) ∙ read-group-ensures))
+    λ fs z. counted-bad (part4 fs) s at (c .no-counted .ensures) (bad-at group _ _ (sym (enum-told-given .1) ∙ read-group-ensures))
 
 -- src/message.rt:133:32
 pass-parts4-requires : tie.Need-pass-parts4-requires
@@ -64,7 +66,8 @@ returns-2 c =
     let count-given = (let p : tie.After-count = search in p .count .given) in
     let pass-parts4-ensures = (let p : tie.After-pass-parts4 = search in p .pass-parts4 .ensures) in
     let enum-told2-given = (let p : tie.After-enum-told2 = search in p .enum-told2 .given) in
-    λ fs z. counted-short (part4 fs) (c .no-counted2 .ensures) (took-group (sym (count-given .1) ∙ read-group-ensures)) (enum-told2-given .1) (pass-parts4-ensures fs z)
+    λ fs z. counted-short (part4 fs) (c .no-counted2 .ensures) (took-group (sym (count-given .1) ∙ read-group-ensures))
+    (enum-told2-given .1) (pass-parts4-ensures fs z)
 
 -- src/message.rt:126:1
 returns-3 : tie.Need-returns-3

@@ -98,7 +98,9 @@ returns-3 c =
     let vertices-given = (let p : tie.After-vertices = search in p .vertices .given) in
     let read-group-ensures = (let p : tie.After-read-group = search in p .read-group .ensures) in
     let enum-told2-given = (let p : tie.After-enum-told2 = search in p .enum-told2 .given) in
-    front-bad (start .pre) (c .no-front3 .ensures) (no-count _ _ (read-head-ensures .yes (not-false _ if1-left)) (took-points (vertices-given .1) read-points-ensures) (bad-at group _ _ (sym (enum-told2-given .1) ∙ read-group-ensures)))
+    front-bad (start .pre) (c .no-front3 .ensures)
+    (no-count _ _ (read-head-ensures .yes (not-false _ if1-left)) (took-points (vertices-given .1) read-points-ensures)
+    (bad-at group _ _ (sym (enum-told2-given .1) ∙ read-group-ensures)))
 
 -- src/message.rt:211:9
 read-faces-requires : tie.Need-read-faces-requires
@@ -135,7 +137,8 @@ returns-4 c =
     let if1-left = (let p : tie.Else1 = search in p .if1 .left) in
     let c : tie.Else1 = search in
     let read-head-ensures = (let p : tie.After-read-head = search in p .read-head .ensures) in
-    front-read _ _ (read-head-ensures .yes (not-false _ if1-left)) (took-points (vertices-given .1) read-points-ensures) (took-group (sym (count-given .1) ∙ read-group-ensures)) read-faces-ensures
+    front-read _ _ (read-head-ensures .yes (not-false _ if1-left)) (took-points (vertices-given .1) read-points-ensures)
+    (took-group (sym (count-given .1) ∙ read-group-ensures)) read-faces-ensures
 
 pub read-front-spec : {M : Type 1} → statement M
 read-front-spec =

@@ -73,7 +73,9 @@ returns-3 c =
     let if1-left = (let p : tie.Else1 = search in p .if1 .left) in
     let read-at-most-ensures = (let p : tie.After-read-at-most = search in p .read-at-most .ensures) in
     let enum-told2-given = (let p : tie.After-enum-told2 = search in p .enum-told2 .given) in
-    head-bad (c .no-head3 .ensures) (no-from _ (took-kind (took-group (sym (k-given .1) ∙ read-group-ensures)) if1-left) (bad-at (at-most 15) _ _ (sym (enum-told2-given .1) ∙ read-at-most-ensures)))
+    head-bad (c .no-head3 .ensures)
+    (no-from _ (took-kind (took-group (sym (k-given .1) ∙ read-group-ensures)) if1-left)
+    (bad-at (at-most 15) _ _ (sym (enum-told2-given .1) ∙ read-at-most-ensures)))
 
 -- src/message.rt:59:33
 read-at-most-requires-2 : tie.Need-read-at-most-requires-2
@@ -101,7 +103,10 @@ returns-4 c =
     let from-given = (let p : tie.After-from = search in p .from .given) in
     let read-at-most2-ensures = (let p : tie.After-read-at-most2 = search in p .read-at-most2 .ensures) in
     let enum-told3-given = (let p : tie.After-enum-told3 = search in p .enum-told3 .given) in
-    head-bad (c .no-head4 .ensures) (no-to _ _ _ (took-kind (took-group (sym (k-given .1) ∙ read-group-ensures)) if1-left) (took-at-most 15 (sym (from-given .1) ∙ read-at-most-ensures)) (bad-at (at-most 15) _ _ (sym (enum-told3-given .1) ∙ read-at-most2-ensures)))
+    head-bad (c .no-head4 .ensures)
+    (no-to _ _ _ (took-kind (took-group (sym (k-given .1) ∙ read-group-ensures)) if1-left)
+    (took-at-most 15 (sym (from-given .1) ∙ read-at-most-ensures))
+    (bad-at (at-most 15) _ _ (sym (enum-told3-given .1) ∙ read-at-most2-ensures)))
 
 -- src/message.rt:47:1
 returns-5 : tie.Need-returns-5
@@ -113,7 +118,14 @@ returns-5 c =
     let from-given = (let p : tie.After-from = search in p .from .given) in
     let read-at-most2-ensures = (let p : tie.After-read-at-most2 = search in p .read-at-most2 .ensures) in
     let to-given = (let p : tie.After-to = search in p .to .given) in
-    head-good _ refl (record { past = _; after = _; kind-read = took-kind (took-group (sym (k-given .1) ∙ read-group-ensures)) if1-left; from-read = took-at-most 15 (sym (from-given .1) ∙ read-at-most-ensures); to-read = took-at-most 15 (sym (to-given .1) ∙ read-at-most2-ensures) })
+    head-good _ refl
+    (record {
+      past = _;
+      after = _;
+      kind-read = took-kind (took-group (sym (k-given .1) ∙ read-group-ensures)) if1-left;
+      from-read = took-at-most 15 (sym (from-given .1) ∙ read-at-most-ensures);
+      to-read = took-at-most 15 (sym (to-given .1) ∙ read-at-most2-ensures);
+    })
 
 pub read-head-spec : {M : Type 1} → statement M
 read-head-spec =

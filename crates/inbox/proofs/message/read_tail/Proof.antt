@@ -62,7 +62,9 @@ returns-3 c =
     let if2-left = (let p : tie.Else2 = search in p .if2 .left) in
     let counted4-ensures = (let p : tie.After-counted4 = search in p .counted4 .ensures) in
     let if3-taken = (let p : tie.Then3 = search in p .if3 .taken) in
-    λ fs z. tail-bad fs (c .no-tail3 .ensures) (no-fourth fs counted2-ensures (not-false _ if1-left) counted3-ensures (not-false _ if2-left) (counted4-ensures fs z) (not-true _ if3-taken))
+    λ fs z. tail-bad fs (c .no-tail3 .ensures)
+    (no-fourth fs counted2-ensures (not-false _ if1-left) counted3-ensures (not-false _ if2-left) (counted4-ensures fs z)
+    (not-true _ if3-taken))
 
 -- src/message.rt:250:1
 returns-4 : tie.Need-returns-4

@@ -52,7 +52,9 @@ returns-2 c =
     let if1-left = (let p : tie.Else1 = search in p .if1 .left) in
     let read-at-most-ensures = (let p : tie.After-read-at-most = search in p .read-at-most .ensures) in
     let enum-told-given = (let p : tie.After-enum-told = search in p .enum-told .given) in
-    update-bad (c .no-update2 .ensures) (no-block (read-head-ensures .yes (not-false _ if1-left)) (bad-at (at-most 15) _ _ (sym (enum-told-given .1) ∙ read-at-most-ensures)))
+    update-bad (c .no-update2 .ensures)
+    (no-block (read-head-ensures .yes (not-false _ if1-left))
+    (bad-at (at-most 15) _ _ (sym (enum-told-given .1) ∙ read-at-most-ensures)))
 
 -- src/message.rt:291:9
 counted-labels-requires : tie.Need-counted-labels-requires
@@ -71,7 +73,9 @@ returns-3 c =
     let block-given = (let p : tie.After-block = search in p .block .given) in
     let counted-labels-ensures = (let p : tie.After-counted-labels = search in p .counted-labels .ensures) in
     let if2-taken = (let p : tie.Then2 = search in p .if2 .taken) in
-    update-bad (c .no-update3 .ensures) (no-labels (read-head-ensures .yes (not-false _ if1-left)) (took-at-most 15 (sym (block-given .1) ∙ read-at-most-ensures)) counted-labels-ensures (not-true _ if2-taken))
+    update-bad (c .no-update3 .ensures)
+    (no-labels (read-head-ensures .yes (not-false _ if1-left)) (took-at-most 15 (sym (block-given .1) ∙ read-at-most-ensures))
+    counted-labels-ensures (not-true _ if2-taken))
 
 -- src/message.rt:296:9
 no-update-requires-4 : tie.Need-no-update-requires-4
@@ -87,7 +91,9 @@ returns-4 c =
     let counted-labels-ensures = (let p : tie.After-counted-labels = search in p .counted-labels .ensures) in
     let if2-left = (let p : tie.Else2 = search in p .if2 .left) in
     let if3-taken = (let p : tie.Then3 = search in p .if3 .taken) in
-    update-bad (c .no-update4 .ensures) (update-more (read-head-ensures .yes (not-false _ if1-left)) (took-at-most 15 (sym (block-given .1) ∙ read-at-most-ensures)) counted-labels-ensures (not-false _ if2-left) if3-taken)
+    update-bad (c .no-update4 .ensures)
+    (update-more (read-head-ensures .yes (not-false _ if1-left)) (took-at-most 15 (sym (block-given .1) ∙ read-at-most-ensures))
+    counted-labels-ensures (not-false _ if2-left) if3-taken)
 
 -- src/message.rt:281:1
 returns-5 : tie.Need-returns-5
@@ -98,7 +104,8 @@ returns-5 c =
     let block-given = (let p : tie.After-block = search in p .block .given) in
     let counted-labels-ensures = (let p : tie.After-counted-labels = search in p .counted-labels .ensures) in
     let if2-left = (let p : tie.Else2 = search in p .if2 .left) in
-    update-good (read-head-ensures .yes (not-false _ if1-left)) (took-at-most 15 (sym (block-given .1) ∙ read-at-most-ensures)) counted-labels-ensures (not-false _ if2-left) (c .if3 .left)
+    update-good (read-head-ensures .yes (not-false _ if1-left)) (took-at-most 15 (sym (block-given .1) ∙ read-at-most-ensures))
+    counted-labels-ensures (not-false _ if2-left) (c .if3 .left)
 
 pub read-update-spec : {M : Type 1} → statement M
 read-update-spec =

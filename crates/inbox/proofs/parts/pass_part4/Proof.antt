@@ -58,7 +58,8 @@ returns-3 c =
     let index-given = (let p : tie.After-index = search in p .index .given) in
     let if1-left = (let p : tie.Else1 = search in p .if1 .left) in
     let read-at-most-ensures = (let p : tie.After-read-at-most = search in p .read-at-most .ensures) in
-    λ fs z. part4-alone fs (took-group (sym (index-given .1) ∙ read-group-ensures)) z (omega (arith, if1-left)) (bad-at (at-most 15) _ _ (sym (c .enum-told2 .given .1) ∙ read-at-most-ensures))
+    λ fs z. part4-alone fs (took-group (sym (index-given .1) ∙ read-group-ensures)) z (omega (arith, if1-left))
+    (bad-at (at-most 15) _ _ (sym (c .enum-told2 .given .1) ∙ read-at-most-ensures))
 
 -- src/parts.rt:99:16
 mul-size : tie.Need-mul-size
@@ -83,7 +84,8 @@ returns-4 c =
     let if1-left = (let p : tie.Else1 = search in p .if1 .left) in
     let read-at-most-ensures = (let p : tie.After-read-at-most = search in p .read-at-most .ensures) in
     let other-given = (let p : tie.After-other = search in p .other .given) in
-    λ fs z. part4-pass fs (took-group (sym (index-given .1) ∙ read-group-ensures)) z (omega (arith, if1-left)) (took-at-most 15 (sym (other-given .1) ∙ read-at-most-ensures)) refl (c .pass-labels .ensures)
+    λ fs z. part4-pass fs (took-group (sym (index-given .1) ∙ read-group-ensures)) z (omega (arith, if1-left))
+    (took-at-most 15 (sym (other-given .1) ∙ read-at-most-ensures)) refl (c .pass-labels .ensures)
 
 pub pass-part4-spec : {M : Type 1} → statement M
 pass-part4-spec =

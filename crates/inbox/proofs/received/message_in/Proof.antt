@@ -79,9 +79,11 @@ returns-3 c =
     let c : tie.After-read-front = search in
     let n-given = (let p : tie.After-n = search in p .n .given) in
     let read-frame-ensures = (let p : tie.After-read-frame = search in p .read-frame .ensures) in
-    let front = read-front-ensures in
     let there = not-false _ if1-left in
-    other-read (n-given .1) read-frame-ensures (front .sides) (tail-missing front there (read-tail-ensures (front .yes there .fs) (front-sized front there)) (not-true _ if2-taken)) update-from2-ensures
+    other-read (n-given .1) read-frame-ensures (read-front-ensures .sides)
+    (tail-missing read-front-ensures there
+    (read-tail-ensures (read-front-ensures .yes there .fs) (front-sized read-front-ensures there)) (not-true _ if2-taken))
+    update-from2-ensures
 
 same-length-9 : tie.Need-same-length-9
 same-length-9 c = search needs
@@ -104,9 +106,9 @@ returns-4 c =
     let c : tie.After-read-front = search in
     let n-given = (let p : tie.After-n = search in p .n .given) in
     let read-frame-ensures = (let p : tie.After-read-frame = search in p .read-frame .ensures) in
-    let front = read-front-ensures in
     let there = not-false _ if1-left in
-    transfer-read (n-given .1) read-frame-ensures front there (read-tail-ensures (front .yes there .fs) (front-sized front there)) (not-false _ if2-left)
+    transfer-read (n-given .1) read-frame-ensures read-front-ensures there
+    (read-tail-ensures (read-front-ensures .yes there .fs) (front-sized read-front-ensures there)) (not-false _ if2-left)
 
 pub message-in-spec : {M : Type 1} → statement M
 message-in-spec =

@@ -16,7 +16,9 @@ field-requires c κs = search needs
 put-number-requires : tie.Need-put-number-requires
 put-number-requires c κs =
     let start : tie.Start = search in
-    rw (c .field .ensures) (start .pre .0 .serial-small, omega (arith, decimal-ten (column (start .args .block .now) 0 (start .args .p)) (start .pre .0 .serial-small), start .pre .1))
+    let block = start .args .block .now in
+    let p' = start .args .p in
+    rw (c .field .ensures) (start .pre .0 .serial-small, omega (arith, decimal-ten (column block 0 p') (start .pre .0 .serial-small), start .pre .1))
 
 serial-along-requires : tie.Need-serial-along-requires
 serial-along-requires c κs = search needs
@@ -24,11 +26,16 @@ serial-along-requires c κs = search needs
 put-number-requires-2 : tie.Need-put-number-requires-2
 put-number-requires-2 c κs =
     let start : tie.Start = search in
+    let block = start .args .block .now in
+    let p' = start .args .p in
     let field-ensures = (let p : tie.After-field = search in p .field .ensures) in
     let put-number-ensures = (let p : tie.After-put-number = search in p .put-number .ensures) in
     let a = rw field-ensures at put-number-ensures in
-    let p = stored-past 11 a (ended-most 10 (column (start .args .block .now) 0 (start .args .p)) 32 (decimal-ten (column (start .args .block .now) 0 (start .args .p)) (start .pre .0 .serial-small))) in
-    rw (c .serial-along .ensures) (start .pre .0 .next-small, omega (arith, decimal-ten (column (start .args .block .now) 0 (column (start .args .block .now) 1 (start .args .p))) (start .pre .0 .next-small), start .pre .1))
+    let p = stored-past 11 a (ended-most 10 (column block 0 p') 32 (decimal-ten (column block 0 p') (start .pre .0 .serial-small))) in
+    rw (c .serial-along .ensures) (
+      start .pre .0 .next-small,
+      omega (arith, decimal-ten (column block 0 (column block 1 p')) (start .pre .0 .next-small), start .pre .1),
+    )
 
 serial-along-requires-2 : tie.Need-serial-along-requires-2
 serial-along-requires-2 c κs = search needs
@@ -36,15 +43,24 @@ serial-along-requires-2 c κs = search needs
 put-number-requires-3 : tie.Need-put-number-requires-3
 put-number-requires-3 c κs =
     let start : tie.Start = search in
+    let block = start .args .block .now in
+    let p' = start .args .p in
     let field-ensures = (let p : tie.After-field = search in p .field .ensures) in
     let put-number-ensures = (let p : tie.After-put-number = search in p .put-number .ensures) in
     let serial-along-ensures = (let p : tie.After-serial-along = search in p .serial-along .ensures) in
     let put-number2-ensures = (let p : tie.After-put-number2 = search in p .put-number2 .ensures) in
     let a = rw field-ensures at put-number-ensures in
-    let p = stored-past 11 a (ended-most 10 (column (start .args .block .now) 0 (start .args .p)) 32 (decimal-ten (column (start .args .block .now) 0 (start .args .p)) (start .pre .0 .serial-small))) in
+    let p = stored-past 11 a (ended-most 10 (column block 0 p') 32 (decimal-ten (column block 0 p') (start .pre .0 .serial-small))) in
     let b = rw serial-along-ensures at put-number2-ensures in
-    let q = stored-past 11 b (ended-most 10 (column (start .args .block .now) 0 (column (start .args .block .now) 1 (start .args .p))) 32 (decimal-ten (column (start .args .block .now) 0 (column (start .args .block .now) 1 (start .args .p))) (start .pre .0 .next-small))) in
-    rw (c .serial-along2 .ensures) (start .pre .0 .opposite-small, omega (arith, decimal-ten (column (start .args .block .now) 0 (column (start .args .block .now) 2 (start .args .p))) (start .pre .0 .opposite-small), start .pre .1))
+    let q =
+    stored-past 11 b
+    (ended-most 10 (column block 0 (column block 1 p')) 32
+    (decimal-ten (column block 0 (column block 1 p')) (start .pre .0 .next-small)))
+    in
+    rw (c .serial-along2 .ensures) (
+      start .pre .0 .opposite-small,
+      omega (arith, decimal-ten (column block 0 (column block 2 p')) (start .pre .0 .opposite-small), start .pre .1),
+    )
 
 field-requires-2 : tie.Need-field-requires-2
 field-requires-2 c κs = search needs
@@ -55,6 +71,8 @@ third-along-requires c κs = search needs
 put-third-requires : tie.Need-put-third-requires
 put-third-requires c κs =
     let start : tie.Start = (let c : tie.After-field = search in search) in
+    let block = start .args .block .now in
+    let p' = start .args .p in
     let field-ensures = (let p : tie.After-field = search in p .field .ensures) in
     let put-number-ensures = (let p : tie.After-put-number = search in p .put-number .ensures) in
     let serial-along-ensures = (let p : tie.After-serial-along = search in p .serial-along .ensures) in
@@ -64,16 +82,26 @@ put-third-requires c κs =
     let field2-ensures = (let p : tie.After-field2 = search in p .field2 .ensures) in
     let third-along-ensures = (let p : tie.After-third-along = search in p .third-along .ensures) in
     let a = rw field-ensures at put-number-ensures in
-    let p = stored-past 11 a (ended-most 10 (column (start .args .block .now) 0 (start .args .p)) 32 (decimal-ten (column (start .args .block .now) 0 (start .args .p)) (start .pre .0 .serial-small))) in
+    let p = stored-past 11 a (ended-most 10 (column block 0 p') 32 (decimal-ten (column block 0 p') (start .pre .0 .serial-small))) in
     let b = rw serial-along-ensures at put-number2-ensures in
-    let q = stored-past 11 b (ended-most 10 (column (start .args .block .now) 0 (column (start .args .block .now) 1 (start .args .p))) 32 (decimal-ten (column (start .args .block .now) 0 (column (start .args .block .now) 1 (start .args .p))) (start .pre .0 .next-small))) in
+    let q =
+    stored-past 11 b
+    (ended-most 10 (column block 0 (column block 1 p')) 32
+    (decimal-ten (column block 0 (column block 1 p')) (start .pre .0 .next-small)))
+    in
     let d = rw serial-along2-ensures at put-number3-ensures in
-    let r = stored-past 11 d (ended-most 10 (column (start .args .block .now) 0 (column (start .args .block .now) 2 (start .args .p))) 32 (decimal-ten (column (start .args .block .now) 0 (column (start .args .block .now) 2 (start .args .p))) (start .pre .0 .opposite-small))) in
+    let r =
+    stored-past 11 d
+    (ended-most 10 (column block 0 (column block 2 p')) 32
+    (decimal-ten (column block 0 (column block 2 p')) (start .pre .0 .opposite-small)))
+    in
     rw (field2-ensures, third-along-ensures) (start .pre .0 .third-small, omega (arith, start .pre .1))
 
 put-byte-requires : tie.Need-put-byte-requires
 put-byte-requires c κs =
     let start : tie.Start = (let c : tie.After-put-number = search in search) in
+    let block = start .args .block .now in
+    let p' = start .args .p in
     let field-ensures = (let c : tie.After-put-number = search in let p : tie.After-field = search in p .field .ensures) in
     let put-number-ensures = (let p : tie.After-put-number = search in p .put-number .ensures) in
     let serial-along-ensures = (let p : tie.After-serial-along = search in p .serial-along .ensures) in
@@ -84,11 +112,19 @@ put-byte-requires c κs =
     let third-along-ensures = (let p : tie.After-third-along = search in p .third-along .ensures) in
     let put-third-ensures = (let p : tie.After-put-third = search in p .put-third .ensures) in
     let a = rw field-ensures at put-number-ensures in
-    let p = stored-past 11 a (ended-most 10 (column (start .args .block .now) 0 (start .args .p)) 32 (decimal-ten (column (start .args .block .now) 0 (start .args .p)) (start .pre .0 .serial-small))) in
+    let p = stored-past 11 a (ended-most 10 (column block 0 p') 32 (decimal-ten (column block 0 p') (start .pre .0 .serial-small))) in
     let b = rw serial-along-ensures at put-number2-ensures in
-    let q = stored-past 11 b (ended-most 10 (column (start .args .block .now) 0 (column (start .args .block .now) 1 (start .args .p))) 32 (decimal-ten (column (start .args .block .now) 0 (column (start .args .block .now) 1 (start .args .p))) (start .pre .0 .next-small))) in
+    let q =
+    stored-past 11 b
+    (ended-most 10 (column block 0 (column block 1 p')) 32
+    (decimal-ten (column block 0 (column block 1 p')) (start .pre .0 .next-small)))
+    in
     let d = rw serial-along2-ensures at put-number3-ensures in
-    let r = stored-past 11 d (ended-most 10 (column (start .args .block .now) 0 (column (start .args .block .now) 2 (start .args .p))) 32 (decimal-ten (column (start .args .block .now) 0 (column (start .args .block .now) 2 (start .args .p))) (start .pre .0 .opposite-small))) in
+    let r =
+    stored-past 11 d
+    (ended-most 10 (column block 0 (column block 2 p')) 32
+    (decimal-ten (column block 0 (column block 2 p')) (start .pre .0 .opposite-small)))
+    in
     let t = rw (field2-ensures, third-along-ensures) at put-third-ensures in
     let s = stored-past 26 t (third-short (start .pre .0 .third-small)) in
     omega (arith, start .pre .1)

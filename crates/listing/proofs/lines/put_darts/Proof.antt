@@ -21,7 +21,11 @@ abbrev μ-loop : tie.MeasureT-loop
 loop-holds : tie.Need-loop-holds Inv-loop μ-loop
 loop-holds c =
     let start : tie.Start Inv-loop μ-loop = search in
-    place-none (dart-text (start .args .block .now)) (start .args .n) (start .args .at) (start .args .out .now) (omega (arith, lines-short (start .pre .0), start .pre .1))
+    let block = start .args .block .now in
+    let n = start .args .n in
+    let at = start .args .at in
+    let out = start .args .out .now in
+    place-none (dart-text block) n at out (omega (arith, lines-short (start .pre .0), start .pre .1))
 
 put-dart-requires : tie.Need-put-dart-requires Inv-loop μ-loop
 put-dart-requires c κs =

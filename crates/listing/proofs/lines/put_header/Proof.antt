@@ -107,7 +107,12 @@ returns c =
     let put-decimal-ensures = (let p : tie.After-put-decimal = search in p .put-decimal .ensures) in
     let put-text-ensures = (let p : tie.After-put-text = search in p .put-text .ensures) in
     let start : tie.Start = search in
-    rw (header-parts (start .args .block .now)) (stored-then (stored-then (stored-then (stored-then (stored-then put-text-ensures put-decimal-ensures) put-text2-ensures) put-decimal2-ensures) put-text3-ensures) put-number-ensures)
+    let block = start .args .block .now in
+    rw (header-parts block)
+    (stored-then
+    (stored-then
+    (stored-then (stored-then (stored-then put-text-ensures put-decimal-ensures) put-text2-ensures) put-decimal2-ensures)
+    put-text3-ensures) put-number-ensures)
 
 pub put-header-spec : {M : Type 1} → statement M
 put-header-spec =

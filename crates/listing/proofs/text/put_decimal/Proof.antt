@@ -21,9 +21,7 @@ digit-count-requires : tie.Need-digit-count-requires Inv-loop μ-loop
 digit-count-requires c κs = search needs
 
 add-next : tie.Need-add-next Inv-loop μ-loop
-add-next c =
-    let start : tie.Start Inv-loop μ-loop = search in
-    omega (arith, start .pre .1, c .digit-count .ensures)
+add-next c = omega arith
 
 loop-holds : tie.Need-loop-holds Inv-loop μ-loop
 loop-holds c =

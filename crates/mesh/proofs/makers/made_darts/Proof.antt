@@ -36,13 +36,15 @@ made-requires c κs = search needs
 returns : tie.Need-returns Inv-loop μ-loop
 returns c =
     let start : tie.Start Inv-loop μ-loop = search in
+    let mesh = start .args .mesh .now in
+    let block = start .args .block .now in
     let loop-inv = (let p : tie.At-loop Inv-loop μ-loop = search in p .loop .inv) in
     let loop-p = (let p : tie.At-loop Inv-loop μ-loop = search in p .loop .p) in
     let loop-test-taken = (let p : tie.In-loop Inv-loop μ-loop = search in p .loop-test .taken) in
     let field-ensures = (let p : tie.After-field Inv-loop μ-loop = search in p .field .ensures) in
     let field2-ensures = (let p : tie.After-field2 Inv-loop μ-loop = search in p .field2 .ensures) in
     let made-ensures = (let p : tie.After-made Inv-loop μ-loop = search in p .made .ensures) in
-    going-no loop-inv loop-test-taken (made-at (start .args .mesh .now) (start .args .block .now) loop-p field-ensures field2-ensures made-ensures) (not-true _ (c .if1 .taken))
+    going-no loop-inv loop-test-taken (made-at mesh block loop-p field-ensures field2-ensures made-ensures) (not-true _ (c .if1 .taken))
 
 add-p : tie.Need-add-p Inv-loop μ-loop
 add-p c = search needs
@@ -53,13 +55,15 @@ loop-less c = search needs
 loop-again : tie.Need-loop-again Inv-loop μ-loop
 loop-again c =
     let start : tie.Start Inv-loop μ-loop = search in
+    let mesh = start .args .mesh .now in
+    let block = start .args .block .now in
     let loop-inv = (let p : tie.At-loop Inv-loop μ-loop = search in p .loop .inv) in
     let loop-p = (let p : tie.At-loop Inv-loop μ-loop = search in p .loop .p) in
     let loop-test-taken = (let p : tie.In-loop Inv-loop μ-loop = search in p .loop-test .taken) in
     let field-ensures = (let p : tie.After-field Inv-loop μ-loop = search in p .field .ensures) in
     let field2-ensures = (let p : tie.After-field2 Inv-loop μ-loop = search in p .field2 .ensures) in
     let made-ensures = (let p : tie.After-made Inv-loop μ-loop = search in p .made .ensures) in
-    going-more loop-inv loop-test-taken (made-at (start .args .mesh .now) (start .args .block .now) loop-p field-ensures field2-ensures made-ensures) (not-false _ (c .if1 .left))
+    going-more loop-inv loop-test-taken (made-at mesh block loop-p field-ensures field2-ensures made-ensures) (not-false _ (c .if1 .left))
 
 returns-2 : tie.Need-returns-2 Inv-loop μ-loop
 returns-2 c =

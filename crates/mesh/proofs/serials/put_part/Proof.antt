@@ -28,7 +28,10 @@ part-put-serials-end c = search needs
 put-serials-requires : tie.Need-put-serials-requires
 put-serials-requires c κs =
     let start : tie.Start = search in
-    part-asked (start .args .mesh .now) (start .args .i) (part-is (start .args .mesh .now) (start .args .i) _ refl) (start .pre .0) (start .pre .1) (start .args .at) (start .pre .2)
+    let mesh = start .args .mesh .now in
+    let i = start .args .i in
+    let at = start .args .at in
+    part-asked mesh i (part-is mesh i _ refl) (start .pre .0) (start .pre .1) at (start .pre .2)
 
 same-length : tie.Need-same-length
 same-length c = search needs
@@ -36,8 +39,10 @@ same-length c = search needs
 returns : tie.Need-returns
 returns c =
     let start : tie.Start = search in
+    let mesh = start .args .mesh .now in
+    let i = start .args .i in
     let put-serials-ensures = (let p : tie.After-put-serials = search in p .put-serials .ensures) in
-    part-told (start .args .mesh .now) (start .args .i) (part-is (start .args .mesh .now) (start .args .i) _ refl) (start .pre .0) (start .pre .1) (put-serials-ensures .0) (put-serials-ensures .1)
+    part-told mesh i (part-is mesh i _ refl) (start .pre .0) (start .pre .1) (put-serials-ensures .0) (put-serials-ensures .1)
 
 pub put-part-spec : {M : Type 1} → statement M
 put-part-spec =

@@ -10,7 +10,9 @@ use Rattle.mesh.proofs.serials.serials_distinct.Tie as tie
 gather-requires : tie.Need-gather-requires
 gather-requires c κs =
     let start : tie.Start = search in
-    (few-blocks (start .args .mesh .now) (start .pre .2), roomy (start .args .mesh .now) (start .pre .1), scratch-length (start .args .mesh .now) (start .args .scratch .now) (start .pre .0))
+    let mesh = start .args .mesh .now in
+    let scratch = start .args .scratch .now in
+    (few-blocks mesh (start .pre .2), roomy mesh (start .pre .1), scratch-length mesh scratch (start .pre .0))
 
 apart-requires : tie.Need-apart-requires
 apart-requires c κs = search needs
@@ -24,11 +26,13 @@ same-length c = search needs
 returns : tie.Need-returns
 returns c =
     let start : tie.Start = search in
+    let mesh = start .args .mesh .now in
+    let scratch = start .args .scratch .now in
     let gather-ensures = (let p : tie.After-gather = search in p .gather .ensures) in
     let apart-ensures = (let p : tie.After-apart = search in p .apart .ensures) in
     let clear-ensures = (let p : tie.After-clear = search in p .clear .ensures) in (
-      apart-ensures .0 ∙ ap distinct (gather-ensures .2) ∙ gathered-all (start .args .mesh .now),
-      cleared-again (start .args .scratch .now) (scratch-zero (start .args .mesh .now) (start .args .scratch .now) (start .pre .0)) (apart-ensures .1 ∙ sym (scratch-length (start .args .mesh .now) (start .args .scratch .now) (start .pre .0))) clear-ensures,
+      apart-ensures .0 ∙ ap distinct (gather-ensures .2) ∙ gathered-all mesh,
+      cleared-again scratch (scratch-zero mesh scratch (start .pre .0)) (apart-ensures .1 ∙ sym (scratch-length mesh scratch (start .pre .0))) clear-ensures,
     )
 
 pub serials-distinct-spec : {M : Type 1} → statement M

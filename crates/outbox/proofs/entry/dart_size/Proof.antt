@@ -18,14 +18,18 @@ serial-count-requires c κs = search needs
 add-result : tie.Need-add-result
 add-result c =
     let start : tie.Start = search in
+    let vertex = start .args .vertex in
+    let serial = start .args .serial in
     let group-count-ensures = (let p : tie.After-group-count = search in p .group-count .ensures) in
-    omega (arith, group-count-ensures, c .serial-count .ensures, count-most (start .args .vertex) (start .pre .0), serial-most (start .args .serial) (start .pre .1))
+    omega (arith, group-count-ensures, c .serial-count .ensures, count-most vertex (start .pre .0), serial-most serial (start .pre .1))
 
 returns : tie.Need-returns
 returns c =
     let start : tie.Start = search in
+    let vertex = start .args .vertex in
+    let serial = start .args .serial in
     let group-count-ensures = (let p : tie.After-group-count = search in p .group-count .ensures) in
-    omega (arith, group-count-ensures, c .serial-count .ensures, dart-length (start .args .vertex) (start .args .serial), group-length (start .args .vertex) (start .pre .0))
+    omega (arith, group-count-ensures, c .serial-count .ensures, dart-length vertex serial, group-length vertex (start .pre .0))
 
 pub dart-size-spec : {M : Type 1} → statement M
 dart-size-spec =

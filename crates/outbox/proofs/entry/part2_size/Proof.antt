@@ -26,8 +26,10 @@ add-result c =
 returns : tie.Need-returns
 returns c =
     let start : tie.Start = search in
+    let code = start .args .code in
+    let index = start .args .index in
     let label-count-ensures = (let p : tie.After-label-count = search in p .label-count .ensures) in
-    omega (arith, label-count-ensures, c .group-count .ensures, part2-length (label-in (start .args .code)) (start .args .index .0), group-length (start .args .index .0) (start .pre))
+    omega (arith, label-count-ensures, c .group-count .ensures, part2-length (label-in code) (index .0), group-length (index .0) (start .pre))
 
 pub part2-size-spec : {M : Type 1} → statement M
 part2-size-spec =

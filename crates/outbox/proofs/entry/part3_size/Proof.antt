@@ -21,14 +21,25 @@ group-count-requires-2 c κs = search needs
 add-result : tie.Need-add-result
 add-result c =
     let start : tie.Start = search in
+    let number = start .args .number in
+    let index = start .args .index in
     let group-count-ensures = (let p : tie.After-group-count = search in p .group-count .ensures) in
-    omega (arith, group-count-ensures, c .group-count2 .ensures, count-most (start .args .number) (start .pre .0), count-most (start .args .index .0) (start .pre .1))
+    omega (arith, group-count-ensures, c .group-count2 .ensures, count-most number (start .pre .0), count-most (index .0) (start .pre .1))
 
 returns : tie.Need-returns
 returns c =
     let start : tie.Start = search in
+    let number = start .args .number in
+    let index = start .args .index in
     let group-count-ensures = (let p : tie.After-group-count = search in p .group-count .ensures) in
-    omega (arith, group-count-ensures, c .group-count2 .ensures, part3-length (start .args .number) (start .args .index .0), group-length (start .args .number) (start .pre .0), group-length (start .args .index .0) (start .pre .1))
+    omega (
+      arith,
+      group-count-ensures,
+      c .group-count2 .ensures,
+      part3-length number (index .0),
+      group-length number (start .pre .0),
+      group-length (index .0) (start .pre .1),
+    )
 
 pub part3-size-spec : {M : Type 1} → statement M
 part3-size-spec =

@@ -21,14 +21,25 @@ group-count-requires-2 c κs = search needs
 add-result : tie.Need-add-result
 add-result c =
     let start : tie.Start = search in
+    let index = start .args .index in
+    let other = start .args .other in
     let group-count-ensures = (let p : tie.After-group-count = search in p .group-count .ensures) in
-    omega (arith, group-count-ensures, c .group-count2 .ensures, count-most (start .args .index .0) (start .pre .0), count-most (start .args .other) (start .pre .1))
+    omega (arith, group-count-ensures, c .group-count2 .ensures, count-most (index .0) (start .pre .0), count-most other (start .pre .1))
 
 returns : tie.Need-returns
 returns c =
     let start : tie.Start = search in
+    let index = start .args .index in
+    let other = start .args .other in
     let group-count-ensures = (let p : tie.After-group-count = search in p .group-count .ensures) in
-    omega (arith, group-count-ensures, c .group-count2 .ensures, pair-length (start .args .index .0) (start .args .other), group-length (start .args .index .0) (start .pre .0), group-length (start .args .other) (start .pre .1))
+    omega (
+      arith,
+      group-count-ensures,
+      c .group-count2 .ensures,
+      pair-length (index .0) other,
+      group-length (index .0) (start .pre .0),
+      group-length other (start .pre .1),
+    )
 
 pub part4-size-spec : {M : Type 1} → statement M
 part4-size-spec =

@@ -35,7 +35,15 @@ put-coordinate-requires-3 c κs =
     let pattern2-result = (let p : tie.After-pattern2 = search in p .pattern2 .result) in
     let put-coordinate-ensures = (let p : tie.After-put-coordinate = search in p .put-coordinate .ensures) in
     let put-coordinate2-ensures = (let p : tie.After-put-coordinate2 = search in p .put-coordinate2 .ensures) in
-    room-after put-coordinate2-ensures 8 (omega (arith, start .pre .1, stored-length put-coordinate-ensures, put-coordinate-ensures .past, coordinate-length pattern-result, coordinate-length pattern2-result))
+    room-after put-coordinate2-ensures 8
+    (omega (
+      arith,
+      start .pre .1,
+      stored-length put-coordinate-ensures,
+      put-coordinate-ensures .past,
+      coordinate-length pattern-result,
+      coordinate-length pattern2-result,
+    ))
 
 same-length : tie.Need-same-length
 same-length c = search needs
@@ -43,13 +51,15 @@ same-length c = search needs
 returns : tie.Need-returns
 returns c =
     let start : tie.Start = search in
+    let p' = start .args .p in
     let pattern-ensures = (let p : tie.After-pattern = search in p .pattern .ensures) in
     let pattern2-ensures = (let p : tie.After-pattern2 = search in p .pattern2 .ensures) in
     let pattern3-ensures = (let p : tie.After-pattern3 = search in p .pattern3 .ensures) in
     let put-coordinate-ensures = (let p : tie.After-put-coordinate = search in p .put-coordinate .ensures) in
     let put-coordinate2-ensures = (let p : tie.After-put-coordinate2 = search in p .put-coordinate2 .ensures) in
     let put-coordinate3-ensures = (let p : tie.After-put-coordinate3 = search in p .put-coordinate3 .ensures) in
-    stored-as (point-words (patterns (start .args .p)) pattern-ensures pattern2-ensures pattern3-ensures) (stored-then put-coordinate-ensures (stored-then put-coordinate2-ensures put-coordinate3-ensures))
+    stored-as (point-words (patterns p') pattern-ensures pattern2-ensures pattern3-ensures)
+    (stored-then put-coordinate-ensures (stored-then put-coordinate2-ensures put-coordinate3-ensures))
 
 pub put-point-spec : {M : Type 1} → statement M
 put-point-spec =

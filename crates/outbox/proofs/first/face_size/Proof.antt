@@ -15,19 +15,47 @@ group-count-requires c κs = search needs
 darts-size-requires : tie.Need-darts-size-requires
 darts-size-requires c κs =
     let start : tie.Start = search in
-    (start .pre .0, omega (arith, start .pre .1, face-length (start .args .block .now) (start .args .numbers .now) (start .args .order .now) (start .args .start) (start .args .size)))
+    let block = start .args .block .now in
+    let numbers = start .args .numbers .now in
+    let order = start .args .order .now in
+    let start' = start .args .start in
+    let size = start .args .size in
+    (start .pre .0, omega (arith, start .pre .1, face-length block numbers order start' size))
 
 add-result : tie.Need-add-result
 add-result c =
     let start : tie.Start = search in
+    let block = start .args .block .now in
+    let numbers = start .args .numbers .now in
+    let order = start .args .order .now in
+    let start' = start .args .start in
+    let size = start .args .size in
     let group-count-ensures = (let p : tie.After-group-count = search in p .group-count .ensures) in
-    omega (arith, group-count-ensures, c .darts-size .ensures, start .pre .1, face-length (start .args .block .now) (start .args .numbers .now) (start .args .order .now) (start .args .start) (start .args .size), group-length (start .args .size) (omega (arith, start .pre .0 .0 .few)))
+    omega (
+      arith,
+      group-count-ensures,
+      c .darts-size .ensures,
+      start .pre .1,
+      face-length block numbers order start' size,
+      group-length size (omega (arith, start .pre .0 .0 .few)),
+    )
 
 returns : tie.Need-returns
 returns c =
     let start : tie.Start = search in
+    let block = start .args .block .now in
+    let numbers = start .args .numbers .now in
+    let order = start .args .order .now in
+    let start' = start .args .start in
+    let size = start .args .size in
     let group-count-ensures = (let p : tie.After-group-count = search in p .group-count .ensures) in
-    omega (arith, group-count-ensures, c .darts-size .ensures, face-length (start .args .block .now) (start .args .numbers .now) (start .args .order .now) (start .args .start) (start .args .size), group-length (start .args .size) (omega (arith, start .pre .0 .0 .few)))
+    omega (
+      arith,
+      group-count-ensures,
+      c .darts-size .ensures,
+      face-length block numbers order start' size,
+      group-length size (omega (arith, start .pre .0 .0 .few)),
+    )
 
 pub face-size-spec : {M : Type 1} → statement M
 face-size-spec =

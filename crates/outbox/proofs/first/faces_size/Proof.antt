@@ -43,38 +43,72 @@ sub-face-size c =
 face-size-requires : tie.Need-face-size-requires Inv-loop μ-loop
 face-size-requires c κs =
     let start : tie.Start Inv-loop μ-loop = search in
+    let block = start .args .block .now in
+    let numbers = start .args .numbers .now in
+    let order = start .args .order .now in
+    let starts = start .args .starts .now in
+    let darts = start .args .darts in
+    let count = start .args .count in
     let loop-f = (let p : tie.At-loop Inv-loop μ-loop = search in p .loop .f) in
     let loop-inv = (let p : tie.At-loop Inv-loop μ-loop = search in p .loop .inv) in
-    let loop-test-taken = (let p : tie.In-loop Inv-loop μ-loop = search in p .loop-test .taken) in
-    ((listed-part (start .pre .0 .0) _ (end-le (start .pre .0 .2) loop-f (c .face-end .result) loop-test-taken (c .face-end .ensures)), vertexed-part (start .pre .0 .1) _ (end-le (start .pre .0 .2) loop-f (c .face-end .result) loop-test-taken (c .face-end .ensures))), omega (arith, ap length (faces-is (start .args .block .now) (start .args .numbers .now) (start .args .order .now) (start .args .starts .now) (start .args .darts) (start .args .count) loop-f (c .face-end .result) (c .face-end .ensures)), counting-one loop-inv loop-test-taken))
+    let loop-test-taken = (let p : tie.In-loop Inv-loop μ-loop = search in p .loop-test .taken) in (
+      (
+        listed-part (start .pre .0 .0) _
+            (end-le (start .pre .0 .2) loop-f (c .face-end .result) loop-test-taken (c .face-end .ensures)),
+        vertexed-part (start .pre .0 .1) _
+            (end-le (start .pre .0 .2) loop-f (c .face-end .result) loop-test-taken (c .face-end .ensures)),
+      ),
+      omega (
+        arith,
+        ap length (faces-is block numbers order starts darts count loop-f (c .face-end .result) (c .face-end .ensures)),
+        counting-one loop-inv loop-test-taken,
+      ),
+    )
 
 add-bytes : tie.Need-add-bytes Inv-loop μ-loop
 add-bytes c =
     let start : tie.Start Inv-loop μ-loop = search in
+    let block = start .args .block .now in
+    let numbers = start .args .numbers .now in
+    let order = start .args .order .now in
+    let starts = start .args .starts .now in
+    let darts = start .args .darts in
+    let count = start .args .count in
     let loop-f = (let p : tie.At-loop Inv-loop μ-loop = search in p .loop .f) in
     let loop-inv = (let p : tie.At-loop Inv-loop μ-loop = search in p .loop .inv) in
     let loop-test-taken = (let p : tie.In-loop Inv-loop μ-loop = search in p .loop-test .taken) in
     let face-end-ensures = (let p : tie.After-face-end Inv-loop μ-loop = search in p .face-end .ensures) in
     let face-end-result = (let p : tie.After-face-end Inv-loop μ-loop = search in p .face-end .result) in
-    omega (arith, c .face-size .ensures, ap length (faces-is (start .args .block .now) (start .args .numbers .now) (start .args .order .now) (start .args .starts .now) (start .args .darts) (start .args .count) loop-f face-end-result face-end-ensures), counting-small loop-inv loop-test-taken)
+    omega (
+      arith,
+      c .face-size .ensures,
+      ap length (faces-is block numbers order starts darts count loop-f face-end-result face-end-ensures),
+      counting-small loop-inv loop-test-taken,
+    )
 
 add-f : tie.Need-add-f Inv-loop μ-loop
 add-f c = search needs
 
 loop-less : tie.Need-loop-less Inv-loop μ-loop
-loop-less c =
-    let loop-test-taken = (let p : tie.In-loop Inv-loop μ-loop = search in p .loop-test .taken) in
-    omega (arith, loop-test-taken)
+loop-less c = omega arith
 
 loop-again : tie.Need-loop-again Inv-loop μ-loop
 loop-again c =
     let start : tie.Start Inv-loop μ-loop = search in
+    let block = start .args .block .now in
+    let numbers = start .args .numbers .now in
+    let order = start .args .order .now in
+    let starts = start .args .starts .now in
+    let darts = start .args .darts in
+    let count = start .args .count in
     let loop-f = (let p : tie.At-loop Inv-loop μ-loop = search in p .loop .f) in
     let loop-inv = (let p : tie.At-loop Inv-loop μ-loop = search in p .loop .inv) in
     let loop-test-taken = (let p : tie.In-loop Inv-loop μ-loop = search in p .loop-test .taken) in
     let face-end-ensures = (let p : tie.After-face-end Inv-loop μ-loop = search in p .face-end .ensures) in
     let face-end-result = (let p : tie.After-face-end Inv-loop μ-loop = search in p .face-end .result) in
-    counting-step loop-inv loop-test-taken (c .face-size .ensures ∙ sym (ap length (faces-is (start .args .block .now) (start .args .numbers .now) (start .args .order .now) (start .args .starts .now) (start .args .darts) (start .args .count) loop-f face-end-result face-end-ensures)))
+    counting-step loop-inv loop-test-taken
+    (c .face-size .ensures
+    ∙ sym (ap length (faces-is block numbers order starts darts count loop-f face-end-result face-end-ensures)))
 
 returns : tie.Need-returns Inv-loop μ-loop
 returns c =

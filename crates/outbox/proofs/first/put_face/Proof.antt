@@ -13,13 +13,23 @@ cast-put-group c = search needs
 put-group-requires : tie.Need-put-group-requires
 put-group-requires c κs =
     let start : tie.Start = search in
-    omega (arith, start .pre .1, face-length (start .args .block .now) (start .args .numbers .now) (start .args .order .now) (start .args .start) (start .args .size))
+    let block = start .args .block .now in
+    let numbers = start .args .numbers .now in
+    let order = start .args .order .now in
+    let start' = start .args .start in
+    let size = start .args .size in
+    omega (arith, start .pre .1, face-length block numbers order start' size)
 
 put-darts-requires : tie.Need-put-darts-requires
 put-darts-requires c κs =
     let start : tie.Start = search in
+    let block = start .args .block .now in
+    let numbers = start .args .numbers .now in
+    let order = start .args .order .now in
+    let start' = start .args .start in
+    let size = start .args .size in
     let put-group-ensures = (let p : tie.After-put-group = search in p .put-group .ensures) in
-    (start .pre .0, room-after put-group-ensures _ (omega (arith, start .pre .1, face-length (start .args .block .now) (start .args .numbers .now) (start .args .order .now) (start .args .start) (start .args .size))))
+    (start .pre .0, room-after put-group-ensures _ (omega (arith, start .pre .1, face-length block numbers order start' size)))
 
 same-length : tie.Need-same-length
 same-length c = search needs
@@ -27,9 +37,14 @@ same-length c = search needs
 returns : tie.Need-returns
 returns c =
     let start : tie.Start = search in
+    let block = start .args .block .now in
+    let numbers = start .args .numbers .now in
+    let order = start .args .order .now in
+    let start' = start .args .start in
+    let size = start .args .size in
     let put-group-ensures = (let p : tie.After-put-group = search in p .put-group .ensures) in
     let put-darts-ensures = (let p : tie.After-put-darts = search in p .put-darts .ensures) in
-    stored-as (face-of (start .args .block .now) (start .args .numbers .now) (start .args .order .now) (start .args .start) (start .args .size)) (stored-then put-group-ensures put-darts-ensures)
+    stored-as (face-of block numbers order start' size) (stored-then put-group-ensures put-darts-ensures)
 
 pub put-face-spec : {M : Type 1} → statement M
 put-face-spec =

@@ -44,31 +44,50 @@ sub-put-face c =
 put-face-requires : tie.Need-put-face-requires Inv-loop μ-loop
 put-face-requires c κs =
     let start : tie.Start Inv-loop μ-loop = search in
+    let block = start .args .block .now in
+    let numbers = start .args .numbers .now in
+    let order = start .args .order .now in
+    let starts = start .args .starts .now in
+    let darts = start .args .darts in
+    let count = start .args .count in
     let loop-f = (let p : tie.At-loop Inv-loop μ-loop = search in p .loop .f) in
     let loop-inv = (let p : tie.At-loop Inv-loop μ-loop = search in p .loop .inv) in
     let loop-test-taken = (let p : tie.In-loop Inv-loop μ-loop = search in p .loop-test .taken) in
     let face-end-ensures = (let p : tie.After-face-end Inv-loop μ-loop = search in p .face-end .ensures) in
-    let face-end-result = (let p : tie.After-face-end Inv-loop μ-loop = search in p .face-end .result) in
-    ((listed-part (start .pre .0 .0) _ (end-le (start .pre .0 .2) loop-f face-end-result loop-test-taken face-end-ensures), vertexed-part (start .pre .0 .1) _ (end-le (start .pre .0 .2) loop-f face-end-result loop-test-taken face-end-ensures)), omega (arith, ap length (faces-is (start .args .block .now) (start .args .numbers .now) (start .args .order .now) (start .args .starts .now) (start .args .darts) (start .args .count) loop-f face-end-result face-end-ensures), running-space loop-inv loop-test-taken))
+    let face-end-result = (let p : tie.After-face-end Inv-loop μ-loop = search in p .face-end .result) in (
+      (
+        listed-part (start .pre .0 .0) _ (end-le (start .pre .0 .2) loop-f face-end-result loop-test-taken face-end-ensures),
+        vertexed-part (start .pre .0 .1) _ (end-le (start .pre .0 .2) loop-f face-end-result loop-test-taken face-end-ensures),
+      ),
+      omega (
+        arith,
+        ap length (faces-is block numbers order starts darts count loop-f face-end-result face-end-ensures),
+        running-space loop-inv loop-test-taken,
+      ),
+    )
 
 add-f : tie.Need-add-f Inv-loop μ-loop
 add-f c = search needs
 
 loop-less : tie.Need-loop-less Inv-loop μ-loop
-loop-less c =
-    let loop-test-taken = (let p : tie.In-loop Inv-loop μ-loop = search in p .loop-test .taken) in
-    omega (arith, loop-test-taken)
+loop-less c = omega arith
 
 loop-again : tie.Need-loop-again Inv-loop μ-loop
 loop-again c =
     let start : tie.Start Inv-loop μ-loop = search in
+    let block = start .args .block .now in
+    let numbers = start .args .numbers .now in
+    let order = start .args .order .now in
+    let starts = start .args .starts .now in
+    let darts = start .args .darts in
+    let count = start .args .count in
     let loop-f = (let p : tie.At-loop Inv-loop μ-loop = search in p .loop .f) in
     let loop-inv = (let p : tie.At-loop Inv-loop μ-loop = search in p .loop .inv) in
     let loop-test-taken = (let p : tie.In-loop Inv-loop μ-loop = search in p .loop-test .taken) in
     let face-end-ensures = (let p : tie.After-face-end Inv-loop μ-loop = search in p .face-end .ensures) in
     let face-end-result = (let p : tie.After-face-end Inv-loop μ-loop = search in p .face-end .result) in
     let put-face-ensures = (let p : tie.After-put-face Inv-loop μ-loop = search in p .put-face .ensures) in
-    running-step loop-inv loop-test-taken (stored-as (faces-is (start .args .block .now) (start .args .numbers .now) (start .args .order .now) (start .args .starts .now) (start .args .darts) (start .args .count) loop-f face-end-result face-end-ensures) put-face-ensures)
+    running-step loop-inv loop-test-taken (stored-as (faces-is block numbers order starts darts count loop-f face-end-result face-end-ensures) put-face-ensures)
 
 same-length : tie.Need-same-length Inv-loop μ-loop
 same-length c =

@@ -39,29 +39,35 @@ point-at-requires c κs =
 put-point-requires : tie.Need-put-point-requires Inv-loop μ-loop
 put-point-requires c κs =
     let start : tie.Start Inv-loop μ-loop = search in
+    let block = start .args .block .now in
+    let firsts = start .args .firsts .now in
     let loop-inv = (let p : tie.At-loop Inv-loop μ-loop = search in p .loop .inv) in
     let loop-k = (let p : tie.At-loop Inv-loop μ-loop = search in p .loop .k) in
-    let loop-test-taken = (let p : tie.In-loop Inv-loop μ-loop = search in p .loop-test .taken) in
-    (point-fine (start .args .block .now) (start .args .firsts .now) loop-k (c .point-at .result) (c .point-at .ensures) (start .pre .0 .finite loop-k loop-test-taken), omega (arith, running-space loop-inv loop-test-taken, point-put-length (start .args .block .now) (start .args .firsts .now) loop-k))
+    let loop-test-taken = (let p : tie.In-loop Inv-loop μ-loop = search in p .loop-test .taken) in (
+      point-fine block firsts loop-k (c .point-at .result) (c .point-at .ensures) (start .pre .0 .finite loop-k loop-test-taken),
+      omega (arith, running-space loop-inv loop-test-taken, point-put-length block firsts loop-k),
+    )
 
 add-k : tie.Need-add-k Inv-loop μ-loop
 add-k c = search needs
 
 loop-less : tie.Need-loop-less Inv-loop μ-loop
-loop-less c =
-    let loop-test-taken = (let p : tie.In-loop Inv-loop μ-loop = search in p .loop-test .taken) in
-    omega (arith, loop-test-taken)
+loop-less c = omega arith
 
 loop-again : tie.Need-loop-again Inv-loop μ-loop
 loop-again c =
     let start : tie.Start Inv-loop μ-loop = search in
+    let block = start .args .block .now in
+    let firsts = start .args .firsts .now in
     let loop-inv = (let p : tie.At-loop Inv-loop μ-loop = search in p .loop .inv) in
     let loop-k = (let p : tie.At-loop Inv-loop μ-loop = search in p .loop .k) in
     let loop-test-taken = (let p : tie.In-loop Inv-loop μ-loop = search in p .loop-test .taken) in
     let point-at-ensures = (let p : tie.After-point-at Inv-loop μ-loop = search in p .point-at .ensures) in
     let point-at-result = (let p : tie.After-point-at Inv-loop μ-loop = search in p .point-at .result) in
     let put-point-ensures = (let p : tie.After-put-point Inv-loop μ-loop = search in p .put-point .ensures) in
-    running-step loop-inv loop-test-taken (stored-as (point-is (start .args .block .now) (start .args .firsts .now) loop-k point-at-result point-at-ensures (start .pre .0 .finite loop-k loop-test-taken)) put-point-ensures)
+    running-step loop-inv loop-test-taken
+    (stored-as (point-is block firsts loop-k point-at-result point-at-ensures (start .pre .0 .finite loop-k loop-test-taken))
+    put-point-ensures)
 
 same-length : tie.Need-same-length Inv-loop μ-loop
 same-length c =

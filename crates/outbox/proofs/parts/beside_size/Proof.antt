@@ -5,14 +5,10 @@ use Rattle.outbox.proofs.parts.beside_size.Statement.{statement}
 use Rattle.outbox.proofs.parts.beside_size.Tie as tie
 
 mul-p : tie.Need-mul-p
-mul-p c =
-    let start : tie.Start = search in
-    omega (arith, start .pre .0 .0 .few, start .pre .0 .1)
+mul-p c = omega arith
 
 shared-slice-read-p : tie.Need-shared-slice-read-p
-shared-slice-read-p c =
-    let start : tie.Start = search in
-    omega (arith, start .pre .0 .0 .few, start .pre .0 .0 .order-size, start .pre .0 .1)
+shared-slice-read-p c = omega arith
 
 field-requires : tie.Need-field-requires
 field-requires c κs =
@@ -22,30 +18,43 @@ field-requires c κs =
 part4-size-requires : tie.Need-part4-size-requires
 part4-size-requires c κs =
     let start : tie.Start = search in
-    (omega (arith, start .pre .0 .0 .few), omega (arith, c .field .ensures, start .pre .0 .0 .other-small (start .args .start) (omega (arith, start .pre .0 .1))))
+    let start' = start .args .start in
+    (omega (arith, start .pre .0 .0 .few), omega (arith, c .field .ensures, start .pre .0 .0 .other-small start' (omega (arith, start .pre .0 .1))))
 
 labels-size-requires : tie.Need-labels-size-requires
 labels-size-requires c κs =
     let start : tie.Start = search in
+    let block = start .args .block .now in
+    let order = start .args .order .now in
+    let start' = start .args .start in
+    let size = start .args .size in
     let field-ensures = (let p : tie.After-field = search in p .field .ensures) in
     let field-result = (let p : tie.After-field = search in p .field .result) in
-    (start .pre .0 .0, omega (arith, start .pre .1, beside-length (start .args .block .now) (start .args .order .now) (start .args .start) (start .args .size) field-result field-ensures))
+    (start .pre .0 .0, omega (arith, start .pre .1, beside-length block order start' size field-result field-ensures))
 
 add-result : tie.Need-add-result
 add-result c =
     let start : tie.Start = search in
+    let block = start .args .block .now in
+    let order = start .args .order .now in
+    let start' = start .args .start in
+    let size = start .args .size in
     let field-ensures = (let p : tie.After-field = search in p .field .ensures) in
     let field-result = (let p : tie.After-field = search in p .field .result) in
     let part4-size-ensures = (let p : tie.After-part4-size = search in p .part4-size .ensures) in
-    omega (arith, start .pre .1, part4-size-ensures, c .labels-size .ensures, beside-length (start .args .block .now) (start .args .order .now) (start .args .start) (start .args .size) field-result field-ensures)
+    omega (arith, start .pre .1, part4-size-ensures, c .labels-size .ensures, beside-length block order start' size field-result field-ensures)
 
 returns : tie.Need-returns
 returns c =
     let start : tie.Start = search in
+    let block = start .args .block .now in
+    let order = start .args .order .now in
+    let start' = start .args .start in
+    let size = start .args .size in
     let field-ensures = (let p : tie.After-field = search in p .field .ensures) in
     let field-result = (let p : tie.After-field = search in p .field .result) in
     let part4-size-ensures = (let p : tie.After-part4-size = search in p .part4-size .ensures) in
-    omega (arith, part4-size-ensures, c .labels-size .ensures, beside-length (start .args .block .now) (start .args .order .now) (start .args .start) (start .args .size) field-result field-ensures)
+    omega (arith, part4-size-ensures, c .labels-size .ensures, beside-length block order start' size field-result field-ensures)
 
 pub beside-size-spec : {M : Type 1} → statement M
 beside-size-spec =

@@ -46,30 +46,34 @@ label-count-requires c κs = search needs
 add-bytes : tie.Need-add-bytes Inv-loop μ-loop
 add-bytes c =
     let start : tie.Start Inv-loop μ-loop = search in
+    let block = start .args .block .now in
+    let order = start .args .order .now in
+    let start' = start .args .start in
     let loop-inv = (let p : tie.At-loop Inv-loop μ-loop = search in p .loop .inv) in
     let loop-k = (let p : tie.At-loop Inv-loop μ-loop = search in p .loop .k) in
     let loop-test-taken = (let p : tie.In-loop Inv-loop μ-loop = search in p .loop-test .taken) in
     let field-ensures = (let p : tie.After-field Inv-loop μ-loop = search in p .field .ensures) in
     let field-result = (let p : tie.After-field Inv-loop μ-loop = search in p .field .result) in
-    omega (arith, c .label-count .ensures, ap length (label-is (start .args .block .now) (start .args .order .now) (start .args .start) loop-k field-result field-ensures), counting-small loop-inv loop-test-taken)
+    omega (arith, c .label-count .ensures, ap length (label-is block order start' loop-k field-result field-ensures), counting-small loop-inv loop-test-taken)
 
 add-k : tie.Need-add-k Inv-loop μ-loop
 add-k c = search needs
 
 loop-less : tie.Need-loop-less Inv-loop μ-loop
-loop-less c =
-    let loop-test-taken = (let p : tie.In-loop Inv-loop μ-loop = search in p .loop-test .taken) in
-    omega (arith, loop-test-taken)
+loop-less c = omega arith
 
 loop-again : tie.Need-loop-again Inv-loop μ-loop
 loop-again c =
     let start : tie.Start Inv-loop μ-loop = search in
+    let block = start .args .block .now in
+    let order = start .args .order .now in
+    let start' = start .args .start in
     let loop-inv = (let p : tie.At-loop Inv-loop μ-loop = search in p .loop .inv) in
     let loop-k = (let p : tie.At-loop Inv-loop μ-loop = search in p .loop .k) in
     let loop-test-taken = (let p : tie.In-loop Inv-loop μ-loop = search in p .loop-test .taken) in
     let field-ensures = (let p : tie.After-field Inv-loop μ-loop = search in p .field .ensures) in
     let field-result = (let p : tie.After-field Inv-loop μ-loop = search in p .field .result) in
-    counting-step loop-inv loop-test-taken (c .label-count .ensures ∙ sym (ap length (label-is (start .args .block .now) (start .args .order .now) (start .args .start) loop-k field-result field-ensures)))
+    counting-step loop-inv loop-test-taken (c .label-count .ensures ∙ sym (ap length (label-is block order start' loop-k field-result field-ensures)))
 
 returns : tie.Need-returns Inv-loop μ-loop
 returns c =

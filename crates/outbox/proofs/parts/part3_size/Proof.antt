@@ -26,15 +26,10 @@ loop-holds c =
     (counting-start _ _ (start .pre .1 .1), tally-from _ _)
 
 mul-i : tie.Need-mul-i Inv-loop μ-loop
-mul-i c =
-    let start : tie.Start Inv-loop μ-loop = search in
-    omega (arith, c .loop-test .taken, start .pre .0 .2 .few)
+mul-i c = omega arith
 
 shared-slice-read-i : tie.Need-shared-slice-read-i Inv-loop μ-loop
-shared-slice-read-i c =
-    let start : tie.Start Inv-loop μ-loop = search in
-    let loop-test-taken = (let p : tie.In-loop Inv-loop μ-loop = search in p .loop-test .taken) in
-    omega (arith, loop-test-taken, start .pre .0 .2 .few, start .pre .0 .2 .starts-size)
+shared-slice-read-i c = omega arith
 
 mul-p : tie.Need-mul-p Inv-loop μ-loop
 mul-p c =
@@ -51,10 +46,7 @@ shared-slice-read-p c =
     omega (arith, start .pre .0 .2 .index-small loop-f loop-test-taken, start .pre .0 .2 .order-size)
 
 add-f : tie.Need-add-f Inv-loop μ-loop
-add-f c =
-    let start : tie.Start Inv-loop μ-loop = search in
-    let loop-test-taken = (let p : tie.In-loop Inv-loop μ-loop = search in p .loop-test .taken) in
-    omega (arith, loop-test-taken, start .pre .0 .2 .few)
+add-f c = omega arith
 
 sewn-away-requires : tie.Need-sewn-away-requires Inv-loop μ-loop
 sewn-away-requires c κs =
@@ -64,61 +56,104 @@ sewn-away-requires c κs =
     (start .pre .0 .0, start .pre .0 .1, start .pre .0 .2 .place-below loop-f loop-test-taken)
 
 loop-less : tie.Need-loop-less Inv-loop μ-loop
-loop-less c =
-    let loop-test-taken = (let p : tie.In-loop Inv-loop μ-loop = search in p .loop-test .taken) in
-    omega (arith, loop-test-taken)
+loop-less c = omega arith
 
 loop-again : tie.Need-loop-again Inv-loop μ-loop
 loop-again c =
     let start : tie.Start Inv-loop μ-loop = search in
+    let block = start .args .block .now in
+    let marks = start .args .marks .now in
+    let counter = start .args .counter in
+    let order = start .args .order .now in
+    let starts = start .args .starts .now in
     let loop-f = (let p : tie.At-loop Inv-loop μ-loop = search in p .loop .f) in
     let loop-inv = (let p : tie.At-loop Inv-loop μ-loop = search in p .loop .inv) in
     let loop-test-taken = (let p : tie.In-loop Inv-loop μ-loop = search in p .loop-test .taken) in
-    let sewn-away-ensures = (let p : tie.After-sewn-away Inv-loop μ-loop = search in p .sewn-away .ensures) in
-    (counting-skip (loop-inv .0) loop-test-taken (part3-none (start .args .block .now) (start .args .marks .now) (start .args .counter) (start .args .order .now) (start .args .starts .now) loop-f (said-no sewn-away-ensures (c .if1 .taken))), omega (arith, loop-inv .1, tally-no (in-part3 (start .args .block .now) (start .args .marks .now) (start .args .order .now) (start .args .starts .now)) loop-f (said-no sewn-away-ensures (c .if1 .taken))))
+    let sewn-away-ensures = (let p : tie.After-sewn-away Inv-loop μ-loop = search in p .sewn-away .ensures) in (
+      counting-skip (loop-inv .0) loop-test-taken
+          (part3-none block marks counter order starts loop-f (said-no sewn-away-ensures (c .if1 .taken))),
+      omega (arith, loop-inv .1, tally-no (in-part3 block marks order starts) loop-f (said-no sewn-away-ensures (c .if1 .taken))),
+    )
 
 part3-size-requires : tie.Need-part3-size-requires Inv-loop μ-loop
 part3-size-requires c κs =
     let start : tie.Start Inv-loop μ-loop = search in
+    let block = start .args .block .now in
+    let marks = start .args .marks .now in
+    let order = start .args .order .now in
+    let starts = start .args .starts .now in
+    let count = start .args .count in
     let loop-f = (let p : tie.At-loop Inv-loop μ-loop = search in p .loop .f) in
     let loop-inv = (let p : tie.At-loop Inv-loop μ-loop = search in p .loop .inv) in
-    let loop-test-taken = (let p : tie.In-loop Inv-loop μ-loop = search in p .loop-test .taken) in
-    (omega (arith, loop-inv .1, start .pre .1 .0, tally-grows (in-part3 (start .args .block .now) (start .args .marks .now) (start .args .order .now) (start .args .starts .now)) loop-f (start .args .count) (omega (arith, loop-test-taken))), omega (arith, start .pre .0 .2 .index-small loop-f loop-test-taken))
+    let loop-test-taken = (let p : tie.In-loop Inv-loop μ-loop = search in p .loop-test .taken) in (
+      omega (
+        arith,
+        loop-inv .1,
+        start .pre .1 .0,
+        tally-grows (in-part3 block marks order starts) loop-f count (omega (arith, loop-test-taken)),
+      ),
+      omega (arith, start .pre .0 .2 .index-small loop-f loop-test-taken),
+    )
 
 add-bytes : tie.Need-add-bytes Inv-loop μ-loop
 add-bytes c =
     let start : tie.Start Inv-loop μ-loop = search in
+    let block = start .args .block .now in
+    let marks = start .args .marks .now in
+    let counter = start .args .counter in
+    let order = start .args .order .now in
+    let starts = start .args .starts .now in
     let loop-f = (let p : tie.At-loop Inv-loop μ-loop = search in p .loop .f) in
     let loop-inv = (let p : tie.At-loop Inv-loop μ-loop = search in p .loop .inv) in
     let loop-number = (let p : tie.At-loop Inv-loop μ-loop = search in p .loop .number) in
     let loop-test-taken = (let p : tie.In-loop Inv-loop μ-loop = search in p .loop-test .taken) in
     let sewn-away-ensures = (let p : tie.After-sewn-away Inv-loop μ-loop = search in p .sewn-away .ensures) in
     let if1-left = (let p : tie.Else1 Inv-loop μ-loop = search in p .if1 .left) in
-    omega (arith, c .part3-size .ensures, ap length (part3-one (start .args .block .now) (start .args .marks .now) (start .args .counter) (start .args .order .now) (start .args .starts .now) loop-f loop-number (said-yes sewn-away-ensures if1-left) (loop-inv .1)), counting-small (loop-inv .0) loop-test-taken)
+    omega (
+      arith,
+      c .part3-size .ensures,
+      ap length
+          (part3-one block marks counter order starts loop-f loop-number (said-yes sewn-away-ensures if1-left) (loop-inv .1)),
+      counting-small (loop-inv .0) loop-test-taken,
+    )
 
 add-number : tie.Need-add-number Inv-loop μ-loop
 add-number c =
     let start : tie.Start Inv-loop μ-loop = search in
+    let block = start .args .block .now in
+    let marks = start .args .marks .now in
+    let order = start .args .order .now in
+    let starts = start .args .starts .now in
+    let count = start .args .count in
     let loop-f = (let p : tie.At-loop Inv-loop μ-loop = search in p .loop .f) in
     let loop-inv = (let p : tie.At-loop Inv-loop μ-loop = search in p .loop .inv) in
     let loop-test-taken = (let p : tie.In-loop Inv-loop μ-loop = search in p .loop-test .taken) in
-    omega (arith, loop-inv .1, start .pre .1 .0, tally-grows (in-part3 (start .args .block .now) (start .args .marks .now) (start .args .order .now) (start .args .starts .now)) loop-f (start .args .count) (omega (arith, loop-test-taken)))
+    omega (arith, loop-inv .1, start .pre .1 .0, tally-grows (in-part3 block marks order starts) loop-f count (omega (arith, loop-test-taken)))
 
 loop-less-2 : tie.Need-loop-less-2 Inv-loop μ-loop
-loop-less-2 c =
-    let loop-test-taken = (let p : tie.In-loop Inv-loop μ-loop = search in p .loop-test .taken) in
-    omega (arith, loop-test-taken)
+loop-less-2 c = omega arith
 
 loop-again-2 : tie.Need-loop-again-2 Inv-loop μ-loop
 loop-again-2 c =
     let start : tie.Start Inv-loop μ-loop = search in
+    let block = start .args .block .now in
+    let marks = start .args .marks .now in
+    let counter = start .args .counter in
+    let order = start .args .order .now in
+    let starts = start .args .starts .now in
     let loop-f = (let p : tie.At-loop Inv-loop μ-loop = search in p .loop .f) in
     let loop-inv = (let p : tie.At-loop Inv-loop μ-loop = search in p .loop .inv) in
     let loop-number = (let p : tie.At-loop Inv-loop μ-loop = search in p .loop .number) in
     let loop-test-taken = (let p : tie.In-loop Inv-loop μ-loop = search in p .loop-test .taken) in
     let sewn-away-ensures = (let p : tie.After-sewn-away Inv-loop μ-loop = search in p .sewn-away .ensures) in
-    let if1-left = (let p : tie.Else1 Inv-loop μ-loop = search in p .if1 .left) in
-    (counting-step (loop-inv .0) loop-test-taken (c .part3-size .ensures ∙ sym (ap length (part3-one (start .args .block .now) (start .args .marks .now) (start .args .counter) (start .args .order .now) (start .args .starts .now) loop-f loop-number (said-yes sewn-away-ensures if1-left) (loop-inv .1)))), omega (arith, loop-inv .1, tally-yes (in-part3 (start .args .block .now) (start .args .marks .now) (start .args .order .now) (start .args .starts .now)) loop-f (said-yes sewn-away-ensures if1-left)))
+    let if1-left = (let p : tie.Else1 Inv-loop μ-loop = search in p .if1 .left) in (
+      counting-step (loop-inv .0) loop-test-taken
+          (c .part3-size .ensures
+          ∙ sym
+          (ap length
+          (part3-one block marks counter order starts loop-f loop-number (said-yes sewn-away-ensures if1-left) (loop-inv .1)))),
+      omega (arith, loop-inv .1, tally-yes (in-part3 block marks order starts) loop-f (said-yes sewn-away-ensures if1-left)),
+    )
 
 returns : tie.Need-returns Inv-loop μ-loop
 returns c =

@@ -8,14 +8,10 @@ use Rattle.outbox.proofs.parts.put_beside.Statement.{statement}
 use Rattle.outbox.proofs.parts.put_beside.Tie as tie
 
 mul-p : tie.Need-mul-p
-mul-p c =
-    let start : tie.Start = search in
-    omega (arith, start .pre .0 .0 .few, start .pre .0 .1)
+mul-p c = omega arith
 
 shared-slice-read-p : tie.Need-shared-slice-read-p
-shared-slice-read-p c =
-    let start : tie.Start = search in
-    omega (arith, start .pre .0 .0 .few, start .pre .0 .0 .order-size, start .pre .0 .1)
+shared-slice-read-p c = omega arith
 
 field-requires : tie.Need-field-requires
 field-requires c κs =
@@ -25,17 +21,28 @@ field-requires c κs =
 put-part4-requires : tie.Need-put-part4-requires
 put-part4-requires c κs =
     let start : tie.Start = search in
+    let start' = start .args .start in
+    let block = start .args .block .now in
+    let order = start .args .order .now in
+    let size = start .args .size in
     let field-ensures = (let p : tie.After-field = search in p .field .ensures) in
-    let field-result = (let p : tie.After-field = search in p .field .result) in
-    (omega (arith, start .pre .0 .0 .few), omega (arith, field-ensures, start .pre .0 .0 .other-small (start .args .start) (omega (arith, start .pre .0 .1))), omega (arith, start .pre .1, beside-length (start .args .block .now) (start .args .order .now) (start .args .start) (start .args .size) field-result field-ensures))
+    let field-result = (let p : tie.After-field = search in p .field .result) in (
+      omega (arith, start .pre .0 .0 .few),
+      omega (arith, field-ensures, start .pre .0 .0 .other-small start' (omega (arith, start .pre .0 .1))),
+      omega (arith, start .pre .1, beside-length block order start' size field-result field-ensures),
+    )
 
 put-labels-requires : tie.Need-put-labels-requires
 put-labels-requires c κs =
     let start : tie.Start = search in
+    let block = start .args .block .now in
+    let order = start .args .order .now in
+    let start' = start .args .start in
+    let size = start .args .size in
     let field-ensures = (let p : tie.After-field = search in p .field .ensures) in
     let field-result = (let p : tie.After-field = search in p .field .result) in
     let put-part4-ensures = (let p : tie.After-put-part4 = search in p .put-part4 .ensures) in
-    (start .pre .0 .0, room-after put-part4-ensures _ (omega (arith, start .pre .1, beside-length (start .args .block .now) (start .args .order .now) (start .args .start) (start .args .size) field-result field-ensures)))
+    (start .pre .0 .0, room-after put-part4-ensures _ (omega (arith, start .pre .1, beside-length block order start' size field-result field-ensures)))
 
 same-length : tie.Need-same-length
 same-length c = search needs
@@ -43,11 +50,15 @@ same-length c = search needs
 returns : tie.Need-returns
 returns c =
     let start : tie.Start = search in
+    let block = start .args .block .now in
+    let order = start .args .order .now in
+    let start' = start .args .start in
+    let size = start .args .size in
     let field-ensures = (let p : tie.After-field = search in p .field .ensures) in
     let field-result = (let p : tie.After-field = search in p .field .result) in
     let put-part4-ensures = (let p : tie.After-put-part4 = search in p .put-part4 .ensures) in
     let put-labels-ensures = (let p : tie.After-put-labels = search in p .put-labels .ensures) in
-    stored-as (beside-of (start .args .block .now) (start .args .order .now) (start .args .start) (start .args .size) field-result field-ensures) (stored-then put-part4-ensures put-labels-ensures)
+    stored-as (beside-of block order start' size field-result field-ensures) (stored-then put-part4-ensures put-labels-ensures)
 
 pub put-beside-spec : {M : Type 1} → statement M
 put-beside-spec =

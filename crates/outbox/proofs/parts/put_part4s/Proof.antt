@@ -26,15 +26,10 @@ loop-holds c =
     running-start _ _ _ _ (start .pre .1)
 
 mul-start : tie.Need-mul-start Inv-loop μ-loop
-mul-start c =
-    let start : tie.Start Inv-loop μ-loop = search in
-    omega (arith, c .loop-test .taken, start .pre .0 .1 .few)
+mul-start c = omega arith
 
 shared-slice-read-start : tie.Need-shared-slice-read-start Inv-loop μ-loop
-shared-slice-read-start c =
-    let start : tie.Start Inv-loop μ-loop = search in
-    let loop-test-taken = (let p : tie.In-loop Inv-loop μ-loop = search in p .loop-test .taken) in
-    omega (arith, loop-test-taken, start .pre .0 .1 .few, start .pre .0 .1 .starts-size)
+shared-slice-read-start c = omega arith
 
 face-end-requires : tie.Need-face-end-requires Inv-loop μ-loop
 face-end-requires c κs =
@@ -57,31 +52,33 @@ shared-slice-read-p c =
     omega (arith, start .pre .0 .1 .below loop-f loop-test-taken, start .pre .0 .0 .few, start .pre .0 .0 .order-size)
 
 add-f : tie.Need-add-f Inv-loop μ-loop
-add-f c =
-    let start : tie.Start Inv-loop μ-loop = search in
-    let loop-test-taken = (let p : tie.In-loop Inv-loop μ-loop = search in p .loop-test .taken) in
-    omega (arith, loop-test-taken, start .pre .0 .1 .few)
+add-f c = omega arith
 
 critical-beside-requires : tie.Need-critical-beside-requires Inv-loop μ-loop
 critical-beside-requires c κs =
     let start : tie.Start Inv-loop μ-loop = search in
+    let starts = start .args .starts .now in
     let loop-f = (let p : tie.At-loop Inv-loop μ-loop = search in p .loop .f) in
     let loop-test-taken = (let p : tie.In-loop Inv-loop μ-loop = search in p .loop-test .taken) in
-    (start .pre .0 .0 .memory, start .pre .0 .0 .below (getD (start .args .starts .now) loop-f 0) (start .pre .0 .1 .below loop-f loop-test-taken), start .pre .0 .2)
+    (start .pre .0 .0 .memory, start .pre .0 .0 .below (getD starts loop-f 0) (start .pre .0 .1 .below loop-f loop-test-taken), start .pre .0 .2)
 
 loop-less : tie.Need-loop-less Inv-loop μ-loop
-loop-less c =
-    let loop-test-taken = (let p : tie.In-loop Inv-loop μ-loop = search in p .loop-test .taken) in
-    omega (arith, loop-test-taken)
+loop-less c = omega arith
 
 loop-again : tie.Need-loop-again Inv-loop μ-loop
 loop-again c =
     let start : tie.Start Inv-loop μ-loop = search in
+    let block = start .args .block .now in
+    let to = start .args .to in
+    let order = start .args .order .now in
+    let starts = start .args .starts .now in
+    let darts = start .args .darts in
+    let count = start .args .count in
     let loop-f = (let p : tie.At-loop Inv-loop μ-loop = search in p .loop .f) in
     let loop-inv = (let p : tie.At-loop Inv-loop μ-loop = search in p .loop .inv) in
     let loop-test-taken = (let p : tie.In-loop Inv-loop μ-loop = search in p .loop-test .taken) in
     let critical-beside-ensures = (let p : tie.After-critical-beside Inv-loop μ-loop = search in p .critical-beside .ensures) in
-    running-skip loop-inv loop-test-taken (part4-none (start .args .block .now) (start .args .to) (start .args .order .now) (start .args .starts .now) loop-f (start .args .darts) (start .args .count) (said-no critical-beside-ensures (c .if1 .taken)))
+    running-skip loop-inv loop-test-taken (part4-none block to order starts loop-f darts count (said-no critical-beside-ensures (c .if1 .taken)))
 
 sub-put-beside : tie.Need-sub-put-beside Inv-loop μ-loop
 sub-put-beside c =
@@ -95,23 +92,44 @@ sub-put-beside c =
 put-beside-requires : tie.Need-put-beside-requires Inv-loop μ-loop
 put-beside-requires c κs =
     let start : tie.Start Inv-loop μ-loop = search in
+    let block = start .args .block .now in
+    let to = start .args .to in
+    let order = start .args .order .now in
+    let starts = start .args .starts .now in
+    let darts = start .args .darts in
+    let count = start .args .count in
     let loop-f = (let p : tie.At-loop Inv-loop μ-loop = search in p .loop .f) in
     let loop-inv = (let p : tie.At-loop Inv-loop μ-loop = search in p .loop .inv) in
     let loop-test-taken = (let p : tie.In-loop Inv-loop μ-loop = search in p .loop-test .taken) in
     let face-end-ensures = (let p : tie.After-face-end Inv-loop μ-loop = search in p .face-end .ensures) in
     let face-end-result = (let p : tie.After-face-end Inv-loop μ-loop = search in p .face-end .result) in
     let critical-beside-ensures = (let p : tie.After-critical-beside Inv-loop μ-loop = search in p .critical-beside .ensures) in
-    let if1-left = (let p : tie.Else1 Inv-loop μ-loop = search in p .if1 .left) in
-    ((listed-part (start .pre .0 .0) _ (end-le (start .pre .0 .1) loop-f face-end-result loop-test-taken face-end-ensures), some-darts (start .pre .0 .1) loop-f face-end-result loop-test-taken face-end-ensures), omega (arith, ap length (part4-one (start .args .block .now) (start .args .to) (start .args .order .now) (start .args .starts .now) loop-f (start .args .darts) (start .args .count) face-end-result (said-yes critical-beside-ensures if1-left) face-end-ensures), running-space loop-inv loop-test-taken))
+    let if1-left = (let p : tie.Else1 Inv-loop μ-loop = search in p .if1 .left) in (
+      (
+        listed-part (start .pre .0 .0) _ (end-le (start .pre .0 .1) loop-f face-end-result loop-test-taken face-end-ensures),
+        some-darts (start .pre .0 .1) loop-f face-end-result loop-test-taken face-end-ensures,
+      ),
+      omega (
+        arith,
+        ap length
+            (part4-one block to order starts loop-f darts count face-end-result (said-yes critical-beside-ensures if1-left)
+            face-end-ensures),
+        running-space loop-inv loop-test-taken,
+      ),
+    )
 
 loop-less-2 : tie.Need-loop-less-2 Inv-loop μ-loop
-loop-less-2 c =
-    let loop-test-taken = (let p : tie.In-loop Inv-loop μ-loop = search in p .loop-test .taken) in
-    omega (arith, loop-test-taken)
+loop-less-2 c = omega arith
 
 loop-again-2 : tie.Need-loop-again-2 Inv-loop μ-loop
 loop-again-2 c =
     let start : tie.Start Inv-loop μ-loop = search in
+    let block = start .args .block .now in
+    let to = start .args .to in
+    let order = start .args .order .now in
+    let starts = start .args .starts .now in
+    let darts = start .args .darts in
+    let count = start .args .count in
     let loop-f = (let p : tie.At-loop Inv-loop μ-loop = search in p .loop .f) in
     let loop-inv = (let p : tie.At-loop Inv-loop μ-loop = search in p .loop .inv) in
     let loop-test-taken = (let p : tie.In-loop Inv-loop μ-loop = search in p .loop-test .taken) in
@@ -120,7 +138,10 @@ loop-again-2 c =
     let critical-beside-ensures = (let p : tie.After-critical-beside Inv-loop μ-loop = search in p .critical-beside .ensures) in
     let if1-left = (let p : tie.Else1 Inv-loop μ-loop = search in p .if1 .left) in
     let put-beside-ensures = (let p : tie.After-put-beside Inv-loop μ-loop = search in p .put-beside .ensures) in
-    running-step loop-inv loop-test-taken (stored-as (part4-one (start .args .block .now) (start .args .to) (start .args .order .now) (start .args .starts .now) loop-f (start .args .darts) (start .args .count) face-end-result (said-yes critical-beside-ensures if1-left) face-end-ensures) put-beside-ensures)
+    running-step loop-inv loop-test-taken
+    (stored-as
+    (part4-one block to order starts loop-f darts count face-end-result (said-yes critical-beside-ensures if1-left)
+    face-end-ensures) put-beside-ensures)
 
 same-length : tie.Need-same-length Inv-loop μ-loop
 same-length c =

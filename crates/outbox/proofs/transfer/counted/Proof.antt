@@ -19,7 +19,8 @@ add-result c =
 returns : tie.Need-returns
 returns c =
     let start : tie.Start = search in
-    (omega (arith, c .group-count .ensures, group-length (start .args .entries) (start .pre .0)), omega (arith, c .group-count .ensures, count-most (start .args .entries) (start .pre .0)))
+    let entries = start .args .entries in
+    (omega (arith, c .group-count .ensures, group-length entries (start .pre .0)), omega (arith, c .group-count .ensures, count-most entries (start .pre .0)))
 
 pub counted-spec : {M : Type 1} → statement M
 counted-spec = tie.close (tie.spec cast-group-count group-count-requires add-result returns)

@@ -8,57 +8,83 @@ use Rattle.outbox.proofs.transfer.put_part1.Tie as tie
 
 put-group-requires : tie.Need-put-group-requires
 put-group-requires c κs =
-    let st : tie.Start = search in
-    let m = st .args .block .now in
-    let len = first-length m (st .args .to) (st .args .counts) (st .args .order .now) (st .args .starts .now) (st .args .numbers .now) (st .args .firsts .now) in
-    omega (arith, st .pre .1 .1, len)
+    let start : tie.Start = search in
+    let to = start .args .to in
+    let counts = start .args .counts in
+    let order = start .args .order .now in
+    let starts = start .args .starts .now in
+    let numbers = start .args .numbers .now in
+    let firsts = start .args .firsts .now in
+    let m = start .args .block .now in
+    let len = first-length m to counts order starts numbers firsts in
+    omega (arith, start .pre .1 .1, len)
 
 shared-slice-read-put-group : tie.Need-shared-slice-read-put-group
-shared-slice-read-put-group c =
-    let start : tie.Start = search in
-    omega (arith, start .pre .0 .0 .memory)
+shared-slice-read-put-group c = omega arith
 
 cast-put-group : tie.Need-cast-put-group
-cast-put-group c =
-    let start : tie.Start = search in
-    omega (arith, start .pre .1 .0 .1)
+cast-put-group c = omega arith
 
 put-group-requires-2 : tie.Need-put-group-requires-2
 put-group-requires-2 c κs =
     let put-group-ensures = (let p : tie.After-put-group = search in p .put-group .ensures) in
-    let st : tie.Start = search in
-    let m = st .args .block .now in
-    let len = first-length m (st .args .to) (st .args .counts) (st .args .order .now) (st .args .starts .now) (st .args .numbers .now) (st .args .firsts .now) in
-    omega (arith, st .pre .1 .1, len, stored-length put-group-ensures, put-group-ensures .past)
+    let start : tie.Start = search in
+    let to = start .args .to in
+    let counts = start .args .counts in
+    let order = start .args .order .now in
+    let starts = start .args .starts .now in
+    let numbers = start .args .numbers .now in
+    let firsts = start .args .firsts .now in
+    let m = start .args .block .now in
+    let len = first-length m to counts order starts numbers firsts in
+    omega (arith, start .pre .1 .1, len, stored-length put-group-ensures, put-group-ensures .past)
 
 cast-put-group-2 : tie.Need-cast-put-group-2
-cast-put-group-2 c =
-    let start : tie.Start = search in
-    omega (arith, start .pre .1 .0 .2)
+cast-put-group-2 c = omega arith
 
 put-group-requires-3 : tie.Need-put-group-requires-3
 put-group-requires-3 c κs =
     let put-group-ensures = (let p : tie.After-put-group = search in p .put-group .ensures) in
     let put-group2-ensures = (let p : tie.After-put-group2 = search in p .put-group2 .ensures) in
-    let st : tie.Start = search in
-    let m = st .args .block .now in
-    let len = first-length m (st .args .to) (st .args .counts) (st .args .order .now) (st .args .starts .now) (st .args .numbers .now) (st .args .firsts .now) in
-    omega (arith, st .pre .1 .1, len, stored-length put-group-ensures, put-group-ensures .past, stored-length put-group2-ensures, put-group2-ensures .past)
+    let start : tie.Start = search in
+    let to = start .args .to in
+    let counts = start .args .counts in
+    let order = start .args .order .now in
+    let starts = start .args .starts .now in
+    let numbers = start .args .numbers .now in
+    let firsts = start .args .firsts .now in
+    let m = start .args .block .now in
+    let len = first-length m to counts order starts numbers firsts in
+    omega (arith, start .pre .1 .1, len, stored-length put-group-ensures, put-group-ensures .past, stored-length put-group2-ensures, put-group2-ensures .past)
 
 cast-put-group-3 : tie.Need-cast-put-group-3
-cast-put-group-3 c =
-    let start : tie.Start = search in
-    omega (arith, start .pre .1 .0 .0 .few)
+cast-put-group-3 c = omega arith
 
 put-group-requires-4 : tie.Need-put-group-requires-4
 put-group-requires-4 c κs =
     let put-group-ensures = (let p : tie.After-put-group = search in p .put-group .ensures) in
     let put-group2-ensures = (let p : tie.After-put-group2 = search in p .put-group2 .ensures) in
     let put-group3-ensures = (let p : tie.After-put-group3 = search in p .put-group3 .ensures) in
-    let st : tie.Start = search in
-    let m = st .args .block .now in
-    let len = first-length m (st .args .to) (st .args .counts) (st .args .order .now) (st .args .starts .now) (st .args .numbers .now) (st .args .firsts .now) in
-    omega (arith, st .pre .1 .1, len, stored-length put-group-ensures, put-group-ensures .past, stored-length put-group2-ensures, put-group2-ensures .past, stored-length put-group3-ensures, put-group3-ensures .past)
+    let start : tie.Start = search in
+    let to = start .args .to in
+    let counts = start .args .counts in
+    let order = start .args .order .now in
+    let starts = start .args .starts .now in
+    let numbers = start .args .numbers .now in
+    let firsts = start .args .firsts .now in
+    let m = start .args .block .now in
+    let len = first-length m to counts order starts numbers firsts in
+    omega (
+      arith,
+      start .pre .1 .1,
+      len,
+      stored-length put-group-ensures,
+      put-group-ensures .past,
+      stored-length put-group2-ensures,
+      put-group2-ensures .past,
+      stored-length put-group3-ensures,
+      put-group3-ensures .past,
+    )
 
 put-points-requires : tie.Need-put-points-requires
 put-points-requires c κs =
@@ -68,10 +94,29 @@ put-points-requires c κs =
     let put-group-ensures = (let p : tie.After-put-group = search in p .put-group .ensures) in
     let c : tie.After-put-group = search in
     let start : tie.Start = search in
-    let st = start in
-    let m = st .args .block .now in
-    let len = first-length m (st .args .to) (st .args .counts) (st .args .order .now) (st .args .starts .now) (st .args .numbers .now) (st .args .firsts .now) in
-    (st .pre .1 .0 .0, omega (arith, st .pre .1 .1, len, stored-length put-group-ensures, put-group-ensures .past, stored-length put-group2-ensures, put-group2-ensures .past, stored-length put-group3-ensures, put-group3-ensures .past, stored-length put-group4-ensures, put-group4-ensures .past))
+    let to = start .args .to in
+    let counts = start .args .counts in
+    let order = start .args .order .now in
+    let starts = start .args .starts .now in
+    let numbers = start .args .numbers .now in
+    let firsts = start .args .firsts .now in
+    let m = start .args .block .now in
+    let len = first-length m to counts order starts numbers firsts in (
+      start .pre .1 .0 .0,
+      omega (
+        arith,
+        start .pre .1 .1,
+        len,
+        stored-length put-group-ensures,
+        put-group-ensures .past,
+        stored-length put-group2-ensures,
+        put-group2-ensures .past,
+        stored-length put-group3-ensures,
+        put-group3-ensures .past,
+        stored-length put-group4-ensures,
+        put-group4-ensures .past,
+      ),
+    )
 
 cast-put-group-4 : tie.Need-cast-put-group-4
 cast-put-group-4 c =
@@ -88,10 +133,29 @@ put-group-requires-5 c κs =
     let put-group-ensures = (let p : tie.After-put-group = search in p .put-group .ensures) in
     let c : tie.After-put-group = search in
     let start : tie.Start = search in
-    let st = start in
-    let m = st .args .block .now in
-    let len = first-length m (st .args .to) (st .args .counts) (st .args .order .now) (st .args .starts .now) (st .args .numbers .now) (st .args .firsts .now) in
-    omega (arith, st .pre .1 .1, len, stored-length put-group-ensures, put-group-ensures .past, stored-length put-group2-ensures, put-group2-ensures .past, stored-length put-group3-ensures, put-group3-ensures .past, stored-length put-group4-ensures, put-group4-ensures .past, stored-length put-points-ensures, put-points-ensures .past)
+    let to = start .args .to in
+    let counts = start .args .counts in
+    let order = start .args .order .now in
+    let starts = start .args .starts .now in
+    let numbers = start .args .numbers .now in
+    let firsts = start .args .firsts .now in
+    let m = start .args .block .now in
+    let len = first-length m to counts order starts numbers firsts in
+    omega (
+      arith,
+      start .pre .1 .1,
+      len,
+      stored-length put-group-ensures,
+      put-group-ensures .past,
+      stored-length put-group2-ensures,
+      put-group2-ensures .past,
+      stored-length put-group3-ensures,
+      put-group3-ensures .past,
+      stored-length put-group4-ensures,
+      put-group4-ensures .past,
+      stored-length put-points-ensures,
+      put-points-ensures .past,
+    )
 
 put-faces-requires : tie.Need-put-faces-requires
 put-faces-requires c κs =
@@ -103,10 +167,33 @@ put-faces-requires c κs =
     let c : tie.After-put-group2 = search in
     let put-group-ensures = (let p : tie.After-put-group = search in p .put-group .ensures) in
     let start : tie.Start = search in
-    let st = start in
-    let m = st .args .block .now in
-    let len = first-length m (st .args .to) (st .args .counts) (st .args .order .now) (st .args .starts .now) (st .args .numbers .now) (st .args .firsts .now) in
-    (st .pre .0, omega (arith, st .pre .1 .1, len, stored-length put-group-ensures, put-group-ensures .past, stored-length put-group2-ensures, put-group2-ensures .past, stored-length put-group3-ensures, put-group3-ensures .past, stored-length put-group4-ensures, put-group4-ensures .past, stored-length put-points-ensures, put-points-ensures .past, stored-length put-group5-ensures, put-group5-ensures .past))
+    let to = start .args .to in
+    let counts = start .args .counts in
+    let order = start .args .order .now in
+    let starts = start .args .starts .now in
+    let numbers = start .args .numbers .now in
+    let firsts = start .args .firsts .now in
+    let m = start .args .block .now in
+    let len = first-length m to counts order starts numbers firsts in (
+      start .pre .0,
+      omega (
+        arith,
+        start .pre .1 .1,
+        len,
+        stored-length put-group-ensures,
+        put-group-ensures .past,
+        stored-length put-group2-ensures,
+        put-group2-ensures .past,
+        stored-length put-group3-ensures,
+        put-group3-ensures .past,
+        stored-length put-group4-ensures,
+        put-group4-ensures .past,
+        stored-length put-points-ensures,
+        put-points-ensures .past,
+        stored-length put-group5-ensures,
+        put-group5-ensures .past,
+      ),
+    )
 
 same-length : tie.Need-same-length
 same-length c =
@@ -118,7 +205,23 @@ same-length c =
     let c : tie.After-put-group3 = search in
     let put-group2-ensures = (let p : tie.After-put-group2 = search in p .put-group2 .ensures) in
     let put-group-ensures = (let p : tie.After-put-group = search in p .put-group .ensures) in
-    omega (arith, stored-length put-group-ensures, put-group-ensures .past, stored-length put-group2-ensures, put-group2-ensures .past, stored-length put-group3-ensures, put-group3-ensures .past, stored-length put-group4-ensures, put-group4-ensures .past, stored-length put-points-ensures, put-points-ensures .past, stored-length put-group5-ensures, put-group5-ensures .past, stored-length put-faces-ensures, put-faces-ensures .past)
+    omega (
+      arith,
+      stored-length put-group-ensures,
+      put-group-ensures .past,
+      stored-length put-group2-ensures,
+      put-group2-ensures .past,
+      stored-length put-group3-ensures,
+      put-group3-ensures .past,
+      stored-length put-group4-ensures,
+      put-group4-ensures .past,
+      stored-length put-points-ensures,
+      put-points-ensures .past,
+      stored-length put-group5-ensures,
+      put-group5-ensures .past,
+      stored-length put-faces-ensures,
+      put-faces-ensures .past,
+    )
 
 returns : tie.Need-returns
 returns c =
@@ -131,9 +234,18 @@ returns c =
     let put-group2-ensures = (let p : tie.After-put-group2 = search in p .put-group2 .ensures) in
     let put-group-ensures = (let p : tie.After-put-group = search in p .put-group .ensures) in
     let start : tie.Start = search in
-    let st = start in
-    let m = st .args .block .now in
-    stored-as (first-of m (st .args .to) (st .args .counts) (st .args .order .now) (st .args .starts .now) (st .args .numbers .now) (st .args .firsts .now)) (stored-then put-group-ensures (stored-then put-group2-ensures (stored-then put-group3-ensures (stored-then (stored-then put-group4-ensures put-points-ensures) (stored-then put-group5-ensures put-faces-ensures)))))
+    let to = start .args .to in
+    let counts = start .args .counts in
+    let order = start .args .order .now in
+    let starts = start .args .starts .now in
+    let numbers = start .args .numbers .now in
+    let firsts = start .args .firsts .now in
+    let m = start .args .block .now in
+    stored-as (first-of m to counts order starts numbers firsts)
+    (stored-then put-group-ensures
+    (stored-then put-group2-ensures
+    (stored-then put-group3-ensures
+    (stored-then (stored-then put-group4-ensures put-points-ensures) (stored-then put-group5-ensures put-faces-ensures)))))
 
 pub put-part1-spec : {M : Type 1} → statement M
 put-part1-spec =

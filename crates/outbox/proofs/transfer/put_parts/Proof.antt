@@ -14,68 +14,142 @@ use Rattle.outbox.proofs.transfer.put_parts.Statement.{statement}
 use Rattle.outbox.proofs.transfer.put_parts.Tie as tie
 
 shared-slice-read-n : tie.Need-shared-slice-read-n
-shared-slice-read-n c =
-    let start : tie.Start = search in
-    omega (arith, start .pre .0 .0 .memory)
+shared-slice-read-n c = omega arith
 
 cast-put-group : tie.Need-cast-put-group
 cast-put-group c =
-    let st : tie.Start = search in
-    let m = st .args .block .now in
-    omega (arith, st .pre .1 .1 .0 .0, tally-le (in-part2 m (st .args .to) (st .args .order .now) (st .args .starts .now)) (st .args .counts .faces), st .pre .0 .1 .few)
+    let start : tie.Start = search in
+    let to = start .args .to in
+    let order = start .args .order .now in
+    let starts = start .args .starts .now in
+    let counts = start .args .counts in
+    let m = start .args .block .now in
+    omega (arith, start .pre .1 .1 .0 .0, tally-le (in-part2 m to order starts) (counts .faces), start .pre .0 .1 .few)
 
 put-group-requires : tie.Need-put-group-requires
 put-group-requires c κs =
-    let st : tie.Start = search in
-    let m = st .args .block .now in
-    let len = parts-length m (st .args .to) (st .args .counts) (st .args .marks .now) (st .args .order .now) (st .args .starts .now) in
-    omega (arith, st .pre .1 .1 .1 .1, len, ap (λ (n : ℕ). length (group .put n)) (st .pre .1 .1 .0 .0), ap (λ (n : ℕ). length (group .put n)) (st .pre .1 .1 .0 .1), ap (λ (n : ℕ). length (group .put n)) (st .pre .1 .1 .0 .2))
+    let start : tie.Start = search in
+    let to = start .args .to in
+    let counts = start .args .counts in
+    let marks = start .args .marks .now in
+    let order = start .args .order .now in
+    let starts = start .args .starts .now in
+    let m = start .args .block .now in
+    let len = parts-length m to counts marks order starts in
+    omega (
+      arith,
+      start .pre .1 .1 .1 .1,
+      len,
+      ap (λ (n : ℕ). length (group .put n)) (start .pre .1 .1 .0 .0),
+      ap (λ (n : ℕ). length (group .put n)) (start .pre .1 .1 .0 .1),
+      ap (λ (n : ℕ). length (group .put n)) (start .pre .1 .1 .0 .2),
+    )
 
 put-part2s-requires : tie.Need-put-part2s-requires
 put-part2s-requires c κs =
     let put-group-ensures = (let p : tie.After-put-group = search in p .put-group .ensures) in
-    let st : tie.Start = search in
-    let m = st .args .block .now in
-    let len = parts-length m (st .args .to) (st .args .counts) (st .args .marks .now) (st .args .order .now) (st .args .starts .now) in
-    ((st .pre .0 .0 .memory, opened-wide (st .pre .1 .0 .2) (st .pre .1 .0 .0 .few), omega (arith, st .pre .0 .2)), omega (arith, st .pre .1 .1 .1 .1, len, ap (λ (n : ℕ). length (group .put n)) (st .pre .1 .1 .0 .0), ap (λ (n : ℕ). length (group .put n)) (st .pre .1 .1 .0 .1), ap (λ (n : ℕ). length (group .put n)) (st .pre .1 .1 .0 .2), stored-length put-group-ensures, put-group-ensures .past))
+    let start : tie.Start = search in
+    let to = start .args .to in
+    let counts = start .args .counts in
+    let marks = start .args .marks .now in
+    let order = start .args .order .now in
+    let starts = start .args .starts .now in
+    let m = start .args .block .now in
+    let len = parts-length m to counts marks order starts in (
+      (start .pre .0 .0 .memory, opened-wide (start .pre .1 .0 .2) (start .pre .1 .0 .0 .few), omega (arith, start .pre .0 .2)),
+      omega (
+        arith,
+        start .pre .1 .1 .1 .1,
+        len,
+        ap (λ (n : ℕ). length (group .put n)) (start .pre .1 .1 .0 .0),
+        ap (λ (n : ℕ). length (group .put n)) (start .pre .1 .1 .0 .1),
+        ap (λ (n : ℕ). length (group .put n)) (start .pre .1 .1 .0 .2),
+        stored-length put-group-ensures,
+        put-group-ensures .past,
+      ),
+    )
 
 cast-put-group-2 : tie.Need-cast-put-group-2
 cast-put-group-2 c =
-    let st : tie.Start = search in
-    let m = st .args .block .now in
-    omega (arith, st .pre .1 .1 .0 .1, tally-le (in-part3 m (st .args .marks .now) (st .args .order .now) (st .args .starts .now)) (st .args .counts .faces), st .pre .0 .1 .few)
+    let start : tie.Start = search in
+    let marks = start .args .marks .now in
+    let order = start .args .order .now in
+    let starts = start .args .starts .now in
+    let counts = start .args .counts in
+    let m = start .args .block .now in
+    omega (arith, start .pre .1 .1 .0 .1, tally-le (in-part3 m marks order starts) (counts .faces), start .pre .0 .1 .few)
 
 put-group-requires-2 : tie.Need-put-group-requires-2
 put-group-requires-2 c κs =
     let put-group-ensures = (let p : tie.After-put-group = search in p .put-group .ensures) in
     let put-part2s-ensures = (let p : tie.After-put-part2s = search in p .put-part2s .ensures) in
-    let st : tie.Start = search in
-    let m = st .args .block .now in
-    let len = parts-length m (st .args .to) (st .args .counts) (st .args .marks .now) (st .args .order .now) (st .args .starts .now) in
-    omega (arith, st .pre .1 .1 .1 .1, len, ap (λ (n : ℕ). length (group .put n)) (st .pre .1 .1 .0 .0), ap (λ (n : ℕ). length (group .put n)) (st .pre .1 .1 .0 .1), ap (λ (n : ℕ). length (group .put n)) (st .pre .1 .1 .0 .2), stored-length put-group-ensures, put-group-ensures .past, stored-length put-part2s-ensures, put-part2s-ensures .past)
+    let start : tie.Start = search in
+    let to = start .args .to in
+    let counts = start .args .counts in
+    let marks = start .args .marks .now in
+    let order = start .args .order .now in
+    let starts = start .args .starts .now in
+    let m = start .args .block .now in
+    let len = parts-length m to counts marks order starts in
+    omega (
+      arith,
+      start .pre .1 .1 .1 .1,
+      len,
+      ap (λ (n : ℕ). length (group .put n)) (start .pre .1 .1 .0 .0),
+      ap (λ (n : ℕ). length (group .put n)) (start .pre .1 .1 .0 .1),
+      ap (λ (n : ℕ). length (group .put n)) (start .pre .1 .1 .0 .2),
+      stored-length put-group-ensures,
+      put-group-ensures .past,
+      stored-length put-part2s-ensures,
+      put-part2s-ensures .past,
+    )
 
 shared-slice-read-put-part3s : tie.Need-shared-slice-read-put-part3s
-shared-slice-read-put-part3s c =
-    let start : tie.Start = search in
-    omega (arith, start .pre .0 .0 .memory)
+shared-slice-read-put-part3s c = omega arith
 
 put-part3s-requires : tie.Need-put-part3s-requires
 put-part3s-requires c κs =
     let put-group-ensures = (let p : tie.After-put-group = search in p .put-group .ensures) in
     let put-part2s-ensures = (let p : tie.After-put-part2s = search in p .put-part2s .ensures) in
     let put-group2-ensures = (let p : tie.After-put-group2 = search in p .put-group2 .ensures) in
-    let st : tie.Start = search in
-    let m = st .args .block .now in
-    let len = parts-length m (st .args .to) (st .args .counts) (st .args .marks .now) (st .args .order .now) (st .args .starts .now) in
-    (st .pre .1 .0, (omega (arith, st .pre .1 .1 .1 .0, st .pre .1 .1 .0 .1), omega (arith, st .pre .1 .1 .1 .1, len, ap (λ (n : ℕ). length (group .put n)) (st .pre .1 .1 .0 .0), ap (λ (n : ℕ). length (group .put n)) (st .pre .1 .1 .0 .1), ap (λ (n : ℕ). length (group .put n)) (st .pre .1 .1 .0 .2), stored-length put-group-ensures, put-group-ensures .past, stored-length put-part2s-ensures, put-part2s-ensures .past, stored-length put-group2-ensures, put-group2-ensures .past)))
+    let start : tie.Start = search in
+    let to = start .args .to in
+    let counts = start .args .counts in
+    let marks = start .args .marks .now in
+    let order = start .args .order .now in
+    let starts = start .args .starts .now in
+    let m = start .args .block .now in
+    let len = parts-length m to counts marks order starts in (
+      start .pre .1 .0,
+      (
+        omega (arith, start .pre .1 .1 .1 .0, start .pre .1 .1 .0 .1),
+        omega (
+          arith,
+          start .pre .1 .1 .1 .1,
+          len,
+          ap (λ (n : ℕ). length (group .put n)) (start .pre .1 .1 .0 .0),
+          ap (λ (n : ℕ). length (group .put n)) (start .pre .1 .1 .0 .1),
+          ap (λ (n : ℕ). length (group .put n)) (start .pre .1 .1 .0 .2),
+          stored-length put-group-ensures,
+          put-group-ensures .past,
+          stored-length put-part2s-ensures,
+          put-part2s-ensures .past,
+          stored-length put-group2-ensures,
+          put-group2-ensures .past,
+        ),
+      ),
+    )
 
 cast-put-group-3 : tie.Need-cast-put-group-3
 cast-put-group-3 c =
     let c : tie.After-shared-slice-known5 = search in
     let start : tie.Start = search in
-    let st = start in
-    let m = st .args .block .now in
-    omega (arith, st .pre .1 .1 .0 .2, tally-le (in-part4 m (st .args .to) (st .args .order .now) (st .args .starts .now)) (st .args .counts .faces), st .pre .0 .1 .few)
+    let to = start .args .to in
+    let order = start .args .order .now in
+    let starts = start .args .starts .now in
+    let counts = start .args .counts in
+    let m = start .args .block .now in
+    omega (arith, start .pre .1 .1 .0 .2, tally-le (in-part4 m to order starts) (counts .faces), start .pre .0 .1 .few)
 
 put-group-requires-3 : tie.Need-put-group-requires-3
 put-group-requires-3 c κs =
@@ -85,10 +159,29 @@ put-group-requires-3 c κs =
     let put-group-ensures = (let p : tie.After-put-group = search in p .put-group .ensures) in
     let c : tie.After-put-group = search in
     let start : tie.Start = search in
-    let st = start in
-    let m = st .args .block .now in
-    let len = parts-length m (st .args .to) (st .args .counts) (st .args .marks .now) (st .args .order .now) (st .args .starts .now) in
-    omega (arith, st .pre .1 .1 .1 .1, len, ap (λ (n : ℕ). length (group .put n)) (st .pre .1 .1 .0 .0), ap (λ (n : ℕ). length (group .put n)) (st .pre .1 .1 .0 .1), ap (λ (n : ℕ). length (group .put n)) (st .pre .1 .1 .0 .2), stored-length put-group-ensures, put-group-ensures .past, stored-length put-part2s-ensures, put-part2s-ensures .past, stored-length put-group2-ensures, put-group2-ensures .past, stored-length put-part3s-ensures, put-part3s-ensures .past)
+    let to = start .args .to in
+    let counts = start .args .counts in
+    let marks = start .args .marks .now in
+    let order = start .args .order .now in
+    let starts = start .args .starts .now in
+    let m = start .args .block .now in
+    let len = parts-length m to counts marks order starts in
+    omega (
+      arith,
+      start .pre .1 .1 .1 .1,
+      len,
+      ap (λ (n : ℕ). length (group .put n)) (start .pre .1 .1 .0 .0),
+      ap (λ (n : ℕ). length (group .put n)) (start .pre .1 .1 .0 .1),
+      ap (λ (n : ℕ). length (group .put n)) (start .pre .1 .1 .0 .2),
+      stored-length put-group-ensures,
+      put-group-ensures .past,
+      stored-length put-part2s-ensures,
+      put-part2s-ensures .past,
+      stored-length put-group2-ensures,
+      put-group2-ensures .past,
+      stored-length put-part3s-ensures,
+      put-part3s-ensures .past,
+    )
 
 put-part4s-requires : tie.Need-put-part4s-requires
 put-part4s-requires c κs =
@@ -99,10 +192,33 @@ put-part4s-requires c κs =
     let c : tie.After-put-part2s = search in
     let put-group-ensures = (let p : tie.After-put-group = search in p .put-group .ensures) in
     let start : tie.Start = search in
-    let st = start in
-    let m = st .args .block .now in
-    let len = parts-length m (st .args .to) (st .args .counts) (st .args .marks .now) (st .args .order .now) (st .args .starts .now) in
-    ((st .pre .0 .0, st .pre .0 .1, omega (arith, st .pre .0 .2)), omega (arith, st .pre .1 .1 .1 .1, len, ap (λ (n : ℕ). length (group .put n)) (st .pre .1 .1 .0 .0), ap (λ (n : ℕ). length (group .put n)) (st .pre .1 .1 .0 .1), ap (λ (n : ℕ). length (group .put n)) (st .pre .1 .1 .0 .2), stored-length put-group-ensures, put-group-ensures .past, stored-length put-part2s-ensures, put-part2s-ensures .past, stored-length put-group2-ensures, put-group2-ensures .past, stored-length put-part3s-ensures, put-part3s-ensures .past, stored-length put-group3-ensures, put-group3-ensures .past))
+    let to = start .args .to in
+    let counts = start .args .counts in
+    let marks = start .args .marks .now in
+    let order = start .args .order .now in
+    let starts = start .args .starts .now in
+    let m = start .args .block .now in
+    let len = parts-length m to counts marks order starts in (
+      (start .pre .0 .0, start .pre .0 .1, omega (arith, start .pre .0 .2)),
+      omega (
+        arith,
+        start .pre .1 .1 .1 .1,
+        len,
+        ap (λ (n : ℕ). length (group .put n)) (start .pre .1 .1 .0 .0),
+        ap (λ (n : ℕ). length (group .put n)) (start .pre .1 .1 .0 .1),
+        ap (λ (n : ℕ). length (group .put n)) (start .pre .1 .1 .0 .2),
+        stored-length put-group-ensures,
+        put-group-ensures .past,
+        stored-length put-part2s-ensures,
+        put-part2s-ensures .past,
+        stored-length put-group2-ensures,
+        put-group2-ensures .past,
+        stored-length put-part3s-ensures,
+        put-part3s-ensures .past,
+        stored-length put-group3-ensures,
+        put-group3-ensures .past,
+      ),
+    )
 
 same-length : tie.Need-same-length
 same-length c =
@@ -113,7 +229,21 @@ same-length c =
     let put-part2s-ensures = (let p : tie.After-put-part2s = search in p .put-part2s .ensures) in
     let c : tie.After-put-part2s = search in
     let put-group-ensures = (let p : tie.After-put-group = search in p .put-group .ensures) in
-    omega (arith, stored-length put-group-ensures, put-group-ensures .past, stored-length put-part2s-ensures, put-part2s-ensures .past, stored-length put-group2-ensures, put-group2-ensures .past, stored-length put-part3s-ensures, put-part3s-ensures .past, stored-length put-group3-ensures, put-group3-ensures .past, stored-length put-part4s-ensures, put-part4s-ensures .past)
+    omega (
+      arith,
+      stored-length put-group-ensures,
+      put-group-ensures .past,
+      stored-length put-part2s-ensures,
+      put-part2s-ensures .past,
+      stored-length put-group2-ensures,
+      put-group2-ensures .past,
+      stored-length put-part3s-ensures,
+      put-part3s-ensures .past,
+      stored-length put-group3-ensures,
+      put-group3-ensures .past,
+      stored-length put-part4s-ensures,
+      put-part4s-ensures .past,
+    )
 
 returns : tie.Need-returns
 returns c =
@@ -125,9 +255,15 @@ returns c =
     let put-part2s-ensures = (let p : tie.After-put-part2s = search in p .put-part2s .ensures) in
     let put-group-ensures = (let p : tie.After-put-group = search in p .put-group .ensures) in
     let start : tie.Start = search in
-    let st = start in
-    let m = st .args .block .now in
-    stored-as (parts-of m (st .args .to) (st .args .counts) (st .args .marks .now) (st .args .order .now) (st .args .starts .now) (st .pre .1 .1 .0 .0) (st .pre .1 .1 .0 .1) (st .pre .1 .1 .0 .2)) (stored-then (stored-then put-group-ensures put-part2s-ensures) (stored-then (stored-then put-group2-ensures put-part3s-ensures) (stored-then put-group3-ensures put-part4s-ensures)))
+    let to = start .args .to in
+    let counts = start .args .counts in
+    let marks = start .args .marks .now in
+    let order = start .args .order .now in
+    let starts = start .args .starts .now in
+    let m = start .args .block .now in
+    stored-as (parts-of m to counts marks order starts (start .pre .1 .1 .0 .0) (start .pre .1 .1 .0 .1) (start .pre .1 .1 .0 .2))
+    (stored-then (stored-then put-group-ensures put-part2s-ensures)
+    (stored-then (stored-then put-group2-ensures put-part3s-ensures) (stored-then put-group3-ensures put-part4s-ensures)))
 
 pub put-parts-spec : {M : Type 1} → statement M
 put-parts-spec =

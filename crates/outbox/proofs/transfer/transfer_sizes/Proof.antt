@@ -12,124 +12,121 @@ use Rattle.outbox.proofs.transfer.transfer_sizes.Tie as tie
 
 shared-slice-read-n : tie.Need-shared-slice-read-n
 shared-slice-read-n c =
-    let st : tie.Start = search in
-    let m = st .args .block .now in
-    let ok = st .pre .0 in
-    let sv = st .pre .1 .0 .1 in
+    let start : tie.Start = search in
+    let m = start .args .block .now in
+    let ok = start .pre .0 in
+    let sv = start .pre .1 .0 .1 in
     omega (arith, listed m ok sv .memory)
 
 faces-size-requires : tie.Need-faces-size-requires
 faces-size-requires c κs =
-    let st : tie.Start = search in
-    let m = st .args .block .now in
-    let ok = st .pre .0 in
-    let sv = st .pre .1 .0 .1 in
-    let b = bounds m ok (st .args .to) sv in
+    let start : tie.Start = search in
+    let m = start .args .block .now in
+    let ok = start .pre .0 in
+    let sv = start .pre .1 .0 .1 in
+    let b = bounds m ok (start .args .to) sv in
     ((listed m ok sv, vertexed m ok sv, started m ok sv), omega (arith, b .faces-bytes))
 
 part2-tally-requires : tie.Need-part2-tally-requires
 part2-tally-requires c κs =
-    let st : tie.Start = search in
-    let m = st .args .block .now in
-    let ok = st .pre .0 in
-    let sv = st .pre .1 .0 .1 in
-    let b = bounds m ok (st .args .to) sv in
-    ((listed m ok sv .memory, opened-wide (opened m ok sv) (linked m ok sv .few), omega (arith, st .pre .1 .1 .0)), omega (arith, b .two-bytes))
+    let start : tie.Start = search in
+    let m = start .args .block .now in
+    let ok = start .pre .0 in
+    let sv = start .pre .1 .0 .1 in
+    let b = bounds m ok (start .args .to) sv in
+    ((listed m ok sv .memory, opened-wide (opened m ok sv) (linked m ok sv .few), omega (arith, start .pre .1 .1 .0)), omega (arith, b .two-bytes))
 
 shared-slice-read-part3-size : tie.Need-shared-slice-read-part3-size
 shared-slice-read-part3-size c =
-    let st : tie.Start = search in
-    let m = st .args .block .now in
-    let ok = st .pre .0 in
-    let sv = st .pre .1 .0 .1 in
+    let start : tie.Start = search in
+    let m = start .args .block .now in
+    let ok = start .pre .0 in
+    let sv = start .pre .1 .0 .1 in
     omega (arith, listed m ok sv .memory)
 
 part3-size-requires : tie.Need-part3-size-requires
 part3-size-requires c κs =
-    let st : tie.Start = search in
-    let m = st .args .block .now in
-    let ok = st .pre .0 in
-    let sv = st .pre .1 .0 .1 in
-    let b = bounds m ok (st .args .to) sv in
-    ((linked m ok sv, sv .volume-marked .size, opened m ok sv), (omega (arith, st .pre .1 .1 .1, sewn-tally m ok (st .args .to) sv), omega (arith, b .three-bytes)))
+    let start : tie.Start = search in
+    let to = start .args .to in
+    let m = start .args .block .now in
+    let ok = start .pre .0 in
+    let sv = start .pre .1 .0 .1 in
+    let b = bounds m ok to sv in
+    ((linked m ok sv, sv .volume-marked .size, opened m ok sv), (omega (arith, start .pre .1 .1 .1, sewn-tally m ok to sv), omega (arith, b .three-bytes)))
 
 part4-tally-requires : tie.Need-part4-tally-requires
 part4-tally-requires c κs =
-    let st : tie.Start = search in
-    let m = st .args .block .now in
-    let ok = st .pre .0 in
-    let sv = st .pre .1 .0 .1 in
-    let b = bounds m ok (st .args .to) sv in
-    ((listed m ok sv, started m ok sv, omega (arith, st .pre .1 .1 .0)), omega (arith, b .four-bytes))
+    let start : tie.Start = search in
+    let m = start .args .block .now in
+    let ok = start .pre .0 in
+    let sv = start .pre .1 .0 .1 in
+    let b = bounds m ok (start .args .to) sv in
+    ((listed m ok sv, started m ok sv, omega (arith, start .pre .1 .1 .0)), omega (arith, b .four-bytes))
 
 mul-counted : tie.Need-mul-counted
 mul-counted c =
-    let st : tie.Start = search in
-    let m = st .args .block .now in
-    let ok = st .pre .0 in
-    let sv = st .pre .1 .0 .1 in
-    let b = bounds m ok (st .args .to) sv in
+    let start : tie.Start = search in
+    let m = start .args .block .now in
+    let ok = start .pre .0 in
+    let sv = start .pre .1 .0 .1 in
+    let b = bounds m ok (start .args .to) sv in
     omega (arith, b .vertices-few)
 
 counted-requires : tie.Need-counted-requires
 counted-requires c κs =
-    let st : tie.Start = search in
-    let m = st .args .block .now in
-    let ok = st .pre .0 in
-    let sv = st .pre .1 .0 .1 in
-    let b = bounds m ok (st .args .to) sv in
+    let start : tie.Start = search in
+    let m = start .args .block .now in
+    let ok = start .pre .0 in
+    let sv = start .pre .1 .0 .1 in
+    let b = bounds m ok (start .args .to) sv in
     (omega (arith, b .vertices-few), omega (arith, b .vertices-few))
 
 add-part1 : tie.Need-add-part1
-add-part1 c =
-    let st : tie.Start = search in
-    let m = st .args .block .now in
-    let ok = st .pre .0 in
-    let sv = st .pre .1 .0 .1 in
-    let b = bounds m ok (st .args .to) sv in
-    omega (arith, c .counted .ensures .1, b .vertices-few)
+add-part1 c = omega arith
 
 counted-requires-2 : tie.Need-counted-requires-2
 counted-requires-2 c κs =
     let faces-size-ensures = (let p : tie.After-faces-size = search in p .faces-size .ensures) in
-    let st : tie.Start = search in
-    let m = st .args .block .now in
-    let ok = st .pre .0 in
-    let sv = st .pre .1 .0 .1 in
-    let b = bounds m ok (st .args .to) sv in
+    let start : tie.Start = search in
+    let m = start .args .block .now in
+    let ok = start .pre .0 in
+    let sv = start .pre .1 .0 .1 in
+    let b = bounds m ok (start .args .to) sv in
     (omega (arith, b .faces-few, b .faces-bytes, faces-size-ensures), omega (arith, b .faces-few, b .faces-bytes, faces-size-ensures))
 
 add-part1-2 : tie.Need-add-part1-2
 add-part1-2 c =
     let faces-size-ensures = (let p : tie.After-faces-size = search in p .faces-size .ensures) in
     let counted-ensures = (let p : tie.After-counted = search in p .counted .ensures) in
-    let st : tie.Start = search in
-    let m = st .args .block .now in
-    let ok = st .pre .0 in
-    let sv = st .pre .1 .0 .1 in
-    let b = bounds m ok (st .args .to) sv in
+    let start : tie.Start = search in
+    let m = start .args .block .now in
+    let ok = start .pre .0 in
+    let sv = start .pre .1 .0 .1 in
+    let b = bounds m ok (start .args .to) sv in
     omega (arith, counted-ensures .1, b .vertices-few, c .counted2 .ensures .1, b .faces-few, b .faces-bytes, faces-size-ensures)
 
 counted-requires-3 : tie.Need-counted-requires-3
 counted-requires-3 c κs =
     let part2-tally-ensures = (let p : tie.After-part2-tally = search in p .part2-tally .ensures) in
-    let st : tie.Start = search in
-    let m = st .args .block .now in
-    let ok = st .pre .0 in
-    let sv = st .pre .1 .0 .1 in
-    let b = bounds m ok (st .args .to) sv in
-    (omega (arith, b .two-few, b .two-bytes, part2-tally-ensures .0, part2-tally-ensures .1), omega (arith, b .two-few, b .two-bytes, part2-tally-ensures .0, part2-tally-ensures .1))
+    let start : tie.Start = search in
+    let to = start .args .to in
+    let m = start .args .block .now in
+    let ok = start .pre .0 in
+    let sv = start .pre .1 .0 .1 in
+    let b = bounds m ok to sv in (
+      omega (arith, b .two-few, b .two-bytes, part2-tally-ensures .0, part2-tally-ensures .1),
+      omega (arith, b .two-few, b .two-bytes, part2-tally-ensures .0, part2-tally-ensures .1),
+    )
 
 counted-requires-4 : tie.Need-counted-requires-4
 counted-requires-4 c κs =
     let part3-size-ensures = (let p : tie.After-part3-size = search in p .part3-size .ensures) in
     let c : tie.After-part3-size = search in
     let start : tie.Start = search in
-    let st = start in
-    let m = st .args .block .now in
-    let ok = st .pre .0 in
-    let sv = st .pre .1 .0 .1 in
-    let b = bounds m ok (st .args .to) sv in
+    let m = start .args .block .now in
+    let ok = start .pre .0 in
+    let sv = start .pre .1 .0 .1 in
+    let b = bounds m ok (start .args .to) sv in
     (omega (arith, b .sewn-few, b .three-bytes, part3-size-ensures), omega (arith, b .sewn-few, b .three-bytes, part3-size-ensures))
 
 add-part23 : tie.Need-add-part23
@@ -140,12 +137,23 @@ add-part23 c =
     let part2-tally-ensures = (let p : tie.After-part2-tally = search in p .part2-tally .ensures) in
     let c : tie.After-part2-tally = search in
     let start : tie.Start = search in
-    let st = start in
-    let m = st .args .block .now in
-    let ok = st .pre .0 in
-    let sv = st .pre .1 .0 .1 in
-    let b = bounds m ok (st .args .to) sv in
-    omega (arith, counted3-ensures .1, b .two-few, b .two-bytes, part2-tally-ensures .0, part2-tally-ensures .1, counted4-ensures .1, b .sewn-few, b .three-bytes, part3-size-ensures)
+    let to = start .args .to in
+    let m = start .args .block .now in
+    let ok = start .pre .0 in
+    let sv = start .pre .1 .0 .1 in
+    let b = bounds m ok to sv in
+    omega (
+      arith,
+      counted3-ensures .1,
+      b .two-few,
+      b .two-bytes,
+      part2-tally-ensures .0,
+      part2-tally-ensures .1,
+      counted4-ensures .1,
+      b .sewn-few,
+      b .three-bytes,
+      part3-size-ensures,
+    )
 
 add-rest : tie.Need-add-rest
 add-rest c =
@@ -158,24 +166,43 @@ add-rest c =
     let faces-size-ensures = (let p : tie.After-faces-size = search in p .faces-size .ensures) in
     let c : tie.After-faces-size = search in
     let start : tie.Start = search in
-    let st = start in
-    let m = st .args .block .now in
-    let ok = st .pre .0 in
-    let sv = st .pre .1 .0 .1 in
-    let b = bounds m ok (st .args .to) sv in
-    omega (arith, counted-ensures .1, b .vertices-few, counted2-ensures .1, b .faces-few, b .faces-bytes, faces-size-ensures, counted3-ensures .1, b .two-few, b .two-bytes, part2-tally-ensures .0, part2-tally-ensures .1, counted4-ensures .1, b .sewn-few, b .three-bytes, part3-size-ensures)
+    let to = start .args .to in
+    let m = start .args .block .now in
+    let ok = start .pre .0 in
+    let sv = start .pre .1 .0 .1 in
+    let b = bounds m ok to sv in
+    omega (
+      arith,
+      counted-ensures .1,
+      b .vertices-few,
+      counted2-ensures .1,
+      b .faces-few,
+      b .faces-bytes,
+      faces-size-ensures,
+      counted3-ensures .1,
+      b .two-few,
+      b .two-bytes,
+      part2-tally-ensures .0,
+      part2-tally-ensures .1,
+      counted4-ensures .1,
+      b .sewn-few,
+      b .three-bytes,
+      part3-size-ensures,
+    )
 
 counted-requires-5 : tie.Need-counted-requires-5
 counted-requires-5 c κs =
     let part4-tally-ensures = (let p : tie.After-part4-tally = search in p .part4-tally .ensures) in
     let c : tie.After-part4-tally = search in
     let start : tie.Start = search in
-    let st = start in
-    let m = st .args .block .now in
-    let ok = st .pre .0 in
-    let sv = st .pre .1 .0 .1 in
-    let b = bounds m ok (st .args .to) sv in
-    (omega (arith, b .four-few, b .four-bytes, part4-tally-ensures .0, part4-tally-ensures .1), omega (arith, b .four-few, b .four-bytes, part4-tally-ensures .0, part4-tally-ensures .1))
+    let to = start .args .to in
+    let m = start .args .block .now in
+    let ok = start .pre .0 in
+    let sv = start .pre .1 .0 .1 in
+    let b = bounds m ok to sv in (
+      omega (arith, b .four-few, b .four-bytes, part4-tally-ensures .0, part4-tally-ensures .1),
+      omega (arith, b .four-few, b .four-bytes, part4-tally-ensures .0, part4-tally-ensures .1),
+    )
 
 add-rest-2 : tie.Need-add-rest-2
 add-rest-2 c =
@@ -190,12 +217,34 @@ add-rest-2 c =
     let faces-size-ensures = (let p : tie.After-faces-size = search in p .faces-size .ensures) in
     let c : tie.After-faces-size = search in
     let start : tie.Start = search in
-    let st = start in
-    let m = st .args .block .now in
-    let ok = st .pre .0 in
-    let sv = st .pre .1 .0 .1 in
-    let b = bounds m ok (st .args .to) sv in
-    omega (arith, counted-ensures .1, b .vertices-few, counted2-ensures .1, b .faces-few, b .faces-bytes, faces-size-ensures, counted3-ensures .1, b .two-few, b .two-bytes, part2-tally-ensures .0, part2-tally-ensures .1, counted4-ensures .1, b .sewn-few, b .three-bytes, part3-size-ensures, counted5-ensures .1, b .four-few, b .four-bytes, part4-tally-ensures .0, part4-tally-ensures .1)
+    let to = start .args .to in
+    let m = start .args .block .now in
+    let ok = start .pre .0 in
+    let sv = start .pre .1 .0 .1 in
+    let b = bounds m ok to sv in
+    omega (
+      arith,
+      counted-ensures .1,
+      b .vertices-few,
+      counted2-ensures .1,
+      b .faces-few,
+      b .faces-bytes,
+      faces-size-ensures,
+      counted3-ensures .1,
+      b .two-few,
+      b .two-bytes,
+      part2-tally-ensures .0,
+      part2-tally-ensures .1,
+      counted4-ensures .1,
+      b .sewn-few,
+      b .three-bytes,
+      part3-size-ensures,
+      counted5-ensures .1,
+      b .four-few,
+      b .four-bytes,
+      part4-tally-ensures .0,
+      part4-tally-ensures .1,
+    )
 
 counted-requires-6 : tie.Need-counted-requires-6
 counted-requires-6 c κs =
@@ -210,12 +259,58 @@ counted-requires-6 c κs =
     let faces-size-ensures = (let p : tie.After-faces-size = search in p .faces-size .ensures) in
     let c : tie.After-faces-size = search in
     let start : tie.Start = search in
-    let st = start in
-    let m = st .args .block .now in
-    let ok = st .pre .0 in
-    let sv = st .pre .1 .0 .1 in
-    let b = bounds m ok (st .args .to) sv in
-    (omega (arith, counted-ensures .1, b .vertices-few, counted2-ensures .1, b .faces-few, b .faces-bytes, faces-size-ensures, counted3-ensures .1, b .two-few, b .two-bytes, part2-tally-ensures .0, part2-tally-ensures .1, counted4-ensures .1, b .sewn-few, b .three-bytes, part3-size-ensures, counted5-ensures .1, b .four-few, b .four-bytes, part4-tally-ensures .0, part4-tally-ensures .1), omega (arith, counted-ensures .1, b .vertices-few, counted2-ensures .1, b .faces-few, b .faces-bytes, faces-size-ensures, counted3-ensures .1, b .two-few, b .two-bytes, part2-tally-ensures .0, part2-tally-ensures .1, counted4-ensures .1, b .sewn-few, b .three-bytes, part3-size-ensures, counted5-ensures .1, b .four-few, b .four-bytes, part4-tally-ensures .0, part4-tally-ensures .1))
+    let to = start .args .to in
+    let m = start .args .block .now in
+    let ok = start .pre .0 in
+    let sv = start .pre .1 .0 .1 in
+    let b = bounds m ok to sv in (
+      omega (
+        arith,
+        counted-ensures .1,
+        b .vertices-few,
+        counted2-ensures .1,
+        b .faces-few,
+        b .faces-bytes,
+        faces-size-ensures,
+        counted3-ensures .1,
+        b .two-few,
+        b .two-bytes,
+        part2-tally-ensures .0,
+        part2-tally-ensures .1,
+        counted4-ensures .1,
+        b .sewn-few,
+        b .three-bytes,
+        part3-size-ensures,
+        counted5-ensures .1,
+        b .four-few,
+        b .four-bytes,
+        part4-tally-ensures .0,
+        part4-tally-ensures .1,
+      ),
+      omega (
+        arith,
+        counted-ensures .1,
+        b .vertices-few,
+        counted2-ensures .1,
+        b .faces-few,
+        b .faces-bytes,
+        faces-size-ensures,
+        counted3-ensures .1,
+        b .two-few,
+        b .two-bytes,
+        part2-tally-ensures .0,
+        part2-tally-ensures .1,
+        counted4-ensures .1,
+        b .sewn-few,
+        b .three-bytes,
+        part3-size-ensures,
+        counted5-ensures .1,
+        b .four-few,
+        b .four-bytes,
+        part4-tally-ensures .0,
+        part4-tally-ensures .1,
+      ),
+    )
 
 returns : tie.Need-returns
 returns c =
@@ -231,13 +326,53 @@ returns c =
     let faces-size-ensures = (let p : tie.After-faces-size = search in p .faces-size .ensures) in
     let c : tie.After-faces-size = search in
     let start : tie.Start = search in
+    let to = start .args .to in
     λ firsts s.
-    let st = start in
-    let m = st .args .block .now in
-    let ok = st .pre .0 in
-    let sv = st .pre .1 .0 .1 in
-    let b = bounds m ok (st .args .to) sv in
-    sized m ok (st .args .to) s _ (part2-tally-ensures .0) (part4-tally-ensures .0) (omega (arith, rest-length m ok (st .args .to) s (st .pre .1 .1 .0), counted-ensures .0, counted2-ensures .0, counted3-ensures .0, counted4-ensures .0, counted5-ensures .0, faces-size-ensures, part2-tally-ensures .1, part3-size-ensures, part4-tally-ensures .1, ap (λ (n : ℕ). length (group .put n)) (part2-tally-ensures .0), ap (λ (n : ℕ). length (group .put n)) (sewn-tally m ok (st .args .to) s), ap (λ (n : ℕ). length (group .put n)) (part4-tally-ensures .0))) (counted6-ensures .0) (omega (arith, counted6-ensures .1, counted-ensures .1, b .vertices-few, counted2-ensures .1, b .faces-few, b .faces-bytes, faces-size-ensures, counted3-ensures .1, b .two-few, b .two-bytes, part2-tally-ensures .0, part2-tally-ensures .1, counted4-ensures .1, b .sewn-few, b .three-bytes, part3-size-ensures, counted5-ensures .1, b .four-few, b .four-bytes, part4-tally-ensures .0, part4-tally-ensures .1))
+    let m = start .args .block .now in
+    let ok = start .pre .0 in
+    let sv = start .pre .1 .0 .1 in
+    let b = bounds m ok to sv in
+    sized m ok to s _ (part2-tally-ensures .0) (part4-tally-ensures .0)
+    (omega (
+      arith,
+      rest-length m ok to s (start .pre .1 .1 .0),
+      counted-ensures .0,
+      counted2-ensures .0,
+      counted3-ensures .0,
+      counted4-ensures .0,
+      counted5-ensures .0,
+      faces-size-ensures,
+      part2-tally-ensures .1,
+      part3-size-ensures,
+      part4-tally-ensures .1,
+      ap (λ (n : ℕ). length (group .put n)) (part2-tally-ensures .0),
+      ap (λ (n : ℕ). length (group .put n)) (sewn-tally m ok to s),
+      ap (λ (n : ℕ). length (group .put n)) (part4-tally-ensures .0),
+    )) (counted6-ensures .0)
+    (omega (
+      arith,
+      counted6-ensures .1,
+      counted-ensures .1,
+      b .vertices-few,
+      counted2-ensures .1,
+      b .faces-few,
+      b .faces-bytes,
+      faces-size-ensures,
+      counted3-ensures .1,
+      b .two-few,
+      b .two-bytes,
+      part2-tally-ensures .0,
+      part2-tally-ensures .1,
+      counted4-ensures .1,
+      b .sewn-few,
+      b .three-bytes,
+      part3-size-ensures,
+      counted5-ensures .1,
+      b .four-few,
+      b .four-bytes,
+      part4-tally-ensures .0,
+      part4-tally-ensures .1,
+    ))
 
 pub transfer-sizes-spec : {M : Type 1} → statement M
 transfer-sizes-spec =

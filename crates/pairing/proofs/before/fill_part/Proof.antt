@@ -72,16 +72,19 @@ add-p c =
     omega (arith, place-in (start .pre .0) (start .args .i) loop-p (start .pre .1) (filling-lt loop-inv loop-test-taken))
 
 loop-less : tie.Need-loop-less Inv-loop μ-loop
-loop-less c =
-    let loop-test-taken = (let p : tie.In-loop Inv-loop μ-loop = search in p .loop-test .taken) in
-    omega (arith, loop-test-taken)
+loop-less c = omega arith
 
 loop-again : tie.Need-loop-again Inv-loop μ-loop
 loop-again c =
     let start : tie.Start Inv-loop μ-loop = search in
     let loop-inv = (let p : tie.At-loop Inv-loop μ-loop = search in p .loop .inv) in
     let loop-test-taken = (let p : tie.In-loop Inv-loop μ-loop = search in p .loop-test .taken) in
-    record { size = loop-inv .size; filled = table-more (start .pre .0) (loop-inv .filled) (start .pre .1) (filling-lt loop-inv loop-test-taken) (c .next-place .ensures .0) }
+    record {
+      size =
+          loop-inv .size;
+      filled = table-more (start .pre .0) (loop-inv .filled) (start .pre .1)
+          (filling-lt loop-inv loop-test-taken) (c .next-place .ensures .0);
+    }
 
 same-length : tie.Need-same-length Inv-loop μ-loop
 same-length c =

@@ -18,7 +18,10 @@ add-word c =
 word-requires : tie.Need-word-requires
 word-requires c κs =
     let start : tie.Start = search in
-    number-held (start .args .mesh .now) (start .args .i) (start .args .p) (start .pre .1) (place-in (start .pre .0) (start .args .i) (start .args .p) (start .pre .1) (start .pre .2))
+    let mesh = start .args .mesh .now in
+    let i = start .args .i in
+    let p' = start .args .p in
+    number-held mesh i p' (start .pre .1) (place-in (start .pre .0) i p' (start .pre .1) (start .pre .2))
 
 returns : tie.Need-returns
 returns c =

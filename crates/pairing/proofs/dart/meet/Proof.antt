@@ -39,13 +39,16 @@ word-requires-6 c κs =
 returns : tie.Need-returns
 returns c =
     let start : tie.Start = search in
+    let mesh = start .args .mesh .now in
+    let g = start .args .g in
+    let h = start .args .h in
     let next-ensures = (let p : tie.After-next = search in p .next .ensures) in
     let word-ensures = (let p : tie.After-word = search in p .word .ensures) in
     let word2-ensures = (let p : tie.After-word2 = search in p .word2 .ensures) in
     let word3-ensures = (let p : tie.After-word3 = search in p .word3 .ensures) in
     let word4-ensures = (let p : tie.After-word4 = search in p .word4 .ensures) in
     let word5-ensures = (let p : tie.After-word5 = search in p .word5 .ensures) in
-    meet-told (start .args .mesh .now) (start .args .g) (start .args .h) next-ensures word-ensures word2-ensures word3-ensures word4-ensures word5-ensures (c .word6 .ensures)
+    meet-told mesh g h next-ensures word-ensures word2-ensures word3-ensures word4-ensures word5-ensures (c .word6 .ensures)
 
 pub meet-spec : {M : Type 1} → statement M
 meet-spec =

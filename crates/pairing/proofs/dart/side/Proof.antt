@@ -28,11 +28,15 @@ word-requires-3 c κs =
 returns : tie.Need-returns
 returns c =
     let start : tie.Start = search in
+    let mesh = start .args .mesh .now in
+    let table = start .args .table .now in
+    let g = start .args .g in
+    let h = start .args .h in
     let word-ensures = (let p : tie.After-word = search in p .word .ensures) in
     let next-ensures = (let p : tie.After-next = search in p .next .ensures) in
     let word2-ensures = (let p : tie.After-word2 = search in p .word2 .ensures) in
     let previous-ensures = (let p : tie.After-previous = search in p .previous .ensures) in
-    side-told (start .args .mesh .now) (start .args .table .now) (start .args .g) (start .args .h) word-ensures next-ensures word2-ensures previous-ensures (c .word3 .ensures)
+    side-told mesh table g h word-ensures next-ensures word2-ensures previous-ensures (c .word3 .ensures)
 
 pub side-spec : {M : Type 1} → statement M
 side-spec =

@@ -54,9 +54,14 @@ same-length c = search needs
 returns-2 : tie.Need-returns-2
 returns-2 c =
     let start : tie.Start = search in
+    let block = start .args .block .now in
+    let i = start .args .i in
+    let p' = start .args .p in
+    let at = start .args .at in
+    let out = start .args .out .now in
     let field-ensures = (let p : tie.After-field = search in p .field .ensures) in
     let if1-left = (let p : tie.Else1 = search in p .if1 .left) in
-    key-put (start .args .block .now) (start .args .i) (start .args .p) (start .args .at) (start .args .out .now) (start .pre .5) field-ensures if1-left (c .field2 .ensures)
+    key-put block i p' at out (start .pre .5) field-ensures if1-left (c .field2 .ensures)
 
 pub put-key-spec : {M : Type 1} → statement M
 put-key-spec =

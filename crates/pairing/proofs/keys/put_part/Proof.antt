@@ -29,7 +29,11 @@ part-put-keys-end c = search needs
 put-keys-requires : tie.Need-put-keys-requires
 put-keys-requires c κs =
     let start : tie.Start = search in
-    part-asked (start .args .mesh .now) (start .args .i) (part-is (start .args .mesh .now) (start .args .i) _ refl) (start .pre .0) (start .pre .1) (start .args .at) (length (start .args .out .now)) (start .pre .2)
+    let mesh = start .args .mesh .now in
+    let i = start .args .i in
+    let at = start .args .at in
+    let out = start .args .out .now in
+    part-asked mesh i (part-is mesh i _ refl) (start .pre .0) (start .pre .1) at (length out) (start .pre .2)
 
 same-length : tie.Need-same-length
 same-length c = search needs
@@ -37,8 +41,10 @@ same-length c = search needs
 returns : tie.Need-returns
 returns c =
     let start : tie.Start = search in
+    let mesh = start .args .mesh .now in
+    let i = start .args .i in
     let put-keys-ensures = (let p : tie.After-put-keys = search in p .put-keys .ensures) in
-    part-told (start .args .mesh .now) (start .args .i) (part-is (start .args .mesh .now) (start .args .i) _ refl) (start .pre .0) (start .pre .1) put-keys-ensures
+    part-told mesh i (part-is mesh i _ refl) (start .pre .0) (start .pre .1) put-keys-ensures
 
 pub put-part-spec : {M : Type 1} → statement M
 put-part-spec =

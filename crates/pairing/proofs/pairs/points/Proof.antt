@@ -42,9 +42,13 @@ shared-slice-read-points-pair-2 c = search needs
 points-pair-requires : tie.Need-points-pair-requires Inv-loop μ-loop
 points-pair-requires c κs =
     let start : tie.Start Inv-loop μ-loop = search in
+    let keys = start .args .keys .now in
     let loop-t = (let p : tie.At-loop Inv-loop μ-loop = search in p .loop .t) in
-    let loop-test-taken = (let p : tie.In-loop Inv-loop μ-loop = search in p .loop-test .taken) in
-    (start .pre .0, start .pre .1 loop-t (first-of (length (start .args .keys .now)) loop-t (two-there (length (start .args .keys .now)) loop-t loop-test-taken)), start .pre .1 (loop-t + 1) (two-there (length (start .args .keys .now)) loop-t loop-test-taken))
+    let loop-test-taken = (let p : tie.In-loop Inv-loop μ-loop = search in p .loop-test .taken) in (
+      start .pre .0,
+      start .pre .1 loop-t (first-of (length keys) loop-t (two-there (length keys) loop-t loop-test-taken)),
+      start .pre .1 (loop-t + 1) (two-there (length keys) loop-t loop-test-taken),
+    )
 
 returns : tie.Need-returns Inv-loop μ-loop
 returns c =

@@ -32,13 +32,19 @@ fresh-requires c κs = search needs
 labels-pair-requires : tie.Need-labels-pair-requires
 labels-pair-requires c κs =
     let start : tie.Start = search in
-    (start .pre .0, start .pre .1, start .pre .2 (start .args .t) (first-of (length (start .args .keys .now)) (start .args .t) (start .pre .3)), start .pre .2 (start .args .t + 1) (start .pre .3))
+    let t = start .args .t in
+    let keys = start .args .keys .now in
+    (start .pre .0, start .pre .1, start .pre .2 t (first-of (length keys) t (start .pre .3)), start .pre .2 (t + 1) (start .pre .3))
 
 returns : tie.Need-returns
 returns c =
     let start : tie.Start = search in
+    let mesh = start .args .mesh .now in
+    let table = start .args .table .now in
+    let keys = start .args .keys .now in
+    let t = start .args .t in
     let fresh-ensures = (let p : tie.After-fresh = search in p .fresh .ensures) in
-    two-told (label-pair (start .args .mesh .now) (start .args .table .now)) (getD (start .args .keys .now) (start .args .t) 0) (getD (start .args .keys .now) (start .args .t + 1) 0) (drop (start .args .t + 2) (start .args .keys .now)) fresh-ensures (c .labels-pair .ensures)
+    two-told (label-pair mesh table) (getD keys t 0) (getD keys (t + 1) 0) (drop (t + 2) keys) fresh-ensures (c .labels-pair .ensures)
 
 pub two-spec : {M : Type 1} → statement M
 two-spec =

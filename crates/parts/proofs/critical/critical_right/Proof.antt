@@ -17,15 +17,33 @@ few-requires c κs = search needs
 returns : tie.Need-returns
 returns c =
     let start : tie.Start = search in
-    let few-ensures = (let p : tie.After-few = search in p .few .ensures) in
-    (many-no (start .args .block .now) (start .args .message .now) (start .args .starts .now) (start .args .sizes .now) (start .args .k) (start .args .from) (start .args .to) (start .args .tail) (start .pre .0 .8) (sym few-ensures ∙ not-true _ (c .if1 .taken)), start .pre .0 .3, start .pre .0 .4, (ap length (start .pre .0 .5) ∙ refl), (ap length (start .pre .0 .6) ∙ refl))
+    let block = start .args .block .now in
+    let message = start .args .message .now in
+    let starts = start .args .starts .now in
+    let sizes = start .args .sizes .now in
+    let k = start .args .k in
+    let from = start .args .from in
+    let to = start .args .to in
+    let tail = start .args .tail in
+    let few-ensures = (let p : tie.After-few = search in p .few .ensures) in (
+      many-no block message starts sizes k from to tail (start .pre .0 .8) (sym few-ensures ∙ not-true _ (c .if1 .taken)),
+      start .pre .0 .3,
+      start .pre .0 .4,
+      (ap length (start .pre .0 .5) ∙ refl),
+      (ap length (start .pre .0 .6) ∙ refl),
+    )
 
 read-part2-requires : tie.Need-read-part2-requires
 read-part2-requires c κs =
     let start : tie.Start = search in
+    let tail = start .args .tail in
     let few-ensures = (let p : tie.After-few = search in p .few .ensures) in
-    let if1-left = (let p : tie.Else1 = search in p .if1 .left) in
-    ((let r = start .pre .1 .3 .part2-in in let a = r .onward in let b = r .within in omega (arith, a, b)), few2 (start .args .tail) (sym few-ensures ∙ not-false _ if1-left), start .pre .0 .3, start .pre .0 .4)
+    let if1-left = (let p : tie.Else1 = search in p .if1 .left) in (
+      (let r = start .pre .1 .3 .part2-in in let a = r .onward in let b = r .within in omega (arith, a, b)),
+      few2 tail (sym few-ensures ∙ not-false _ if1-left),
+      start .pre .0 .3,
+      start .pre .0 .4,
+    )
 
 slice-aggregate-read-part3 : tie.Need-slice-aggregate-read-part3
 slice-aggregate-read-part3 c = search needs
@@ -36,9 +54,14 @@ slice-aggregate-read-part3-2 c = search needs
 read-part3-requires : tie.Need-read-part3-requires
 read-part3-requires c κs =
     let start : tie.Start = search in
+    let tail = start .args .tail in
     let few-ensures = (let p : tie.After-few = search in p .few .ensures) in
-    let if1-left = (let p : tie.Else1 = search in p .if1 .left) in
-    ((let r = start .pre .1 .3 .part3-in in let a = r .onward in let b = r .within in omega (arith, a, b)), few3 (start .args .tail) (sym few-ensures ∙ not-false _ if1-left), refl, refl)
+    let if1-left = (let p : tie.Else1 = search in p .if1 .left) in (
+      (let r = start .pre .1 .3 .part3-in in let a = r .onward in let b = r .within in omega (arith, a, b)),
+      few3 tail (sym few-ensures ∙ not-false _ if1-left),
+      refl,
+      refl,
+    )
 
 slice-aggregate-read-part4 : tie.Need-slice-aggregate-read-part4
 slice-aggregate-read-part4 c = search needs
@@ -55,7 +78,14 @@ read-part4-requires c κs =
     let few-ensures = (let p : tie.After-few = search in p .few .ensures) in
     let c : tie.After-few = search in
     let start : tie.Start = search in
-    ((let r = start .pre .1 .3 .part4-in in let a = r .onward in let b = r .within in omega (arith, a, b)), few4 (start .args .tail) (sym few-ensures ∙ not-false _ if1-left), (let n = start .pre .0 .2 in let h = start .pre .0 .8 in omega (arith, n, h)), refl, refl, refl)
+    let tail = start .args .tail in (
+      (let r = start .pre .1 .3 .part4-in in let a = r .onward in let b = r .within in omega (arith, a, b)),
+      few4 tail (sym few-ensures ∙ not-false _ if1-left),
+      (let n = start .pre .0 .2 in let h = start .pre .0 .8 in omega (arith, n, h)),
+      refl,
+      refl,
+      refl,
+    )
 
 slice-aggregate-entries-fit : tie.Need-slice-aggregate-entries-fit
 slice-aggregate-entries-fit c = search needs
@@ -78,7 +108,19 @@ entries-fit-requires c κs =
     let if1-left = (let p : tie.Else1 = search in p .if1 .left) in
     let few-ensures = (let p : tie.After-few = search in p .few .ensures) in
     let start : tie.Start = search in
-    (read-part2-ensures .second-size, read-part3-ensures .second-size, read-part3-ensures .first-size, read-part4-ensures .0, read-part4-ensures .1, start .pre .0 .1, few2 (start .args .tail) (sym few-ensures ∙ not-false _ if1-left), few3 (start .args .tail) (sym few-ensures ∙ not-false _ if1-left), few4 (start .args .tail) (sym few-ensures ∙ not-false _ if1-left), start .pre .0 .8)
+    let tail = start .args .tail in
+    let few-yes = sym few-ensures ∙ not-false _ if1-left in (
+      read-part2-ensures .second-size,
+      read-part3-ensures .second-size,
+      read-part3-ensures .first-size,
+      read-part4-ensures .0,
+      read-part4-ensures .1,
+      start .pre .0 .1,
+      few2 tail few-yes,
+      few3 tail few-yes,
+      few4 tail few-yes,
+      start .pre .0 .8,
+    )
 
 same-length : tie.Need-same-length
 same-length c = search needs
@@ -97,7 +139,18 @@ returns-2 c =
     let if1-left = (let p : tie.Else1 = search in p .if1 .left) in
     let few-ensures = (let p : tie.After-few = search in p .few .ensures) in
     let start : tie.Start = search in
-    (entries-no (start .args .block .now) (start .args .starts .now) (start .args .from) (start .args .to) (start .args .tail) (sym few-ensures ∙ not-false _ if1-left) read-part2-ensures read-part3-ensures read-part4-ensures (sym entries-fit-ensures ∙ not-true _ if2-taken), read-part2-ensures .first-size, read-part2-ensures .second-size, (ap length (start .pre .0 .5) ∙ refl), (ap length (start .pre .0 .6) ∙ refl))
+    let block = start .args .block .now in
+    let starts = start .args .starts .now in
+    let from = start .args .from in
+    let to = start .args .to in
+    let tail = start .args .tail in (
+      entries-no block starts from to tail (sym few-ensures ∙ not-false _ if1-left) read-part2-ensures read-part3-ensures
+          read-part4-ensures (sym entries-fit-ensures ∙ not-true _ if2-taken),
+      read-part2-ensures .first-size,
+      read-part2-ensures .second-size,
+      (ap length (start .pre .0 .5) ∙ refl),
+      (ap length (start .pre .0 .6) ∙ refl),
+    )
 
 slice-aggregate-put-part3 : tie.Need-slice-aggregate-put-part3
 slice-aggregate-put-part3 c = search needs
@@ -116,7 +169,29 @@ put-part3-requires c κs =
     let if1-left = (let p : tie.Else1 = search in p .if1 .left) in
     let few-ensures = (let p : tie.After-few = search in p .few .ensures) in
     let start : tie.Start = search in
-    ((read-part3-ensures .second-size, read-part3-ensures .first-size, start .pre .0 .2, (ap length (start .pre .0 .5) ∙ refl), (ap length (start .pre .0 .6) ∙ refl)), (put-spans3 (start .args .block .now) (start .args .starts .now) (start .args .from) (start .args .to) (start .args .tail) (sym few-ensures ∙ not-false _ if1-left) read-part2-ensures read-part3-ensures read-part4-ensures (start .pre .0 .8) (sym entries-fit-ensures ∙ not-false _ if2-left) (start .pre .1 .3), few3 (start .args .tail) (sym few-ensures ∙ not-false _ if1-left), start .pre .0 .9, put-numbers (start .args .block .now) (start .args .starts .now) (start .args .from) (start .args .to) (start .args .tail) (sym few-ensures ∙ not-false _ if1-left) read-part2-ensures read-part3-ensures read-part4-ensures (start .pre .0 .8) (sym entries-fit-ensures ∙ not-false _ if2-left) (start .pre .1 .3)))
+    let block = start .args .block .now in
+    let starts = start .args .starts .now in
+    let from = start .args .from in
+    let to = start .args .to in
+    let tail = start .args .tail in
+    let few-yes = sym few-ensures ∙ not-false _ if1-left in
+    let entries-fit-yes = sym entries-fit-ensures ∙ not-false _ if2-left in (
+      (
+        read-part3-ensures .second-size,
+        read-part3-ensures .first-size,
+        start .pre .0 .2,
+        (ap length (start .pre .0 .5) ∙ refl),
+        (ap length (start .pre .0 .6) ∙ refl),
+      ),
+      (
+        put-spans3 block starts from to tail few-yes read-part2-ensures read-part3-ensures read-part4-ensures (start .pre .0 .8)
+            entries-fit-yes (start .pre .1 .3),
+        few3 tail few-yes,
+        start .pre .0 .9,
+        put-numbers block starts from to tail few-yes read-part2-ensures read-part3-ensures read-part4-ensures (start .pre .0 .8)
+            entries-fit-yes (start .pre .1 .3),
+      ),
+    )
 
 slice-aggregate-put-part4 : tie.Need-slice-aggregate-put-part4
 slice-aggregate-put-part4 c = search needs
@@ -140,7 +215,31 @@ put-part4-requires c κs =
     let if1-left = (let p : tie.Else1 = search in p .if1 .left) in
     let few-ensures = (let p : tie.After-few = search in p .few .ensures) in
     let start : tie.Start = search in
-    ((read-part4-ensures .0, read-part4-ensures .1, read-part4-ensures .2, start .pre .0 .2, put-part3-ensures .0 .size, put-part3-ensures .1 .size), (put-spans4 (start .args .block .now) (start .args .starts .now) (start .args .from) (start .args .to) (start .args .tail) (sym few-ensures ∙ not-false _ if1-left) read-part2-ensures read-part3-ensures read-part4-ensures (start .pre .0 .8) (sym entries-fit-ensures ∙ not-false _ if2-left) (start .pre .1 .3), few4 (start .args .tail) (sym few-ensures ∙ not-false _ if1-left), put-others (start .args .block .now) (start .args .starts .now) (start .args .from) (start .args .to) (start .args .tail) (sym few-ensures ∙ not-false _ if1-left) read-part2-ensures read-part3-ensures read-part4-ensures (start .pre .0 .8) (sym entries-fit-ensures ∙ not-false _ if2-left) (start .pre .1 .3), put-labels (start .args .block .now) (start .args .starts .now) (start .args .from) (start .args .to) (start .args .tail) (sym few-ensures ∙ not-false _ if1-left) read-part2-ensures read-part3-ensures read-part4-ensures (start .pre .0 .8) (sym entries-fit-ensures ∙ not-false _ if2-left) (start .pre .1 .3)))
+    let block = start .args .block .now in
+    let starts = start .args .starts .now in
+    let from = start .args .from in
+    let to = start .args .to in
+    let tail = start .args .tail in
+    let few-yes = sym few-ensures ∙ not-false _ if1-left in
+    let entries-fit-yes = sym entries-fit-ensures ∙ not-false _ if2-left in (
+      (
+        read-part4-ensures .0,
+        read-part4-ensures .1,
+        read-part4-ensures .2,
+        start .pre .0 .2,
+        put-part3-ensures .0 .size,
+        put-part3-ensures .1 .size,
+      ),
+      (
+        put-spans4 block starts from to tail few-yes read-part2-ensures read-part3-ensures read-part4-ensures (start .pre .0 .8)
+            entries-fit-yes (start .pre .1 .3),
+        few4 tail few-yes,
+        put-others block starts from to tail few-yes read-part2-ensures read-part3-ensures read-part4-ensures (start .pre .0 .8)
+            entries-fit-yes (start .pre .1 .3),
+        put-labels block starts from to tail few-yes read-part2-ensures read-part3-ensures read-part4-ensures (start .pre .0 .8)
+            entries-fit-yes (start .pre .1 .3),
+      ),
+    )
 
 shared-slice-read-n : tie.Need-shared-slice-read-n
 shared-slice-read-n c =
@@ -164,7 +263,24 @@ labels-fit-requires c κs =
     let few-ensures = (let p : tie.After-few = search in p .few .ensures) in
     let c : tie.After-few = search in
     let start : tie.Start = search in
-    ((sited rack (start .args .block .now) (start .pre .0 .0) .linked .size, sited rack (start .args .block .now) (start .pre .0 .0) .linked .few, put-part4-ensures .0 .size, put-part4-ensures .1 .size, start .pre .0 .7, start .pre .0 .8), put-small (start .args .block .now) (start .args .starts .now) (start .args .from) (start .args .to) (start .args .tail) (sym few-ensures ∙ not-false _ if1-left) read-part2-ensures read-part3-ensures read-part4-ensures (start .pre .0 .8) (sym entries-fit-ensures ∙ not-false _ if2-left) (start .pre .0 .9) (start .pre .0 .5) (start .pre .0 .6) (put-part3-ensures .0) (put-part4-ensures .0) (put-part3-ensures .1) (put-part4-ensures .1) (start .pre .1 .3))
+    let block = start .args .block .now in
+    let starts = start .args .starts .now in
+    let from = start .args .from in
+    let to = start .args .to in
+    let tail = start .args .tail in (
+      (
+        sited rack block (start .pre .0 .0) .linked .size,
+        sited rack block (start .pre .0 .0) .linked .few,
+        put-part4-ensures .0 .size,
+        put-part4-ensures .1 .size,
+        start .pre .0 .7,
+        start .pre .0 .8,
+      ),
+      put-small block starts from to tail (sym few-ensures ∙ not-false _ if1-left) read-part2-ensures read-part3-ensures
+          read-part4-ensures (start .pre .0 .8) (sym entries-fit-ensures ∙ not-false _ if2-left) (start .pre .0 .9) (start .pre .0 .5)
+          (start .pre .0 .6) (put-part3-ensures .0) (put-part4-ensures .0) (put-part3-ensures .1) (put-part4-ensures .1)
+          (start .pre .1 .3),
+    )
 
 same-length-3 : tie.Need-same-length-3
 same-length-3 c =
@@ -204,7 +320,20 @@ returns-3 c =
     let few-ensures = (let p : tie.After-few = search in p .few .ensures) in
     let c : tie.After-few = search in
     let start : tie.Start = search in
-    (labels-tell (start .args .block .now) (start .args .starts .now) (start .args .from) (start .args .to) (start .args .tail) (sym few-ensures ∙ not-false _ if1-left) read-part2-ensures read-part3-ensures read-part4-ensures (start .pre .0 .8) (sym entries-fit-ensures ∙ not-false _ if2-left) (start .pre .0 .9) (start .pre .0 .5) (start .pre .0 .6) (put-part3-ensures .0) (put-part4-ensures .0) (put-part3-ensures .1) (put-part4-ensures .1) (start .pre .0 .0) labels-fit-ensures, read-part2-ensures .first-size, read-part2-ensures .second-size, put-part4-ensures .0 .size, put-part4-ensures .1 .size)
+    let block = start .args .block .now in
+    let starts = start .args .starts .now in
+    let from = start .args .from in
+    let to = start .args .to in
+    let tail = start .args .tail in (
+      labels-tell block starts from to tail (sym few-ensures ∙ not-false _ if1-left) read-part2-ensures read-part3-ensures
+          read-part4-ensures (start .pre .0 .8) (sym entries-fit-ensures ∙ not-false _ if2-left) (start .pre .0 .9) (start .pre .0 .5)
+          (start .pre .0 .6) (put-part3-ensures .0) (put-part4-ensures .0) (put-part3-ensures .1) (put-part4-ensures .1)
+          (start .pre .0 .0) labels-fit-ensures,
+      read-part2-ensures .first-size,
+      read-part2-ensures .second-size,
+      put-part4-ensures .0 .size,
+      put-part4-ensures .1 .size,
+    )
 
 pub critical-right-spec : {M : Type 1} → statement M
 critical-right-spec =

@@ -26,9 +26,11 @@ no-entry-requires c κs = search needs
 returns : tie.Need-returns
 returns c =
     let start : tie.Start = search in
+    let s = start .args .s .now in
+    let at = start .args .at in
     let read-group-ensures = (let p : tie.After-read-group = search in p .read-group .ensures) in
     let enum-told-given = (let p : tie.After-enum-told = search in p .enum-told .given) in
-    λ fs z. entry-no fs (c .no-entry .ensures) (part4-none fs (start .args .s .now) (start .args .at) (bad-at group _ _ (sym (enum-told-given .1) ∙ read-group-ensures)))
+    λ fs z. entry-no fs (c .no-entry .ensures) (part4-none fs s at (bad-at group _ _ (sym (enum-told-given .1) ∙ read-group-ensures)))
 
 no-entry-requires-2 : tie.Need-no-entry-requires-2
 no-entry-requires-2 c κs = search needs
@@ -59,7 +61,9 @@ returns-3 c =
     let if1-left = (let p : tie.Else1 = search in p .if1 .left) in
     let read-at-most-ensures = (let p : tie.After-read-at-most = search in p .read-at-most .ensures) in
     let enum-told2-given = (let p : tie.After-enum-told2 = search in p .enum-told2 .given) in
-    λ fs z. entry-no fs (c .no-entry3 .ensures) (part4-alone fs (took-group (sym (index-given .1) ∙ read-group-ensures)) z (omega (arith, if1-left)) (bad-at (at-most 15) _ _ (sym (enum-told2-given .1) ∙ read-at-most-ensures)))
+    λ fs z. entry-no fs (c .no-entry3 .ensures)
+    (part4-alone fs (took-group (sym (index-given .1) ∙ read-group-ensures)) z (omega (arith, if1-left))
+    (bad-at (at-most 15) _ _ (sym (enum-told2-given .1) ∙ read-at-most-ensures)))
 
 mul-size : tie.Need-mul-size
 mul-size c = search needs
@@ -91,7 +95,9 @@ returns-4 c =
     let other-given = (let p : tie.After-other = search in p .other .given) in
     let pass-labels-ensures = (let p : tie.After-pass-labels = search in p .pass-labels .ensures) in
     let enum-told3-given = (let p : tie.After-enum-told3 = search in p .enum-told3 .given) in
-    λ fs z. entry-half fs z (took-group (sym (index-given .1) ∙ read-group-ensures)) (omega (arith, if1-left)) (took-at-most 15 (sym (other-given .1) ∙ read-at-most-ensures)) refl (c .no-entry4 .ensures) (enum-told3-given .1) pass-labels-ensures
+    λ fs z. entry-half fs z (took-group (sym (index-given .1) ∙ read-group-ensures)) (omega (arith, if1-left))
+    (took-at-most 15 (sym (other-given .1) ∙ read-at-most-ensures)) refl (c .no-entry4 .ensures) (enum-told3-given .1)
+    pass-labels-ensures
 
 returns-5 : tie.Need-returns-5
 returns-5 c =
@@ -102,7 +108,8 @@ returns-5 c =
     let other-given = (let p : tie.After-other = search in p .other .given) in
     let pass-labels-ensures = (let p : tie.After-pass-labels = search in p .pass-labels .ensures) in
     let n-given = (let p : tie.After-n = search in p .n .given) in
-    λ fs z. entry-yes fs z (took-group (sym (index-given .1) ∙ read-group-ensures)) (omega (arith, if1-left)) (took-at-most 15 (sym (other-given .1) ∙ read-at-most-ensures)) refl (n-given .1) pass-labels-ensures
+    λ fs z. entry-yes fs z (took-group (sym (index-given .1) ∙ read-group-ensures)) (omega (arith, if1-left))
+    (took-at-most 15 (sym (other-given .1) ∙ read-at-most-ensures)) refl (n-given .1) pass-labels-ensures
 
 pub read-entry-spec : {M : Type 1} → statement M
 read-entry-spec =

@@ -80,44 +80,26 @@ returns-2 c =
     let read-label-ensures = (let p : tie.After-read-label Inv-loop μ-loop = search in p .read-label .ensures) in
     let code-given = (let p : tie.After-code Inv-loop μ-loop = search in p .code .given) in
     let read-group-ensures = (let p : tie.After-read-group Inv-loop μ-loop = search in p .read-group .ensures) in
-    reading-bad part2 code2 index2 loop-inv loop-test-taken (half-part2 _ _ _ _ (sym (code-given .1) ∙ read-label-ensures) (sym (c .enum-told2 .given .1) ∙ read-group-ensures))
+    reading-bad part2 code2 index2 loop-inv loop-test-taken
+    (half-part2 _ _ _ _ (sym (code-given .1) ∙ read-label-ensures) (sym (c .enum-told2 .given .1) ∙ read-group-ensures))
 
 mul-codes : tie.Need-mul-codes Inv-loop μ-loop
-mul-codes c =
-    let start : tie.Start Inv-loop μ-loop = search in
-    let loop-test-taken = (let p : tie.In-loop Inv-loop μ-loop = search in p .loop-test .taken) in
-    omega (arith, loop-test-taken, start .pre .1)
+mul-codes c = omega arith
 
 slice-write-codes : tie.Need-slice-write-codes Inv-loop μ-loop
-slice-write-codes c =
-    let start : tie.Start Inv-loop μ-loop = search in
-    let loop-inv = (let p : tie.At-loop Inv-loop μ-loop = search in p .loop .inv) in
-    let loop-test-taken = (let p : tie.In-loop Inv-loop μ-loop = search in p .loop-test .taken) in
-    omega (arith, loop-test-taken, start .pre .1, loop-inv .first-size)
+slice-write-codes c = omega arith
 
 mul-indices : tie.Need-mul-indices Inv-loop μ-loop
-mul-indices c =
-    let start : tie.Start Inv-loop μ-loop = search in
-    let loop-test-taken = (let p : tie.In-loop Inv-loop μ-loop = search in p .loop-test .taken) in
-    omega (arith, loop-test-taken, start .pre .1)
+mul-indices c = omega arith
 
 slice-write-indices : tie.Need-slice-write-indices Inv-loop μ-loop
-slice-write-indices c =
-    let start : tie.Start Inv-loop μ-loop = search in
-    let loop-inv = (let p : tie.At-loop Inv-loop μ-loop = search in p .loop .inv) in
-    let loop-test-taken = (let p : tie.In-loop Inv-loop μ-loop = search in p .loop-test .taken) in
-    omega (arith, loop-test-taken, start .pre .1, loop-inv .second-size)
+slice-write-indices c = omega arith
 
 add-i : tie.Need-add-i Inv-loop μ-loop
-add-i c =
-    let start : tie.Start Inv-loop μ-loop = search in
-    let loop-test-taken = (let p : tie.In-loop Inv-loop μ-loop = search in p .loop-test .taken) in
-    omega (arith, loop-test-taken, start .pre .1)
+add-i c = omega arith
 
 loop-less : tie.Need-loop-less Inv-loop μ-loop
-loop-less c =
-    let loop-test-taken = (let p : tie.In-loop Inv-loop μ-loop = search in p .loop-test .taken) in
-    omega (arith, loop-test-taken)
+loop-less c = omega arith
 
 loop-again : tie.Need-loop-again Inv-loop μ-loop
 loop-again c =
@@ -128,7 +110,8 @@ loop-again c =
     let code-given = (let p : tie.After-code Inv-loop μ-loop = search in p .code .given) in
     let read-group-ensures = (let p : tie.After-read-group Inv-loop μ-loop = search in p .read-group .ensures) in
     let index-given = (let p : tie.After-index Inv-loop μ-loop = search in p .index .given) in
-    reading-more part2 code2 index2 loop-inv loop-test-taken (start .pre .1) (took-part2 (sym (code-given .1) ∙ read-label-ensures) (sym (index-given .1) ∙ read-group-ensures)) (sym (code-label _)) refl
+    reading-more part2 code2 index2 loop-inv loop-test-taken (start .pre .1)
+    (took-part2 (sym (code-given .1) ∙ read-label-ensures) (sym (index-given .1) ∙ read-group-ensures)) (sym (code-label _)) refl
 
 same-length-5 : tie.Need-same-length-5 Inv-loop μ-loop
 same-length-5 c =

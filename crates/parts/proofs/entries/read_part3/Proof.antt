@@ -79,44 +79,26 @@ returns-2 c =
     let read-group-ensures = (let p : tie.After-read-group Inv-loop μ-loop = search in p .read-group .ensures) in
     let number-given = (let p : tie.After-number Inv-loop μ-loop = search in p .number .given) in
     let read-group2-ensures = (let p : tie.After-read-group2 Inv-loop μ-loop = search in p .read-group2 .ensures) in
-    reading-bad part3 number3 index3 loop-inv loop-test-taken (half-part3 _ _ _ _ (sym (number-given .1) ∙ read-group-ensures) (sym (c .enum-told2 .given .1) ∙ read-group2-ensures))
+    reading-bad part3 number3 index3 loop-inv loop-test-taken
+    (half-part3 _ _ _ _ (sym (number-given .1) ∙ read-group-ensures) (sym (c .enum-told2 .given .1) ∙ read-group2-ensures))
 
 mul-numbers : tie.Need-mul-numbers Inv-loop μ-loop
-mul-numbers c =
-    let start : tie.Start Inv-loop μ-loop = search in
-    let loop-test-taken = (let p : tie.In-loop Inv-loop μ-loop = search in p .loop-test .taken) in
-    omega (arith, loop-test-taken, start .pre .1)
+mul-numbers c = omega arith
 
 slice-write-numbers : tie.Need-slice-write-numbers Inv-loop μ-loop
-slice-write-numbers c =
-    let start : tie.Start Inv-loop μ-loop = search in
-    let loop-inv = (let p : tie.At-loop Inv-loop μ-loop = search in p .loop .inv) in
-    let loop-test-taken = (let p : tie.In-loop Inv-loop μ-loop = search in p .loop-test .taken) in
-    omega (arith, loop-test-taken, start .pre .1, loop-inv .first-size)
+slice-write-numbers c = omega arith
 
 mul-indices : tie.Need-mul-indices Inv-loop μ-loop
-mul-indices c =
-    let start : tie.Start Inv-loop μ-loop = search in
-    let loop-test-taken = (let p : tie.In-loop Inv-loop μ-loop = search in p .loop-test .taken) in
-    omega (arith, loop-test-taken, start .pre .1)
+mul-indices c = omega arith
 
 slice-write-indices : tie.Need-slice-write-indices Inv-loop μ-loop
-slice-write-indices c =
-    let start : tie.Start Inv-loop μ-loop = search in
-    let loop-inv = (let p : tie.At-loop Inv-loop μ-loop = search in p .loop .inv) in
-    let loop-test-taken = (let p : tie.In-loop Inv-loop μ-loop = search in p .loop-test .taken) in
-    omega (arith, loop-test-taken, start .pre .1, loop-inv .second-size)
+slice-write-indices c = omega arith
 
 add-i : tie.Need-add-i Inv-loop μ-loop
-add-i c =
-    let start : tie.Start Inv-loop μ-loop = search in
-    let loop-test-taken = (let p : tie.In-loop Inv-loop μ-loop = search in p .loop-test .taken) in
-    omega (arith, loop-test-taken, start .pre .1)
+add-i c = omega arith
 
 loop-less : tie.Need-loop-less Inv-loop μ-loop
-loop-less c =
-    let loop-test-taken = (let p : tie.In-loop Inv-loop μ-loop = search in p .loop-test .taken) in
-    omega (arith, loop-test-taken)
+loop-less c = omega arith
 
 loop-again : tie.Need-loop-again Inv-loop μ-loop
 loop-again c =
@@ -127,7 +109,8 @@ loop-again c =
     let number-given = (let p : tie.After-number Inv-loop μ-loop = search in p .number .given) in
     let read-group2-ensures = (let p : tie.After-read-group2 Inv-loop μ-loop = search in p .read-group2 .ensures) in
     let index-given = (let p : tie.After-index Inv-loop μ-loop = search in p .index .given) in
-    reading-more part3 number3 index3 loop-inv loop-test-taken (start .pre .1) (took-part3 (sym (number-given .1) ∙ read-group-ensures) (sym (index-given .1) ∙ read-group2-ensures)) refl refl
+    reading-more part3 number3 index3 loop-inv loop-test-taken (start .pre .1)
+    (took-part3 (sym (number-given .1) ∙ read-group-ensures) (sym (index-given .1) ∙ read-group2-ensures)) refl refl
 
 same-length-5 : tie.Need-same-length-5 Inv-loop μ-loop
 same-length-5 c =

@@ -15,7 +15,8 @@ use Rattle.parts.proofs.entries.read_part4.Tie as tie
 
 abbrev Inv-loop : tie.InvT-loop
 Inv-loop s at count darts sizes indices₀ others₀ places₀ i₀ p₀ indices others places i p =
-    (length indices ≡ most) × (length others ≡ most) × (length places ≡ most) × ((fs : List (List FaceDart)) → Sized fs darts sizes → Reading4 fs sizes s at count indices others places i p)
+    (length indices ≡ most) × (length others ≡ most) × (length places ≡ most)
+    × ((fs : List (List FaceDart)) → Sized fs darts sizes → Reading4 fs sizes s at count indices others places i p)
 
 abbrev μ-loop : tie.MeasureT-loop
 μ-loop s at count darts sizes indices₀ others₀ places₀ i₀ p₀ indices others places i p =
@@ -51,66 +52,50 @@ returns : tie.Need-returns Inv-loop μ-loop
 returns c =
     let loop-inv = (let p : tie.At-loop Inv-loop μ-loop = search in p .loop .inv) in
     let loop-test-taken = (let p : tie.In-loop Inv-loop μ-loop = search in p .loop-test .taken) in
-    let read-entry-ensures = (let p : tie.After-read-entry Inv-loop μ-loop = search in p .read-entry .ensures) in
-    (loop-inv .0, loop-inv .1, loop-inv .2, (λ fs z. reading4-bad fs (loop-inv .3 fs z) loop-test-taken (read-entry-ensures fs z .no (not-true _ (c .if1 .taken)))))
+    let read-entry-ensures = (let p : tie.After-read-entry Inv-loop μ-loop = search in p .read-entry .ensures) in (
+      loop-inv .0,
+      loop-inv .1,
+      loop-inv .2,
+      (λ fs z. reading4-bad fs (loop-inv .3 fs z) loop-test-taken (read-entry-ensures fs z .no (not-true _ (c .if1 .taken)))),
+    )
 
 mul-indices : tie.Need-mul-indices Inv-loop μ-loop
-mul-indices c =
-    let start : tie.Start Inv-loop μ-loop = search in
-    let loop-test-taken = (let p : tie.In-loop Inv-loop μ-loop = search in p .loop-test .taken) in
-    omega (arith, loop-test-taken, start .pre .1)
+mul-indices c = omega arith
 
 slice-write-indices : tie.Need-slice-write-indices Inv-loop μ-loop
-slice-write-indices c =
-    let start : tie.Start Inv-loop μ-loop = search in
-    let loop-inv = (let p : tie.At-loop Inv-loop μ-loop = search in p .loop .inv) in
-    let loop-test-taken = (let p : tie.In-loop Inv-loop μ-loop = search in p .loop-test .taken) in
-    omega (arith, loop-test-taken, start .pre .1, loop-inv .0)
+slice-write-indices c = omega arith
 
 mul-others : tie.Need-mul-others Inv-loop μ-loop
-mul-others c =
-    let start : tie.Start Inv-loop μ-loop = search in
-    let loop-test-taken = (let p : tie.In-loop Inv-loop μ-loop = search in p .loop-test .taken) in
-    omega (arith, loop-test-taken, start .pre .1)
+mul-others c = omega arith
 
 slice-write-others : tie.Need-slice-write-others Inv-loop μ-loop
-slice-write-others c =
-    let start : tie.Start Inv-loop μ-loop = search in
-    let loop-inv = (let p : tie.At-loop Inv-loop μ-loop = search in p .loop .inv) in
-    let loop-test-taken = (let p : tie.In-loop Inv-loop μ-loop = search in p .loop-test .taken) in
-    omega (arith, loop-test-taken, start .pre .1, loop-inv .1)
+slice-write-others c = omega arith
 
 mul-places : tie.Need-mul-places Inv-loop μ-loop
-mul-places c =
-    let start : tie.Start Inv-loop μ-loop = search in
-    let loop-test-taken = (let p : tie.In-loop Inv-loop μ-loop = search in p .loop-test .taken) in
-    omega (arith, loop-test-taken, start .pre .1)
+mul-places c = omega arith
 
 slice-write-places : tie.Need-slice-write-places Inv-loop μ-loop
-slice-write-places c =
-    let start : tie.Start Inv-loop μ-loop = search in
-    let loop-inv = (let p : tie.At-loop Inv-loop μ-loop = search in p .loop .inv) in
-    let loop-test-taken = (let p : tie.In-loop Inv-loop μ-loop = search in p .loop-test .taken) in
-    omega (arith, loop-test-taken, start .pre .1, loop-inv .2)
+slice-write-places c = omega arith
 
 add-i : tie.Need-add-i Inv-loop μ-loop
-add-i c =
-    let start : tie.Start Inv-loop μ-loop = search in
-    let loop-test-taken = (let p : tie.In-loop Inv-loop μ-loop = search in p .loop-test .taken) in
-    omega (arith, loop-test-taken, start .pre .1)
+add-i c = omega arith
 
 loop-less : tie.Need-loop-less Inv-loop μ-loop
-loop-less c =
-    let loop-test-taken = (let p : tie.In-loop Inv-loop μ-loop = search in p .loop-test .taken) in
-    omega (arith, loop-test-taken)
+loop-less c = omega arith
 
 loop-again : tie.Need-loop-again Inv-loop μ-loop
 loop-again c =
     let start : tie.Start Inv-loop μ-loop = search in
     let loop-inv = (let p : tie.At-loop Inv-loop μ-loop = search in p .loop .inv) in
     let loop-test-taken = (let p : tie.In-loop Inv-loop μ-loop = search in p .loop-test .taken) in
-    let read-entry-ensures = (let p : tie.After-read-entry Inv-loop μ-loop = search in p .read-entry .ensures) in
-    (simp length-set (loop-inv .0), simp length-set (loop-inv .1), simp length-set (loop-inv .2), (λ fs z. reading4-more fs (loop-inv .3 fs z) loop-test-taken (omega (arith, loop-test-taken, start .pre .1, loop-inv .0)) (omega (arith, loop-test-taken, start .pre .1, loop-inv .1)) (omega (arith, loop-test-taken, start .pre .1, loop-inv .2)) (read-entry-ensures fs z .yes (not-false _ (c .if1 .left)))))
+    let read-entry-ensures = (let p : tie.After-read-entry Inv-loop μ-loop = search in p .read-entry .ensures) in (
+      simp length-set (loop-inv .0),
+      simp length-set (loop-inv .1),
+      simp length-set (loop-inv .2),
+      (λ fs z. reading4-more fs (loop-inv .3 fs z) loop-test-taken (omega (arith, loop-test-taken, start .pre .1, loop-inv .0))
+          (omega (arith, loop-test-taken, start .pre .1, loop-inv .1)) (omega (arith, loop-test-taken, start .pre .1, loop-inv .2))
+          (read-entry-ensures fs z .yes (not-false _ (c .if1 .left)))),
+    )
 
 same-length-4 : tie.Need-same-length-4 Inv-loop μ-loop
 same-length-4 c =

@@ -48,17 +48,10 @@ add-array : tie.Need-add-array Inv-loop μ-loop
 add-array c = search needs
 
 mul-array : tie.Need-mul-array Inv-loop μ-loop
-mul-array c =
-    let start : tie.Start Inv-loop μ-loop = search in
-    let loop-test-taken = (let p : tie.In-loop Inv-loop μ-loop = search in p .loop-test .taken) in
-    omega (arith, loop-test-taken, start .pre .1)
+mul-array c = omega arith
 
 slice-write-array : tie.Need-slice-write-array Inv-loop μ-loop
-slice-write-array c =
-    let start : tie.Start Inv-loop μ-loop = search in
-    let loop-inv = (let p : tie.At-loop Inv-loop μ-loop = search in p .loop .inv) in
-    let loop-test-taken = (let p : tie.In-loop Inv-loop μ-loop = search in p .loop-test .taken) in
-    omega (arith, loop-test-taken, start .pre .1, loop-inv .put .size)
+slice-write-array c = omega arith
 
 add-j : tie.Need-add-j Inv-loop μ-loop
 add-j c = search needs

@@ -92,8 +92,11 @@ loop-again c =
     let start : tie.Start Inv-loop μ-loop = search in
     let loop-inv = (let p : tie.At-loop Inv-loop μ-loop = search in p .loop .inv) in
     let fill-ensures = (let p : tie.After-fill Inv-loop μ-loop = search in p .fill .ensures) in
-    let count-up-ensures = (let p : tie.After-count-up Inv-loop μ-loop = search in p .count-up .ensures) in
-    (faced-more (start .pre .1 .0) (loop-inv .0) (omega arith) fill-ensures, faced-more (start .pre .1 .0) (loop-inv .1) (omega arith) count-up-ensures, omega arith)
+    let count-up-ensures = (let p : tie.After-count-up Inv-loop μ-loop = search in p .count-up .ensures) in (
+      faced-more (start .pre .1 .0) (loop-inv .0) (omega arith) fill-ensures,
+      faced-more (start .pre .1 .0) (loop-inv .1) (omega arith) count-up-ensures,
+      omega arith,
+    )
 
 same-length : tie.Need-same-length Inv-loop μ-loop
 same-length c =

@@ -12,7 +12,8 @@ use Rattle.parts.proofs.faces.put_part4.Tie as tie
 
 abbrev Inv-loop : tie.InvT-loop
 Inv-loop message indices others places c sizes kinds₀ links₀ e₀ kinds links e =
-    Faced sizes indices e (λ d j. 2 + 4 * getD others d 0) kinds₀ kinds × Faced sizes indices e (λ d. code-at message (getD places d 0) (getD sizes (getD indices d 0) 0)) links₀ links × (e ≤ c)
+    Faced sizes indices e (λ d j. 2 + 4 * getD others d 0) kinds₀ kinds
+    × Faced sizes indices e (λ d. code-at message (getD places d 0) (getD sizes (getD indices d 0) 0)) links₀ links × (e ≤ c)
 
 abbrev μ-loop : tie.MeasureT-loop
 μ-loop message indices others places c sizes kinds₀ links₀ e₀ kinds links e =
@@ -90,8 +91,11 @@ loop-again c =
     let start : tie.Start Inv-loop μ-loop = (let c : tie.At-loop Inv-loop μ-loop = search in search) in
     let loop-inv = (let p : tie.At-loop Inv-loop μ-loop = search in p .loop .inv) in
     let fill-ensures = (let p : tie.After-fill Inv-loop μ-loop = search in p .fill .ensures) in
-    let put-codes-ensures = (let p : tie.After-put-codes Inv-loop μ-loop = search in p .put-codes .ensures) in
-    (faced-more (start .pre .1 .0) (loop-inv .0) (omega arith) fill-ensures, faced-more (start .pre .1 .0) (loop-inv .1) (omega arith) put-codes-ensures, omega arith)
+    let put-codes-ensures = (let p : tie.After-put-codes Inv-loop μ-loop = search in p .put-codes .ensures) in (
+      faced-more (start .pre .1 .0) (loop-inv .0) (omega arith) fill-ensures,
+      faced-more (start .pre .1 .0) (loop-inv .1) (omega arith) put-codes-ensures,
+      omega arith,
+    )
 
 same-length : tie.Need-same-length Inv-loop μ-loop
 same-length c =

@@ -32,9 +32,13 @@ clear-at-requires c κs =
 returns : tie.Need-returns Inv-loop μ-loop
 returns c =
     let start : tie.Start Inv-loop μ-loop = search in
+    let block = start .args .block .now in
+    let keys = start .args .keys .now in
+    let k = start .args .k in
+    let n = start .args .n in
     let loop-p = (let p : tie.At-loop Inv-loop μ-loop = search in p .loop .p) in
     let clear-at-ensures = (let p : tie.After-clear-at Inv-loop μ-loop = search in p .clear-at .ensures) in
-    passing-not (clear-at (start .args .block .now) (tab (value-at (start .args .keys .now)) (start .args .k))) loop-p (start .args .n) (omega arith) (sym clear-at-ensures ∙ not-true _ (c .if1 .taken))
+    passing-not (clear-at block (tab (value-at keys) k)) loop-p n (omega arith) (sym clear-at-ensures ∙ not-true _ (c .if1 .taken))
 
 add-p : tie.Need-add-p Inv-loop μ-loop
 add-p c = search needs

@@ -40,9 +40,14 @@ own-right-requires c κs = search needs
 returns : tie.Need-returns Inv-loop μ-loop
 returns c =
     let start : tie.Start Inv-loop μ-loop = search in
+    let number = start .args .number in
+    let counter = start .args .counter in
+    let kinds = start .args .kinds .now in
+    let links = start .args .links .now in
+    let k = start .args .k in
     let loop-q = (let p : tie.At-loop Inv-loop μ-loop = search in p .loop .q) in
     let own-right-ensures = (let p : tie.After-own-right Inv-loop μ-loop = search in p .own-right .ensures) in
-    passing-not (own-at (start .args .number) (start .args .counter) (start .args .kinds .now) (start .args .links .now)) loop-q (start .args .k) (omega arith) (sym own-right-ensures ∙ not-true _ (c .if1 .taken))
+    passing-not (own-at number counter kinds links) loop-q k (omega arith) (sym own-right-ensures ∙ not-true _ (c .if1 .taken))
 
 add-q : tie.Need-add-q Inv-loop μ-loop
 add-q c = search needs

@@ -33,19 +33,28 @@ enum-told c = search needs
 returns-2 : tie.Need-returns-2
 returns-2 c =
     let start : tie.Start = search in
+    let block = start .args .block .now in
+    let keys = start .args .keys .now in
+    let k = start .args .k in
+    let p' = start .args .p in
     let field-ensures = (let p : tie.After-field = search in p .field .ensures) in
     let field2-ensures = (let p : tie.After-field2 = search in p .field2 .ensures) in
     let find-ensures = (let p : tie.After-find = search in p .find .ensures) in
-    clear-none (start .args .block .now) (start .args .keys .now) (start .args .k) (start .args .p) (let e = field-ensures in omega arith) (ap (place-in (value-at (start .args .keys .now)) (start .args .k)) (sym field2-ensures) ∙ sym find-ensures ∙ c .enum-told .given .1)
+    clear-none block keys k p' (let e = field-ensures in omega arith)
+    (ap (place-in (value-at keys) k) (sym field2-ensures) ∙ sym find-ensures ∙ c .enum-told .given .1)
 
 returns-3 : tie.Need-returns-3
 returns-3 c =
     let start : tie.Start = search in
+    let block = start .args .block .now in
+    let keys = start .args .keys .now in
+    let k = start .args .k in
+    let p' = start .args .p in
     let field-ensures = (let p : tie.After-field = search in p .field .ensures) in
     let field2-ensures = (let p : tie.After-field2 = search in p .field2 .ensures) in
     let find-ensures = (let p : tie.After-find = search in p .find .ensures) in
     let r-given = (let p : tie.After-r = search in p .r .given) in
-    clear-found (start .args .block .now) (start .args .keys .now) (start .args .k) (start .args .p) (let e = field-ensures in omega arith) (ap (place-in (value-at (start .args .keys .now)) (start .args .k)) (sym field2-ensures) ∙ sym find-ensures ∙ r-given .1)
+    clear-found block keys k p' (let e = field-ensures in omega arith) (ap (place-in (value-at keys) k) (sym field2-ensures) ∙ sym find-ensures ∙ r-given .1)
 
 pub clear-at-spec : {M : Type 1} → statement M
 clear-at-spec =

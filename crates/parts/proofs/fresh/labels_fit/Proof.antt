@@ -20,8 +20,13 @@ all-own-requires c κs = search needs
 returns : tie.Need-returns
 returns c =
     let start : tie.Start = search in
+    let block = start .args .block .now in
+    let n = start .args .n in
+    let kinds = start .args .kinds .now in
+    let links = start .args .links .now in
+    let k = start .args .k in
     let all-own-ensures = (let p : tie.After-all-own = search in p .all-own .ensures) in
-    own-no (start .args .block .now) (start .args .n) (start .args .kinds .now) (start .args .links .now) (start .args .k) (sym all-own-ensures ∙ not-true _ (c .if1 .taken))
+    own-no block n kinds links k (sym all-own-ensures ∙ not-true _ (c .if1 .taken))
 
 slice-aggregate-put-values : tie.Need-slice-aggregate-put-values
 slice-aggregate-put-values c = search needs
@@ -44,15 +49,27 @@ slice-aggregate-rank-4 c = search needs
 rank-requires : tie.Need-rank-requires
 rank-requires c κs =
     let start : tie.Start = search in
-    let put-values-ensures = (let p : tie.After-put-values = search in p .put-values .ensures) in
-    ((start .pre .0 .4, start .pre .0 .5, (let n = put-values-ensures .len in omega arith), value-small put-values-ensures (start .pre .0 .5) (start .pre .1)), (refl, refl, refl))
+    let put-values-ensures = (let p : tie.After-put-values = search in p .put-values .ensures) in (
+      (
+        start .pre .0 .4,
+        start .pre .0 .5,
+        (let n = put-values-ensures .len in omega arith),
+        value-small put-values-ensures (start .pre .0 .5) (start .pre .1),
+      ),
+      (refl, refl, refl),
+    )
 
 returns-2 : tie.Need-returns-2
 returns-2 c =
     let start : tie.Start = search in
+    let block = start .args .block .now in
+    let n = start .args .n in
+    let kinds = start .args .kinds .now in
+    let links = start .args .links .now in
+    let k = start .args .k in
     let put-values-ensures = (let p : tie.After-put-values = search in p .put-values .ensures) in
     let rank-ensures = (let p : tie.After-rank = search in p .rank .ensures) in
-    twice-no (start .args .block .now) (start .args .n) (start .args .kinds .now) (start .args .links .now) (start .args .k) put-values-ensures (sym (rank-ensures .0) ∙ not-true _ (c .if2 .taken))
+    twice-no block n kinds links k put-values-ensures (sym (rank-ensures .0) ∙ not-true _ (c .if2 .taken))
 
 slice-aggregate-all-clear : tie.Need-slice-aggregate-all-clear
 slice-aggregate-all-clear c = search needs
@@ -67,12 +84,18 @@ all-clear-requires c κs =
 returns-3 : tie.Need-returns-3
 returns-3 c =
     let start : tie.Start = search in
+    let block = start .args .block .now in
+    let n = start .args .n in
+    let kinds = start .args .kinds .now in
+    let links = start .args .links .now in
+    let k = start .args .k in
     let all-own-ensures = (let p : tie.After-all-own = search in p .all-own .ensures) in
     let if1-left = (let p : tie.Else1 = search in p .if1 .left) in
     let put-values-ensures = (let p : tie.After-put-values = search in p .put-values .ensures) in
     let rank-ensures = (let p : tie.After-rank = search in p .rank .ensures) in
     let if2-left = (let p : tie.Else2 = search in p .if2 .left) in
-    clear-is (start .args .block .now) (start .args .n) (start .args .kinds .now) (start .args .links .now) (start .args .k) (sym all-own-ensures ∙ not-false _ if1-left) put-values-ensures (sym (rank-ensures .0) ∙ not-false _ if2-left) (rank-ensures .1 .0 (not-false _ if2-left)) (c .all-clear .ensures)
+    clear-is block n kinds links k (sym all-own-ensures ∙ not-false _ if1-left) put-values-ensures
+    (sym (rank-ensures .0) ∙ not-false _ if2-left) (rank-ensures .1 .0 (not-false _ if2-left)) (c .all-clear .ensures)
 
 pub labels-fit-spec : {M : Type 1} → statement M
 labels-fit-spec =

@@ -28,9 +28,14 @@ fits-at-requires c κs = search needs
 returns : tie.Need-returns Inv-loop μ-loop
 returns c =
     let start : tie.Start Inv-loop μ-loop = search in
+    let indices = start .args .indices .now in
+    let starts = start .args .starts .now in
+    let marks = start .args .marks .now in
+    let k = start .args .k in
+    let c' = start .args .c in
     let loop-e = (let p : tie.At-loop Inv-loop μ-loop = search in p .loop .e) in
     let fits-at-ensures = (let p : tie.After-fits-at Inv-loop μ-loop = search in p .fits-at .ensures) in
-    record { said = passing-not (fits-at (start .args .indices .now) (start .args .starts .now) (start .args .marks .now) (start .args .k)) loop-e (start .args .c) (omega arith) (sym fits-at-ensures ∙ not-true _ (c .if1 .taken)) }
+    record { said = passing-not (fits-at indices starts marks k) loop-e c' (omega arith) (sym fits-at-ensures ∙ not-true _ (c .if1 .taken)) }
 
 add-e : tie.Need-add-e Inv-loop μ-loop
 add-e c = search needs

@@ -25,8 +25,13 @@ above-requires c κs = search needs
 returns-2 : tie.Need-returns-2
 returns-2 c =
     let start : tie.Start = search in
+    let indices = start .args .indices .now in
+    let starts = start .args .starts .now in
+    let marks = start .args .marks .now in
+    let k = start .args .k in
+    let e = start .args .e in
     let above-ensures = (let p : tie.After-above = search in p .above .ensures) in
-    fits-low (start .args .indices .now) (start .args .starts .now) (start .args .marks .now) (start .args .k) (start .args .e) (sym above-ensures ∙ not-true _ (c .if2 .taken))
+    fits-low indices starts marks k e (sym above-ensures ∙ not-true _ (c .if2 .taken))
 
 mul-result : tie.Need-mul-result
 mul-result c = search needs
@@ -40,9 +45,14 @@ shared-slice-read-result-2 c = search needs
 returns-3 : tie.Need-returns-3
 returns-3 c =
     let start : tie.Start = search in
+    let indices = start .args .indices .now in
+    let starts = start .args .starts .now in
+    let marks = start .args .marks .now in
+    let k = start .args .k in
+    let e = start .args .e in
     let above-ensures = (let p : tie.After-above = search in p .above .ensures) in
     let if2-left = (let p : tie.Else2 = search in p .if2 .left) in
-    fits-rest (start .args .indices .now) (start .args .starts .now) (start .args .marks .now) (start .args .k) (start .args .e) (omega arith) (sym above-ensures ∙ not-false _ if2-left) refl
+    fits-rest indices starts marks k e (omega arith) (sym above-ensures ∙ not-false _ if2-left) refl
 
 pub fits-at-spec : {M : Type 1} → statement M
 fits-at-spec =

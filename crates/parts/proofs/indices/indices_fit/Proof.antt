@@ -17,8 +17,16 @@ fit-requires c κs = search needs
 returns : tie.Need-returns
 returns c =
     let start : tie.Start = search in
+    let starts = start .args .starts .now in
+    let second = start .args .second .now in
+    let third = start .args .third .now in
+    let fourth = start .args .fourth .now in
+    let k = start .args .k in
+    let c2 = start .args .c2 in
+    let c3 = start .args .c3 in
+    let c4 = start .args .c4 in
     let fit-ensures = (let p : tie.After-fit = search in p .fit .ensures) in
-    second-no (start .args .starts .now) (start .args .second .now) (start .args .third .now) (start .args .fourth .now) (start .args .k) (start .args .c2) (start .args .c3) (start .args .c4) (sym (part-told fit-ensures (omega arith) (marks-none _ refl)) ∙ not-true _ (c .if1 .taken))
+    second-no starts second third fourth k c2 c3 c4 (sym (part-told fit-ensures (omega arith) (marks-none _ refl)) ∙ not-true _ (c .if1 .taken))
 
 slice-aggregate-mark : tie.Need-slice-aggregate-mark
 slice-aggregate-mark c = search needs
@@ -38,9 +46,18 @@ fit-requires-2 c κs = search needs
 returns-2 : tie.Need-returns-2
 returns-2 c =
     let start : tie.Start = search in
+    let starts = start .args .starts .now in
+    let second = start .args .second .now in
+    let third = start .args .third .now in
+    let fourth = start .args .fourth .now in
+    let k = start .args .k in
+    let c2 = start .args .c2 in
+    let c3 = start .args .c3 in
+    let c4 = start .args .c4 in
     let mark-ensures = (let p : tie.After-mark = search in p .mark .ensures) in
     let fit2-ensures = (let p : tie.After-fit2 = search in p .fit2 .ensures) in
-    third-no (start .args .starts .now) (start .args .second .now) (start .args .third .now) (start .args .fourth .now) (start .args .k) (start .args .c2) (start .args .c3) (start .args .c4) (sym (part-told fit2-ensures (omega arith) (marks-more (marks-none _ refl) mark-ensures)) ∙ not-true _ (c .if2 .taken))
+    third-no starts second third fourth k c2 c3 c4
+    (sym (part-told fit2-ensures (omega arith) (marks-more (marks-none _ refl) mark-ensures)) ∙ not-true _ (c .if2 .taken))
 
 slice-aggregate-mark-2 : tie.Need-slice-aggregate-mark-2
 slice-aggregate-mark-2 c = search needs
@@ -49,8 +66,13 @@ mark-requires-2 : tie.Need-mark-requires-2
 mark-requires-2 c κs =
     let mark-ensures = (let p : tie.After-mark = search in p .mark .ensures) in
     let fit2-ensures = (let p : tie.After-fit2 = search in p .fit2 .ensures) in
-    let if2-left = (let p : tie.Else2 = search in p .if2 .left) in
-    (omega arith, mark-ensures .size, omega arith, (λ e h. let r = told-below fit2-ensures (omega arith) (marks-more (marks-none _ refl) mark-ensures) (not-false _ if2-left) e h in omega arith))
+    let if2-left = (let p : tie.Else2 = search in p .if2 .left) in (
+      omega arith,
+      mark-ensures .size,
+      omega arith,
+      (λ e h. let r = told-below fit2-ensures (omega arith) (marks-more (marks-none _ refl) mark-ensures) (not-false _ if2-left) e
+          h in omega arith),
+    )
 
 slice-aggregate-fit-3 : tie.Need-slice-aggregate-fit-3
 slice-aggregate-fit-3 c = search needs
@@ -61,13 +83,24 @@ fit-requires-3 c κs = search needs
 returns-3 : tie.Need-returns-3
 returns-3 c =
     let start : tie.Start = search in
+    let starts = start .args .starts .now in
+    let second = start .args .second .now in
+    let third = start .args .third .now in
+    let fourth = start .args .fourth .now in
+    let k = start .args .k in
+    let c2 = start .args .c2 in
+    let c3 = start .args .c3 in
+    let c4 = start .args .c4 in
     let fit-ensures = (let p : tie.After-fit = search in p .fit .ensures) in
     let if1-left = (let p : tie.Else1 = search in p .if1 .left) in
     let mark-ensures = (let p : tie.After-mark = search in p .mark .ensures) in
     let fit2-ensures = (let p : tie.After-fit2 = search in p .fit2 .ensures) in
     let if2-left = (let p : tie.Else2 = search in p .if2 .left) in
     let mark2-ensures = (let p : tie.After-mark2 = search in p .mark2 .ensures) in
-    fourth-is (start .args .starts .now) (start .args .second .now) (start .args .third .now) (start .args .fourth .now) (start .args .k) (start .args .c2) (start .args .c3) (start .args .c4) (sym (part-told fit-ensures (omega arith) (marks-none _ refl)) ∙ not-false _ if1-left) (sym (part-told fit2-ensures (omega arith) (marks-more (marks-none _ refl) mark-ensures)) ∙ not-false _ if2-left) (part-told (c .fit3 .ensures) (omega arith) (marks-more (marks-more (marks-none _ refl) mark-ensures) mark2-ensures))
+    fourth-is starts second third fourth k c2 c3 c4
+    (sym (part-told fit-ensures (omega arith) (marks-none _ refl)) ∙ not-false _ if1-left)
+    (sym (part-told fit2-ensures (omega arith) (marks-more (marks-none _ refl) mark-ensures)) ∙ not-false _ if2-left)
+    (part-told (c .fit3 .ensures) (omega arith) (marks-more (marks-more (marks-none _ refl) mark-ensures) mark2-ensures))
 
 pub indices-fit-spec : {M : Type 1} → statement M
 indices-fit-spec =

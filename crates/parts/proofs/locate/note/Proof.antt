@@ -15,8 +15,13 @@ field-requires c κs = search needs
 returns : tie.Need-returns
 returns c =
     let start : tie.Start = search in
+    let block = start .args .block .now in
+    let keys = start .args .keys .now in
+    let c' = start .args .c in
+    let p' = start .args .p in
+    let places = start .args .places .now in
     let field-ensures = (let p : tie.After-field = search in p .field .ensures) in
-    noted-free (start .args .block .now) (start .args .keys .now) (start .args .c) (start .args .p) (start .args .places .now) (start .pre .4) (let e = field-ensures in omega arith)
+    noted-free block keys c' p' places (start .pre .4) (let e = field-ensures in omega arith)
 
 field-requires-2 : tie.Need-field-requires-2
 field-requires-2 c κs = search needs
@@ -33,9 +38,14 @@ enum-told c = search needs
 returns-2 : tie.Need-returns-2
 returns-2 c =
     let start : tie.Start = search in
+    let block = start .args .block .now in
+    let keys = start .args .keys .now in
+    let c' = start .args .c in
+    let p' = start .args .p in
+    let places = start .args .places .now in
     let field2-ensures = (let p : tie.After-field2 = search in p .field2 .ensures) in
     let find-ensures = (let p : tie.After-find = search in p .find .ensures) in
-    noted-none (start .args .block .now) (start .args .keys .now) (start .args .c) (start .args .p) (start .args .places .now) (start .pre .4) (ap (place-in (value-at (start .args .keys .now)) (start .args .c)) (sym field2-ensures) ∙ sym find-ensures ∙ c .enum-told .given .1)
+    noted-none block keys c' p' places (start .pre .4) (ap (place-in (value-at keys) c') (sym field2-ensures) ∙ sym find-ensures ∙ c .enum-told .given .1)
 
 mul-e : tie.Need-mul-e
 mul-e c =
@@ -63,11 +73,17 @@ same-length c = search needs
 returns-3 : tie.Need-returns-3
 returns-3 c =
     let start : tie.Start = search in
+    let block = start .args .block .now in
+    let keys = start .args .keys .now in
+    let c' = start .args .c in
+    let p' = start .args .p in
+    let places = start .args .places .now in
     let field-ensures = (let p : tie.After-field = search in p .field .ensures) in
     let field2-ensures = (let p : tie.After-field2 = search in p .field2 .ensures) in
     let find-ensures = (let p : tie.After-find = search in p .find .ensures) in
     let r-given = (let p : tie.After-r = search in p .r .given) in
-    noted-found (start .args .block .now) (start .args .keys .now) (start .args .c) (start .args .p) (start .args .places .now) (start .pre .4) (let e = field-ensures in omega arith) (start .pre .5) (start .pre .3) (start .pre .6) (ap (place-in (value-at (start .args .keys .now)) (start .args .c)) (sym field2-ensures) ∙ sym find-ensures ∙ r-given .1)
+    noted-found block keys c' p' places (start .pre .4) (let e = field-ensures in omega arith) (start .pre .5) (start .pre .3)
+    (start .pre .6) (ap (place-in (value-at keys) c') (sym field2-ensures) ∙ sym find-ensures ∙ r-given .1)
 
 pub note-spec : {M : Type 1} → statement M
 note-spec =

@@ -21,7 +21,13 @@ abbrev μ-loop : tie.MeasureT-loop
 loop-holds : tie.Need-loop-holds Inv-loop μ-loop
 loop-holds c =
     let start : tie.Start Inv-loop μ-loop = search in
-    (every-none (meets-at (start .args .block .now) (start .args .draft .now) (start .args .ranks .now) (start .args .at) (start .args .size) (start .args .trail .now)), omega arith)
+    let block = start .args .block .now in
+    let draft = start .args .draft .now in
+    let ranks = start .args .ranks .now in
+    let at = start .args .at in
+    let size = start .args .size in
+    let trail = start .args .trail .now in
+    (every-none (meets-at block draft ranks at size trail), omega arith)
 
 meets-requires : tie.Need-meets-requires Inv-loop μ-loop
 meets-requires c κs =
@@ -37,15 +43,27 @@ loop-less c = search needs
 loop-again : tie.Need-loop-again Inv-loop μ-loop
 loop-again c =
     let start : tie.Start Inv-loop μ-loop = search in
+    let block = start .args .block .now in
+    let draft = start .args .draft .now in
+    let ranks = start .args .ranks .now in
+    let at = start .args .at in
+    let size = start .args .size in
+    let trail = start .args .trail .now in
     let loop-inv = (let p : tie.At-loop Inv-loop μ-loop = search in p .loop .inv) in
     let loop-j = (let p : tie.At-loop Inv-loop μ-loop = search in p .loop .j) in
-    (every-more (meets-at (start .args .block .now) (start .args .draft .now) (start .args .ranks .now) (start .args .at) (start .args .size) (start .args .trail .now)) loop-j (loop-inv .0) (c .meets .ensures), omega arith)
+    (every-more (meets-at block draft ranks at size trail) loop-j (loop-inv .0) (c .meets .ensures), omega arith)
 
 returns : tie.Need-returns Inv-loop μ-loop
 returns c =
     let start : tie.Start Inv-loop μ-loop = search in
+    let block = start .args .block .now in
+    let draft = start .args .draft .now in
+    let ranks = start .args .ranks .now in
+    let at = start .args .at in
+    let size = start .args .size in
+    let trail = start .args .trail .now in
     let loop-inv = (let p : tie.At-loop Inv-loop μ-loop = search in p .loop .inv) in
-    every-all (meets-at (start .args .block .now) (start .args .draft .now) (start .args .ranks .now) (start .args .at) (start .args .size) (start .args .trail .now)) (loop-inv .0) (loop-inv .1) (omega arith)
+    every-all (meets-at block draft ranks at size trail) (loop-inv .0) (loop-inv .1) (omega arith)
 
 pub all-meet-spec : {M : Type 1} → statement M
 all-meet-spec =

@@ -20,8 +20,12 @@ same-length c = search needs
 returns : tie.Need-returns
 returns c =
     let start : tie.Start = search in
+    let from = start .args .from in
+    let y = start .args .y in
+    let at = start .args .at in
+    let size = start .args .size in
     let is-new-ensures = (let p : tie.After-is-new = search in p .is-new .ensures) in
-    entered-old (start .args .from) (start .args .y) (start .args .at) (start .args .size) (start .pre .3) (start .pre .4) (start .pre .5) (start .pre .6) (sym is-new-ensures ∙ not-true _ (c .if1 .taken))
+    entered-old from y at size (start .pre .3) (start .pre .4) (start .pre .5) (start .pre .6) (sym is-new-ensures ∙ not-true _ (c .if1 .taken))
 
 entry-right-requires : tie.Need-entry-right-requires
 entry-right-requires c κs =
@@ -42,10 +46,18 @@ same-length-3 c = search needs
 returns-2 : tie.Need-returns-2
 returns-2 c =
     let start : tie.Start = search in
+    let from = start .args .from in
+    let y = start .args .y in
+    let at = start .args .at in
+    let size = start .args .size in
+    let block = start .args .block .now in
+    let draft = start .args .draft .now in
+    let ranks = start .args .ranks .now in
     let is-new-ensures = (let p : tie.After-is-new = search in p .is-new .ensures) in
     let if1-left = (let p : tie.Else1 = search in p .if1 .left) in
     let entry-right-ensures = (let p : tie.After-entry-right = search in p .entry-right .ensures) in
-    entered-no (start .args .from) (start .args .y) (start .args .at) (start .args .size) (start .pre .4) (start .pre .5) (start .pre .6) (sym is-new-ensures ∙ not-false _ if1-left) (subst (EntryRight (start .args .block .now) (start .args .draft .now) (start .args .ranks .now) (start .args .from) (start .args .y) (start .args .at) (start .args .size) _) (not-true _ (c .if2 .taken)) entry-right-ensures)
+    entered-no from y at size (start .pre .4) (start .pre .5) (start .pre .6) (sym is-new-ensures ∙ not-false _ if1-left)
+    (subst (EntryRight block draft ranks from y at size _) (not-true _ (c .if2 .taken)) entry-right-ensures)
 
 fill-requires : tie.Need-fill-requires
 fill-requires c κs =
@@ -66,7 +78,19 @@ paint-requires c κs =
     let is-new-ensures = (let p : tie.After-is-new = search in p .is-new .ensures) in
     let c : tie.After-is-new = search in
     let start : tie.Start = search in
-    (entered-trail (start .pre .0) (start .args .from) (start .args .y) (start .args .at) (start .args .size) (new-below (start .args .y) (start .args .n) _ (sym is-new-ensures ∙ not-false _ if1-left)) (start .pre .2) (subst (EntryRight (start .args .block .now) (start .args .draft .now) (start .args .ranks .now) (start .args .from) (start .args .y) (start .args .at) (start .args .size) _) (not-false _ if2-left) entry-right-ensures), (let f = start .pre .0 .few in let h = start .pre .2 in omega (arith, f, h)), start .pre .4)
+    let from = start .args .from in
+    let y = start .args .y in
+    let at = start .args .at in
+    let size = start .args .size in
+    let n = start .args .n in
+    let block = start .args .block .now in
+    let draft = start .args .draft .now in
+    let ranks = start .args .ranks .now in (
+      entered-trail (start .pre .0) from y at size (new-below y n _ (sym is-new-ensures ∙ not-false _ if1-left)) (start .pre .2)
+          (subst (EntryRight block draft ranks from y at size _) (not-false _ if2-left) entry-right-ensures),
+      (let f = start .pre .0 .few in let h = start .pre .2 in omega (arith, f, h)),
+      start .pre .4,
+    )
 
 same-length-4 : tie.Need-same-length-4
 same-length-4 c = search needs
@@ -91,7 +115,16 @@ returns-3 c =
     let is-new-ensures = (let p : tie.After-is-new = search in p .is-new .ensures) in
     let c : tie.After-is-new = search in
     let start : tie.Start = search in
-    entered-yes (start .args .from) (start .args .y) (start .args .at) (start .args .size) (start .pre .4) (sym is-new-ensures ∙ not-false _ if1-left) (subst (EntryRight (start .args .block .now) (start .args .draft .now) (start .args .ranks .now) (start .args .from) (start .args .y) (start .args .at) (start .args .size) _) (not-false _ if2-left) entry-right-ensures) fill-ensures put-met-ensures paint-ensures
+    let from = start .args .from in
+    let y = start .args .y in
+    let at = start .args .at in
+    let size = start .args .size in
+    let block = start .args .block .now in
+    let draft = start .args .draft .now in
+    let ranks = start .args .ranks .now in
+    entered-yes from y at size (start .pre .4) (sym is-new-ensures ∙ not-false _ if1-left)
+    (subst (EntryRight block draft ranks from y at size _) (not-false _ if2-left) entry-right-ensures) fill-ensures
+    put-met-ensures paint-ensures
 
 pub enter-spec : {M : Type 1} → statement M
 enter-spec =

@@ -19,7 +19,9 @@ use Rattle.parts.proofs.meets.enter_all.Tie as tie
 
 abbrev Inv-loop : tie.InvT-loop
 Inv-loop block n draft k ranks from places indices c sizes trail₀ seen₀ kinds₀ links₀ e₀ trail seen kinds links e =
-    SeenBy block places e seen × Faced sizes indices e (λ d j. 1) kinds₀ kinds × Faced sizes indices e (λ d. met-at (cycle (column block 1) (getD places d 0)) (face-size sizes indices d)) links₀ links × Passing (passes-at block draft ranks sizes places indices n from) e × (e ≤ c) × (length trail ≡ 512)
+    SeenBy block places e seen × Faced sizes indices e (λ d j. 1) kinds₀ kinds
+    × Faced sizes indices e (λ d. met-at (cycle (column block 1) (getD places d 0)) (face-size sizes indices d)) links₀ links
+    × Passing (passes-at block draft ranks sizes places indices n from) e × (e ≤ c) × (length trail ≡ 512)
 
 abbrev μ-loop : tie.MeasureT-loop
 μ-loop block n draft k ranks from places indices c sizes trail₀ seen₀ kinds₀ links₀ e₀ trail seen kinds links e =
@@ -27,8 +29,14 @@ abbrev μ-loop : tie.MeasureT-loop
 
 loop-holds : tie.Need-loop-holds Inv-loop μ-loop
 loop-holds c =
-    let start : tie.Start Inv-loop μ-loop = search in
-    (seen-none _ _ _ (start .pre .1 .1), faced-none _ _ _ _ (start .pre .1 .2), faced-none _ _ _ _ (start .pre .1 .3), passing-none _, omega arith, start .pre .1 .0)
+    let start : tie.Start Inv-loop μ-loop = search in (
+      seen-none _ _ _ (start .pre .1 .1),
+      faced-none _ _ _ _ (start .pre .1 .2),
+      faced-none _ _ _ _ (start .pre .1 .3),
+      passing-none _,
+      omega arith,
+      start .pre .1 .0,
+    )
 
 mul-y : tie.Need-mul-y Inv-loop μ-loop
 mul-y c =
@@ -66,8 +74,15 @@ enter-requires : tie.Need-enter-requires Inv-loop μ-loop
 enter-requires c κs =
     let start : tie.Start Inv-loop μ-loop = search in
     let loop-e = (let p : tie.At-loop Inv-loop μ-loop = search in p .loop .e) in
-    let loop-inv = (let p : tie.At-loop Inv-loop μ-loop = search in p .loop .inv) in
-    (start .pre .0 .beside, start .pre .0 .sender, start .pre .0 .within loop-e (omega arith), loop-inv .5, loop-inv .0 .size, loop-inv .1 .size, loop-inv .2 .size)
+    let loop-inv = (let p : tie.At-loop Inv-loop μ-loop = search in p .loop .inv) in (
+      start .pre .0 .beside,
+      start .pre .0 .sender,
+      start .pre .0 .within loop-e (omega arith),
+      loop-inv .5,
+      loop-inv .0 .size,
+      loop-inv .1 .size,
+      loop-inv .2 .size,
+    )
 
 same-length : tie.Need-same-length Inv-loop μ-loop
 same-length c =
@@ -111,7 +126,10 @@ returns c =
     let loop-e = (let p : tie.At-loop Inv-loop μ-loop = search in p .loop .e) in
     let loop-inv = (let p : tie.At-loop Inv-loop μ-loop = search in p .loop .inv) in
     let enter-ensures = (let p : tie.After-enter Inv-loop μ-loop = search in p .enter .ensures) in
-    part2-no (passing-not (passes-at (block .now) (draft .now) (ranks .now) (sizes .now) (places .now) (indices .now) n from) loop-e c' (omega arith) (sym (entered-said (sizes .now) (places .now) (indices .now) loop-e (loop-inv .0) enter-ensures) ∙ not-true _ (c .if1 .taken)))
+    part2-no
+    (passing-not (passes-at (block .now) (draft .now) (ranks .now) (sizes .now) (places .now) (indices .now) n from) loop-e c'
+    (omega arith)
+    (sym (entered-said (sizes .now) (places .now) (indices .now) loop-e (loop-inv .0) enter-ensures) ∙ not-true _ (c .if1 .taken)))
 
 add-e : tie.Need-add-e Inv-loop μ-loop
 add-e c = search needs
@@ -128,8 +146,15 @@ loop-again c =
     let loop-e = (let p : tie.At-loop Inv-loop μ-loop = search in p .loop .e) in
     let loop-inv = (let p : tie.At-loop Inv-loop μ-loop = search in p .loop .inv) in
     let enter-ensures = (let p : tie.After-enter Inv-loop μ-loop = search in p .enter .ensures) in
-    let yes = not-false _ (c .if1 .left) in
-    (seen-more loop-e (loop-inv .0) (enter-ensures .seen-are yes), faced-more (pre .0 .spans) (loop-inv .1) (omega arith) (enter-ensures .kinds-are yes), faced-more (pre .0 .spans) (loop-inv .2) (omega arith) (enter-ensures .links-are yes), passing-more (loop-inv .3) (sym (entered-said (sizes .now) (places .now) (indices .now) loop-e (loop-inv .0) enter-ensures) ∙ yes), omega arith, enter-ensures .len)
+    let yes = not-false _ (c .if1 .left) in (
+      seen-more loop-e (loop-inv .0) (enter-ensures .seen-are yes),
+      faced-more (pre .0 .spans) (loop-inv .1) (omega arith) (enter-ensures .kinds-are yes),
+      faced-more (pre .0 .spans) (loop-inv .2) (omega arith) (enter-ensures .links-are yes),
+      passing-more (loop-inv .3)
+          (sym (entered-said (sizes .now) (places .now) (indices .now) loop-e (loop-inv .0) enter-ensures) ∙ yes),
+      omega arith,
+      enter-ensures .len,
+    )
 
 same-length-5 : tie.Need-same-length-5 Inv-loop μ-loop
 same-length-5 c =
@@ -159,7 +184,13 @@ returns-2 : tie.Need-returns-2 Inv-loop μ-loop
 returns-2 c =
     let start : tie.Start Inv-loop μ-loop = search in
     let loop-inv = (let p : tie.At-loop Inv-loop μ-loop = search in p .loop .inv) in
-    record { said = passing-all {k = start .args .c} (loop-inv .3) (omega arith); kinds-are = λ t. faced-all (loop-inv .1) (loop-inv .4) (omega arith); links-are = λ t. faced-all (loop-inv .2) (loop-inv .4) (omega arith) }
+    record {
+      said =
+          passing-all {k = start .args .c} (loop-inv .3) (omega arith);
+      kinds-are = λ t. faced-all (loop-inv .1) (loop-inv .4)
+          (omega arith);
+      links-are = λ t. faced-all (loop-inv .2) (loop-inv .4) (omega arith);
+    }
 
 pub enter-all-spec : {M : Type 1} → statement M
 enter-all-spec =

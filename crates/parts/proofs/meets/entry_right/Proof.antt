@@ -23,8 +23,15 @@ add-if1 c = search needs
 returns : tie.Need-returns
 returns c =
     let start : tie.Start = search in
+    let block = start .args .block .now in
+    let draft = start .args .draft .now in
+    let ranks = start .args .ranks .now in
+    let from = start .args .from in
+    let y = start .args .y in
+    let at = start .args .at in
+    let size = start .args .size in
     let field-ensures = (let p : tie.After-field = search in p .field .ensures) in
-    not-critical (start .args .block .now) (start .args .draft .now) (start .args .ranks .now) (start .args .from) (start .args .y) (start .args .at) (start .args .size) (start .pre .4) field-ensures (c .if1 .taken)
+    not-critical block draft ranks from y at size (start .pre .4) field-ensures (c .if1 .taken)
 
 walk-face-requires : tie.Need-walk-face-requires
 walk-face-requires c κs =
@@ -37,15 +44,29 @@ same-length c = search needs
 returns-2 : tie.Need-returns-2
 returns-2 c =
     let start : tie.Start = search in
+    let block = start .args .block .now in
+    let draft = start .args .draft .now in
+    let ranks = start .args .ranks .now in
+    let from = start .args .from in
+    let y = start .args .y in
+    let at = start .args .at in
+    let size = start .args .size in
     let walk-face-ensures = (let p : tie.After-walk-face = search in p .walk-face .ensures) in
-    not-equal (start .args .block .now) (start .args .draft .now) (start .args .ranks .now) (start .args .from) (start .args .y) (start .args .at) (start .args .size) (subst (Walked (start .args .block .now) (start .args .y) (start .args .size) _) (not-true _ (c .if2 .taken)) walk-face-ensures)
+    not-equal block draft ranks from y at size (subst (Walked block y size _) (not-true _ (c .if2 .taken)) walk-face-ensures)
 
 all-meet-requires : tie.Need-all-meet-requires
 all-meet-requires c κs =
     let start : tie.Start = search in
+    let block = start .args .block .now in
+    let y = start .args .y in
+    let size = start .args .size in
     let walk-face-ensures = (let p : tie.After-walk-face = search in p .walk-face .ensures) in
-    let if2-left = (let p : tie.Else2 = search in p .if2 .left) in
-    (start .pre .0, start .pre .3, trailed (start .pre .0 .linked) (start .pre .2) (let f = start .pre .0 .few in omega (arith, f)) (subst (Walked (start .args .block .now) (start .args .y) (start .args .size) _) (not-false _ if2-left) walk-face-ensures))
+    let if2-left = (let p : tie.Else2 = search in p .if2 .left) in (
+      start .pre .0,
+      start .pre .3,
+      trailed (start .pre .0 .linked) (start .pre .2) (let f = start .pre .0 .few in omega (arith, f))
+          (subst (Walked block y size _) (not-false _ if2-left) walk-face-ensures),
+    )
 
 same-length-2 : tie.Need-same-length-2
 same-length-2 c = search needs
@@ -53,11 +74,19 @@ same-length-2 c = search needs
 returns-3 : tie.Need-returns-3
 returns-3 c =
     let start : tie.Start = search in
+    let block = start .args .block .now in
+    let draft = start .args .draft .now in
+    let ranks = start .args .ranks .now in
+    let from = start .args .from in
+    let y = start .args .y in
+    let at = start .args .at in
+    let size = start .args .size in
     let field-ensures = (let p : tie.After-field = search in p .field .ensures) in
     let if1-left = (let p : tie.Else1 = search in p .if1 .left) in
     let walk-face-ensures = (let p : tie.After-walk-face = search in p .walk-face .ensures) in
     let if2-left = (let p : tie.Else2 = search in p .if2 .left) in
-    entry-told (start .args .block .now) (start .args .draft .now) (start .args .ranks .now) (start .args .from) (start .args .y) (start .args .at) (start .args .size) field-ensures if1-left (subst (Walked (start .args .block .now) (start .args .y) (start .args .size) _) (not-false _ if2-left) walk-face-ensures) (c .all-meet .ensures)
+    entry-told block draft ranks from y at size field-ensures if1-left
+    (subst (Walked block y size _) (not-false _ if2-left) walk-face-ensures) (c .all-meet .ensures)
 
 pub entry-right-spec : {M : Type 1} → statement M
 entry-right-spec =

@@ -34,8 +34,15 @@ meet-at-requires c κs =
 returns : tie.Need-returns
 returns c =
     let start : tie.Start = search in
+    let block = start .args .block .now in
+    let draft = start .args .draft .now in
+    let ranks = start .args .ranks .now in
+    let at = start .args .at in
+    let size = start .args .size in
+    let j = start .args .j in
+    let trail = start .args .trail .now in
     let met-ensures = (let p : tie.After-met = search in p .met .ensures) in
-    meets-told (start .args .block .now) (start .args .draft .now) (start .args .ranks .now) (start .args .at) (start .args .size) (start .args .j) (start .args .trail .now) met-ensures (c .meet-at .ensures)
+    meets-told block draft ranks at size j trail met-ensures (c .meet-at .ensures)
 
 pub meets-spec : {M : Type 1} → statement M
 meets-spec =

@@ -48,9 +48,13 @@ loop-less c = search needs
 loop-again : tie.Need-loop-again Inv-loop μ-loop
 loop-again c =
     let start : tie.Start Inv-loop μ-loop = search in
+    let trail = start .args .trail .now in
     let loop-inv = (let p : tie.At-loop Inv-loop μ-loop = search in p .loop .inv) in
-    let loop-j = (let p : tie.At-loop Inv-loop μ-loop = search in p .loop .j) in
-    (paint-trail (start .args .trail .now) loop-j (loop-inv .0) (let l = start .pre .0 .len in omega (arith, l)) (let b = start .pre .0 .below loop-j (omega arith) in let l = start .pre .2 in omega (arith, b, l)), omega arith)
+    let loop-j = (let p : tie.At-loop Inv-loop μ-loop = search in p .loop .j) in (
+      paint-trail trail loop-j (loop-inv .0) (let l = start .pre .0 .len in omega (arith, l))
+          (let b = start .pre .0 .below loop-j (omega arith) in let l = start .pre .2 in omega (arith, b, l)),
+      omega arith,
+    )
 
 same-length : tie.Need-same-length Inv-loop μ-loop
 same-length c =

@@ -22,25 +22,21 @@ abbrev μ-loop : tie.MeasureT-loop
 
 loop-holds : tie.Need-loop-holds Inv-loop μ-loop
 loop-holds c =
-    let start : tie.Start Inv-loop μ-loop = search in
-    (going-begin (round (start .pre .0 .few) (start .pre .0 .next-within) (start .pre .0 .next-apart) _ (start .pre .1)) (start .pre .1) 0, writing-start _ _ _ _, omega arith)
+    let start : tie.Start Inv-loop μ-loop = search in (
+      going-begin (round (start .pre .0 .few) (start .pre .0 .next-within) (start .pre .0 .next-apart) _ (start .pre .1))
+          (start .pre .1) 0,
+      writing-start _ _ _ _,
+      omega arith,
+    )
 
 mul-trail : tie.Need-mul-trail Inv-loop μ-loop
-mul-trail c =
-    let start : tie.Start Inv-loop μ-loop = search in
-    let loop-inv = (let p : tie.At-loop Inv-loop μ-loop = search in p .loop .inv) in
-    omega (arith, loop-inv .1 .size, start .pre .3, start .pre .2)
+mul-trail c = omega arith
 
 slice-write-trail : tie.Need-slice-write-trail Inv-loop μ-loop
-slice-write-trail c =
-    let start : tie.Start Inv-loop μ-loop = search in
-    let loop-inv = (let p : tie.At-loop Inv-loop μ-loop = search in p .loop .inv) in
-    omega (arith, loop-inv .1 .size, start .pre .3, start .pre .2)
+slice-write-trail c = omega arith
 
 add-i : tie.Need-add-i Inv-loop μ-loop
-add-i c =
-    let start : tie.Start Inv-loop μ-loop = search in
-    omega (arith, start .pre .2)
+add-i c = omega arith
 
 field-requires : tie.Need-field-requires Inv-loop μ-loop
 field-requires c κs =
@@ -75,8 +71,11 @@ loop-again c =
     let loop-trail = (let p : tie.At-loop Inv-loop μ-loop = search in p .loop .trail) in
     let field-ensures = (let p : tie.After-field Inv-loop μ-loop = search in p .field .ensures) in
     let R = round (start .pre .0 .few) (start .pre .0 .next-within) (start .pre .0 .next-apart) _ (start .pre .1) in
-    let left : loop-i < length loop-trail = omega (arith, loop-inv .1 .size, start .pre .3, start .pre .2) in
-    (going-again (start .pre .0 .next-within) R (loop-inv .0) (loop-inv .1) left field-ensures (c .if1 .left), writing-on (start .pre .0 .next-within) R (loop-inv .0) (loop-inv .1) left, omega arith)
+    let left : loop-i < length loop-trail = omega (arith, loop-inv .1 .size, start .pre .3, start .pre .2) in (
+      going-again (start .pre .0 .next-within) R (loop-inv .0) (loop-inv .1) left field-ensures (c .if1 .left),
+      writing-on (start .pre .0 .next-within) R (loop-inv .0) (loop-inv .1) left,
+      omega arith,
+    )
 
 same-length-2 : tie.Need-same-length-2 Inv-loop μ-loop
 same-length-2 c =

@@ -39,7 +39,8 @@ returns-2 c =
     let read-at-most-ensures = (let p : tie.After-read-at-most = search in p .read-at-most .ensures) in
     let other-given = (let p : tie.After-other = search in p .other .given) in
     let read-label-ensures = (let p : tie.After-read-label = search in p .read-label .ensures) in
-    no-label (at-most-at 15 (sym (other-given .1) ∙ read-at-most-ensures)) (record { value = bad-at label-code _ _ (sym (c .enum-told2 .given .1) ∙ read-label-ensures) })
+    no-label (at-most-at 15 (sym (other-given .1) ∙ read-at-most-ensures))
+    (record { value = bad-at label-code _ _ (sym (c .enum-told2 .given .1) ∙ read-label-ensures) })
 
 mul-t9 : tie.Need-mul-t9
 mul-t9 c =

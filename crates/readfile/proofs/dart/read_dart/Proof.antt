@@ -36,7 +36,8 @@ returns-2 c =
     let read-serial-ensures = (let p : tie.After-read-serial = search in p .read-serial .ensures) in
     let serial-given = (let p : tie.After-serial = search in p .serial .given) in
     let read-serial2-ensures = (let p : tie.After-read-serial2 = search in p .read-serial2 .ensures) in
-    no-next (serial-at (sym (serial-given .1) ∙ read-serial-ensures)) (record { value = bad-at serial _ _ (sym (c .enum-told2 .given .1) ∙ read-serial2-ensures) })
+    no-next (serial-at (sym (serial-given .1) ∙ read-serial-ensures))
+    (record { value = bad-at serial _ _ (sym (c .enum-told2 .given .1) ∙ read-serial2-ensures) })
 
 read-serial-requires-3 : tie.Need-read-serial-requires-3
 read-serial-requires-3 c κs = search needs

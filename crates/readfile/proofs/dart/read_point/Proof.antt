@@ -36,7 +36,8 @@ returns-2 c =
     let read-coordinate-ensures = (let p : tie.After-read-coordinate = search in p .read-coordinate .ensures) in
     let x-given = (let p : tie.After-x = search in p .x .given) in
     let read-coordinate2-ensures = (let p : tie.After-read-coordinate2 = search in p .read-coordinate2 .ensures) in
-    no-y (coordinate-at (sym (x-given .1) ∙ read-coordinate-ensures)) (record { value = bad-at coordinate _ _ (sym (c .enum-told2 .given .1) ∙ read-coordinate2-ensures) })
+    no-y (coordinate-at (sym (x-given .1) ∙ read-coordinate-ensures))
+    (record { value = bad-at coordinate _ _ (sym (c .enum-told2 .given .1) ∙ read-coordinate2-ensures) })
 
 read-coordinate-requires-3 : tie.Need-read-coordinate-requires-3
 read-coordinate-requires-3 c κs = search needs

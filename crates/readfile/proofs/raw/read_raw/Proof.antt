@@ -38,7 +38,9 @@ returns-2 c =
     let read-at-most-ensures = (let p : tie.After-read-at-most = search in p .read-at-most .ensures) in
     let number-given = (let p : tie.After-number = search in p .number .given) in
     let read-group-ensures = (let p : tie.After-read-group = search in p .read-group .ensures) in
-    raw-refused (no-counter (at-most-at 15 (sym (number-given .1) ∙ read-at-most-ensures)) (record { value = bad-at group _ _ (sym (c .enum-told2 .given .1) ∙ read-group-ensures) }))
+    raw-refused
+    (no-counter (at-most-at 15 (sym (number-given .1) ∙ read-at-most-ensures))
+    (record { value = bad-at group _ _ (sym (c .enum-told2 .given .1) ∙ read-group-ensures) }))
 
 read-group-requires-2 : tie.Need-read-group-requires-2
 read-group-requires-2 c κs = search needs
@@ -143,7 +145,8 @@ returns-7 c =
     let write-ensures = (let p : tie.After-write = search in p .write .ensures) in
     raw-served (at-most-at 15 (sym (number-given .1) ∙ read-at-most-ensures))
     (group-at (sym (counter-given .1) ∙ read-group-ensures))
-    (group-at (sym (count-given .1) ∙ read-group2-ensures)) (omega arith) words _ refl (start .pre) (rw (past-given .1) at read-darts-ensures) (omega arith) write-ensures
+    (group-at (sym (count-given .1) ∙ read-group2-ensures)) (omega arith) words _ refl (start .pre)
+    (rw (past-given .1) at read-darts-ensures) (omega arith) write-ensures
 
 pub read-raw-spec : {M : Type 1} → statement M
 read-raw-spec =

@@ -34,7 +34,26 @@ new-serials-requires c κs =
     let c : tie.After-shared-slice-known6 = search in
     let shared-slice-known2-given = (let p : tie.After-shared-slice-known2 = search in p .shared-slice-known2 .given) in
     let start : tie.Start = search in
-    ((refl, (sited rack (start .args .block .now) (start .pre .0 .0)) .linked .few, (sited rack (start .args .block .now) (start .pre .0 .0)) .linked .size, (sited rack (start .args .block .now) (start .pre .0 .0)) .ascends, λ p h. image-passed (start .args .block .now) (start .pre .0 .0) .range .serial-small p h), (start .pre .0 .1 .serial-size, start .pre .1 .0, start .pre .1 .1, (told-of (start .pre .0 .2 .2)) .some-darts, (told-of (start .pre .0 .2 .2)) .few, (told-of (start .pre .0 .2 .2)) .points-fit, (serials-small (bytes-in (start .args .message .now) (λ i. fits-lt-pow (shared-slice-known2-given i))) (start .pre .0 .2 .1) (start .pre .0 .2 .2))))
+    let block = start .args .block .now in
+    let message = start .args .message .now in (
+      (
+        refl,
+        (sited rack block (start .pre .0 .0)) .linked .few,
+        (sited rack block (start .pre .0 .0)) .linked .size,
+        (sited rack block (start .pre .0 .0)) .ascends,
+        λ p h. image-passed block (start .pre .0 .0) .range .serial-small p h,
+      ),
+      (
+        start .pre .0 .1 .serial-size,
+        start .pre .1 .0,
+        start .pre .1 .1,
+        (told-of (start .pre .0 .2 .2)) .some-darts,
+        (told-of (start .pre .0 .2 .2)) .few,
+        (told-of (start .pre .0 .2 .2)) .points-fit,
+        (serials-small (bytes-in message (λ i. fits-lt-pow (shared-slice-known2-given i))) (start .pre .0 .2 .1)
+            (start .pre .0 .2 .2)),
+      ),
+    )
 
 same-length : tie.Need-same-length
 same-length c = search needs
@@ -50,15 +69,34 @@ returns-2 c =
     let for-here-ensures = (let p : tie.After-for-here = search in p .for-here .ensures) in
     let c : tie.After-for-here = search in
     let start : tie.Start = search in
-    (no-18 (start .args .block .now) for-here-ensures if1-left (let l = start .pre .0 .1 .serial-size in let f = (told-of (start .pre .0 .2 .2)) .few in omega (arith, l, f)) (new-serials-ensures .0) if2-taken, start .pre .1 .6, start .pre .1 .7)
+    let block = start .args .block .now in (
+      no-18 block for-here-ensures if1-left
+          (let l = start .pre .0 .1 .serial-size in let f = (told-of (start .pre .0 .2 .2)) .few in omega (arith, l, f))
+          (new-serials-ensures .0) if2-taken,
+      start .pre .1 .6,
+      start .pre .1 .7,
+    )
 
 volume-right-requires : tie.Need-volume-right-requires
 volume-right-requires c κs =
     let if2-left = (let p : tie.Else2 = search in p .if2 .left) in
     let new-serials-ensures = (let p : tie.After-new-serials = search in p .new-serials .ensures) in
     let c : tie.After-new-serials = search in
-    let start : tie.Start = search in
-    ((start .pre .0 .1 .vertex-size, start .pre .0 .1 .serial-size, start .pre .0 .1 .starts-size, start .pre .0 .1 .sizes-size, new-serials-ensures .1, new-serials-ensures .2, start .pre .1 .2, start .pre .1 .3, start .pre .1 .6, start .pre .1 .7), (new-serials-ensures .0 .ranked (not-false _ if2-left), (start .pre .0 .2 .0, (told-of (start .pre .0 .2 .2)))))
+    let start : tie.Start = search in (
+      (
+        start .pre .0 .1 .vertex-size,
+        start .pre .0 .1 .serial-size,
+        start .pre .0 .1 .starts-size,
+        start .pre .0 .1 .sizes-size,
+        new-serials-ensures .1,
+        new-serials-ensures .2,
+        start .pre .1 .2,
+        start .pre .1 .3,
+        start .pre .1 .6,
+        start .pre .1 .7,
+      ),
+      (new-serials-ensures .0 .ranked (not-false _ if2-left), (start .pre .0 .2 .0, (told-of (start .pre .0 .2 .2)))),
+    )
 
 same-length-3 : tie.Need-same-length-3
 same-length-3 c = search needs
@@ -88,7 +126,13 @@ returns-3 c =
     let if1-left = (let p : tie.Else1 = search in p .if1 .left) in
     let for-here-ensures = (let p : tie.After-for-here = search in p .for-here .ensures) in
     let start : tie.Start = search in
-    (no-19 (start .args .block .now) for-here-ensures if1-left (let l = start .pre .0 .1 .serial-size in let f = (told-of (start .pre .0 .2 .2)) .few in omega (arith, l, f)) (new-serials-ensures .0) if2-left (volume-right-ensures .0) if3-taken, volume-right-ensures .1 .3, volume-right-ensures .1 .4)
+    let block = start .args .block .now in (
+      no-19 block for-here-ensures if1-left
+          (let l = start .pre .0 .1 .serial-size in let f = (told-of (start .pre .0 .2 .2)) .few in omega (arith, l, f))
+          (new-serials-ensures .0) if2-left (volume-right-ensures .0) if3-taken,
+      volume-right-ensures .1 .3,
+      volume-right-ensures .1 .4,
+    )
 
 parts-right-requires : tie.Need-parts-right-requires
 parts-right-requires c κs =
@@ -100,7 +144,26 @@ parts-right-requires c κs =
     let c : tie.After-new-serials = search in
     let shared-slice-known2-given = (let p : tie.After-shared-slice-known2 = search in p .shared-slice-known2 .given) in
     let start : tie.Start = search in
-    ((start .pre .0 .0, start .pre .0 .1 .starts-size, start .pre .0 .1 .sizes-size, new-serials-ensures .2, start .pre .1 .4, start .pre .1 .5, sender-small (bytes-in (start .args .message .now) (λ i. fits-lt-pow (shared-slice-known2-given i))) (start .pre .0 .2 .1) (start .pre .0 .2 .2)), (start .args .vertex .now, start .args .serial .now, (new-volume (new-serials-ensures .0) if2-left (volume-right-ensures .0) if3-left (volume-right-ensures .1 .0 (not-false _ if3-left)) (start .pre .0 .2 .2))))
+    let message = start .args .message .now in
+    let vertex = start .args .vertex .now in
+    let serial = start .args .serial .now in (
+      (
+        start .pre .0 .0,
+        start .pre .0 .1 .starts-size,
+        start .pre .0 .1 .sizes-size,
+        new-serials-ensures .2,
+        start .pre .1 .4,
+        start .pre .1 .5,
+        sender-small (bytes-in message (λ i. fits-lt-pow (shared-slice-known2-given i))) (start .pre .0 .2 .1)
+            (start .pre .0 .2 .2),
+      ),
+      (
+        vertex,
+        serial,
+        (new-volume (new-serials-ensures .0) if2-left (volume-right-ensures .0) if3-left
+            (volume-right-ensures .1 .0 (not-false _ if3-left)) (start .pre .0 .2 .2)),
+      ),
+    )
 
 same-length-9 : tie.Need-same-length-9
 same-length-9 c = search needs
@@ -139,7 +202,18 @@ returns-4 c =
     let for-here-ensures = (let p : tie.After-for-here = search in p .for-here .ensures) in
     let c : tie.After-for-here = search in
     let start : tie.Start = search in
-    (no-20 (start .args .block .now) for-here-ensures if1-left (let l = start .pre .0 .1 .serial-size in let f = (told-of (start .pre .0 .2 .2)) .few in omega (arith, l, f)) (new-serials-ensures .0) if2-left (volume-right-ensures .0) if3-left (parts-right-ensures .0 (start .args .vertex .now) (start .args .serial .now) (new-volume (new-serials-ensures .0) if2-left (volume-right-ensures .0) if3-left (volume-right-ensures .1 .0 (not-false _ if3-left)) (start .pre .0 .2 .2))) if4-taken, volume-right-ensures .1 .3, volume-right-ensures .1 .4)
+    let block = start .args .block .now in
+    let vertex = start .args .vertex .now in
+    let serial = start .args .serial .now in (
+      no-20 block for-here-ensures if1-left
+          (let l = start .pre .0 .1 .serial-size in let f = (told-of (start .pre .0 .2 .2)) .few in omega (arith, l, f))
+          (new-serials-ensures .0) if2-left (volume-right-ensures .0) if3-left
+          (parts-right-ensures .0 vertex serial
+          (new-volume (new-serials-ensures .0) if2-left (volume-right-ensures .0) if3-left
+          (volume-right-ensures .1 .0 (not-false _ if3-left)) (start .pre .0 .2 .2))) if4-taken,
+      volume-right-ensures .1 .3,
+      volume-right-ensures .1 .4,
+    )
 
 add-if5 : tie.Need-add-if5
 add-if5 c =
@@ -186,7 +260,18 @@ returns-5 c =
     let for-here-ensures = (let p : tie.After-for-here = search in p .for-here .ensures) in
     let c : tie.After-for-here = search in
     let start : tie.Start = search in
-    (no-21 (start .args .block .now) for-here-ensures if1-left (let l = start .pre .0 .1 .serial-size in let f = (told-of (start .pre .0 .2 .2)) .few in omega (arith, l, f)) (new-serials-ensures .0) if2-left (volume-right-ensures .0) if3-left (parts-right-ensures .0 (start .args .vertex .now) (start .args .serial .now) (new-volume (new-serials-ensures .0) if2-left (volume-right-ensures .0) if3-left (volume-right-ensures .1 .0 (not-false _ if3-left)) (start .pre .0 .2 .2))) if4-left if5-taken, volume-right-ensures .1 .3, volume-right-ensures .1 .4)
+    let block = start .args .block .now in
+    let vertex = start .args .vertex .now in
+    let serial = start .args .serial .now in (
+      no-21 block for-here-ensures if1-left
+          (let l = start .pre .0 .1 .serial-size in let f = (told-of (start .pre .0 .2 .2)) .few in omega (arith, l, f))
+          (new-serials-ensures .0) if2-left (volume-right-ensures .0) if3-left
+          (parts-right-ensures .0 vertex serial
+          (new-volume (new-serials-ensures .0) if2-left (volume-right-ensures .0) if3-left
+          (volume-right-ensures .1 .0 (not-false _ if3-left)) (start .pre .0 .2 .2))) if4-left if5-taken,
+      volume-right-ensures .1 .3,
+      volume-right-ensures .1 .4,
+    )
 
 same-length-25 : tie.Need-same-length-25
 same-length-25 c = search needs
@@ -214,16 +299,52 @@ same-length-32 c = search needs
 
 returns-6 : tie.Need-returns-6
 returns-6 c =
-    let start : tie.Start = (let c : tie.After-parts-right = search in let c : tie.Else3 = search in let c : tie.After-draft = search in let c : tie.After-volume-right = search in let c : tie.Else2 = search in let c : tie.After-new-serials = search in let c : tie.After-for-here = search in let c : tie.After-slice-known2 = search in let c : tie.After-shared-slice-known = search in search) in
-    let for-here-ensures = (let c : tie.After-parts-right = search in let c : tie.Else3 = search in let c : tie.After-draft = search in let c : tie.After-volume-right = search in let c : tie.Else2 = search in let c : tie.After-new-serials = search in let p : tie.After-for-here = search in p .for-here .ensures) in
-    let if1-left = (let c : tie.After-parts-right = search in let c : tie.Else3 = search in let c : tie.After-draft = search in let c : tie.After-volume-right = search in let c : tie.Else2 = search in let c : tie.After-new-serials = search in let p : tie.Else1 = search in p .if1 .left) in
-    let new-serials-ensures = (let c : tie.After-parts-right = search in let c : tie.Else3 = search in let c : tie.After-draft = search in let c : tie.After-volume-right = search in let c : tie.Else2 = search in let p : tie.After-new-serials = search in p .new-serials .ensures) in
-    let if2-left = (let c : tie.After-parts-right = search in let c : tie.Else3 = search in let c : tie.After-draft = search in let c : tie.After-volume-right = search in let p : tie.Else2 = search in p .if2 .left) in
-    let volume-right-ensures = (let c : tie.After-parts-right = search in let c : tie.Else3 = search in let c : tie.After-draft = search in let p : tie.After-volume-right = search in p .volume-right .ensures) in
+    let start : tie.Start =
+    (let c : tie.After-parts-right = search in let c : tie.Else3 = search in let c : tie.After-draft = search in let c :
+    tie.After-volume-right = search in let c : tie.Else2 = search in let c : tie.After-new-serials = search in let c :
+    tie.After-for-here = search in let c : tie.After-slice-known2 = search in let c : tie.After-shared-slice-known = search in
+    search)
+    in
+    let block = start .args .block .now in
+    let vertex = start .args .vertex .now in
+    let serial = start .args .serial .now in
+    let for-here-ensures =
+    (let c : tie.After-parts-right = search in let c : tie.Else3 = search in let c : tie.After-draft = search in let c :
+    tie.After-volume-right = search in let c : tie.Else2 = search in let c : tie.After-new-serials = search in let p :
+    tie.After-for-here = search in p .for-here .ensures)
+    in
+    let if1-left =
+    (let c : tie.After-parts-right = search in let c : tie.Else3 = search in let c : tie.After-draft = search in let c :
+    tie.After-volume-right = search in let c : tie.Else2 = search in let c : tie.After-new-serials = search in let p :
+    tie.Else1 = search in p .if1 .left)
+    in
+    let new-serials-ensures =
+    (let c : tie.After-parts-right = search in let c : tie.Else3 = search in let c : tie.After-draft = search in let c :
+    tie.After-volume-right = search in let c : tie.Else2 = search in let p : tie.After-new-serials = search in p .new-serials
+    .ensures)
+    in
+    let if2-left =
+    (let c : tie.After-parts-right = search in let c : tie.Else3 = search in let c : tie.After-draft = search in let c :
+    tie.After-volume-right = search in let p : tie.Else2 = search in p .if2 .left)
+    in
+    let volume-right-ensures =
+    (let c : tie.After-parts-right = search in let c : tie.Else3 = search in let c : tie.After-draft = search in let p :
+    tie.After-volume-right = search in p .volume-right .ensures)
+    in
     let if3-left = (let c : tie.After-parts-right = search in let p : tie.Else3 = search in p .if3 .left) in
     let parts-right-ensures = (let p : tie.After-parts-right = search in p .parts-right .ensures) in
-    let if4-left = (let p : tie.Else4 = search in p .if4 .left) in
-    (yes-all (start .args .block .now) for-here-ensures if1-left (let l = start .pre .0 .1 .serial-size in let f = (told-of (start .pre .0 .2 .2)) .few in omega (arith, l, f)) (new-serials-ensures .0) if2-left (volume-right-ensures .0) if3-left (parts-right-ensures .0 (start .args .vertex .now) (start .args .serial .now) (new-volume (new-serials-ensures .0) if2-left (volume-right-ensures .0) if3-left (volume-right-ensures .1 .0 (not-false _ if3-left)) (start .pre .0 .2 .2))) if4-left (omega arith) (volume-right-ensures .1 .0 (not-false _ if3-left)) (parts-right-ensures .1) (parts-right-ensures .2) (new-serials-ensures .2), volume-right-ensures .1 .3, volume-right-ensures .1 .4)
+    let if4-left = (let p : tie.Else4 = search in p .if4 .left) in (
+      yes-all block for-here-ensures if1-left
+          (let l = start .pre .0 .1 .serial-size in let f = (told-of (start .pre .0 .2 .2)) .few in omega (arith, l, f))
+          (new-serials-ensures .0) if2-left (volume-right-ensures .0) if3-left
+          (parts-right-ensures .0 vertex serial
+          (new-volume (new-serials-ensures .0) if2-left (volume-right-ensures .0) if3-left
+          (volume-right-ensures .1 .0 (not-false _ if3-left)) (start .pre .0 .2 .2))) if4-left (omega arith)
+          (volume-right-ensures .1 .0 (not-false _ if3-left)) (parts-right-ensures .1) (parts-right-ensures .2)
+          (new-serials-ensures .2),
+      volume-right-ensures .1 .3,
+      volume-right-ensures .1 .4,
+    )
 
 pub questions-spec : {M : Type 1} → statement M
 questions-spec =

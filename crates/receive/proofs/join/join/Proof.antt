@@ -17,8 +17,15 @@ insert-requires c κs = search needs
 sew-requires : tie.Need-sew-requires
 sew-requires c κs =
     let start : tie.Start = (let c : tie.After-insert = search in search) in
-    let insert-ensures = (let p : tie.After-insert = search in p .insert .ensures) in
-    (woven-size (start .pre .1 .3) (insert-ensures .0), start .pre .1 .0, start .pre .1 .1, start .pre .1 .2, insert-ensures .1 .0 .1, insert-ensures .1 .1 .1, may-sew (start .pre .1 .3) _ _ (insert-ensures .1 .0 .0) (insert-ensures .1 .1 .0) (start .pre .1 .4))
+    let insert-ensures = (let p : tie.After-insert = search in p .insert .ensures) in (
+      woven-size (start .pre .1 .3) (insert-ensures .0),
+      start .pre .1 .0,
+      start .pre .1 .1,
+      start .pre .1 .2,
+      insert-ensures .1 .0 .1,
+      insert-ensures .1 .1 .1,
+      may-sew (start .pre .1 .3) _ _ (insert-ensures .1 .0 .0) (insert-ensures .1 .1 .0) (start .pre .1 .4),
+    )
 
 same-length : tie.Need-same-length
 same-length c = search needs

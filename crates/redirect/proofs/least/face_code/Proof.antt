@@ -54,28 +54,32 @@ field-requires-3 c κs =
 returns : tie.Need-returns Inv-loop μ-loop
 returns c =
     let start : tie.Start Inv-loop μ-loop = search in
+    let block = start .args .block .now in
     let loop-inv = (let p : tie.At-loop Inv-loop μ-loop = search in p .loop .inv) in
     let field2-ensures = (let p : tie.After-field2 Inv-loop μ-loop = search in p .field2 .ensures) in
     let lesser-ensures = (let p : tie.After-lesser Inv-loop μ-loop = search in p .lesser .ensures) in
     let field3-ensures = (let p : tie.After-field3 Inv-loop μ-loop = search in p .field3 .ensures) in
     let l = start .pre .0 in
-    code-end _ _ (lowest-end (l .next-within) (round (l .few) (l .next-within) (l .next-apart) _ (start .pre .1)) (loop-inv .0) (column (start .args .block .now) 4) (loop-inv .1) field2-ensures lesser-ensures field3-ensures (c .if1 .taken))
+    code-end _ _
+    (lowest-end (l .next-within) (round (l .few) (l .next-within) (l .next-apart) _ (start .pre .1)) (loop-inv .0) (column block 4)
+    (loop-inv .1) field2-ensures lesser-ensures field3-ensures (c .if1 .taken))
 
 loop-less : tie.Need-loop-less Inv-loop μ-loop
-loop-less c =
-    let loop-inv = (let p : tie.At-loop Inv-loop μ-loop = search in p .loop .inv) in
-    omega (arith, loop-inv .0 .less)
+loop-less c = omega arith
 
 loop-again : tie.Need-loop-again Inv-loop μ-loop
 loop-again c =
     let start : tie.Start Inv-loop μ-loop = search in
+    let block = start .args .block .now in
     let loop-inv = (let p : tie.At-loop Inv-loop μ-loop = search in p .loop .inv) in
     let field2-ensures = (let p : tie.After-field2 Inv-loop μ-loop = search in p .field2 .ensures) in
     let lesser-ensures = (let p : tie.After-lesser Inv-loop μ-loop = search in p .lesser .ensures) in
     let field3-ensures = (let p : tie.After-field3 Inv-loop μ-loop = search in p .field3 .ensures) in
     let l = start .pre .0 in
-    let r = round (l .few) (l .next-within) (l .next-apart) _ (start .pre .1) in
-    (going-next (l .next-within) r (loop-inv .0) field3-ensures (c .if1 .left), lowest-next (l .next-within) r (loop-inv .0) (column (start .args .block .now) 4) (loop-inv .1) field2-ensures lesser-ensures)
+    let r = round (l .few) (l .next-within) (l .next-apart) _ (start .pre .1) in (
+      going-next (l .next-within) r (loop-inv .0) field3-ensures (c .if1 .left),
+      lowest-next (l .next-within) r (loop-inv .0) (column block 4) (loop-inv .1) field2-ensures lesser-ensures,
+    )
 
 pub face-code-spec : {M : Type 1} → statement M
 face-code-spec =

@@ -26,14 +26,10 @@ loop-holds c =
     (going-start (round (l .few) (l .next-within) (l .next-apart) _ (start .pre .1)) (start .pre .1), paint-none _ _)
 
 mul-table : tie.Need-mul-table Inv-loop μ-loop
-mul-table c =
-    let start : tie.Start Inv-loop μ-loop = search in
-    omega (arith, c .loop .inv .0 .below, start .pre .0 .few)
+mul-table c = omega arith
 
 slice-write-table : tie.Need-slice-write-table Inv-loop μ-loop
-slice-write-table c =
-    let start : tie.Start Inv-loop μ-loop = search in
-    omega (arith, c .loop .inv .0 .below, start .pre .0 .few, c .loop .inv .1 .size, start .pre .2)
+slice-write-table c = omega arith
 
 add-steps : tie.Need-add-steps Inv-loop μ-loop
 add-steps c =
@@ -57,12 +53,11 @@ returns c =
     let loop-inv = (let p : tie.At-loop Inv-loop μ-loop = search in p .loop .inv) in
     let field-ensures = (let p : tie.After-field Inv-loop μ-loop = search in p .field .ensures) in
     let l = start .pre .0 in
-    paint-last (l .next-within) (round (l .few) (l .next-within) (l .next-apart) _ (start .pre .1)) (loop-inv .0) (loop-inv .1) (omega (arith, loop-inv .0 .below, start .pre .0 .few, start .pre .2)) field-ensures (c .if1 .taken)
+    paint-last (l .next-within) (round (l .few) (l .next-within) (l .next-apart) _ (start .pre .1)) (loop-inv .0) (loop-inv .1)
+    (omega (arith, loop-inv .0 .below, start .pre .0 .few, start .pre .2)) field-ensures (c .if1 .taken)
 
 loop-less : tie.Need-loop-less Inv-loop μ-loop
-loop-less c =
-    let loop-inv = (let p : tie.At-loop Inv-loop μ-loop = search in p .loop .inv) in
-    omega (arith, loop-inv .0 .less)
+loop-less c = omega arith
 
 loop-again : tie.Need-loop-again Inv-loop μ-loop
 loop-again c =
@@ -70,8 +65,11 @@ loop-again c =
     let loop-inv = (let p : tie.At-loop Inv-loop μ-loop = search in p .loop .inv) in
     let field-ensures = (let p : tie.After-field Inv-loop μ-loop = search in p .field .ensures) in
     let l = start .pre .0 in
-    let r = round (l .few) (l .next-within) (l .next-apart) _ (start .pre .1) in
-    (going-next (l .next-within) r (loop-inv .0) field-ensures (c .if1 .left), paint-next (l .next-within) r (loop-inv .0) (loop-inv .1) (omega (arith, loop-inv .0 .below, start .pre .0 .few, start .pre .2)))
+    let r = round (l .few) (l .next-within) (l .next-apart) _ (start .pre .1) in (
+      going-next (l .next-within) r (loop-inv .0) field-ensures (c .if1 .left),
+      paint-next (l .next-within) r (loop-inv .0) (loop-inv .1)
+          (omega (arith, loop-inv .0 .below, start .pre .0 .few, start .pre .2)),
+    )
 
 pub paint-face-spec : {M : Type 1} → statement M
 paint-face-spec =

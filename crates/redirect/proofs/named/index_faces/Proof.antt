@@ -21,14 +21,10 @@ abbrev μ-loop : tie.MeasureT-loop
     n - p
 
 mul-kind : tie.Need-mul-kind Inv-loop μ-loop
-mul-kind c =
-    let start : tie.Start Inv-loop μ-loop = search in
-    omega (arith, start .pre .2)
+mul-kind c = omega arith
 
 add-kind : tie.Need-add-kind Inv-loop μ-loop
-add-kind c =
-    let start : tie.Start Inv-loop μ-loop = search in
-    omega (arith, start .pre .2)
+add-kind c = omega arith
 
 loop-holds : tie.Need-loop-holds Inv-loop μ-loop
 loop-holds c =
@@ -46,18 +42,20 @@ add-p : tie.Need-add-p Inv-loop μ-loop
 add-p c = search needs
 
 loop-less : tie.Need-loop-less Inv-loop μ-loop
-loop-less c =
-    let loop-test-taken = (let p : tie.In-loop Inv-loop μ-loop = search in p .loop-test .taken) in
-    omega (arith, loop-test-taken)
+loop-less c = omega arith
 
 loop-again : tie.Need-loop-again Inv-loop μ-loop
 loop-again c =
     let start : tie.Start Inv-loop μ-loop = search in
+    let block = start .args .block .now in
+    let from = start .args .from in
+    let codes = start .args .codes .now in
+    let c' = start .args .c in
     let loop-inv = (let p : tie.At-loop Inv-loop μ-loop = search in p .loop .inv) in
     let loop-p = (let p : tie.At-loop Inv-loop μ-loop = search in p .loop .p) in
     let loop-test-taken = (let p : tie.In-loop Inv-loop μ-loop = search in p .loop-test .taken) in
     let field-ensures = (let p : tie.After-field Inv-loop μ-loop = search in p .field .ensures) in
-    (indexing-away (loop-inv .0) loop-test-taken (index-away (start .args .block .now) (start .args .from) (start .args .codes .now) (start .args .c) loop-p field-ensures (c .if1 .taken)), loop-inv .1)
+    (indexing-away (loop-inv .0) loop-test-taken (index-away block from codes c' loop-p field-ensures (c .if1 .taken)), loop-inv .1)
 
 mul-if2 : tie.Need-mul-if2 Inv-loop μ-loop
 mul-if2 c =
@@ -76,9 +74,7 @@ add-p-2 : tie.Need-add-p-2 Inv-loop μ-loop
 add-p-2 c = search needs
 
 loop-less-2 : tie.Need-loop-less-2 Inv-loop μ-loop
-loop-less-2 c =
-    let loop-test-taken = (let p : tie.In-loop Inv-loop μ-loop = search in p .loop-test .taken) in
-    omega (arith, loop-test-taken)
+loop-less-2 c = omega arith
 
 loop-again-2 : tie.Need-loop-again-2 Inv-loop μ-loop
 loop-again-2 c =
@@ -122,13 +118,15 @@ add-p-3 : tie.Need-add-p-3 Inv-loop μ-loop
 add-p-3 c = search needs
 
 loop-less-3 : tie.Need-loop-less-3 Inv-loop μ-loop
-loop-less-3 c =
-    let loop-test-taken = (let p : tie.In-loop Inv-loop μ-loop = search in p .loop-test .taken) in
-    omega (arith, loop-test-taken)
+loop-less-3 c = omega arith
 
 loop-again-3 : tie.Need-loop-again-3 Inv-loop μ-loop
 loop-again-3 c =
     let start : tie.Start Inv-loop μ-loop = search in
+    let block = start .args .block .now in
+    let from = start .args .from in
+    let codes = start .args .codes .now in
+    let c' = start .args .c in
     let loop-inv = (let p : tie.At-loop Inv-loop μ-loop = search in p .loop .inv) in
     let loop-p = (let p : tie.At-loop Inv-loop μ-loop = search in p .loop .p) in
     let loop-test-taken = (let p : tie.In-loop Inv-loop μ-loop = search in p .loop-test .taken) in
@@ -138,9 +136,11 @@ loop-again-3 c =
     let face-code-result = (let p : tie.After-face-code Inv-loop μ-loop = search in p .face-code .result) in
     let index-of-ensures = (let p : tie.After-index-of Inv-loop μ-loop = search in p .index-of .ensures) in
     let paint-face-ensures = (let p : tie.After-paint-face Inv-loop μ-loop = search in p .paint-face .ensures) in
-    let there = index-there (start .args .block .now) (start .args .from) (start .args .codes .now) (start .args .c) loop-p field-ensures if1-left face-code-ensures index-of-ensures in
-    let few = index-few (start .args .codes .now) (start .args .c) face-code-result index-of-ensures in
-    (indexing-whole (start .args .block .now) (start .pre .0) (start .pre .1) (start .args .from) (start .args .codes .now) (start .args .c) (loop-inv .0) loop-test-taken there paint-face-ensures, hitting-face (loop-inv .1) loop-test-taken there (omega (arith, few, start .pre .3 .few)) paint-face-ensures)
+    let there = index-there block from codes c' loop-p field-ensures if1-left face-code-ensures index-of-ensures in
+    let few = index-few codes c' face-code-result index-of-ensures in (
+      indexing-whole block (start .pre .0) (start .pre .1) from codes c' (loop-inv .0) loop-test-taken there paint-face-ensures,
+      hitting-face (loop-inv .1) loop-test-taken there (omega (arith, few, start .pre .3 .few)) paint-face-ensures,
+    )
 
 same-length : tie.Need-same-length Inv-loop μ-loop
 same-length c =

@@ -24,15 +24,10 @@ loop-holds c =
     (omega arith, rewritten-start _ _ _)
 
 mul-wide : tie.Need-mul-wide Inv-loop μ-loop
-mul-wide c =
-    let start : tie.Start Inv-loop μ-loop = search in
-    omega (arith, c .loop-test .taken, start .pre .0)
+mul-wide c = omega arith
 
 shared-slice-read-wide : tie.Need-shared-slice-read-wide Inv-loop μ-loop
-shared-slice-read-wide c =
-    let start : tie.Start Inv-loop μ-loop = search in
-    let loop-test-taken = (let p : tie.In-loop Inv-loop μ-loop = search in p .loop-test .taken) in
-    omega (arith, loop-test-taken, start .pre .0, start .pre .2)
+shared-slice-read-wide c = omega arith
 
 wide-requires : tie.Need-wide-requires Inv-loop μ-loop
 wide-requires c κs = search needs
@@ -41,9 +36,7 @@ add-p : tie.Need-add-p Inv-loop μ-loop
 add-p c = search needs
 
 loop-less : tie.Need-loop-less Inv-loop μ-loop
-loop-less c =
-    let loop-test-taken = (let p : tie.In-loop Inv-loop μ-loop = search in p .loop-test .taken) in
-    omega (arith, loop-test-taken)
+loop-less c = omega arith
 
 loop-again : tie.Need-loop-again Inv-loop μ-loop
 loop-again c =
@@ -64,19 +57,22 @@ add-p-2 : tie.Need-add-p-2 Inv-loop μ-loop
 add-p-2 c = search needs
 
 loop-less-2 : tie.Need-loop-less-2 Inv-loop μ-loop
-loop-less-2 c =
-    let loop-test-taken = (let p : tie.In-loop Inv-loop μ-loop = search in p .loop-test .taken) in
-    omega (arith, loop-test-taken)
+loop-less-2 c = omega arith
 
 loop-again-2 : tie.Need-loop-again-2 Inv-loop μ-loop
 loop-again-2 c =
     let start : tie.Start Inv-loop μ-loop = search in
+    let table = start .args .table .now in
+    let c' = start .args .c in
     let loop-inv = (let p : tie.At-loop Inv-loop μ-loop = search in p .loop .inv) in
     let loop-test-taken = (let p : tie.In-loop Inv-loop μ-loop = search in p .loop-test .taken) in
     let wide-ensures = (let p : tie.After-wide Inv-loop μ-loop = search in p .wide .ensures) in
     let if1-left = (let p : tie.Else1 Inv-loop μ-loop = search in p .if1 .left) in
-    let put-field-ensures = (let p : tie.After-put-field Inv-loop μ-loop = search in p .put-field .ensures) in
-    (omega (arith, loop-test-taken), rewriting-set (start .args .table .now) (start .args .c) (loop-inv .1) (omega (arith, if1-left, wide-ensures)) (omega (arith, loop-test-taken, start .pre .0, start .pre .1)) put-field-ensures)
+    let put-field-ensures = (let p : tie.After-put-field Inv-loop μ-loop = search in p .put-field .ensures) in (
+      omega (arith, loop-test-taken),
+      rewriting-set table c' (loop-inv .1) (omega (arith, if1-left, wide-ensures))
+          (omega (arith, loop-test-taken, start .pre .0, start .pre .1)) put-field-ensures,
+    )
 
 same-length : tie.Need-same-length Inv-loop μ-loop
 same-length c =

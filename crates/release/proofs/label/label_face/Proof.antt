@@ -19,9 +19,7 @@ abbrev μ-loop : tie.MeasureT-loop
     length (cycle (column block₀ 1) start) - i
 
 slice-read-maker : tie.Need-slice-read-maker Inv-loop μ-loop
-slice-read-maker c =
-    let start : tie.Start Inv-loop μ-loop = search in
-    omega (arith, start .pre .0 .size)
+slice-read-maker c = omega arith
 
 loop-holds : tie.Need-loop-holds Inv-loop μ-loop
 loop-holds c =
@@ -37,9 +35,18 @@ field-requires c κs =
 put-label-requires : tie.Need-put-label-requires Inv-loop μ-loop
 put-label-requires c κs =
     let start : tie.Start Inv-loop μ-loop = search in
+    let to = start .args .to in
+    let number = start .args .number in
+    let start' = start .args .start in
     let loop-inv = (let p : tie.At-loop Inv-loop μ-loop = search in p .loop .inv) in
-    let field-ensures = (let p : tie.After-field Inv-loop μ-loop = search in p .field .ensures) in
-    (loop-inv .same .size ∙ start .pre .0 .size, omega (arith, field-ensures, across (start .pre .0) (start .args .to) (start .args .number) (start .args .start) (start .pre .1) loop-inv .0, start .pre .0 .few), start .pre .4, start .pre .0 .number-small, start .pre .5, omega (arith, loop-inv .going .less, turn (start .pre .0) (start .args .to) (start .args .number) (start .args .start) (start .pre .1) .few))
+    let field-ensures = (let p : tie.After-field Inv-loop μ-loop = search in p .field .ensures) in (
+      loop-inv .same .size ∙ start .pre .0 .size,
+      omega (arith, field-ensures, across (start .pre .0) to number start' (start .pre .1) loop-inv .0, start .pre .0 .few),
+      start .pre .4,
+      start .pre .0 .number-small,
+      start .pre .5,
+      omega (arith, loop-inv .going .less, turn (start .pre .0) to number start' (start .pre .1) .few),
+    )
 
 add-i : tie.Need-add-i Inv-loop μ-loop
 add-i c =
@@ -50,10 +57,17 @@ add-i c =
 field-requires-2 : tie.Need-field-requires-2 Inv-loop μ-loop
 field-requires-2 c κs =
     let start : tie.Start Inv-loop μ-loop = search in
+    let to = start .args .to in
+    let number = start .args .number in
+    let start' = start .args .start in
     let loop-inv = (let p : tie.At-loop Inv-loop μ-loop = search in p .loop .inv) in
     let field-ensures = (let p : tie.After-field Inv-loop μ-loop = search in p .field .ensures) in
-    let put-label-ensures = (let p : tie.After-put-label Inv-loop μ-loop = search in p .put-label .ensures) in
-    (omega (arith, loop-inv .going .below, start .pre .0 .few), omega arith, same-end (start .pre .0) (start .args .to) (start .args .number) (start .args .start) (start .pre .1) loop-inv field-ensures put-label-ensures .size ∙ start .pre .0 .size)
+    let put-label-ensures = (let p : tie.After-put-label Inv-loop μ-loop = search in p .put-label .ensures) in (
+      omega (arith, loop-inv .going .below, start .pre .0 .few),
+      omega arith,
+      same-end (start .pre .0) to number start' (start .pre .1) loop-inv field-ensures put-label-ensures .size
+          ∙ start .pre .0 .size,
+    )
 
 same-length : tie.Need-same-length Inv-loop μ-loop
 same-length c =
@@ -66,25 +80,32 @@ same-length c =
 returns : tie.Need-returns Inv-loop μ-loop
 returns c =
     let start : tie.Start Inv-loop μ-loop = search in
+    let to = start .args .to in
+    let number = start .args .number in
+    let start' = start .args .start in
     let loop-inv = (let p : tie.At-loop Inv-loop μ-loop = search in p .loop .inv) in
     let field-ensures = (let p : tie.After-field Inv-loop μ-loop = search in p .field .ensures) in
     let put-label-ensures = (let p : tie.After-put-label Inv-loop μ-loop = search in p .put-label .ensures) in
-    let field2-ensures = (let p : tie.After-field2 Inv-loop μ-loop = search in p .field2 .ensures) in
-    (same-end (start .pre .0) (start .args .to) (start .args .number) (start .args .start) (start .pre .1) loop-inv field-ensures put-label-ensures, walking-end (start .pre .0) (start .args .to) (start .args .number) (start .args .start) (start .pre .1) loop-inv field-ensures put-label-ensures field2-ensures (c .if1 .taken))
+    let field2-ensures = (let p : tie.After-field2 Inv-loop μ-loop = search in p .field2 .ensures) in (
+      same-end (start .pre .0) to number start' (start .pre .1) loop-inv field-ensures put-label-ensures,
+      walking-end (start .pre .0) to number start' (start .pre .1) loop-inv field-ensures put-label-ensures field2-ensures
+          (c .if1 .taken),
+    )
 
 loop-less : tie.Need-loop-less Inv-loop μ-loop
-loop-less c =
-    let loop-inv = (let p : tie.At-loop Inv-loop μ-loop = search in p .loop .inv) in
-    omega (arith, loop-inv .going .less)
+loop-less c = omega arith
 
 loop-again : tie.Need-loop-again Inv-loop μ-loop
 loop-again c =
     let start : tie.Start Inv-loop μ-loop = search in
+    let to = start .args .to in
+    let number = start .args .number in
+    let start' = start .args .start in
     let loop-inv = (let p : tie.At-loop Inv-loop μ-loop = search in p .loop .inv) in
     let field-ensures = (let p : tie.After-field Inv-loop μ-loop = search in p .field .ensures) in
     let put-label-ensures = (let p : tie.After-put-label Inv-loop μ-loop = search in p .put-label .ensures) in
     let field2-ensures = (let p : tie.After-field2 Inv-loop μ-loop = search in p .field2 .ensures) in
-    walking-on (start .pre .0) (start .args .to) (start .args .number) (start .args .start) (start .pre .1) loop-inv field-ensures put-label-ensures field2-ensures (c .if1 .left)
+    walking-on (start .pre .0) to number start' (start .pre .1) loop-inv field-ensures put-label-ensures field2-ensures (c .if1 .left)
 
 pub label-face-spec : {M : Type 1} → statement M
 label-face-spec =

@@ -17,14 +17,10 @@ abbrev μ-loop : tie.MeasureT-loop
     count - f
 
 slice-read-n : tie.Need-slice-read-n Inv-loop μ-loop
-slice-read-n c =
-    let start : tie.Start Inv-loop μ-loop = search in
-    omega (arith, start .pre .0 .size)
+slice-read-n c = omega arith
 
 slice-read-number : tie.Need-slice-read-number Inv-loop μ-loop
-slice-read-number c =
-    let start : tie.Start Inv-loop μ-loop = search in
-    omega (arith, start .pre .0 .size)
+slice-read-number c = omega arith
 
 loop-holds : tie.Need-loop-holds Inv-loop μ-loop
 loop-holds c =
@@ -67,13 +63,14 @@ field-requires c κs =
     let start : tie.Start Inv-loop μ-loop = search in
     let loop-f = (let p : tie.At-loop Inv-loop μ-loop = search in p .loop .f) in
     let loop-inv = (let p : tie.At-loop Inv-loop μ-loop = search in p .loop .inv) in
-    let loop-test-taken = (let p : tie.In-loop Inv-loop μ-loop = search in p .loop-test .taken) in
-    (omega (arith, starting (start .pre .0) (start .pre .1) loop-f loop-test-taken .below, start .pre .0 .few), omega arith, loop-inv .same .size ∙ start .pre .0 .size)
+    let loop-test-taken = (let p : tie.In-loop Inv-loop μ-loop = search in p .loop-test .taken) in (
+      omega (arith, starting (start .pre .0) (start .pre .1) loop-f loop-test-taken .below, start .pre .0 .few),
+      omega arith,
+      loop-inv .same .size ∙ start .pre .0 .size,
+    )
 
 loop-less : tie.Need-loop-less Inv-loop μ-loop
-loop-less c =
-    let loop-test-taken = (let p : tie.In-loop Inv-loop μ-loop = search in p .loop-test .taken) in
-    omega (arith, loop-test-taken)
+loop-less c = omega arith
 
 loop-again : tie.Need-loop-again Inv-loop μ-loop
 loop-again c =
@@ -91,8 +88,14 @@ label-face-requires c κs =
     let loop-test-taken = (let p : tie.In-loop Inv-loop μ-loop = search in p .loop-test .taken) in
     let field-ensures = (let p : tie.After-field Inv-loop μ-loop = search in p .field .ensures) in
     let if1-left = (let p : tie.Else1 Inv-loop μ-loop = search in p .if1 .left) in
-    let s = starting (start .pre .0) (start .pre .1) loop-f loop-test-taken in
-    (sewing-stays (start .pre .0) (loop-inv .same), s .below, s .inside, omega (arith, field-ensures, if1-left), start .pre .2, omega (arith, number-fits (start .pre .0) (start .pre .1) loop-test-taken loop-inv field-ensures if1-left, start .pre .3))
+    let s = starting (start .pre .0) (start .pre .1) loop-f loop-test-taken in (
+      sewing-stays (start .pre .0) (loop-inv .same),
+      s .below,
+      s .inside,
+      omega (arith, field-ensures, if1-left),
+      start .pre .2,
+      omega (arith, number-fits (start .pre .0) (start .pre .1) loop-test-taken loop-inv field-ensures if1-left, start .pre .3),
+    )
 
 add-number : tie.Need-add-number Inv-loop μ-loop
 add-number c =
@@ -104,9 +107,7 @@ add-number c =
     omega (arith, number-fits (start .pre .0) (start .pre .1) loop-test-taken loop-inv field-ensures if1-left, start .pre .3)
 
 loop-less-2 : tie.Need-loop-less-2 Inv-loop μ-loop
-loop-less-2 c =
-    let loop-test-taken = (let p : tie.In-loop Inv-loop μ-loop = search in p .loop-test .taken) in
-    omega (arith, loop-test-taken)
+loop-less-2 c = omega arith
 
 loop-again-2 : tie.Need-loop-again-2 Inv-loop μ-loop
 loop-again-2 c =

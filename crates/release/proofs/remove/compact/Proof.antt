@@ -24,17 +24,22 @@ loop-holds c =
     (omega arith, moved-start _ _ _)
 
 shared-slice-read-if1 : tie.Need-shared-slice-read-if1 Inv-loop μ-loop
-shared-slice-read-if1 c =
-    let start : tie.Start Inv-loop μ-loop = search in
-    let loop-test-taken = (let p : tie.In-loop Inv-loop μ-loop = search in p .loop-test .taken) in
-    omega (arith, loop-test-taken, start .pre .0 .few, start .pre .1)
+shared-slice-read-if1 c = omega arith
 
 move-record-requires : tie.Need-move-record-requires Inv-loop μ-loop
 move-record-requires c κs =
     let start : tie.Start Inv-loop μ-loop = search in
+    let table = start .args .table .now in
     let loop-inv = (let p : tie.At-loop Inv-loop μ-loop = search in p .loop .inv) in
-    let loop-test-taken = (let p : tie.In-loop Inv-loop μ-loop = search in p .loop-test .taken) in
-    ((loop-inv .1 .len ∙ start .pre .0 .size, start .pre .2, omega (arith, loop-test-taken, start .pre .0 .few), count-le (loop-inv .1) (omega (arith, loop-test-taken, start .pre .0 .few, start .pre .0 .size))), links-fit (start .pre .0) (start .args .table .now) (start .pre .3) (loop-inv .1) loop-test-taken)
+    let loop-test-taken = (let p : tie.In-loop Inv-loop μ-loop = search in p .loop-test .taken) in (
+      (
+        loop-inv .1 .len ∙ start .pre .0 .size,
+        start .pre .2,
+        omega (arith, loop-test-taken, start .pre .0 .few),
+        count-le (loop-inv .1) (omega (arith, loop-test-taken, start .pre .0 .few, start .pre .0 .size)),
+      ),
+      links-fit (start .pre .0) table (start .pre .3) (loop-inv .1) loop-test-taken,
+    )
 
 add-w : tie.Need-add-w Inv-loop μ-loop
 add-w c =
@@ -44,25 +49,26 @@ add-w c =
     omega (arith, count-le (loop-inv .1) (omega (arith, loop-test-taken, start .pre .0 .few, start .pre .0 .size)), loop-test-taken, start .pre .0 .few)
 
 add-i : tie.Need-add-i Inv-loop μ-loop
-add-i c =
-    let start : tie.Start Inv-loop μ-loop = search in
-    let loop-test-taken = (let p : tie.In-loop Inv-loop μ-loop = search in p .loop-test .taken) in
-    omega (arith, loop-test-taken, start .pre .0 .few)
+add-i c = omega arith
 
 loop-less : tie.Need-loop-less Inv-loop μ-loop
-loop-less c =
-    let loop-test-taken = (let p : tie.In-loop Inv-loop μ-loop = search in p .loop-test .taken) in
-    omega (arith, loop-test-taken)
+loop-less c = omega arith
 
 loop-again : tie.Need-loop-again Inv-loop μ-loop
 loop-again c =
     let start : tie.Start Inv-loop μ-loop = search in
+    let block = start .args .block .now in
+    let table = start .args .table .now in
     let loop-i = (let p : tie.At-loop Inv-loop μ-loop = search in p .loop .i) in
     let loop-inv = (let p : tie.At-loop Inv-loop μ-loop = search in p .loop .inv) in
     let v = loop-inv .1 in
     let l = (let p : tie.In-loop Inv-loop μ-loop = search in p .loop-test .taken) in
-    let fits : 8 + (loop-i + 1) * 8 ≤ length (start .args .block .now) = omega (arith, l, start .pre .0 .few, start .pre .0 .size) in
-    (omega arith, ⊎-elim (λ a. moved-one v fits (a .0 .taken) (length-moved _ _ _) (one-move (start .pre .0) (start .args .table .now) (start .pre .3) v l) (a .5 ∙ a .2 .ensures) (a .6)) (λ a. moved-none v fits (a .0 .left) (a .1) (a .2)) (c .if1 .came))
+    let fits : 8 + (loop-i + 1) * 8 ≤ length block = omega (arith, l, start .pre .0 .few, start .pre .0 .size) in (
+      omega arith,
+      ⊎-elim
+          (λ a. moved-one v fits (a .0 .taken) (length-moved _ _ _) (one-move (start .pre .0) table (start .pre .3) v l)
+          (a .5 ∙ a .2 .ensures) (a .6)) (λ a. moved-none v fits (a .0 .left) (a .1) (a .2)) (c .if1 .came),
+    )
 
 same-length : tie.Need-same-length Inv-loop μ-loop
 same-length c =

@@ -43,12 +43,16 @@ same-length c = search needs
 returns : tie.Need-returns
 returns c =
     let start : tie.Start = search in
+    let block = start .args .block .now in
+    let from = start .args .from in
+    let at = start .args .at in
+    let table = start .args .table .now in
     let record-at-ensures = (let p : tie.After-record-at = search in p .record-at .ensures) in
     let moved-ensures = (let p : tie.After-moved = search in p .moved .ensures) in
     let moved2-ensures = (let p : tie.After-moved2 = search in p .moved2 .ensures) in
     let moved-link-ensures = (let p : tie.After-moved-link = search in p .moved-link .ensures) in
     let put-record-ensures = (let p : tie.After-put-record = search in p .put-record .ensures) in
-    record-moved (start .args .block .now) (start .args .from) (start .args .at) (λ p. getD (start .args .table .now) p 0) record-at-ensures moved-ensures moved2-ensures moved-link-ensures put-record-ensures
+    record-moved block from at (λ p. getD table p 0) record-at-ensures moved-ensures moved2-ensures moved-link-ensures put-record-ensures
 
 pub move-record-spec : {M : Type 1} → statement M
 move-record-spec =

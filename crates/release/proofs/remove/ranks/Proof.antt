@@ -21,21 +21,13 @@ loop-holds c =
     ranking-start _ _ _ (c .pre .2)
 
 mul-table : tie.Need-mul-table Inv-loop μ-loop
-mul-table c =
-    let start : tie.Start Inv-loop μ-loop = search in
-    omega (arith, c .loop-test .taken, start .pre .0)
+mul-table c = omega arith
 
 slice-write-table : tie.Need-slice-write-table Inv-loop μ-loop
-slice-write-table c =
-    let start : tie.Start Inv-loop μ-loop = search in
-    let loop-inv = (let p : tie.At-loop Inv-loop μ-loop = search in p .loop .inv) in
-    omega (arith, c .loop-test .taken, start .pre .0, loop-inv .len)
+slice-write-table c = omega arith
 
 shared-slice-read-if1 : tie.Need-shared-slice-read-if1 Inv-loop μ-loop
-shared-slice-read-if1 c =
-    let start : tie.Start Inv-loop μ-loop = search in
-    let loop-test-taken = (let p : tie.In-loop Inv-loop μ-loop = search in p .loop-test .taken) in
-    omega (arith, loop-test-taken, start .pre .0, start .pre .1)
+shared-slice-read-if1 c = omega arith
 
 add-kept : tie.Need-add-kept Inv-loop μ-loop
 add-kept c =
@@ -45,22 +37,18 @@ add-kept c =
     omega (arith, kept-le loop-inv loop-test-taken (start .pre .0), loop-test-taken, start .pre .0)
 
 add-p : tie.Need-add-p Inv-loop μ-loop
-add-p c =
-    let start : tie.Start Inv-loop μ-loop = search in
-    let loop-test-taken = (let p : tie.In-loop Inv-loop μ-loop = search in p .loop-test .taken) in
-    omega (arith, loop-test-taken, start .pre .0)
+add-p c = omega arith
 
 loop-less : tie.Need-loop-less Inv-loop μ-loop
-loop-less c =
-    let loop-test-taken = (let p : tie.In-loop Inv-loop μ-loop = search in p .loop-test .taken) in
-    omega (arith, loop-test-taken)
+loop-less c = omega arith
 
 loop-again : tie.Need-loop-again Inv-loop μ-loop
 loop-again c =
     let start : tie.Start Inv-loop μ-loop = search in
     let loop-inv = (let p : tie.At-loop Inv-loop μ-loop = search in p .loop .inv) in
     let loop-test-taken = (let p : tie.In-loop Inv-loop μ-loop = search in p .loop-test .taken) in
-    ⊎-elim (λ a. ranking-one loop-inv loop-test-taken (start .pre .0) (a .0 .taken) refl (a .1)) (λ a. ranking-none loop-inv loop-test-taken (start .pre .0) (a .0 .left) refl (a .1)) (c .if1 .came)
+    ⊎-elim (λ a. ranking-one loop-inv loop-test-taken (start .pre .0) (a .0 .taken) refl (a .1))
+    (λ a. ranking-none loop-inv loop-test-taken (start .pre .0) (a .0 .left) refl (a .1)) (c .if1 .came)
 
 same-length : tie.Need-same-length Inv-loop μ-loop
 same-length c =

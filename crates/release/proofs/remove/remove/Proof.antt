@@ -46,8 +46,10 @@ add-clear-part-2 c = search needs
 clear-part-requires : tie.Need-clear-part-requires
 clear-part-requires c κs =
     let start : tie.Start = search in
+    let block = start .args .block .now in
+    let marks = start .args .marks .now in
     let compact-ensures = (let p : tie.After-compact = search in p .compact .ensures) in
-    (omega (arith, compact-ensures .count, rank-le (getD (start .args .block .now) 2 0) (start .args .marks .now)), omega (arith, compact-ensures .len, start .pre .0 .0 .size, start .pre .0 .0 .few))
+    (omega (arith, compact-ensures .count, rank-le (getD block 2 0) marks), omega (arith, compact-ensures .len, start .pre .0 .0 .size, start .pre .0 .0 .few))
 
 write-requires : tie.Need-write-requires
 write-requires c κs = search needs
@@ -58,10 +60,12 @@ same-length c = search needs
 returns : tie.Need-returns
 returns c =
     let start : tie.Start = search in
+    let block = start .args .block .now in
+    let marks = start .args .marks .now in
     let compact-ensures = (let p : tie.After-compact = search in p .compact .ensures) in
     let clear-part-ensures = (let p : tie.After-clear-part = search in p .clear-part .ensures) in
     let write-ensures = (let p : tie.After-write = search in p .write .ensures) in
-    all-removed (start .args .block .now) (start .args .marks .now) (start .pre .0 .0 .size) (start .pre .0 .0 .few) (start .pre .1) compact-ensures clear-part-ensures write-ensures
+    all-removed block marks (start .pre .0 .0 .size) (start .pre .0 .0 .few) (start .pre .1) compact-ensures clear-part-ensures write-ensures
 
 pub remove-spec : {M : Type 1} → statement M
 remove-spec =

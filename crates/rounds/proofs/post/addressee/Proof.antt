@@ -55,7 +55,8 @@ returns-3 c =
     let read-group2-ensures = (let p : tie.After-read-group2 = search in p .read-group2 .ensures) in
     let kind-given = (let p : tie.After-kind = search in p .kind .given) in
     let read-group3-ensures = (let p : tie.After-read-group3 = search in p .read-group3 .ensures) in
-    no-from (took-group (sym (size-given .1) ∙ read-group-ensures)) (took-group (sym (kind-given .1) ∙ read-group2-ensures)) (bad-at group _ _ (sym (c .enum-told3 .given .1) ∙ read-group3-ensures))
+    no-from (took-group (sym (size-given .1) ∙ read-group-ensures)) (took-group (sym (kind-given .1) ∙ read-group2-ensures))
+    (bad-at group _ _ (sym (c .enum-told3 .given .1) ∙ read-group3-ensures))
 
 read-group-requires-4 : tie.Need-read-group-requires-4
 read-group-requires-4 c κs = search needs
@@ -75,7 +76,9 @@ returns-4 c =
     let read-group3-ensures = (let p : tie.After-read-group3 = search in p .read-group3 .ensures) in
     let from-given = (let p : tie.After-from = search in p .from .given) in
     let read-group4-ensures = (let p : tie.After-read-group4 = search in p .read-group4 .ensures) in
-    no-to (took-group (sym (size-given .1) ∙ read-group-ensures)) (took-group (sym (kind-given .1) ∙ read-group2-ensures)) (took-group (sym (from-given .1) ∙ read-group3-ensures)) (bad-at group _ _ (sym (c .enum-told4 .given .1) ∙ read-group4-ensures))
+    no-to (took-group (sym (size-given .1) ∙ read-group-ensures)) (took-group (sym (kind-given .1) ∙ read-group2-ensures))
+    (took-group (sym (from-given .1) ∙ read-group3-ensures))
+    (bad-at group _ _ (sym (c .enum-told4 .given .1) ∙ read-group4-ensures))
 
 returns-5 : tie.Need-returns-5
 returns-5 c =
@@ -87,7 +90,8 @@ returns-5 c =
     let from-given = (let p : tie.After-from = search in p .from .given) in
     let read-group4-ensures = (let p : tie.After-read-group4 = search in p .read-group4 .ensures) in
     let to-given = (let p : tie.After-to = search in p .to .given) in
-    to-there (took-group (sym (size-given .1) ∙ read-group-ensures)) (took-group (sym (kind-given .1) ∙ read-group2-ensures)) (took-group (sym (from-given .1) ∙ read-group3-ensures)) (took-group (sym (to-given .1) ∙ read-group4-ensures))
+    to-there (took-group (sym (size-given .1) ∙ read-group-ensures)) (took-group (sym (kind-given .1) ∙ read-group2-ensures))
+    (took-group (sym (from-given .1) ∙ read-group3-ensures)) (took-group (sym (to-given .1) ∙ read-group4-ensures))
 
 pub addressee-spec : {M : Type 1} → statement M
 addressee-spec =

@@ -11,7 +11,10 @@ use Rattle.rounds.proofs.steps.receive_at.Tie as tie
 returns : tie.Need-returns
 returns c =
     let start : tie.Start = search in
-    nowhere (start .args .mesh .now) (start .args .b) (receiving (start .args .message .now)) _ (c .if1 .taken) (receive-does _ _) (size-refused _ _ (λ e. absurd (omega (arith, e))))
+    let mesh = start .args .mesh .now in
+    let b = start .args .b in
+    let message = start .args .message .now in
+    nowhere mesh b (receiving message) _ (c .if1 .taken) (receive-does _ _) (size-refused _ _ (λ e. absurd (omega (arith, e))))
 
 receive-part-requires : tie.Need-receive-part-requires
 receive-part-requires c κs = search needs

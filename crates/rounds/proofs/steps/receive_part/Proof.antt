@@ -34,11 +34,13 @@ same-length c = search needs
 returns : tie.Need-returns
 returns c =
     let start : tie.Start = search in
+    let b = start .args .b in
+    let message = start .args .message .now in
     let receive-ensures = (let p : tie.After-receive = search in p .receive .ensures) in
     let receive-last = (let p : tie.After-receive = search in p .receive .last) in
     let mesh-given = (let p : tie.After-mesh = search in p .mesh .given) in
     let m = start .args .mesh .now in
-    stepped m (receive-last .0) (start .args .b) _ (receiving (start .args .message .now)) _ _ refl (start .pre) (mesh-given .0) (receive-does _ _) receive-ensures
+    stepped m (receive-last .0) b _ (receiving message) _ _ refl (start .pre) (mesh-given .0) (receive-does _ _) receive-ensures
 
 pub receive-part-spec : {M : Type 1} → statement M
 receive-part-spec =

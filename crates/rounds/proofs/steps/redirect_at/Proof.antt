@@ -11,7 +11,10 @@ use Rattle.rounds.proofs.steps.redirect_at.Tie as tie
 returns : tie.Need-returns
 returns c =
     let start : tie.Start = search in
-    nowhere (start .args .mesh .now) (start .args .b) (redirecting (start .args .message .now)) _ (c .if1 .taken) (redirect-does _ _) (size-refused _ _ (λ e. absurd (omega (arith, e))))
+    let mesh = start .args .mesh .now in
+    let b = start .args .b in
+    let message = start .args .message .now in
+    nowhere mesh b (redirecting message) _ (c .if1 .taken) (redirect-does _ _) (size-refused _ _ (λ e. absurd (omega (arith, e))))
 
 redirect-part-requires : tie.Need-redirect-part-requires
 redirect-part-requires c κs = search needs

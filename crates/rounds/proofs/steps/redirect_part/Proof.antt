@@ -34,11 +34,13 @@ same-length c = search needs
 returns : tie.Need-returns
 returns c =
     let start : tie.Start = search in
+    let b = start .args .b in
+    let message = start .args .message .now in
     let redirect-ensures = (let p : tie.After-redirect = search in p .redirect .ensures) in
     let redirect-last = (let p : tie.After-redirect = search in p .redirect .last) in
     let mesh-given = (let p : tie.After-mesh = search in p .mesh .given) in
     let m = start .args .mesh .now in
-    stepped m (redirect-last .0) (start .args .b) _ (redirecting (start .args .message .now)) _ _ refl (start .pre) (mesh-given .0) (redirect-does _ _) redirect-ensures
+    stepped m (redirect-last .0) b _ (redirecting message) _ _ refl (start .pre) (mesh-given .0) (redirect-does _ _) redirect-ensures
 
 pub redirect-part-spec : {M : Type 1} → statement M
 redirect-part-spec =

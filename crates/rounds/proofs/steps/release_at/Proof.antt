@@ -11,7 +11,11 @@ use Rattle.rounds.proofs.steps.release_at.Tie as tie
 returns : tie.Need-returns
 returns c =
     let start : tie.Start = search in
-    nowhere (start .args .mesh .now) (start .args .b) (releasing (start .args .to) (start .args .serial)) _ (c .if1 .taken) (release-does _ _ _) (size-refused _ _ _ (λ e. absurd (omega (arith, e))))
+    let mesh = start .args .mesh .now in
+    let b = start .args .b in
+    let to = start .args .to in
+    let serial = start .args .serial in
+    nowhere mesh b (releasing to serial) _ (c .if1 .taken) (release-does _ _ _) (size-refused _ _ _ (λ e. absurd (omega (arith, e))))
 
 release-part-requires : tie.Need-release-part-requires
 release-part-requires c κs = search needs

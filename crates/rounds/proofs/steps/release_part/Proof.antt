@@ -34,11 +34,14 @@ same-length c = search needs
 returns : tie.Need-returns
 returns c =
     let start : tie.Start = search in
+    let b = start .args .b in
+    let to = start .args .to in
+    let serial = start .args .serial in
     let release-ensures = (let p : tie.After-release = search in p .release .ensures) in
     let release-last = (let p : tie.After-release = search in p .release .last) in
     let mesh-given = (let p : tie.After-mesh = search in p .mesh .given) in
     let m = start .args .mesh .now in
-    stepped m (release-last .0) (start .args .b) _ (releasing (start .args .to) (start .args .serial)) _ _ refl (start .pre) (mesh-given .0) (release-does _ _ _) release-ensures
+    stepped m (release-last .0) b _ (releasing to serial) _ _ refl (start .pre) (mesh-given .0) (release-does _ _ _) release-ensures
 
 pub release-part-spec : {M : Type 1} → statement M
 release-part-spec =

@@ -36,7 +36,12 @@ count-third-requires c κs =
     let field2-ensures = (let p : tie.After-field2 = search in p .field2 .ensures) in
     rw (field2-ensures, c .third-along .ensures) (start .pre .third-small)
 
-counted : (c : tie.After-count-third) → DartCounted (c .before .before .before .before .before .before .before .before .before .before .args .block .now) (c .before .before .before .before .before .before .before .before .before .before .args .p) (c .before .before .before .before .before .before .before .serial-count .result) (c .before .before .before .before .before .serial-count2 .result) (c .before .before .before .serial-count3 .result) (c .count-third .result)
+counted : (c : tie.After-count-third) →
+    let start : tie.Start = search in
+    let serial-count-result = (let p : tie.After-serial-count = search in p .serial-count .result) in
+    let serial-count2-result = (let p : tie.After-serial-count2 = search in p .serial-count2 .result) in
+    let serial-count3-result = (let p : tie.After-serial-count3 = search in p .serial-count3 .result) in
+    DartCounted (start .args .block .now) (start .args .p) serial-count-result serial-count2-result serial-count3-result (c .count-third .result)
 counted c =
     let start : tie.Start = search in
     let field-ensures = (let p : tie.After-field = search in p .field .ensures) in
@@ -47,7 +52,8 @@ counted c =
     let serial-count3-ensures = (let p : tie.After-serial-count3 = search in p .serial-count3 .ensures) in
     let field2-ensures = (let p : tie.After-field2 = search in p .field2 .ensures) in
     let third-along-ensures = (let p : tie.After-third-along = search in p .third-along .ensures) in
-    dart-counted _ _ (start .pre) field-ensures serial-count-ensures serial-along-ensures serial-count2-ensures serial-along2-ensures serial-count3-ensures field2-ensures third-along-ensures (c .count-third .ensures)
+    dart-counted _ _ (start .pre) field-ensures serial-count-ensures serial-along-ensures serial-count2-ensures
+    serial-along2-ensures serial-count3-ensures field2-ensures third-along-ensures (c .count-third .ensures)
 
 add-result : tie.Need-add-result
 add-result c =

@@ -56,16 +56,23 @@ count-darts-requires c κs =
     let start : tie.Start = search in
     image-small (start .args .block .now) (start .pre)
 
-counted : (c : tie.After-count-darts) → FileCounted (c .before .before .before .before .before .before .before .before .before .before .before .before .args .block .now) (c .before .before .before .before .before .before .before .before .group-count .result) (c .before .before .before .before .before .group-count2 .result) (c .before .before .group-count3 .result) (c .count-darts .result)
+counted : (c : tie.After-count-darts) →
+    let start : tie.Start = search in
+    let group-count-result = (let p : tie.After-group-count = search in p .group-count .result) in
+    let group-count2-result = (let p : tie.After-group-count2 = search in p .group-count2 .result) in
+    let group-count3-result = (let p : tie.After-group-count3 = search in p .group-count3 .result) in
+    FileCounted (start .args .block .now) group-count-result group-count2-result group-count3-result (c .count-darts .result)
 counted c =
     let start : tie.Start = search in
+    let block = start .args .block .now in
     let narrow-ensures = (let p : tie.After-narrow = search in p .narrow .ensures) in
     let group-count-ensures = (let p : tie.After-group-count = search in p .group-count .ensures) in
     let narrow2-ensures = (let p : tie.After-narrow2 = search in p .narrow2 .ensures) in
     let group-count2-ensures = (let p : tie.After-group-count2 = search in p .group-count2 .ensures) in
     let narrow3-ensures = (let p : tie.After-narrow3 = search in p .narrow3 .ensures) in
     let group-count3-ensures = (let p : tie.After-group-count3 = search in p .group-count3 .ensures) in
-    file-counted (start .args .block .now) (start .pre) narrow-ensures group-count-ensures narrow2-ensures group-count2-ensures narrow3-ensures group-count3-ensures (c .count-darts .ensures)
+    file-counted block (start .pre) narrow-ensures group-count-ensures narrow2-ensures group-count2-ensures narrow3-ensures
+    group-count3-ensures (c .count-darts .ensures)
 
 add-result : tie.Need-add-result
 add-result c =

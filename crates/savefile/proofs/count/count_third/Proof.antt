@@ -45,27 +45,38 @@ label-count-requires c κs = search needs
 add-result-2 : tie.Need-add-result-2
 add-result-2 c =
     let start : tie.Start = search in
+    let named = start .args .named in
     let narrow-ok = (let p : tie.After-narrow = search in p .narrow .ok) in
     let group-count-ensures = (let p : tie.After-group-count = search in p .group-count .ensures) in
-    omega (arith, group-count-ensures, count-most _ narrow-ok, c .label-count .ensures, label-most (start .args .named) (omega (arith, start .pre .named-small)))
+    omega (arith, group-count-ensures, count-most _ narrow-ok, c .label-count .ensures, label-most named (omega (arith, start .pre .named-small)))
 
 add-result-3 : tie.Need-add-result-3
 add-result-3 c =
     let start : tie.Start = search in
+    let named = start .args .named in
     let narrow-ok = (let p : tie.After-narrow = search in p .narrow .ok) in
     let group-count-ensures = (let p : tie.After-group-count = search in p .group-count .ensures) in
-    omega (arith, group-count-ensures, count-most _ narrow-ok, c .label-count .ensures, label-most (start .args .named) (omega (arith, start .pre .named-small)))
+    omega (arith, group-count-ensures, count-most _ narrow-ok, c .label-count .ensures, label-most named (omega (arith, start .pre .named-small)))
 
 returns-3 : tie.Need-returns-3
 returns-3 c =
     let start : tie.Start = search in
+    let kind = start .args .kind in
+    let named = start .args .named in
     let if1-left = (let p : tie.Else1 = search in p .if1 .left) in
     let if2-left = (let p : tie.Else2 = search in p .if2 .left) in
     let narrow-ensures = (let p : tie.After-narrow = search in p .narrow .ensures) in
     let narrow-ok = (let p : tie.After-narrow = search in p .narrow .ok) in
     let narrow-result = (let p : tie.After-narrow = search in p .narrow .result) in
     let group-count-ensures = (let p : tie.After-group-count = search in p .group-count .ensures) in
-    omega (arith, group-count-ensures, ap (λ (v : ℕ). length (group .put v)) narrow-ensures, group-length narrow-result narrow-ok, c .label-count .ensures, critical-length (start .args .kind) (start .args .named) if1-left if2-left)
+    omega (
+      arith,
+      group-count-ensures,
+      ap (λ (v : ℕ). length (group .put v)) narrow-ensures,
+      group-length narrow-result narrow-ok,
+      c .label-count .ensures,
+      critical-length kind named if1-left if2-left,
+    )
 
 pub count-third-spec : {M : Type 1} → statement M
 count-third-spec =

@@ -10,7 +10,9 @@ use Rattle.savefile.proofs.put.put_dart.Tie as tie
 put-links-requires : tie.Need-put-links-requires
 put-links-requires c κs =
     let start : tie.Start = search in
-    (start .pre .0, omega (arith, start .pre .1, dart-length (start .args .block .now) (start .args .p), link-length (start .args .block .now) (start .args .p)))
+    let block = start .args .block .now in
+    let p' = start .args .p in
+    (start .pre .0, omega (arith, start .pre .1, dart-length block p', link-length block p'))
 
 field-requires : tie.Need-field-requires
 field-requires c κs = search needs
@@ -21,20 +23,27 @@ third-along-requires c κs = search needs
 put-third-requires : tie.Need-put-third-requires
 put-third-requires c κs =
     let start : tie.Start = search in
+    let block = start .args .block .now in
+    let p' = start .args .p in
     let field-ensures = (let p : tie.After-field = search in p .field .ensures) in
     let third-along-ensures = (let p : tie.After-third-along = search in p .third-along .ensures) in
-    let s = (let p : tie.After-put-links = search in p .put-links .ensures) in
-    (rw (field-ensures, third-along-ensures) (start .pre .0 .third-small), rw (field-ensures, third-along-ensures) (omega (arith, start .pre .1, dart-length (start .args .block .now) (start .args .p), link-length (start .args .block .now) (start .args .p), s .past, stored-length s)))
+    let s = (let p : tie.After-put-links = search in p .put-links .ensures) in (
+      rw (field-ensures, third-along-ensures) (start .pre .0 .third-small),
+      rw (field-ensures, third-along-ensures)
+          (omega (arith, start .pre .1, dart-length block p', link-length block p', s .past, stored-length s)),
+    )
 
 put-point-requires : tie.Need-put-point-requires
 put-point-requires c κs =
     let start : tie.Start = search in
+    let block = start .args .block .now in
+    let p' = start .args .p in
     let field-ensures = (let p : tie.After-field = search in p .field .ensures) in
     let third-along-ensures = (let p : tie.After-third-along = search in p .third-along .ensures) in
     let put-third-ensures = (let p : tie.After-put-third = search in p .put-third .ensures) in
     let s = (let p : tie.After-put-links = search in p .put-links .ensures) in
     let t = rw (field-ensures, third-along-ensures) at put-third-ensures in
-    (start .pre .0, omega (arith, start .pre .1, dart-length (start .args .block .now) (start .args .p), link-length (start .args .block .now) (start .args .p), s .past, stored-length s, t .past, stored-length t))
+    (start .pre .0, omega (arith, start .pre .1, dart-length block p', link-length block p', s .past, stored-length s, t .past, stored-length t))
 
 same-length : tie.Need-same-length
 same-length c = search needs

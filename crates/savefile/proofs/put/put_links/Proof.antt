@@ -14,7 +14,9 @@ field-requires c κs = search needs
 put-serial-requires : tie.Need-put-serial-requires
 put-serial-requires c κs =
     let start : tie.Start = search in
-    (rw (c .field .ensures) (start .pre .0 .serial-small), rw (c .field .ensures) (omega (arith, start .pre .1, link-length (start .args .block .now) (start .args .p))))
+    let block = start .args .block .now in
+    let p' = start .args .p in
+    (rw (c .field .ensures) (start .pre .0 .serial-small), rw (c .field .ensures) (omega (arith, start .pre .1, link-length block p')))
 
 serial-along-requires : tie.Need-serial-along-requires
 serial-along-requires c κs = search needs
@@ -22,10 +24,14 @@ serial-along-requires c κs = search needs
 put-serial-requires-2 : tie.Need-put-serial-requires-2
 put-serial-requires-2 c κs =
     let start : tie.Start = search in
+    let block = start .args .block .now in
+    let p' = start .args .p in
     let field-ensures = (let p : tie.After-field = search in p .field .ensures) in
     let put-serial-ensures = (let p : tie.After-put-serial = search in p .put-serial .ensures) in
-    let s = rw field-ensures at put-serial-ensures in
-    (rw (c .serial-along .ensures) (start .pre .0 .next-small), rw (c .serial-along .ensures) (omega (arith, start .pre .1, link-length (start .args .block .now) (start .args .p), s .past, stored-length s)))
+    let s = rw field-ensures at put-serial-ensures in (
+      rw (c .serial-along .ensures) (start .pre .0 .next-small),
+      rw (c .serial-along .ensures) (omega (arith, start .pre .1, link-length block p', s .past, stored-length s)),
+    )
 
 serial-along-requires-2 : tie.Need-serial-along-requires-2
 serial-along-requires-2 c κs = search needs
@@ -33,13 +39,18 @@ serial-along-requires-2 c κs = search needs
 put-serial-requires-3 : tie.Need-put-serial-requires-3
 put-serial-requires-3 c κs =
     let start : tie.Start = search in
+    let block = start .args .block .now in
+    let p' = start .args .p in
     let field-ensures = (let p : tie.After-field = search in p .field .ensures) in
     let put-serial-ensures = (let p : tie.After-put-serial = search in p .put-serial .ensures) in
     let serial-along-ensures = (let p : tie.After-serial-along = search in p .serial-along .ensures) in
     let put-serial2-ensures = (let p : tie.After-put-serial2 = search in p .put-serial2 .ensures) in
     let s = rw field-ensures at put-serial-ensures in
-    let t = rw serial-along-ensures at put-serial2-ensures in
-    (rw (c .serial-along2 .ensures) (start .pre .0 .opposite-small), rw (c .serial-along2 .ensures) (omega (arith, start .pre .1, link-length (start .args .block .now) (start .args .p), s .past, stored-length s, t .past, stored-length t)))
+    let t = rw serial-along-ensures at put-serial2-ensures in (
+      rw (c .serial-along2 .ensures) (start .pre .0 .opposite-small),
+      rw (c .serial-along2 .ensures)
+          (omega (arith, start .pre .1, link-length block p', s .past, stored-length s, t .past, stored-length t)),
+    )
 
 same-length : tie.Need-same-length
 same-length c = search needs

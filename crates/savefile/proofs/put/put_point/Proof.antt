@@ -34,7 +34,16 @@ put-coordinate-requires-3 c κs =
     let put-coordinate-ensures = (let p : tie.After-put-coordinate = search in p .put-coordinate .ensures) in
     let field2-result = (let p : tie.After-field2 = search in p .field2 .result) in
     let put-coordinate2-ensures = (let p : tie.After-put-coordinate2 = search in p .put-coordinate2 .ensures) in
-    omega (arith, start .pre .1, stored-length put-coordinate-ensures, put-coordinate-ensures .past, coordinate-length field-result, stored-length put-coordinate2-ensures, put-coordinate2-ensures .past, coordinate-length field2-result)
+    omega (
+      arith,
+      start .pre .1,
+      stored-length put-coordinate-ensures,
+      put-coordinate-ensures .past,
+      coordinate-length field-result,
+      stored-length put-coordinate2-ensures,
+      put-coordinate2-ensures .past,
+      coordinate-length field2-result,
+    )
 
 same-length : tie.Need-same-length
 same-length c = search needs

@@ -9,22 +9,24 @@ use Rattle.send.proofs.messages.put_messages.Tie as tie
 
 transfer-sizes-requires : tie.Need-transfer-sizes-requires
 transfer-sizes-requires c κs =
-    let st : tie.Start = search in
-    (st .pre .0, ((_, st .pre .1 .0), st .pre .1 .1 .0))
+    let start : tie.Start = search in
+    (start .pre .0, ((_, start .pre .1 .0), start .pre .1 .1 .0))
 
 updates-size-requires : tie.Need-updates-size-requires
 updates-size-requires c κs =
-    let st : tie.Start = search in
-    let m = st .args .block .now in
-    let ok = st .pre .0 in
-    ((listed m ok (st .pre .1 .0), started m ok (st .pre .1 .0)), (ranges-in m ok .number-small, st .pre .1 .1 .0 .0, st .pre .1 .1 .1 .0, st .pre .1 .1 .1 .1))
+    let start : tie.Start = search in
+    let m = start .args .block .now in
+    let ok = start .pre .0 in (
+      (listed m ok (start .pre .1 .0), started m ok (start .pre .1 .0)),
+      (ranges-in m ok .number-small, start .pre .1 .1 .0 .0, start .pre .1 .1 .1 .0, start .pre .1 .1 .1 .1),
+    )
 
 add-if1 : tie.Need-add-if1
 add-if1 c =
     let transfer-sizes-ensures = (let p : tie.After-transfer-sizes = search in p .transfer-sizes .ensures) in
     let updates-size-ensures = (let p : tie.After-updates-size = search in p .updates-size .ensures) in
-    let st : tie.Start = search in
-    omega (arith, updates-size-ensures .1, transfer-sizes-ensures _ (st .pre .1 .0) .small)
+    let start : tie.Start = search in
+    omega (arith, updates-size-ensures .1, transfer-sizes-ensures _ (start .pre .1 .0) .small)
 
 same-length : tie.Need-same-length
 same-length c = search needs
@@ -36,18 +38,21 @@ returns : tie.Need-returns
 returns c =
     let transfer-sizes-ensures = (let p : tie.After-transfer-sizes = search in p .transfer-sizes .ensures) in
     let updates-size-ensures = (let p : tie.After-updates-size = search in p .updates-size .ensures) in
-    let st : tie.Start = search in
-    let m = st .args .block .now in
-    too-short _ _ (messages-length m (st .pre .0) (st .args .to) (st .pre .1 .1 .0 .0) (st .pre .1 .0) (transfer-sizes-ensures _ (st .pre .1 .0)) (updates-size-ensures .0)) (c .if1 .taken)
+    let start : tie.Start = search in
+    let to = start .args .to in
+    let m = start .args .block .now in
+    too-short _ _
+    (messages-length m (start .pre .0) to (start .pre .1 .1 .0 .0) (start .pre .1 .0) (transfer-sizes-ensures _ (start .pre .1 .0))
+    (updates-size-ensures .0)) (c .if1 .taken)
 
 put-both-requires : tie.Need-put-both-requires
 put-both-requires c κs =
     let transfer-sizes-ensures = (let p : tie.After-transfer-sizes = search in p .transfer-sizes .ensures) in
     let updates-size-ensures = (let p : tie.After-updates-size = search in p .updates-size .ensures) in
     let if1-left = (let p : tie.Else1 = search in p .if1 .left) in
-    let st : tie.Start = search in
-    let z = transfer-sizes-ensures _ (st .pre .1 .0) in
-    (st .pre .0, (st .pre .1 .0, (st .pre .1 .1 .0, ((z, updates-size-ensures .2), omega (arith, if1-left, updates-size-ensures .0)))))
+    let start : tie.Start = search in
+    let z = transfer-sizes-ensures _ (start .pre .1 .0) in
+    (start .pre .0, (start .pre .1 .0, (start .pre .1 .1 .0, ((z, updates-size-ensures .2), omega (arith, if1-left, updates-size-ensures .0)))))
 
 same-length-3 : tie.Need-same-length-3
 same-length-3 c = search needs
@@ -66,9 +71,11 @@ returns-2 c =
     let transfer-sizes-ensures = (let p : tie.After-transfer-sizes = search in p .transfer-sizes .ensures) in
     let c : tie.After-transfer-sizes = search in
     let start : tie.Start = search in
-    let st = start in
-    let m = st .args .block .now in
-    long-enough _ _ (messages-length m (st .pre .0) (st .args .to) (st .pre .1 .1 .0 .0) (st .pre .1 .0) (transfer-sizes-ensures _ (st .pre .1 .0)) (updates-size-ensures .0)) if1-left put-both-ensures
+    let to = start .args .to in
+    let m = start .args .block .now in
+    long-enough _ _
+    (messages-length m (start .pre .0) to (start .pre .1 .1 .0 .0) (start .pre .1 .0) (transfer-sizes-ensures _ (start .pre .1 .0))
+    (updates-size-ensures .0)) if1-left put-both-ensures
 
 pub put-messages-spec : {M : Type 1} → statement M
 put-messages-spec =

@@ -7,8 +7,8 @@ use Rattle.send.proofs.volume.send_volume.Tie as tie
 
 leaves-requires : tie.Need-leaves-requires
 leaves-requires c κs =
-    let st : tie.Start = search in
-    (st .pre .0, (st .pre .1 .0, st .pre .1 .1 .0))
+    let start : tie.Start = search in
+    (start .pre .0, (start .pre .1 .0, start .pre .1 .1 .0))
 
 enum-known-q : tie.Need-enum-known-q
 enum-known-q c = search needs
@@ -23,9 +23,8 @@ put-messages-requires c κs =
     let leaves-ensures = (let p : tie.After-leaves = search in p .leaves .ensures) in
     let c : tie.After-leaves = search in
     let start : tie.Start = search in
-    let st = start in
-    let d = departs-told (st .args .block .now) (st .args .to) (st .args .serial) _ _ _ _ _ (leaves-ensures .0) (counts-given .1) in
-    (st .pre .0, (d .survey, ((d .to-block, d .counter-fits), st .pre .1 .1 .1)))
+    let d = departs-told (start .args .block .now) (start .args .to) (start .args .serial) _ _ _ _ _ (leaves-ensures .0) (counts-given .1) in
+    (start .pre .0, (d .survey, ((d .to-block, d .counter-fits), start .pre .1 .1 .1)))
 
 same-length : tie.Need-same-length
 same-length c = search needs
@@ -54,8 +53,10 @@ returns c =
     let leaves-ensures = (let p : tie.After-leaves = search in p .leaves .ensures) in
     let c : tie.After-leaves = search in
     let start : tie.Start = search in
-    let st = start in
-    refused-leaving (st .args .block .now) _ (st .args .to) (st .args .serial) (st .pre .0) (refused-told (st .args .block .now) (st .args .to) (st .args .serial) _ _ _ _ _ (leaves-ensures .0) (q-given .1))
+    let block = start .args .block .now in
+    let to = start .args .to in
+    let serial = start .args .serial in
+    refused-leaving block _ to serial (start .pre .0) (refused-told block to serial _ _ _ _ _ (leaves-ensures .0) (q-given .1))
 
 same-length-8 : tie.Need-same-length-8
 same-length-8 c = search needs
@@ -95,9 +96,8 @@ returns-2 c =
     let leaves-ensures = (let p : tie.After-leaves = search in p .leaves .ensures) in
     let c : tie.After-leaves = search in
     let start : tie.Start = search in
-    let st = start in
-    let d = departs-told (st .args .block .now) (st .args .to) (st .args .serial) _ _ _ _ _ (leaves-ensures .0) (counts-given .1) in
-    sent (st .args .block .now) _ (st .args .to) (st .args .serial) (st .pre .0) d put-messages-ensures
+    let d = departs-told (start .args .block .now) (start .args .to) (start .args .serial) _ _ _ _ _ (leaves-ensures .0) (counts-given .1) in
+    sent (start .args .block .now) _ (start .args .to) (start .args .serial) (start .pre .0) d put-messages-ensures
 
 pub send-volume-spec : {M : Type 1} → statement M
 send-volume-spec =

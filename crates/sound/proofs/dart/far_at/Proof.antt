@@ -64,7 +64,8 @@ returns-2 c =
     let field6-ensures = (let p : tie.After-field6 = search in p .field6 .ensures) in
     let same-at-ensures = (let p : tie.After-same-at = search in p .same-at .ensures) in
     let if1-left = (let p : tie.Else1 = search in p .if1 .left) in
-    far-only _ 0 _ field-ensures field2-ensures field3-ensures field4-ensures field5-ensures field6-ensures same-at-ensures (not-false _ if1-left) (c .if2 .taken)
+    far-only _ 0 _ field-ensures field2-ensures field3-ensures field4-ensures field5-ensures field6-ensures same-at-ensures
+    (not-false _ if1-left) (c .if2 .taken)
 
 field-requires-7 : tie.Need-field-requires-7
 field-requires-7 c κs = search needs
@@ -86,6 +87,8 @@ field-requires-9 c κs =
 sewn-at-requires : tie.Need-sewn-at-requires
 sewn-at-requires c κs =
     let start : tie.Start = search in
+    let block = start .args .block .now in
+    let p' = start .args .p in
     let field-ensures = (let p : tie.After-field = search in p .field .ensures) in
     let field2-ensures = (let p : tie.After-field2 = search in p .field2 .ensures) in
     let field3-ensures = (let p : tie.After-field3 = search in p .field3 .ensures) in
@@ -99,7 +102,10 @@ sewn-at-requires c κs =
     let field8-ensures = (let p : tie.After-field8 = search in p .field8 .ensures) in
     let a = next-lt _ _ (start .pre .3) (start .pre .0) field-ensures in
     let l = sewn-lt _ _ (start .pre .3) (start .pre .0) field3-ensures if2-left field7-ensures in
-    let j = far-kind (start .args .block .now) 0 (start .args .p) field-ensures field2-ensures field3-ensures field4-ensures field5-ensures field6-ensures same-at-ensures (not-false _ if1-left) in
+    let j =
+    far-kind block 0 p' field-ensures field2-ensures field3-ensures field4-ensures field5-ensures field6-ensures
+    same-at-ensures (not-false _ if1-left)
+    in
     let z = sewn-lt _ _ (start .pre .3) a field5-ensures (j ∙ if2-left) field8-ensures in
     (omega (arith, l), omega (arith, z), search needs)
 
@@ -129,7 +135,8 @@ returns-3 c =
     let field8-ensures = (let p : tie.After-field8 = search in p .field8 .ensures) in
     let field9-ensures = (let p : tie.After-field9 = search in p .field9 .ensures) in
     let sewn-at-ensures = (let p : tie.After-sewn-at = search in p .sewn-at .ensures) in
-    far-go _ 0 _ field-ensures field2-ensures field3-ensures field4-ensures field5-ensures field6-ensures same-at-ensures (not-false _ if1-left) if2-left field7-ensures field8-ensures field9-ensures sewn-at-ensures (c .same-at2 .ensures)
+    far-go _ 0 _ field-ensures field2-ensures field3-ensures field4-ensures field5-ensures field6-ensures same-at-ensures
+    (not-false _ if1-left) if2-left field7-ensures field8-ensures field9-ensures sewn-at-ensures (c .same-at2 .ensures)
 
 pub far-at-spec : {M : Type 1} → statement M
 far-at-spec =

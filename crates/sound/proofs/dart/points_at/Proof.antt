@@ -74,7 +74,8 @@ returns-3 c =
     let if2-left = (let p : tie.Else2 = search in p .if2 .left) in
     let field4-ensures = (let p : tie.After-field4 = search in p .field4 .ensures) in
     let field5-ensures = (let p : tie.After-field5 = search in p .field5 .ensures) in
-    point-go _ 0 _ field-ensures field2-ensures same-at-ensures (not-false _ if1-left) field3-ensures if2-left field4-ensures field5-ensures (c .same-at2 .ensures)
+    point-go _ 0 _ field-ensures field2-ensures same-at-ensures (not-false _ if1-left) field3-ensures if2-left field4-ensures
+    field5-ensures (c .same-at2 .ensures)
 
 pub points-at-spec : {M : Type 1} → statement M
 points-at-spec =

@@ -17,8 +17,10 @@ same-point-requires c κs =
     let start : tie.Start = search in
     let point-at-ensures = (let p : tie.After-point-at = search in p .point-at .ensures) in
     let here = start .pre .3 in
-    let there = start .pre .4 in
-    (rw point-at-ensures (point-finite _ _ _ (here .on-x) (here .on-y) (here .on-z)), rw (c .point-at2 .ensures) (point-finite _ _ _ (there .on-x) (there .on-y) (there .on-z)))
+    let there = start .pre .4 in (
+      rw point-at-ensures (point-finite _ _ _ (here .on-x) (here .on-y) (here .on-z)),
+      rw (c .point-at2 .ensures) (point-finite _ _ _ (there .on-x) (there .on-y) (there .on-z)),
+    )
 
 returns : tie.Need-returns
 returns c =

@@ -44,7 +44,8 @@ returns c =
     let field-ensures = (let p : tie.After-field Inv-loop μ-loop = search in p .field .ensures) in
     let field2-ensures = (let p : tie.After-field2 Inv-loop μ-loop = search in p .field2 .ensures) in
     let label-right-ensures = (let p : tie.After-label-right Inv-loop μ-loop = search in p .label-right .ensures) in
-    going-no (loop-inv .0) loop-test-taken (label-right-ensures ∙ rw (field-ensures, field2-ensures, loop-inv .1, loop-inv .2) refl) (not-true _ (c .if1 .taken))
+    going-no (loop-inv .0) loop-test-taken
+    (label-right-ensures ∙ rw (field-ensures, field2-ensures, loop-inv .1, loop-inv .2) refl) (not-true _ (c .if1 .taken))
 
 add-i : tie.Need-add-i Inv-loop μ-loop
 add-i c = search needs
@@ -58,8 +59,12 @@ loop-again c =
     let loop-test-taken = (let p : tie.In-loop Inv-loop μ-loop = search in p .loop-test .taken) in
     let field-ensures = (let p : tie.After-field Inv-loop μ-loop = search in p .field .ensures) in
     let field2-ensures = (let p : tie.After-field2 Inv-loop μ-loop = search in p .field2 .ensures) in
-    let label-right-ensures = (let p : tie.After-label-right Inv-loop μ-loop = search in p .label-right .ensures) in
-    (going-more (loop-inv .0) loop-test-taken (label-right-ensures ∙ rw (field-ensures, field2-ensures, loop-inv .1, loop-inv .2) refl) (not-false _ (c .if1 .left)), loop-inv .1, loop-inv .2)
+    let label-right-ensures = (let p : tie.After-label-right Inv-loop μ-loop = search in p .label-right .ensures) in (
+      going-more (loop-inv .0) loop-test-taken
+          (label-right-ensures ∙ rw (field-ensures, field2-ensures, loop-inv .1, loop-inv .2) refl) (not-false _ (c .if1 .left)),
+      loop-inv .1,
+      loop-inv .2,
+    )
 
 returns-2 : tie.Need-returns-2 Inv-loop μ-loop
 returns-2 c =

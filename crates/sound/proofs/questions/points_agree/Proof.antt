@@ -30,8 +30,16 @@ loop-holds c =
 points-at-requires : tie.Need-points-at-requires Inv-loop μ-loop
 points-at-requires c κs =
     let start : tie.Start Inv-loop μ-loop = search in
+    let block = start .args .block .now in
     let loop-inv = (let p : tie.At-loop Inv-loop μ-loop = search in p .loop .inv) in
-    rw (loop-inv .1) (omega (arith, c .loop-test .taken, loop-inv .1), start .pre .1 .few, start .pre .0, link-places _ (start .pre .1) (start .pre .3), third-places _ (start .pre .1) (start .pre .3) (start .pre .4), finite-all (start .args .block .now) (start .pre .2))
+    rw (loop-inv .1) (
+      omega (arith, c .loop-test .taken, loop-inv .1),
+      start .pre .1 .few,
+      start .pre .0,
+      link-places _ (start .pre .1) (start .pre .3),
+      third-places _ (start .pre .1) (start .pre .3) (start .pre .4),
+      finite-all block (start .pre .2),
+    )
 
 returns : tie.Need-returns Inv-loop μ-loop
 returns c =
@@ -39,7 +47,8 @@ returns c =
     let loop-inv = (let p : tie.At-loop Inv-loop μ-loop = search in p .loop .inv) in
     let loop-test-taken = (let p : tie.In-loop Inv-loop μ-loop = search in p .loop-test .taken) in
     let points-at-ensures = (let p : tie.After-points-at Inv-loop μ-loop = search in p .points-at .ensures) in
-    going-no (loop-inv .0) (omega (arith, loop-test-taken, loop-inv .1)) points-at-ensures (not-true _ (c .if1 .taken)) ∙ points-agreeing _ (start .pre .1) (start .pre .3) (start .pre .4)
+    going-no (loop-inv .0) (omega (arith, loop-test-taken, loop-inv .1)) points-at-ensures (not-true _ (c .if1 .taken))
+    ∙ points-agreeing _ (start .pre .1) (start .pre .3) (start .pre .4)
 
 add-i : tie.Need-add-i Inv-loop μ-loop
 add-i c = search needs

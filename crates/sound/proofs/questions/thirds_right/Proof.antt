@@ -30,8 +30,12 @@ loop-holds c =
 third-at-requires : tie.Need-third-at-requires Inv-loop μ-loop
 third-at-requires c κs =
     let start : tie.Start Inv-loop μ-loop = search in
-    let loop-inv = (let p : tie.At-loop Inv-loop μ-loop = search in p .loop .inv) in
-    (search needs, omega (arith, loop-inv .1, start .pre .1 .few), search needs, rw (loop-inv .1) (link-places _ (start .pre .1) (start .pre .2) .next-lt _ (rw (loop-inv .1) at (c .loop-test .taken))))
+    let loop-inv = (let p : tie.At-loop Inv-loop μ-loop = search in p .loop .inv) in (
+      search needs,
+      omega (arith, loop-inv .1, start .pre .1 .few),
+      search needs,
+      rw (loop-inv .1) (link-places _ (start .pre .1) (start .pre .2) .next-lt _ (rw (loop-inv .1) at (c .loop-test .taken))),
+    )
 
 returns : tie.Need-returns Inv-loop μ-loop
 returns c =

@@ -31,38 +31,25 @@ loop-holds c =
     running-start _ _ _ _ (omega (arith, start .pre .1 .1 .1))
 
 mul-n : tie.Need-mul-n Inv-loop μ-loop
-mul-n c =
-    omega (arith, c .loop-test .taken)
+mul-n c = omega arith
 
 shared-slice-read-n : tie.Need-shared-slice-read-n Inv-loop μ-loop
-shared-slice-read-n c =
-    let start : tie.Start Inv-loop μ-loop = search in
-    let loop-test-taken = (let p : tie.In-loop Inv-loop μ-loop = search in p .loop-test .taken) in
-    omega (arith, loop-test-taken, start .pre .1 .1 .0 .labels-size)
+shared-slice-read-n c = omega arith
 
 mul-b : tie.Need-mul-b Inv-loop μ-loop
-mul-b c =
-    let loop-test-taken = (let p : tie.In-loop Inv-loop μ-loop = search in p .loop-test .taken) in
-    omega (arith, loop-test-taken)
+mul-b c = omega arith
 
 shared-slice-read-b : tie.Need-shared-slice-read-b Inv-loop μ-loop
-shared-slice-read-b c =
-    let start : tie.Start Inv-loop μ-loop = search in
-    let loop-test-taken = (let p : tie.In-loop Inv-loop μ-loop = search in p .loop-test .taken) in
-    omega (arith, loop-test-taken, start .pre .1 .1 .0 .bytes-size)
+shared-slice-read-b c = omega arith
 
 add-k : tie.Need-add-k Inv-loop μ-loop
-add-k c =
-    let loop-test-taken = (let p : tie.In-loop Inv-loop μ-loop = search in p .loop-test .taken) in
-    omega (arith, loop-test-taken)
+add-k c = omega arith
 
 relative-requires : tie.Need-relative-requires Inv-loop μ-loop
 relative-requires c κs = search needs
 
 loop-less : tie.Need-loop-less Inv-loop μ-loop
-loop-less c =
-    let loop-test-taken = (let p : tie.In-loop Inv-loop μ-loop = search in p .loop-test .taken) in
-    omega (arith, loop-test-taken)
+loop-less c = omega arith
 
 loop-again : tie.Need-loop-again Inv-loop μ-loop
 loop-again c =
@@ -70,9 +57,11 @@ loop-again c =
     let loop-k = (let p : tie.At-loop Inv-loop μ-loop = search in p .loop .k) in
     let loop-test-taken = (let p : tie.In-loop Inv-loop μ-loop = search in p .loop-test .taken) in
     let relative-ensures = (let p : tie.After-relative Inv-loop μ-loop = search in p .relative .ensures) in
-    let st : tie.Start Inv-loop μ-loop = search in
-    let a = st .args in
-    running-skip loop-inv loop-test-taken (told-none (a .block .now) (a .to) (a .order .now) (a .starts .now) (a .counts .darts) (a .counts .faces) loop-k (st .pre .1 .1 .0 .labels-are loop-k loop-test-taken) (said-no relative-ensures (c .if1 .taken)))
+    let start : tie.Start Inv-loop μ-loop = search in
+    let a = start .args in
+    running-skip loop-inv loop-test-taken
+    (told-none (a .block .now) (a .to) (a .order .now) (a .starts .now) (a .counts .darts) (a .counts .faces) loop-k
+    (start .pre .1 .1 .0 .labels-are loop-k loop-test-taken) (said-no relative-ensures (c .if1 .taken)))
 
 sub-rest : tie.Need-sub-rest Inv-loop μ-loop
 sub-rest c =
@@ -96,14 +85,31 @@ put-update-requires c κs =
     let loop-out = (let p : tie.At-loop Inv-loop μ-loop = search in p .loop .out) in
     let relative-ensures = (let p : tie.After-relative Inv-loop μ-loop = search in p .relative .ensures) in
     let if1-left = (let p : tie.Else1 Inv-loop μ-loop = search in p .if1 .left) in
-    let st : tie.Start Inv-loop μ-loop = search in
-    let a = st .args in
+    let start : tie.Start Inv-loop μ-loop = search in
+    let a = start .args in
     let k = (let p : tie.At-loop Inv-loop μ-loop = search in p .loop .k) in
     let t = (let p : tie.In-loop Inv-loop μ-loop = search in p .loop-test .taken) in
-    let sh = st .pre .1 .1 .0 in
-    let few = shares-few sh (st .pre .1 .0 .1 .few) in
-    let some = told-some (a .block .now) (a .to) (a .order .now) (a .starts .now) (a .counts .darts) (a .counts .faces) k (sh .labels-are k t) (said-yes relative-ensures if1-left) in
-    (st .pre .1 .0, ((ranges-in (a .block .now) (st .pre .0 .0) .number-small, st .pre .0 .1, omega (arith, t), few .labels-few k t, few .bytes-few k t), ((sh .labels-are k t, sh .bytes-are k t), omega (arith, rest-length loop-out loop-at, running-space loop-inv t, ap length some))))
+    let sh = start .pre .1 .1 .0 in
+    let few = shares-few sh (start .pre .1 .0 .1 .few) in
+    let some =
+    told-some (a .block .now) (a .to) (a .order .now) (a .starts .now) (a .counts .darts) (a .counts .faces) k
+    (sh .labels-are k t) (said-yes relative-ensures if1-left)
+    in (
+      start .pre .1 .0,
+      (
+        (
+          ranges-in (a .block .now) (start .pre .0 .0) .number-small,
+          start .pre .0 .1,
+          omega (arith, t),
+          few .labels-few k t,
+          few .bytes-few k t,
+        ),
+        (
+          (sh .labels-are k t, sh .bytes-are k t),
+          omega (arith, rest-length loop-out loop-at, running-space loop-inv t, ap length some),
+        ),
+      ),
+    )
 
 add-at : tie.Need-add-at Inv-loop μ-loop
 add-at c =
@@ -111,17 +117,26 @@ add-at c =
     let relative-ensures = (let p : tie.After-relative Inv-loop μ-loop = search in p .relative .ensures) in
     let if1-left = (let p : tie.Else1 Inv-loop μ-loop = search in p .if1 .left) in
     let put-update-ensures = (let p : tie.After-put-update Inv-loop μ-loop = search in p .put-update .ensures) in
-    let st : tie.Start Inv-loop μ-loop = search in
-    let a = st .args in
+    let start : tie.Start Inv-loop μ-loop = search in
+    let a = start .args in
     let k = (let p : tie.At-loop Inv-loop μ-loop = search in p .loop .k) in
     let t = (let p : tie.In-loop Inv-loop μ-loop = search in p .loop-test .taken) in
-    let some = told-some (a .block .now) (a .to) (a .order .now) (a .starts .now) (a .counts .darts) (a .counts .faces) k (st .pre .1 .1 .0 .labels-are k t) (said-yes relative-ensures if1-left) in
-    omega (arith, told-small (st .pre .1 .1 .0) (st .pre .1 .0 .1 .few) (a .to) (ranges-in (a .block .now) (st .pre .0 .0) .number-small) (st .pre .0 .1), run-fits (told-put (a .block .now) (a .to) (a .order .now) (a .starts .now) (a .counts .darts) (a .counts .faces)) k 16 t, loop-inv .so-far .past, ap length some, put-update-ensures .past)
+    let some =
+    told-some (a .block .now) (a .to) (a .order .now) (a .starts .now) (a .counts .darts) (a .counts .faces) k
+    (start .pre .1 .1 .0 .labels-are k t) (said-yes relative-ensures if1-left)
+    in
+    omega (
+      arith,
+      told-small (start .pre .1 .1 .0) (start .pre .1 .0 .1 .few) (a .to)
+          (ranges-in (a .block .now) (start .pre .0 .0) .number-small) (start .pre .0 .1),
+      run-fits (told-put (a .block .now) (a .to) (a .order .now) (a .starts .now) (a .counts .darts) (a .counts .faces)) k 16 t,
+      loop-inv .so-far .past,
+      ap length some,
+      put-update-ensures .past,
+    )
 
 loop-less-2 : tie.Need-loop-less-2 Inv-loop μ-loop
-loop-less-2 c =
-    let loop-test-taken = (let p : tie.In-loop Inv-loop μ-loop = search in p .loop-test .taken) in
-    omega (arith, loop-test-taken)
+loop-less-2 c = omega arith
 
 loop-again-2 : tie.Need-loop-again-2 Inv-loop μ-loop
 loop-again-2 c =
@@ -131,11 +146,14 @@ loop-again-2 c =
     let relative-ensures = (let p : tie.After-relative Inv-loop μ-loop = search in p .relative .ensures) in
     let if1-left = (let p : tie.Else1 Inv-loop μ-loop = search in p .if1 .left) in
     let put-update-ensures = (let p : tie.After-put-update Inv-loop μ-loop = search in p .put-update .ensures) in
-    let st : tie.Start Inv-loop μ-loop = search in
-    let a = st .args in
+    let start : tie.Start Inv-loop μ-loop = search in
+    let a = start .args in
     let k = (let p : tie.At-loop Inv-loop μ-loop = search in p .loop .k) in
     let t = (let p : tie.In-loop Inv-loop μ-loop = search in p .loop-test .taken) in
-    let some = told-some (a .block .now) (a .to) (a .order .now) (a .starts .now) (a .counts .darts) (a .counts .faces) k (st .pre .1 .1 .0 .labels-are k t) (said-yes relative-ensures if1-left) in
+    let some =
+    told-some (a .block .now) (a .to) (a .order .now) (a .starts .now) (a .counts .darts) (a .counts .faces) k
+    (start .pre .1 .1 .0 .labels-are k t) (said-yes relative-ensures if1-left)
+    in
     running-step loop-inv t (stored-as some (stored-rest loop-out _ loop-at (omega (arith, running-space loop-inv t)) put-update-ensures))
 
 same-length : tie.Need-same-length Inv-loop μ-loop
@@ -146,8 +164,11 @@ same-length c =
 returns : tie.Need-returns Inv-loop μ-loop
 returns c =
     let start : tie.Start Inv-loop μ-loop = search in
+    let block = start .args .block .now in
+    let to = start .args .to in
     let loop-inv = (let p : tie.At-loop Inv-loop μ-loop = search in p .loop .inv) in
-    λ marks numbers firsts s. stored-as (updates-bytes (start .args .block .now) (start .pre .0 .0) (start .args .to) (start .pre .0 .1) s) (running-end loop-inv (omega (arith, c .loop-test .left)))
+    λ marks numbers firsts s. stored-as (updates-bytes block (start .pre .0 .0) to (start .pre .0 .1) s)
+    (running-end loop-inv (omega (arith, c .loop-test .left)))
 
 pub put-updates-spec : {M : Type 1} → statement M
 put-updates-spec =

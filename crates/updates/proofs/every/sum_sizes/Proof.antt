@@ -22,25 +22,16 @@ loop-holds c =
     (omega arith, sizes-start _ _ _, omega arith)
 
 mul-update-size : tie.Need-mul-update-size Inv-loop μ-loop
-mul-update-size c =
-    omega (arith, c .loop-test .taken)
+mul-update-size c = omega arith
 
 shared-slice-read-update-size : tie.Need-shared-slice-read-update-size Inv-loop μ-loop
-shared-slice-read-update-size c =
-    let start : tie.Start Inv-loop μ-loop = search in
-    let loop-test-taken = (let p : tie.In-loop Inv-loop μ-loop = search in p .loop-test .taken) in
-    omega (arith, loop-test-taken, start .pre .labels-size)
+shared-slice-read-update-size c = omega arith
 
 mul-update-size-2 : tie.Need-mul-update-size-2 Inv-loop μ-loop
-mul-update-size-2 c =
-    let loop-test-taken = (let p : tie.In-loop Inv-loop μ-loop = search in p .loop-test .taken) in
-    omega (arith, loop-test-taken)
+mul-update-size-2 c = omega arith
 
 shared-slice-read-update-size-2 : tie.Need-shared-slice-read-update-size-2 Inv-loop μ-loop
-shared-slice-read-update-size-2 c =
-    let start : tie.Start Inv-loop μ-loop = search in
-    let loop-test-taken = (let p : tie.In-loop Inv-loop μ-loop = search in p .loop-test .taken) in
-    omega (arith, loop-test-taken, start .pre .bytes-size)
+shared-slice-read-update-size-2 c = omega arith
 
 update-size-requires : tie.Need-update-size-requires Inv-loop μ-loop
 update-size-requires c κs =
@@ -50,10 +41,7 @@ update-size-requires c κs =
     (start .pre .labels-few loop-k loop-test-taken, start .pre .bytes-few loop-k loop-test-taken)
 
 add-size : tie.Need-add-size Inv-loop μ-loop
-add-size c =
-    let loop-inv = (let p : tie.At-loop Inv-loop μ-loop = search in p .loop .inv) in
-    let loop-test-taken = (let p : tie.In-loop Inv-loop μ-loop = search in p .loop-test .taken) in
-    omega (arith, loop-test-taken, loop-inv .2, c .update-size .ensures .1)
+add-size c = omega arith
 
 add-k : tie.Need-add-k Inv-loop μ-loop
 add-k c = search needs
@@ -64,17 +52,26 @@ loop-less c = search needs
 loop-again : tie.Need-loop-again Inv-loop μ-loop
 loop-again c =
     let start : tie.Start Inv-loop μ-loop = search in
+    let to = start .args .to in
+    let labels = start .args .labels .now in
+    let bytes = start .args .bytes .now in
     let loop-inv = (let p : tie.At-loop Inv-loop μ-loop = search in p .loop .inv) in
     let loop-k = (let p : tie.At-loop Inv-loop μ-loop = search in p .loop .k) in
-    let loop-test-taken = (let p : tie.In-loop Inv-loop μ-loop = search in p .loop-test .taken) in
-    (omega (arith, loop-test-taken), sizes-more (start .args .to) (start .args .labels .now) (start .args .bytes .now) loop-k (loop-inv .1) (c .update-size .ensures .0), omega (arith, loop-inv .2, c .update-size .ensures .1))
+    let loop-test-taken = (let p : tie.In-loop Inv-loop μ-loop = search in p .loop-test .taken) in (
+      omega (arith, loop-test-taken),
+      sizes-more to labels bytes loop-k (loop-inv .1) (c .update-size .ensures .0),
+      omega (arith, loop-inv .2, c .update-size .ensures .1),
+    )
 
 returns : tie.Need-returns Inv-loop μ-loop
 returns c =
     let start : tie.Start Inv-loop μ-loop = search in
+    let to = start .args .to in
+    let labels = start .args .labels .now in
+    let bytes = start .args .bytes .now in
     let loop-inv = (let p : tie.At-loop Inv-loop μ-loop = search in p .loop .inv) in
     let loop-k = (let p : tie.At-loop Inv-loop μ-loop = search in p .loop .k) in
-    let e : loop-k ≡ 16 = omega (arith, c .loop-test .left, loop-inv .0) in (loop-inv .1 ∙ ap (sizes-for (start .args .to) (start .args .labels .now) (start .args .bytes .now)) e, omega (arith, loop-inv .2, e))
+    let e : loop-k ≡ 16 = omega (arith, c .loop-test .left, loop-inv .0) in (loop-inv .1 ∙ ap (sizes-for to labels bytes) e, omega (arith, loop-inv .2, e))
 
 pub sum-sizes-spec : {M : Type 1} → statement M
 sum-sizes-spec =

@@ -25,8 +25,12 @@ same-length-2 c = search needs
 returns : tie.Need-returns
 returns c =
     let start : tie.Start = search in
-    let count-labels-ensures = (let p : tie.After-count-labels = search in p .count-labels .ensures) in
-    (c .sum-sizes .ensures .0 ∙ sizes-are count-labels-ensures (start .args .to) (start .pre .1 .0) (start .pre .1 .1) 16 (omega arith), c .sum-sizes .ensures .1, count-labels-ensures)
+    let to = start .args .to in
+    let count-labels-ensures = (let p : tie.After-count-labels = search in p .count-labels .ensures) in (
+      c .sum-sizes .ensures .0 ∙ sizes-are count-labels-ensures to (start .pre .1 .0) (start .pre .1 .1) 16 (omega arith),
+      c .sum-sizes .ensures .1,
+      count-labels-ensures,
+    )
 
 pub updates-size-spec : {M : Type 1} → statement M
 updates-size-spec =

@@ -27,15 +27,10 @@ loop-holds c =
     (omega arith, shares-start _ _ _ _ _ (start .pre .1 .0) (start .pre .1 .1))
 
 mul-start : tie.Need-mul-start Inv-loop μ-loop
-mul-start c =
-    let start : tie.Start Inv-loop μ-loop = search in
-    omega (arith, c .loop-test .taken, start .pre .0 .1 .few)
+mul-start c = omega arith
 
 shared-slice-read-start : tie.Need-shared-slice-read-start Inv-loop μ-loop
-shared-slice-read-start c =
-    let start : tie.Start Inv-loop μ-loop = search in
-    let loop-test-taken = (let p : tie.In-loop Inv-loop μ-loop = search in p .loop-test .taken) in
-    omega (arith, loop-test-taken, start .pre .0 .1 .few, start .pre .0 .1 .starts-size)
+shared-slice-read-start c = omega arith
 
 face-end-requires : tie.Need-face-end-requires Inv-loop μ-loop
 face-end-requires c κs =
@@ -65,15 +60,10 @@ field-requires c κs =
     (start .pre .0 .0 .below (getD (start .args .starts .now) loop-f 0) (start .pre .0 .1 .below loop-f loop-test-taken), omega arith, start .pre .0 .0 .memory)
 
 add-f : tie.Need-add-f Inv-loop μ-loop
-add-f c =
-    let start : tie.Start Inv-loop μ-loop = search in
-    let loop-test-taken = (let p : tie.In-loop Inv-loop μ-loop = search in p .loop-test .taken) in
-    omega (arith, loop-test-taken, start .pre .0 .1 .few)
+add-f c = omega arith
 
 loop-less : tie.Need-loop-less Inv-loop μ-loop
-loop-less c =
-    let loop-test-taken = (let p : tie.In-loop Inv-loop μ-loop = search in p .loop-test .taken) in
-    omega (arith, loop-test-taken)
+loop-less c = omega arith
 
 loop-again : tie.Need-loop-again Inv-loop μ-loop
 loop-again c =
@@ -93,11 +83,11 @@ sub-least-code c =
 
 least-code-requires : tie.Need-least-code-requires Inv-loop μ-loop
 least-code-requires c κs =
-    let st : tie.Start Inv-loop μ-loop = search in
+    let start : tie.Start Inv-loop μ-loop = search in
     let f = (let p : tie.At-loop Inv-loop μ-loop = search in p .loop .f) in
     let t = (let p : tie.In-loop Inv-loop μ-loop = search in p .loop-test .taken) in
     let e = (let p : tie.After-face-end Inv-loop μ-loop = search in p .face-end .ensures) in
-    (listed-part (st .pre .0 .0) _ (end-le (st .pre .0 .1) f _ t e), some-darts (st .pre .0 .1) f _ t e)
+    (listed-part (start .pre .0 .0) _ (end-le (start .pre .0 .1) f _ t e), some-darts (start .pre .0 .1) f _ t e)
 
 label-count-requires : tie.Need-label-count-requires Inv-loop μ-loop
 label-count-requires c κs = search needs
@@ -105,6 +95,7 @@ label-count-requires c κs = search needs
 add-face-requires : tie.Need-add-face-requires Inv-loop μ-loop
 add-face-requires c κs =
     let start : tie.Start Inv-loop μ-loop = search in
+    let starts = start .args .starts .now in
     let loop-f = (let p : tie.At-loop Inv-loop μ-loop = search in p .loop .f) in
     let loop-inv = (let p : tie.At-loop Inv-loop μ-loop = search in p .loop .inv) in
     let loop-test-taken = (let p : tie.In-loop Inv-loop μ-loop = search in p .loop-test .taken) in
@@ -113,14 +104,18 @@ add-face-requires c κs =
     let least-code-result = (let p : tie.After-least-code Inv-loop μ-loop = search in p .least-code .result) in
     let label-count-ensures = (let p : tie.After-label-count Inv-loop μ-loop = search in p .label-count .ensures) in
     let few = shares-few (loop-inv .1) (omega (arith, loop-inv .0, start .pre .0 .1 .few)) in
-    let small = start .pre .0 .0 .other-small (getD (start .args .starts .now) loop-f 0) (start .pre .0 .1 .below loop-f loop-test-taken) in
-    let k : field-result / 4 < 16 = omega (arith, field-ensures, small) in
-    ((few .labels-size, few .bytes-size, k), (omega (arith, few .labels-few _ k), omega (arith, few .bytes-few _ k), omega (arith, label-count-ensures, label-short (label-in least-code-result))))
+    let small = start .pre .0 .0 .other-small (getD starts loop-f 0) (start .pre .0 .1 .below loop-f loop-test-taken) in
+    let k : field-result / 4 < 16 = omega (arith, field-ensures, small) in (
+      (few .labels-size, few .bytes-size, k),
+      (
+        omega (arith, few .labels-few _ k),
+        omega (arith, few .bytes-few _ k),
+        omega (arith, label-count-ensures, label-short (label-in least-code-result)),
+      ),
+    )
 
 loop-less-2 : tie.Need-loop-less-2 Inv-loop μ-loop
-loop-less-2 c =
-    let loop-test-taken = (let p : tie.In-loop Inv-loop μ-loop = search in p .loop-test .taken) in
-    omega (arith, loop-test-taken)
+loop-less-2 c = omega arith
 
 loop-again-2 : tie.Need-loop-again-2 Inv-loop μ-loop
 loop-again-2 c =
@@ -132,10 +127,15 @@ loop-again-2 c =
     let least-code-ensures = (let p : tie.After-least-code Inv-loop μ-loop = search in p .least-code .ensures) in
     let label-count-ensures = (let p : tie.After-label-count Inv-loop μ-loop = search in p .label-count .ensures) in
     let add-face-ensures = (let p : tie.After-add-face Inv-loop μ-loop = search in p .add-face .ensures) in
-    let st : tie.Start Inv-loop μ-loop = search in
+    let start : tie.Start Inv-loop μ-loop = search in
+    let starts = start .args .starts .now in
     let f = (let p : tie.At-loop Inv-loop μ-loop = search in p .loop .f) in
-    let small = st .pre .0 .0 .other-small (getD (st .args .starts .now) f 0) (st .pre .0 .1 .below f loop-test-taken) in
-    (omega (arith, loop-test-taken), shares-all (shares-step (loop-inv .1) field-ensures if1-left (omega (arith, field-ensures, small)) face-end-ensures least-code-ensures label-count-ensures) (add-face-ensures .0) (add-face-ensures .1))
+    let small = start .pre .0 .0 .other-small (getD starts f 0) (start .pre .0 .1 .below f loop-test-taken) in (
+      omega (arith, loop-test-taken),
+      shares-all
+          (shares-step (loop-inv .1) field-ensures if1-left (omega (arith, field-ensures, small)) face-end-ensures least-code-ensures
+          label-count-ensures) (add-face-ensures .0) (add-face-ensures .1),
+    )
 
 same-length : tie.Need-same-length Inv-loop μ-loop
 same-length c =

@@ -18,14 +18,10 @@ abbrev μ-loop : tie.MeasureT-loop
     size - k
 
 mul-field : tie.Need-mul-field Inv-loop μ-loop
-mul-field c =
-    let start : tie.Start Inv-loop μ-loop = search in
-    omega (arith, start .pre .0 .few, start .pre .1)
+mul-field c = omega arith
 
 shared-slice-read-field : tie.Need-shared-slice-read-field Inv-loop μ-loop
-shared-slice-read-field c =
-    let start : tie.Start Inv-loop μ-loop = search in
-    omega (arith, start .pre .0 .few, start .pre .0 .order-size, start .pre .1)
+shared-slice-read-field c = omega arith
 
 field-requires : tie.Need-field-requires Inv-loop μ-loop
 field-requires c κs =
@@ -38,20 +34,13 @@ loop-holds c =
     (omega arith, omega (arith, start .pre .1), least-start (start .args .block .now) (start .args .order .now) (start .args .start) _ (c .field .ensures))
 
 add-p : tie.Need-add-p Inv-loop μ-loop
-add-p c =
-    let start : tie.Start Inv-loop μ-loop = search in
-    omega (arith, c .loop-test .taken, start .pre .0 .few)
+add-p c = omega arith
 
 mul-p : tie.Need-mul-p Inv-loop μ-loop
-mul-p c =
-    let start : tie.Start Inv-loop μ-loop = search in
-    omega (arith, c .loop-test .taken, start .pre .0 .few)
+mul-p c = omega arith
 
 shared-slice-read-p : tie.Need-shared-slice-read-p Inv-loop μ-loop
-shared-slice-read-p c =
-    let start : tie.Start Inv-loop μ-loop = search in
-    let loop-test-taken = (let p : tie.In-loop Inv-loop μ-loop = search in p .loop-test .taken) in
-    omega (arith, loop-test-taken, start .pre .0 .few, start .pre .0 .order-size)
+shared-slice-read-p c = omega arith
 
 field-requires-2 : tie.Need-field-requires-2 Inv-loop μ-loop
 field-requires-2 c κs =
@@ -64,31 +53,33 @@ lesser-requires : tie.Need-lesser-requires Inv-loop μ-loop
 lesser-requires c κs = search needs
 
 add-k : tie.Need-add-k Inv-loop μ-loop
-add-k c =
-    let start : tie.Start Inv-loop μ-loop = search in
-    let loop-test-taken = (let p : tie.In-loop Inv-loop μ-loop = search in p .loop-test .taken) in
-    omega (arith, loop-test-taken, start .pre .0 .few)
+add-k c = omega arith
 
 loop-less : tie.Need-loop-less Inv-loop μ-loop
-loop-less c =
-    let loop-test-taken = (let p : tie.In-loop Inv-loop μ-loop = search in p .loop-test .taken) in
-    omega (arith, loop-test-taken)
+loop-less c = omega arith
 
 loop-again : tie.Need-loop-again Inv-loop μ-loop
 loop-again c =
     let start : tie.Start Inv-loop μ-loop = search in
+    let block = start .args .block .now in
+    let order = start .args .order .now in
+    let start' = start .args .start in
     let loop-inv = (let p : tie.At-loop Inv-loop μ-loop = search in p .loop .inv) in
     let loop-k = (let p : tie.At-loop Inv-loop μ-loop = search in p .loop .k) in
     let loop-test-taken = (let p : tie.In-loop Inv-loop μ-loop = search in p .loop-test .taken) in
     let field2-ensures = (let p : tie.After-field2 Inv-loop μ-loop = search in p .field2 .ensures) in
-    (omega arith, omega (arith, loop-test-taken), least-step (start .args .block .now) (start .args .order .now) (start .args .start) loop-k (loop-inv .0) (loop-inv .2) field2-ensures (c .lesser .ensures))
+    (omega arith, omega (arith, loop-test-taken), least-step block order start' loop-k (loop-inv .0) (loop-inv .2) field2-ensures (c .lesser .ensures))
 
 returns : tie.Need-returns Inv-loop μ-loop
 returns c =
     let start : tie.Start Inv-loop μ-loop = search in
+    let size = start .args .size in
+    let block = start .args .block .now in
+    let order = start .args .order .now in
+    let start' = start .args .start in
     let loop-inv = (let p : tie.At-loop Inv-loop μ-loop = search in p .loop .inv) in
     let loop-k = (let p : tie.At-loop Inv-loop μ-loop = search in p .loop .k) in
-    let e : loop-k ≡ start .args .size = omega (arith, c .loop-test .left, loop-inv .1) in loop-inv .2 ∙ ap (least-code (start .args .block .now) (start .args .order .now) (start .args .start)) e
+    let e : loop-k ≡ size = omega (arith, c .loop-test .left, loop-inv .1) in loop-inv .2 ∙ ap (least-code block order start') e
 
 pub least-code-spec : {M : Type 1} → statement M
 least-code-spec =

@@ -26,15 +26,10 @@ loop-holds c =
     running-start _ _ _ _ (start .pre .1)
 
 mul-start : tie.Need-mul-start Inv-loop μ-loop
-mul-start c =
-    let start : tie.Start Inv-loop μ-loop = search in
-    omega (arith, c .loop-test .taken, start .pre .0 .1 .few)
+mul-start c = omega arith
 
 shared-slice-read-start : tie.Need-shared-slice-read-start Inv-loop μ-loop
-shared-slice-read-start c =
-    let start : tie.Start Inv-loop μ-loop = search in
-    let loop-test-taken = (let p : tie.In-loop Inv-loop μ-loop = search in p .loop-test .taken) in
-    omega (arith, loop-test-taken, start .pre .0 .1 .few, start .pre .0 .1 .starts-size)
+shared-slice-read-start c = omega arith
 
 face-end-requires : tie.Need-face-end-requires Inv-loop μ-loop
 face-end-requires c κs =
@@ -57,10 +52,7 @@ shared-slice-read-p c =
     omega (arith, start .pre .0 .1 .below loop-f loop-test-taken, start .pre .0 .0 .few, start .pre .0 .0 .order-size)
 
 add-f : tie.Need-add-f Inv-loop μ-loop
-add-f c =
-    let start : tie.Start Inv-loop μ-loop = search in
-    let loop-test-taken = (let p : tie.In-loop Inv-loop μ-loop = search in p .loop-test .taken) in
-    omega (arith, loop-test-taken, start .pre .0 .1 .few)
+add-f c = omega arith
 
 field-requires : tie.Need-field-requires Inv-loop μ-loop
 field-requires c κs =
@@ -70,19 +62,13 @@ field-requires c κs =
     (start .pre .0 .0 .below (getD (start .args .starts .now) loop-f 0) (start .pre .0 .1 .below loop-f loop-test-taken), omega arith, start .pre .0 .0 .memory)
 
 mul-if1 : tie.Need-mul-if1 Inv-loop μ-loop
-mul-if1 c =
-    let start : tie.Start Inv-loop μ-loop = search in
-    omega (arith, start .pre .0 .2)
+mul-if1 c = omega arith
 
 add-if1 : tie.Need-add-if1 Inv-loop μ-loop
-add-if1 c =
-    let start : tie.Start Inv-loop μ-loop = search in
-    omega (arith, start .pre .0 .2)
+add-if1 c = omega arith
 
 loop-less : tie.Need-loop-less Inv-loop μ-loop
-loop-less c =
-    let loop-test-taken = (let p : tie.In-loop Inv-loop μ-loop = search in p .loop-test .taken) in
-    omega (arith, loop-test-taken)
+loop-less c = omega arith
 
 loop-again : tie.Need-loop-again Inv-loop μ-loop
 loop-again c =
@@ -92,7 +78,9 @@ loop-again c =
     let field-ensures = (let p : tie.After-field Inv-loop μ-loop = search in p .field .ensures) in
     let a = start .args in
     let f = (let p : tie.At-loop Inv-loop μ-loop = search in p .loop .f) in
-    running-skip loop-inv loop-test-taken (least-none (a .block .now) (a .k) (a .order .now) (a .starts .now) (a .darts) (a .count) f (not-shared-by (a .block .now) (a .k) (a .order .now) (a .starts .now) (a .darts) (a .count) f field-ensures (c .if1 .taken)))
+    running-skip loop-inv loop-test-taken
+    (least-none (a .block .now) (a .k) (a .order .now) (a .starts .now) (a .darts) (a .count) f
+    (not-shared-by (a .block .now) (a .k) (a .order .now) (a .starts .now) (a .darts) (a .count) f field-ensures (c .if1 .taken)))
 
 sub-least-code : tie.Need-sub-least-code Inv-loop μ-loop
 sub-least-code c =
@@ -105,11 +93,11 @@ sub-least-code c =
 
 least-code-requires : tie.Need-least-code-requires Inv-loop μ-loop
 least-code-requires c κs =
-    let st : tie.Start Inv-loop μ-loop = search in
+    let start : tie.Start Inv-loop μ-loop = search in
     let f = (let p : tie.At-loop Inv-loop μ-loop = search in p .loop .f) in
     let t = (let p : tie.In-loop Inv-loop μ-loop = search in p .loop-test .taken) in
     let e = (let p : tie.After-face-end Inv-loop μ-loop = search in p .face-end .ensures) in
-    (listed-part (st .pre .0 .0) _ (end-le (st .pre .0 .1) f _ t e), some-darts (st .pre .0 .1) f _ t e)
+    (listed-part (start .pre .0 .0) _ (end-le (start .pre .0 .1) f _ t e), some-darts (start .pre .0 .1) f _ t e)
 
 put-label-requires : tie.Need-put-label-requires Inv-loop μ-loop
 put-label-requires c κs =
@@ -121,13 +109,15 @@ put-label-requires c κs =
     let if1-left = (let p : tie.Else1 Inv-loop μ-loop = search in p .if1 .left) in
     let a = start .args in
     let f = (let p : tie.At-loop Inv-loop μ-loop = search in p .loop .f) in
-    let one = least-one (a .block .now) (a .k) (a .order .now) (a .starts .now) (a .darts) (a .count) f _ _ (shared-by (a .block .now) (a .k) (a .order .now) (a .starts .now) (a .darts) (a .count) f field-ensures if1-left) face-end-ensures (c .least-code .ensures) in
+    let one =
+    least-one (a .block .now) (a .k) (a .order .now) (a .starts .now) (a .darts) (a .count) f _ _
+    (shared-by (a .block .now) (a .k) (a .order .now) (a .starts .now) (a .darts) (a .count) f field-ensures if1-left)
+    face-end-ensures (c .least-code .ensures)
+    in
     omega (arith, ap length one, running-space loop-inv loop-test-taken)
 
 loop-less-2 : tie.Need-loop-less-2 Inv-loop μ-loop
-loop-less-2 c =
-    let loop-test-taken = (let p : tie.In-loop Inv-loop μ-loop = search in p .loop-test .taken) in
-    omega (arith, loop-test-taken)
+loop-less-2 c = omega arith
 
 loop-again-2 : tie.Need-loop-again-2 Inv-loop μ-loop
 loop-again-2 c =
@@ -141,7 +131,11 @@ loop-again-2 c =
     let put-label-ensures = (let p : tie.After-put-label Inv-loop μ-loop = search in p .put-label .ensures) in
     let a = start .args in
     let f = (let p : tie.At-loop Inv-loop μ-loop = search in p .loop .f) in
-    let one = least-one (a .block .now) (a .k) (a .order .now) (a .starts .now) (a .darts) (a .count) f _ _ (shared-by (a .block .now) (a .k) (a .order .now) (a .starts .now) (a .darts) (a .count) f field-ensures if1-left) face-end-ensures least-code-ensures in
+    let one =
+    least-one (a .block .now) (a .k) (a .order .now) (a .starts .now) (a .darts) (a .count) f _ _
+    (shared-by (a .block .now) (a .k) (a .order .now) (a .starts .now) (a .darts) (a .count) f field-ensures if1-left)
+    face-end-ensures least-code-ensures
+    in
     running-step loop-inv loop-test-taken (stored-as one put-label-ensures)
 
 same-length : tie.Need-same-length Inv-loop μ-loop

@@ -13,21 +13,38 @@ rest-size-requires c κs = search needs
 put-head-requires : tie.Need-put-head-requires
 put-head-requires c κs =
     let rest-size-ensures = (let p : tie.After-rest-size = search in p .rest-size .ensures) in
-    let st : tie.Start = search in
-    let a = st .args in
+    let start : tie.Start = search in
+    let a = start .args in
     let r = rest-size-ensures .0 in
-    let len = read-length (a .block .now) (a .to) (a .order .now) (a .starts .now) (a .darts) (a .count) (a .k) (st .pre .1 .1 .0 .0) (st .pre .1 .1 .0 .1) r in
-    ((omega (arith, st .pre .0 .0 .memory), st .pre .1 .0 .0, st .pre .1 .0 .1, st .pre .1 .0 .2, omega (arith, st .pre .1 .0 .3), omega (arith, rest-size-ensures .1)), omega (arith, st .pre .1 .1 .1, len))
+    let len =
+    read-length (a .block .now) (a .to) (a .order .now) (a .starts .now) (a .darts) (a .count) (a .k) (start .pre .1 .1 .0 .0)
+    (start .pre .1 .1 .0 .1) r
+    in (
+      (
+        omega (arith, start .pre .0 .0 .memory),
+        start .pre .1 .0 .0,
+        start .pre .1 .0 .1,
+        start .pre .1 .0 .2,
+        omega (arith, start .pre .1 .0 .3),
+        omega (arith, rest-size-ensures .1),
+      ),
+      omega (arith, start .pre .1 .1 .1, len),
+    )
 
 put-leasts-requires : tie.Need-put-leasts-requires
 put-leasts-requires c κs =
     let rest-size-ensures = (let p : tie.After-rest-size = search in p .rest-size .ensures) in
     let put-head-ensures = (let p : tie.After-put-head = search in p .put-head .ensures) in
-    let st : tie.Start = search in
-    let a = st .args in
+    let start : tie.Start = search in
+    let a = start .args in
     let r = rest-size-ensures .0 in
-    let len = read-length (a .block .now) (a .to) (a .order .now) (a .starts .now) (a .darts) (a .count) (a .k) (st .pre .1 .1 .0 .0) (st .pre .1 .1 .0 .1) r in
-    ((st .pre .0 .0, st .pre .0 .1, omega (arith, st .pre .1 .0 .2)), omega (arith, st .pre .1 .1 .1, len, stored-length put-head-ensures, put-head-ensures .past))
+    let len =
+    read-length (a .block .now) (a .to) (a .order .now) (a .starts .now) (a .darts) (a .count) (a .k) (start .pre .1 .1 .0 .0)
+    (start .pre .1 .1 .0 .1) r
+    in (
+      (start .pre .0 .0, start .pre .0 .1, omega (arith, start .pre .1 .0 .2)),
+      omega (arith, start .pre .1 .1 .1, len, stored-length put-head-ensures, put-head-ensures .past),
+    )
 
 same-length : tie.Need-same-length
 same-length c =
@@ -40,9 +57,11 @@ returns c =
     let rest-size-ensures = (let p : tie.After-rest-size = search in p .rest-size .ensures) in
     let put-head-ensures = (let p : tie.After-put-head = search in p .put-head .ensures) in
     let put-leasts-ensures = (let p : tie.After-put-leasts = search in p .put-leasts .ensures) in
-    let st : tie.Start = search in
-    let a = st .args in
-    stored-as (update-read (a .block .now) (a .to) (a .order .now) (a .starts .now) (a .darts) (a .count) (a .k) (st .pre .1 .1 .0 .0) (st .pre .1 .1 .0 .1) (rest-size-ensures .0)) (stored-then put-head-ensures put-leasts-ensures)
+    let start : tie.Start = search in
+    let a = start .args in
+    stored-as
+    (update-read (a .block .now) (a .to) (a .order .now) (a .starts .now) (a .darts) (a .count) (a .k) (start .pre .1 .1 .0 .0)
+    (start .pre .1 .1 .0 .1) (rest-size-ensures .0)) (stored-then put-head-ensures put-leasts-ensures)
 
 pub put-update-spec : {M : Type 1} → statement M
 put-update-spec =

@@ -26,7 +26,10 @@ returns : tie.Need-returns
 unfolding rest-for
 returns c =
     let start : tie.Start = search in
-    (omega (arith, c .group-count .ensures, group-length (start .args .n) (omega (arith, start .pre .0))), omega (arith, c .group-count .ensures, count-most (start .args .n) (omega (arith, start .pre .0)), start .pre .1))
+    let n = start .args .n in (
+      omega (arith, c .group-count .ensures, group-length n (omega (arith, start .pre .0))),
+      omega (arith, c .group-count .ensures, count-most n (omega (arith, start .pre .0)), start .pre .1),
+    )
 
 pub rest-size-spec : {M : Type 1} → statement M
 rest-size-spec =

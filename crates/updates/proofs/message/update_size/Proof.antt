@@ -34,11 +34,19 @@ add-result c =
 returns-2 : tie.Need-returns-2
 returns-2 c =
     let start : tie.Start = search in
+    let to = start .args .to in
+    let k = start .args .k in
+    let n = start .args .n in
+    let bytes = start .args .bytes in
     let relative-ensures = (let p : tie.After-relative = search in p .relative .ensures) in
     let if1-left = (let p : tie.Else1 = search in p .if1 .left) in
     let rest-size-ensures = (let p : tie.After-rest-size = search in p .rest-size .ensures) in
-    let rest-size-result = (let p : tie.After-rest-size = search in p .rest-size .result) in
-    (size-some (start .args .to) (start .args .k) (start .args .n) (start .args .bytes) (said-yes relative-ensures if1-left) (rest-size-ensures .0) (omega (arith, c .group-count .ensures, group-length rest-size-result (omega (arith, rest-size-ensures .1)))), omega (arith, c .group-count .ensures, count-most rest-size-result (omega (arith, rest-size-ensures .1)), rest-size-ensures .1))
+    let rest-size-result = (let p : tie.After-rest-size = search in p .rest-size .result) in (
+      size-some to k n bytes (said-yes relative-ensures if1-left) (rest-size-ensures .0)
+          (omega (arith, c .group-count .ensures, group-length rest-size-result (omega (arith, rest-size-ensures .1)))),
+      omega
+          (arith, c .group-count .ensures, count-most rest-size-result (omega (arith, rest-size-ensures .1)), rest-size-ensures .1),
+    )
 
 pub update-size-spec : {M : Type 1} → statement M
 update-size-spec =
