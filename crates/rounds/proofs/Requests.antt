@@ -63,7 +63,7 @@ run-length ms outbox [] = refl
 run-length ms outbox (x ∷ rs) = ap suc (run-length (round-in-order ms x outbox .memories) (outbox-after ms x outbox) rs)
 
 -- one value more
-over-more : (xs l : List ℕ) (i v : ℕ) → length xs ≡ i → i < length l → set (over xs l) i v ≡ over (xs ++ v ∷ []) l
+pub over-more : (xs l : List ℕ) (i v : ℕ) → length xs ≡ i → i < length l → set (over xs l) i v ≡ over (xs ++ v ∷ []) l
 over-more xs l i v e h =
     ap (λ (t : List ℕ). set (xs ++ t) i v) (drop-cons l (length xs) 0 (omega (arith, e, h)))
     ∙ set-at xs (getD l (length xs) 0) (drop (suc (length xs)) l) v i e
