@@ -5,18 +5,18 @@ use mathlib.Core.Logic.{_≢_}
 use mathlib.Core.Bool.{true, false}
 use mathlib.Core.List.{List, [], _∷_, map, Permᴰ·refl}
 use mathlib.Core.Option.{Option}
-use Prim.Native.Nat.{ℕ, suc, _≤_}
+use Prim.Native.Nat.{ℕ, _≤_}
 use native.Mathlib.Omega.{arith}
 use lib.Dec.{leb, ltb, eqb}
 use lib.ListN.{length, take, length-map}
 use lib.Seq.{take-at}
-use borrow.Author.Tests.{ltb-true, le-leb}
+use borrow.Author.Tests.{ltb-true}
 use Rattle.model.specs.Lists.{all, first-no, Check}
 use Rattle.model.specs.Values.{Label, Block, all-rack}
 use Rattle.model.specs.Sound.{Sound}
 use Rattle.model.specs.Image.{image}
 use Rattle.model.specs.Calls.{memories}
-use Rattle.model.specs.Runs.{Request, Outcome, refused-by, unfinished, last-steps, memory-at, sent-messages, Round, round, State, Whole, start, whole-map, request-checks, after-move, undivided}
+use Rattle.model.specs.Runs.{Request, Outcome, refused-by, unfinished, last-steps, memory-at, sent-messages, Round, State, Whole, start, whole-map, request-checks, after-move, undivided}
 use Rattle.model.specs.Demands.{Matches, Enough, outbox-bytes}
 use Rattle.laws.proofs.Members.{all-map}
 use Rattle.laws.proofs.Tests.{by-cases, and-left, and-right, and-intro}
@@ -28,10 +28,10 @@ use Rattle.agreement.proofs.Keeps.{keeps}
 use Rattle.agreement.proofs.MeshSound.{says}
 use Rattle.soundness.proofs.OutboxLength.{rack-outbox-suffices}
 use Rattle.rounds.specs.Played.{round-in-order}
-use Rattle.rounds.specs.Requests.{requests-in, outcome-number, outbox-after, Run, run, over, PlayedAll}
+use Rattle.rounds.specs.Requests.{requests-in, outcome-number, outbox-after, Run, run, over}
 use Rattle.rounds.proofs.Requests.{outbox-length, run-length}
 use Rattle.agreed.specs.Course.{named, outside-checks, any-undivided, Course, course}
-use Rattle.agreed.specs.Promise.{course-of, Agreed, ListsAgree, Kept, Promise}
+use Rattle.agreed.specs.Promise.{course-of, ListsAgree, Kept, Promise}
 use Rattle.agreed.proofs.Outside.{refused-outside}
 
 -- ONE REQUEST, whatever blocks it names
@@ -159,6 +159,13 @@ promise bs m requests outcomes outbox m′ outcomes′ outbox′ sound images lo
       outcomes-are = same ∙ ap (λ (os : List Outcome). over (map outcome-number os) outcomes) (a .same-outcomes);
       never-unfinished = ap (λ (l : List ℕ). all (λ n. leb n 28) (take (length rs) l)) same
           ∙ ap (all (λ n. leb n 28)) (take-at numbers _ (length rs) many) ∙ all-map (λ n. leb n 28) outcome-number (d .outcomes) ∙ a .never-unfinished;
-      matches = record { mesh = a .matches .mesh; images = left ∙ a .matches .images; sound = a .matches .sound; same-map = a .matches .same-map; same-cells = a .matches .same-cells; same-counts = a .matches .same-counts };
+      matches = record {
+        mesh = a .matches .mesh;
+        images = left ∙ a .matches .images;
+        sound = a .matches .sound;
+        same-map = a .matches .same-map;
+        same-cells = a .matches .same-cells;
+        same-counts = a .matches .same-counts;
+      };
       same-map = a .same-map;
     }

@@ -11,10 +11,10 @@ use lib.Seq.{set-out}
 use borrow.Author.Tests.{eqb-true, eqb-false, ne-eqb, lt-ltb, le-ltb}
 use Rattle.model.specs.Lists.{all, mem, concat, first-no, Check}
 use Rattle.model.specs.Values.{Label, Block, rack, all-rack}
-use Rattle.model.specs.Image.{image, block-in, memory-checks}
+use Rattle.model.specs.Image.{image, memory-checks}
 use Rattle.model.specs.Departure.{departure-checks, messages}
 use Rattle.model.specs.Calls.{refused, number-of, Result, writing, send, receive}
-use Rattle.model.specs.Runs.{Request, refused-by, Step, Done, called, memory-at, done, messages-in, send-step, receive-step, Round, round, State, inner-faces, request-checks}
+use Rattle.model.specs.Runs.{Request, refused-by, Step, Done, called, memory-at, done, messages-in, send-step, receive-step, round, State, inner-faces, request-checks}
 use Rattle.model.specs.Demands.{Enough}
 use Rattle.laws.proofs.Tables.{getD-tab, map-tab, length-tab}
 use Rattle.laws.proofs.Tests.{by-cases, lt-or-ge, and-left, and-right, yes-then, no-here, no-more, first-no-append, first-no-stays}

@@ -1,12 +1,12 @@
 -- Balancing a sound mesh ends level or blocked, or is refused by 28 alone. Assumes nothing.
 use mathlib.Core.Path.{_≡_, refl, sym, _∙_, ap, subst}
-use mathlib.Core.Bool.{true, false, not, _&&_}
+use mathlib.Core.Bool.{true, false}
 use mathlib.Core.List.{List, [], _∷_, _++_, map, append-nil, Permᴰ·refl}
-use Prim.Native.Nat.{ℕ, zero, suc, _+_, _≤_}
+use Prim.Native.Nat.{ℕ, zero, suc, _≤_}
 use native.Mathlib.Omega.{arith}
-use lib.Dec.{ltb, eqb}
+use lib.Dec.{ltb}
 use lib.ListN.{length, length-append}
-use Rattle.model.specs.Lists.{all, first-no, concat}
+use Rattle.model.specs.Lists.{all, first-no, concat, Check}
 use Rattle.model.specs.Values.{Block, all-rack}
 use Rattle.model.specs.Sound.{Sound, mesh-checks}
 use Rattle.model.specs.Image.{image, block-in}
@@ -14,8 +14,7 @@ use Rattle.model.specs.Balance as balance
 use Rattle.model.specs.Balance.{Oracle, oracle-right, positive-surplus, Move, move, NextMove, next-of}
 use Rattle.model.specs.Calls.{Answer, served, refused, Result, memories, whole-mesh-checks, next-move}
 use Rattle.model.specs.Runs as runs
-use Rattle.model.specs.Runs.{Request, finished, memory-at, last-steps, sent-messages, whole-map}
-use Rattle.model.specs.Demands.{outbox-bytes}
+use Rattle.model.specs.Runs.{Request, finished, memory-at, last-steps, sent-messages}
 use Rattle.laws.proofs.Tests.{by-cases, yes-then, no-here, no-more, first-no-append}
 use Rattle.theory.proofs.CallLaws.{served-gives, refused-gives}
 use Rattle.theory.proofs.MeshLaws.{mesh-parts, memories-are, images-pass, sound-passes}
@@ -44,7 +43,10 @@ module _ (bs : List Block) (sound : Sound all-rack bs) where
   memories-lent = let r = images-pass all-rack rack-fits bs (mesh-parts all-rack bs sound .blocks-sound) in memories-are (map image bs) (r .2)
 
   nothing-left : left-over lent ≡ []
-  nothing-left = empty (left-over lent) (let e = ap length (sym (ap (λ (x : List (List ℕ)). concat x ++ left-over lent) memories-lent) ∙ whole-again lent) in let f = length-append lent (left-over lent) in omega (arith, e, f))
+  nothing-left =
+      let e = ap length (sym (ap (λ (x : List (List ℕ)). concat x ++ left-over lent) memories-lent) ∙ whole-again lent) in
+      let f = length-append lent (left-over lent) in
+      empty (left-over lent) (omega (arith, e, f))
     where
       empty : (l : List ℕ) → length l ≡ 0 → l ≡ []
       empty [] e = refl
@@ -55,33 +57,47 @@ module _ (bs : List Block) (sound : Sound all-rack bs) where
 
   -- THE NEXT MOVE is asked for, and refused by 28 alone
   module _ (o : Oracle) (scratch outbox : List ℕ) (L : Lent scratch outbox) where
-    mesh-asked : first-no (whole-mesh-checks all-rack lent scratch) ≡ 0
+    abbrev asks : List Check
+    asks = whole-mesh-checks all-rack lent scratch
+
+    abbrev given : Answer NextMove
+    given = next-move all-rack lent o scratch .answer
+
+    mesh-asked : first-no asks ≡ 0
     mesh-asked = sound-passes all-rack rack-fits bs scratch sound (L .entries) (L .zeros)
 
-    positive : all (λ q. ltb 0 (q .0)) (whole-mesh-checks all-rack lent scratch) ≡ true
+    positive : all (λ q. ltb 0 (q .0)) asks ≡ true
     unfolding whole-mesh-checks mesh-checks
     positive = refl
 
-    asked-right : oracle-right o ≡ true → next-move all-rack lent o scratch .answer ≡ served (next-of all-rack o bs)
+    oracle-asked : first-no (asks ++ (28, oracle-right o) ∷ []) ≡ first-no ((28, oracle-right o) ∷ [])
+    oracle-asked = first-no-append asks _ mesh-asked positive
+
+    asked-right : oracle-right o ≡ true → given ≡ served (next-of all-rack o bs)
     unfolding next-move
     asked-right t = ap (λ (r : Result NextMove). r .answer)
-        (served-gives (whole-mesh-checks all-rack lent scratch ++ (28, oracle-right o) ∷ []) scratch (next-of all-rack o (map block-in (memories lent))) scratch
-        (first-no-append (whole-mesh-checks all-rack lent scratch) _ mesh-asked positive ∙ yes-then 28 (oracle-right o) [] t ∙ no-more))
+        (served-gives (asks ++ (28, oracle-right o) ∷ []) scratch (next-of all-rack o (map block-in (memories lent))) scratch (oracle-asked ∙ yes-then 28 (oracle-right o) [] t ∙ no-more))
         ∙ ap (λ (l : List Block). served (next-of all-rack o l)) (mesh-read all-rack rack-fits bs sound)
 
-    asked-wrong : oracle-right o ≡ false → next-move all-rack lent o scratch .answer ≡ refused 28
+    asked-wrong : oracle-right o ≡ false → given ≡ refused 28
     unfolding next-move
     asked-wrong t =
-        let n : first-no (whole-mesh-checks all-rack lent scratch ++ (28, oracle-right o) ∷ []) ≡ 28 = first-no-append (whole-mesh-checks all-rack lent scratch) _ mesh-asked positive ∙ no-here 28 (oracle-right o) [] t in
+        let n = oracle-asked ∙ no-here 28 (oracle-right o) [] t in
         ap (λ (r : Result NextMove). r .answer)
-        (refused-gives (whole-mesh-checks all-rack lent scratch ++ (28, oracle-right o) ∷ []) scratch (next-of all-rack o (map block-in (memories lent))) scratch (λ z. let q = sym n ∙ z in omega (arith, q)))
+        (refused-gives (asks ++ (28, oracle-right o) ∷ []) scratch (next-of all-rack o (map block-in (memories lent))) scratch (λ z. let q = sym n ∙ z in omega (arith, q)))
         ∙ ap refused n
 
     -- NO MOVE: balancing ends there
     abbrev here : Stop → Run
     here e = stopped e lent outbox
 
-    stays : (e : Stop) → ends-well o e ≡ true → e ≡ stop-by (next-move all-rack lent o scratch .answer) → Levels bs o scratch outbox (here e)
+    abbrev Stops : step.End → Stop → Type 0
+    Stops e s = (m l : List ℕ) (r : Run) → after-step e m l r ≡ stopped s m l
+
+    abbrev Ends : ℕ → Type 0
+    Ends n = Levels bs o scratch outbox (balanced n lent o scratch outbox)
+
+    stays : (e : Stop) → ends-well o e ≡ true → e ≡ stop-by given → Levels bs o scratch outbox (here e)
     unfolding list.run
     stays e w l = record {
       ends = w;
@@ -96,24 +112,35 @@ module _ (bs : List Block) (sound : Sound all-rack bs) where
     }
 
     -- a step that moves nothing is the last
-    still-here : (n : ℕ) (e : step.End) (s : Stop) → turn lent o scratch outbox ≡ still lent outbox e → ((m l : List ℕ) (r : Run) → after-step e m l r ≡ stopped s m l) → balanced (suc n) lent o scratch outbox ≡ here s
+    still-here : (n : ℕ) (e : step.End) (s : Stop) → turn lent o scratch outbox ≡ still lent outbox e → Stops e s → balanced (suc n) lent o scratch outbox ≡ here s
     unfolding balanced
     still-here n e s t ends =
         ap (λ (T : Turn). after-step (T .ending) (with-memories lent (T .memories)) (T .outbox) (balanced n (with-memories lent (T .memories)) o scratch (T .outbox))) t
         ∙ ends (with-memories lent (memories lent)) outbox _ ∙ ap (λ (m : List ℕ). stopped s m outbox) (whole-again lent)
 
-    turned : (a : Answer NextMove) → next-move all-rack lent o scratch .answer ≡ a → turn lent o scratch outbox ≡ turn-by lent outbox a
+    turned : (a : Answer NextMove) → given ≡ a → turn lent o scratch outbox ≡ turn-by lent outbox a
     unfolding turn
     turned a e = ap (turn-by lent outbox) e
 
-    none-left : (n : ℕ) (a : Answer NextMove) (e : step.End) (s : Stop) → next-move all-rack lent o scratch .answer ≡ a → turn-by lent outbox a ≡ still lent outbox e
-        → ((m l : List ℕ) (r : Run) → after-step e m l r ≡ stopped s m l) → stop-by a ≡ s → ends-well o s ≡ true → Levels bs o scratch outbox (balanced n lent o scratch outbox)
+    none-left : (n : ℕ) (a : Answer NextMove) (e : step.End) (s : Stop) → given ≡ a → turn-by lent outbox a ≡ still lent outbox e
+        → Stops e s → stop-by a ≡ s → ends-well o s ≡ true → Ends n
     unfolding balanced
     none-left zero a e s q t ends stops w = subst (λ (x : Stop). Levels bs o scratch outbox (here x)) (sym stops ∙ ap stop-by (sym q)) (stays s w (sym stops ∙ ap stop-by (sym q)))
     none-left (suc n) a e s q t ends stops w = rw (still-here n e s (turned a q ∙ t) ends) (stays s w (sym stops ∙ ap stop-by (sym q)))
 
+    -- BY CASES of the answer, where a move is taken care of
+    by-answer : (n : ℕ) → oracle-right o ≡ true → ((t : Move) → given ≡ served (move t) → Ends n) → (a : NextMove) → given ≡ served a → Ends n
+    by-answer n right moving balance.level q = none-left n (served balance.level) step.level level q refl (λ m l r. refl) refl right
+    by-answer n right moving balance.blocked q = none-left n (served balance.blocked) step.blocked blocked q refl (λ m l r. refl) refl right
+    by-answer n right moving (balance.move t) q = moving t q
+
+    by-oracle : (n : ℕ) → ((t : Move) → given ≡ served (move t) → Ends n) → Ends n
+    by-oracle n moving = by-cases (oracle-right o)
+        (λ right. by-answer n right moving (next-of all-rack o bs) (asked-right right))
+        (λ wrong. none-left n (refused 28) (step.refused-by 28) (refused-by 28) (asked-wrong wrong) refl (λ m l r. refl) refl (rw wrong))
+
     -- A MOVE: it is carried out, and the rest is balanced
-    module _ (t : Move) (q : next-move all-rack lent o scratch .answer ≡ served (move t)) where
+    module _ (t : Move) (q : given ≡ served (move t)) where
       abbrev r : Request
       r = as-request t
 
@@ -173,37 +200,17 @@ module _ (bs : List Block) (sound : Sound all-rack bs) where
             memories-again = ap (λ (x : list.Run). x .memories) again ∙ w .memories-again;
           }
 
+      moved-well : (n : ℕ) → Levels next o scratch next-outbox (balanced n (concat (map image next)) o scratch next-outbox) → Ends (suc n)
+      moved-well n w = rw (moves-on n) (one-more (balanced n (concat (map image next)) o scratch next-outbox) w)
+
 -- ANY SOUND MESH, by the room that there is
-abbrev At : ℕ → Type 0
-At n = (bs : List Block) (o : Oracle) (scratch outbox : List ℕ) → Sound all-rack bs → Lent scratch outbox → positive-surplus o bs ≤ n
-    → Levels bs o scratch outbox (balanced n (concat (map image bs)) o scratch outbox)
-
 pub ends-well-at : EndsWell
-ends-well-at n = by-room n
-  where
-    moving : (n : ℕ) → At n → (bs : List Block) (o : Oracle) (scratch outbox : List ℕ) (sound : Sound all-rack bs) (L : Lent scratch outbox) → positive-surplus o bs ≤ suc n
-        → (t : Move) → next-move all-rack (concat (map image bs)) o scratch .answer ≡ served (move t) → Levels bs o scratch outbox (balanced (suc n) (concat (map image bs)) o scratch outbox)
-    moving n ih bs o scratch outbox sound L few t q =
-        let d = balanced n (concat (map image (next bs sound o scratch outbox L t q))) o scratch (next-outbox bs sound o scratch outbox L t q) in
-        let l = lower bs sound o scratch outbox L t q in
-        rw (moves-on bs sound o scratch outbox L t q n)
-        (one-more bs sound o scratch outbox L t q d
-        (ih (next bs sound o scratch outbox L t q) o scratch (next-outbox bs sound o scratch outbox L t q) (agreed bs sound o scratch outbox L t q .matches .sound) (next-lent bs sound o scratch outbox L t q) (omega (arith, l, few))))
-
-    cases : (n : ℕ) (bs : List Block) (o : Oracle) (scratch outbox : List ℕ) (sound : Sound all-rack bs) (L : Lent scratch outbox) → oracle-right o ≡ true
-        → ((t : Move) → next-move all-rack (concat (map image bs)) o scratch .answer ≡ served (move t) → Levels bs o scratch outbox (balanced n (concat (map image bs)) o scratch outbox))
-        → (a : NextMove) → next-move all-rack (concat (map image bs)) o scratch .answer ≡ served a → Levels bs o scratch outbox (balanced n (concat (map image bs)) o scratch outbox)
-    cases n bs o scratch outbox sound L right moves balance.level q = none-left bs sound o scratch outbox L n (served balance.level) step.level level q refl (λ m l r. refl) refl right
-    cases n bs o scratch outbox sound L right moves balance.blocked q = none-left bs sound o scratch outbox L n (served balance.blocked) step.blocked blocked q refl (λ m l r. refl) refl right
-    cases n bs o scratch outbox sound L right moves (balance.move t) q = moves t q
-
-    any-oracle : (n : ℕ) (bs : List Block) (o : Oracle) (scratch outbox : List ℕ) (sound : Sound all-rack bs) (L : Lent scratch outbox)
-        → ((t : Move) → next-move all-rack (concat (map image bs)) o scratch .answer ≡ served (move t) → Levels bs o scratch outbox (balanced n (concat (map image bs)) o scratch outbox))
-        → Levels bs o scratch outbox (balanced n (concat (map image bs)) o scratch outbox)
-    any-oracle n bs o scratch outbox sound L moves = by-cases (oracle-right o)
-        (λ right. cases n bs o scratch outbox sound L right moves (next-of all-rack o bs) (asked-right bs sound o scratch outbox L right))
-        (λ wrong. none-left bs sound o scratch outbox L n (refused 28) (step.refused-by 28) (refused-by 28) (asked-wrong bs sound o scratch outbox L wrong) refl (λ m l r. refl) refl (rw wrong))
-
-    by-room : (n : ℕ) → At n
-    by-room zero bs o scratch outbox sound L few = any-oracle zero bs o scratch outbox sound L (λ t q. let l = lower bs sound o scratch outbox L t q in absurd (omega (arith, l, few)))
-    by-room (suc n) bs o scratch outbox sound L few = any-oracle (suc n) bs o scratch outbox sound L (moving n (by-room n) bs o scratch outbox sound L few)
+ends-well-at zero bs o scratch outbox sound L few = by-oracle bs sound o scratch outbox L zero
+    (λ t q. let l = lower bs sound o scratch outbox L t q in absurd (omega (arith, l, few)))
+ends-well-at (suc n) bs o scratch outbox sound L few = by-oracle bs sound o scratch outbox L (suc n)
+    (λ t q.
+    let l = lower bs sound o scratch outbox L t q in
+    let bs′ = next bs sound o scratch outbox L t q in
+    let sound′ = agreed bs sound o scratch outbox L t q .matches .sound in
+    let L′ = next-lent bs sound o scratch outbox L t q in
+    moved-well bs sound o scratch outbox L t q n (ends-well-at n bs′ o scratch _ sound′ L′ (omega (arith, l, few))))

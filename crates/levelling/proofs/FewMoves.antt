@@ -4,7 +4,7 @@ use mathlib.Core.Path.{_≡_, refl, sym, _∙_, ap, subst}
 use mathlib.Core.Logic.{⊎-elim}
 use mathlib.Core.Bool.{Bool, true, false}
 use mathlib.Core.List.{List, [], _∷_, _++_, map}
-use Prim.Native.Nat.{ℕ, zero, suc, _+_, _*_, _≤_, _<_}
+use Prim.Native.Nat.{ℕ, zero, suc, _*_, _≤_, _<_}
 use native.Mathlib.Omega.{arith}
 use lib.Dec.{leb}
 use lib.ListN.{length, length-append, length-map}
@@ -13,7 +13,6 @@ use borrow.Author.Tests.{leb-true}
 use Rattle.model.specs.Lists.{all, keep, tab, sum, mem, distinct}
 use Rattle.model.specs.Values.{Label, Dart, Block, all-rack}
 use Rattle.model.specs.Cells.{dart-at, volume-in, volume-starts}
-use Rattle.model.specs.Sound.{Sound}
 use Rattle.model.specs.Balance.{Oracle, picks, picked, counts, mean, surpluses, positive-part, positive-surplus}
 use Rattle.model.specs.Runs.{State, op, start, cell}
 use Rattle.laws.proofs.Members.{In, all-in, keep-in, keep-le, append-in, keep-ascending, ascending-distinct, distinct-append, distinct-fewer, distinct-map, map-in}
@@ -78,7 +77,10 @@ module _ (k : ℕ) (u : State) (label : ℕ → Label) (I : Inv all-rack k u lab
   both-inside : (y : ℕ) → In y (starts ++ map (op u) starts) → In y (members u b)
   both-inside y h = ⊎-elim
       (λ (g : In y starts). keep-in is-start (members u b) y g .0)
-      (λ (g : In y (map (op u) starts)). let w = map-in (op u) starts y g in subst (λ (z : ℕ). In z (members u b)) (sym (w .2)) (mine-member u b (op u (w .0)) (opposite-mine u M b (w .0) (mine (w .0) (w .1)))))
+      (λ (g : In y (map (op u) starts)).
+      let w = map-in (op u) starts y g in
+      let m = opposite-mine u M b (w .0) (mine (w .0) (w .1)) in
+      subst (λ (z : ℕ). In z (members u b)) (sym (w .2)) (mine-member u b (op u (w .0)) m))
       (append-in y starts (map (op u) starts) h)
 
   few-starts : length starts ≤ 2048

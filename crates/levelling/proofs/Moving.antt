@@ -3,7 +3,6 @@ use mathlib.Core.Path.{_≡_, refl, sym, _∙_, ap, subst}
 use mathlib.Core.List.{List, [], _∷_, _++_, append-assoc, append-nil}
 use Prim.Native.Nat.{ℕ, zero, suc, _+_, _*_, _/_, _≤_, _<_}
 use native.Mathlib.Omega.{arith}
-use native.Mathlib.Numerals.{add-one}
 use lib.Dec.{eqb}
 use lib.ListN.{length, set, take, drop, length-append, length-set, take-append-drop}
 use lib.Seq.{take-add}
@@ -20,8 +19,8 @@ use Rattle.answers.specs.declared.NextMove as answers-move
 use Rattle.rounds.specs.Played.{left-over, asks-for}
 use Rattle.rounds.specs.Requests.{over}
 use Rattle.rounds.proofs.Requests.{over-more, outbox-length}
-use Rattle.levelling.specs.Turn.{End, ending-of, a-move, turn, turn-by, round-turn, Levelled}
-use Rattle.levelling.specs.Balanced.{Stop, Run, stopped, moved-first, with-memories, stop-by, after-step, balanced, numbers-of, with-move, stop-of, count-of, Asked, Ensured, Balances}
+use Rattle.levelling.specs.Turn.{ending-of, a-move, turn, turn-by, round-turn, Levelled}
+use Rattle.levelling.specs.Balanced.{Stop, Run, stopped, moved-first, with-memories, stop-by, after-step, balanced, numbers-of, with-move, stop-of, count-of, Asked, Balances}
 use Rattle.levelling.specs.declared.Ending.{Ending}
 use Rattle.levelling.specs.declared.Ending.the-variants as ending
 use Rattle.levelling.specs.declared.moves.Balanced.{Balanced}

@@ -1,20 +1,19 @@
 -- THE PROMISE about `levelling::balance`: what it ensures, on a sound mesh. Assumes nothing.
 use mathlib.Core.Path.{_≡_, refl, sym, _∙_, ap, subst}
 use mathlib.Core.List.{List, [], _∷_, _++_, map}
-use Prim.Native.Nat.{ℕ, suc, _+_, _*_, _/_, _<_}
+use Prim.Native.Nat.{ℕ, suc, _+_, _*_, _/_}
 use native.Mathlib.Omega.{arith}
 use lib.ListN.{length, getD, take}
 use Rattle.model.specs.Lists.{tab}
-use Rattle.model.specs.Values.{Block}
 use Rattle.model.specs.Image.{image}
-use Rattle.model.specs.Balance.{Oracle, positive-surplus, Move}
+use Rattle.model.specs.Balance.{positive-surplus, Move}
 use Rattle.model.specs.Runs.{Request}
 use Rattle.laws.proofs.Tables.{tab-cong}
 use Rattle.rounds.specs.Played.{asks-for}
 use Rattle.rounds.specs.Requests as list
-use Rattle.rounds.specs.Requests.{request-at, requests-in, over}
-use Rattle.levelling.specs.Balanced.{Stop, Run, balanced, numbers-of, stop-of, count-of}
-use Rattle.levelling.specs.Promise.{ends-well, as-request, Levels, Kept, Promise}
+use Rattle.rounds.specs.Requests.{request-at, requests-in}
+use Rattle.levelling.specs.Balanced.{balanced, numbers-of, count-of}
+use Rattle.levelling.specs.Promise.{ends-well, as-request, Levels, Promise}
 use Rattle.levelling.proofs.EndsWell.{ends-well-at}
 
 -- MOVES THAT ARE WRITTEN are read again as requests
@@ -43,7 +42,9 @@ read-again (t ∷ ts) l = ap (take (suc (length ts))) (one-first (t .donor) (t .
 pub promise : Promise
 promise bs o m scratch outbox moves b m′ scratch′ outbox′ moves′ sound lent L few p =
     let r = balanced (length moves / 3) m o scratch outbox in
-    let w : Levels bs o scratch outbox r = subst (λ (x : List ℕ). Levels bs o scratch outbox (balanced (length moves / 3) x o scratch outbox)) (sym lent) (ends-well-at (length moves / 3) bs o scratch outbox sound L few) in
+    let w : Levels bs o scratch outbox r =
+    subst (λ (x : List ℕ). Levels bs o scratch outbox (balanced (length moves / 3) x o scratch outbox)) (sym lent)
+    (ends-well-at (length moves / 3) bs o scratch outbox sound L few) in
     let written : take (count-of b) (requests-in moves′) ≡ map as-request (r .moves) =
     ap (λ (n : ℕ). take n (requests-in moves′)) (p .count-is) ∙ ap (λ (l : List ℕ). take (length (r .moves)) (requests-in l)) (p .moves-are) ∙ read-again (r .moves) _ in
     record {

@@ -10,8 +10,8 @@ use answers::NextMove;
 use answers::Refusal;
 use oracle::Oracle;
 
-// How balancing ends, and how many moves were carried out: nobody to give or to take, no volume that may go, another move and no room for
-// it, a round that was taken and yet not finished, or a no of the next move or of its round.
+// How balancing ends, and how many moves were carried out: nobody to give or to take, no volume that may go, another move and no
+// room for it, a round that was taken and yet not finished, or a no of the next move or of its round.
 pub enum Balanced {
     Level(usize),
     Blocked(usize),
@@ -49,8 +49,8 @@ fn ask(mesh: &[u64], o: Oracle, scratch: &mut [u64], n: usize) -> Balanced
     }
 }
 
-// Moves until there is none, at most as many as `moves` has room for; each is written there as a request, and what stands behind the last
-// one stays. With no room left the next move is asked for all the same: a mesh that has none is not full.
+// Moves until there is none, at most as many as `moves` has room for; each is written there as a request, and what stands behind the
+// last one stays. With no room left the next move is asked for all the same: a mesh that has none is not full.
 pub fn balance(
     mesh: &mut [u64],
     o: Oracle,

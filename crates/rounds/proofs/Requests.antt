@@ -2,7 +2,7 @@
 use mathlib.Core.Path.{_≡_, refl, sym, _∙_, ap}
 use mathlib.Core.Bool.{Bool, true}
 use mathlib.Core.List.{List, [], _∷_, _++_, map, append-assoc}
-use Prim.Native.Nat.{ℕ, suc, _+_, _*_, _/_, _≤_, _<_}
+use Prim.Native.Nat.{ℕ, suc, _+_, _/_, _≤_, _<_}
 use native.Mathlib.Omega.{arith}
 use native.Mathlib.Numerals.{add-one}
 use lib.Dec.{leb, ltb, eqb}
@@ -48,7 +48,8 @@ outbox-length ms r outbox = writing-length _ outbox _ refl
 -- a run, and one request more
 abbrev then-one : Run → Request → Run
 then-one d r =
-    record { outcomes = d .outcomes ++ round-in-order (d .memories) r (d .outbox) .outcome ∷ []; memories = round-in-order (d .memories) r (d .outbox) .memories; outbox = outbox-after (d .memories) r (d .outbox) }
+    let last = round-in-order (d .memories) r (d .outbox) in
+    record { outcomes = d .outcomes ++ last .outcome ∷ []; memories = last .memories; outbox = outbox-after (d .memories) r (d .outbox) }
 
 pub run-more : (ms : List (List ℕ)) (outbox : List ℕ) (rs : List Request) (r : Request) → run ms outbox (rs ++ r ∷ []) ≡ then-one (run ms outbox rs) r
 unfolding run
@@ -84,8 +85,15 @@ next-request l i h = rw add-one (
     ∙ ap (λ (r : Request). take i (requests-in l) ++ r ∷ []) (getD-tab (request-at l) (length l / 3) i no-request h))
 
 -- a round, and the number of its outcome
-pub one-played : {m outbox m′ outbox′ : List ℕ} {from to serial n : ℕ} {o : Outcome} → n ≡ outcome-number (outcome-of o) → Played m from to serial outbox o m′ outbox′ → PlayedOne m (asks-for from to serial) outbox n m′ outbox′
-one-played e p = record { number-is = e ∙ ap outcome-number (p .outcome-is); memories-are = p .memories-are; size = p .size; left = p .left; outbox-is = p .outbox-is }
+pub one-played : {m outbox m′ outbox′ : List ℕ} {from to serial n : ℕ} {o : Outcome} → n ≡ outcome-number (outcome-of o)
+    → Played m from to serial outbox o m′ outbox′ → PlayedOne m (asks-for from to serial) outbox n m′ outbox′
+one-played e p = record {
+  number-is = e ∙ ap outcome-number (p .outcome-is);
+  memories-are = p .memories-are;
+  size = p .size;
+  left = p .left;
+  outbox-is = p .outbox-is;
+}
 
 -- THE LOOP: the requests before i are played
 pub record Playing (m requests outcomes outbox : List ℕ) (i : ℕ) (m′ outcomes′ outbox′ : List ℕ) : Type 0 where
@@ -120,8 +128,9 @@ module _ {m requests outcomes outbox : List ℕ} {i : ℕ} {m′ outcomes′ out
       let q : round-in-order (memories m′) r outbox′ ≡ round-in-order (before .memories) r (before .outbox) = rw (here, out) in
       let lent : outbox-after (memories m′) r outbox′ ≡ outbox-after (before .memories) r (before .outbox) = rw (here, out) in
       let wide = w .room in
+      let sized = length-take-le i (requests-in requests) (omega (arith, requests-length requests, h)) in
       let many : length (map outcome-number (before .outcomes)) ≡ i =
-      length-map (before .outcomes) outcome-number ∙ run-length (memories m) outbox (take i (requests-in requests)) ∙ length-take-le i (requests-in requests) (omega (arith, requests-length requests, h)) in
+      length-map (before .outcomes) outcome-number ∙ run-length (memories m) outbox (take i (requests-in requests)) ∙ sized in
       record {
         asked = omega (arith, h);
         within = omega (arith, k, wide);

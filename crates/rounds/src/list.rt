@@ -38,8 +38,8 @@ fn play_at(mesh: &mut [u64], requests: &[u64], i: usize, outbox: &mut [u8]) -> u
     outcome_number(crate::play(mesh, from, to, serial, outbox))
 }
 
-// The requests in order, as many as there is room for outcomes; each is played, whatever became of those before it. The number of each
-// outcome goes to the request's place among the outcomes; the others stay.
+// The requests in order, as many as there is room for outcomes; each is played, whatever became of those before it. The number of
+// each outcome goes to the request's place among the outcomes; the others stay.
 pub fn play_all(mesh: &mut [u64], requests: &[u64], outcomes: &mut [u64], outbox: &mut [u8])
     ensures { λ r. ⌜ PlayedAll (now (mesh .entry)) (now (requests .entry)) (now (outcomes .entry)) (now (outbox .entry)) (now (mesh .exit)) (now (outcomes .exit)) (now (outbox .exit)) ⌝ }
 {

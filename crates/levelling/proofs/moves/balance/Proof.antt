@@ -5,7 +5,6 @@ use Prim.Native.Nat.{_-_, _/_}
 use lib.ListN.{length}
 use Rattle.oracle.specs.Oracle.{oracle-of}
 use Rattle.levelling.proofs.Moving.{Moving, none-moved, one-moved, last-step, last-asked}
-use native.Mathlib.Omega.{arith}
 use borrow.Author.Needs.{needs}
 use Rattle.levelling.proofs.moves.balance.Statement.{statement}
 use Rattle.levelling.proofs.moves.balance.Tie as tie

@@ -3,7 +3,6 @@
 use Prim.Native.Nat.{_-_}
 use lib.ListN.{length}
 use Rattle.rounds.proofs.Requests.{Playing, none-played, one-more, no-room, no-request-left}
-use native.Mathlib.Omega.{arith}
 use borrow.Author.Needs.{needs}
 use Rattle.rounds.proofs.list.play_all.Statement.{statement}
 use Rattle.rounds.proofs.list.play_all.Tie as tie
