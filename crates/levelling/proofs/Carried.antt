@@ -19,13 +19,8 @@ use Rattle.agreement.proofs.Agreement.{rack-fits}
 use Rattle.soundness.proofs.OutboxLength.{rack-outbox-suffices}
 use Rattle.balancing.proofs.Lowers.{request-of, rack-move-lowers}
 use Rattle.rounds.specs.Played.{round-in-order}
+use Rattle.rounds.proofs.Requests.{front-passes}
 use Rattle.levelling.specs.Turn.{ending-by, moved, turn, turn-by, round-turn}
-
--- questions that stand first
-front-passes : (ps qs : List Check) → first-no (ps ++ qs) ≡ 0 → first-no ps ≡ 0
-unfolding first-no
-front-passes [] qs e = refl
-front-passes (p ∷ ps) qs e = by-cases (p .1) (λ t. rw t (front-passes ps qs (rw t at e))) (λ t. rw t (rw t at e))
 
 -- a mesh of which next move was served is sound, and its memories are the images of its blocks
 module _ (m : List ℕ) (o : Oracle) (scratch : List ℕ) (t : Move) (e : next-move all-rack m o scratch .answer ≡ served (move t)) where

@@ -23,12 +23,13 @@ use Rattle.rounds.specs.Played.{asks-for, outcome-of, round-in-order, Pl
 use Rattle.rounds.specs.declared.Outcome.{Outcome}
 use Rattle.rounds.specs.Requests.{request-at, requests-in, outcome-number, outbox-after, Run, run, over, PlayedOne, Listed, PlayedAll}
 
--- THE OUTBOX keeps its length
-front-passes : (ps qs : List Check) → first-no (ps ++ qs) ≡ 0 → first-no ps ≡ 0
+-- questions that stand first
+pub front-passes : (ps qs : List Check) → first-no (ps ++ qs) ≡ 0 → first-no ps ≡ 0
 unfolding first-no
 front-passes [] qs e = refl
 front-passes (p ∷ ps) qs e = by-cases (p .1) (λ t. rw t (front-passes ps qs (rw t at e))) (λ t. rw t (rw t at e))
 
+-- THE OUTBOX keeps its length
 fifteen-yes : (qs : List Check) (b : Bool) → all (λ q. ltb 0 (q .0)) qs ≡ true → first-no (qs ++ (15, b) ∷ []) ≡ 0 → b ≡ true
 fifteen-yes qs b h e = yes-first 15 b [] (λ z. omega arith) (sym (first-no-append qs ((15, b) ∷ []) (front-passes qs _ e) h) ∙ e) .0
 
@@ -80,7 +81,7 @@ no-request = asks-for 0 0 0
 
 next-request : (l : List ℕ) (i : ℕ) → i < length l / 3 → take (i + 1) (requests-in l) ≡ take i (requests-in l) ++ request-at l i ∷ []
 unfolding requests-in
-next-request l i h = rw add-one (
+next-request l i h = rw (add-one i) (
     take-suc (requests-in l) i no-request (rw (requests-length l) h)
     ∙ ap (λ (r : Request). take i (requests-in l) ++ r ∷ []) (getD-tab (request-at l) (length l / 3) i no-request h))
 
