@@ -2,7 +2,7 @@
 use mathlib.Core.Path.{_≡_, refl, sym, _∙_, ap}
 use mathlib.Core.Logic.{_≢_, ⊎-elim}
 use mathlib.Core.Bool.{Bool, true, false, true≢false, _&&_}
-use mathlib.Core.List.{List, [], _∷_, _++_, map}
+use mathlib.Core.List.{List, [], map}
 use Prim.Native.Nat.{ℕ, _≤_, _<_}
 use native.Mathlib.Omega.{arith}
 use lib.Dec.{leb, ltb, eqb}
@@ -64,10 +64,6 @@ module _ (k : ℕ) (u : State) (label : ℕ → Label) (I : Inv all-rack k u lab
   abbrev six : List Check
   six = first-six all-rack u r
 
-  checks-are : outside-checks k u r ≡ (1, ltb i k) ∷ (9, leb j 15) ∷ (six ++ (1, false) ∷ [])
-  unfolding outside-checks request-checks
-  checks-are = refl
-
   how-many : length ms ≡ k
   how-many = length-map (mesh-by k u label) image ∙ length-tab (block-by u label) k
 
@@ -82,10 +78,12 @@ module _ (k : ℕ) (u : State) (label : ℕ → Label) (I : Inv all-rack k u lab
   unfolding done called
   sends-nothing h = ap (λ (m : List ℕ). number-of (send rack m j s outbox .answer)) (no-memory i h) ∙ nobody-sends j s outbox
 
+  number-from : k ≤ i → first-no (outside-checks k u r) ≡ 1
+  unfolding outside-checks
+  number-from h = no-here 1 (ltb i k) _ (le-ltb i k h)
+
   from-outside : k ≤ i → Refused (first-no (outside-checks k u r))
-  from-outside h =
-      let n : first-no (outside-checks k u r) ≡ 1 = ap first-no checks-are ∙ no-here 1 (ltb i k) _ (le-ltb i k h) in
-      unsent ms r outbox order (first-no (outside-checks k u r)) (sends-nothing h ∙ sym n) (λ z. let e = sym n ∙ z in omega (arith, e))
+  from-outside h = rw (number-from h) (unsent ms r outbox order 1 (sends-nothing h) (λ z. omega (arith, z)))
 
   -- NOBODY TO RECEIVE
   module _ (below : i < k) (beyond : k ≤ j) where
@@ -163,27 +161,25 @@ module _ (k : ℕ) (u : State) (label : ℕ → Label) (I : Inv all-rack k u lab
         untaken ms r outbox order (sent-there enough e) _ (receives-nothing (messages-in (sent ms r outbox order .sent))) (λ z. let q : _≡_ {A = ℕ} 1 0 = z in omega arith)
         ∙ ap (λ (x : List (List ℕ)). record { outcome = refused-by 1; memories = x }) (set-out ms j [] (let n = how-many in omega (arith, n, beyond)))
 
-    -- the number
-    asked-from : first-no (outside-checks k u r) ≡ first-no ((9, leb j 15) ∷ (six ++ (1, false) ∷ []))
-    asked-from = ap first-no checks-are ∙ yes-then 1 (ltb i k) _ (lt-ltb i k below)
+    -- the number: the destination's, the request's own, or that nobody is there
+    number-far : leb j 15 ≡ false → first-no (outside-checks k u r) ≡ 9
+    unfolding outside-checks
+    number-far t = yes-then 1 (ltb i k) _ (lt-ltb i k below) ∙ no-here 9 _ _ t
 
-    asked-near : leb j 15 ≡ true → first-no (outside-checks k u r) ≡ first-no (six ++ (1, false) ∷ [])
-    asked-near t = asked-from ∙ yes-then 9 (leb j 15) _ t
+    number-own : leb j 15 ≡ true → first-no six ≢ 0 → first-no (outside-checks k u r) ≡ first-no six
+    unfolding outside-checks request-checks
+    number-own t h = yes-then 1 (ltb i k) _ (lt-ltb i k below) ∙ yes-then 9 _ _ t ∙ first-no-stays six _ h
+
+    number-none : leb j 15 ≡ true → first-no six ≡ 0 → first-no (outside-checks k u r) ≡ 1
+    unfolding outside-checks request-checks
+    number-none t z = yes-then 1 (ltb i k) _ (lt-ltb i k below) ∙ yes-then 9 _ _ t ∙ first-no-append six _ z refl ∙ no-here _ false [] refl
 
     to-outside : Enough all-rack ms r outbox → Refused (first-no (outside-checks k u r))
     to-outside enough = by-cases (leb j 15)
         (λ t. by-cases (eqb (first-no six) 0)
-        (λ e.
-        let z = eqb-true (first-no six) 0 e in
-        let n : first-no (outside-checks k u r) ≡ 1 = asked-near t ∙ first-no-append six _ z refl ∙ no-here 1 false [] refl in
-        rw n (refused-there enough (same-six t ∙ z)))
-        (λ e.
-        let h = eqb-false (first-no six) 0 e in
-        let n : first-no (outside-checks k u r) ≡ first-no six = asked-near t ∙ first-no-stays six _ h in
-        rw n (refused-here (first-no six) (same-six t) h)))
-        (λ t.
-        let n : first-no (outside-checks k u r) ≡ 9 = asked-from ∙ no-here 9 (leb j 15) _ t in
-        rw n (refused-here 9 (too-far t) (λ z. omega (arith, z))))
+        (λ e. let z = eqb-true (first-no six) 0 e in rw (number-none t z) (refused-there enough (same-six t ∙ z)))
+        (λ e. let h = eqb-false (first-no six) 0 e in rw (number-own t h) (refused-here (first-no six) (same-six t) h)))
+        (λ t. rw (number-far t) (refused-here 9 (too-far t) (λ z. omega (arith, z))))
 
   -- ANY REQUEST that names a block outside
   pub refused-outside : (ltb i k && ltb j k) ≡ false → Enough all-rack ms r outbox → Refused (first-no (outside-checks k u r))
