@@ -1,0 +1,6 @@
+pub mod Plans
+pub mod Commits
+pub mod Contents
+pub mod Entering
+pub mod Committing
+pub mod Prepares

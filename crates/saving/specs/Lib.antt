@@ -1,0 +1,4 @@
+pub mod Plan
+pub mod Commit
+pub mod Looks
+pub mod Prepare
