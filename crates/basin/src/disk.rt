@@ -283,7 +283,7 @@ fn new_files() -> [bool; 17] {
 fn mend_steps(k: usize, there: &[bool]) -> bool {
     let mut nothing = [0u8; 1];
     let mut i = 0;
-    while i < 20 {
+    while i < plan::MEND_STEPS {
         let e = carry_out(plan::mend(k, there, i), &[], &mut nothing);
         if e != 0 {
             say::failed(b"cannot finish a save in", b"this folder", e);
@@ -362,7 +362,7 @@ pub fn mend() -> bool {
 fn save_mesh(mesh: &[u64], room: &mut [u8]) -> bool {
     let k = mesh.len() / 32776;
     let mut i = 0;
-    while i < 39 {
+    while i < plan::SAVE_STEPS {
         let e = carry_out(plan::save(k, i), mesh, room);
         if e != 0 {
             say::failed(b"cannot save the blocks in", b"this folder", e);

@@ -20,7 +20,7 @@ use Rattle.saving.specs.declared.prepare.Known.{Known}
 use Rattle.saving.specs.declared.prepare.Known.the-variants as known-variants
 use Rattle.saving.specs.Commit.{entry-of, entry-bytes, commit-of}
 use Rattle.saving.specs.Prepare.{savable, file-of, known, Entered}
-use Rattle.saving.proofs.Commits.{entry-length}
+use Rattle.saving.proofs.Commits.{entry-length, pieces-length}
 use Rattle.saving.proofs.Contents.{Filed}
 
 -- ONE BLOCK'S ENTRY
@@ -49,10 +49,6 @@ known-not false f h = refl
 -- ALL ENTRIES
 abbrev entry-at : List ℕ → ℕ → List ℕ
 entry-at m b = entry-bytes (entry-of (file-of m b))
-
-pieces-length : (g : ℕ → List ℕ) (n : ℕ) → ((b : ℕ) → length (g b) ≡ 16) → length (pieces g n) ≡ 16 * n
-pieces-length g zero h = refl
-pieces-length g (suc n) h = let ih = pieces-length g n h in omega (arith, length-append (pieces g n) (g n), h n)
 
 entries-length : (m : List ℕ) (k : ℕ) → length (pieces (entry-at m) k) ≡ 16 * k
 entries-length m k = pieces-length (entry-at m) k (λ b. entry-length (entry-of (file-of m b)))

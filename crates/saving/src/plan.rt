@@ -2,7 +2,7 @@
 ghost use mathlib.Core.Path.{_≡_};
 ghost use mathlib.Core.Bool.{false};
 ghost use lib.ListN.{getD};
-ghost use Rattle.saving.specs.Plan.{save-step, placing-step, mend-step, tidied};
+ghost use Rattle.saving.specs.Plan.{save-step, writing-step, placing-step, mend-step, tidied};
 use desk::names::File;
 
 // Write a file; give it another name; take it away; have the disk keep the folder's names.
@@ -13,6 +13,11 @@ pub enum Step {
     Keep,
     Nothing,
 }
+
+// No save of at most sixteen blocks has more steps, and no mending.
+pub const SAVE_STEPS: usize = 40;
+
+pub const MEND_STEPS: usize = 21;
 
 // From the commit's name on: step j of the rest.
 fn placing(k: usize, j: usize) -> Step
@@ -34,9 +39,9 @@ fn placing(k: usize, j: usize) -> Step
     Step::Nothing
 }
 
-// Step i of a save of k blocks.
-pub fn save(k: usize, i: usize) -> Step
-    ensures { λ r. ⌜ r ≡ save-step k i ⌝ }
+// From the first new file on.
+fn writing(k: usize, i: usize) -> Step
+    ensures { λ r. ⌜ r ≡ writing-step k i ⌝ }
 {
     if i < k {
         return Step::Write(File::NewBlock(i));
@@ -55,6 +60,16 @@ pub fn save(k: usize, i: usize) -> Step
         return Step::Keep;
     }
     placing(k, j - 4)
+}
+
+// Step i of a save of k blocks.
+pub fn save(k: usize, i: usize) -> Step
+    ensures { λ r. ⌜ r ≡ save-step k i ⌝ }
+{
+    if i == 0 {
+        return Step::Keep;
+    }
+    writing(k, i - 1)
 }
 
 // Whether entry i says yes; past the end none does.
@@ -85,25 +100,29 @@ fn tidy(k: usize, there: &[bool], b: usize) -> Step
 pub fn mend(k: usize, there: &[bool], i: usize) -> Step
     ensures { λ r. ⌜ r ≡ mend-step k (now (there .entry)) i ⌝ }
 {
-    if i < 16 {
-        return tidy(k, there, i);
+    if i == 0 {
+        return Step::Keep;
     }
-    if i == 16 {
+    let b = i - 1;
+    if b < 16 {
+        return tidy(k, there, b);
+    }
+    if b == 16 {
         if says(there, 16) {
             return Step::Remove(File::NewCommit);
         }
         return Step::Nothing;
     }
-    if i == 17 {
+    if b == 17 {
         return Step::Keep;
     }
-    if i == 18 {
+    if b == 18 {
         if 0 < k {
             return Step::Remove(File::Commit);
         }
         return Step::Nothing;
     }
-    if i == 19 {
+    if b == 19 {
         return Step::Keep;
     }
     Step::Nothing

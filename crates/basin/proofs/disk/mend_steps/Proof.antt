@@ -8,11 +8,11 @@ use Rattle.basin.proofs.disk.mend_steps.Tie as tie
 
 abbrev Inv-loop : tie.InvT-loop
 Inv-loop k there nothing₀ i₀ t6 t7 t8 nothing i =
-    (length nothing ≡ length nothing₀) × (i ≤ 20)
+    (length nothing ≡ length nothing₀) × (i ≤ 21)
 
 abbrev μ-loop : tie.MeasureT-loop
 μ-loop k there nothing₀ i₀ t6 t7 t8 nothing i =
-    20 - i
+    21 - i
 
 loop-holds : tie.Need-loop-holds Inv-loop μ-loop
 loop-holds c = search needs

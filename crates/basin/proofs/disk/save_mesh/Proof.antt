@@ -8,11 +8,11 @@ use Rattle.basin.proofs.disk.save_mesh.Tie as tie
 
 abbrev Inv-loop : tie.InvT-loop
 Inv-loop mesh room₀ k i₀ t6 t7 room i =
-    (length room ≡ length room₀) × (i ≤ 39)
+    (length room ≡ length room₀) × (i ≤ 40)
 
 abbrev μ-loop : tie.MeasureT-loop
 μ-loop mesh room₀ k i₀ t6 t7 room i =
-    39 - i
+    40 - i
 
 loop-holds : tie.Need-loop-holds Inv-loop μ-loop
 loop-holds c = search needs

@@ -1,6 +1,6 @@
--- `saving::plan::save` meets its contract: each answer is the step of its number. Assumes nothing.
+-- `saving::plan::save` meets its contract. Assumes nothing.
 use mathlib.Core.Path.{_∙_}
-use Rattle.saving.proofs.Plans.{save-below, save-above, save-placing}
+use Rattle.saving.proofs.Plans.{save-first, save-later}
 use native.Mathlib.Omega.{arith}
 use borrow.Author.Needs.{needs}
 use Rattle.saving.proofs.plan.save.Statement.{statement}
@@ -8,47 +8,17 @@ use Rattle.saving.proofs.plan.save.Tie as tie
 
 returns : tie.Need-returns
 returns c =
-    save-below _ _ (c .if1 .taken)
+    save-first _ _ (c .if1 .taken)
+
+sub-writing : tie.Need-sub-writing
+sub-writing c = search needs
+
+writing-requires : tie.Need-writing-requires
+writing-requires c κs = search needs
 
 returns-2 : tie.Need-returns-2
 returns-2 c =
-    save-above _ _ 0 (c .before .if1 .left) (c .if2 .taken)
-
-returns-3 : tie.Need-returns-3
-returns-3 c =
-    let if1-left = (let p : tie.Else1 = search in p .if1 .left) in
-    save-above _ _ 1 if1-left (c .if3 .taken)
-
-returns-4 : tie.Need-returns-4
-returns-4 c =
-    let if1-left = (let p : tie.Else1 = search in p .if1 .left) in
-    save-above _ _ 2 if1-left (c .if4 .taken)
-
-returns-5 : tie.Need-returns-5
-returns-5 c =
-    let if1-left = (let p : tie.Else1 = search in p .if1 .left) in
-    save-above _ _ 3 if1-left (c .if5 .taken)
-
-sub-placing : tie.Need-sub-placing
-sub-placing c = search needs
-
-placing-requires : tie.Need-placing-requires
-placing-requires c κs = search needs
-
-returns-6 : tie.Need-returns-6
-returns-6 c =
-    let if1-left = (let p : tie.Else1 = search in p .if1 .left) in
-    c .placing .ensures ∙ save-placing _ _ _ if1-left (omega arith)
+    c .writing .ensures ∙ save-later _ _ (omega arith)
 
 pub save-spec : {M : Type 1} → statement M
-save-spec =
-    tie.close
-    (tie.spec
-    returns
-    returns-2
-    returns-3
-    returns-4
-    returns-5
-    sub-placing
-    placing-requires
-    returns-6)
+save-spec = tie.close (tie.spec returns sub-writing writing-requires returns-2)
