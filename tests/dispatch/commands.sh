@@ -77,7 +77,23 @@ run check
 echo '$ dispatch balance all, killed at its fifth call'
 stopping kill 5 balance all || ls
 run check
-echo '$ dispatch balance all, killed at its fifteenth call'
-stopping kill 15 balance all || ls
+echo '$ dispatch balance all, killed at its seventeenth call'
+stopping kill 17 balance all || ls
+run check
+ls
+
+# a committed save whose files were changed since, or whose commit was
+fresh eleven
+stopping kill 17 balance all >/dev/null || true
+cp block-02.dmap.new kept
+printf x >>block-02.dmap.new
+run check
+ls
+mv kept block-02.dmap.new
+cp basin.commit kept
+printf x >>basin.commit
+run check
+mv kept basin.commit
+rm block-00.dmap
 run check
 ls

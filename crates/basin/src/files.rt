@@ -95,12 +95,21 @@ pub fn remove(name: &[u8]) -> i32 {
     0
 }
 
-// Has the disk keep the names of this folder.
-pub fn keep_names() {
+// The same of a folder that is open.
+fn keep(fd: i32) -> i32 {
+    if libc::fsync(fd) != 0 {
+        return last_error();
+    }
+    0
+}
+
+// Has the disk keep the names of this folder; 0, or why not.
+pub fn keep_names() -> i32 {
     let fd = os::open_read(b".");
     if fd < 0 {
-        return;
+        return last_error();
     }
-    libc::fsync(fd);
+    let e = keep(fd);
     libc::close(fd);
+    e
 }
