@@ -1,13 +1,13 @@
 -- Decimal texts read piece by piece; a number from 10^15 on counts as 10^15, and is refused all the same. Assumes nothing.
 use mathlib.Core.Path.{_≡_, refl, sym, ap, _∙_}
-use mathlib.Core.Bool.{Bool, true, false, cond, _&&_, _||_}
+use mathlib.Core.Bool.{Bool, true, false, _||_}
 use mathlib.Core.List.{List, [], _∷_}
 use mathlib.Core.Logic.{⊎-elim}
-use Prim.Native.Nat.{ℕ, zero, suc, _+_, _*_, _-_, _^_, _<_, _≤_}
+use Prim.Native.Nat.{ℕ, _+_, _*_, _-_, _^_, _<_, _≤_}
 use native.Mathlib.Omega.{arith}
-use lib.Dec.{leb, ltb, eqb}
+use lib.Dec.{eqb}
 use lib.ListN.{length, getD, take, drop}
-use borrow.Author.Tests.{lt-ltb, le-ltb, le-leb, lt-leb, eq-eqb, ne-eqb}
+use borrow.Author.Tests.{lt-ltb, le-ltb, le-leb, lt-leb, ne-eqb}
 use Rattle.laws.proofs.Tests.{by-cases, lt-or-ge}
 use Rattle.laws.proofs.Lists.{drop-at-cons, drop-end, rest-whole}
 use Rattle.desk.specs.Words.{is-digit, number-in, leading}
@@ -15,11 +15,10 @@ use Rattle.desk.specs.declared.words.Number.{Number}
 use Rattle.desk.specs.declared.words.Number.the-variants as number
 use Rattle.desk.proofs.Scans.{leading-on, leading-stop, leading-end, leading-start}
 use Rattle.decimal.specs.declared.Decimal.{Decimal}
-use Rattle.decimal.specs.declared.Decimal.the-variants as decimal
 use Rattle.decimal.specs.declared.Digits.{Digits}
 use Rattle.decimal.specs.declared.Power.{Power}
 use Rattle.decimal.specs.declared.Power.the-variants as power
-use Rattle.decimal.specs.Decimal.{nearest-to, scaled-by, short-of, up-by, down-by, signed-of, exponent-of, number-at, fraction-of, behind-of, unsigned-of, decimal-of, capped, digits-of}
+use Rattle.decimal.specs.Decimal.{short-of, up-by, down-by, signed-of, exponent-of, number-at, capped, digits-of}
 
 -- A CAPPED NUMBER
 pub capped-small : (n : ℕ) → n < 10 ^ 15 → capped n ≡ n

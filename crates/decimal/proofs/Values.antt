@@ -1,10 +1,10 @@
 -- The value of digits and a power of ten; texts put together from their pieces. Assumes nothing.
 use mathlib.Core.Path.{_≡_, refl, sym, ap, _∙_}
-use mathlib.Core.Bool.{Bool, true, false, true≢false, cond, _&&_, _||_}
+use mathlib.Core.Bool.{Bool, true, false, true≢false, cond, _||_}
 use mathlib.Core.List.{List, [], _∷_}
 use mathlib.Core.Logic.{⊎-elim}
-use Prim.Native.Nat.{ℕ, zero, suc, _+_, _*_, _-_, _^_, _<_, _≤_}
-use native.Mathlib.Nat.{mul-one, mul-assoc, mul-comm, one-le-pow, zero-lt-suc, add-comm}
+use Prim.Native.Nat.{ℕ, _+_, _*_, _-_, _^_, _<_, _≤_}
+use native.Mathlib.Nat.{mul-one, mul-assoc, mul-comm, one-le-pow, zero-lt-suc}
 use native.Mathlib.Omega.{arith}
 use lib.Dec.{leb, ltb, eqb}
 use lib.ListN.{length, getD, take, drop}
@@ -21,7 +21,7 @@ use Rattle.decimal.specs.declared.Digits.{Digits}
 use Rattle.decimal.specs.declared.Power.{Power}
 use Rattle.decimal.specs.declared.Power.the-variants as power
 use Rattle.decimal.specs.Decimal.{nearest-to, scaled-by, exponent-of, number-at, fraction-of, behind-of, unsigned-of, decimal-of, capped, digits-of}
-use Rattle.decimal.proofs.Texts.{capped-cases, capped-le, number-capped}
+use Rattle.decimal.proofs.Texts.{capped-cases, number-capped}
 use Rattle.decimal.proofs.Floats.{signed-round}
 
 -- THE POWER OF TEN, up less down
@@ -111,7 +111,8 @@ scaled-same minus m n places p e = sym (scaled-capped minus m places p) ∙ ap (
 fraction-capped : (minus : Bool) (n : ℕ) (t : List ℕ) → fraction-of minus (capped n) t ≡ fraction-of minus n t
 unfolding fraction-of
 fraction-capped minus n t =
-    ap (cond (eqb (leading is-digit t) 0) decimal.Not) (scaled-same minus (number-at (capped n) t) (number-at n t) (leading is-digit t) (exponent-of (drop (leading is-digit t) t)) (number-capped t n))
+    ap (cond (eqb (leading is-digit t) 0) decimal.Not)
+    (scaled-same minus (number-at (capped n) t) (number-at n t) (leading is-digit t) (exponent-of (drop (leading is-digit t) t)) (number-capped t n))
 
 behind-capped : (minus : Bool) (n : ℕ) (t : List ℕ) → behind-of minus (capped n) t ≡ behind-of minus n t
 unfolding behind-of
@@ -157,7 +158,8 @@ pub unsigned-none : (minus : Bool) (t : List ℕ) {d : Digits} → d ≡ digits-
 unfolding unsigned-of digits-of
 unsigned-none minus t e h = rw (sym (ap (λ (x : Digits). x .count) e) ∙ h)
 
-pub unsigned-some : (minus : Bool) (t : List ℕ) {d : Digits} {r : Decimal} → d ≡ digits-of 0 t → (d .count ≡ 0 → ⊥) → r ≡ behind-of minus (d .value) (take (length t - d .count) (drop (d .count) t)) → r ≡ unsigned-of minus t
+pub unsigned-some : (minus : Bool) (t : List ℕ) {d : Digits} {r : Decimal} → d ≡ digits-of 0 t → (d .count ≡ 0 → ⊥)
+    → r ≡ behind-of minus (d .value) (take (length t - d .count) (drop (d .count) t)) → r ≡ unsigned-of minus t
 unfolding unsigned-of digits-of
 unsigned-some minus t {d} {r} e h f =
     let value : d .value ≡ capped (number-at 0 t) = ap (λ (x : Digits). x .value) e in

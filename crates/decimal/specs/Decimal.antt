@@ -1,10 +1,11 @@
 -- Decimal texts, and the float nearest to each. Assumes nothing.
--- A text is an optional minus, digits, perhaps a point with digits behind it, perhaps an exponent: e or E, an optional sign, one or two digits.
+-- A text is an optional minus, digits, perhaps a point with digits behind it, perhaps an exponent: e or E, an optional sign, one
+-- or two digits.
 use mathlib.Core.Bool.{Bool, true, false, cond, _&&_, _||_}
 use mathlib.Core.List.{List, [], _∷_}
-use Prim.Native.Nat.{ℕ, zero, suc, _+_, _*_, _-_, _^_}
+use Prim.Native.Nat.{ℕ, zero, _+_, _*_, _-_, _^_}
 use lib.Dec.{leb, ltb, eqb}
-use lib.ListN.{length, getD, drop}
+use lib.ListN.{length, drop}
 use lib.Ieee.{binary64, round}
 use Rattle.desk.specs.Words.{is-digit, number-in, leading}
 use Rattle.desk.specs.declared.words.Number.{Number}

@@ -1,15 +1,16 @@
 // Decimal texts, read as the float nearest to each.
 //
-// A text is an optional minus, digits, perhaps a point with digits behind it, perhaps an exponent: e or E, an optional sign, one or two
-// digits. Its digits are one whole number below 10^15, and the power of ten that scales it is 22 at most in size: both are floats exactly,
-// so that one multiplication or one division gives the float nearest to the decimal. What is longer, or scaled further, is refused.
+// A text is an optional minus, digits, perhaps a point with digits behind it, perhaps an exponent: e or E, an optional sign, one
+// or two digits. Its digits are one whole number below 10^15, and the power of ten that scales it is 22 at most in size: both are
+// floats exactly, so that one multiplication or one division gives the float nearest to the decimal. What is longer, or scaled
+// further, is refused.
 ghost use mathlib.Core.Path.{_≡_};
 ghost use mathlib.Core.Bool.{true, false, cond};
 ghost use Prim.Native.Nat.{_+_, _*_, _^_, _<_, _≤_};
 ghost use lib.Ieee.{binary64, neg, round};
 ghost use lib.Ieee.Exact.{HasValue};
-ghost use Rattle.desk.specs.Words.{number-in as number-of};
-ghost use Rattle.decimal.specs.Decimal.{capped, digits-of, up-by, down-by, short-of, signed-of, exponent-of, nearest-to, scaled-by, fraction-of, behind-of, unsigned-of, decimal-of};
+ghost use Rattle.decimal.specs.Decimal.{capped, digits-of, up-by, down-by, short-of, signed-of, exponent-of};
+ghost use Rattle.decimal.specs.Decimal.{nearest-to, scaled-by, fraction-of, behind-of, unsigned-of, decimal-of};
 use desk::words;
 use desk::words::Number;
 

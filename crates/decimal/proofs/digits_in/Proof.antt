@@ -1,7 +1,7 @@
 -- `decimal::digits_in` meets its contract. The loop's invariant (`Reading`): the bytes before i are digits, and give the value behind n.
 -- The measure is what is left of the text. Assumes nothing.
 use borrow.Author.Tests.{not-true, not-false}
-use mathlib.Core.Path.{_≡_, sym, _∙_}
+use mathlib.Core.Path.{sym, _∙_}
 use Prim.Native.Nat.{_-_}
 use lib.ListN.{length}
 use Rattle.decimal.proofs.Texts.{Reading, reading-start, reading-on, reading-stop, reading-end}
