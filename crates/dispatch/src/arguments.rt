@@ -1,7 +1,8 @@
 // The words of a command, by their place.
+use basin::say;
+use decimal::Decimal;
 use desk::words;
 use desk::words::Number;
-use desk::words::Whole;
 use memory::point::Point;
 use oracle::Oracle;
 
@@ -12,20 +13,26 @@ pub fn number_at(i: usize) -> Number {
     words::number_in(&word[..n])
 }
 
-// A word as a coordinate, or that it is none.
-pub enum Coordinate {
-    Is(f64),
-    Not,
+// Says that a word is no coordinate.
+fn no_coordinate(i: usize, word: &[u8]) {
+    say::text(b"error: word ");
+    say::number(i as u64);
+    say::text(b", '");
+    say::text(word);
+    say::text(
+        b"', is no coordinate: at most 15 digits, a point only between digits, a power of ten from -22 to 22, as -2.5 or 1e-3\n",
+    );
 }
 
-fn coordinate_at(i: usize) -> Coordinate {
-    let mut word = [0u8; 64];
+// A word as a coordinate; one that is none is told.
+fn coordinate_at(i: usize) -> Decimal {
+    let mut word = [0u8; 256];
     let n = os::arg(i, &mut word);
-    match words::whole_in(&word[..n]) {
-        Whole::Plus(v) => Coordinate::Is(std::num::nearest_u64_to_f64(v)),
-        Whole::Minus(v) => Coordinate::Is(-std::num::nearest_u64_to_f64(v)),
-        Whole::Not => Coordinate::Not,
+    let read = decimal::decimal_in(&word[..n]);
+    if let Decimal::Not = read {
+        no_coordinate(i, &word[..n]);
     }
+    read
 }
 
 // Three words as a point.
@@ -35,31 +42,32 @@ enum Corner {
 }
 
 fn corner_at(i: usize, j: usize, k: usize) -> Corner {
-    let Coordinate::Is(x) = coordinate_at(i) else {
+    let Decimal::Is(x) = coordinate_at(i) else {
         return Corner::Not;
     };
-    let Coordinate::Is(y) = coordinate_at(j) else {
+    let Decimal::Is(y) = coordinate_at(j) else {
         return Corner::Not;
     };
-    let Coordinate::Is(z) = coordinate_at(k) else {
+    let Decimal::Is(z) = coordinate_at(k) else {
         return Corner::Not;
     };
     Corner::At(Point { x, y, z })
 }
 
-// The oracle that words name.
+// The oracle that words name; that one of them is no coordinate, which was told; or that they are not what an oracle takes.
 pub enum Named {
     Oracle(Oracle),
+    Told,
     Not,
 }
 
 // The box of words 3 to 8.
 pub fn box_of() -> Named {
     let Corner::At(low) = corner_at(3, 4, 5) else {
-        return Named::Not;
+        return Named::Told;
     };
     let Corner::At(high) = corner_at(6, 7, 8) else {
-        return Named::Not;
+        return Named::Told;
     };
     Named::Oracle(Oracle::Box(low, high))
 }
@@ -69,8 +77,8 @@ pub fn plane_of() -> Named {
     let Number::Is(axis) = number_at(3) else {
         return Named::Not;
     };
-    let Coordinate::Is(at) = coordinate_at(4) else {
-        return Named::Not;
+    let Decimal::Is(at) = coordinate_at(4) else {
+        return Named::Told;
     };
     Named::Oracle(Oracle::Plane(axis, at))
 }

@@ -33,7 +33,7 @@ fn help() {
     );
     say::text(b"  dispatch help             this\n");
     say::text(
-        b"ORACLE is one of: all; box x0 y0 z0 x1 y1 z1; plane axis value (whole numbers; axis 0, 1 or 2)\n",
+        b"ORACLE is one of: all; box x0 y0 z0 x1 y1 z1; plane axis value (decimals, as -2.5 or 1e-3; axis 0, 1 or 2)\n",
     );
 }
 
@@ -275,6 +275,7 @@ fn oracle_named() -> Named {
 fn balance_words(mesh: &mut [u64], scratch: &mut [u64], outbox: &mut [u8], room: &mut [u8]) {
     match oracle_named() {
         Named::Oracle(o) => balance(o, mesh, scratch, outbox, room),
+        Named::Told => {}
         Named::Not => wrong_words(
             b"balance all, balance box x0 y0 z0 x1 y1 z1, balance plane axis value",
         ),

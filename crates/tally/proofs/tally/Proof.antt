@@ -14,27 +14,51 @@ is-sound-requires c κs = search needs
 
 returns : tie.Need-returns
 returns c =
-    tally-unsound (c .before .before .before .args .block .now) (sym (c .before .is-sound .ensures) ∙ not-true _ (c .if1 .taken))
+    let start : tie.Start = search in
+    let is-sound-known = (let p : tie.After-is-sound = search in p .is-sound) in
+    tally-unsound (start .args .block .now) (sym (is-sound-known .ensures) ∙ not-true _ (c .if1 .taken))
 
 count-requires : tie.Need-count-requires
 count-requires c κs =
-    sym (c .before .is-sound .ensures) ∙ not-false _ (c .if1 .left)
+    let is-sound-known = (let p : tie.After-is-sound = search in p .is-sound) in
+    sym (is-sound-known .ensures) ∙ not-false _ (c .if1 .left)
+
+pieces-requires : tie.Need-pieces-requires
+pieces-requires c κs =
+    let is-sound-known = (let p : tie.After-is-sound = search in p .is-sound) in
+    let if1-known = (let p : tie.Else1 = search in p .if1) in
+    sym (is-sound-known .ensures) ∙ not-false _ (if1-known .left)
 
 critical-faces-requires : tie.Need-critical-faces-requires
 critical-faces-requires c κs =
-    sym (c .before .before .is-sound .ensures) ∙ not-false _ (c .before .if1 .left)
+    let is-sound-known = (let p : tie.After-is-sound = search in p .is-sound) in
+    let if1-known = (let p : tie.Else1 = search in p .if1) in
+    sym (is-sound-known .ensures) ∙ not-false _ (if1-known .left)
 
-shared-slice-read-t8 : tie.Need-shared-slice-read-t8
-shared-slice-read-t8 c =
-    omega (arith, sited rack (c .before .before .before .before .before .before .args .block .now) (sym (c .before .before .before .before .is-sound .ensures) ∙ not-false _ (c .before .before .before .if1 .left)) .linked .size)
+shared-slice-read-t9 : tie.Need-shared-slice-read-t9
+shared-slice-read-t9 c =
+    let start : tie.Start = search in
+    let is-sound-known = (let p : tie.After-is-sound = search in p .is-sound) in
+    let if1-known = (let p : tie.Else1 = search in p .if1) in
+    omega (arith, sited rack (start .args .block .now) (sym (is-sound-known .ensures) ∙ not-false _ (if1-known .left)) .linked .size)
 
-shared-slice-read-t12 : tie.Need-shared-slice-read-t12
-shared-slice-read-t12 c =
-    omega (arith, sited rack (c .before .before .before .before .before .before .before .args .block .now) (sym (c .before .before .before .before .before .is-sound .ensures) ∙ not-false _ (c .before .before .before .before .if1 .left)) .linked .size)
+shared-slice-read-t14 : tie.Need-shared-slice-read-t14
+shared-slice-read-t14 c =
+    let start : tie.Start = search in
+    let is-sound-known = (let p : tie.After-is-sound = search in p .is-sound) in
+    let if1-known = (let p : tie.Else1 = search in p .if1) in
+    omega (arith, sited rack (start .args .block .now) (sym (is-sound-known .ensures) ∙ not-false _ (if1-known .left)) .linked .size)
 
 returns-2 : tie.Need-returns-2
 returns-2 c =
-    tally-sound (c .before .before .before .before .before .before .before .args .block .now) (sym (c .before .before .before .before .before .is-sound .ensures) ∙ not-false _ (c .before .before .before .before .if1 .left)) (c .before .before .before .count .ensures .0) (c .before .before .critical-faces .ensures)
+    let is-sound-known = (let p : tie.After-is-sound = search in p .is-sound) in
+    let if1-known = (let p : tie.Else1 = search in p .if1) in
+    let start : tie.Start = search in
+    let count-known = (let p : tie.After-count = search in p .count) in
+    let pieces-known = (let p : tie.After-pieces = search in p .pieces) in
+    let critical-faces-known = (let p : tie.After-critical-faces = search in p .critical-faces) in
+    let ok = sym (is-sound-known .ensures) ∙ not-false _ (if1-known .left) in
+    tally-sound (start .args .block .now) ok (count-known .ensures .0) (pieces-known .ensures) (critical-faces-known .ensures)
 
 pub tally-spec : {M : Type 1} → statement M
 tally-spec =
@@ -43,7 +67,8 @@ tally-spec =
     is-sound-requires
     returns
     count-requires
+    pieces-requires
     critical-faces-requires
-    shared-slice-read-t8
-    shared-slice-read-t12
+    shared-slice-read-t9
+    shared-slice-read-t14
     returns-2)
