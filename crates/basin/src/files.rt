@@ -79,6 +79,45 @@ pub fn write(name: &[u8], bytes: &[u8]) -> i32 {
     e
 }
 
+// The bytes in one write, so that they stand together; 0, or why not.
+fn put_once(fd: i32, bytes: &[u8]) -> i32 {
+    let put = libc::write(fd, bytes);
+    if put < 0 {
+        return last_error();
+    }
+    if io::count(put, bytes) != bytes.len() {
+        return libc::ENOSPC;
+    }
+    0
+}
+
+// Opens a file to add to it, and makes it where it is missing; a descriptor, or -1.
+fn open_to_add(name: &[u8]) -> i32 {
+    let fd = os::open_append(name);
+    if 0 <= fd {
+        return fd;
+    }
+    if last_error() != libc::ENOENT {
+        return fd;
+    }
+    let made = os::create(name);
+    if 0 <= made {
+        libc::close(made);
+    }
+    os::open_append(name)
+}
+
+// Adds bytes at the end of a file; 0, or why not.
+pub fn append(name: &[u8], bytes: &[u8]) -> i32 {
+    let fd = open_to_add(name);
+    if fd < 0 {
+        return last_error();
+    }
+    let e = put_once(fd, bytes);
+    libc::close(fd);
+    e
+}
+
 // Puts a file where another may stand; 0, or why not.
 pub fn rename(from: &[u8], to: &[u8]) -> i32 {
     if os::rename(from, to) != 0 {

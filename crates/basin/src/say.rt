@@ -4,6 +4,11 @@ pub fn text(s: &[u8]) {
     io::write_all(1, s);
 }
 
+// A text on standard error.
+pub fn complain(s: &[u8]) {
+    io::write_all(2, s);
+}
+
 pub fn number(n: u64) {
     io::print_decimal(1, n);
 }
