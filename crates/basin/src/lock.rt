@@ -149,15 +149,6 @@ fn say_busy(line: &[u8]) {
     say::complain(b" is writing this basin (basin.lock): nothing was done\n");
 }
 
-// Lets others run for about a millisecond.
-fn pause() {
-    let mut i: usize = 0;
-    while i < 1000 {
-        libc::sched_yield();
-        i += 1;
-    }
-}
-
 // The time in seconds.
 fn seconds() -> i64 {
     let mut t = 0;
@@ -221,7 +212,7 @@ fn turn(clock: Clock, own: &[u8], room: &mut [u8]) -> Looked {
                 say_other(from, end, room);
                 return Looked::Ended(Taken::Busy);
             }
-            pause();
+            process::pause();
             Looked::Again(c)
         }
         First::Nobody => {

@@ -84,3 +84,12 @@ pub fn is_running(process: &[u8], start: &[u8]) -> bool {
     let end = s.end;
     words::same(&stat[from..end], start)
 }
+
+// Lets others run for about a millisecond.
+pub fn pause() {
+    let mut i: usize = 0;
+    while i < 1000 {
+        libc::sched_yield();
+        i += 1;
+    }
+}

@@ -61,3 +61,42 @@ pub fn before_zero(text: &[u8]) -> usize
     }
     i
 }
+
+// Whether a text begins with a word.
+fn begins(text: &[u8], word: &[u8]) -> bool {
+    let n = word.len();
+    if text.len() < n {
+        return false;
+    }
+    words::same(&text[0..n], word)
+}
+
+// The first line that begins with a word; no byte, at the end, where there is none.
+fn line_with(text: &[u8], word: &[u8]) -> Span
+    ensures { λ r. ⌜ (r .from ≤ r .end) × (r .end ≤ length (now (text .entry))) ⌝ }
+{
+    // No line before `at` does.
+    let mut at = 0;
+    while at < text.len() {
+        let end = at + words::leading(Kind::Line, &text[at..]);
+        if begins(&text[at..end], word) {
+            return Span { from: at, end };
+        }
+        if end == text.len() {
+            return Span { from: end, end };
+        }
+        at = end + 1;
+    }
+    Span { from: at, end: at }
+}
+
+// Whether the first lines of two texts that begin with a word are the same; yes where neither has one.
+pub fn same_line(one: &[u8], other: &[u8], word: &[u8]) -> bool {
+    let a = line_with(one, word);
+    let b = line_with(other, word);
+    let a_from = a.from;
+    let a_end = a.end;
+    let b_from = b.from;
+    let b_end = b.end;
+    words::same(&one[a_from..a_end], &other[b_from..b_end])
+}

@@ -1,8 +1,8 @@
--- `basin::lock::pause` meets its contract. The measure is how often it still yields. Assumes nothing.
+-- `basin::process::pause` meets its contract. The measure is how often it still yields. Assumes nothing.
 use Prim.Native.Nat.{_-_, _≤_}
 use borrow.Author.Needs.{needs}
-use Rattle.basin.proofs.lock.pause.Statement.{statement}
-use Rattle.basin.proofs.lock.pause.Tie as tie
+use Rattle.basin.proofs.process.pause.Statement.{statement}
+use Rattle.basin.proofs.process.pause.Tie as tie
 
 abbrev Inv-loop : tie.InvT-loop
 Inv-loop i₀ i =
