@@ -210,7 +210,7 @@ fn finish(bytes: &[u8], room: &mut [u8]) -> bool {
     if !mend_found(k) {
         return false;
     }
-    say::text(b"finished a save that was cut short\n");
+    say::text(b"# finished a save that was cut short\n");
     true
 }
 
@@ -254,15 +254,13 @@ fn save_mesh(mesh: &[u64], room: &mut [u8]) -> bool {
     true
 }
 
-// Saves the first k blocks.
-pub fn save(k: usize, mesh: &[u64], room: &mut [u8]) {
-    if mesh.len() / 32776 < k {
-        return;
+// Saves the blocks of a mesh; whether they are saved, which is said.
+pub fn save(mesh: &[u64], room: &mut [u8]) -> bool {
+    if !save_mesh(mesh, room) {
+        return false;
     }
-    let end = k * 32776;
-    if save_mesh(&mesh[0..end], room) {
-        say::text(b"saved ");
-        say::number(k as u64);
-        say::text(b" blocks\n");
-    }
+    say::text(b"# saved ");
+    say::number((mesh.len() / 32776) as u64);
+    say::text(b" blocks\n");
+    true
 }

@@ -292,15 +292,20 @@ pub enum Basin {
     Error,
 }
 
+// By which question block b's file is refused, and why.
+pub fn say_refused(b: usize, question: u32) {
+    say::refused(question);
+    say::text(&names::block(b));
+    say::text(b": ");
+    say::meaning(question);
+    say::text(b"\n");
+}
+
 // What is wrong with block b's file.
 fn say_fault(b: usize, fault: Fault) -> Basin {
     match fault {
         Fault::Refused(question) => {
-            say::refused(question);
-            say::text(&names::block(b));
-            say::text(b": ");
-            say::meaning(question);
-            say::text(b"\n");
+            say_refused(b, question);
             Basin::Refused
         }
         Fault::TooLarge => {
@@ -361,5 +366,53 @@ pub fn look(mesh: &mut [u64], room: &mut [u8]) -> Basin {
             say::error(b"the files are not those that basin.commit tells of");
             Basin::Error
         }
+    }
+}
+
+// The bytes of a file that has the length and the digest that a commit gives block b; missing where it has not.
+fn committed_bytes(file: File, b: usize, bytes: &[u8], room: &mut [u8]) -> Contents {
+    let name = names::name_of(file);
+    let text = name.bytes;
+    match files::read_named(&text, name.size, room) {
+        Contents::Bytes(n) => {
+            if n <= room.len() {
+                if look::same(commit::entry_of(&room[0..n]), commit::entry_in(bytes, b)) {
+                    return Contents::Bytes(n);
+                }
+            }
+            Contents::Missing
+        }
+        Contents::Missing => Contents::Missing,
+        Contents::TooLarge => Contents::Missing,
+        Contents::Failed(_) => Contents::Missing,
+    }
+}
+
+// Block b's file by a commit: the new one, or the one under its name.
+fn file_by(bytes: &[u8], b: usize, room: &mut [u8]) -> Contents {
+    if commit::committed(bytes) <= b {
+        return files::read(&names::block(b), room);
+    }
+    match committed_bytes(File::NewBlock(b), b, bytes, room) {
+        Contents::Bytes(n) => Contents::Bytes(n),
+        Contents::Missing => committed_bytes(File::Block(b), b, bytes, room),
+        Contents::TooLarge => Contents::TooLarge,
+        Contents::Failed(e) => Contents::Failed(e),
+    }
+}
+
+// Block b's file, at the start of the room, in the state that a reader sees.
+pub fn file_of(b: usize, room: &mut [u8]) -> Contents {
+    let mut bytes = [0u8; 512];
+    match files::read(b"basin.commit", &mut bytes) {
+        Contents::Bytes(n) => {
+            if n <= bytes.len() {
+                return file_by(&bytes[0..n], b, room);
+            }
+            Contents::Missing
+        }
+        Contents::Missing => files::read(&names::block(b), room),
+        Contents::TooLarge => files::read(&names::block(b), room),
+        Contents::Failed(_) => files::read(&names::block(b), room),
     }
 }

@@ -9,6 +9,10 @@ pub fn complain(s: &[u8]) {
     io::write_all(2, s);
 }
 
+pub fn complain_number(n: u64) {
+    io::print_decimal(2, n);
+}
+
 pub fn number(n: u64) {
     io::print_decimal(1, n);
 }

@@ -1,4 +1,5 @@
 // The words of a command, by their place.
+ghost use Rattle.io.specs.Counts.{Counts};
 use basin::say;
 use decimal::Decimal;
 use desk::words;
@@ -6,31 +7,78 @@ use desk::words::Number;
 use memory::point::Point;
 use oracle::Oracle;
 
+// How many words stand before the command's own: two, where the first asks for the status on a descriptor, as `--status 3`.
+fn in_front() -> usize {
+    let mut word = [0u8; 16];
+    let n = os::arg(1, &mut word);
+    if words::same(&word[..n], b"--status") {
+        return 2;
+    }
+    0
+}
+
+// The descriptor that the status goes to, 3 to 9; none is -1.
+pub fn status_descriptor() -> i32 {
+    if in_front() == 0 {
+        return -1;
+    }
+    let mut word = [0u8; 1];
+    let n = os::arg(2, &mut word);
+    if n != 1 {
+        return -1;
+    }
+    match word[0] {
+        b'3' => 3,
+        b'4' => 4,
+        b'5' => 5,
+        b'6' => 6,
+        b'7' => 7,
+        b'8' => 8,
+        b'9' => 9,
+        _ => -1,
+    }
+}
+
+// How many words there are, the program's name among them.
+pub fn count() -> usize {
+    let n = os::arg_count();
+    let before = in_front();
+    if n < before {
+        return 0;
+    }
+    n - before
+}
+
+// Word i at the start of the room; how many bytes.
+pub fn word(i: usize, room: &mut [u8]) -> usize
+    ensures { λ r. ⌜ Counts r (now (room .exit)) ⌝ }
+{
+    os::arg(std::num::wrapping_add_usize(i, in_front()), room)
+}
+
 // The block or the number of blocks that a word gives.
 pub fn number_at(i: usize) -> Number {
-    let mut word = [0u8; 64];
-    let n = os::arg(i, &mut word);
-    words::number_in(&word[..n])
+    let mut text = [0u8; 64];
+    let n = word(i, &mut text);
+    words::number_in(&text[..n])
 }
 
 // Says that a word is no coordinate.
-fn no_coordinate(i: usize, word: &[u8]) {
-    say::text(b"error: word ");
-    say::number(i as u64);
-    say::text(b", '");
-    say::text(word);
-    say::text(
-        b"', is no coordinate: at most 15 digits, a point only between digits, a power of ten from -22 to 22, as -2.5 or 1e-3\n",
+fn no_coordinate(text: &[u8]) {
+    say::complain(b"error: '");
+    say::complain(text);
+    say::complain(
+        b"' is no coordinate: at most 15 digits, a point only between digits, a power of ten from -22 to 22, as -2.5 or 1e-3\n",
     );
 }
 
 // A word as a coordinate; one that is none is told.
 fn coordinate_at(i: usize) -> Decimal {
-    let mut word = [0u8; 256];
-    let n = os::arg(i, &mut word);
-    let read = decimal::decimal_in(&word[..n]);
+    let mut text = [0u8; 256];
+    let n = word(i, &mut text);
+    let read = decimal::decimal_in(&text[..n]);
     if let Decimal::Not = read {
-        no_coordinate(i, &word[..n]);
+        no_coordinate(&text[..n]);
     }
     read
 }
