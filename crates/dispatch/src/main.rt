@@ -78,7 +78,16 @@ fn check(mesh: &mut [u64], scratch: &mut [u64], room: &mut [u8]) -> Status {
     }
 }
 
-// The listing of block b's file.
+// The listing of a file.
+fn show_listing(file: &[u8]) {
+    let mut text = [0u8; 262144];
+    let n = listfile::list_whole(file, &mut text);
+    if n <= text.len() {
+        say::text(&text[0..n]);
+    }
+}
+
+// The listing of block b's file, or why it is refused.
 fn list_file(b: usize, file: &[u8]) -> Status {
     let mut block = [0u64; 32776];
     match readfile::read_file(file, &mut block) {
@@ -87,11 +96,7 @@ fn list_file(b: usize, file: &[u8]) -> Status {
             Status::Refused
         }
         Answer::Served => {
-            let mut text = [0u8; 262144];
-            let n = listfile::list_whole(file, &mut text);
-            if n <= text.len() {
-                say::text(&text[0..n]);
-            }
+            show_listing(file);
             Status::Done
         }
     }
@@ -146,6 +151,14 @@ fn open(mesh: &mut [u64], room: &mut [u8]) -> Basin {
     reading::look(mesh, room)
 }
 
+// Saves a basin that has changed; whether nothing is left to save.
+fn save_if(changed: bool, mesh: &[u64], room: &mut [u8]) -> bool {
+    if changed {
+        return disk::save(mesh, room);
+    }
+    true
+}
+
 // What was played. A round that did not finish, which never is on a sound basin, keeps all from being saved.
 fn end_play(outcomes: &[u64], mesh: &[u64], room: &mut [u8]) -> Status {
     if 0 < playing::count(outcomes, rounds::list::UNFINISHED) {
@@ -159,10 +172,8 @@ fn end_play(outcomes: &[u64], mesh: &[u64], room: &mut [u8]) -> Status {
     say::text(b" of ");
     say::number(asked);
     say::text(b" moved\n");
-    if 0 < moved {
-        if !disk::save(mesh, room) {
-            return Status::Error;
-        }
+    if !save_if(0 < moved, mesh, room) {
+        return Status::Error;
     }
     if moved == asked {
         return Status::Done;
@@ -280,9 +291,16 @@ fn play_input(
     }
 }
 
-fn play(mesh: &mut [u64], scratch: &mut [u64], outbox: &mut [u8], room: &mut [u8]) -> Status {
-    let mut input = [0u8; 524288];
-    match files::read_open(0, &mut input) {
+// Play, with what was read of standard input.
+fn play_contents(
+    contents: Contents,
+    input: &[u8],
+    mesh: &mut [u64],
+    scratch: &mut [u64],
+    outbox: &mut [u8],
+    room: &mut [u8],
+) -> Status {
+    match contents {
         Contents::Bytes(n) => {
             if n <= input.len() {
                 return play_input(&input[0..n], mesh, scratch, outbox, room);
@@ -299,6 +317,12 @@ fn play(mesh: &mut [u64], scratch: &mut [u64], outbox: &mut [u8], room: &mut [u8
             Status::Error
         }
     }
+}
+
+fn play(mesh: &mut [u64], scratch: &mut [u64], outbox: &mut [u8], room: &mut [u8]) -> Status {
+    let mut input = [0u8; 524288];
+    let contents = files::read_open(0, &mut input);
+    play_contents(contents, &input, mesh, scratch, outbox, room)
 }
 
 // The moves of a balance, and how it ended.
@@ -348,10 +372,8 @@ fn end_balance(
     }
     say::text(b"# after:");
     inspect::show_picked(mesh, o);
-    if grown | (0 < n) {
-        if !disk::save(mesh, room) {
-            return Status::Error;
-        }
+    if !save_if(grown | (0 < n), mesh, room) {
+        return Status::Error;
     }
     Status::Done
 }
