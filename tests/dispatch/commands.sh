@@ -13,6 +13,8 @@ run balance plane 0 1
 run balance box 0 0 0 1 1 1
 run balance box 1 0 0 -1 1 1
 run balance plane 7 1
+run balance plane 0 0.5
+run balance box -0.25 0 0 2.5e-1 1 1
 run split 5
 run check
 printf '' | run play
@@ -23,6 +25,8 @@ run balance some
 run balance all now
 run balance box 1 2 3
 run balance plane x 1
+run balance plane 0 1.2.3
+run balance box 0 0 0 1 1e23 1
 run list
 run list 16
 run list 7

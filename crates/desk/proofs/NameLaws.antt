@@ -28,7 +28,9 @@ digits-tell a b l h = same-truth (digits a b) (eqb a b) one both
         eq-eqb a b (omega arith)
 
     both : eqb a b ≡ true → digits a b ≡ true
-    both e = let s = eqb-true a b e in and-intro (eq-eqb (48 + a / 10 % 10) (48 + b / 10 % 10) (ap (λ (n : ℕ). 48 + n / 10 % 10) s)) (eq-eqb (48 + a % 10) (48 + b % 10) (ap (λ (n : ℕ). 48 + n % 10) s))
+    both e =
+        let s = eqb-true a b e in and-intro (eq-eqb (48 + a / 10 % 10) (48 + b / 10 % 10) (ap (λ (n : ℕ). 48 + n / 10 % 10) s))
+        (eq-eqb (48 + a % 10) (48 + b % 10) (ap (λ (n : ℕ). 48 + n % 10) s))
 
 tails-same : (x y : Bool) → (x && (y && true)) ≡ (x && y)
 tails-same true true = refl

@@ -24,7 +24,9 @@ use Rattle.saving.specs.Folder.{Folder, put, moved, does, all-of, at, So
 use Rattle.saving.proofs.Commits.{committed-back, entry-back}
 use Rattle.saving.proofs.Folders.{Steady, some-keeps, all-keeps, all-append, at-first, at-later, at-untouched, cut-at, cut-first, cut-none, some-end, some-rename}
 use Rattle.saving.proofs.Looked.{Right, sees-right, free-right, saved-right}
-use Rattle.saving.proofs.Seen.{new-new, newcommit-new, newcommit-block, newcommit-commit, newcommit-newcommit, commit-new, commit-block, commit-commit, Sees, sees-alike, sees-itself, sees-new, sees-newcommit, sees-place, place-gone, place-other, Rest, sees-rest, rest-ends, Held, held-alike, is-write, steady-step, steady-write, each-tab}
+use Rattle.saving.proofs.Seen.{new-new, newcommit-new, newcommit-block, newcommit-commit, newcommit-newcommit, commit-new, commit-block, commit-commit}
+use Rattle.saving.proofs.Seen.{Sees, sees-alike, sees-itself, sees-new, sees-newcommit, sees-place, place-gone, place-other, Rest, sees-rest, rest-ends}
+use Rattle.saving.proofs.Seen.{Held, held-alike, is-write, steady-step, steady-write, each-tab}
 
 module _ (k : ℕ) (c : ℕ → List ℕ) (few : 1 ≤ k) (many : k ≤ 16) (d : Folder) (free : d file.Commit ≡ none) where
   -- what is written under the commit's new name
@@ -38,7 +40,8 @@ module _ (k : ℕ) (c : ℕ → List ℕ) (few : 1 ≤ k) (many : k ≤ 16) (d :
   writing-steady : Each (Steady (saves k c) (Sees none (seen d))) (writing k)
   unfolding writing
   writing-steady = each-append (Steady (saves k c) (Sees none (seen d))) (tab (λ b. step.Write (file.NewBlock b)) k) (step.Write file.NewCommit ∷ [])
-      (each-tab (Steady (saves k c) (Sees none (seen d))) (λ b. step.Write (file.NewBlock b)) k (λ b h. steady-write (saves k c) (Sees none (seen d)) (file.NewBlock b) (sees-new b (omega arith) (omega arith))))
+      (each-tab (Steady (saves k c) (Sees none (seen d))) (λ b. step.Write (file.NewBlock b)) k
+      (λ b h. steady-write (saves k c) (Sees none (seen d)) (file.NewBlock b) (sees-new b (omega arith) (omega arith))))
       (steady-write (saves k c) (Sees none (seen d)) file.NewCommit sees-newcommit, tt)
 
   start : Sees none (seen d) d
@@ -150,7 +153,9 @@ module _ (k : ℕ) (c : ℕ → List ℕ) (few : 1 ≤ k) (many : k ≤ 16) (d :
       (λ s. inl (some-keeps (saves k c) (Sees (some bytes) (renewed k c d)) s placing-steady named-sees))
       (λ s. inr (⊎-elim
       (λ r. some-keeps (saves k c) (Rest (some bytes) (renewed k c d)) r ending-steady all-placed)
-      (λ r. subst (Rest (some bytes) (renewed k c d)) (sym (cut-none r)) (all-keeps (saves k c) (Rest (some bytes) (renewed k c d)) ending (all-of (saves k c) (placing k) named) ending-steady all-placed))
+      (λ r. subst (Rest (some bytes) (renewed k c d)) (sym (cut-none r))
+      (all-keeps (saves k c) (Rest (some bytes) (renewed k c d)) ending (all-of (saves k c) (placing k) named) ending-steady
+      all-placed))
       (cut-first s)))
       (cut-first t)
 
@@ -189,7 +194,11 @@ module _ (k : ℕ) (c : ℕ → List ℕ) (few : 1 ≤ k) (many : k ≤ 16) (d :
   unfolding writing
   first-length =
       let n = length-tab (λ b. step.Write (file.NewBlock b)) k in
-      omega (arith, length-append (tab (λ b. step.Write (file.NewBlock b)) k ++ step.Write file.NewCommit ∷ []) (step.Keep ∷ []), length-append (tab (λ b. step.Write (file.NewBlock b)) k) (step.Write file.NewCommit ∷ []))
+      omega (
+        arith,
+        length-append (tab (λ b. step.Write (file.NewBlock b)) k ++ step.Write file.NewCommit ∷ []) (step.Keep ∷ []),
+        length-append (tab (λ b. step.Write (file.NewBlock b)) k) (step.Write file.NewCommit ∷ []),
+      )
 
   after-first : all-of (saves k c) first-steps d ≡ written
   unfolding does
@@ -203,7 +212,10 @@ module _ (k : ℕ) (c : ℕ → List ℕ) (few : 1 ≤ k) (many : k ≤ 16) (d :
   until n h = subst Old (sym same) (stopped (at (saves k c) (steps ([] ∷ writing k ∷ [])) d n) (cut-at (saves k c) ([] ∷ writing k ∷ []) d n))
     where
       same : saving k c d n ≡ at (saves k c) (steps ([] ∷ writing k ∷ [])) d n
-      same = ap (λ (ss : List Step). at (saves k c) ss d n) all-steps ∙ at-first (saves k c) first-steps later-steps d n (omega (arith, first-length)) ∙ ap (λ (ss : List Step). at (saves k c) ss d n) (sym two-stages)
+      same =
+          ap (λ (ss : List Step). at (saves k c) ss d n) all-steps
+          ∙ at-first (saves k c) first-steps later-steps d n (omega (arith, first-length))
+          ∙ ap (λ (ss : List Step). at (saves k c) ss d n) (sym two-stages)
 
       stopped : (e : Folder) → Cut (saves k c) ([] ∷ writing k ∷ []) d e → Old e
       stopped e t = ⊎-elim

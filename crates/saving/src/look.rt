@@ -16,7 +16,8 @@ pub enum Look {
     Wrong,
 }
 
-fn same(one: Entry, other: Entry) -> bool
+// Whether two files have one length and digest.
+pub fn same(one: Entry, other: Entry) -> bool
     ensures { λ r. ⌜ r ≡ same-entry one other ⌝ }
 {
     (one.size == other.size) & (one.digest == other.digest)

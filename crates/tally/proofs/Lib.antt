@@ -1,1 +1,4 @@
 pub mod CriticalFaces
+pub mod Orbits
+pub mod GroupLaws
+pub mod Numbering

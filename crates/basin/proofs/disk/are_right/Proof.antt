@@ -47,26 +47,26 @@ loop-again-2 c = search needs
 enum-told-3 : tie.Need-enum-told-3 Inv-loop μ-loop
 enum-told-3 c = search needs
 
-slice-aggregate-text : tie.Need-slice-aggregate-text Inv-loop μ-loop
-slice-aggregate-text c = search needs
+slice-aggregate-complain : tie.Need-slice-aggregate-complain Inv-loop μ-loop
+slice-aggregate-complain c = search needs
 
-text-requires : tie.Need-text-requires Inv-loop μ-loop
-text-requires c κs = search needs
+complain-requires : tie.Need-complain-requires Inv-loop μ-loop
+complain-requires c κs = search needs
 
 block-requires : tie.Need-block-requires Inv-loop μ-loop
 block-requires c κs = search needs
 
-slice-aggregate-text-2 : tie.Need-slice-aggregate-text-2 Inv-loop μ-loop
-slice-aggregate-text-2 c = search needs
+slice-aggregate-complain-2 : tie.Need-slice-aggregate-complain-2 Inv-loop μ-loop
+slice-aggregate-complain-2 c = search needs
 
-text-requires-2 : tie.Need-text-requires-2 Inv-loop μ-loop
-text-requires-2 c κs = search needs
+complain-requires-2 : tie.Need-complain-requires-2 Inv-loop μ-loop
+complain-requires-2 c κs = search needs
 
-slice-aggregate-text-3 : tie.Need-slice-aggregate-text-3 Inv-loop μ-loop
-slice-aggregate-text-3 c = search needs
+slice-aggregate-complain-3 : tie.Need-slice-aggregate-complain-3 Inv-loop μ-loop
+slice-aggregate-complain-3 c = search needs
 
-text-requires-3 : tie.Need-text-requires-3 Inv-loop μ-loop
-text-requires-3 c κs = search needs
+complain-requires-3 : tie.Need-complain-requires-3 Inv-loop μ-loop
+complain-requires-3 c κs = search needs
 
 same-length : tie.Need-same-length Inv-loop μ-loop
 same-length c = search needs
@@ -97,13 +97,13 @@ are-right-spec =
     loop-less-2
     loop-again-2
     enum-told-3
-    slice-aggregate-text
-    text-requires
+    slice-aggregate-complain
+    complain-requires
     block-requires
-    slice-aggregate-text-2
-    text-requires-2
-    slice-aggregate-text-3
-    text-requires-3
+    slice-aggregate-complain-2
+    complain-requires-2
+    slice-aggregate-complain-3
+    complain-requires-3
     same-length
     returns
     same-length-2
