@@ -1,5 +1,5 @@
 # Every command and every error, on copies of the basin. Sourced by tests/dispatch.sh.
-run() { printf '$ dispatch %s\n' "$*"; "$dispatch" "$@" || true; }
+run() { printf '$ dispatch %s\n' "$*"; "$bin" "$@" 2>&1 || echo "status $?"; }
 
 fresh one
 run
