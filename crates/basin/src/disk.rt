@@ -4,7 +4,6 @@ use crate::files;
 use crate::files::Contents;
 use crate::say;
 use answers::Answer;
-use answers::Written;
 use desk::names;
 use desk::names::File;
 use desk::names::Name;
