@@ -78,17 +78,17 @@ fresh ten
 echo '$ dispatch balance all, the disk full at its second call'
 stopping full 2 balance all
 run check
-echo '$ dispatch balance all, killed at its fifth call'
-stopping kill 5 balance all || ls
+echo '$ dispatch balance all, killed at its sixth call'
+stopping kill 6 balance all || ls
 run check
-echo '$ dispatch balance all, killed at its seventeenth call'
-stopping kill 17 balance all || ls
+echo '$ dispatch balance all, killed at its eighteenth call'
+stopping kill 18 balance all || ls
 run check
 ls
 
 # a committed save whose files were changed since, or whose commit was
 fresh eleven
-stopping kill 17 balance all >/dev/null || true
+stopping kill 18 balance all >/dev/null || true
 cp block-02.dmap.new kept
 printf x >>block-02.dmap.new
 run check

@@ -21,16 +21,22 @@ digits-tell : (a b : ℕ) → a < 16 → b < 16 → digits a b ≡ eqb a b
 unfolding digits
 digits-tell a b l h = same-truth (digits a b) (eqb a b) one both
   where
+    tens : Bool
+    tens = eqb (48 + a / 10 % 10) (48 + b / 10 % 10)
+
+    ones : Bool
+    ones = eqb (48 + a % 10) (48 + b % 10)
+
     one : digits a b ≡ true → eqb a b ≡ true
     one e =
-        let tens = eqb-true (48 + a / 10 % 10) (48 + b / 10 % 10) (and-left (eqb (48 + a / 10 % 10) (48 + b / 10 % 10)) (eqb (48 + a % 10) (48 + b % 10)) e) in
-        let ones = eqb-true (48 + a % 10) (48 + b % 10) (and-right (eqb (48 + a / 10 % 10) (48 + b / 10 % 10)) (eqb (48 + a % 10) (48 + b % 10)) e) in
+        let t = eqb-true (48 + a / 10 % 10) (48 + b / 10 % 10) (and-left tens ones e) in
+        let o = eqb-true (48 + a % 10) (48 + b % 10) (and-right tens ones e) in
         eq-eqb a b (omega arith)
 
     both : eqb a b ≡ true → digits a b ≡ true
     both e =
-        let s = eqb-true a b e in and-intro (eq-eqb (48 + a / 10 % 10) (48 + b / 10 % 10) (ap (λ (n : ℕ). 48 + n / 10 % 10) s))
-        (eq-eqb (48 + a % 10) (48 + b % 10) (ap (λ (n : ℕ). 48 + n % 10) s))
+        let s = eqb-true a b e in
+        and-intro (eq-eqb (48 + a / 10 % 10) (48 + b / 10 % 10) (ap (λ (n : ℕ). 48 + n / 10 % 10) s)) (eq-eqb (48 + a % 10) (48 + b % 10) (ap (λ (n : ℕ). 48 + n % 10) s))
 
 tails-same : (x y : Bool) → (x && (y && true)) ≡ (x && y)
 tails-same true true = refl

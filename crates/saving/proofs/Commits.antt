@@ -128,11 +128,9 @@ pieces-at g (suc n) b h = go (eq-or-lt-of-le (le-of-suc-le-suc h)) (pieces-at g 
     go : (b ≡ n) ⊎ (b < n) → (b < n → (rest : List ℕ) × (pieces g n ≡ pieces g b ++ (g b ++ rest))) → (rest : List ℕ) × (pieces g n ++ g n ≡ pieces g b ++ (g b ++ rest))
     go (inl e) r = ([], rw (e, append-nil (g n)))
     go (inr l) r =
-        let p = r l in (
-          p .0 ++ g n,
-          ap (λ (s : List ℕ). s ++ g n) (p .1) ∙ append-assoc (pieces g b) (g b ++ p .0) (g n)
-              ∙ ap (λ (s : List ℕ). pieces g b ++ s) (append-assoc (g b) (p .0) (g n)),
-        )
+        let p = r l in
+        let more = append-assoc (pieces g b) (g b ++ p .0) (g n) ∙ ap (λ (s : List ℕ). pieces g b ++ s) (append-assoc (g b) (p .0) (g n)) in
+        (p .0 ++ g n, ap (λ (s : List ℕ). s ++ g n) (p .1) ∙ more)
 
 pub pieces-length : (g : ℕ → List ℕ) (n : ℕ) → ((b : ℕ) → length (g b) ≡ 16) → length (pieces g n) ≡ 16 * n
 pieces-length g zero h = refl

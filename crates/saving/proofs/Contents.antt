@@ -65,15 +65,10 @@ saved m b {out} {after} w g =
     let bytes : List ℕ = file rack .put (block-in p) in
     let t : Bool = leb (length bytes) (length out) in
     let qs : List Check = (1, eqb (length p) words) ∷ (2, is-image rack p) ∷ (15, t) ∷ [] in
-    let put =
-    settled (eqb (first-no qs) 0) (first-no qs) bytes out after w
-    (g .answer ∙ answer-if qs out (length bytes) (bytes ++ drop (length bytes) out))
-    (g .left ∙ lent-if qs out (length bytes) (bytes ++ drop (length bytes) out))
-    in
-    let same =
-    fits-if (eqb (first-no ((1, eqb (length p) words) ∷ (2, is-image rack p) ∷ [])) 0) bytes out
-    ∙ ap (λ (z : Bool). when z bytes) (sym (third-question (eqb (length p) words) (is-image rack p) t))
-    in
+    let whole : List ℕ = bytes ++ drop (length bytes) out in
+    let put = settled (eqb (first-no qs) 0) (first-no qs) bytes out after w (g .answer ∙ answer-if qs out (length bytes) whole) (g .left ∙ lent-if qs out (length bytes) whole) in
+    let two : Bool = eqb (first-no ((1, eqb (length p) words) ∷ (2, is-image rack p) ∷ [])) 0 in
+    let same = fits-if two bytes out ∙ ap (λ (z : Bool). when z bytes) (sym (third-question (eqb (length p) words) (is-image rack p) t)) in
     record { answer = put .0 ∙ ap made-of (sym same); left = put .1 ∙ ap (λ (x : Option (List ℕ)). left-by x out) (sym same) }
 
 -- past the last block there is none

@@ -83,8 +83,8 @@ module _ {m : List ℕ} {k : ℕ} {start out : List ℕ} {past b : ℕ} (w : Ent
   pub enter-fits : b < k → past + 16 ≤ length out
   enter-fits h = omega (arith, place-fits (w .placing) h, entry-length (entry-of (file-of m b)))
 
-  pub enter-more : b < k → {e : Entry} {r : Known} → known-variants.Is e ≡ r → r ≡ known m b → {after : List ℕ} {next : ℕ}
-      → Stored out past (entry-bytes e) after next → Entering m k start after next (b + 1)
+  pub enter-more : b < k → {e : Entry} {r : Known} → known-variants.Is e ≡ r → r ≡ known m b → {after : List ℕ} {next : ℕ} → Stored out past (entry-bytes e) after next
+      → Entering m k start after next (b + 1)
   unfolding known
   enter-more h {e} i n {after} {next} s =
       let c = known-cases (savable m b) e (entry-of (file-of m b)) (i ∙ n) in

@@ -20,13 +20,13 @@ use Rattle.saving.specs.declared.plan.Step.{Step}
 use Rattle.saving.specs.declared.plan.Step.the-variants as step
 use Rattle.saving.specs.Plan.{steps, writing, committing, placing, ending, save-stages}
 use Rattle.saving.specs.Commit.{entry-of, commit-of, committed}
-use Rattle.saving.specs.Folder.{Folder, put, moved, does, all-of, at, Some, Cut, blocks-of, seen, Alike, saves, renewed, saving, SaveKeeps, Reading, read, ReadsOne}
+use Rattle.saving.specs.Folder.{Folder, put, moved, does, all-of, at, Some, Cut, blocks-of, seen, Alike, saves, renewed, saving, saved, SaveKeeps, Reading, read, ReadsOne}
 use Rattle.saving.proofs.Commits.{committed-back, entry-back}
 use Rattle.saving.proofs.Folders.{Steady, some-keeps, all-keeps, all-append, at-first, at-later, at-untouched, cut-at, cut-first, cut-none, some-end, some-rename}
 use Rattle.saving.proofs.Looked.{Right, sees-right, free-right, saved-right}
-use Rattle.saving.proofs.Seen.{new-new, newcommit-new, newcommit-block, newcommit-commit, newcommit-newcommit, commit-new, commit-block, commit-commit}
-use Rattle.saving.proofs.Seen.{Sees, sees-alike, sees-itself, sees-new, sees-newcommit, sees-place, place-gone, place-other, Rest, sees-rest, rest-ends}
-use Rattle.saving.proofs.Seen.{Held, held-alike, is-write, steady-step, steady-write, each-tab}
+use Rattle.saving.proofs.Seen.{new-new, newcommit-new, newcommit-block, newcommit-commit, newcommit-newcommit, commit-new, commit-block, commit-commit, commit-newcommit}
+use Rattle.saving.proofs.Seen.{Sees, sees-alike, sees-itself, sees-new, sees-newcommit, sees-place, place-gone, place-other, place-newcommit, Rest, sees-rest, rest-ends, Held, held-alike}
+use Rattle.saving.proofs.Seen.{steady-step, steady-write, each-tab}
 
 module _ (k : ℕ) (c : ℕ → List ℕ) (few : 1 ≤ k) (many : k ≤ 16) (d : Folder) (free : d file.Commit ≡ none) where
   -- what is written under the commit's new name
@@ -36,22 +36,33 @@ module _ (k : ℕ) (c : ℕ → List ℕ) (few : 1 ≤ k) (many : k ≤ 16) (d :
   of-k : committed bytes ≡ k
   of-k = let n = length-tab (λ b. entry-of (c b)) k in committed-back (tab (λ b. entry-of (c b)) k) (omega arith) (omega arith) ∙ n
 
-  -- THE FIRST STAGE: nothing that is written is seen
-  writing-steady : Each (Steady (saves k c) (Sees none (seen d))) (writing k)
-  unfolding writing
-  writing-steady = each-append (Steady (saves k c) (Sees none (seen d))) (tab (λ b. step.Write (file.NewBlock b)) k) (step.Write file.NewCommit ∷ [])
-      (each-tab (Steady (saves k c) (Sees none (seen d))) (λ b. step.Write (file.NewBlock b)) k
-      (λ b h. steady-write (saves k c) (Sees none (seen d)) (file.NewBlock b) (sees-new b (omega arith) (omega arith))))
-      (steady-write (saves k c) (Sees none (seen d)) file.NewCommit sees-newcommit, tt)
+  abbrev Old : Folder → Type 0
+  Old = Sees none (seen d)
 
-  start : Sees none (seen d) d
+  abbrev Placing : Folder → Type 0
+  Placing = Sees (some bytes) (renewed k c d)
+
+  abbrev Placed : Folder → Type 0
+  Placed = Rest (some bytes) (renewed k c d)
+
+  abbrev New : Folder → Type 0
+  New = Held (some bytes) (renewed k c d)
+
+  -- THE FIRST STAGE: nothing that is written is seen
+  writing-steady : Each (Steady (saves k c) Old) (writing k)
+  unfolding writing
+  writing-steady = each-append (Steady (saves k c) Old) (tab (λ b. step.Write (file.NewBlock b)) k) (step.Write file.NewCommit ∷ [])
+      (each-tab (Steady (saves k c) Old) (λ b. step.Write (file.NewBlock b)) k (λ b h. steady-write (saves k c) Old (file.NewBlock b) (sees-new b (omega arith) (omega arith))))
+      (steady-write (saves k c) Old file.NewCommit sees-newcommit, tt)
+
+  start : Old d
   start = rw free at (sees-itself d)
 
   abbrev written : Folder
   written = all-of (saves k c) (writing k) d
 
-  written-sees : Sees none (seen d) written
-  written-sees = all-keeps (saves k c) (Sees none (seen d)) (writing k) d writing-steady start
+  written-sees : Old written
+  written-sees = all-keeps (saves k c) Old (writing k) d writing-steady start
 
   -- and all of it is there at the end
   wrote : (n b : ℕ) → n < 16 → b < 16 → (e : Folder) → (b < n → e (file.NewBlock b) ≡ some (c b)) → b < suc n → does (saves k c) (step.Write (file.NewBlock n)) e (file.NewBlock b) ≡ some (c b)
@@ -96,7 +107,7 @@ module _ (k : ℕ) (c : ℕ → List ℕ) (few : 1 ≤ k) (many : k ≤ 16) (d :
   unfolding seen
   seen-old b h = rw (free, le-ltb b 0 (omega arith))
 
-  named-sees : Sees (some bytes) (renewed k c d) named
+  named-sees : Placing named
   named-sees = record {
     commit = ap (λ (e : Folder). e file.Commit) named-is ∙ newcommit-commit none (put file.Commit (some bytes) written) ∙ commit-commit (some bytes) written;
     below = λ b h l. let m : b < k = rw of-k at l in rw (lt-ltb b k m, new b h, written-new b h m);
@@ -110,10 +121,10 @@ module _ (k : ℕ) (c : ℕ → List ℕ) (few : 1 ≤ k) (many : k ≤ 16) (d :
       own b h = ap (λ (e : Folder). e (file.Block b)) named-is ∙ newcommit-block none (put file.Commit (some bytes) written) b h ∙ commit-block (some bytes) written b h
 
   -- EACH NEW FILE GETS ITS NAME
-  placing-steady : Each (Steady (saves k c) (Sees (some bytes) (renewed k c d))) (placing k)
+  placing-steady : Each (Steady (saves k c) Placing) (placing k)
   unfolding placing
-  placing-steady = each-tab (Steady (saves k c) (Sees (some bytes) (renewed k c d))) (λ b. step.Rename (file.NewBlock b) (file.Block b)) k
-      (λ b h. steady-step (saves k c) (Sees (some bytes) (renewed k c d)) (step.Rename (file.NewBlock b) (file.Block b)) refl (sees-place (saves k c) b (omega arith) (omega (arith, of-k))))
+  placing-steady = each-tab (Steady (saves k c) Placing) (λ b. step.Rename (file.NewBlock b) (file.Block b)) k
+      (λ b h. steady-step (saves k c) Placing (step.Rename (file.NewBlock b) (file.Block b)) refl (sees-place (saves k c) b (omega arith) (omega (arith, of-k))))
 
   placed : (n b : ℕ) → n < 16 → b < 16 → (e : Folder) → (b < n → e (file.NewBlock b) ≡ none) → b < suc n → does (saves k c) (step.Rename (file.NewBlock n) (file.Block n)) e (file.NewBlock b) ≡ none
   placed n b l h e r m = ⊎-elim
@@ -130,32 +141,27 @@ module _ (k : ℕ) (c : ℕ → List ℕ) (few : 1 ≤ k) (many : k ≤ 16) (d :
       ∙ placed n b (omega arith) (omega arith) (all-of (saves k c) renames e) (no-new-files n (omega arith) e b) h
 
   -- THE COMMIT GOES
-  all-placed : Rest (some bytes) (renewed k c d) (all-of (saves k c) (placing k) named)
+  all-placed : Placed (all-of (saves k c) (placing k) named)
   unfolding placing
-  all-placed = sees-rest (all-keeps (saves k c) (Sees (some bytes) (renewed k c d)) (placing k) named placing-steady named-sees) (λ b h l. no-new-files k many named b (omega (arith, of-k)))
+  all-placed = sees-rest (all-keeps (saves k c) Placing (placing k) named placing-steady named-sees) (λ b h l. no-new-files k many named b (omega (arith, of-k)))
 
-  ending-steady : Each (Steady (saves k c) (Rest (some bytes) (renewed k c d))) ending
+  ending-steady : Each (Steady (saves k c) Placed) ending
   unfolding ending
-  ending-steady = (steady-step (saves k c) (Rest (some bytes) (renewed k c d)) (step.Remove file.Commit) refl (rest-ends (saves k c)), tt)
+  ending-steady = (steady-step (saves k c) Placed (step.Remove file.Commit) refl (rest-ends (saves k c)), tt)
+
+  all-ended : Placed (all-of (saves k c) ending (all-of (saves k c) (placing k) named))
+  all-ended = all-keeps (saves k c) Placed ending (all-of (saves k c) (placing k) named) ending-steady all-placed
 
   -- WHAT A CUT LEAVES
-  abbrev Old : Folder → Type 0
-  Old = Sees none (seen d)
-
-  abbrev New : Folder → Type 0
-  New = Held (some bytes) (renewed k c d)
-
   early : (e : Folder) → Some (saves k c) (writing k) d e → Old e
   early e t = some-keeps (saves k c) Old t writing-steady start
 
   late : (e : Folder) → Cut (saves k c) (placing k ∷ ending ∷ []) named e → New e
   late e t = ⊎-elim
-      (λ s. inl (some-keeps (saves k c) (Sees (some bytes) (renewed k c d)) s placing-steady named-sees))
+      (λ s. inl (some-keeps (saves k c) Placing s placing-steady named-sees))
       (λ s. inr (⊎-elim
-      (λ r. some-keeps (saves k c) (Rest (some bytes) (renewed k c d)) r ending-steady all-placed)
-      (λ r. subst (Rest (some bytes) (renewed k c d)) (sym (cut-none r))
-      (all-keeps (saves k c) (Rest (some bytes) (renewed k c d)) ending (all-of (saves k c) (placing k) named) ending-steady
-      all-placed))
+      (λ r. some-keeps (saves k c) Placed r ending-steady all-placed)
+      (λ r. subst Placed (sym (cut-none r)) all-ended)
       (cut-first s)))
       (cut-first t)
 
@@ -193,12 +199,9 @@ module _ (k : ℕ) (c : ℕ → List ℕ) (few : 1 ≤ k) (many : k ≤ 16) (d :
   first-length : length first-steps ≡ k + 3
   unfolding writing
   first-length =
-      let n = length-tab (λ b. step.Write (file.NewBlock b)) k in
-      omega (
-        arith,
-        length-append (tab (λ b. step.Write (file.NewBlock b)) k ++ step.Write file.NewCommit ∷ []) (step.Keep ∷ []),
-        length-append (tab (λ b. step.Write (file.NewBlock b)) k) (step.Write file.NewCommit ∷ []),
-      )
+      let writes : List Step = tab (λ b. step.Write (file.NewBlock b)) k in
+      let n : length writes ≡ k = length-tab (λ b. step.Write (file.NewBlock b)) k in
+      omega (arith, length-append (writes ++ step.Write file.NewCommit ∷ []) (step.Keep ∷ []), length-append writes (step.Write file.NewCommit ∷ []))
 
   after-first : all-of (saves k c) first-steps d ≡ written
   unfolding does
@@ -245,6 +248,30 @@ module _ (k : ℕ) (c : ℕ → List ℕ) (few : 1 ≤ k) (many : k ≤ 16) (d :
       let one : k + 5 - (k + 4) ≡ 1 = omega arith in
       at-named (k + 5) (omega arith) ∙ ap (at (saves k c) (step.Keep ∷ steps (placing k ∷ ending ∷ [])) named) one
 
+  -- A SAVE THAT ENDS
+  abbrev placed-all : Folder
+  placed-all = all-of (saves k c) (placing k) named
+
+  saved-is : saved k c d ≡ put file.Commit none placed-all
+  unfolding does steps ending
+  saved-is =
+      ap (λ (ss : List Step). all-of (saves k c) ss d) all-steps
+      ∙ all-append (saves k c) first-steps later-steps d
+      ∙ ap (λ (g : Folder). all-of (saves k c) later-steps g) after-first
+      ∙ all-append (saves k c) (placing k) (step.Keep ∷ step.Remove file.Commit ∷ step.Keep ∷ []) named
+
+  saved-placed : Placed (saved k c d)
+  unfolding does ending
+  saved-placed = subst Placed (sym saved-is) all-ended
+
+  newcommit-gone : Each (Steady (saves k c) (λ e. e file.NewCommit ≡ none)) (placing k)
+  unfolding placing
+  newcommit-gone = each-tab (Steady (saves k c) (λ e. e file.NewCommit ≡ none)) (λ b. step.Rename (file.NewBlock b) (file.Block b)) k
+      (λ b h. steady-step (saves k c) (λ e. e file.NewCommit ≡ none) (step.Rename (file.NewBlock b) (file.Block b)) refl (λ e q. place-newcommit (saves k c) b (omega arith) e ∙ q))
+
+  named-newcommit : named file.NewCommit ≡ none
+  named-newcommit = ap (λ (e : Folder). e file.NewCommit) named-is ∙ newcommit-newcommit none (put file.Commit (some bytes) written)
+
   -- what is left looks right
   new-right : ((b : ℕ) → b < k → length (c b) < 2 ^ 64) → Right (some bytes) (renewed k c d)
   new-right f = saved-right (some bytes) (renewed k c d) c
@@ -258,6 +285,12 @@ module _ (k : ℕ) (c : ℕ → List ℕ) (few : 1 ≤ k) (many : k ≤ 16) (d :
     cut = λ e t. ⊎-elim (λ w. inl (sees-alike w)) (λ w. inr (held-alike w)) (wherever e t);
     kept = λ e t. held-alike (late e (subst (λ (g : Folder). Cut (saves k c) (placing k ∷ ending ∷ []) g e) kept-is t));
     looks = λ f e t. ⊎-elim (λ w. sees-right (free-right (seen d)) (inl w)) (λ w. sees-right (new-right f) w) (wherever e t);
+    named = saved-placed .named;
+    no-new = λ b h l. saved-placed .gone b h (omega (arith, of-k));
+    no-new-commit =
+        ap (λ (e : Folder). e file.NewCommit) saved-is ∙ commit-newcommit none placed-all
+        ∙ all-keeps (saves k c) (λ e. e file.NewCommit ≡ none) (placing k) named newcommit-gone named-newcommit;
+    no-commit = ap (λ (e : Folder). e file.Commit) saved-is ∙ commit-commit none placed-all;
   }
 
   -- A READER BESIDE IT

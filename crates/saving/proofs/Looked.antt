@@ -73,9 +73,9 @@ pub sees-right : {x : Option (List ℕ)} {t : ℕ → Option (List ℕ)} {e : Fo
 sees-right {x} {t} {e} r (inl w) b h q =
     let l : b < blocks-of x = rw (w .commit) at h in
     let s : b < 16 = omega (arith, blocks-few x) in
-    look-right (entry-in (bytes-of x) b) (e (file.NewBlock b)) (e (file.Block b))
-    (subst (λ (y : Option (List ℕ)). Committed y (entry-in (bytes-of x) b)) (sym (w .below b s l)) (r .each b s l))
-    (rw (w .commit) at q)
+    let entry : Entry = entry-in (bytes-of x) b in
+    let seen-right = subst (λ (y : Option (List ℕ)). Committed y entry) (sym (w .below b s l)) (r .each b s l) in
+    look-right entry (e (file.NewBlock b)) (e (file.Block b)) seen-right (rw (w .commit) at q)
 sees-right {x} {t} {e} r (inr w) b h q = ⊎-elim gone there (w .commit)
   where
     gone : e file.Commit ≡ none → ⊥
@@ -86,7 +86,8 @@ sees-right {x} {t} {e} r (inr w) b h q = ⊎-elim gone there (w .commit)
         let l : b < blocks-of x = rw n at h in
         let s : b < 16 = omega (arith, blocks-few x) in
         let y : first (e (file.NewBlock b)) (e (file.Block b)) ≡ t b = ap (λ (o : Option (List ℕ)). first o (e (file.Block b))) (w .gone b s l) ∙ w .named b s in
-        look-right (entry-in (bytes-of x) b) (e (file.NewBlock b)) (e (file.Block b)) (subst (λ (o : Option (List ℕ)). Committed o (entry-in (bytes-of x) b)) (sym y) (r .each b s l)) (rw n at q)
+        let entry : Entry = entry-in (bytes-of x) b in
+        look-right entry (e (file.NewBlock b)) (e (file.Block b)) (subst (λ (o : Option (List ℕ)). Committed o entry) (sym y) (r .each b s l)) (rw n at q)
 
 -- of any folder that looks right
 seen-new : (d : Folder) (b : ℕ) → b < blocks-of (d file.Commit) → seen d b ≡ first (d (file.NewBlock b)) (d (file.Block b))
@@ -95,9 +96,9 @@ seen-new d b l = rw (lt-ltb b (blocks-of (d file.Commit)) l)
 
 pub looks-committed : (d : Folder) → LooksRight d → Right (d file.Commit) (seen d)
 looks-committed d r = record {
-  each =
-      λ b h l. subst (λ (y : Option (List ℕ)). Committed y (entry-in (bytes-of (d file.Commit)) b)) (sym (seen-new d b l))
-      (right-look (entry-in (bytes-of (d file.Commit)) b) (d (file.NewBlock b)) (d (file.Block b)) (r b l));
+  each = λ b h l.
+      let entry : Entry = entry-in (bytes-of (d file.Commit)) b in
+      subst (λ (y : Option (List ℕ)). Committed y entry) (sym (seen-new d b l)) (right-look entry (d (file.NewBlock b)) (d (file.Block b)) (r b l));
 }
 
 -- WHERE FILES LOOK RIGHT, what is seen is what was committed

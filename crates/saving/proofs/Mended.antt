@@ -23,9 +23,9 @@ use Rattle.saving.specs.Folder.{Folder, put, does, all-of, Some, Cut, bl
 use Rattle.saving.proofs.Plans.{in-table, past-table}
 use Rattle.saving.proofs.Folders.{Steady, some-keeps, all-keeps, all-append, cut-first, cut-none, some-end}
 use Rattle.saving.proofs.Looked.{sees-right, looks-committed}
-use Rattle.saving.proofs.Seen.{new-new, new-newcommit, newcommit-new, newcommit-commit, newcommit-newcommit, commit-new, commit-commit}
-use Rattle.saving.proofs.Seen.{commit-newcommit, Sees, sees-itself, sees-new, sees-newcommit, sees-place, place-gone, place-other, place-newcommit}
-use Rattle.saving.proofs.Seen.{Rest, sees-rest, rest-ends, Held, held-alike, steady-step, steady-nothing, each-tab}
+use Rattle.saving.proofs.Seen.{new-new, new-newcommit, newcommit-new, newcommit-newcommit, commit-new, commit-commit, commit-newcommit}
+use Rattle.saving.proofs.Seen.{Sees, sees-itself, sees-new, sees-newcommit, sees-place, place-gone, place-other, place-newcommit, Rest, sees-rest, rest-ends, Held, held-alike}
+use Rattle.saving.proofs.Seen.{steady-step, steady-nothing, each-tab}
 
 none-there : (x : Option (List ℕ)) → is-some x ≡ false → x ≡ none
 none-there none e = refl
@@ -33,10 +33,8 @@ none-there (some bytes) e = absurd (true≢false e)
 
 -- A BLOCK'S STEP by cases: there is no new file; the commit has the block; it has it not
 module _ (Q : Step → Type 0) (k : ℕ) (l : List Bool) (j : ℕ) where
-  by-step : (getD l j false ≡ false → Q step.Nothing)
-      → (getD l j false ≡ true → j < k → Q (step.Rename (file.NewBlock j) (file.Block j)))
-      → (getD l j false ≡ true → k ≤ j → Q (step.Remove (file.NewBlock j)))
-      → Q (tidied k l j)
+  by-step : (getD l j false ≡ false → Q step.Nothing) → (getD l j false ≡ true → j < k → Q (step.Rename (file.NewBlock j) (file.Block j)))
+      → (getD l j false ≡ true → k ≤ j → Q (step.Remove (file.NewBlock j))) → Q (tidied k l j)
   unfolding tidied
   by-step p q r = by-cases (getD l j false)
       (λ e. rw e (by-cases (ltb j k) (λ m. rw m (q e (ltb-true j k m))) (λ m. rw m (r e (ltb-false j k m)))))

@@ -57,7 +57,8 @@ at c ss d zero = d
 at c [] d (suc n) = d
 at c (s ∷ ss) d (suc n) = at c ss (does c s d) n
 
--- A CUT. Of the stage under way the disk has each step or has it not; of a writing it may have any bytes, or no file
+-- A CUT, of power or of the program. Of the stage under way the disk has each step or has it not; of a writing it may have any bytes, or
+-- no file
 pub data Some (c : File → List ℕ) : List Step → Folder → Folder → Type 0 where
   no-more : {d : Folder} → Some c [] d d
   not-done : {s : Step} {ss : List Step} {d e : Folder} → Some c ss d e → Some c (s ∷ ss) d e
@@ -70,8 +71,8 @@ pub data Cut (c : File → List ℕ) : List (List Step) → Folder → Folder �
   within : {stage : List Step} {stages : List (List Step)} {d e : Folder} → Some c stage d e → Cut c (stage ∷ stages) d e
   past : {stage : List Step} {stages : List (List Step)} {d e : Folder} → Cut c stages (all-of c stage d) e → Cut c (stage ∷ stages) d e
 
--- WHAT IS SEEN: where there is a commit of k blocks, a block below k by its new file, if that is there; else by its own
--- (the program asks besides whether these bytes are the committed ones, and reads nothing where they are not)
+-- WHAT IS SEEN: where there is a commit of k blocks, a block below k by its new file, if that is there; else by its own. The program asks
+-- besides whether these bytes are the committed ones, and does nothing where they are not, so it never reads anything else
 abbrev pub blocks-of : Option (List ℕ) → ℕ
 blocks-of none = 0
 blocks-of (some bytes) = committed bytes
@@ -123,14 +124,22 @@ renewed k c d b = cond (ltb b k) (some (c b)) (d (file.Block b))
 abbrev pub saving : ℕ → (ℕ → List ℕ) → Folder → ℕ → Folder
 saving k c d n = at (saves k c) (steps (save-stages k)) d n
 
--- from a folder without a commit the old basin is seen until the commit has its name, by step k + 4, and the new one from then on; wherever
--- the save is cut, one of the two; the new one once a Keep has followed the commit; and what is left looks right to a mending
+abbrev pub saved : ℕ → (ℕ → List ℕ) → Folder → Folder
+saved k c d = all-of (saves k c) (steps (save-stages k)) d
+
+-- from a folder without a commit, of one block to sixteen: step by step the old basin is seen until step k + 4 has given the commit its
+-- name, and the new one from then on; wherever the save is cut, one of the two, and the new one once a Keep has followed that step; what
+-- is left looks right to a mending; a save that ends has the new basin under the blocks' own names, and leaves no other file of its own
 pub record SaveKeeps (k : ℕ) (c : ℕ → List ℕ) (d : Folder) : Type 0 where
   pub old : (n : ℕ) → n ≤ k + 3 → Alike (seen (saving k c d n)) (seen d)
   pub new : (n : ℕ) → k + 4 ≤ n → Alike (seen (saving k c d n)) (renewed k c d)
   pub cut : (e : Folder) → Cut (saves k c) (save-stages k) d e → Alike (seen e) (seen d) ⊎ Alike (seen e) (renewed k c d)
   pub kept : (e : Folder) → Cut (saves k c) (placing k ∷ ending ∷ []) (saving k c d (k + 5)) e → Alike (seen e) (renewed k c d)
   pub looks : ((b : ℕ) → b < k → length (c b) < 2 ^ 64) → (e : Folder) → Cut (saves k c) (save-stages k) d e → LooksRight e
+  pub named : Alike (λ b. saved k c d (file.Block b)) (renewed k c d)
+  pub no-new : (b : ℕ) → b < 16 → b < k → saved k c d (file.NewBlock b) ≡ none
+  pub no-new-commit : saved k c d file.NewCommit ≡ none
+  pub no-commit : saved k c d file.Commit ≡ none
 
 -- A MENDING, by what it finds
 abbrev pub there : Folder → List Bool
@@ -164,8 +173,8 @@ pub record MendKeeps (d : Folder) : Type 0 where
   pub no-new-commit : mended d file.NewCommit ≡ none
   pub no-commit : Readable d → mended d file.Commit ≡ none
 
--- A READER BESIDE A SAVE. It opens the blocks one after the other; at a later instant there is no commit; after that each name still has
--- the file that was opened: no step between has put another there or taken it away
+-- A READER BESIDE A SAVE. It opens the blocks one after the other, at the times `opened`; at a later instant it finds no commit; later, at
+-- the times `again`, each name still has the file that was opened: no step between has put another there or taken it away
 abbrev pub touches : Step → File → Bool
 touches (step.Write f) g = same-name f g
 touches (step.Rename f h) g = same-name f g || same-name h g

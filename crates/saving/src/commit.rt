@@ -3,7 +3,8 @@ ghost use mathlib.Core.Path.{_≡_};
 ghost use Prim.Native.Nat.{_+_, _≤_, _<_};
 ghost use lib.ListN.{length};
 ghost use Rattle.groups.specs.Slices.{Stored};
-ghost use Rattle.saving.specs.Commit.{modulus, digest as digest-in, entry-of as entry-for, entry-bytes, word-in as word-of, committed as committed-in, entry-in as entry-at};
+ghost use Rattle.saving.specs.Commit.{digest as digest-in, entry-of as entry-for, entry-bytes};
+ghost use Rattle.saving.specs.Commit.{word-in as word-of, committed as committed-in, entry-in as entry-at};
 use groups::Read;
 
 // What a commit says of a file: its length and its digest.
@@ -44,7 +45,7 @@ pub fn entry_of(bytes: &[u8]) -> Entry
 }
 
 // An entry's two words.
-pub fn put_entry(e: Entry, out: &mut [u8], at: usize) -> usize
+pub(crate) fn put_entry(e: Entry, out: &mut [u8], at: usize) -> usize
     requires { ⌜ at + 16 ≤ length (now out) ⌝ }
     ensures { λ r. ⌜ Stored (now (out .entry)) at (entry-bytes e) (now (out .exit)) r ⌝ }
 {
