@@ -1,3 +1,5 @@
 pub mod Tally
 pub mod Pieces
 pub mod Groups
+pub mod Rows
+pub mod Counting
