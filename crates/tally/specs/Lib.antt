@@ -3,3 +3,4 @@ pub mod Pieces
 pub mod Groups
 pub mod Rows
 pub mod Counting
+pub mod Examples

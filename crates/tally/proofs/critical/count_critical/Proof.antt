@@ -28,53 +28,85 @@ loop-holds c =
 
 mul-i : tie.Need-mul-i Inv-loop μ-loop
 mul-i c =
-    omega (arith, c .loop-test .taken, in-order-few (c .before .before .before .before .before .pre .1) .1)
+    let start : tie.Start Inv-loop μ-loop = search in
+    omega (arith, c .loop-test .taken, in-order-few (start .pre .1) .1)
 
 shared-slice-read-i : tie.Need-shared-slice-read-i Inv-loop μ-loop
 shared-slice-read-i c =
-    omega (arith, c .before .loop-test .taken, in-order-few (c .before .before .before .before .before .before .pre .1) .1, c .before .before .before .before .before .before .pre .1 .starts-size)
+    let start : tie.Start Inv-loop μ-loop = search in
+    let loop-test-taken = (let p : tie.In-loop Inv-loop μ-loop = search in p .loop-test .taken) in
+    omega (arith, loop-test-taken, in-order-few (start .pre .1) .1, start .pre .1 .starts-size)
 
 mul-p : tie.Need-mul-p Inv-loop μ-loop
 mul-p c =
-    omega (arith, first-dart (c .before .before .before .before .before .before .pre .0) (c .before .before .before .before .before .before .pre .1) (c .before .before .loop .f) (c .before .loop-test .taken) .0, in-order-few (c .before .before .before .before .before .before .pre .1) .0)
+    let start : tie.Start Inv-loop μ-loop = search in
+    let loop-f = (let p : tie.At-loop Inv-loop μ-loop = search in p .loop .f) in
+    let loop-test-taken = (let p : tie.In-loop Inv-loop μ-loop = search in p .loop-test .taken) in
+    omega (arith, first-dart (start .pre .0) (start .pre .1) loop-f loop-test-taken .0, in-order-few (start .pre .1) .0)
 
 shared-slice-read-p : tie.Need-shared-slice-read-p Inv-loop μ-loop
 shared-slice-read-p c =
-    omega (arith, first-dart (c .before .before .before .before .before .before .before .pre .0) (c .before .before .before .before .before .before .before .pre .1) (c .before .before .before .loop .f) (c .before .before .loop-test .taken) .0, in-order-few (c .before .before .before .before .before .before .before .pre .1) .0, c .before .before .before .before .before .before .before .pre .1 .out-size)
+    let start : tie.Start Inv-loop μ-loop = search in
+    let loop-f = (let p : tie.At-loop Inv-loop μ-loop = search in p .loop .f) in
+    let loop-test-taken = (let p : tie.In-loop Inv-loop μ-loop = search in p .loop-test .taken) in
+    omega (arith, first-dart (start .pre .0) (start .pre .1) loop-f loop-test-taken .0, in-order-few (start .pre .1) .0, start .pre .1 .out-size)
 
 add-f : tie.Need-add-f Inv-loop μ-loop
 add-f c =
-    omega (arith, c .before .before .loop-test .taken, in-order-few (c .before .before .before .before .before .before .before .pre .1) .1)
+    let start : tie.Start Inv-loop μ-loop = search in
+    let loop-test-taken = (let p : tie.In-loop Inv-loop μ-loop = search in p .loop-test .taken) in
+    omega (arith, loop-test-taken, in-order-few (start .pre .1) .1)
 
 is-critical-requires : tie.Need-is-critical-requires Inv-loop μ-loop
 is-critical-requires c κs =
-    (omega (arith, first-dart (c .before .before .before .before .before .before .before .pre .0) (c .before .before .before .before .before .before .before .pre .1) (c .before .before .before .loop .f) (c .before .before .loop-test .taken) .2, c .before .before .before .before .before .before .before .pre .0 .few), c .before .before .before .before .before .before .before .pre .0 .size)
+    let start : tie.Start Inv-loop μ-loop = search in
+    let loop-f = (let p : tie.At-loop Inv-loop μ-loop = search in p .loop .f) in
+    let loop-test-taken = (let p : tie.In-loop Inv-loop μ-loop = search in p .loop-test .taken) in
+    (omega (arith, first-dart (start .pre .0) (start .pre .1) loop-f loop-test-taken .2, start .pre .0 .few), start .pre .0 .size)
 
 loop-less : tie.Need-loop-less Inv-loop μ-loop
 loop-less c =
-    omega (arith, c .before .before .before .before .loop-test .taken)
+    let loop-test-taken = (let p : tie.In-loop Inv-loop μ-loop = search in p .loop-test .taken) in
+    omega (arith, loop-test-taken)
 
 loop-again : tie.Need-loop-again Inv-loop μ-loop
 loop-again c =
-    let at = first-dart (c .before .before .before .before .before .before .before .before .before .pre .0) (c .before .before .before .before .before .before .before .before .before .pre .1) (c .before .before .before .before .before .loop .f) (c .before .before .before .before .loop-test .taken) .1 in
-    (omega (arith, c .before .before .before .before .loop-test .taken), omega (arith, c .before .before .before .before .before .loop .inv .1), count-skip (λ l. critical-at (c .before .before .before .before .before .before .before .before .before .args .block .now) (start-of l)) (faces (column (c .before .before .before .before .before .before .before .before .before .args .block .now) 1) (tab (λ p. p) (c .before .before .before .before .before .before .before .before .before .args .n))) (c .before .before .before .before .before .loop .f) _ (c .before .before .before .before .before .loop .inv .2) (omega (arith, c .before .before .before .before .loop-test .taken, c .before .before .before .before .before .before .before .before .before .pre .1 .count-is)) (sym (c .before .is-critical .ensures ∙ ap (critical-at (c .before .before .before .before .before .before .before .before .before .args .block .now)) at) ∙ not-true _ (c .if1 .taken)))
+    let start : tie.Start Inv-loop μ-loop = search in
+    let loop-f = (let p : tie.At-loop Inv-loop μ-loop = search in p .loop .f) in
+    let loop-inv = (let p : tie.At-loop Inv-loop μ-loop = search in p .loop .inv) in
+    let loop-test-taken = (let p : tie.In-loop Inv-loop μ-loop = search in p .loop-test .taken) in
+    let is-critical-ensures = (let p : tie.After-is-critical Inv-loop μ-loop = search in p .is-critical .ensures) in
+    let at = first-dart (start .pre .0) (start .pre .1) loop-f loop-test-taken .1 in
+    (omega (arith, loop-test-taken), omega (arith, loop-inv .1), count-skip (λ l. critical-at (start .args .block .now) (start-of l)) (faces (column (start .args .block .now) 1) (tab (λ p. p) (start .args .n))) loop-f _ (loop-inv .2) (omega (arith, loop-test-taken, start .pre .1 .count-is)) (sym (is-critical-ensures ∙ ap (critical-at (start .args .block .now)) at) ∙ not-true _ (c .if1 .taken)))
 
 add-critical : tie.Need-add-critical Inv-loop μ-loop
 add-critical c =
-    omega (arith, c .before .before .before .before .before .loop .inv .1, c .before .before .before .before .loop-test .taken, in-order-few (c .before .before .before .before .before .before .before .before .before .pre .1) .1)
+    let start : tie.Start Inv-loop μ-loop = search in
+    let loop-inv = (let p : tie.At-loop Inv-loop μ-loop = search in p .loop .inv) in
+    let loop-test-taken = (let p : tie.In-loop Inv-loop μ-loop = search in p .loop-test .taken) in
+    omega (arith, loop-inv .1, loop-test-taken, in-order-few (start .pre .1) .1)
 
 loop-less-2 : tie.Need-loop-less-2 Inv-loop μ-loop
 loop-less-2 c =
-    omega (arith, c .before .before .before .before .loop-test .taken)
+    let loop-test-taken = (let p : tie.In-loop Inv-loop μ-loop = search in p .loop-test .taken) in
+    omega (arith, loop-test-taken)
 
 loop-again-2 : tie.Need-loop-again-2 Inv-loop μ-loop
 loop-again-2 c =
-    let at = first-dart (c .before .before .before .before .before .before .before .before .before .pre .0) (c .before .before .before .before .before .before .before .before .before .pre .1) (c .before .before .before .before .before .loop .f) (c .before .before .before .before .loop-test .taken) .1 in
-    (omega (arith, c .before .before .before .before .loop-test .taken), omega (arith, c .before .before .before .before .before .loop .inv .1), count-one (λ l. critical-at (c .before .before .before .before .before .before .before .before .before .args .block .now) (start-of l)) (faces (column (c .before .before .before .before .before .before .before .before .before .args .block .now) 1) (tab (λ p. p) (c .before .before .before .before .before .before .before .before .before .args .n))) (c .before .before .before .before .before .loop .f) _ (c .before .before .before .before .before .loop .inv .2) (omega (arith, c .before .before .before .before .loop-test .taken, c .before .before .before .before .before .before .before .before .before .pre .1 .count-is)) (sym (c .before .is-critical .ensures ∙ ap (critical-at (c .before .before .before .before .before .before .before .before .before .args .block .now)) at) ∙ not-false _ (c .if1 .left)))
+    let start : tie.Start Inv-loop μ-loop = search in
+    let loop-f = (let p : tie.At-loop Inv-loop μ-loop = search in p .loop .f) in
+    let loop-inv = (let p : tie.At-loop Inv-loop μ-loop = search in p .loop .inv) in
+    let loop-test-taken = (let p : tie.In-loop Inv-loop μ-loop = search in p .loop-test .taken) in
+    let is-critical-ensures = (let p : tie.After-is-critical Inv-loop μ-loop = search in p .is-critical .ensures) in
+    let at = first-dart (start .pre .0) (start .pre .1) loop-f loop-test-taken .1 in
+    (omega (arith, loop-test-taken), omega (arith, loop-inv .1), count-one (λ l. critical-at (start .args .block .now) (start-of l)) (faces (column (start .args .block .now) 1) (tab (λ p. p) (start .args .n))) loop-f _ (loop-inv .2) (omega (arith, loop-test-taken, start .pre .1 .count-is)) (sym (is-critical-ensures ∙ ap (critical-at (start .args .block .now)) at) ∙ not-false _ (c .if1 .left)))
 
 returns : tie.Need-returns Inv-loop μ-loop
 returns c =
-    count-all (λ l. critical-at (c .before .before .before .before .before .args .block .now) (start-of l)) (faces (column (c .before .before .before .before .before .args .block .now) 1) (tab (λ p. p) (c .before .before .before .before .before .args .n))) (c .before .loop .f) _ (c .before .loop .inv .2) (omega (arith, c .loop-test .left, c .before .before .before .before .before .pre .1 .count-is))
+    let start : tie.Start Inv-loop μ-loop = search in
+    let loop-f = (let p : tie.At-loop Inv-loop μ-loop = search in p .loop .f) in
+    let loop-inv = (let p : tie.At-loop Inv-loop μ-loop = search in p .loop .inv) in
+    count-all (λ l. critical-at (start .args .block .now) (start-of l)) (faces (column (start .args .block .now) 1) (tab (λ p. p) (start .args .n))) loop-f _ (loop-inv .2) (omega (arith, c .loop-test .left, start .pre .1 .count-is))
 
 pub count-critical-spec : {M : Type 1} → statement M
 count-critical-spec =

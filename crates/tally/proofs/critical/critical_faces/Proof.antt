@@ -13,7 +13,8 @@ use Rattle.tally.proofs.critical.critical_faces.Tie as tie
 
 shared-slice-read-n : tie.Need-shared-slice-read-n
 shared-slice-read-n c =
-    omega (arith, sited rack (c .before .before .args .block .now) (c .before .before .pre) .linked .size)
+    let start : tie.Start = search in
+    omega (arith, sited rack (start .args .block .now) (start .pre) .linked .size)
 
 slice-aggregate-scanned-order : tie.Need-slice-aggregate-scanned-order
 slice-aggregate-scanned-order c = search needs
@@ -29,8 +30,9 @@ slice-aggregate-scanned-order-4 c = search needs
 
 scanned-order-requires : tie.Need-scanned-order-requires
 scanned-order-requires c κs =
-    let m = c .before .before .before .before .before .before .args .block .now in
-    let ok = c .before .before .before .before .before .before .pre in
+    let start : tie.Start = search in
+    let m = start .args .block .now in
+    let ok = start .pre in
     let linked = sited rack m ok .linked in
     ((linked, length-replicate {A = ℕ} room 1, all-closed linked, all-count (getD m 2 0) (linked .few)), ((omega arith, λ q h one. omega arith), (length-replicate {A = ℕ} room 0, length-replicate {A = ℕ} room 0, refl)))
 
@@ -42,14 +44,17 @@ slice-aggregate-count-critical-2 c = search needs
 
 count-critical-requires : tie.Need-count-critical-requires
 count-critical-requires c κs =
-    let m = c .before .before .before .before .before .before .before .before .before .before .before .before .args .block .now in
-    let ok = c .before .before .before .before .before .before .before .before .before .before .before .before .pre in
+    let start : tie.Start = search in
+    let scanned-order-ensures = (let p : tie.After-scanned-order = search in p .scanned-order .ensures) in
+    let m = start .args .block .now in
+    let ok = start .pre in
     let linked = sited rack m ok .linked in
-    (linked, order-all m (getD m 2 0) (linked .few) (c .before .before .before .before .before .scanned-order .ensures .0))
+    (linked, order-all m (getD m 2 0) (linked .few) (scanned-order-ensures .0))
 
 returns : tie.Need-returns
 returns c =
-    c .count-critical .ensures ∙ critical-count (c .before .before .before .before .before .before .before .before .before .before .before .before .before .args .block .now) (c .before .before .before .before .before .before .before .before .before .before .before .before .before .pre)
+    let start : tie.Start = search in
+    c .count-critical .ensures ∙ critical-count (start .args .block .now) (start .pre)
 
 pub critical-faces-spec : {M : Type 1} → statement M
 critical-faces-spec =
