@@ -68,7 +68,7 @@ critical-third s k a (kind-free e f) = rw (third-free s k a e, ne-eqb (k % 4) 2 
 critical-third s k a (kind-sewn e) = rw (third-sewn s k a e, ne-eqb (k % 4) 2 (λ x. omega arith))
 critical-third s k a (kind-critical e f g) = rw (third-critical s k a e, eq-eqb (k % 4) 2 e)
 
-start-map : (s : ℕ → ℕ) (f : List ℕ) → 0 < length f → start-of (map s f) ≡ s (start-of f)
+pub start-map : (s : ℕ → ℕ) (f : List ℕ) → 0 < length f → start-of (map s f) ≡ s (start-of f)
 start-map s [] h = absurd (omega arith)
 start-map s (x ∷ f) h = refl
 

@@ -181,16 +181,18 @@ module _ (m : List ℕ) (ok : is-image rack m ≡ true) where
       (λ x k. mem-map s x (group-of true m p) (λ y i e. serials-apart site x y (places-below (count-in m) x k) (group-below (joined m ok) true p h y i) e))))
 
   -- without third links a group is a cell
-  pub cell-places : (p : ℕ) → p < count-in m → places-in (count-in m) (group-of false m p) ≡ places-in (count-in m) (volume-of m p)
-  unfolding places-in
-  cell-places p h = keep-cong (λ x. mem x (group-of false m p)) (λ x. mem x (volume-of m p)) (places (count-in m))
-      (λ x k. same-truth (mem x (group-of false m p)) (mem x (volume-of m p)) (inside x) (volume-inside (joined m ok) false p h x))
+  pub cell-mem : (p : ℕ) → p < count-in m → (x : ℕ) → mem x (group-of false m p) ≡ mem x (volume-of m p)
+  cell-mem p h x = same-truth (mem x (group-of false m p)) (mem x (volume-of m p)) (inside x) (volume-inside (joined m ok) false p h x)
     where
       inside : (x : ℕ) → In x (group-of false m p) → In x (volume-of m p)
       inside =
           let v = volume-linked (site .linked) h in
           group-linked (joined m ok) false p h .least (λ x. In x (volume-of m p)) (v .here)
           (λ x z i k. link-cases false m x z k (λ e. rw e (v .closed-f x i)) (λ e. rw e (v .closed-g x i)) (λ e. rw e i))
+
+  cell-places : (p : ℕ) → p < count-in m → places-in (count-in m) (group-of false m p) ≡ places-in (count-in m) (volume-of m p)
+  unfolding places-in
+  cell-places p h = keep-cong (λ x. mem x (group-of false m p)) (λ x. mem x (volume-of m p)) (places (count-in m)) (λ x k. cell-mem p h x)
 
   pub group-serials : (third : Bool) (p : ℕ) → p < count-in m → map s (places-in (count-in m) (group-of third m p)) ≡ group-in third ds (s p)
   group-serials true p h = piece-serials p h

@@ -452,6 +452,7 @@ through-all {third} {m} {G} {firsts} {o} {count} {t} {p} w h =
       len-f = w .len-f;
       count-is = w .count-is ∙ ap (λ (k : ℕ). length (firsts-below third m k)) e;
       firsts-are = w .firsts-are ∙ ap (firsts-below third m) e;
+      within = λ q k. let seen = w .covered q (omega arith) in let r = w .range q seen in (seen, omega (arith, r .1, w .number (r .0) q (r .1) (r .2)));
       number = λ i q l k. same-truth (eqb (getD G q 0) (suc i)) (mem q (group-of third m (getD firsts i 0)))
           (λ y. let one = eqb-true (getD G q 0) (suc i) y in
           let r = w .range q (omega arith) in

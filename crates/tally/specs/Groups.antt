@@ -71,4 +71,5 @@ pub record Grouped (third : Bool) (m G firsts : List ℕ) (count : ℕ) : Type 0
   pub len-f : length firsts ≡ room
   pub count-is : count ≡ length (firsts-below third m (getD m 2 0))
   pub firsts-are : take count firsts ≡ firsts-below third m (getD m 2 0)
+  pub within : (q : ℕ) → q < getD m 2 0 → (0 < getD G q 0) × (getD G q 0 ≤ count)
   pub number : (j q : ℕ) → j < count → q < getD m 2 0 → eqb (getD G q 0) (suc j) ≡ mem q (group-of third m (getD firsts j 0))

@@ -7,6 +7,7 @@ pub mod counts; // counts.rt: what is told of a block
 pub mod critical; // critical.rt: its critical faces, counted
 pub mod groups; // groups.rt: its darts in groups, cells or pieces
 pub mod pieces; // pieces.rt: its pieces, counted
+pub mod rows; // rows.rt: the figures of each of its cells
 
 pub use counts::Tally;
 
