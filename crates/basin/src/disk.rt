@@ -3,7 +3,6 @@
 use crate::files;
 use crate::files::Contents;
 use crate::say;
-use answers::Answer;
 use desk::names;
 use desk::names::File;
 use desk::names::Name;
@@ -15,117 +14,6 @@ use saving::plan;
 use saving::plan::Step;
 use saving::prepare;
 use saving::prepare::Act;
-
-// How reading one block went.
-enum Reading {
-    Block,
-    Nothing,
-    Trouble,
-}
-
-// A block's file that was read, into its memory.
-fn take(name: &[u8], file: &[u8], block: &mut [u64]) -> Reading {
-    match readfile::read_file(file, block) {
-        Answer::Served => Reading::Block,
-        Answer::Refused(r) => {
-            let question = answers::refusal_number(r);
-            say::refused(question);
-            say::text(name);
-            say::text(b": ");
-            say::meaning(question);
-            say::text(b"\n");
-            Reading::Trouble
-        }
-    }
-}
-
-// The bytes of a block's file, where they could be read.
-pub fn contents_of(name: &[u8], room: &mut [u8]) -> Contents {
-    let c = files::read(name, room);
-    match c {
-        Contents::Failed(e) => say::failed(b"cannot read", name, e),
-        Contents::TooLarge => {
-            say::text(b"error: too large for a block: ");
-            say::text(name);
-            say::text(b"\n");
-        }
-        Contents::Missing => {}
-        Contents::Bytes(_) => {}
-    }
-    c
-}
-
-// Reads one block.
-fn read_block(name: &[u8], block: &mut [u64], room: &mut [u8]) -> Reading {
-    match contents_of(name, room) {
-        Contents::Bytes(n) => {
-            if n <= room.len() {
-                return take(name, &room[0..n], block);
-            }
-            Reading::Trouble
-        }
-        Contents::Missing => Reading::Nothing,
-        Contents::TooLarge => Reading::Trouble,
-        Contents::Failed(_) => Reading::Trouble,
-    }
-}
-
-// Reads block b into its part of the mesh.
-fn read_part(b: usize, mesh: &mut [u64], room: &mut [u8]) -> Reading {
-    if b < mesh.len() / 32776 {
-        let from = b * 32776;
-        let end = from + 32776;
-        return read_block(&names::block(b), &mut mesh[from..end], room);
-    }
-    Reading::Nothing
-}
-
-// Whether a block's file stands behind one that is missing.
-fn has_gap(k: usize) -> bool {
-    let mut b = k;
-    while b < 16 {
-        if files::is_there(&names::block(b)) {
-            say::text(b"error: ");
-            say::text(&names::block(k));
-            say::text(b" is missing, and ");
-            say::text(&names::block(b));
-            say::text(b" is there\n");
-            return true;
-        }
-        b += 1;
-    }
-    false
-}
-
-// How many blocks there are once the one after the last is not found; 0 where that is no basin.
-fn counted(k: usize) -> usize {
-    if has_gap(k) {
-        return 0;
-    }
-    if k == 0 {
-        say::error(b"there is no block-00.dmap in this folder");
-    }
-    k
-}
-
-// Reads the blocks from 00 on; how many, or 0 where something is wrong, which is said.
-fn load(mesh: &mut [u64], room: &mut [u8]) -> usize {
-    let mut k = 0;
-    while k < 16 {
-        match read_part(k, mesh, room) {
-            Reading::Block => {
-                k += 1;
-            }
-            Reading::Nothing => {
-                return counted(k);
-            }
-            Reading::Trouble => {
-                return 0;
-            }
-        }
-    }
-    k
-}
 
 // A file's name is the first n bytes of a text.
 fn write_named(name: &[u8], n: usize, bytes: &[u8]) -> i32 {
@@ -158,13 +46,6 @@ fn is_named(name: &[u8], n: usize) -> bool {
     false
 }
 
-fn read_named(name: &[u8], n: usize, room: &mut [u8]) -> Contents {
-    if n <= name.len() {
-        return contents_of(&name[0..n], room);
-    }
-    Contents::Missing
-}
-
 // The first n bytes of a room under a name.
 fn write(name: Name, room: &[u8], n: usize) -> i32 {
     if n <= room.len() {
@@ -194,7 +75,7 @@ fn is_there(file: File) -> bool {
 fn read(file: File, room: &mut [u8]) -> Contents {
     let name = names::name_of(file);
     let text = name.bytes;
-    read_named(&text, name.size, room)
+    files::read_named(&text, name.size, room)
 }
 
 // One step, with the names and the bytes that `prepare` gives; 0, or the error of the system.
@@ -256,9 +137,9 @@ fn are_right(bytes: &[u8], k: usize, room: &mut [u8]) -> bool {
                 b += 1;
             }
             Look::Wrong => {
-                say::text(b"error: the files of ");
-                say::text(&names::block(b));
-                say::text(b" are not those of basin.commit: nothing is changed\n");
+                say::complain(b"error: the files of ");
+                say::complain(&names::block(b));
+                say::complain(b" are not those of basin.commit: nothing is changed\n");
                 return false;
             }
         }
@@ -282,7 +163,7 @@ fn new_files() -> [bool; 17] {
 fn mend_steps(k: usize, there: &[bool]) -> bool {
     let mut nothing = [0u8; 1];
     let mut i = 0;
-    while i < plan::MEND_STEPS {
+    while i < 20 {
         let e = carry_out(plan::mend(k, there, i), &[], &mut nothing);
         if e != 0 {
             say::failed(b"cannot finish a save in", b"this folder", e);
@@ -329,7 +210,7 @@ fn finish(bytes: &[u8], room: &mut [u8]) -> bool {
     if !mend_found(k) {
         return false;
     }
-    say::text(b"finished a save that was cut short\n");
+    say::text(b"# finished a save that was cut short\n");
     true
 }
 
@@ -361,7 +242,7 @@ pub fn mend() -> bool {
 fn save_mesh(mesh: &[u64], room: &mut [u8]) -> bool {
     let k = mesh.len() / 32776;
     let mut i = 0;
-    while i < plan::SAVE_STEPS {
+    while i < 39 {
         let e = carry_out(plan::save(k, i), mesh, room);
         if e != 0 {
             say::failed(b"cannot save the blocks in", b"this folder", e);
@@ -373,23 +254,13 @@ fn save_mesh(mesh: &[u64], room: &mut [u8]) -> bool {
     true
 }
 
-// Saves the first k blocks.
-pub fn save(k: usize, mesh: &[u64], room: &mut [u8]) {
-    if mesh.len() / 32776 < k {
-        return;
+// Saves the blocks of a mesh; whether they are saved, which is said.
+pub fn save(mesh: &[u64], room: &mut [u8]) -> bool {
+    if !save_mesh(mesh, room) {
+        return false;
     }
-    let end = k * 32776;
-    if save_mesh(&mesh[0..end], room) {
-        say::text(b"saved ");
-        say::number(k as u64);
-        say::text(b" blocks\n");
-    }
-}
-
-// Mends the basin and reads its blocks; how many, or 0 where something is wrong, which is said.
-pub fn open(mesh: &mut [u64], room: &mut [u8]) -> usize {
-    if !mend() {
-        return 0;
-    }
-    load(mesh, room)
+    say::text(b"# saved ");
+    say::number((mesh.len() / 32776) as u64);
+    say::text(b" blocks\n");
+    true
 }

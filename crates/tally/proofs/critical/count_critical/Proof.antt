@@ -76,8 +76,14 @@ loop-again c =
     let loop-inv = (let p : tie.At-loop Inv-loop μ-loop = search in p .loop .inv) in
     let loop-test-taken = (let p : tie.In-loop Inv-loop μ-loop = search in p .loop-test .taken) in
     let is-critical-ensures = (let p : tie.After-is-critical Inv-loop μ-loop = search in p .is-critical .ensures) in
-    let at = first-dart (start .pre .0) (start .pre .1) loop-f loop-test-taken .1 in
-    (omega (arith, loop-test-taken), omega (arith, loop-inv .1), count-skip (λ l. critical-at (start .args .block .now) (start-of l)) (faces (column (start .args .block .now) 1) (tab (λ p. p) (start .args .n))) loop-f _ (loop-inv .2) (omega (arith, loop-test-taken, start .pre .1 .count-is)) (sym (is-critical-ensures ∙ ap (critical-at (start .args .block .now)) at) ∙ not-true _ (c .if1 .taken)))
+    let at = first-dart (start .pre .0) (start .pre .1) loop-f loop-test-taken .1 in (
+      omega (arith, loop-test-taken),
+      omega (arith, loop-inv .1),
+      count-skip (λ l. critical-at (start .args .block .now) (start-of l))
+          (faces (column (start .args .block .now) 1) (tab (λ p. p) (start .args .n))) loop-f _ (loop-inv .2)
+          (omega (arith, loop-test-taken, start .pre .1 .count-is))
+          (sym (is-critical-ensures ∙ ap (critical-at (start .args .block .now)) at) ∙ not-true _ (c .if1 .taken)),
+    )
 
 add-critical : tie.Need-add-critical Inv-loop μ-loop
 add-critical c =
@@ -98,15 +104,23 @@ loop-again-2 c =
     let loop-inv = (let p : tie.At-loop Inv-loop μ-loop = search in p .loop .inv) in
     let loop-test-taken = (let p : tie.In-loop Inv-loop μ-loop = search in p .loop-test .taken) in
     let is-critical-ensures = (let p : tie.After-is-critical Inv-loop μ-loop = search in p .is-critical .ensures) in
-    let at = first-dart (start .pre .0) (start .pre .1) loop-f loop-test-taken .1 in
-    (omega (arith, loop-test-taken), omega (arith, loop-inv .1), count-one (λ l. critical-at (start .args .block .now) (start-of l)) (faces (column (start .args .block .now) 1) (tab (λ p. p) (start .args .n))) loop-f _ (loop-inv .2) (omega (arith, loop-test-taken, start .pre .1 .count-is)) (sym (is-critical-ensures ∙ ap (critical-at (start .args .block .now)) at) ∙ not-false _ (c .if1 .left)))
+    let at = first-dart (start .pre .0) (start .pre .1) loop-f loop-test-taken .1 in (
+      omega (arith, loop-test-taken),
+      omega (arith, loop-inv .1),
+      count-one (λ l. critical-at (start .args .block .now) (start-of l))
+          (faces (column (start .args .block .now) 1) (tab (λ p. p) (start .args .n))) loop-f _ (loop-inv .2)
+          (omega (arith, loop-test-taken, start .pre .1 .count-is))
+          (sym (is-critical-ensures ∙ ap (critical-at (start .args .block .now)) at) ∙ not-false _ (c .if1 .left)),
+    )
 
 returns : tie.Need-returns Inv-loop μ-loop
 returns c =
     let start : tie.Start Inv-loop μ-loop = search in
     let loop-f = (let p : tie.At-loop Inv-loop μ-loop = search in p .loop .f) in
     let loop-inv = (let p : tie.At-loop Inv-loop μ-loop = search in p .loop .inv) in
-    count-all (λ l. critical-at (start .args .block .now) (start-of l)) (faces (column (start .args .block .now) 1) (tab (λ p. p) (start .args .n))) loop-f _ (loop-inv .2) (omega (arith, c .loop-test .left, start .pre .1 .count-is))
+    count-all (λ l. critical-at (start .args .block .now) (start-of l))
+    (faces (column (start .args .block .now) 1) (tab (λ p. p) (start .args .n))) loop-f _ (loop-inv .2)
+    (omega (arith, c .loop-test .left, start .pre .1 .count-is))
 
 pub count-critical-spec : {M : Type 1} → statement M
 count-critical-spec =

@@ -33,8 +33,10 @@ scanned-order-requires c κs =
     let start : tie.Start = search in
     let m = start .args .block .now in
     let ok = start .pre in
-    let linked = sited rack m ok .linked in
-    ((linked, length-replicate {A = ℕ} room 1, all-closed linked, all-count (getD m 2 0) (linked .few)), ((omega arith, λ q h one. omega arith), (length-replicate {A = ℕ} room 0, length-replicate {A = ℕ} room 0, refl)))
+    let linked = sited rack m ok .linked in (
+      (linked, length-replicate {A = ℕ} room 1, all-closed linked, all-count (getD m 2 0) (linked .few)),
+      ((omega arith, λ q h one. omega arith), (length-replicate {A = ℕ} room 0, length-replicate {A = ℕ} room 0, refl)),
+    )
 
 slice-aggregate-count-critical : tie.Need-slice-aggregate-count-critical
 slice-aggregate-count-critical c = search needs
