@@ -7,7 +7,7 @@ cd "$(dirname "$0")/.."
 dispatch=$PWD/target/bin/dispatch
 basin=$PWD/examples/basin
 stored=$PWD/tests/dispatch
-pairs=${1:-1000}
+pairs=${1:-300}
 work=$(mktemp -d)
 trap 'rm -rf "$work"' EXIT
 source "$stored/folders.sh"
@@ -49,6 +49,18 @@ read_one_of() {
     return 1
 }
 
+# Whether two writers left what they said: both one after the other, in either order, or one alone where the other was turned away.
+left() {
+    local one=$1 two=$2 first said
+    first=$(grep -c '^error' "$work/first") said=$(grep -c '^error' "$work/said")
+    case $first$said in
+    00) [ "$one" = "$two" ] && is_one_of "$one" || is_one_of "$one$two" "$two$one" ;;
+    01) is_one_of "$one" ;;
+    10) is_one_of "$two" ;;
+    *) return 1 ;;
+    esac
+}
+
 # One is stopped at a call, the other runs, the first goes on. Whether it was stopped at all.
 met=0
 beside() {
@@ -70,7 +82,7 @@ beside() {
     esac
     case $two in
     c | l) is_one_of "$one" || fail "$one, stopped at call $at while $two ran, was not saved" ;;
-    *) is_one_of "$one" "$one$two" "$two$one" || fail "$one, stopped at call $at, and $two left a mix" ;;
+    *) left "$one" "$two" || fail "$one, stopped at call $at, and $two left a mix" ;;
     esac
     met=$((met + 1))
 }
@@ -96,8 +108,9 @@ for ((n = 0; n < pairs; n++)); do
     c) read_one_of check none "$one" || fail "check beside $one saw a mix" ;;
     l) read_one_of list none "$one" || fail "list beside $one saw a mix" ;;
     esac
-    if [ "$one" = "$two" ]; then is_one_of "$one" || fail "$one twice left a mix"
-    else is_one_of "$one" "$two" "$one$two" "$two$one" || fail "$one and $two at one moment left a mix"; fi
-    grep -q '^# saved' "$work/first" && ! same . "$work/$one" && { same . "$work/$one$two" || same . "$work/$two$one" || fail "$one said that it saved, and it is not there"; }
+    case $two in
+    c | l) is_one_of "$one" || fail "$one, while $two ran, was not saved" ;;
+    *) left "$one" "$two" || fail "$one and $two at one moment left a mix, or what was said to be saved is not there" ;;
+    esac
 done
 echo "pairs: $met runs stopped beside another, $pairs pairs at random ($turned turned away): no mix, no loss"

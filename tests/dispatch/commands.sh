@@ -73,31 +73,54 @@ fresh nine
 rm block-*.dmap
 run check
 
-# a full disk, and a run that is killed before and after all new files are written
+# a full disk, and a run that is killed before and after the commit has its name: who reads writes nothing, who writes mends
 fresh ten
-echo '$ dispatch balance all, the disk full at its second call'
-stopping full 2 balance all
+echo '$ dispatch balance all, the disk full at its sixth call'
+stopping full 6 balance all
 run check
+ls
 echo '$ dispatch balance all, killed at its sixth call'
 stopping kill 6 balance all || ls
 run check
-echo '$ dispatch balance all, killed at its eighteenth call'
-stopping kill 18 balance all || ls
+ls
+run play </dev/null
+ls
+echo '$ dispatch balance all, killed at its nineteenth call'
+stopping kill 19 balance all || ls
 run check
+run list 2 | tail -n 1
+ls
+run play </dev/null
 ls
 
-# a committed save whose files were changed since, or whose commit was
+# a committed save whose files were changed since, or whose commit was: nothing is changed
 fresh eleven
-stopping kill 18 balance all >/dev/null || true
+stopping kill 19 balance all >/dev/null || true
 cp block-02.dmap.new kept
 printf x >>block-02.dmap.new
 run check
-ls
+run play </dev/null
 mv kept block-02.dmap.new
 cp basin.commit kept
 printf x >>basin.commit
 run check
+run play </dev/null
 mv kept basin.commit
-rm block-00.dmap
+rm block-00.dmap.new
 run check
+run play </dev/null
 ls
+
+# input that is cut off or cannot be read, a pipe for a file, a block too many, a folder that cannot be written to
+fresh twelve
+printf '0 1 25\n0 2 4' | run play
+run play </
+run play <&-
+printf '# a remark\n\n0 1 25\n' | run play
+mkfifo block-03.dmap
+run check
+rm block-03.dmap
+touch block-16.dmap
+run check
+rm block-16.dmap
+run --version | wc -l

@@ -7,4 +7,4 @@ same() { diff -r "$1" "$2" >/dev/null; }
 
 # Runs a command that is stopped at one of its calls on files: killed, on a full disk, or made to wait.
 cc -shared -fPIC -O1 -o "$work/stop.so" "$stored/stop.c" -ldl
-stopping() { (LD_PRELOAD="$work/stop.so" STOP_HOW=$1 STOP_AT=$2 "$dispatch" "${@:3}"; exit $?) 2>/dev/null; }
+stopping() { (LD_PRELOAD="$work/stop.so" STOP_HOW=$1 STOP_AT=$2 "$dispatch" "${@:3}"; exit $?) 2>/dev/null || return $?; }

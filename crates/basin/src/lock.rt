@@ -217,6 +217,10 @@ fn turn(clock: Clock, own: &[u8], room: &mut [u8]) -> Looked {
         }
         First::Nobody => {
             let e = add_line(own);
+            if e == libc::ENOENT {
+                // Who had the lock removed the file while this line was to be added to it.
+                return Looked::Again(clock);
+            }
             if e != 0 {
                 say::failed(b"cannot lock", b"this folder", e);
                 return Looked::Ended(Taken::Failed);
