@@ -160,7 +160,7 @@ fn is_named(name: &[u8], n: usize) -> bool {
 
 fn read_named(name: &[u8], n: usize, room: &mut [u8]) -> Contents {
     if n <= name.len() {
-        return contents_of(&name[0..n], room);
+        return files::read(&name[0..n], room);
     }
     Contents::Missing
 }
@@ -229,7 +229,10 @@ fn see(file: File, room: &mut [u8]) -> Sight {
         }
         Contents::Missing => Sight::Is(Found::Nothing),
         Contents::TooLarge => Sight::Trouble,
-        Contents::Failed(_) => Sight::Trouble,
+        Contents::Failed(e) => {
+            say::failed(b"cannot read a block in", b"this folder", e);
+            Sight::Trouble
+        }
     }
 }
 
@@ -316,12 +319,17 @@ fn mend_found(k: usize) -> bool {
     mend_steps(k, &there)
 }
 
+// The file under the commit's name is none.
+fn no_commit() -> bool {
+    say::error(b"basin.commit is no commit: nothing is changed");
+    false
+}
+
 // Finishes the save of a commit whose files are all right.
 fn finish(bytes: &[u8], room: &mut [u8]) -> bool {
     let k = commit::committed(bytes);
     if k == 0 {
-        say::error(b"basin.commit is no commit: nothing is changed");
-        return false;
+        return no_commit();
     }
     if !are_right(bytes, k, room) {
         return false;
@@ -343,8 +351,11 @@ fn mend_with(committed: Contents, bytes: &[u8], room: &mut [u8]) -> bool {
             false
         }
         Contents::Missing => mend_found(0),
-        Contents::TooLarge => false,
-        Contents::Failed(_) => false,
+        Contents::TooLarge => no_commit(),
+        Contents::Failed(e) => {
+            say::failed(b"cannot read", b"basin.commit", e);
+            false
+        }
     }
 }
 
@@ -376,6 +387,7 @@ fn save_mesh(mesh: &[u64], room: &mut [u8]) -> bool {
 // Saves the first k blocks.
 pub fn save(k: usize, mesh: &[u64], room: &mut [u8]) {
     if mesh.len() / 32776 < k {
+        say::error(b"there are fewer blocks than are to be saved");
         return;
     }
     let end = k * 32776;
