@@ -110,7 +110,10 @@ fn see(file: File, room: &mut [u8]) -> Sight {
         }
         Contents::Missing => Sight::Is(Found::Nothing),
         Contents::TooLarge => Sight::Trouble,
-        Contents::Failed(_) => Sight::Trouble,
+        Contents::Failed(e) => {
+            say::failed(b"cannot read a block in", b"this folder", e);
+            Sight::Trouble
+        }
     }
 }
 
@@ -163,7 +166,7 @@ fn new_files() -> [bool; 17] {
 fn mend_steps(k: usize, there: &[bool]) -> bool {
     let mut nothing = [0u8; 1];
     let mut i = 0;
-    while i < 20 {
+    while i < plan::MEND_STEPS {
         let e = carry_out(plan::mend(k, there, i), &[], &mut nothing);
         if e != 0 {
             say::failed(b"cannot finish a save in", b"this folder", e);
@@ -197,12 +200,17 @@ fn mend_found(k: usize) -> bool {
     mend_steps(k, &there)
 }
 
+// The file under the commit's name is none.
+fn no_commit() -> bool {
+    say::error(b"basin.commit is no commit: nothing is changed");
+    false
+}
+
 // Finishes the save of a commit whose files are all right.
 fn finish(bytes: &[u8], room: &mut [u8]) -> bool {
     let k = commit::committed(bytes);
     if k == 0 {
-        say::error(b"basin.commit is no commit: nothing is changed");
-        return false;
+        return no_commit();
     }
     if !are_right(bytes, k, room) {
         return false;
@@ -224,8 +232,11 @@ fn mend_with(committed: Contents, bytes: &[u8], room: &mut [u8]) -> bool {
             false
         }
         Contents::Missing => mend_found(0),
-        Contents::TooLarge => false,
-        Contents::Failed(_) => false,
+        Contents::TooLarge => no_commit(),
+        Contents::Failed(e) => {
+            say::failed(b"cannot read", b"basin.commit", e);
+            false
+        }
     }
 }
 
@@ -242,7 +253,7 @@ pub fn mend() -> bool {
 fn save_mesh(mesh: &[u64], room: &mut [u8]) -> bool {
     let k = mesh.len() / 32776;
     let mut i = 0;
-    while i < 39 {
+    while i < plan::SAVE_STEPS {
         let e = carry_out(plan::save(k, i), mesh, room);
         if e != 0 {
             say::failed(b"cannot save the blocks in", b"this folder", e);

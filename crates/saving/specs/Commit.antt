@@ -11,7 +11,8 @@ use Rattle.groups.specs.declared.Read.the-variants.{Value, Bad}
 use Rattle.groups.specs.Slices.{read-at}
 use Rattle.saving.specs.declared.commit.Entry.{Entry}
 
--- THE DIGEST of bytes, a number below the prime 2^55 - 55: its products fit a word, and bytes that differ within six in a row differ in it
+-- THE DIGEST of bytes, a number below the prime 2^55 - 55, which 257^6 is below: its products fit a word, and it tells bytes of one length
+-- apart that differ within six in a row
 abbrev pub modulus : ℕ
 modulus = 36028797018963913
 
