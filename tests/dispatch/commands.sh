@@ -75,18 +75,18 @@ run check
 
 # a full disk, and a run that is killed before and after the commit has its name: who reads writes nothing, who writes mends
 fresh ten
-echo '$ dispatch balance all, the disk full at its sixth call'
-stopping full 6 balance all
+echo '$ dispatch balance all, the disk full at its seventh call'
+stopping full 7 balance all
 run check
 ls
-echo '$ dispatch balance all, killed at its sixth call'
-stopping kill 6 balance all || ls
+echo '$ dispatch balance all, killed at its seventh call'
+stopping kill 7 balance all || ls
 run check
 ls
 run play </dev/null
 ls
-echo '$ dispatch balance all, killed at its nineteenth call'
-stopping kill 19 balance all || ls
+echo '$ dispatch balance all, killed at its twentieth call'
+stopping kill 20 balance all || ls
 run check
 run list 2 | tail -n 1
 ls
@@ -95,7 +95,7 @@ ls
 
 # a committed save whose files were changed since, or whose commit was: nothing is changed
 fresh eleven
-stopping kill 19 balance all >/dev/null || true
+stopping kill 20 balance all >/dev/null || true
 cp block-02.dmap.new kept
 printf x >>block-02.dmap.new
 run check
