@@ -7,7 +7,7 @@ cd "$(dirname "$0")/.."
 dispatch=$PWD/target/bin/dispatch
 basin=$PWD/examples/basin
 stored=$PWD/tests/dispatch
-pairs=${1:-300}
+pairs=${1:-1000}
 work=$(mktemp -d)
 trap 'rm -rf "$work"' EXIT
 source "$stored/folders.sh"
