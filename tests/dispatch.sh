@@ -1,23 +1,15 @@
 #!/usr/bin/env bash
 # The dispatcher's program on the basin of examples/: every command and every error prints what is stored; a run that is stopped at any call
-# on a file, or meets a full disk there, leaves the old basin or the new one.
+# on a file, or meets a full disk there, leaves the old basin or the new one, and shows it before and after it is mended.
 set -euo pipefail
 cd "$(dirname "$0")/.."
 dispatch=$PWD/target/bin/dispatch
+bin=$PWD/bin/dispatch
 basin=$PWD/examples/basin
 stored=$PWD/tests/dispatch
 work=$(mktemp -d)
 trap 'chmod -R u+w "$work"; rm -rf "$work"' EXIT
-
-# A folder with the basin's files.
-fresh() { rm -rf "$work/$1"; mkdir "$work/$1"; cp "$basin"/block-*.dmap "$work/$1"; cd "$work/$1"; }
-
-# Whether two folders hold the same files.
-same() { diff -r "$1" "$2" >/dev/null; }
-
-# Runs a command that is stopped at one of its calls on files: killed, or on a full disk.
-cc -shared -fPIC -O1 -o "$work/stop.so" "$stored/stop.c" -ldl
-stopping() { (LD_PRELOAD="$work/stop.so" STOP_HOW=$1 STOP_AT=$2 "$dispatch" "${@:3}"; exit $?) 2>/dev/null; }
+source "$stored/folders.sh"
 
 source "$stored/commands.sh" >"$work/said" 2>&1
 diff "$work/said" "$stored/said" || { echo 'dispatch: another output than is stored'; exit 1; }
@@ -25,15 +17,20 @@ diff "$work/said" "$stored/said" || { echo 'dispatch: another output than is sto
 # What a balance leads to.
 fresh new; "$dispatch" balance all >/dev/null
 fresh old
+"$dispatch" check >"$work/old.check"
+(cd "$work/new" && "$dispatch" check >"$work/new.check")
 stops=0
 
-# A balance stopped at a call; then a command that is itself stopped at its first call, and one that is not. Whether it was stopped at all.
+# A balance stopped at a call; what a reader sees then, what a command that mends and is itself stopped leaves, and what one that is not
+# stopped leaves. Whether the balance was stopped at all.
 stopped() {
     fresh run
     stopping "$1" "$2" balance all >/dev/null && [ "$1" = kill ] && return 1
-    stopping "$1" 1 check >/dev/null || true
-    "$dispatch" check >"$work/told"
-    [ "$(tail -n 1 "$work/told")" = sound ] || { echo "dispatch: not sound after call $2 ($1)"; exit 1; }
+    "$dispatch" check >"$work/told" 2>&1
+    cmp -s "$work/told" "$work/old.check" || cmp -s "$work/told" "$work/new.check" || { echo "dispatch: a reader sees neither basin after call $2 ($1)"; cat "$work/told"; exit 1; }
+    stopping kill $((1 + RANDOM % 9)) play </dev/null >/dev/null || true
+    "$dispatch" play </dev/null >/dev/null
+    "$dispatch" check | cmp -s - "$work/told" || { echo "dispatch: mending changed what a reader sees, after call $2 ($1)"; exit 1; }
     same . "$work/old" || same . "$work/new" || { echo "dispatch: neither the old basin nor the new one after call $2 ($1)"; exit 1; }
     stops=$((stops + 1))
 }

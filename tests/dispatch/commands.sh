@@ -1,5 +1,5 @@
 # Every command and every error, on copies of the basin. Sourced by tests/dispatch.sh.
-run() { printf '$ dispatch %s\n' "$*"; "$dispatch" "$@" || true; }
+run() { printf '$ dispatch %s\n' "$*"; "$bin" "$@" 2>&1 || echo "status $?"; }
 
 fresh one
 run
@@ -13,6 +13,8 @@ run balance plane 0 1
 run balance box 0 0 0 1 1 1
 run balance box 1 0 0 -1 1 1
 run balance plane 7 1
+run balance plane 0 0.5
+run balance box -0.25 0 0 2.5e-1 1 1
 run split 5
 run check
 printf '' | run play
@@ -23,6 +25,8 @@ run balance some
 run balance all now
 run balance box 1 2 3
 run balance plane x 1
+run balance plane 0 1.2.3
+run balance box 0 0 0 1 1e23 1
 run list
 run list 16
 run list 7
@@ -69,15 +73,54 @@ fresh nine
 rm block-*.dmap
 run check
 
-# a full disk, and a run that is killed before and after all new files are written
+# a full disk, and a run that is killed before and after the commit has its name: who reads writes nothing, who writes mends
 fresh ten
-echo '$ dispatch balance all, the disk full at its second call'
-stopping full 2 balance all
-run check
-echo '$ dispatch balance all, killed at its fifth call'
-stopping kill 5 balance all || ls
-run check
-echo '$ dispatch balance all, killed at its fifteenth call'
-stopping kill 15 balance all || ls
+echo '$ dispatch balance all, the disk full at its seventh call'
+stopping full 7 balance all
 run check
 ls
+echo '$ dispatch balance all, killed at its seventh call'
+stopping kill 7 balance all || ls
+run check
+ls
+run play </dev/null
+ls
+echo '$ dispatch balance all, killed at its twentieth call'
+stopping kill 20 balance all || ls
+run check
+run list 2 | tail -n 1
+ls
+run play </dev/null
+ls
+
+# a committed save whose files were changed since, or whose commit was: nothing is changed
+fresh eleven
+stopping kill 20 balance all >/dev/null || true
+cp block-02.dmap.new kept
+printf x >>block-02.dmap.new
+run check
+run play </dev/null
+mv kept block-02.dmap.new
+cp basin.commit kept
+printf x >>basin.commit
+run check
+run play </dev/null
+mv kept basin.commit
+rm block-00.dmap.new
+run check
+run play </dev/null
+ls
+
+# input that is cut off or cannot be read, a pipe for a file, a block too many, a folder that cannot be written to
+fresh twelve
+printf '0 1 25\n0 2 4' | run play
+run play </
+run play <&-
+printf '# a remark\n\n0 1 25\n' | run play
+mkfifo block-03.dmap
+run check
+rm block-03.dmap
+touch block-16.dmap
+run check
+rm block-16.dmap
+run --version | wc -l

@@ -1,27 +1,45 @@
-// Loaded before a program: stops it at its STOP_AT-th call that opens, writes, keeps, renames or removes a file. STOP_HOW is 'kill' (a
-// write is cut in half first) or 'full' (the call fails as on a full disk, once).
+// Loaded before a program: stops it at its STOP_AT-th call that opens a file to write, writes, keeps, renames or removes one. STOP_HOW is
+// 'kill' (a write is cut in half first), 'full' (the call fails as on a full disk, once) or 'wait' (the program is stopped until it is
+// told to go on; its number is in the file STOP_SAYS). With SHORT_WAIT set every question for the time is answered by the next second, so that nobody waits long for a lock.
 #define _GNU_SOURCE
 #include <dlfcn.h>
 #include <errno.h>
 #include <fcntl.h>
 #include <signal.h>
 #include <stdarg.h>
+#include <stdio.h>
 #include <stdlib.h>
 #include <string.h>
 #include <sys/types.h>
+#include <time.h>
 #include <unistd.h>
 
 #define REAL(name) ((__typeof__(&name))dlsym(RTLD_NEXT, #name))
 
 static long calls;
 
-// Whether this call is the one to stop at; kills the program there unless the disk is to be full.
+static int how(const char *what) {
+    const char *is = getenv("STOP_HOW");
+    return is && !strcmp(is, what);
+}
+
+// Whether this call is the one to stop at, and fails; kills the program there, or has it wait, as it is told.
 static int full_now(void) {
-    const char *at = getenv("STOP_AT"), *how = getenv("STOP_HOW");
+    const char *at = getenv("STOP_AT");
     if (!at || ++calls != atol(at)) return 0;
-    if (how && !strcmp(how, "full")) {
+    if (how("full")) {
         errno = ENOSPC;
         return 1;
+    }
+    if (how("wait")) {
+        char number[16];
+        int said = REAL(open)(getenv("STOP_SAYS"), O_WRONLY | O_CREAT, 0666);
+        if (said >= 0) {
+            REAL(write)(said, number, snprintf(number, sizeof number, "%d\n", getpid()));
+            close(said);
+        }
+        raise(SIGSTOP);
+        return 0;
     }
     raise(SIGKILL);
     return 1;
@@ -32,13 +50,13 @@ int open(const char *path, int flags, ...) {
     va_start(rest, flags);
     mode_t mode = va_arg(rest, mode_t);
     va_end(rest);
-    if ((flags & O_ACCMODE) != O_RDONLY && full_now()) return -1;
+    if ((flags & (O_CREAT | O_TRUNC | O_APPEND)) && full_now()) return -1;
     return REAL(open)(path, flags, mode);
 }
 
 ssize_t write(int fd, const void *bytes, size_t n) {
     const char *at = getenv("STOP_AT");
-    if (fd > 2 && at && calls + 1 == atol(at)) REAL(write)(fd, bytes, n / 2);
+    if (fd > 2 && at && calls + 1 == atol(at) && how("kill")) REAL(write)(fd, bytes, n / 2);
     if (fd > 2 && full_now()) return -1;
     return REAL(write)(fd, bytes, n);
 }
@@ -46,3 +64,10 @@ ssize_t write(int fd, const void *bytes, size_t n) {
 int fsync(int fd) { return full_now() ? -1 : REAL(fsync)(fd); }
 int rename(const char *from, const char *to) { return full_now() ? -1 : REAL(rename)(from, to); }
 int unlink(const char *path) { return full_now() ? -1 : REAL(unlink)(path); }
+
+time_t time(time_t *t) {
+    static time_t now;
+    time_t is = getenv("SHORT_WAIT") ? ++now : REAL(time)(NULL);
+    if (t) *t = is;
+    return is;
+}

@@ -1,249 +1,277 @@
-// The blocks of a basin: block-00.dmap and so on, as many as there are. A save is told by `desk::plan`.
+// The blocks of a basin: block-00.dmap and so on, as many as there are. What a save writes under which name, and in which order, is told
+// by `saving`.
 use crate::files;
 use crate::files::Contents;
 use crate::say;
-use answers::Answer;
-use answers::Written;
 use desk::names;
-use desk::plan;
-use desk::plan::Step;
+use desk::names::File;
+use desk::names::Name;
+use saving::commit;
+use saving::look;
+use saving::look::Found;
+use saving::look::Look;
+use saving::plan;
+use saving::plan::Step;
+use saving::prepare;
+use saving::prepare::Act;
 
-// It stands while a save is under way and all new files are written.
-fn mark_name() -> [u8; 12] {
-    [
-        b'b',
-        b'a',
-        b's',
-        b'i',
-        b'n',
-        b'.',
-        b'c',
-        b'o',
-        b'm',
-        b'm',
-        b'i',
-        b't',
-    ]
-}
-
-// How reading one block went.
-enum Found {
-    Block,
-    Nothing,
-    Trouble,
-}
-
-// A block's file that was read, into its memory.
-fn take(name: &[u8], file: &[u8], block: &mut [u64]) -> Found {
-    match readfile::read_file(file, block) {
-        Answer::Served => Found::Block,
-        Answer::Refused(r) => {
-            let question = answers::refusal_number(r);
-            say::refused(question);
-            say::text(name);
-            say::text(b": ");
-            say::meaning(question);
-            say::text(b"\n");
-            Found::Trouble
-        }
-    }
-}
-
-// The bytes of a block's file, where they could be read.
-pub fn contents_of(name: &[u8], room: &mut [u8]) -> Contents {
-    let c = files::read(name, room);
-    match c {
-        Contents::Failed(e) => say::failed(b"cannot read", name, e),
-        Contents::TooLarge => {
-            say::text(b"error: too large for a block: ");
-            say::text(name);
-            say::text(b"\n");
-        }
-        Contents::Missing => {}
-        Contents::Bytes(_) => {}
-    }
-    c
-}
-
-// Reads one block.
-fn read_block(name: &[u8], block: &mut [u64], room: &mut [u8]) -> Found {
-    match contents_of(name, room) {
-        Contents::Bytes(n) => {
-            if n <= room.len() {
-                return take(name, &room[0..n], block);
-            }
-            Found::Trouble
-        }
-        Contents::Missing => Found::Nothing,
-        Contents::TooLarge => Found::Trouble,
-        Contents::Failed(_) => Found::Trouble,
-    }
-}
-
-// Reads block b into its part of the mesh.
-fn read_part(b: usize, mesh: &mut [u64], room: &mut [u8]) -> Found {
-    if b < mesh.len() / 32776 {
-        let from = b * 32776;
-        let end = from + 32776;
-        return read_block(&names::block(b), &mut mesh[from..end], room);
-    }
-    Found::Nothing
-}
-
-// Whether a block's file stands behind one that is missing.
-fn has_gap(k: usize) -> bool {
-    let mut b = k;
-    while b < 16 {
-        if files::is_there(&names::block(b)) {
-            say::text(b"error: ");
-            say::text(&names::block(k));
-            say::text(b" is missing, and ");
-            say::text(&names::block(b));
-            say::text(b" is there\n");
-            return true;
-        }
-        b += 1;
-    }
-    false
-}
-
-// How many blocks there are once the one after the last is not found; 0 where that is no basin.
-fn counted(k: usize) -> usize {
-    if has_gap(k) {
-        return 0;
-    }
-    if k == 0 {
-        say::error(b"there is no block-00.dmap in this folder");
-    }
-    k
-}
-
-// Reads the blocks from 00 on; how many, or 0 where something is wrong, which is said.
-fn load(mesh: &mut [u64], room: &mut [u8]) -> usize {
-    let mut k = 0;
-    while k < 16 {
-        match read_part(k, mesh, room) {
-            Found::Block => {
-                k += 1;
-            }
-            Found::Nothing => {
-                return counted(k);
-            }
-            Found::Trouble => {
-                return 0;
-            }
-        }
-    }
-    k
-}
-
-// Writes the new file of a block.
-fn write_block(b: usize, block: &[u64], room: &mut [u8]) -> i32 {
-    match savefile::save_file(block, room) {
-        Written::Served(n) => {
-            if n <= room.len() {
-                return files::write(&names::new_block(b), &room[0..n]);
-            }
-            libc::EIO
-        }
-        Written::Refused(_) => libc::EIO,
-    }
-}
-
-// Writes the new file of block b of the mesh.
-fn write_part(b: usize, mesh: &[u64], room: &mut [u8]) -> i32 {
-    if b < mesh.len() / 32776 {
-        let from = b * 32776;
-        let end = from + 32776;
-        return write_block(b, &mesh[from..end], room);
+// A file's name is the first n bytes of a text.
+fn write_named(name: &[u8], n: usize, bytes: &[u8]) -> i32 {
+    if n <= name.len() {
+        return files::write(&name[0..n], bytes);
     }
     libc::EIO
 }
 
-// Puts the new file of a block in its place, where there is one.
-fn place(b: usize) -> i32 {
-    if files::is_there(&names::new_block(b)) {
-        return files::rename(&names::new_block(b), &names::block(b));
+fn rename_named(name: &[u8], n: usize, other: &[u8], m: usize) -> i32 {
+    if n <= name.len() {
+        if m <= other.len() {
+            return files::rename(&name[0..n], &other[0..m]);
+        }
     }
-    0
+    libc::EIO
 }
 
-// Takes the new file of a block away, where there is one.
-fn forget(b: usize) -> i32 {
-    if files::is_there(&names::new_block(b)) {
-        return files::remove(&names::new_block(b));
+fn remove_named(name: &[u8], n: usize) -> i32 {
+    if n <= name.len() {
+        return files::remove(&name[0..n]);
     }
-    0
+    libc::EIO
 }
 
-// Says that all new files are written.
-fn set_mark() -> i32 {
-    files::keep_names();
-    let e = files::write(&mark_name(), b"");
-    files::keep_names();
-    e
+fn is_named(name: &[u8], n: usize) -> bool {
+    if n <= name.len() {
+        return files::is_there(&name[0..n]);
+    }
+    false
 }
 
-// Says that all files are in place.
-fn unset_mark() -> i32 {
-    files::keep_names();
-    let e = files::remove(&mark_name());
-    files::keep_names();
-    e
+// The first n bytes of a room under a name.
+fn write(name: Name, room: &[u8], n: usize) -> i32 {
+    if n <= room.len() {
+        let text = name.bytes;
+        return write_named(&text, name.size, &room[0..n]);
+    }
+    libc::EIO
 }
 
-// One step; 0, or the error of the system.
+fn rename(name: Name, other: Name) -> i32 {
+    let from = name.bytes;
+    let to = other.bytes;
+    rename_named(&from, name.size, &to, other.size)
+}
+
+fn remove(name: Name) -> i32 {
+    let text = name.bytes;
+    remove_named(&text, name.size)
+}
+
+fn is_there(file: File) -> bool {
+    let name = names::name_of(file);
+    let text = name.bytes;
+    is_named(&text, name.size)
+}
+
+fn read(file: File, room: &mut [u8]) -> Contents {
+    let name = names::name_of(file);
+    let text = name.bytes;
+    files::read_named(&text, name.size, room)
+}
+
+// One step, with the names and the bytes that `prepare` gives; 0, or the error of the system.
 fn carry_out(step: Step, mesh: &[u64], room: &mut [u8]) -> i32 {
-    match step {
-        Step::Write(b) => write_part(b, mesh, room),
-        Step::Mark => set_mark(),
-        Step::Place(b) => place(b),
-        Step::Unmark => unset_mark(),
-        Step::Forget(b) => forget(b),
-        Step::Done => 0,
+    let deed = prepare::prepare(step, mesh, room);
+    let act = deed.act;
+    let name = deed.name;
+    let other = deed.other;
+    match act {
+        Act::Write(n) => write(name, room, n),
+        Act::Rename => rename(name, other),
+        Act::Remove => remove(name),
+        Act::Keep => files::keep_names(),
+        Act::Nothing => 0,
+        Act::Cannot => libc::EIO,
     }
 }
 
-// Finishes a save that was cut short if all its files were written, and forgets it otherwise. Whether the basin can be read.
-pub fn mend() -> bool {
-    let marked = files::is_there(&mark_name());
+// What stands under a name, or that it cannot be read.
+enum Sight {
+    Is(Found),
+    Trouble,
+}
+
+fn see(file: File, room: &mut [u8]) -> Sight {
+    match read(file, room) {
+        Contents::Bytes(n) => {
+            if n <= room.len() {
+                return Sight::Is(Found::File(commit::entry_of(&room[0..n])));
+            }
+            Sight::Trouble
+        }
+        Contents::Missing => Sight::Is(Found::Nothing),
+        Contents::TooLarge => Sight::Trouble,
+        Contents::Failed(e) => {
+            say::failed(b"cannot read a block in", b"this folder", e);
+            Sight::Trouble
+        }
+    }
+}
+
+// Whether the files of block b are those of a commit.
+fn look_at_block(bytes: &[u8], b: usize, room: &mut [u8]) -> Look {
+    let Sight::Is(new) = see(File::NewBlock(b), room) else {
+        return Look::Wrong;
+    };
+    let Sight::Is(named) = see(File::Block(b), room) else {
+        return Look::Wrong;
+    };
+    look::look_at(commit::entry_in(bytes, b), new, named)
+}
+
+// Whether the files of k blocks are; says where not.
+fn are_right(bytes: &[u8], k: usize, room: &mut [u8]) -> bool {
+    let mut b = 0;
+    while b < k {
+        match look_at_block(bytes, b, room) {
+            Look::Place => {
+                b += 1;
+            }
+            Look::Placed => {
+                b += 1;
+            }
+            Look::Wrong => {
+                say::complain(b"error: the files of ");
+                say::complain(&names::block(b));
+                say::complain(b" are not those of basin.commit: nothing is changed\n");
+                return false;
+            }
+        }
+    }
+    true
+}
+
+// Which new files are there, and at 16 whether the new commit is.
+fn new_files() -> [bool; 17] {
+    let mut there = [false; 17];
+    let mut b = 0;
+    while b < 16 {
+        there[b] = is_there(File::NewBlock(b));
+        b += 1;
+    }
+    there[16] = is_there(File::NewCommit);
+    there
+}
+
+// The steps of a mending, with a commit of k blocks or, where k is 0, with none.
+fn mend_steps(k: usize, there: &[bool]) -> bool {
     let mut nothing = [0u8; 1];
     let mut i = 0;
-    while i < 17 {
-        let e = carry_out(plan::mend(marked, i), &[], &mut nothing);
+    while i < plan::MEND_STEPS {
+        let e = carry_out(plan::mend(k, there, i), &[], &mut nothing);
         if e != 0 {
             say::failed(b"cannot finish a save in", b"this folder", e);
             return false;
         }
         i += 1;
     }
-    if marked {
-        say::text(b"finished a save that was cut short\n");
-    }
     true
 }
 
-// Saves k blocks. A save that fails is forgotten, or finished by the next command where all files were written.
-pub fn save(k: usize, mesh: &[u64], room: &mut [u8]) {
+// Whether any is there.
+fn any(there: &[bool]) -> bool {
     let mut i = 0;
-    while i < 34 {
+    while i < there.len() {
+        if there[i] {
+            return true;
+        }
+        i += 1;
+    }
+    false
+}
+
+// The same with what is there; where nothing is, the folder is left alone.
+fn mend_found(k: usize) -> bool {
+    let there = new_files();
+    if k == 0 {
+        if !any(&there) {
+            return true;
+        }
+    }
+    mend_steps(k, &there)
+}
+
+// The file under the commit's name is none.
+fn no_commit() -> bool {
+    say::error(b"basin.commit is no commit: nothing is changed");
+    false
+}
+
+// Finishes the save of a commit whose files are all right.
+fn finish(bytes: &[u8], room: &mut [u8]) -> bool {
+    let k = commit::committed(bytes);
+    if k == 0 {
+        return no_commit();
+    }
+    if !are_right(bytes, k, room) {
+        return false;
+    }
+    if !mend_found(k) {
+        return false;
+    }
+    say::text(b"# finished a save that was cut short\n");
+    true
+}
+
+// The same with a commit that was read, or that is not there.
+fn mend_with(committed: Contents, bytes: &[u8], room: &mut [u8]) -> bool {
+    match committed {
+        Contents::Bytes(n) => {
+            if n <= bytes.len() {
+                return finish(&bytes[0..n], room);
+            }
+            false
+        }
+        Contents::Missing => mend_found(0),
+        Contents::TooLarge => no_commit(),
+        Contents::Failed(e) => {
+            say::failed(b"cannot read", b"basin.commit", e);
+            false
+        }
+    }
+}
+
+// Finishes a save that was cut short if it was committed and its files are there, and forgets it if it was not. Whether the basin can
+// be read.
+pub fn mend() -> bool {
+    let mut room = [0u8; 262144];
+    let mut bytes = [0u8; 512];
+    let committed = read(File::Commit, &mut bytes);
+    mend_with(committed, &bytes, &mut room)
+}
+
+// Saves the blocks of a mesh. A save that fails is forgotten, or finished where it was committed.
+fn save_mesh(mesh: &[u64], room: &mut [u8]) -> bool {
+    let k = mesh.len() / 32776;
+    let mut i = 0;
+    while i < plan::SAVE_STEPS {
         let e = carry_out(plan::save(k, i), mesh, room);
         if e != 0 {
             say::failed(b"cannot save the blocks in", b"this folder", e);
             mend();
-            return;
+            return false;
         }
         i += 1;
     }
-    say::text(b"saved ");
-    say::number(k as u64);
-    say::text(b" blocks\n");
+    true
 }
 
-// Mends the basin and reads its blocks; how many, or 0 where something is wrong, which is said.
-pub fn open(mesh: &mut [u64], room: &mut [u8]) -> usize {
-    if !mend() {
-        return 0;
+// Saves the blocks of a mesh; whether they are saved, which is said.
+pub fn save(mesh: &[u64], room: &mut [u8]) -> bool {
+    if !save_mesh(mesh, room) {
+        return false;
     }
-    load(mesh, room)
+    say::text(b"# saved ");
+    say::number((mesh.len() / 32776) as u64);
+    say::text(b" blocks\n");
+    true
 }

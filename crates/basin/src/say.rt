@@ -4,15 +4,24 @@ pub fn text(s: &[u8]) {
     io::write_all(1, s);
 }
 
+// A text on standard error.
+pub fn complain(s: &[u8]) {
+    io::write_all(2, s);
+}
+
+pub fn complain_number(n: u64) {
+    io::print_decimal(2, n);
+}
+
 pub fn number(n: u64) {
     io::print_decimal(1, n);
 }
 
 // A line that begins with what is wrong.
 pub fn error(s: &[u8]) {
-    text(b"error: ");
-    text(s);
-    text(b"\n");
+    complain(b"error: ");
+    complain(s);
+    complain(b"\n");
 }
 
 // Why a file was refused.
@@ -86,39 +95,43 @@ pub fn refused(question: u32) {
 // What an error number of the system means.
 pub fn cause(error: i32) {
     if error == libc::EACCES {
-        text(b"no permission");
+        complain(b"no permission");
         return;
     }
     if error == libc::ENOSPC {
-        text(b"the disk is full");
+        complain(b"the disk is full");
         return;
     }
     if error == libc::EISDIR {
-        text(b"it is a folder");
+        complain(b"it is a folder");
+        return;
+    }
+    if error == libc::ESPIPE {
+        complain(b"it is a pipe");
         return;
     }
     if error == libc::EROFS {
-        text(b"the disk cannot be written");
+        complain(b"the disk cannot be written");
         return;
     }
     if error == libc::EIO {
-        text(b"the disk failed");
+        complain(b"the disk failed");
         return;
     }
     if error == libc::ENOENT {
-        text(b"it is missing");
+        complain(b"it is missing");
         return;
     }
-    text(b"the system refused it");
+    complain(b"the system refused it");
 }
 
 // What could not be done to a file, and why.
 pub fn failed(what: &[u8], name: &[u8], error: i32) {
-    text(b"error: ");
-    text(what);
-    text(b" ");
-    text(name);
-    text(b": ");
+    complain(b"error: ");
+    complain(what);
+    complain(b" ");
+    complain(name);
+    complain(b": ");
     cause(error);
-    text(b"\n");
+    complain(b"\n");
 }

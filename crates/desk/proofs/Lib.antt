@@ -1,3 +1,3 @@
 pub mod Scans
 pub mod Fields
-pub mod Kept
+pub mod NameLaws

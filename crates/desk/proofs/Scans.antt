@@ -1,21 +1,18 @@
 -- Texts read byte by byte: a number's digits, the first bytes that pass a test, two texts side by side. Assumes nothing.
-use mathlib.Core.Path.{_≡_, refl, sym, ap, _∙_}
+use mathlib.Core.Path.{_≡_, refl, ap}
 use mathlib.Core.Bool.{Bool, true, false, cond, not, _&&_}
 use mathlib.Core.List.{List, [], _∷_}
 use Prim.Native.Nat.{ℕ, zero, suc, _+_, _*_, _-_, _^_, _<_, _≤_}
 use native.Mathlib.Omega.{arith}
 use lib.Dec.{ltb, leb, eqb}
-use lib.ListN.{length, getD, take, drop, length-drop}
-use lib.Seq.{take-all}
+use lib.ListN.{length, getD, drop}
 use borrow.Author.Tests.{lt-ltb, le-ltb, leb-true, eq-eqb, ne-eqb}
 use Rattle.model.specs.Lists.{same-list}
 use Rattle.laws.proofs.Tests.{and-left, and-right}
-use Rattle.laws.proofs.Lists.{drop-at-cons, drop-end, rest-whole}
+use Rattle.laws.proofs.Lists.{drop-at-cons, drop-end}
 use Rattle.desk.specs.declared.words.Number.{Number}
 use Rattle.desk.specs.declared.words.Number.the-variants as number
-use Rattle.desk.specs.declared.words.Whole.{Whole}
-use Rattle.desk.specs.declared.words.Whole.the-variants as whole
-use Rattle.desk.specs.Words.{is-digit, digits-from, number-in, plus, minus, whole-in, leading}
+use Rattle.desk.specs.Words.{is-digit, digits-from, number-in, leading}
 
 -- DIGITS, of which those before i gave n
 pub digits-on : (t : List ℕ) (n i v : ℕ) → i < length t → is-digit (getD t i 0) ≡ true → v ≡ 10 * n + (getD t i 0 - 48) → v < 2 ^ 32 → digits-from n (drop i t) ≡ digits-from v (drop (i + 1) t)
@@ -93,19 +90,3 @@ same-short (x ∷ s) (y ∷ t) h = rw (same-short s t (λ e. h (ap suc e))) (and
     and-no : (b : Bool) → (b && false) ≡ false
     and-no true = refl
     and-no false = refl
-
--- WHOLE NUMBERS
-pub whole-none : (t : List ℕ) → length t ≡ 0 → whole.Not ≡ whole-in t
-unfolding whole-in
-whole-none [] h = refl
-whole-none (b ∷ bs) h = absurd (omega (arith, h))
-
-pub whole-minus : (t : List ℕ) (r : Number) → 0 < length t → getD t 0 0 ≡ 45 → r ≡ number-in (take (length t - 1) (drop 1 t)) → minus r ≡ whole-in t
-unfolding whole-in
-whole-minus [] r h e n = absurd (omega arith)
-whole-minus (b ∷ bs) r h e n = rw (e, n, rest-whole (b ∷ bs) 1)
-
-pub whole-plus : (t : List ℕ) (r : Number) → 0 < length t → (getD t 0 0 ≡ 45 → ⊥) → r ≡ number-in t → plus r ≡ whole-in t
-unfolding whole-in
-whole-plus [] r h e n = absurd (omega arith)
-whole-plus (b ∷ bs) r h e n = rw (ne-eqb b 45 e, n)

@@ -2,5 +2,3 @@ pub mod Words
 pub mod Lines
 pub mod Commands
 pub mod Names
-pub mod Plan
-pub mod Folder

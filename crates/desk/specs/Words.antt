@@ -5,8 +5,6 @@ use Prim.Native.Nat.{ℕ, zero, suc, _+_, _*_, _-_, _^_}
 use lib.Dec.{leb, ltb, eqb}
 use Rattle.desk.specs.declared.words.Number.{Number}
 use Rattle.desk.specs.declared.words.Number.the-variants as number
-use Rattle.desk.specs.declared.words.Whole.{Whole}
-use Rattle.desk.specs.declared.words.Whole.the-variants as whole
 use Rattle.desk.specs.declared.words.Kind.{Kind}
 use Rattle.desk.specs.declared.words.Kind.the-variants as kind
 
@@ -22,19 +20,6 @@ digits-from n (b ∷ bs) = let v = 10 * n + (b - 48) in let more = digits-from v
 unfoldable pub number-in : List ℕ → Number
 number-in [] = number.Not
 number-in (b ∷ bs) = digits-from 0 (b ∷ bs)
-
-abbrev pub plus : Number → Whole
-plus (number.Is n) = whole.Plus n
-plus number.Not = whole.Not
-
-abbrev pub minus : Number → Whole
-minus (number.Is n) = whole.Minus n
-minus number.Not = whole.Not
-
--- a whole number is a number, or one behind a minus
-unfoldable pub whole-in : List ℕ → Whole
-whole-in [] = whole.Not
-whole-in (b ∷ bs) = cond (eqb b 45) (minus (number-in bs)) (plus (number-in (b ∷ bs)))
 
 -- space, tab, carriage return
 unfoldable pub is-blank : ℕ → Bool

@@ -4,18 +4,11 @@ ghost use mathlib.Core.Bool.{true};
 ghost use Prim.Native.Nat.{_-_, _≤_};
 ghost use lib.ListN.{length};
 ghost use Rattle.model.specs.Lists.{same-list};
-ghost use Rattle.desk.specs.Words.{is-digit as digit-test, belongs as belongs-to, leading as leading-in, number-in as number-of, whole-in as whole-of};
+ghost use Rattle.desk.specs.Words.{is-digit as digit-test, belongs as belongs-to, leading as leading-in, number-in as number-of};
 
 // A number's value, or that a text is none.
 pub enum Number {
     Is(u64),
-    Not,
-}
-
-// The same with a sign.
-pub enum Whole {
-    Plus(u64),
-    Minus(u64),
     Not,
 }
 
@@ -26,13 +19,14 @@ pub enum Kind {
     Line,
 }
 
-fn is_digit(b: u8) -> bool
+// Whether a byte is a digit, and the digit that it is.
+pub fn is_digit(b: u8) -> bool
     ensures { λ r. ⌜ r ≡ digit-test b ⌝ }
 {
     (48 <= b) & (b <= 57)
 }
 
-fn digit(b: u8) -> u64
+pub fn digit(b: u8) -> u64
     requires { ⌜ digit-test b ≡ true ⌝ }
     ensures { λ r. ⌜ (r ≡ b - 48) × (r ≤ 9) ⌝ }
 {
@@ -62,25 +56,6 @@ pub fn number_in(text: &[u8]) -> Number
         i += 1;
     }
     Number::Is(n)
-}
-
-// The whole number that a text is: a number, or one behind a minus.
-pub fn whole_in(text: &[u8]) -> Whole
-    ensures { λ r. ⌜ r ≡ whole-of (now (text .entry)) ⌝ }
-{
-    if text.len() == 0 {
-        return Whole::Not;
-    }
-    if text[0] == b'-' {
-        return match number_in(&text[1..]) {
-            Number::Is(n) => Whole::Minus(n),
-            Number::Not => Whole::Not,
-        };
-    }
-    match number_in(text) {
-        Number::Is(n) => Whole::Plus(n),
-        Number::Not => Whole::Not,
-    }
 }
 
 // Whether a byte belongs to blanks (space, tab, carriage return), to a word, to a line.

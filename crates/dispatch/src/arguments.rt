@@ -1,31 +1,86 @@
 // The words of a command, by their place.
+ghost use Rattle.io.specs.Counts.{Counts};
+use basin::say;
+use decimal::Decimal;
 use desk::words;
 use desk::words::Number;
-use desk::words::Whole;
 use memory::point::Point;
 use oracle::Oracle;
 
+// How many words stand before the command's own: two, where the first asks for the status on a descriptor, as `--status 3`.
+fn in_front() -> usize {
+    let mut word = [0u8; 16];
+    let n = os::arg(1, &mut word);
+    if words::same(&word[..n], b"--status") {
+        return 2;
+    }
+    0
+}
+
+// The descriptor that the status goes to, 3 to 9; none is -1.
+pub fn status_descriptor() -> i32 {
+    if in_front() == 0 {
+        return -1;
+    }
+    let mut word = [0u8; 1];
+    let n = os::arg(2, &mut word);
+    if n != 1 {
+        return -1;
+    }
+    match word[0] {
+        b'3' => 3,
+        b'4' => 4,
+        b'5' => 5,
+        b'6' => 6,
+        b'7' => 7,
+        b'8' => 8,
+        b'9' => 9,
+        _ => -1,
+    }
+}
+
+// How many words there are, the program's name among them.
+pub fn count() -> usize {
+    let n = os::arg_count();
+    let before = in_front();
+    if n < before {
+        return 0;
+    }
+    n - before
+}
+
+// Word i at the start of the room; how many bytes.
+pub fn word(i: usize, room: &mut [u8]) -> usize
+    ensures { λ r. ⌜ Counts r (now (room .exit)) ⌝ }
+{
+    os::arg(std::num::wrapping_add_usize(i, in_front()), room)
+}
+
 // The block or the number of blocks that a word gives.
 pub fn number_at(i: usize) -> Number {
-    let mut word = [0u8; 64];
-    let n = os::arg(i, &mut word);
-    words::number_in(&word[..n])
+    let mut text = [0u8; 64];
+    let n = word(i, &mut text);
+    words::number_in(&text[..n])
 }
 
-// A word as a coordinate, or that it is none.
-pub enum Coordinate {
-    Is(f64),
-    Not,
+// Says that a word is no coordinate.
+fn no_coordinate(text: &[u8]) {
+    say::complain(b"error: '");
+    say::complain(text);
+    say::complain(
+        b"' is no coordinate: at most 15 digits, a point only between digits, a power of ten from -22 to 22, as -2.5 or 1e-3\n",
+    );
 }
 
-fn coordinate_at(i: usize) -> Coordinate {
-    let mut word = [0u8; 64];
-    let n = os::arg(i, &mut word);
-    match words::whole_in(&word[..n]) {
-        Whole::Plus(v) => Coordinate::Is(std::num::nearest_u64_to_f64(v)),
-        Whole::Minus(v) => Coordinate::Is(-std::num::nearest_u64_to_f64(v)),
-        Whole::Not => Coordinate::Not,
+// A word as a coordinate; one that is none is told.
+fn coordinate_at(i: usize) -> Decimal {
+    let mut text = [0u8; 256];
+    let n = word(i, &mut text);
+    let read = decimal::decimal_in(&text[..n]);
+    if let Decimal::Not = read {
+        no_coordinate(&text[..n]);
     }
+    read
 }
 
 // Three words as a point.
@@ -35,31 +90,32 @@ enum Corner {
 }
 
 fn corner_at(i: usize, j: usize, k: usize) -> Corner {
-    let Coordinate::Is(x) = coordinate_at(i) else {
+    let Decimal::Is(x) = coordinate_at(i) else {
         return Corner::Not;
     };
-    let Coordinate::Is(y) = coordinate_at(j) else {
+    let Decimal::Is(y) = coordinate_at(j) else {
         return Corner::Not;
     };
-    let Coordinate::Is(z) = coordinate_at(k) else {
+    let Decimal::Is(z) = coordinate_at(k) else {
         return Corner::Not;
     };
     Corner::At(Point { x, y, z })
 }
 
-// The oracle that words name.
+// The oracle that words name; that one of them is no coordinate, which was told; or that they are not what an oracle takes.
 pub enum Named {
     Oracle(Oracle),
+    Told,
     Not,
 }
 
 // The box of words 3 to 8.
 pub fn box_of() -> Named {
     let Corner::At(low) = corner_at(3, 4, 5) else {
-        return Named::Not;
+        return Named::Told;
     };
     let Corner::At(high) = corner_at(6, 7, 8) else {
-        return Named::Not;
+        return Named::Told;
     };
     Named::Oracle(Oracle::Box(low, high))
 }
@@ -69,8 +125,8 @@ pub fn plane_of() -> Named {
     let Number::Is(axis) = number_at(3) else {
         return Named::Not;
     };
-    let Coordinate::Is(at) = coordinate_at(4) else {
-        return Named::Not;
+    let Decimal::Is(at) = coordinate_at(4) else {
+        return Named::Told;
     };
     Named::Oracle(Oracle::Plane(axis, at))
 }

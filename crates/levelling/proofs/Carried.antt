@@ -1,31 +1,25 @@
 -- A MOVE THAT NEXT MOVE GIVES IS CARRIED OUT: with an outbox of 65,536 bytes its round is not refused and finishes, whatever the memory.
 -- So a step is refused by the questions of next move alone. Assumes nothing.
-use mathlib.Core.Path.{_≡_, refl, sym, _∙_, ap, subst}
-use mathlib.Core.List.{List, [], _∷_, _++_, map, Permᴰ·refl}
+use mathlib.Core.Path.{_≡_, sym, _∙_, ap, subst}
+use mathlib.Core.List.{List, [], _∷_, map, Permᴰ·refl}
 use Prim.Native.Nat.{ℕ, _≤_}
 use lib.ListN.{length}
-use Rattle.model.specs.Lists.{first-no, concat, Check}
+use Rattle.model.specs.Lists.{concat}
 use Rattle.model.specs.Values.{Block, all-rack}
 use Rattle.model.specs.Sound.{Sound}
 use Rattle.model.specs.Image.{image, block-in}
 use Rattle.model.specs.Balance.{Oracle, oracle-right, Move, move, NextMove}
 use Rattle.model.specs.Calls.{Answer, served, memories, whole-mesh-checks, next-move}
-use Rattle.model.specs.Runs.{Request, finished, last-steps, sent-messages, memory-at}
+use Rattle.model.specs.Runs.{finished, last-steps, sent-messages, memory-at}
 use Rattle.model.specs.Demands.{outbox-bytes}
-use Rattle.laws.proofs.Tests.{by-cases}
 use Rattle.theory.proofs.CallLaws.{served-value}
 use Rattle.theory.proofs.MeshLaws.{mesh-of, mesh-parts, memories-are, images-pass}
 use Rattle.agreement.proofs.Agreement.{rack-fits}
 use Rattle.soundness.proofs.OutboxLength.{rack-outbox-suffices}
 use Rattle.balancing.proofs.Lowers.{request-of, rack-move-lowers}
 use Rattle.rounds.specs.Played.{round-in-order}
+use Rattle.rounds.proofs.Requests.{front-passes}
 use Rattle.levelling.specs.Turn.{ending-by, moved, turn, turn-by, round-turn}
-
--- questions that stand first
-front-passes : (ps qs : List Check) → first-no (ps ++ qs) ≡ 0 → first-no ps ≡ 0
-unfolding first-no
-front-passes [] qs e = refl
-front-passes (p ∷ ps) qs e = by-cases (p .1) (λ t. rw t (front-passes ps qs (rw t at e))) (λ t. rw t (rw t at e))
 
 -- a mesh of which next move was served is sound, and its memories are the images of its blocks
 module _ (m : List ℕ) (o : Oracle) (scratch : List ℕ) (t : Move) (e : next-move all-rack m o scratch .answer ≡ served (move t)) where

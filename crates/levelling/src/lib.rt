@@ -1,6 +1,10 @@
 // Balancing the blocks of a mesh, a move at a time: the next move is asked for and, where there is one, its round is played.
+pub mod moves; // moves.rt: moves one after the other
+
 ghost use Rattle.oracle.specs.Oracle.{oracle-of};
 ghost use Rattle.levelling.specs.Turn.{round-turn, Levelled, Ended, a-move};
+pub use crate::moves::Balanced;
+pub use crate::moves::balance;
 use answers::NextMove;
 use answers::Refusal;
 use oracle::Oracle;

@@ -3,3 +3,4 @@ pub mod Placed
 pub mod Stepping
 pub mod Running
 pub mod Delivering
+pub mod Requests

@@ -1,2 +1,3 @@
 pub mod Post
 pub mod Played
+pub mod Requests

@@ -1,4 +1,5 @@
 // Rounds on the memory of a whole mesh: send, receive, then release and the redirects.
+pub mod list; // list.rt: requests one after the other
 pub mod post; // post.rt: messages that stand one after the other
 pub mod steps; // steps.rt: one call on the memory of one block
 
@@ -9,6 +10,7 @@ ghost use Rattle.model.specs.Calls as calls;
 ghost use Rattle.answers.specs.Answers.{Gives, written-of};
 ghost use Rattle.mesh.specs.Parts.{blocks, part};
 ghost use Rattle.rounds.specs.Played.{Delivered, Played};
+pub use crate::list::play_all;
 use answers::Answer;
 use answers::Refusal;
 use answers::Written;

@@ -25,6 +25,7 @@ use Rattle.cells.proofs.FaceSerials.{faces-carried}
 use Rattle.cells.proofs.StartLaws.{start-place, cycle-start}
 use Rattle.tally.specs.Tally.{is-critical, critical-faces, critical-at, tally-in, no-tally, tally-of}
 use Rattle.tally.specs.declared.counts.Tally.{Tally}
+use Rattle.tally.specs.Pieces.{piece-starts}
 
 -- ALL PLACES MARKED
 keep-all : (q : ℕ → Bool) (l : List ℕ) → ((x : ℕ) → In x l → q x ≡ true) → keep q l ≡ l
@@ -67,7 +68,7 @@ critical-third s k a (kind-free e f) = rw (third-free s k a e, ne-eqb (k % 4) 2 
 critical-third s k a (kind-sewn e) = rw (third-sewn s k a e, ne-eqb (k % 4) 2 (λ x. omega arith))
 critical-third s k a (kind-critical e f g) = rw (third-critical s k a e, eq-eqb (k % 4) 2 e)
 
-start-map : (s : ℕ → ℕ) (f : List ℕ) → 0 < length f → start-of (map s f) ≡ s (start-of f)
+pub start-map : (s : ℕ → ℕ) (f : List ℕ) → 0 < length f → start-of (map s f) ≡ s (start-of f)
 start-map s [] h = absurd (omega arith)
 start-map s (x ∷ f) h = refl
 
@@ -110,11 +111,11 @@ module _ (m : List ℕ) (ok : is-image rack m ≡ true) where
   critical-count = sym (ap length by-place ∙ length-map (keep (λ f. critical-at m (start-of f)) (faces (column m 1) (places (count-in m)))) (map (column m 0)))
 
   -- THE TALLY
-  pub tally-sound : {v c : ℕ} → v ≡ length (picked every ds) → c ≡ length (critical-faces ds)
-      → _≡_ {A = Tally} (record { darts = getD m 2 0; volumes = v; critical = c; counter = getD m 1 0 }) (tally-of m)
+  pub tally-sound : {v j c : ℕ} → v ≡ length (picked every ds) → j ≡ length (piece-starts ds) → c ≡ length (critical-faces ds)
+      → _≡_ {A = Tally} (record { darts = getD m 2 0; volumes = v; pieces = j; critical = c; counter = getD m 1 0 }) (tally-of m)
   unfolding tally-of
-  tally-sound {v} {c} ev ec =
-      (λ i. record { darts = sym (length-tab (dart-in m) (count-in m)) i; volumes = ev i; critical = ec i; counter = getD m 1 0 })
+  tally-sound {v} {j} {c} ev ej ec =
+      (λ i. record { darts = sym (length-tab (dart-in m) (count-in m)) i; volumes = ev i; pieces = ej i; critical = ec i; counter = getD m 1 0 })
       ∙ ap (λ (b : Bool). cond b (tally-in (block-in m)) no-tally) (sym ok)
 
 pub tally-unsound : (m : List ℕ) → is-image rack m ≡ false → no-tally ≡ tally-of m

@@ -1,1 +1,6 @@
 pub mod CriticalFaces
+pub mod Orbits
+pub mod GroupLaws
+pub mod Numbering
+pub mod CountLaws
+pub mod RowLaws

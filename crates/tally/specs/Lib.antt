@@ -1,1 +1,6 @@
 pub mod Tally
+pub mod Pieces
+pub mod Groups
+pub mod Rows
+pub mod Counting
+pub mod Examples

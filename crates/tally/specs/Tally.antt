@@ -1,4 +1,4 @@
--- The tally of a block, in the model's terms: its darts, its volumes, its critical faces, its counter. Assumes nothing.
+-- The tally of a block, in the model's terms: darts, volumes, pieces, critical faces, counter. Assumes nothing.
 use mathlib.Core.Bool.{Bool, true, false, cond}
 use mathlib.Core.List.{List}
 use Prim.Native.Nat.{ℕ, _%_}
@@ -10,6 +10,7 @@ use Rattle.model.specs.Cells.{faces, start-of, serials, next-in, third-at}
 use Rattle.model.specs.Image.{column, block-in, is-image}
 use Rattle.model.specs.Balance.{every, picked}
 use Rattle.tally.specs.declared.counts.Tally.{Tally}
+use Rattle.tally.specs.Pieces.{piece-starts}
 
 abbrev pub is-critical : Third → Bool
 is-critical free = false
@@ -25,12 +26,13 @@ abbrev pub tally-in : Block → Tally
 tally-in b = record {
   darts = length (b .darts);
   volumes = length (picked every (b .darts));
+  pieces = length (piece-starts (b .darts));
   critical = length (critical-faces (b .darts));
   counter = b .counter;
 }
 
 abbrev pub no-tally : Tally
-no-tally = record { darts = 0; volumes = 0; critical = 0; counter = 0 }
+no-tally = record { darts = 0; volumes = 0; pieces = 0; critical = 0; counter = 0 }
 
 -- of a block's memory; of any other memory all zero
 unfoldable pub tally-of : List ℕ → Tally

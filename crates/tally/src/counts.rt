@@ -1,9 +1,10 @@
 // What is told of a block.
 
-// How many darts, volumes and critical faces it has, and its counter.
+// How many darts, volumes, pieces and critical faces it has, and its counter.
 pub struct Tally {
     pub darts: u64,
     pub volumes: u64,
+    pub pieces: u64,
     pub critical: u64,
     pub counter: u64,
 }

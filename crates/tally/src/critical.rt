@@ -13,7 +13,7 @@ use memory::record;
 use memory::record::Place;
 
 // Whether the dart at place p is critical.
-fn is_critical(block: &[u64], p: usize) -> bool
+pub fn is_critical(block: &[u64], p: usize) -> bool
     requires { ⌜ (p < room) × (length (now block) ≡ words) ⌝ }
     ensures { λ r. ⌜ r ≡ critical-at (now (block .entry)) p ⌝ }
 {

@@ -15,42 +15,50 @@ is-sound-requires c κs = search needs
 returns : tie.Need-returns
 returns c =
     let start : tie.Start = search in
-    let is-sound-ensures = (let p : tie.After-is-sound = search in p .is-sound .ensures) in
-    tally-unsound (start .args .block .now) (sym is-sound-ensures ∙ not-true _ (c .if1 .taken))
+    let is-sound-known = (let p : tie.After-is-sound = search in p .is-sound) in
+    tally-unsound (start .args .block .now) (sym (is-sound-known .ensures) ∙ not-true _ (c .if1 .taken))
 
 count-requires : tie.Need-count-requires
 count-requires c κs =
-    let is-sound-ensures = (let p : tie.After-is-sound = search in p .is-sound .ensures) in
-    sym is-sound-ensures ∙ not-false _ (c .if1 .left)
+    let is-sound-known = (let p : tie.After-is-sound = search in p .is-sound) in
+    sym (is-sound-known .ensures) ∙ not-false _ (c .if1 .left)
+
+pieces-requires : tie.Need-pieces-requires
+pieces-requires c κs =
+    let is-sound-known = (let p : tie.After-is-sound = search in p .is-sound) in
+    let if1-known = (let p : tie.Else1 = search in p .if1) in
+    sym (is-sound-known .ensures) ∙ not-false _ (if1-known .left)
 
 critical-faces-requires : tie.Need-critical-faces-requires
 critical-faces-requires c κs =
-    let is-sound-ensures = (let p : tie.After-is-sound = search in p .is-sound .ensures) in
-    let if1-left = (let p : tie.Else1 = search in p .if1 .left) in
-    sym is-sound-ensures ∙ not-false _ if1-left
+    let is-sound-known = (let p : tie.After-is-sound = search in p .is-sound) in
+    let if1-known = (let p : tie.Else1 = search in p .if1) in
+    sym (is-sound-known .ensures) ∙ not-false _ (if1-known .left)
 
-shared-slice-read-t8 : tie.Need-shared-slice-read-t8
-shared-slice-read-t8 c =
+shared-slice-read-t9 : tie.Need-shared-slice-read-t9
+shared-slice-read-t9 c =
     let start : tie.Start = search in
-    let is-sound-ensures = (let p : tie.After-is-sound = search in p .is-sound .ensures) in
-    let if1-left = (let p : tie.Else1 = search in p .if1 .left) in
-    omega (arith, sited rack (start .args .block .now) (sym is-sound-ensures ∙ not-false _ if1-left) .linked .size)
+    let is-sound-known = (let p : tie.After-is-sound = search in p .is-sound) in
+    let if1-known = (let p : tie.Else1 = search in p .if1) in
+    omega (arith, sited rack (start .args .block .now) (sym (is-sound-known .ensures) ∙ not-false _ (if1-known .left)) .linked .size)
 
-shared-slice-read-t12 : tie.Need-shared-slice-read-t12
-shared-slice-read-t12 c =
+shared-slice-read-t14 : tie.Need-shared-slice-read-t14
+shared-slice-read-t14 c =
     let start : tie.Start = search in
-    let is-sound-ensures = (let p : tie.After-is-sound = search in p .is-sound .ensures) in
-    let if1-left = (let p : tie.Else1 = search in p .if1 .left) in
-    omega (arith, sited rack (start .args .block .now) (sym is-sound-ensures ∙ not-false _ if1-left) .linked .size)
+    let is-sound-known = (let p : tie.After-is-sound = search in p .is-sound) in
+    let if1-known = (let p : tie.Else1 = search in p .if1) in
+    omega (arith, sited rack (start .args .block .now) (sym (is-sound-known .ensures) ∙ not-false _ (if1-known .left)) .linked .size)
 
 returns-2 : tie.Need-returns-2
 returns-2 c =
+    let is-sound-known = (let p : tie.After-is-sound = search in p .is-sound) in
+    let if1-known = (let p : tie.Else1 = search in p .if1) in
     let start : tie.Start = search in
-    let is-sound-ensures = (let p : tie.After-is-sound = search in p .is-sound .ensures) in
-    let if1-left = (let p : tie.Else1 = search in p .if1 .left) in
-    let count-ensures = (let p : tie.After-count = search in p .count .ensures) in
-    let critical-faces-ensures = (let p : tie.After-critical-faces = search in p .critical-faces .ensures) in
-    tally-sound (start .args .block .now) (sym is-sound-ensures ∙ not-false _ if1-left) (count-ensures .0) critical-faces-ensures
+    let count-known = (let p : tie.After-count = search in p .count) in
+    let pieces-known = (let p : tie.After-pieces = search in p .pieces) in
+    let critical-faces-known = (let p : tie.After-critical-faces = search in p .critical-faces) in
+    let ok = sym (is-sound-known .ensures) ∙ not-false _ (if1-known .left) in
+    tally-sound (start .args .block .now) ok (count-known .ensures .0) (pieces-known .ensures) (critical-faces-known .ensures)
 
 pub tally-spec : {M : Type 1} → statement M
 tally-spec =
@@ -59,7 +67,8 @@ tally-spec =
     is-sound-requires
     returns
     count-requires
+    pieces-requires
     critical-faces-requires
-    shared-slice-read-t8
-    shared-slice-read-t12
+    shared-slice-read-t9
+    shared-slice-read-t14
     returns-2)

@@ -65,13 +65,13 @@ is-critical-requires c κs =
     (omega (arith, first-dart (start .pre .0) (start .pre .1) loop-f loop-test-taken .2, start .pre .0 .few), start .pre .0 .size)
 
 loop-less : tie.Need-loop-less Inv-loop μ-loop
-loop-less c = omega arith
+loop-less c =
+    let loop-test-taken = (let p : tie.In-loop Inv-loop μ-loop = search in p .loop-test .taken) in
+    omega (arith, loop-test-taken)
 
 loop-again : tie.Need-loop-again Inv-loop μ-loop
 loop-again c =
     let start : tie.Start Inv-loop μ-loop = search in
-    let block = start .args .block .now in
-    let n = start .args .n in
     let loop-f = (let p : tie.At-loop Inv-loop μ-loop = search in p .loop .f) in
     let loop-inv = (let p : tie.At-loop Inv-loop μ-loop = search in p .loop .inv) in
     let loop-test-taken = (let p : tie.In-loop Inv-loop μ-loop = search in p .loop-test .taken) in
@@ -79,9 +79,10 @@ loop-again c =
     let at = first-dart (start .pre .0) (start .pre .1) loop-f loop-test-taken .1 in (
       omega (arith, loop-test-taken),
       omega (arith, loop-inv .1),
-      count-skip (λ l. critical-at block (start-of l)) (faces (column block 1) (tab (λ p. p) n)) loop-f _ (loop-inv .2)
+      count-skip (λ l. critical-at (start .args .block .now) (start-of l))
+          (faces (column (start .args .block .now) 1) (tab (λ p. p) (start .args .n))) loop-f _ (loop-inv .2)
           (omega (arith, loop-test-taken, start .pre .1 .count-is))
-          (sym (is-critical-ensures ∙ ap (critical-at block) at) ∙ not-true _ (c .if1 .taken)),
+          (sym (is-critical-ensures ∙ ap (critical-at (start .args .block .now)) at) ∙ not-true _ (c .if1 .taken)),
     )
 
 add-critical : tie.Need-add-critical Inv-loop μ-loop
@@ -92,13 +93,13 @@ add-critical c =
     omega (arith, loop-inv .1, loop-test-taken, in-order-few (start .pre .1) .1)
 
 loop-less-2 : tie.Need-loop-less-2 Inv-loop μ-loop
-loop-less-2 c = omega arith
+loop-less-2 c =
+    let loop-test-taken = (let p : tie.In-loop Inv-loop μ-loop = search in p .loop-test .taken) in
+    omega (arith, loop-test-taken)
 
 loop-again-2 : tie.Need-loop-again-2 Inv-loop μ-loop
 loop-again-2 c =
     let start : tie.Start Inv-loop μ-loop = search in
-    let block = start .args .block .now in
-    let n = start .args .n in
     let loop-f = (let p : tie.At-loop Inv-loop μ-loop = search in p .loop .f) in
     let loop-inv = (let p : tie.At-loop Inv-loop μ-loop = search in p .loop .inv) in
     let loop-test-taken = (let p : tie.In-loop Inv-loop μ-loop = search in p .loop-test .taken) in
@@ -106,19 +107,19 @@ loop-again-2 c =
     let at = first-dart (start .pre .0) (start .pre .1) loop-f loop-test-taken .1 in (
       omega (arith, loop-test-taken),
       omega (arith, loop-inv .1),
-      count-one (λ l. critical-at block (start-of l)) (faces (column block 1) (tab (λ p. p) n)) loop-f _ (loop-inv .2)
+      count-one (λ l. critical-at (start .args .block .now) (start-of l))
+          (faces (column (start .args .block .now) 1) (tab (λ p. p) (start .args .n))) loop-f _ (loop-inv .2)
           (omega (arith, loop-test-taken, start .pre .1 .count-is))
-          (sym (is-critical-ensures ∙ ap (critical-at block) at) ∙ not-false _ (c .if1 .left)),
+          (sym (is-critical-ensures ∙ ap (critical-at (start .args .block .now)) at) ∙ not-false _ (c .if1 .left)),
     )
 
 returns : tie.Need-returns Inv-loop μ-loop
 returns c =
     let start : tie.Start Inv-loop μ-loop = search in
-    let block = start .args .block .now in
-    let n = start .args .n in
     let loop-f = (let p : tie.At-loop Inv-loop μ-loop = search in p .loop .f) in
     let loop-inv = (let p : tie.At-loop Inv-loop μ-loop = search in p .loop .inv) in
-    count-all (λ l. critical-at block (start-of l)) (faces (column block 1) (tab (λ p. p) n)) loop-f _ (loop-inv .2)
+    count-all (λ l. critical-at (start .args .block .now) (start-of l))
+    (faces (column (start .args .block .now) 1) (tab (λ p. p) (start .args .n))) loop-f _ (loop-inv .2)
     (omega (arith, c .loop-test .left, start .pre .1 .count-is))
 
 pub count-critical-spec : {M : Type 1} → statement M

@@ -1,0 +1,46 @@
+-- THE PROMISE about `rounds::play_all`: after any list of requests, played on the memory of a sound mesh with an outbox of 65,536 bytes, each
+-- dart has the links and the point that it had at the start, the mesh is sound, every round that was taken is finished, and outcomes, cells
+-- and counts are those of a mesh that was never divided. Assumes nothing.
+use mathlib.Core.Path.{_≡_}
+use mathlib.Core.Bool.{true}
+use mathlib.Core.List.{List, map}
+use Prim.Native.Nat.{ℕ, _≤_}
+use lib.Dec.{leb}
+use lib.ListN.{length, take}
+use Rattle.model.specs.Lists.{all}
+use Rattle.model.specs.Values.{Block, all-rack}
+use Rattle.model.specs.Sound.{Sound}
+use Rattle.model.specs.Image.{image}
+use Rattle.model.specs.Calls.{memories}
+use Rattle.model.specs.Runs.{Request, start, whole-map}
+use Rattle.model.specs.Demands.{Matches, outbox-bytes}
+use Rattle.rounds.specs.Requests.{requests-in, outcome-number, Run, run, over, PlayedAll}
+use Rattle.agreed.specs.Course.{Course, course}
+
+-- the undivided run of a list from the mesh at the start
+abbrev pub course-of : List Block → List Request → Course
+course-of bs rs = course (length bs) (start bs) rs
+
+-- a list as the divided run has it
+pub record Agreed (bs : List Block) (rs : List Request) (d : Run) : Type 0 where
+  pub same-outcomes : d .outcomes ≡ course-of bs rs .outcomes
+  -- an outcome's number is a question's, and no question has the number of a round that was taken and not finished
+  pub never-unfinished : all (λ o. leb (outcome-number o) 28) (d .outcomes) ≡ true
+  pub matches : Matches all-rack (d .memories) (course-of bs rs .state)
+  -- the undivided run changes no link and no point
+  pub same-map : (x : ℕ) → whole-map (matches .mesh) x ≡ whole-map bs x
+
+abbrev pub ListsAgree : Type 0
+ListsAgree = (bs : List Block) (outbox : List ℕ) (rs : List Request) → Sound all-rack bs → outbox-bytes ≤ length outbox → Agreed bs rs (run (map image bs) outbox rs)
+
+-- what `play_all` leaves of a mesh and writes as outcomes
+pub record Kept (bs : List Block) (rs : List Request) (outcomes m′ outcomes′ : List ℕ) : Type 0 where
+  pub outcomes-are : outcomes′ ≡ over (map outcome-number (course-of bs rs .outcomes)) outcomes
+  pub never-unfinished : all (λ n. leb n 28) (take (length rs) outcomes′) ≡ true
+  pub matches : Matches all-rack (memories m′) (course-of bs rs .state)
+  pub same-map : (x : ℕ) → whole-map (matches .mesh) x ≡ whole-map bs x
+
+abbrev pub Promise : Type 0
+Promise = (bs : List Block) (m requests outcomes outbox m′ outcomes′ outbox′ : List ℕ) → Sound all-rack bs → memories m ≡ map image bs → outbox-bytes ≤ length outbox
+    → PlayedAll m requests outcomes outbox m′ outcomes′ outbox′
+    → Kept bs (take (length outcomes) (requests-in requests)) outcomes m′ outcomes′

@@ -1,0 +1,4 @@
+pub mod Texts
+pub mod Floats
+pub mod Values
+pub mod Rounding

@@ -1,0 +1,12 @@
+pub mod Plans
+pub mod Commits
+pub mod Contents
+pub mod Entering
+pub mod Committing
+pub mod Prepares
+pub mod Folders
+pub mod Seen
+pub mod Looked
+pub mod Kept
+pub mod Mended
+pub mod Meshes

@@ -1,0 +1,5 @@
+pub mod Plan
+pub mod Commit
+pub mod Looks
+pub mod Prepare
+pub mod Folder
