@@ -1,6 +1,6 @@
 #!/usr/bin/env bash
-# Two commands of the dispatcher's program in one folder: one is stopped at each of its calls on files while the other runs, in every
-# pairing; then pairs at random. What is left is what the two leave one after the other, or one alone where the other was turned away;
+# Two commands of the dispatcher's program in one folder: a balance or a play is held at each of its calls on files while another
+# command runs; then pairs at random. What is left is what the two leave one after the other, or one alone where the other was turned away;
 # a reader always sees one of these states.
 set -euo pipefail
 cd "$(dirname "$0")/.."
