@@ -12,6 +12,10 @@
  * ascending serial: serial, next, opposite, kind (0 free, 1 sewn, 2 + 4 * the other block critical), what it is sewn to or the code of its
  * label, then x, y, z as the bits of doubles. Links are places in this order, from 0. All words behind the last dart are zero. A label's code
  * is (maker * 2^32 + number) * 4096 + position.
+ *
+ * A message begins with four numbers: how many bytes follow the first number, its kind (1 a transfer, 2 an update), the block that it comes
+ * from, the block that it goes to. A number is written in groups of seven bits, lowest first, one to a byte; the top bit is set on all
+ * bytes but the last. Messages stand in an outbox one after the other: dmap_message_size and dmap_message_to cut it and address them.
  */
 #ifndef DMAP_H
 #define DMAP_H
@@ -23,11 +27,17 @@
 extern "C" {
 #endif
 
+/* Raised by every change of a call, an answer, a size or a layout. */
+#define DMAP_VERSION 1
+
 /* Words of a block's memory. */
 #define DMAP_WORDS 32776
 
 /* Bytes of an outbox that is long enough for every send. */
 #define DMAP_OUTBOX 65536
+
+/* Bytes of an output that is long enough for every file: 8, and at most 49 for each of 4,096 darts. */
+#define DMAP_FILE 200712
 
 /* Entries of the scratch of a mesh check and of a next move. */
 #define DMAP_SCRATCH 65536
@@ -64,6 +74,75 @@ enum {
     DMAP_MAKERS_WRONG = 27,         /* are makers and counters right? */
     DMAP_ORACLE_WRONG = 28          /* are the oracle's numbers right? */
 };
+
+/* The answer in words, for a person. */
+static inline const char *dmap_words(uint32_t answer) {
+    static const char *const words[] = {
+        "served",
+        "lent memory is not of the stated size",
+        "memory is not a sound block's image",
+        "the file's bytes are not a block's",
+        "a coordinate is not finite",
+        "next or opposite is wrong",
+        "a third link is wrong",
+        "a label, another block's number or the counter is wrong",
+        "points do not agree",
+        "the block number is above 15, or is the block's own",
+        "the block does not hold the serial",
+        "the volume has more than 512 darts",
+        "a dart is sewn within the volume",
+        "an ordered vertex pair is there twice, or its ends are one",
+        "the counter is at its end",
+        "the output is too short",
+        "the bytes are not one message",
+        "the message is of another kind, for another block, or from this one",
+        "a coordinate is not finite, or a serial is 0, repeated or held",
+        "the darts are not one volume in message order",
+        "a part of the transfer is wrong",
+        "the block has no room",
+        "the new block is an end, or a label is not the least of a face of its own",
+        "there are not 1 to 16 blocks, numbered in order",
+        "a serial is in two blocks",
+        "labels are not paired",
+        "points do not agree across blocks",
+        "a maker or a counter is wrong",
+        "the oracle's numbers are wrong",
+    };
+    return answer < sizeof words / sizeof words[0] ? words[answer] : "no answer";
+}
+
+/* The number that starts at *at, which is moved past it; 0, and *at stays, where it is not whole or takes more than five bytes. */
+static inline uint64_t dmap_number(const uint8_t *bytes, size_t count, size_t *at) {
+    uint64_t value = 0;
+    for (size_t i = 0; i < 5 && *at + i < count; i++) {
+        value |= (uint64_t)(bytes[*at + i] & 127) << 7 * i;
+        if (bytes[*at + i] < 128) {
+            *at += i + 1;
+            return value;
+        }
+    }
+    return 0;
+}
+
+/* Bytes of the message that starts at the first of `count` bytes, its first number included; 0 where no whole one starts there. */
+static inline size_t dmap_message_size(const uint8_t *bytes, size_t count) {
+    size_t at = 0;
+    uint64_t rest = dmap_number(bytes, count, &at);
+    return at > 0 && rest <= count - at ? at + (size_t)rest : 0;
+}
+
+/* The block that a message goes to; 16 where it has no four numbers. */
+static inline uint64_t dmap_message_to(const uint8_t *message, size_t bytes) {
+    size_t at = 0;
+    uint64_t to = 16;
+    for (int i = 0; i < 4; i++) {
+        size_t before = at;
+        to = dmap_number(message, bytes, &at);
+        if (at == before)
+            return 16;
+    }
+    return to;
+}
 
 /* Makes an empty block from its number, counter 0, whatever stood in the memory.
  * Asks 1 (DMAP_WORDS words), 9 (number at most 15). Refused: the block is as it was. */
@@ -103,8 +182,8 @@ uint32_t dmap_release(uint64_t *block, size_t words, uint64_t to, uint64_t seria
  * each label the least of a different face shared with the sender). The message is read only. Refused: the block is as it was. */
 uint32_t dmap_redirect(uint64_t *block, size_t words, const uint8_t *message, size_t bytes);
 
-/* Checks a whole mesh: the memories of its blocks one after the other, block 0 first. The mesh is read only; the scratch is zero before and after,
- * whatever the answer.
+/* Checks a whole mesh: the memories of its blocks one after the other, block 0 first. The mesh is read only; the scratch is zero before and after;
+ * where 1 is answered no it is as it was.
  * Asks 1 (whole blocks; DMAP_SCRATCH entries of scratch, all zero), 2 (each a sound block's image), 23 (1 to 16 blocks, numbered in order),
  * 24 (serials distinct), 25 (labels paired), 26 (points agree across), 27 (makers and counters). */
 uint32_t dmap_check_mesh(const uint64_t *mesh, size_t words, uint64_t *scratch, size_t entries);
