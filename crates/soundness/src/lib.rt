@@ -1,1 +1,1 @@
-// The proof that the divided and the undivided run agree stands in proofs/; this crate has no code.
+// The proof that a served call leaves a sound block, whatever message it was given, stands in proofs/; this crate has no code.
