@@ -160,9 +160,9 @@ module _ {w kinds links ranks old new : List ℕ} {n k i : ℕ} {m : List ℕ} (
         ∙ so-far .stays f p l (λ j u. a j (omega (arith, u))) (λ j u. b j (omega (arith, u)));
   }
 
-  pub sewn-more : {m′ : List ℕ} → m′ ≡ sewn-at m (getD kinds i 0) (getD links i 0) old (place-of ranks new i) → Sewn w kinds links ranks old new (i + 1) m′
+  pub sewn-more : {m′ : List ℕ} {r p : ℕ} → r ≡ getD ranks i 0 → p ≡ getD new r 0 → m′ ≡ sewn-at m (getD kinds i 0) (getD links i 0) old p → Sewn w kinds links ranks old new (i + 1) m′
   unfolding next
-  sewn-more e = rw e more
+  sewn-more a b e = rw (e, b, a) more
 
 -- THE CASES of one new dart
 module _ (m : List ℕ) (kind link : ℕ) (old : List ℕ) (p : ℕ) where

@@ -5,21 +5,22 @@ ghost use lib.ListN.{length, getD};
 ghost use Rattle.model.specs.Image.{room, words};
 ghost use Rattle.sewing.specs.Thirds.{with-third, sewn-at, Sewable, Sewn};
 use memory::record;
+use memory::record::MessageIndex;
 use memory::record::Place;
 
 // The kind word and the link word of the dart at place p.
-fn put_third(block: &mut [u64], p: usize, kind: u64, link: u64)
-    requires { ⌜ (p < room) × (length (now block) ≡ words) ⌝ }
-    ensures { λ _. ⌜ now (block .exit) ≡ with-third (now (block .entry)) p kind link ⌝ }
+fn put_third(block: &mut [u64], p: Place, kind: u64, link: u64)
+    requires { ⌜ (p .0 < room) × (length (now block) ≡ words) ⌝ }
+    ensures { λ _. ⌜ now (block .exit) ≡ with-third (now (block .entry)) (p .0) kind link ⌝ }
 {
-    record::put_field(block, Place(p), 3, kind);
-    record::put_field(block, Place(p), 4, link);
+    record::put_field(block, p, 3, kind);
+    record::put_field(block, p, 4, link);
 }
 
 // A new dart at place p, and the dart that it is sewn to.
-fn sew_at(block: &mut [u64], kind: u64, link: u64, old: &[usize], p: usize)
-    requires { ⌜ (length (now block) ≡ words) × (length (now old) ≡ room) × (p < room) × (kind ≡ 1 → link < room) × (kind ≡ 1 → getD (now old) link 0 < room) ⌝ }
-    ensures { λ _. ⌜ now (block .exit) ≡ sewn-at (now (block .entry)) kind link (now (old .entry)) p ⌝ }
+fn sew_at(block: &mut [u64], kind: u64, link: u64, old: &[usize], p: Place)
+    requires { ⌜ (length (now block) ≡ words) × (length (now old) ≡ room) × (p .0 < room) × (kind ≡ 1 → link < room) × (kind ≡ 1 → getD (now old) link 0 < room) ⌝ }
+    ensures { λ _. ⌜ now (block .exit) ≡ sewn-at (now (block .entry)) kind link (now (old .entry)) (p .0) ⌝ }
 {
     if kind == 0 {
         return;
@@ -28,9 +29,9 @@ fn sew_at(block: &mut [u64], kind: u64, link: u64, old: &[usize], p: usize)
         put_third(block, p, kind, link);
         return;
     }
-    let q = old[link as usize];
-    put_third(block, p, 1, q as u64);
-    put_third(block, q, 1, p as u64);
+    let q = place::moved_at(old, Place(link as usize));
+    put_third(block, p, 1, q.0 as u64);
+    put_third(block, q, 1, p.0 as u64);
 }
 
 // All k new darts among a block's n.
@@ -50,8 +51,9 @@ pub fn sew(
     // Those before i are.
     let mut i = 0;
     while i < k {
-        let r = ranks[i];
-        sew_at(block, kinds[i], links[i], old, new[r]);
+        let r = place::rank_at(ranks, MessageIndex(i));
+        let p = place::new_at(new, r);
+        sew_at(block, kinds[i], links[i], old, p);
         i += 1;
     }
 }

@@ -13,6 +13,7 @@ use memory::header::Header;
 use memory::record;
 use memory::record::Place;
 use memory::record::Record;
+use place::DraftPlace;
 
 // Whether the last, by serial, of the block's first i darts and the draft's first j is one of the block.
 fn last_is_old(block: &[u64], draft: &[u64], i: usize, j: usize) -> bool
@@ -25,7 +26,7 @@ fn last_is_old(block: &[u64], draft: &[u64], i: usize, j: usize) -> bool
     if i == 0 {
         return false;
     }
-    record::field(draft, Place(j - 1), 0) < record::field(block, Place(i - 1), 0)
+    place::draft_serial(draft, DraftPlace(j - 1)) < record::field(block, Place(i - 1), 0)
 }
 
 // Where the darts of both go.
@@ -50,44 +51,37 @@ fn tables(block: &[u64], n: usize, draft: &[u64], k: usize, old: &mut [usize], n
     }
 }
 
-// Where a place goes.
-fn moved(table: &[usize], p: u64) -> u64
-    requires { ⌜ (length (now table) ≡ room) × (p < room) ⌝ }
-    ensures { λ r. ⌜ r ≡ getD (now (table .entry)) p 0 ⌝ }
-{
-    table[p as usize] as u64
-}
-
 // The link word: where the place of a sewn dart goes.
 fn moved_link(table: &[usize], kind: u64, link: u64) -> u64
     requires { ⌜ (length (now table) ≡ room) × (kind ≡ 1 → link < room) ⌝ }
     ensures { λ r. ⌜ r ≡ moved-link (λ p. getD (now (table .entry)) p 0) kind link ⌝ }
 {
     if kind == 1 {
-        return moved(table, link);
+        let there = place::moved_at(table, Place(link as usize));
+        return there.0 as u64;
     }
     link
 }
 
 // Stores a record at place `at`, with its links by the table.
-fn put_moved(block: &mut [u64], at: usize, r: Record, table: &[usize])
-    requires { ⌜ (length (now block) ≡ words) × (length (now table) ≡ room) × (at < room) × (r .next < room) × (r .opposite < room) × (r .kind ≡ 1 → r .link < room) ⌝ }
-    ensures { λ _. ⌜ now (block .exit) ≡ put (now (block .entry)) at (moved-record (λ p. getD (now (table .entry)) p 0) r) ⌝ }
+fn put_moved(block: &mut [u64], at: Place, r: Record, table: &[usize])
+    requires { ⌜ (length (now block) ≡ words) × (length (now table) ≡ room) × (at .0 < room) × (r .next < room) × (r .opposite < room) × (r .kind ≡ 1 → r .link < room) ⌝ }
+    ensures { λ _. ⌜ now (block .exit) ≡ put (now (block .entry)) (at .0) (moved-record (λ p. getD (now (table .entry)) p 0) r) ⌝ }
 {
-    let next = moved(table, r.next);
-    let opposite = moved(table, r.opposite);
+    let next = place::moved_at(table, Place(r.next as usize));
+    let opposite = place::moved_at(table, Place(r.opposite as usize));
     let link = moved_link(table, r.kind, r.link);
     let there = Record {
         serial: r.serial,
-        next,
-        opposite,
+        next: next.0 as u64,
+        opposite: opposite.0 as u64,
         kind: r.kind,
         link,
         x: r.x,
         y: r.y,
         z: r.z,
     };
-    record::put_record(block, Place(at), there);
+    record::put_record(block, at, there);
 }
 
 // Puts the draft's k records among the block's n, each with its links by its table.
@@ -104,12 +98,12 @@ fn merge(block: &mut [u64], n: usize, draft: &[u64], k: usize, old: &[usize], ne
         if last_is_old(block, draft, i, j) {
             let p = i - 1;
             let r = record::record_at(block, Place(p));
-            put_moved(block, t, r, old);
+            put_moved(block, Place(t), r, old);
             i = p;
         } else {
             let q = j - 1;
-            let r = record::record_at(draft, Place(q));
-            put_moved(block, t, r, new);
+            let r = place::draft_record(draft, DraftPlace(q));
+            put_moved(block, Place(t), r, new);
             j = q;
         }
     }

@@ -1,7 +1,7 @@
 -- `sewing::sew_at` meets its contract.
 -- Assumes nothing.
 use mathlib.Core.Path.{ap, _∙_}
-use lib.ListN.{length, getD}
+use lib.ListN.{length}
 use Rattle.sewing.proofs.SewLaws.{third-length, at-free, at-critical, at-sewn}
 use native.Mathlib.Omega.{arith}
 use borrow.Author.Needs.{needs}
@@ -25,16 +25,10 @@ returns-2 c =
     let put-third-ensures = (let p : tie.After-put-third = search in p .put-third .ensures) in
     put-third-ensures ∙ at-critical _ _ _ _ _ if1-left if2-taken
 
-mul-q : tie.Need-mul-q
-mul-q c =
+moved-at-requires : tie.Need-moved-at-requires
+moved-at-requires c κs =
     let start : tie.Start = search in
-    let l = start .pre .3 (c .if2 .left) in omega (arith, l)
-
-shared-slice-read-q : tie.Need-shared-slice-read-q
-shared-slice-read-q c =
-    let start : tie.Start = search in
-    let if2-left = (let p : tie.Else2 = search in p .if2 .left) in
-    let l = start .pre .3 if2-left in let n = start .pre .1 in omega (arith, l, n)
+    omega (arith, start .pre .3 (c .if2 .left), start .pre .1)
 
 put-third-requires-2 : tie.Need-put-third-requires-2
 put-third-requires-2 c κs =
@@ -45,12 +39,12 @@ put-third-requires-3 : tie.Need-put-third-requires-3
 put-third-requires-3 c κs =
     let start : tie.Start = search in
     let block = start .args .block .now in
-    let p' = start .args .p in
-    let old = start .args .old .now in
-    let link = start .args .link in
+    let p' = start .args .p .0 in
+    let moved-at-result = (let p : tie.After-moved-at = search in p .moved-at .result) in
+    let moved-at-ensures = (let p : tie.After-moved-at = search in p .moved-at .ensures) in
     let if2-left = (let p : tie.Else2 = search in p .if2 .left) in
     let put-third2-ensures = (let p : tie.After-put-third2 = search in p .put-third2 .ensures) in
-    (start .pre .4 if2-left, ap length put-third2-ensures ∙ third-length block p' 1 (getD old link 0) ∙ start .pre .0)
+    (omega (arith, moved-at-ensures, start .pre .4 if2-left), ap length put-third2-ensures ∙ third-length block p' 1 (moved-at-result .0) ∙ start .pre .0)
 
 same-length-2 : tie.Need-same-length-2
 same-length-2 c = search needs
@@ -60,7 +54,8 @@ returns-3 c =
     let if2-left = (let p : tie.Else2 = search in p .if2 .left) in
     let put-third2-ensures = (let p : tie.After-put-third2 = search in p .put-third2 .ensures) in
     let put-third3-ensures = (let p : tie.After-put-third3 = search in p .put-third3 .ensures) in
-    put-third3-ensures ∙ rw put-third2-ensures (at-sewn _ _ _ _ _ if2-left)
+    let moved-at-ensures = (let p : tie.After-moved-at = search in p .moved-at .ensures) in
+    put-third3-ensures ∙ rw (put-third2-ensures, moved-at-ensures) (at-sewn _ _ _ _ _ if2-left)
 
 pub sew-at-spec : {M : Type 1} → statement M
 sew-at-spec =
@@ -70,8 +65,7 @@ sew-at-spec =
     put-third-requires
     same-length
     returns-2
-    mul-q
-    shared-slice-read-q
+    moved-at-requires
     put-third-requires-2
     put-third-requires-3
     same-length-2

@@ -109,8 +109,8 @@ sub-q c =
     let last-is-old-ensures = (let p : tie.After-last-is-old Inv-loop μ-loop = search in p .last-is-old .ensures) in
     omega (arith, new-left (start .pre .0 .0) loop-inv loop-test-taken last-is-old-ensures (c .if1 .left))
 
-record-at-requires-2 : tie.Need-record-at-requires-2 Inv-loop μ-loop
-record-at-requires-2 c κs =
+draft-record-requires : tie.Need-draft-record-requires Inv-loop μ-loop
+draft-record-requires c κs =
     let start : tie.Start Inv-loop μ-loop = search in
     let loop-inv = (let p : tie.At-loop Inv-loop μ-loop = search in p .loop .inv) in
     let loop-test-taken = (let p : tie.In-loop Inv-loop μ-loop = search in p .loop-test .taken) in
@@ -131,8 +131,8 @@ put-moved-requires-2 c κs =
     let loop-test-taken = (let p : tie.In-loop Inv-loop μ-loop = search in p .loop-test .taken) in
     let last-is-old-ensures = (let p : tie.After-last-is-old Inv-loop μ-loop = search in p .last-is-old .ensures) in
     let if1-left = (let p : tie.Else1 Inv-loop μ-loop = search in p .if1 .left) in
-    let record-at2-ensures = (let p : tie.After-record-at2 Inv-loop μ-loop = search in p .record-at2 .ensures) in
-    let w = new-fits (start .pre .0 .0) loop-inv loop-test-taken last-is-old-ensures if1-left record-at2-ensures in (
+    let draft-record-ensures = (let p : tie.After-draft-record Inv-loop μ-loop = search in p .draft-record .ensures) in
+    let w = new-fits (start .pre .0 .0) loop-inv loop-test-taken last-is-old-ensures if1-left draft-record-ensures in (
       loop-inv .size ∙ start .pre .0 .0 .block .size,
       start .pre .0 .2,
       omega (arith, loop-test-taken, loop-inv .i-le, loop-inv .j-le, start .pre .0 .0 .fits),
@@ -158,9 +158,9 @@ loop-again-2 c =
     let loop-test-taken = (let p : tie.In-loop Inv-loop μ-loop = search in p .loop-test .taken) in
     let last-is-old-ensures = (let p : tie.After-last-is-old Inv-loop μ-loop = search in p .last-is-old .ensures) in
     let if1-left = (let p : tie.Else1 Inv-loop μ-loop = search in p .if1 .left) in
-    let record-at2-ensures = (let p : tie.After-record-at2 Inv-loop μ-loop = search in p .record-at2 .ensures) in
+    let draft-record-ensures = (let p : tie.After-draft-record Inv-loop μ-loop = search in p .draft-record .ensures) in
     let put-moved2-ensures = (let p : tie.After-put-moved2 Inv-loop μ-loop = search in p .put-moved2 .ensures) in
-    new-turn (start .pre .0 .0) loop-inv loop-test-taken last-is-old-ensures if1-left record-at2-ensures new (start .pre .1 .1) put-moved2-ensures
+    new-turn (start .pre .0 .0) loop-inv loop-test-taken last-is-old-ensures if1-left draft-record-ensures new (start .pre .1 .1) put-moved2-ensures
 
 same-length : tie.Need-same-length Inv-loop μ-loop
 same-length c =
@@ -189,7 +189,7 @@ merge-spec =
     loop-less
     loop-again
     sub-q
-    record-at-requires-2
+    draft-record-requires
     put-moved-requires-2
     loop-less-2
     loop-again-2

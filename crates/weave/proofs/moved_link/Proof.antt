@@ -2,23 +2,24 @@
 use mathlib.Core.Path.{_∙_}
 use lib.ListN.{getD}
 use Rattle.removal.proofs.ReleasedImage.{link-sewn, link-other}
+use native.Mathlib.Omega.{arith}
 use Rattle.weave.proofs.moved_link.Statement.{statement}
 use Rattle.weave.proofs.moved_link.Tie as tie
 
-moved-requires : tie.Need-moved-requires
-moved-requires c κs =
+moved-at-requires : tie.Need-moved-at-requires
+moved-at-requires c κs =
     let start : tie.Start = search in
-    (start .pre .0, start .pre .1 (c .if1 .taken))
+    omega (arith, start .pre .0, start .pre .1 (c .if1 .taken))
 
 returns : tie.Need-returns
 returns c =
     let start : tie.Start = search in
     let if1-taken = (let p : tie.Then1 = search in p .if1 .taken) in
-    c .moved .ensures ∙ link-sewn (λ p. getD (start .args .table .now) p 0) _ _ if1-taken
+    c .moved-at .ensures ∙ link-sewn (λ p. getD (start .args .table .now) p 0) _ _ if1-taken
 
 returns-2 : tie.Need-returns-2
 returns-2 c =
     link-other _ _ _ (c .if1 .left)
 
 pub moved-link-spec : {M : Type 1} → statement M
-moved-link-spec = tie.close (tie.spec moved-requires returns returns-2)
+moved-link-spec = tie.close (tie.spec moved-at-requires returns returns-2)
