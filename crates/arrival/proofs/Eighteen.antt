@@ -26,7 +26,9 @@ use Rattle.memory.proofs.Lookups.{held-at, held-nothing, place-found, place-non
 use Rattle.inbox.specs.Inbox.{word-in, point-in, points-in}
 use Rattle.ranking.specs.Ranks.{Ranked}
 use Rattle.arrival.specs.Sides.{side-at}
-use Rattle.arrival.specs.Draft.{NewSerials, Told}
+use Rattle.arrival.specs.declared.serials.Gap.{Gap}
+use Rattle.arrival.specs.declared.serials.Gap.the-variants.{Below, NotNew}
+use Rattle.arrival.specs.Draft.{is-new, GapSaid, GapTold, NewSerials, Told}
 use Rattle.arrival.proofs.SideLaws.{sides-are}
 use Rattle.arrival.proofs.PairLaws.{all-index}
 
@@ -56,17 +58,25 @@ module _ {n : ℕ} {s : ℕ → ℕ} (a : Ascending n s) where
       (λ l. omega (arith, e, above (omega (arith, l, h)), up-to g p l h))
       (lt-or-ge p g)
 
--- THE ANSWER OF A SEARCH: how many are below, or more than there are
-module _ (m : List ℕ) {x n r : ℕ} where
-  pub gap-zero : x ≡ 0 → n < r → leb r n ≡ (leb 1 x && not (held (block-in m .darts) x))
-  gap-zero e h = lt-leb r n h ∙ zero-held m x e
+-- THE ANSWER OF A SEARCH: how many are below, or not new
+module _ (m : List ℕ) {x n : ℕ} where
+  pub gap-zero : x ≡ 0 → GapTold m n x NotNew
+  gap-zero e = record { said = sym (zero-held m x e) }
 
   module _ (some-serial : x ≡ 0 → ⊥) (q : n ≡ getD m 2 0) where
-    pub gap-held : Ascending n (column m 0) → {p : ℕ} → p < n → column m 0 p ≡ x → n < r → leb r n ≡ (leb 1 x && not (held (block-in m .darts) x))
-    gap-held a {p} l e h = lt-leb r n h ∙ found-held m x some-serial q a (sym (place-found (column m 0) n x p a l e))
+    pub gap-held : Ascending n (column m 0) → {p : ℕ} → p < n → column m 0 p ≡ x → GapTold m n x NotNew
+    gap-held a {p} l e = record { said = sym (found-held m x some-serial q a (sym (place-found (column m 0) n x p a l e))) }
 
-    pub gap-new : ((p : ℕ) → p < n → column m 0 p ≡ x → ⊥) → r ≤ n → leb r n ≡ (leb 1 x && not (held (block-in m .darts) x))
-    gap-new never h = le-leb r n h ∙ nothing-held m x some-serial q (sym (place-none (column m 0) n x never))
+    pub gap-new : ((p : ℕ) → p < n → column m 0 p ≡ x → ⊥) → {g : ℕ} → g ≤ n → GapTold m n x (Below g)
+    gap-new never h = record { said = (sym (nothing-held m x some-serial q (sym (place-none (column m 0) n x never))), h) }
+
+-- what it tells
+module _ {m : List ℕ} {n x : ℕ} {r : Gap} (w : GapTold m n x r) where
+  pub told-old : r ≡ NotNew → is-new m x ≡ false
+  told-old e = subst (GapSaid m n x) e (w .said)
+
+  pub told-new : {g : ℕ} → r ≡ Below g → (is-new m x ≡ true) × (g ≤ n)
+  told-new e = subst (GapSaid m n x) e (w .said)
 
 -- THE POINTS, by their number
 pub points-tested : (s : List ℕ) (from n : ℕ) → all finite (points-in s from n) ≡ all (λ j. finite (point-in s (from + 24 * j))) (tab (λ j. j) n)

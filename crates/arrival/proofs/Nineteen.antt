@@ -139,14 +139,18 @@ module _ {t : Transfer} {v x b z s : List ℕ} {from n k : ℕ} {hollow : Bool} 
       by-draft : one-volume t ≡ eqb (length (places-in k (volume-of m (getD ranks 0 0)))) k
       by-draft = volume-is d t (w .inside) (w .darts) (w .points) each-below
 
-      pub volume-no : eqb (length (places-in k (volume-of m (getD ranks 0 0)))) k ≡ false → false ≡ volume-right t
-      volume-no e = right-when (one-volume t) is-one (by-draft ∙ e)
+      -- `first` is the place of the dart with index 0
+      from-first : {first : ℕ} → first ≡ getD ranks 0 0 → one-volume t ≡ eqb (length (places-in k (volume-of m first))) k
+      from-first at = by-draft ∙ ap (λ (p : ℕ). eqb (length (places-in k (volume-of m p))) k) (sym at)
 
-      pub numbers-tell : {numbers firsts′ : List ℕ} {count : ℕ} → k ≤ length ranks → Numbered (column m 1) (column m 2) (take k ranks) numbers firsts′ count
-          → faces-ordered t ≡ true → pairs-right (sides t) ≡ true → eqb (length (places-in k (volume-of m (getD ranks 0 0)))) k ≡ true
+      pub volume-no : {first : ℕ} → first ≡ getD ranks 0 0 → eqb (length (places-in k (volume-of m first))) k ≡ false → false ≡ volume-right t
+      volume-no at e = right-when (one-volume t) is-one (from-first at ∙ e)
+
+      pub numbers-tell : {numbers firsts′ : List ℕ} {count first : ℕ} → first ≡ getD ranks 0 0 → k ≤ length ranks → Numbered (column m 1) (column m 2) (take k ranks) numbers firsts′ count
+          → faces-ordered t ≡ true → pairs-right (sides t) ≡ true → eqb (length (places-in k (volume-of m first))) k ≡ true
           → (all (λ i. eqb (getD v i 0) (getD numbers (getD ranks i 0) 0)) (tab (λ i. i) k) && eqb n count) ≡ volume-right t
       unfolding volume-right
-      numbers-tell fit-ranks numbered o p e = rw (o, p, by-draft ∙ e) (sym (vertices-are d t (w .inside) (w .darts) (w .points) each-below fit-ranks numbered))
+      numbers-tell at fit-ranks numbered o p e = rw (o, p, from-first at ∙ e) (sym (vertices-are d t (w .inside) (w .darts) (w .points) each-below fit-ranks numbered))
 
     -- THE DRAFT, where serials are ranked and pairs are right
     module _ {keys ranks q : List ℕ} (ranked : Ranked x k keys ranks) {r : Bool} (paired : Paired v b z k q r) (yes : r ≡ true) where

@@ -10,13 +10,15 @@ use lib.ListN.{length, getD, take}
 use Rattle.model.specs.Lists.{all, mem, distinct, tab}
 use Rattle.model.specs.Values.{Dart, finite}
 use Rattle.model.specs.Cells.{held}
-use Rattle.model.specs.Image.{words, column}
+use Rattle.model.specs.Image.{words, column, block-in}
 use Rattle.model.specs.Messages.{Transfer, size-all}
 use Rattle.memory.specs.Record.{record-in}
 use Rattle.memory.specs.declared.record.Record.{Record}
 use Rattle.cells.specs.Places.{Numbered}
 use Rattle.inbox.specs.Inbox.{FacesIn, is-hollow, points-in, word-in}
 use Rattle.ranking.specs.Ranks.{value-at, index-at, Ranked}
+use Rattle.arrival.specs.declared.serials.Gap.{Gap}
+use Rattle.arrival.specs.declared.serials.Gap.the-variants.{Below, NotNew}
 use Rattle.arrival.specs.Sides.{next-index, pair-at, reverse-at, ends-differ, Segments, Small}
 
 -- whether the values of the first k keys, which ascend, are couples that differ in the last bit; then q has the index of each one's other
@@ -92,6 +94,17 @@ pub record Told (t : Transfer) (v x b z s : List ℕ) (from n k : ℕ) (hollow :
   pub points : t .points ≡ points-in s from n
   pub points-fit : from + 24 * n ≤ length s
   pub hollow-is : hollow ≡ is-hollow (t .faces)
+
+-- a serial beside a block's n darts: how many are below it, where it is new
+abbrev pub is-new : List ℕ → ℕ → Bool
+is-new m x = leb 1 x && not (held (block-in m .darts) x)
+
+abbrev pub GapSaid : List ℕ → ℕ → ℕ → Gap → Type 0
+GapSaid m n x (Below g) = (is-new m x ≡ true) × (g ≤ n)
+GapSaid m n x NotNew = is-new m x ≡ false
+
+pub record GapTold (m : List ℕ) (n x : ℕ) (r : Gap) : Type 0 where
+  pub said : GapSaid m n x r
 
 -- whether points are finite and the first k serials are new to some darts; then they are ranked
 pub record NewSerials (ds : List Dart) (s : List ℕ) (from n : ℕ) (x : List ℕ) (k : ℕ) (keys ranks : List ℕ) (r : Bool) : Type 0 where

@@ -8,8 +8,10 @@ ghost use Rattle.arrival.specs.Draft.{draft-record, Draftable, Drafted};
 use crate::pairs;
 use groups::Read;
 use memory::record;
+use memory::record::MessageIndex;
 use memory::record::Place;
 use memory::record::Record;
+use place::DraftPlace;
 
 // A word of a point where it stands in the message.
 pub fn word_at(message: &[u8], at: usize) -> u64
@@ -22,7 +24,7 @@ pub fn word_at(message: &[u8], at: usize) -> u64
     w
 }
 
-// The record at place p.
+// The record at a place of the draft.
 fn record_of(
     message: &[u8],
     from: usize,
@@ -33,20 +35,24 @@ fn record_of(
     keys: &[u64],
     ranks: &[usize],
     opposite: &[usize],
-    p: usize,
+    p: DraftPlace,
 ) -> Record
-    requires { ⌜ (length (now vertex) ≡ 512) × (length (now starts) ≡ 512) × (length (now sizes) ≡ 512) × (length (now keys) ≡ 512) × (length (now ranks) ≡ 512) × (length (now opposite) ≡ 512) × (p < k) ⌝ }
+    requires { ⌜ (length (now vertex) ≡ 512) × (length (now starts) ≡ 512) × (length (now sizes) ≡ 512) × (length (now keys) ≡ 512) × (length (now ranks) ≡ 512) × (length (now opposite) ≡ 512) × (p .0 < k) ⌝ }
     requires { ⌜ Draftable (now vertex) (now starts) (now sizes) (now keys) (now opposite) (now message) from k ⌝ }
-    ensures { λ r. ⌜ r ≡ draft-record (now (vertex .entry)) (now (starts .entry)) (now (sizes .entry)) (now (keys .entry)) (now (ranks .entry)) (now (opposite .entry)) (now (message .entry)) from p ⌝ }
+    ensures { λ r. ⌜ r ≡ draft-record (now (vertex .entry)) (now (starts .entry)) (now (sizes .entry)) (now (keys .entry)) (now (ranks .entry)) (now (opposite .entry)) (now (message .entry)) from (p .0) ⌝ }
 {
-    let i = (keys[p] % 512) as usize;
-    let next = pairs::next_index(starts, sizes, i);
-    let other = opposite[i];
+    let at = p.0;
+    let i = (keys[at] % 512) as usize;
+    let serial = keys[at] / 512;
+    let next = pairs::next_index(starts, sizes, MessageIndex(i));
+    let other = place::index_at(opposite, MessageIndex(i));
+    let after = place::rank_at(ranks, next);
+    let beside = place::rank_at(ranks, other);
     let point = from + 24 * (vertex[i] as usize);
     Record {
-        serial: keys[p] / 512,
-        next: ranks[next] as u64,
-        opposite: ranks[other] as u64,
+        serial,
+        next: after.0 as u64,
+        opposite: beside.0 as u64,
         kind: 0,
         link: 0,
         x: word_at(message, point),
@@ -92,7 +98,7 @@ pub fn put_draft(
             keys,
             ranks,
             opposite,
-            p,
+            DraftPlace(p),
         );
         record::put_record(draft, Place(p), r);
         p += 1;

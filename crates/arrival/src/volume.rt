@@ -14,14 +14,17 @@ ghost use Rattle.arrival.specs.Draft.{Compared, Told, Draft};
 use crate::draft;
 use crate::order;
 use crate::pairs;
+use memory::header::Header;
+use memory::record::MessageIndex;
+use place::DraftPlace;
 
 // Whether the k darts of a draft are the volume of the one at place `first`.
-fn one_volume(draft: &[u64], k: usize, first: usize, queue: &mut [usize]) -> bool
-    requires { ⌜ Linked (now draft) k × (first < k) × (length (now queue) ≡ room) ⌝ }
-    ensures { λ r. ⌜ (r ≡ eqb (length (places-in k (volume-of (now (draft .entry)) first))) k) × (length (now (queue .exit)) ≡ room) ⌝ }
+fn one_volume(draft: &[u64], k: usize, first: DraftPlace, queue: &mut [usize]) -> bool
+    requires { ⌜ Linked (now draft) k × (first .0 < k) × (length (now queue) ≡ room) ⌝ }
+    ensures { λ r. ⌜ (r ≡ eqb (length (places-in k (volume-of (now (draft .entry)) (first .0)))) k) × (length (now (queue .exit)) ≡ room) ⌝ }
 {
-    let mut marks = [0u8; 4096];
-    cells::walk::volume(draft, k, first, queue, &mut marks) == k
+    let mut marks = [0u8; Header::DARTS];
+    cells::walk::volume(draft, k, first.0, queue, &mut marks) == k
 }
 
 // Whether each dart has the number of its vertex.
@@ -32,7 +35,9 @@ fn numbers_same(vertex: &[u64], ranks: &[usize], k: usize, numbers: &[usize]) ->
     // Those before i have.
     let mut i = 0;
     while i < k {
-        if vertex[i] != numbers[ranks[i]] as u64 {
+        let place = place::rank_at(ranks, MessageIndex(i));
+        let p = place.0;
+        if vertex[i] != numbers[p] as u64 {
             return false;
         }
         i += 1;
@@ -104,7 +109,8 @@ pub fn volume_right(
         opposite,
         draft,
     );
-    if !one_volume(draft, k, ranks[0], queue) {
+    let first = place::rank_at(ranks, MessageIndex(0));
+    if !one_volume(draft, k, first, queue) {
         return false;
     }
     numbered(draft, k, vertex, count, ranks, queue, firsts)
