@@ -20,8 +20,8 @@ use Rattle.woven.specs.Woven.{Drafted, Stands}
 use Rattle.sewing.specs.Thirds.{Sewn}
 use Rattle.joined.specs.Join.{Indexed, Linking}
 use Rattle.arrival.specs.Draft.{Draft}
-use Rattle.receive.specs.declared.asks.Asked.{Asked}
-use Rattle.receive.specs.declared.asks.Asked.the-variants as asked
+use Rattle.answers.specs.declared.Answer.{Answer as Answered}
+use Rattle.answers.specs.declared.Answer.the-variants as answer
 
 -- a draft that may join a block, with the links that it brings
 pub record MayJoin (m c : List ℕ) (n k : ℕ) (kinds links ranks : List ℕ) : Type 0 where
@@ -55,11 +55,11 @@ pub record AllYes (m : List ℕ) (t : Transfer) : Type 0 where
   pub fits : leb (length (block-in m .darts) + size-all (t .faces)) 4096 ≡ true
 
 -- QUESTIONS 17 TO 21 of the transfer that an outline tells: the first no, or what a yes to all leads to
-abbrev pub AskedSaid : List ℕ → List ℕ → List ℕ → List ℕ → List ℕ → List ℕ → Front → Tail → List ℕ → List ℕ → List ℕ → List ℕ → List ℕ → List ℕ → Asked → Type 0
-AskedSaid m s v x b z f l keys ranks q c kinds links (asked.No r) = (t : Transfer) → message-in s ≡ a-transfer t → TransferOutlined t s v x b z f l → refused (question r) ≡ answered (receive-checks rack (block-in m) (a-transfer t))
-AskedSaid m s v x b z f l keys ranks q c kinds links asked.Yes =
+abbrev pub AskedSaid : List ℕ → List ℕ → List ℕ → List ℕ → List ℕ → List ℕ → Front → Tail → List ℕ → List ℕ → List ℕ → List ℕ → List ℕ → List ℕ → Answered → Type 0
+AskedSaid m s v x b z f l keys ranks q c kinds links (answer.Refused r) = (t : Transfer) → message-in s ≡ a-transfer t → TransferOutlined t s v x b z f l → refused (question r) ≡ answered (receive-checks rack (block-in m) (a-transfer t))
+AskedSaid m s v x b z f l keys ranks q c kinds links answer.Served =
     ((t : Transfer) → message-in s ≡ a-transfer t → TransferOutlined t s v x b z f l → AllYes m t × Linking m (getD m 2 0) (f .darts) x kinds links (transfer-links (block-in m .darts) t))
     × Draft v x b z keys ranks q s (f .points) (f .darts) c × (getD m 2 0 + f .darts ≤ room) × (length kinds ≡ 512) × (length links ≡ 512) × (length ranks ≡ 512)
 
-pub record AskedAll (m s v x b z : List ℕ) (f : Front) (l : Tail) (keys ranks q c kinds links : List ℕ) (r : Asked) : Type 0 where
+pub record AskedAll (m s v x b z : List ℕ) (f : Front) (l : Tail) (keys ranks q c kinds links : List ℕ) (r : Answered) : Type 0 where
   pub said : AskedSaid m s v x b z f l keys ranks q c kinds links r
