@@ -12,13 +12,13 @@ use lib.Seq.{getD-take, length-take-le, ext-getD}
 use borrow.Author.Tests.{le-leb, lt-leb}
 use Rattle.laws.specs.Order.{Ascending}
 use Rattle.model.specs.Lists.{all, tab, distinct}
-use Rattle.model.specs.Values.{Dart, finite}
+use Rattle.model.specs.Values.{Dart, finite, finite-bits}
 use Rattle.model.specs.Cells.{held}
 use Rattle.model.specs.Image.{column, block-in}
 use Rattle.model.specs.Messages.{Transfer}
 use Rattle.model.specs.Arrival.{Side, sides, serials-new}
-use Rattle.laws.proofs.Tests.{lt-or-ge}
-use Rattle.laws.proofs.Tables.{length-tab, getD-tab, map-tab}
+use Rattle.laws.proofs.Tests.{lt-or-ge, and-left, and-right}
+use Rattle.laws.proofs.Tables.{length-tab, getD-tab, map-tab, all-tab}
 use Rattle.memory.specs.Lookup.{place-in}
 use Rattle.memory.specs.declared.record.Place.{Place}
 use Rattle.memory.specs.declared.lookup.Found.the-variants.{At, Nothing}
@@ -28,7 +28,7 @@ use Rattle.ranking.specs.Ranks.{Ranked}
 use Rattle.arrival.specs.Sides.{side-at}
 use Rattle.arrival.specs.declared.serials.Gap.{Gap}
 use Rattle.arrival.specs.declared.serials.Gap.the-variants.{Below, NotNew}
-use Rattle.arrival.specs.Draft.{is-new, GapSaid, GapTold, NewSerials, Told}
+use Rattle.arrival.specs.Draft.{FiniteIn, is-new, GapSaid, GapTold, NewSerials, Told}
 use Rattle.arrival.proofs.SideLaws.{sides-are}
 use Rattle.arrival.proofs.PairLaws.{all-index}
 
@@ -82,6 +82,19 @@ module _ {m : List ℕ} {n x : ℕ} {r : Gap} (w : GapTold m n x r) where
 pub points-tested : (s : List ℕ) (from n : ℕ) → all finite (points-in s from n) ≡ all (λ j. finite (point-in s (from + 24 * j))) (tab (λ j. j) n)
 unfolding points-in
 points-tested s from n = all-index finite (λ j. point-in s (from + 24 * j)) n
+
+-- a point by its number, where all are finite
+pub point-there : (s : List ℕ) (from n : ℕ) → all finite (points-in s from n) ≡ true → (j : ℕ) → j < n → FiniteIn s (from + 24 * j)
+unfolding finite
+point-there s from n e j h =
+    let p = point-in s (from + 24 * j) in
+    let a = all-tab (λ j. finite (point-in s (from + 24 * j))) (λ j. j) n (sym (points-tested s from n) ∙ e) j h in
+    let b = and-left (finite-bits (p .x) && finite-bits (p .y)) (finite-bits (p .z)) a in
+    record {
+      on-x = and-left (finite-bits (p .x)) (finite-bits (p .y)) b;
+      on-y = and-right (finite-bits (p .x)) (finite-bits (p .y)) b;
+      on-z = and-right (finite-bits (p .x) && finite-bits (p .y)) (finite-bits (p .z)) a;
+    }
 
 -- THE WHOLE QUESTION
 module _ {ds : List Dart} {s : List ℕ} {from n : ℕ} {x : List ℕ} {k : ℕ} {keys ranks : List ℕ} where

@@ -19,7 +19,9 @@ use Rattle.laws.proofs.Tables.{length-tab, getD-tab, map-tab, tab-all, all-tab}
 use Rattle.theory.proofs.ImageLaws.{place-back}
 use Rattle.cells.specs.Places.{Numbered, places-in, volume-of}
 use Rattle.cells.proofs.RingLaws.{mem-firsts}
+use Rattle.model.specs.Values.{finite}
 use Rattle.inbox.specs.Inbox.{point-in, points-in}
+use Rattle.arrival.proofs.Eighteen.{point-there}
 use Rattle.ranking.specs.Ranks.{Ranked}
 use Rattle.arrival.specs.Sides.{side-at, order-at, pair-at, reverse-at, ends-differ, Segments, Small}
 use Rattle.arrival.specs.Draft.{Paired, draft-record, Draftable, Drafted, Told, Draft}
@@ -163,13 +165,14 @@ module _ {t : Transfer} {v x b z s : List ℕ} {from n k : ℕ} {hollow : Bool} 
       pub paired-yes : pairs-right (sides t) ≡ true
       paired-yes = paired-by-index ∙ tests
 
-      pub draftable : Draftable v b z keys q s from k
-      draftable = record {
+      pub draftable : all finite (points-in s from n) ≡ true → Draftable v b z keys q s from k
+      draftable points-finite = record {
         few = w .few;
         segs = segs;
         index-below = ranked .index-below;
         opposite-below = paired .opposed yes .below;
         point-fits = λ i h. let a = each-below i h in let f = w .points-fit in omega (arith, a, f);
+        point-finite = λ i h. point-there s from n points-finite (getD v i 0) (each-below i h);
       }
 
       pub draft-of : {m : List ℕ} → Drafted (draft-record v b z keys ranks q s from) k m → Draft v x b z keys ranks q s from k m

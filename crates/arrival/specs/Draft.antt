@@ -8,7 +8,7 @@ use Prim.Native.Nat.{ℕ, _+_, _*_, _/_, _≤_, _<_}
 use lib.Dec.{leb, eqb}
 use lib.ListN.{length, getD, take}
 use Rattle.model.specs.Lists.{all, mem, distinct, tab}
-use Rattle.model.specs.Values.{Dart, finite}
+use Rattle.model.specs.Values.{Dart, finite, finite-bits}
 use Rattle.model.specs.Cells.{held}
 use Rattle.model.specs.Image.{words, column, block-in}
 use Rattle.model.specs.Messages.{Transfer, size-all}
@@ -52,6 +52,12 @@ draft-record v b z keys ranks q s from p =
       z = word-in s (point + 16);
     }
 
+-- the point at a place of the message has finite coordinates
+pub record FiniteIn (s : List ℕ) (at : ℕ) : Type 0 where
+  pub on-x : finite-bits (word-in s at) ≡ true
+  pub on-y : finite-bits (word-in s (at + 8)) ≡ true
+  pub on-z : finite-bits (word-in s (at + 16)) ≡ true
+
 -- what there must be to draft k darts
 pub record Draftable (v b z keys q s : List ℕ) (from k : ℕ) : Type 0 where
   pub few : k ≤ 512
@@ -59,6 +65,7 @@ pub record Draftable (v b z keys q s : List ℕ) (from k : ℕ) : Type 0 where
   pub index-below : (p : ℕ) → p < k → index-at keys p < k
   pub opposite-below : (i : ℕ) → i < k → getD q i 0 < k
   pub point-fits : (i : ℕ) → i < k → from + 24 * getD v i 0 + 24 ≤ length s
+  pub point-finite : (i : ℕ) → i < k → FiniteIn s (from + 24 * getD v i 0)
 
 -- a block's memory with k such records
 pub record Drafted (f : ℕ → Record) (k : ℕ) (m : List ℕ) : Type 0 where

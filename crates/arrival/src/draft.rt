@@ -3,10 +3,13 @@ ghost use mathlib.Core.Path.{_≡_};
 ghost use Prim.Native.Nat.{_+_, _≤_, _<_};
 ghost use lib.ListN.{length, set};
 ghost use Rattle.model.specs.Image.{words};
+ghost use Rattle.memory.specs.Point.{point-of};
 ghost use Rattle.inbox.specs.Inbox.{word-in};
-ghost use Rattle.arrival.specs.Draft.{draft-record, Draftable, Drafted};
+ghost use Rattle.arrival.specs.Draft.{draft-record, FiniteIn, Draftable, Drafted};
 use crate::pairs;
 use groups::Read;
+use memory::point;
+use memory::point::Point;
 use memory::record;
 use memory::record::MessageIndex;
 use memory::record::Place;
@@ -22,6 +25,17 @@ pub fn word_at(message: &[u8], at: usize) -> u64
         return 0;
     };
     w
+}
+
+// The point where it stands in the message.
+fn point_in(message: &[u8], at: usize) -> Point
+    requires { ⌜ (at + 24 ≤ length (now message)) × FiniteIn (now message) at ⌝ }
+    ensures { λ r. ⌜ r ≡ point-of (word-in (now (message .entry)) at) (word-in (now (message .entry)) (at + 8)) (word-in (now (message .entry)) (at + 16)) ⌝ }
+{
+    let x = word_at(message, at);
+    let y = word_at(message, at + 8);
+    let z = word_at(message, at + 16);
+    point::point_of(x, y, z)
 }
 
 // The record at a place of the draft.
@@ -48,16 +62,16 @@ fn record_of(
     let other = place::index_at(opposite, MessageIndex(i));
     let after = place::rank_at(ranks, next);
     let beside = place::rank_at(ranks, other);
-    let point = from + 24 * (vertex[i] as usize);
+    let point = point_in(message, from + 24 * (vertex[i] as usize));
     Record {
         serial,
         next: after.0 as u64,
         opposite: beside.0 as u64,
         kind: 0,
         link: 0,
-        x: word_at(message, point),
-        y: word_at(message, point + 8),
-        z: word_at(message, point + 16),
+        x: point::pattern(point.x),
+        y: point::pattern(point.y),
+        z: point::pattern(point.z),
     }
 }
 

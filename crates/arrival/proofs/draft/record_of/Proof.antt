@@ -1,7 +1,9 @@
 -- `arrival::draft::record_of` meets its contract.
 -- Assumes nothing.
 use Rattle.arrival.proofs.SegmentLaws.{next-below}
-use mathlib.Core.Path.{refl}
+use Rattle.arrival.proofs.Drafting.{finite-read, words-read}
+use Rattle.model.specs.Values.{Point as Patterns}
+use mathlib.Core.Path.{refl, _∙_, ap}
 use native.Mathlib.Omega.{arith}
 use borrow.Author.Needs.{needs}
 use Rattle.arrival.proofs.draft.record_of.Statement.{statement}
@@ -54,58 +56,71 @@ rank-at-requires-2 c κs =
     let i = start .pre .1 .index-below (start .args .p .0) (start .pre .0 .6) in
     omega (arith, start .pre .1 .opposite-below _ i, start .pre .1 .few, index-at-ensures, start .pre .0 .4)
 
-mul-point : tie.Need-mul-point
-mul-point c = search needs
+mul-point-in : tie.Need-mul-point-in
+mul-point-in c = search needs
 
-shared-slice-read-point : tie.Need-shared-slice-read-point
-shared-slice-read-point c =
+shared-slice-read-point-in : tie.Need-shared-slice-read-point-in
+shared-slice-read-point-in c =
     let start : tie.Start = search in
     let i = start .pre .1 .index-below (start .args .p .0) (start .pre .0 .6) in omega (arith, i, start .pre .1 .few, start .pre .0 .0)
 
-mul-point-2 : tie.Need-mul-point-2
-mul-point-2 c =
+mul-point-in-2 : tie.Need-mul-point-in-2
+mul-point-in-2 c =
     let start : tie.Start = search in
     let i = start .pre .1 .index-below (start .args .p .0) (start .pre .0 .6) in omega (arith, start .pre .1 .point-fits _ i)
 
-add-point : tie.Need-add-point
-add-point c =
+add-point-in : tie.Need-add-point-in
+add-point-in c =
     let start : tie.Start = search in
     let i = start .pre .1 .index-below (start .args .p .0) (start .pre .0 .6) in omega (arith, start .pre .1 .point-fits _ i)
 
-word-at-requires : tie.Need-word-at-requires
-word-at-requires c κs =
+point-in-requires : tie.Need-point-in-requires
+point-in-requires c κs =
     let start : tie.Start = search in
-    let i = start .pre .1 .index-below (start .args .p .0) (start .pre .0 .6) in omega (arith, start .pre .1 .point-fits _ i)
+    let i = start .pre .1 .index-below (start .args .p .0) (start .pre .0 .6) in (omega (arith, start .pre .1 .point-fits _ i), start .pre .1 .point-finite _ i)
 
-add-word-at : tie.Need-add-word-at
-add-word-at c =
+pattern-requires : tie.Need-pattern-requires
+pattern-requires c κs =
     let start : tie.Start = search in
-    let i = start .pre .1 .index-below (start .args .p .0) (start .pre .0 .6) in omega (arith, start .pre .1 .point-fits _ i)
+    let point-in-ensures = (let p : tie.After-point-in = search in p .point-in .ensures) in
+    let i = start .pre .1 .index-below (start .args .p .0) (start .pre .0 .6) in
+    finite-read (start .pre .1 .point-finite _ i) point-in-ensures .on-x
 
-word-at-requires-2 : tie.Need-word-at-requires-2
-word-at-requires-2 c κs =
+pattern-requires-2 : tie.Need-pattern-requires-2
+pattern-requires-2 c κs =
     let start : tie.Start = search in
-    let i = start .pre .1 .index-below (start .args .p .0) (start .pre .0 .6) in omega (arith, start .pre .1 .point-fits _ i)
+    let point-in-ensures = (let p : tie.After-point-in = search in p .point-in .ensures) in
+    let i = start .pre .1 .index-below (start .args .p .0) (start .pre .0 .6) in
+    finite-read (start .pre .1 .point-finite _ i) point-in-ensures .on-y
 
-add-word-at-2 : tie.Need-add-word-at-2
-add-word-at-2 c =
+pattern-requires-3 : tie.Need-pattern-requires-3
+pattern-requires-3 c κs =
     let start : tie.Start = search in
-    let i = start .pre .1 .index-below (start .args .p .0) (start .pre .0 .6) in omega (arith, start .pre .1 .point-fits _ i)
-
-word-at-requires-3 : tie.Need-word-at-requires-3
-word-at-requires-3 c κs =
-    let start : tie.Start = search in
-    let i = start .pre .1 .index-below (start .args .p .0) (start .pre .0 .6) in omega (arith, start .pre .1 .point-fits _ i)
+    let point-in-ensures = (let p : tie.After-point-in = search in p .point-in .ensures) in
+    let i = start .pre .1 .index-below (start .args .p .0) (start .pre .0 .6) in
+    finite-read (start .pre .1 .point-finite _ i) point-in-ensures .on-z
 
 returns : tie.Need-returns
 returns c =
+    let start : tie.Start = search in
     let next-index-ensures = (let p : tie.After-next-index = search in p .next-index .ensures) in
     let index-at-ensures = (let p : tie.After-index-at = search in p .index-at .ensures) in
     let rank-at-ensures = (let p : tie.After-rank-at = search in p .rank-at .ensures) in
     let rank-at2-ensures = (let p : tie.After-rank-at2 = search in p .rank-at2 .ensures) in
-    let word-at-ensures = (let p : tie.After-word-at = search in p .word-at .ensures) in
-    let word-at2-ensures = (let p : tie.After-word-at2 = search in p .word-at2 .ensures) in
-    rw (rank-at-ensures, rank-at2-ensures, next-index-ensures, index-at-ensures, word-at-ensures, word-at2-ensures, c .word-at3 .ensures) refl
+    let point-in-ensures = (let p : tie.After-point-in = search in p .point-in .ensures) in
+    let pattern-ensures = (let p : tie.After-pattern = search in p .pattern .ensures) in
+    let pattern2-ensures = (let p : tie.After-pattern2 = search in p .pattern2 .ensures) in
+    let i = start .pre .1 .index-below (start .args .p .0) (start .pre .0 .6) in
+    let words = words-read (start .pre .1 .point-finite _ i) point-in-ensures in
+    rw (
+      rank-at-ensures,
+      rank-at2-ensures,
+      next-index-ensures,
+      index-at-ensures,
+      pattern-ensures ∙ ap (λ (w : Patterns). w .x) words,
+      pattern2-ensures ∙ ap (λ (w : Patterns). w .y) words,
+      c .pattern3 .ensures ∙ ap (λ (w : Patterns). w .z) words,
+    ) refl
 
 pub record-of-spec : {M : Type 1} → statement M
 record-of-spec =
@@ -119,13 +134,12 @@ record-of-spec =
     index-at-requires
     rank-at-requires
     rank-at-requires-2
-    mul-point
-    shared-slice-read-point
-    mul-point-2
-    add-point
-    word-at-requires
-    add-word-at
-    word-at-requires-2
-    add-word-at-2
-    word-at-requires-3
+    mul-point-in
+    shared-slice-read-point-in
+    mul-point-in-2
+    add-point-in
+    point-in-requires
+    pattern-requires
+    pattern-requires-2
+    pattern-requires-3
     returns)

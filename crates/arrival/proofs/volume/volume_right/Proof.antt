@@ -18,7 +18,7 @@ returns c =
 ordered-requires : tie.Need-ordered-requires
 ordered-requires c κs =
     let start : tie.Start = search in
-    (start .pre .0 .1, start .pre .0 .2, (start .pre .1 .1 .1) .few, segs (start .pre .1 .1 .1) .start-le)
+    (start .pre .0 .1, start .pre .0 .2, (start .pre .1 .2 .1) .few, segs (start .pre .1 .2 .1) .start-le)
 
 returns-2 : tie.Need-returns-2
 returns-2 c =
@@ -31,7 +31,7 @@ returns-2 c =
 vertices-fit-requires : tie.Need-vertices-fit-requires
 vertices-fit-requires c κs =
     let start : tie.Start = search in
-    (start .pre .0 .0, (start .pre .1 .1 .1) .few)
+    (start .pre .0 .0, (start .pre .1 .2 .1) .few)
 
 returns-3 : tie.Need-returns-3
 returns-3 c =
@@ -51,10 +51,10 @@ paired-requires c κs =
         start .pre .0 .2,
         start .pre .0 .3,
         start .pre .0 .6,
-        (start .pre .1 .1 .1) .some-darts,
-        (start .pre .1 .1 .1) .few,
+        (start .pre .1 .2 .1) .some-darts,
+        (start .pre .1 .2 .1) .few,
       ),
-      (segs (start .pre .1 .1 .1), small (start .pre .1 .1 .1) (sym vertices-fit-ensures ∙ not-false _ if3-left)),
+      (segs (start .pre .1 .2 .1), small (start .pre .1 .2 .1) (sym vertices-fit-ensures ∙ not-false _ if3-left)),
     )
 
 same-length : tie.Need-same-length
@@ -87,8 +87,8 @@ put-draft-requires c κs =
         paired-ensures .1,
         start .pre .0 .7,
       ),
-      draftable (start .pre .1 .1 .1) (sym vertices-fit-ensures ∙ not-false _ if3-left) (start .pre .1 .0) (paired-ensures .0)
-          (not-false _ if4-left),
+      draftable (start .pre .1 .2 .1) (sym vertices-fit-ensures ∙ not-false _ if3-left) (start .pre .1 .0) (paired-ensures .0)
+          (not-false _ if4-left) (start .pre .1 .1),
     )
 
 rank-at-requires : tie.Need-rank-at-requires
@@ -108,9 +108,9 @@ one-volume-requires c κs =
     let c : tie.After-vertices-fit = search in
     let start : tie.Start = search in (
       links
-          (draft-of (start .pre .1 .1 .1) (sym vertices-fit-ensures ∙ not-false _ if3-left) (start .pre .1 .0) (paired-ensures .0)
+          (draft-of (start .pre .1 .2 .1) (sym vertices-fit-ensures ∙ not-false _ if3-left) (start .pre .1 .0) (paired-ensures .0)
           (not-false _ if4-left) put-draft-ensures),
-      omega (arith, rank-at-ensures, start .pre .1 .0 .rank-below 0 ((start .pre .1 .1 .1) .some-darts)),
+      omega (arith, rank-at-ensures, start .pre .1 .0 .rank-below 0 ((start .pre .1 .2 .1) .some-darts)),
       start .pre .0 .8,
     )
 
@@ -153,11 +153,11 @@ numbered-requires c κs =
     let vertices-fit-ensures = (let p : tie.After-vertices-fit = search in p .vertices-fit .ensures) in
     let start : tie.Start = search in (
       links
-          (draft-of (start .pre .1 .1 .1) (sym vertices-fit-ensures ∙ not-false _ if3-left) (start .pre .1 .0) (paired-ensures .0)
+          (draft-of (start .pre .1 .2 .1) (sym vertices-fit-ensures ∙ not-false _ if3-left) (start .pre .1 .0) (paired-ensures .0)
           (not-false _ if4-left) put-draft-ensures),
       start .pre .0 .0,
       start .pre .0 .5,
-      (start .pre .1 .1 .1) .few,
+      (start .pre .1 .2 .1) .few,
       start .pre .1 .0 .rank-below,
       one-volume-ensures .1,
       start .pre .0 .9,
@@ -201,7 +201,7 @@ returns-6 c =
           (sym (one-volume-ensures .0) ∙ not-false _ if5-left)),
       (
         (λ y.
-            (draft-of (start .pre .1 .1 .1) vertices-fit-yes (start .pre .1 .0) (paired-ensures .0) (not-false _ if4-left)
+            (draft-of (start .pre .1 .2 .1) vertices-fit-yes (start .pre .1 .0) (paired-ensures .0) (not-false _ if4-left)
             put-draft-ensures)),
         paired-ensures .1,
         put-draft-ensures .size,
