@@ -25,11 +25,12 @@ use Rattle.inbox.specs.Inbox.{points-in}
 use Rattle.inbox.specs.Arrived.{TransferOutlined}
 use Rattle.arrival.specs.Draft.{Draft}
 use Rattle.arrival.proofs.Eighteen.{eighteen-is}
-use Rattle.joined.specs.Join.{Indexed, Linking}
+use Rattle.join.specs.Join.{Indexed, Linking}
 use Rattle.soundness.proofs.Served.{transfer-read}
-use Rattle.woven.specs.Woven.{Drafted}
+use Rattle.join.specs.Woven.{Drafted}
 use Rattle.fitting.proofs.Outlined.{told-of}
-use Rattle.receive.specs.Taken.{AskedSaid, MayJoin, Joins, receive-by}
+use Rattle.join.specs.Join.{MayJoin, Joins}
+use Rattle.receive.specs.Taken.{AskedSaid, receive-by}
 use Rattle.answers.specs.declared.Answer.the-variants as answer
 use Rattle.receive.proofs.TakenImage.{indexed, weaves, taken-image}
 use Rattle.receive.proofs.Answered.{transfer-served, none-no}

@@ -1,6 +1,5 @@
 // Receive, the paper's take: a transfer's volume joins the block. Nothing is written before the last question is answered.
 mod asks; // asks.rt: questions 17 to 21
-mod join; // join.rt: new darts woven in, sewn and labelled
 
 ghost use mathlib.Core.Path.{_≡_};
 ghost use mathlib.Core.Bool.{true};
