@@ -11,12 +11,15 @@ use Rattle.laws.proofs.Tests.{last-or-below}
 use Rattle.memory.specs.Record.{record-in, record-words, put}
 use Rattle.memory.specs.declared.record.Record.{Record}
 use Rattle.memory.proofs.Records.{length-put, put-here, put-there}
+use Rattle.memory.specs.Point.{point-of, patterns, FinitePoint}
+use Rattle.memory.specs.declared.point.Point.{Point}
+use Rattle.memory.proofs.Points.{point-finite, point-patterns}
 use Rattle.model.specs.Layouts.{coordinate}
 use Rattle.groups.specs.Slices.{read-at}
 use Rattle.groups.specs.declared.Read.the-variants.{Value, Bad}
 use Rattle.inbox.specs.Inbox.{word-in}
 use Rattle.inbox.proofs.Points.{word-took}
-use Rattle.arrival.specs.Draft.{Drafted}
+use Rattle.arrival.specs.Draft.{FiniteIn, Drafted}
 
 -- the records below p are put
 pub record Drafting (f : ℕ → Record) (k : ℕ) (m : List ℕ) (p : ℕ) : Type 0 where
@@ -91,3 +94,11 @@ word-there s at h e =
     let q : Value (word-in s at) (length s - length (drop (at + 8) s)) ≡ Bad = sym (word-read s at h) ∙ e in
     let z : _≡_ {A = ℕ} 0 1 = cc in
     omega arith
+
+-- A POINT read by value, and its words again
+module _ {s : List ℕ} {at : ℕ} {p : Point} (f : FiniteIn s at) (e : p ≡ point-of (word-in s at) (word-in s (at + 8)) (word-in s (at + 16))) where
+  pub finite-read : FinitePoint p
+  finite-read = rw e (point-finite (word-in s at) (word-in s (at + 8)) (word-in s (at + 16)) (f .on-x) (f .on-y) (f .on-z))
+
+  pub words-read : patterns p ≡ record { x = word-in s at; y = word-in s (at + 8); z = word-in s (at + 16) }
+  words-read = rw e (point-patterns (word-in s at) (word-in s (at + 8)) (word-in s (at + 16)) (f .on-x) (f .on-y) (f .on-z))

@@ -12,13 +12,13 @@ use lib.Seq.{getD-take, length-take-le, ext-getD}
 use borrow.Author.Tests.{le-leb, lt-leb}
 use Rattle.laws.specs.Order.{Ascending}
 use Rattle.model.specs.Lists.{all, tab, distinct}
-use Rattle.model.specs.Values.{Dart, finite}
+use Rattle.model.specs.Values.{Dart, finite, finite-bits}
 use Rattle.model.specs.Cells.{held}
 use Rattle.model.specs.Image.{column, block-in}
 use Rattle.model.specs.Messages.{Transfer}
 use Rattle.model.specs.Arrival.{Side, sides, serials-new}
-use Rattle.laws.proofs.Tests.{lt-or-ge}
-use Rattle.laws.proofs.Tables.{length-tab, getD-tab, map-tab}
+use Rattle.laws.proofs.Tests.{lt-or-ge, and-left, and-right}
+use Rattle.laws.proofs.Tables.{length-tab, getD-tab, map-tab, all-tab}
 use Rattle.memory.specs.Lookup.{place-in}
 use Rattle.memory.specs.declared.record.Place.{Place}
 use Rattle.memory.specs.declared.lookup.Found.the-variants.{At, Nothing}
@@ -26,7 +26,9 @@ use Rattle.memory.proofs.Lookups.{held-at, held-nothing, place-found, place-non
 use Rattle.inbox.specs.Inbox.{word-in, point-in, points-in}
 use Rattle.ranking.specs.Ranks.{Ranked}
 use Rattle.arrival.specs.Sides.{side-at}
-use Rattle.arrival.specs.Draft.{NewSerials, Told}
+use Rattle.arrival.specs.declared.serials.Gap.{Gap}
+use Rattle.arrival.specs.declared.serials.Gap.the-variants.{Below, NotNew}
+use Rattle.arrival.specs.Draft.{FiniteIn, is-new, GapSaid, GapTold, NewSerials, Told}
 use Rattle.arrival.proofs.SideLaws.{sides-are}
 use Rattle.arrival.proofs.PairLaws.{all-index}
 
@@ -56,22 +58,43 @@ module _ {n : ℕ} {s : ℕ → ℕ} (a : Ascending n s) where
       (λ l. omega (arith, e, above (omega (arith, l, h)), up-to g p l h))
       (lt-or-ge p g)
 
--- THE ANSWER OF A SEARCH: how many are below, or more than there are
-module _ (m : List ℕ) {x n r : ℕ} where
-  pub gap-zero : x ≡ 0 → n < r → leb r n ≡ (leb 1 x && not (held (block-in m .darts) x))
-  gap-zero e h = lt-leb r n h ∙ zero-held m x e
+-- THE ANSWER OF A SEARCH: how many are below, or not new
+module _ (m : List ℕ) {x n : ℕ} where
+  pub gap-zero : x ≡ 0 → GapTold m n x NotNew
+  gap-zero e = record { said = sym (zero-held m x e) }
 
   module _ (some-serial : x ≡ 0 → ⊥) (q : n ≡ getD m 2 0) where
-    pub gap-held : Ascending n (column m 0) → {p : ℕ} → p < n → column m 0 p ≡ x → n < r → leb r n ≡ (leb 1 x && not (held (block-in m .darts) x))
-    gap-held a {p} l e h = lt-leb r n h ∙ found-held m x some-serial q a (sym (place-found (column m 0) n x p a l e))
+    pub gap-held : Ascending n (column m 0) → {p : ℕ} → p < n → column m 0 p ≡ x → GapTold m n x NotNew
+    gap-held a {p} l e = record { said = sym (found-held m x some-serial q a (sym (place-found (column m 0) n x p a l e))) }
 
-    pub gap-new : ((p : ℕ) → p < n → column m 0 p ≡ x → ⊥) → r ≤ n → leb r n ≡ (leb 1 x && not (held (block-in m .darts) x))
-    gap-new never h = le-leb r n h ∙ nothing-held m x some-serial q (sym (place-none (column m 0) n x never))
+    pub gap-new : ((p : ℕ) → p < n → column m 0 p ≡ x → ⊥) → {g : ℕ} → g ≤ n → GapTold m n x (Below g)
+    gap-new never h = record { said = (sym (nothing-held m x some-serial q (sym (place-none (column m 0) n x never))), h) }
+
+-- what it tells
+module _ {m : List ℕ} {n x : ℕ} {r : Gap} (w : GapTold m n x r) where
+  pub told-old : r ≡ NotNew → is-new m x ≡ false
+  told-old e = subst (GapSaid m n x) e (w .said)
+
+  pub told-new : {g : ℕ} → r ≡ Below g → (is-new m x ≡ true) × (g ≤ n)
+  told-new e = subst (GapSaid m n x) e (w .said)
 
 -- THE POINTS, by their number
 pub points-tested : (s : List ℕ) (from n : ℕ) → all finite (points-in s from n) ≡ all (λ j. finite (point-in s (from + 24 * j))) (tab (λ j. j) n)
 unfolding points-in
 points-tested s from n = all-index finite (λ j. point-in s (from + 24 * j)) n
+
+-- a point by its number, where all are finite
+pub point-there : (s : List ℕ) (from n : ℕ) → all finite (points-in s from n) ≡ true → (j : ℕ) → j < n → FiniteIn s (from + 24 * j)
+unfolding finite
+point-there s from n e j h =
+    let p = point-in s (from + 24 * j) in
+    let a = all-tab (λ j. finite (point-in s (from + 24 * j))) (λ j. j) n (sym (points-tested s from n) ∙ e) j h in
+    let b = and-left (finite-bits (p .x) && finite-bits (p .y)) (finite-bits (p .z)) a in
+    record {
+      on-x = and-left (finite-bits (p .x)) (finite-bits (p .y)) b;
+      on-y = and-right (finite-bits (p .x)) (finite-bits (p .y)) b;
+      on-z = and-right (finite-bits (p .x) && finite-bits (p .y)) (finite-bits (p .z)) a;
+    }
 
 -- THE WHOLE QUESTION
 module _ {ds : List Dart} {s : List ℕ} {from n : ℕ} {x : List ℕ} {k : ℕ} {keys ranks : List ℕ} where
@@ -85,6 +108,9 @@ module _ {ds : List Dart} {s : List ℕ} {from n : ℕ} {x : List ℕ} {k : ℕ}
       → all (λ i. leb 1 (getD x i 0) && not (held ds (getD x i 0))) (tab (λ i. i) k) ≡ true → r ≡ distinct (take k x)
       → (r ≡ true → Ranked x k keys ranks) → NewSerials ds s from n x k keys ranks r
   new-ranked e f d g = record { is = rw (e, f) d; ranked = g }
+
+  pub finite-told : {r : Bool} → NewSerials ds s from n x k keys ranks r → r ≡ true → all finite (points-in s from n) ≡ true
+  finite-told w e = and-left (all finite (points-in s from n)) _ (and-left (all finite (points-in s from n) && all (λ i. leb 1 (getD x i 0) && not (held ds (getD x i 0))) (tab (λ i. i) k)) _ (sym (w .is) ∙ e))
 
 -- of a transfer
 pub eighteen-is : {t : Transfer} {v x b z s : List ℕ} {from n k : ℕ} {hollow : Bool} (ds : List Dart) → Told t v x b z s from n k hollow → k ≤ length x

@@ -19,7 +19,9 @@ use Rattle.laws.proofs.Tables.{length-tab, getD-tab, map-tab, tab-all, all-tab}
 use Rattle.theory.proofs.ImageLaws.{place-back}
 use Rattle.cells.specs.Places.{Numbered, places-in, volume-of}
 use Rattle.cells.proofs.RingLaws.{mem-firsts}
+use Rattle.model.specs.Values.{finite}
 use Rattle.inbox.specs.Inbox.{point-in, points-in}
+use Rattle.arrival.proofs.Eighteen.{point-there}
 use Rattle.ranking.specs.Ranks.{Ranked}
 use Rattle.arrival.specs.Sides.{side-at, order-at, pair-at, reverse-at, ends-differ, Segments, Small}
 use Rattle.arrival.specs.Draft.{Paired, draft-record, Draftable, Drafted, Told, Draft}
@@ -139,14 +141,18 @@ module _ {t : Transfer} {v x b z s : List ℕ} {from n k : ℕ} {hollow : Bool} 
       by-draft : one-volume t ≡ eqb (length (places-in k (volume-of m (getD ranks 0 0)))) k
       by-draft = volume-is d t (w .inside) (w .darts) (w .points) each-below
 
-      pub volume-no : eqb (length (places-in k (volume-of m (getD ranks 0 0)))) k ≡ false → false ≡ volume-right t
-      volume-no e = right-when (one-volume t) is-one (by-draft ∙ e)
+      -- `first` is the place of the dart with index 0
+      from-first : {first : ℕ} → first ≡ getD ranks 0 0 → one-volume t ≡ eqb (length (places-in k (volume-of m first))) k
+      from-first at = by-draft ∙ ap (λ (p : ℕ). eqb (length (places-in k (volume-of m p))) k) (sym at)
 
-      pub numbers-tell : {numbers firsts′ : List ℕ} {count : ℕ} → k ≤ length ranks → Numbered (column m 1) (column m 2) (take k ranks) numbers firsts′ count
-          → faces-ordered t ≡ true → pairs-right (sides t) ≡ true → eqb (length (places-in k (volume-of m (getD ranks 0 0)))) k ≡ true
+      pub volume-no : {first : ℕ} → first ≡ getD ranks 0 0 → eqb (length (places-in k (volume-of m first))) k ≡ false → false ≡ volume-right t
+      volume-no at e = right-when (one-volume t) is-one (from-first at ∙ e)
+
+      pub numbers-tell : {numbers firsts′ : List ℕ} {count first : ℕ} → first ≡ getD ranks 0 0 → k ≤ length ranks → Numbered (column m 1) (column m 2) (take k ranks) numbers firsts′ count
+          → faces-ordered t ≡ true → pairs-right (sides t) ≡ true → eqb (length (places-in k (volume-of m first))) k ≡ true
           → (all (λ i. eqb (getD v i 0) (getD numbers (getD ranks i 0) 0)) (tab (λ i. i) k) && eqb n count) ≡ volume-right t
       unfolding volume-right
-      numbers-tell fit-ranks numbered o p e = rw (o, p, by-draft ∙ e) (sym (vertices-are d t (w .inside) (w .darts) (w .points) each-below fit-ranks numbered))
+      numbers-tell at fit-ranks numbered o p e = rw (o, p, from-first at ∙ e) (sym (vertices-are d t (w .inside) (w .darts) (w .points) each-below fit-ranks numbered))
 
     -- THE DRAFT, where serials are ranked and pairs are right
     module _ {keys ranks q : List ℕ} (ranked : Ranked x k keys ranks) {r : Bool} (paired : Paired v b z k q r) (yes : r ≡ true) where
@@ -159,13 +165,14 @@ module _ {t : Transfer} {v x b z s : List ℕ} {from n k : ℕ} {hollow : Bool} 
       pub paired-yes : pairs-right (sides t) ≡ true
       paired-yes = paired-by-index ∙ tests
 
-      pub draftable : Draftable v b z keys q s from k
-      draftable = record {
+      pub draftable : all finite (points-in s from n) ≡ true → Draftable v b z keys q s from k
+      draftable points-finite = record {
         few = w .few;
         segs = segs;
         index-below = ranked .index-below;
         opposite-below = paired .opposed yes .below;
         point-fits = λ i h. let a = each-below i h in let f = w .points-fit in omega (arith, a, f);
+        point-finite = λ i h. point-there s from n points-finite (getD v i 0) (each-below i h);
       }
 
       pub draft-of : {m : List ℕ} → Drafted (draft-record v b z keys ranks q s from) k m → Draft v x b z keys ranks q s from k m

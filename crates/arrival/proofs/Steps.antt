@@ -1,5 +1,5 @@
 -- The loops over indices, step by step. Assumes nothing.
-use mathlib.Core.Path.{_≡_, refl, sym, _∙_, ap}
+use mathlib.Core.Path.{_≡_, refl, sym, _∙_, ap, subst}
 use mathlib.Core.Bool.{Bool, true, false, true≢false, not, _&&_, _||_}
 use mathlib.Core.List.{List, [], _∷_, _++_}
 use mathlib.Core.Logic.{⊎-elim}
@@ -35,17 +35,17 @@ passing-all {p} {i} {k} w h = sym (tab-all p (λ j. j) k (λ j l. w .each j (ome
 pub passing-not : (p : ℕ → Bool) (i k : ℕ) → i < k → p i ≡ false → false ≡ all p (tab (λ j. j) k)
 passing-not p i k h e = by-cases (all p (tab (λ j. j) k)) (λ t. absurd (true≢false (sym (all-tab p (λ j. j) k t i h) ∙ e))) (λ t. sym t)
 
--- ONE INDEX in message order
-module _ (x b : List ℕ) (i : ℕ) where
-  pub order-low : getD x i 0 < getD x (getD b i 0) 0 → false ≡ order-at x b i
-  order-low h = rw (lt-leb (getD x (getD b i 0) 0) (getD x i 0) h) refl
+-- ONE INDEX in message order; s is its face's start
+module _ (x b : List ℕ) (i : ℕ) {s : ℕ} (start : s ≡ getD b i 0) where
+  pub order-low : getD x i 0 < getD x s 0 → false ≡ order-at x b i
+  order-low h = rw (lt-leb (getD x (getD b i 0) 0) (getD x i 0) (subst (λ (j : ℕ). getD x i 0 < getD x j 0) start h)) refl
 
-  module _ (high : getD x (getD b i 0) 0 ≤ getD x i 0) where
+  module _ (high : getD x s 0 ≤ getD x i 0) where
     first : leb (getD x (getD b i 0) 0) (getD x i 0) ≡ true
-    first = le-leb (getD x (getD b i 0) 0) (getD x i 0) high
+    first = le-leb (getD x (getD b i 0) 0) (getD x i 0) (subst (λ (j : ℕ). getD x j 0 ≤ getD x i 0) start high)
 
-    pub order-inner : (getD b i 0 ≡ i → ⊥) → true ≡ order-at x b i
-    order-inner d = rw (first, ne-eqb (getD b i 0) i d) refl
+    pub order-inner : (s ≡ i → ⊥) → true ≡ order-at x b i
+    order-inner d = rw (first, ne-eqb (getD b i 0) i (λ e. d (start ∙ e))) refl
 
     pub order-first : i ≡ 0 → true ≡ order-at x b i
     order-first e = rw (first, eq-eqb i 0 e, le-leb 0 (getD x i 0) (omega arith)) (or-true (not (eqb (getD b i 0) i)))
@@ -54,8 +54,8 @@ module _ (x b : List ℕ) (i : ℕ) where
         or-true true = refl
         or-true false = refl
 
-    pub order-start : getD b i 0 ≡ i → (i ≡ 0 → ⊥) → ltb (getD x (getD b (i - 1) 0) 0) (getD x i 0) ≡ order-at x b i
-    order-start e d = rw (first, eq-eqb (getD b i 0) i e, ne-eqb i 0 d) refl
+    pub order-start : s ≡ i → (i ≡ 0 → ⊥) → {t : ℕ} → t ≡ getD b (i - 1) 0 → ltb (getD x t 0) (getD x i 0) ≡ order-at x b i
+    order-start e d {t} before = ap (λ (j : ℕ). ltb (getD x j 0) (getD x i 0)) before ∙ rw (first, eq-eqb (getD b i 0) i (sym start ∙ e), ne-eqb i 0 d) refl
 
 -- A COUNT AND A TEST: what a test tells where the count fits, and where it does not
 pub few-not : (n k : ℕ) (a : Bool) → k < n → false ≡ (leb n k && a)

@@ -8,15 +8,17 @@ use Prim.Native.Nat.{ℕ, _+_, _*_, _/_, _≤_, _<_}
 use lib.Dec.{leb, eqb}
 use lib.ListN.{length, getD, take}
 use Rattle.model.specs.Lists.{all, mem, distinct, tab}
-use Rattle.model.specs.Values.{Dart, finite}
+use Rattle.model.specs.Values.{Dart, finite, finite-bits}
 use Rattle.model.specs.Cells.{held}
-use Rattle.model.specs.Image.{words, column}
+use Rattle.model.specs.Image.{words, column, block-in}
 use Rattle.model.specs.Messages.{Transfer, size-all}
 use Rattle.memory.specs.Record.{record-in}
 use Rattle.memory.specs.declared.record.Record.{Record}
 use Rattle.cells.specs.Places.{Numbered}
 use Rattle.inbox.specs.Inbox.{FacesIn, is-hollow, points-in, word-in}
 use Rattle.ranking.specs.Ranks.{value-at, index-at, Ranked}
+use Rattle.arrival.specs.declared.serials.Gap.{Gap}
+use Rattle.arrival.specs.declared.serials.Gap.the-variants.{Below, NotNew}
 use Rattle.arrival.specs.Sides.{next-index, pair-at, reverse-at, ends-differ, Segments, Small}
 
 -- whether the values of the first k keys, which ascend, are couples that differ in the last bit; then q has the index of each one's other
@@ -50,6 +52,12 @@ draft-record v b z keys ranks q s from p =
       z = word-in s (point + 16);
     }
 
+-- the point at a place of the message has finite coordinates
+pub record FiniteIn (s : List ℕ) (at : ℕ) : Type 0 where
+  pub on-x : finite-bits (word-in s at) ≡ true
+  pub on-y : finite-bits (word-in s (at + 8)) ≡ true
+  pub on-z : finite-bits (word-in s (at + 16)) ≡ true
+
 -- what there must be to draft k darts
 pub record Draftable (v b z keys q s : List ℕ) (from k : ℕ) : Type 0 where
   pub few : k ≤ 512
@@ -57,6 +65,7 @@ pub record Draftable (v b z keys q s : List ℕ) (from k : ℕ) : Type 0 where
   pub index-below : (p : ℕ) → p < k → index-at keys p < k
   pub opposite-below : (i : ℕ) → i < k → getD q i 0 < k
   pub point-fits : (i : ℕ) → i < k → from + 24 * getD v i 0 + 24 ≤ length s
+  pub point-finite : (i : ℕ) → i < k → FiniteIn s (from + 24 * getD v i 0)
 
 -- a block's memory with k such records
 pub record Drafted (f : ℕ → Record) (k : ℕ) (m : List ℕ) : Type 0 where
@@ -92,6 +101,17 @@ pub record Told (t : Transfer) (v x b z s : List ℕ) (from n k : ℕ) (hollow :
   pub points : t .points ≡ points-in s from n
   pub points-fit : from + 24 * n ≤ length s
   pub hollow-is : hollow ≡ is-hollow (t .faces)
+
+-- a serial beside a block's n darts: how many are below it, where it is new
+abbrev pub is-new : List ℕ → ℕ → Bool
+is-new m x = leb 1 x && not (held (block-in m .darts) x)
+
+abbrev pub GapSaid : List ℕ → ℕ → ℕ → Gap → Type 0
+GapSaid m n x (Below g) = (is-new m x ≡ true) × (g ≤ n)
+GapSaid m n x NotNew = is-new m x ≡ false
+
+pub record GapTold (m : List ℕ) (n x : ℕ) (r : Gap) : Type 0 where
+  pub said : GapSaid m n x r
 
 -- whether points are finite and the first k serials are new to some darts; then they are ranked
 pub record NewSerials (ds : List Dart) (s : List ℕ) (from n : ℕ) (x : List ℕ) (k : ℕ) (keys ranks : List ℕ) (r : Bool) : Type 0 where

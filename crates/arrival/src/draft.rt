@@ -3,13 +3,18 @@ ghost use mathlib.Core.Path.{_≡_};
 ghost use Prim.Native.Nat.{_+_, _≤_, _<_};
 ghost use lib.ListN.{length, set};
 ghost use Rattle.model.specs.Image.{words};
+ghost use Rattle.memory.specs.Point.{point-of};
 ghost use Rattle.inbox.specs.Inbox.{word-in};
-ghost use Rattle.arrival.specs.Draft.{draft-record, Draftable, Drafted};
+ghost use Rattle.arrival.specs.Draft.{draft-record, FiniteIn, Draftable, Drafted};
 use crate::pairs;
 use groups::Read;
+use memory::point;
+use memory::point::Point;
 use memory::record;
+use memory::record::MessageIndex;
 use memory::record::Place;
 use memory::record::Record;
+use place::DraftPlace;
 
 // A word of a point where it stands in the message.
 pub fn word_at(message: &[u8], at: usize) -> u64
@@ -22,7 +27,18 @@ pub fn word_at(message: &[u8], at: usize) -> u64
     w
 }
 
-// The record at place p.
+// The point where it stands in the message.
+fn point_in(message: &[u8], at: usize) -> Point
+    requires { ⌜ (at + 24 ≤ length (now message)) × FiniteIn (now message) at ⌝ }
+    ensures { λ r. ⌜ r ≡ point-of (word-in (now (message .entry)) at) (word-in (now (message .entry)) (at + 8)) (word-in (now (message .entry)) (at + 16)) ⌝ }
+{
+    let x = word_at(message, at);
+    let y = word_at(message, at + 8);
+    let z = word_at(message, at + 16);
+    point::point_of(x, y, z)
+}
+
+// The record at a place of the draft.
 fn record_of(
     message: &[u8],
     from: usize,
@@ -33,25 +49,29 @@ fn record_of(
     keys: &[u64],
     ranks: &[usize],
     opposite: &[usize],
-    p: usize,
+    p: DraftPlace,
 ) -> Record
-    requires { ⌜ (length (now vertex) ≡ 512) × (length (now starts) ≡ 512) × (length (now sizes) ≡ 512) × (length (now keys) ≡ 512) × (length (now ranks) ≡ 512) × (length (now opposite) ≡ 512) × (p < k) ⌝ }
+    requires { ⌜ (length (now vertex) ≡ 512) × (length (now starts) ≡ 512) × (length (now sizes) ≡ 512) × (length (now keys) ≡ 512) × (length (now ranks) ≡ 512) × (length (now opposite) ≡ 512) × (p .0 < k) ⌝ }
     requires { ⌜ Draftable (now vertex) (now starts) (now sizes) (now keys) (now opposite) (now message) from k ⌝ }
-    ensures { λ r. ⌜ r ≡ draft-record (now (vertex .entry)) (now (starts .entry)) (now (sizes .entry)) (now (keys .entry)) (now (ranks .entry)) (now (opposite .entry)) (now (message .entry)) from p ⌝ }
+    ensures { λ r. ⌜ r ≡ draft-record (now (vertex .entry)) (now (starts .entry)) (now (sizes .entry)) (now (keys .entry)) (now (ranks .entry)) (now (opposite .entry)) (now (message .entry)) from (p .0) ⌝ }
 {
-    let i = (keys[p] % 512) as usize;
-    let next = pairs::next_index(starts, sizes, i);
-    let other = opposite[i];
-    let point = from + 24 * (vertex[i] as usize);
+    let at = p.0;
+    let i = (keys[at] % 512) as usize;
+    let serial = keys[at] / 512;
+    let next = pairs::next_index(starts, sizes, MessageIndex(i));
+    let other = place::index_at(opposite, MessageIndex(i));
+    let after = place::rank_at(ranks, next);
+    let beside = place::rank_at(ranks, other);
+    let point = point_in(message, from + 24 * (vertex[i] as usize));
     Record {
-        serial: keys[p] / 512,
-        next: ranks[next] as u64,
-        opposite: ranks[other] as u64,
+        serial,
+        next: after.0 as u64,
+        opposite: beside.0 as u64,
         kind: 0,
         link: 0,
-        x: word_at(message, point),
-        y: word_at(message, point + 8),
-        z: word_at(message, point + 16),
+        x: point::pattern(point.x),
+        y: point::pattern(point.y),
+        z: point::pattern(point.z),
     }
 }
 
@@ -92,7 +112,7 @@ pub fn put_draft(
             keys,
             ranks,
             opposite,
-            p,
+            DraftPlace(p),
         );
         record::put_record(draft, Place(p), r);
         p += 1;

@@ -6,23 +6,29 @@ ghost use lib.Dec.{leb, ltb};
 ghost use lib.ListN.{length, getD};
 ghost use Rattle.model.specs.Lists.{all, tab};
 ghost use Rattle.arrival.specs.Sides.{order-at};
+use memory::record::MessageIndex;
 
 // Whether the dart with index i stands in message order.
-fn order_at(serial: &[u64], starts: &[usize], i: usize) -> bool
-    requires { ⌜ (length (now serial) ≡ 512) × (length (now starts) ≡ 512) × (i < 512) × (getD (now starts) i 0 ≤ i) × (0 < i → getD (now starts) (i - 1) 0 ≤ i) ⌝ }
-    ensures { λ r. ⌜ r ≡ order-at (now (serial .entry)) (now (starts .entry)) i ⌝ }
+fn order_at(serial: &[u64], starts: &[usize], i: MessageIndex) -> bool
+    requires { ⌜ (length (now serial) ≡ 512) × (length (now starts) ≡ 512) × (i .0 < 512) × (getD (now starts) (i .0) 0 ≤ i .0) × (0 < i .0 → getD (now starts) (i .0 - 1) 0 ≤ i .0) ⌝ }
+    ensures { λ r. ⌜ r ≡ order-at (now (serial .entry)) (now (starts .entry)) (i .0) ⌝ }
 {
-    let s = starts[i];
-    if serial[i] < serial[s] {
+    let start = place::index_at(starts, i);
+    let here = i.0;
+    let first = start.0;
+    if serial[here] < serial[first] {
         return false;
     }
-    if s != i {
+    if first != here {
         return true;
     }
-    if i == 0 {
+    if here == 0 {
         return true;
     }
-    serial[starts[i - 1]] < serial[i]
+    let last = here - 1;
+    let before = place::index_at(starts, MessageIndex(last));
+    let past = before.0;
+    serial[past] < serial[here]
 }
 
 // Whether all of the first k do.
@@ -33,7 +39,7 @@ pub fn ordered(serial: &[u64], starts: &[usize], k: usize) -> bool
     // Those before i do.
     let mut i = 0;
     while i < k {
-        if !order_at(serial, starts, i) {
+        if !order_at(serial, starts, MessageIndex(i)) {
             return false;
         }
         i += 1;

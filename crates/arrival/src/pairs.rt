@@ -7,17 +7,21 @@ ghost use Rattle.model.specs.Lists.{all, tab};
 ghost use Rattle.ranking.specs.Ranks.{value-at, index-at};
 ghost use Rattle.arrival.specs.Sides.{next-index, couple-code, couple-at, ends-differ, Segments, Small};
 ghost use Rattle.arrival.specs.Draft.{Coupled, Paired};
+use memory::header::Header;
+use memory::record::MessageIndex;
 
 // The index of the next dart along a face.
-pub fn next_index(starts: &[usize], sizes: &[usize], i: usize) -> usize
-    requires { ⌜ (length (now starts) ≡ 512) × (length (now sizes) ≡ 512) × (i < 512) × (getD (now starts) i 0 ≤ 512) × (getD (now sizes) i 0 ≤ 512) ⌝ }
-    ensures { λ r. ⌜ r ≡ next-index (now (starts .entry)) (now (sizes .entry)) i ⌝ }
+pub fn next_index(starts: &[usize], sizes: &[usize], i: MessageIndex) -> MessageIndex
+    requires { ⌜ (length (now starts) ≡ 512) × (length (now sizes) ≡ 512) × (i .0 < 512) × (getD (now starts) (i .0) 0 ≤ 512) × (getD (now sizes) (i .0) 0 ≤ 512) ⌝ }
+    ensures { λ r. ⌜ r .0 ≡ next-index (now (starts .entry)) (now (sizes .entry)) (i .0) ⌝ }
 {
-    let s = starts[i];
-    if i + 1 == s + sizes[i] {
-        return s;
+    let start = place::index_at(starts, i);
+    let size = place::size_at(sizes, i);
+    let next = i.0 + 1;
+    if next == start.0 + size {
+        return start;
     }
-    i + 1
+    MessageIndex(next)
 }
 
 // A pair as one number: twice that of its ends, the lesser first, and 1 more where that turned it round.
@@ -47,7 +51,8 @@ pub fn put_pairs(
     let mut ok = true;
     let mut i = 0;
     while i < k {
-        let j = next_index(starts, sizes, i);
+        let next = next_index(starts, sizes, MessageIndex(i));
+        let j = next.0;
         ok = ok & (vertex[i] != vertex[j]);
         pairs[i] = couple(vertex[i], vertex[j]);
         i += 1;
@@ -92,13 +97,13 @@ pub fn paired(
     requires { ⌜ Segments (now starts) (now sizes) k × Small (now vertex) k ⌝ }
     ensures { λ r. ⌜ Paired (now (vertex .entry)) (now (starts .entry)) (now (sizes .entry)) k (now (opposite .exit)) r × (length (now (opposite .exit)) ≡ 512) ⌝ }
 {
-    let mut pairs = [0u64; 512];
+    let mut pairs = [0u64; Header::VOLUME];
     if !put_pairs(vertex, starts, sizes, k, &mut pairs) {
         return false;
     }
-    let mut keys = [0u64; 512];
-    let mut scratch = [0u64; 512];
-    let mut ranks = [0usize; 512];
+    let mut keys = [0u64; Header::VOLUME];
+    let mut scratch = [0u64; Header::VOLUME];
+    let mut ranks = [0usize; Header::VOLUME];
     if !ranking::rank(&pairs, k, &mut keys, &mut scratch, &mut ranks) {
         return false;
     }

@@ -11,13 +11,14 @@ ghost use Rattle.model.specs.Values.{finite, serial-bound};
 ghost use Rattle.model.specs.Cells.{held};
 ghost use Rattle.model.specs.Image.{room, words, column, block-in};
 ghost use Rattle.inbox.specs.Inbox.{point-in, points-in};
-ghost use Rattle.arrival.specs.Draft.{NewSerials};
+ghost use Rattle.arrival.specs.Draft.{GapTold, NewSerials};
 use crate::draft;
+use memory::header::Header;
 use memory::point;
 use memory::record;
 use memory::record::Place;
 
-// Whether the point at a place of the message is finite.
+// Whether the point at a place of the message is finite: asked of its words, since only finite ones make a `Point`.
 fn point_finite(message: &[u8], at: usize) -> bool
     requires { ⌜ at + 24 ≤ length (now message) ⌝ }
     ensures { λ r. ⌜ r ≡ finite (point-in (now (message .entry)) at) ⌝ }
@@ -45,9 +46,9 @@ fn points_finite(message: &[u8], from: usize, count: usize) -> bool
 }
 
 // The last of the first n places whose serial is at most this one, by halving without a branch; the first place where there is none.
-fn last_of(block: &[u64], n: usize, serial: u64) -> usize
+fn last_of(block: &[u64], n: usize, serial: u64) -> Place
     requires { ⌜ (1 ≤ n) × (n ≤ room) × (length (now block) ≡ words) × Ascending n (column (now block) 0) × ((p : ℕ) → p < n → column (now block) 0 p < serial-bound) × (serial < serial-bound) ⌝ }
-    ensures { λ r. ⌜ (r < n) × ((p : ℕ) → p < n → column (now (block .entry)) 0 p ≡ serial → p ≡ r) ⌝ }
+    ensures { λ r. ⌜ (r .0 < n) × ((p : ℕ) → p < n → column (now (block .entry)) 0 p ≡ serial → p ≡ r .0) ⌝ }
 {
     // A place with this serial is one of `left` places from `low` on.
     let mut low = 0;
@@ -58,7 +59,7 @@ fn last_of(block: &[u64], n: usize, serial: u64) -> usize
         low = ranking::up(low, half, middle, serial);
         left -= half;
     }
-    low
+    Place(low)
 }
 
 // Whether a serial is above that at the place before `gap`, if there is one.
@@ -86,27 +87,34 @@ fn in_gap(block: &[u64], n: usize, gap: usize, serial: u64) -> bool
     true
 }
 
-// How many of the first n serials are below one that is at least 1 and none of them; above n for any other. `near`: a guess.
-fn gap_of(block: &[u64], n: usize, serial: u64, near: usize) -> usize
+// How many of a block's serials are below one that is new, or that it is not: 0, or held.
+pub enum Gap {
+    Below(usize),
+    NotNew,
+}
+
+// The gap of a serial among the first n. `near`: a guess.
+fn gap_of(block: &[u64], n: usize, serial: u64, near: usize) -> Gap
     requires { ⌜ (n ≡ getD (now block) 2 0) × (n ≤ room) × (length (now block) ≡ words) × Ascending n (column (now block) 0) × ((p : ℕ) → p < n → column (now block) 0 p < serial-bound) × (serial < serial-bound) × (near ≤ n) ⌝ }
-    ensures { λ r. ⌜ leb r n ≡ (leb 1 serial && not (held (block-in (now (block .entry)) .darts) serial)) ⌝ }
+    ensures { λ r. ⌜ GapTold (now (block .entry)) n serial r ⌝ }
 {
     if serial == 0 {
-        return n + 1;
+        return Gap::NotNew;
     }
     // Serials that come one after the other are mostly in one gap.
     if in_gap(block, n, near, serial) {
-        return near;
+        return Gap::Below(near);
     }
-    let low = last_of(block, n, serial);
-    let there = record::field(block, Place(low), 0);
+    let last = last_of(block, n, serial);
+    let there = record::field(block, last, 0);
     if there == serial {
-        return n + 1;
+        return Gap::NotNew;
     }
     if there < serial {
-        return low + 1;
+        let below = last.0 + 1;
+        return Gap::Below(below);
     }
-    low
+    Gap::Below(last.0)
 }
 
 // Whether the first k are at least 1, and the block's n darts do not have them.
@@ -118,10 +126,9 @@ fn all_new(block: &[u64], n: usize, serial: &[u64], k: usize) -> bool
     let mut near = 0;
     let mut i = 0;
     while i < k {
-        let gap = gap_of(block, n, serial[i], near);
-        if n < gap {
+        let Gap::Below(gap) = gap_of(block, n, serial[i], near) else {
             return false;
-        }
+        };
         near = gap;
         i += 1;
     }
@@ -150,6 +157,6 @@ pub fn new_serials(
     if !all_new(block, n, serial, k) {
         return false;
     }
-    let mut scratch = [0u64; 512];
+    let mut scratch = [0u64; Header::VOLUME];
     ranking::rank(serial, k, keys, &mut scratch, ranks)
 }

@@ -5,23 +5,28 @@ ghost use Prim.Native.Nat.{ℕ, _≤_, _<_};
 ghost use lib.Dec.{eqb};
 ghost use lib.ListN.{length, getD};
 ghost use Rattle.model.specs.Lists.{all, tab};
+ghost use Rattle.model.specs.Values.{finite};
 ghost use Rattle.model.specs.Image.{room, words};
 ghost use Rattle.model.specs.Messages.{Transfer};
 ghost use Rattle.model.specs.Arrival.{volume-right};
 ghost use Rattle.cells.specs.Places.{Linked, places-in, volume-of};
+ghost use Rattle.inbox.specs.Inbox.{points-in};
 ghost use Rattle.ranking.specs.Ranks.{Ranked};
 ghost use Rattle.arrival.specs.Draft.{Compared, Told, Draft};
 use crate::draft;
 use crate::order;
 use crate::pairs;
+use memory::header::Header;
+use memory::record::MessageIndex;
+use place::DraftPlace;
 
 // Whether the k darts of a draft are the volume of the one at place `first`.
-fn one_volume(draft: &[u64], k: usize, first: usize, queue: &mut [usize]) -> bool
-    requires { ⌜ Linked (now draft) k × (first < k) × (length (now queue) ≡ room) ⌝ }
-    ensures { λ r. ⌜ (r ≡ eqb (length (places-in k (volume-of (now (draft .entry)) first))) k) × (length (now (queue .exit)) ≡ room) ⌝ }
+fn one_volume(draft: &[u64], k: usize, first: DraftPlace, queue: &mut [usize]) -> bool
+    requires { ⌜ Linked (now draft) k × (first .0 < k) × (length (now queue) ≡ room) ⌝ }
+    ensures { λ r. ⌜ (r ≡ eqb (length (places-in k (volume-of (now (draft .entry)) (first .0)))) k) × (length (now (queue .exit)) ≡ room) ⌝ }
 {
-    let mut marks = [0u8; 4096];
-    cells::walk::volume(draft, k, first, queue, &mut marks) == k
+    let mut marks = [0u8; Header::DARTS];
+    cells::walk::volume(draft, k, first.0, queue, &mut marks) == k
 }
 
 // Whether each dart has the number of its vertex.
@@ -32,7 +37,9 @@ fn numbers_same(vertex: &[u64], ranks: &[usize], k: usize, numbers: &[usize]) ->
     // Those before i have.
     let mut i = 0;
     while i < k {
-        if vertex[i] != numbers[ranks[i]] as u64 {
+        let place = place::rank_at(ranks, MessageIndex(i));
+        let p = place.0;
+        if vertex[i] != numbers[p] as u64 {
             return false;
         }
         i += 1;
@@ -57,7 +64,7 @@ fn numbered(
     numbers_same(vertex, ranks, k, numbers) & (count == found as u64)
 }
 
-// 19, of a transfer whose serials are ranked; on a yes its darts are drafted. `queue` and `firsts` are lent to work in.
+// 19, of a transfer whose points are finite and whose serials are ranked; on a yes its darts are drafted. `queue` and `firsts` are lent to work in.
 pub fn volume_right(
     message: &[u8],
     from: usize,
@@ -76,7 +83,7 @@ pub fn volume_right(
     firsts: &mut [usize],
 ) -> bool
     requires { ⌜ (length (now vertex) ≡ 512) × (length (now serial) ≡ 512) × (length (now starts) ≡ 512) × (length (now sizes) ≡ 512) × (length (now keys) ≡ 512) × (length (now ranks) ≡ 512) × (length (now opposite) ≡ 512) × (length (now draft) ≡ words) × (length (now queue) ≡ room) × (length (now firsts) ≡ room) ⌝ }
-    requires { ⌜ Ranked (now serial) k (now keys) (now ranks) × ((t : Transfer) × Told t (now vertex) (now serial) (now starts) (now sizes) (now message) from count k hollow) ⌝ }
+    requires { ⌜ Ranked (now serial) k (now keys) (now ranks) × (all finite (points-in (now message) from count) ≡ true) × ((t : Transfer) × Told t (now vertex) (now serial) (now starts) (now sizes) (now message) from count k hollow) ⌝ }
     ensures answer { λ r. ⌜ ((t : Transfer) → Told t (now (vertex .entry)) (now (serial .entry)) (now (starts .entry)) (now (sizes .entry)) (now (message .entry)) from count k hollow → r ≡ volume-right t) ⌝ }
     ensures drafted { λ r. ⌜ (r ≡ true → Draft (now (vertex .entry)) (now (serial .entry)) (now (starts .entry)) (now (sizes .entry)) (now (keys .entry)) (now (ranks .entry)) (now (opposite .exit)) (now (message .entry)) from k (now (draft .exit))) × (length (now (opposite .exit)) ≡ 512) × (length (now (draft .exit)) ≡ words) × (length (now (queue .exit)) ≡ room) × (length (now (firsts .exit)) ≡ room) ⌝ }
 {
@@ -104,7 +111,8 @@ pub fn volume_right(
         opposite,
         draft,
     );
-    if !one_volume(draft, k, ranks[0], queue) {
+    let first = place::rank_at(ranks, MessageIndex(0));
+    if !one_volume(draft, k, first, queue) {
         return false;
     }
     numbered(draft, k, vertex, count, ranks, queue, firsts)

@@ -34,9 +34,9 @@ use Rattle.parts.proofs.CriticalLaws.{few2}
 use Rattle.parts.proofs.Trails as trails
 use Rattle.parts.proofs.PartTwo.{three-yes}
 use Rattle.parts.proofs.PartTwoTold.{meetable, index-fits, sewable, part2-answer}
-use Rattle.joined.specs.Join.{Linking}
-use Rattle.bringing.specs.Bringing.{Placing2}
-use Rattle.bringing.proofs.Transfers.{drafted-apart, met-once, brought, steps-iter}
+use Rattle.join.specs.Join.{Linking}
+use Rattle.fitting.specs.Bringing.{Placing2}
+use Rattle.fitting.proofs.Transfers.{drafted-apart, met-once, brought, steps-iter}
 use Rattle.fitting.specs.Fitting.{Part2Ready, Part2Done, NewVolume, Parted}
 use Rattle.fitting.proofs.LabelLaws.{parts-split, codes-differ}
 use Rattle.fitting.proofs.Outlined.{told-of, full, vertices-below, arrives, points-finite}

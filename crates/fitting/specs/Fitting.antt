@@ -15,7 +15,7 @@ use Rattle.ranking.specs.Ranks.{Ranked}
 use Rattle.arrival.specs.Draft.{Draft, NewSerials}
 use Rattle.parts.specs.Locate.{Located}
 use Rattle.parts.specs.Sewing.{Sewable, Part2Told}
-use Rattle.joined.specs.Join.{Linking}
+use Rattle.join.specs.Join.{Linking}
 
 -- whether the first c codes differ; then they are ranked
 pub record CodesRanked (codes : List ℕ) (c : ℕ) (keys ranks : List ℕ) (r : Bool) : Type 0 where

@@ -9,6 +9,7 @@ ghost use Rattle.model.specs.Image.{is-image};
 ghost use Rattle.fitting.specs.Fitting.{CodesRanked, Part2Ready, Part2Done, NewVolume, Parted};
 use inbox::message::Front;
 use inbox::message::Tail;
+use memory::header::Header;
 
 // Whether the first c codes differ; then they are ranked. There may be none.
 fn rank_codes(codes: &[u64], c: usize, keys: &mut [u64], ranks: &mut [usize]) -> bool
@@ -18,7 +19,7 @@ fn rank_codes(codes: &[u64], c: usize, keys: &mut [u64], ranks: &mut [usize]) ->
     if c == 0 {
         return true;
     }
-    let mut scratch = [0u64; 512];
+    let mut scratch = [0u64; Header::VOLUME];
     ranking::rank(codes, c, keys, &mut scratch, ranks)
 }
 
@@ -39,13 +40,13 @@ fn part2_fits(
     requires { ⌜ Part2Ready (now block) (now draft) (now ranks) (now sizes) (now codes) (now indices) k from c × (length (now kinds) ≡ 512) × (length (now links) ≡ 512) ⌝ }
     ensures { λ r. ⌜ Part2Done (now (block .entry)) (now (draft .entry)) (now (ranks .entry)) (now (sizes .entry)) (now (codes .entry)) (now (indices .entry)) from c (now (kinds .entry)) (now (kinds .exit)) (now (links .entry)) (now (links .exit)) r ⌝ }
 {
-    let mut keys = [0u64; 512];
-    let mut rows = [0usize; 512];
+    let mut keys = [0u64; Header::VOLUME];
+    let mut rows = [0usize; Header::VOLUME];
     if !rank_codes(codes, c, &mut keys, &mut rows) {
         return false;
     }
     let n = block[2] as usize;
-    let mut places = [4096usize; 512];
+    let mut places = [Header::DARTS; Header::VOLUME];
     parts::locate::locate(block, n, codes, c, &keys, &rows, &mut places);
     parts::meets::part2_right(
         block,
@@ -81,8 +82,8 @@ pub fn parts_right(
     ensures { λ r. ⌜ ((v x : List ℕ) → NewVolume (now (block .entry)) (now (message .entry)) v x (now (starts .entry)) (now (sizes .entry)) front tail (now (ranks .entry)) (now (draft .entry)) → Parted (now (block .entry)) (now (message .entry)) v x (now (starts .entry)) (now (sizes .entry)) front tail (now (kinds .exit)) (now (links .exit)) r) × (length (now (kinds .exit)) ≡ 512) × (length (now (links .exit)) ≡ 512) ⌝ }
 {
     let k = front.darts;
-    let mut codes = [0u64; 512];
-    let mut indices = [0u64; 512];
+    let mut codes = [0u64; Header::VOLUME];
+    let mut indices = [0u64; Header::VOLUME];
     if !parts::critical::critical_right(
         block,
         message,

@@ -17,7 +17,7 @@ use Rattle.groups.specs.declared.Read.{Read as Answer}
 use Rattle.groups.specs.declared.Read.the-variants.{Value, Bad}
 use Rattle.groups.proofs.Ends.{then-some}
 use Rattle.groups.proofs.Labels.{same-value}
-use Rattle.inbox.specs.declared.faces.Faces.{Faces}
+use Rattle.inbox.specs.declared.faces.FacesOrNot.the-variants as faces
 use Rattle.inbox.specs.Inbox.{most, Took, Sides, Grown, DartsSaid, DartsRead, FaceSaid, FaceRead, FacesIn, FacesRead, starts-of, sizes-of, some-darts, is-hollow}
 use Rattle.inbox.proofs.Taking.{SoFar, so-far-start, so-far-more, so-far-end, counted-none, counted-half, counted-took}
 use Rattle.inbox.proofs.Arrays.{length-replicate}
@@ -161,16 +161,12 @@ module _ (s : List ℕ) (at count : ℕ) where
             }
 
     -- no face is read, so none that fits stands there
-    pub reading-stop : {r : Answer} → r ≡ Bad → 0 < left → FaceRead s p darts v v′ x x′ b b′ z z′ r → (out : Faces) → out .ok ≡ false → FacesRead s at count v′ x′ b′ z′ out
+    pub reading-stop : {r : Answer} → r ≡ Bad → 0 < left → FaceRead s p darts v v′ x x′ b b′ z z′ r → FacesRead s at count v′ x′ b′ z′ faces.Not
     unfolding get-all
-    reading-stop {r} e h t out bad = go (subst (FaceSaid s p darts v v′ x x′ b b′ z z′) e (t .said))
+    reading-stop {r} e h t = go (subst (FaceSaid s p darts v v′ x x′ b b′ z z′) e (t .said))
       where
-        go : FaceSaid s p darts v v′ x x′ b b′ z z′ Bad → FacesRead s at count v′ x′ b′ z′ out
-        go t = record {
-          sides = t .1;
-          no = λ e fs rest k. too-many fs rest k (t .0);
-          yes = λ e. absurd (true≢false (sym e ∙ bad));
-        }
+        go : FaceSaid s p darts v v′ x x′ b b′ z z′ Bad → FacesRead s at count v′ x′ b′ z′ faces.Not
+        go t = record { sides = t .1; said = λ fs rest k. too-many fs rest k (t .0) }
           where
             too-many : (fs : List (List FaceDart)) (rest : List ℕ) → get-all (counted face-dart) count (drop at s) ≡ some (fs, rest)
                 → ((f : List FaceDart) (rest : List ℕ) → counted face-dart .get (drop p s) ≡ some (f, rest) → most < darts + length f) → some-darts fs ≡ false
@@ -194,23 +190,30 @@ module _ (s : List ℕ) (at count : ℕ) where
                         small-not : (k : ℕ) → 512 < k → (leb 1 k && leb k 512) ≡ false
                         small-not k h = rw (le-leb 1 k (omega arith), lt-leb k 512 h)
 
-  pub reading-end : {left darts p : ℕ} {hollow : Bool} {v x b z : List ℕ} → Reading left darts p hollow v x b z → left ≤ 0 → (out : Faces)
-      → out .ok ≡ ltb 0 darts → out .darts ≡ darts → out .hollow ≡ hollow → out .next ≡ p
-      → FacesRead s at count v x b z out
-  unfolding times
-  reading-end {left} {darts} {p} {hollow} w none-left out ok-is darts-is hollow-is next-is = record {
-    sides = w .sides;
-    no = λ e fs rest k. none-there fs rest k (ltb-false 0 darts (sym ok-is ∙ e));
-    yes =
-        λ e.
-        (w .fs, rw next-is all-read, (let a = ltb-true 0 darts (sym ok-is ∙ e) in let b = w .darts-are in let c = w .few in and-intro (le-leb 1 (size-all (w .fs)) (omega arith)) (le-leb (size-all (w .fs)) 512 (omega arith))), darts-is ∙ w .darts-are, hollow-is ∙ w .hollow-is, w .inside);
-  }
-    where
-      all-read : Took (times count (counted face-dart)) s at (w .fs) p
-      all-read = so-far-end (counted face-dart) count (w .so-far) (let a = w .read in omega arith)
+  module _ {left darts p : ℕ} {hollow : Bool} {v x b z : List ℕ} (w : Reading left darts p hollow v x b z) (none-left : left ≤ 0) where
+    all-read : Took (times count (counted face-dart)) s at (w .fs) p
+    unfolding times
+    all-read = so-far-end (counted face-dart) count (w .so-far) (let a = w .read in omega arith)
 
-      none-there : (fs : List (List FaceDart)) (rest : List ℕ) → get-all (counted face-dart) count (drop at s) ≡ some (fs, rest) → darts ≤ 0 → some-darts fs ≡ false
-      none-there fs rest k few =
-          let same : fs ≡ w .fs = same-value (sym k ∙ all-read .value) in
-          let b = w .darts-are in
-          rw (same, lt-leb 1 (size-all (w .fs)) (omega arith))
+    pub reading-none : darts ≡ 0 → FacesRead s at count v x b z faces.Not
+    unfolding times
+    reading-none few = record { sides = w .sides; said = none-there }
+      where
+        none-there : (fs : List (List FaceDart)) (rest : List ℕ) → get-all (counted face-dart) count (drop at s) ≡ some (fs, rest) → some-darts fs ≡ false
+        none-there fs rest k =
+            let same : fs ≡ w .fs = same-value (sym k ∙ all-read .value) in
+            let b = w .darts-are in
+            rw (same, lt-leb 1 (size-all (w .fs)) (omega arith))
+
+    pub reading-end : (darts ≡ 0 → ⊥) → FacesRead s at count v x b z (faces.Faces (record { hollow = hollow; darts = darts; next = p }))
+    reading-end some-there = record {
+      sides = w .sides;
+      said = (
+        w .fs,
+        all-read,
+        (let b = w .darts-are in let c = w .few in and-intro (le-leb 1 (size-all (w .fs)) (omega arith)) (le-leb (size-all (w .fs)) 512 (omega arith))),
+        w .darts-are,
+        w .hollow-is,
+        w .inside,
+      );
+    }

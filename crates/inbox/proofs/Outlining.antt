@@ -1,14 +1,14 @@
 -- Whole messages by their parts: what is missing, and what is told when nothing is. Assumes nothing.
 use mathlib.Core.Path.{_≡_, refl, sym, _∙_, ap, subst}
 use mathlib.Core.Logic.{_≢_}
-use mathlib.Core.Bool.{Bool, true, false, true≢false, cond}
+use mathlib.Core.Bool.{true, false, cond}
 use mathlib.Core.List.{List, [], _∷_}
 use mathlib.Core.Option.{Option, none, some, Option·none-ne-some}
 use Prim.Native.Nat.{ℕ, _+_, _*_, _-_}
 use native.Mathlib.Omega.{arith}
 use lib.Dec.{eqb}
 use lib.ListN.{length, drop, length-drop}
-use borrow.Author.Tests.{eq-eqb, ne-eqb, eqb-true, eqb-false}
+use borrow.Author.Tests.{eq-eqb, ne-eqb}
 use Rattle.model.specs.Layouts.{Layout, Read, then, when, group, at-most, exactly, such-that, as-type, _⊗_, _⊕_, times, get-all, counted, at-end, ended, whole, unframed}
 use Rattle.model.specs.Messages.{FaceDart, face-dart, point, label, Part1, part1, Part2, part2, Part3, part3, Part4, part4, Transfer, transfer, update}
 use Rattle.laws.proofs.Lists.{drop-end}
@@ -17,13 +17,21 @@ use Rattle.groups.specs.declared.Read.the-variants.{Value, Bad}
 use Rattle.groups.proofs.Ends.{then-some}
 use Rattle.groups.proofs.Labels.{same-value, at-most-bound}
 use Rattle.inbox.specs.declared.faces.Faces.{Faces}
+use Rattle.inbox.specs.declared.faces.FacesOrNot.{FacesOrNot}
+use Rattle.inbox.specs.declared.faces.FacesOrNot.the-variants as faces
 use Rattle.inbox.specs.declared.message.Head.{Head}
+use Rattle.inbox.specs.declared.message.HeadOrNot.{HeadOrNot}
+use Rattle.inbox.specs.declared.message.HeadOrNot.the-variants as head
 use Rattle.inbox.specs.declared.message.Counted.{Counted}
+use Rattle.inbox.specs.declared.message.CountedOrNot.{CountedOrNot}
+use Rattle.inbox.specs.declared.message.CountedOrNot.the-variants as entries
 use Rattle.inbox.specs.declared.message.Front.{Front}
+use Rattle.inbox.specs.declared.message.FrontOrNot.the-variants as front
 use Rattle.inbox.specs.declared.message.Tail.{Tail}
-use Rattle.inbox.specs.declared.message.Update.{Update as UpdateOutline}
-use Rattle.inbox.specs.Inbox.{Took, Sides, FacesRead, PointsSaid, PointsRead, PassSaid, Passes, points-in, some-darts}
-use Rattle.inbox.specs.Outlines.{FrameRead, NoHead, no-kind, no-from, no-to, Headed, HeadRead, Entries, CountedRead, Fronted, FrontRead, tail-layout, Tailed, TailRead, UpdateRead}
+use Rattle.inbox.specs.declared.message.TailOrNot.the-variants as tail
+use Rattle.inbox.specs.declared.message.UpdateOrNot.the-variants as outline
+use Rattle.inbox.specs.Inbox.{Took, Sides, FacesSaid, FacesRead, PointsSaid, PointsRead, PassSaid, Passes, points-in, some-darts}
+use Rattle.inbox.specs.Outlines.{FrameRead, NoHead, no-kind, no-from, no-to, Headed, HeadSaid, HeadRead, Entries, CountedSaid, CountedRead, Fronted, FrontRead, tail-layout, Tailed, TailRead, UpdateRead}
 use Rattle.inbox.proofs.Taking.{pair-none, pair-took, both-none, both-half, both-took, as-none, as-took, such-none, such-refused, such-took, counted-none, counted-half, counted-took}
 
 -- TO THE LAST BYTE
@@ -72,11 +80,11 @@ pub took-kind : {k n : ℕ} {s : List ℕ} {at p : ℕ} → Took group s at n p 
 unfolding exactly
 took-kind {k} {n} w e = such-took group (eqb k) (rw e at w) (eq-eqb k k refl)
 
-pub head-bad : {k : ℕ} {s : List ℕ} {at : ℕ} {r : Head} → r .ok ≡ false → NoHead k s at → HeadRead k s at r
-head-bad b n = record { no = λ e. n; yes = λ e. absurd (true≢false (sym e ∙ b)) }
+pub head-missing : {k : ℕ} {s : List ℕ} {at : ℕ} {r : HeadOrNot} → r ≡ head.Not → HeadRead k s at r → NoHead k s at
+head-missing {k} {s} {at} e w = subst (HeadSaid k s at) e (w .said)
 
-pub head-good : {k : ℕ} {s : List ℕ} {at : ℕ} (r : Head) → r .ok ≡ true → Headed k s at (r .from) (r .to) (r .next) → HeadRead k s at r
-head-good r b h = record { no = λ e. absurd (true≢false (sym b ∙ e)); yes = λ e. h }
+pub head-there : {k : ℕ} {s : List ℕ} {at : ℕ} {r : HeadOrNot} {h : Head} → r ≡ head.Head h → HeadRead k s at r → Headed k s at (h .from) (h .to) (h .next)
+head-there {k} {s} {at} e w = subst (HeadSaid k s at) e (w .said)
 
 module _ {B : Type 0} (k : ℕ) (m : Layout B) where
   abbrev headed-by : Layout (ℕ × (ℕ × (ℕ × B)))
@@ -96,16 +104,22 @@ module _ {B : Type 0} (k : ℕ) (m : Layout B) where
 
 -- COUNTED ENTRIES
 module _ {A : Type 0} (l : Layout A) where
-  pub counted-bad : (s : List ℕ) (at : ℕ) {r : Counted} → r .ok ≡ false → group .get (drop at s) ≡ none → CountedRead l s at r
-  counted-bad s at b e = record { no = λ k. counted-none l (drop at s) e; yes = λ k. absurd (true≢false (sym k ∙ b)) }
+  pub counted-bad : (s : List ℕ) (at : ℕ) → group .get (drop at s) ≡ none → CountedRead l s at entries.Not
+  counted-bad s at e = record { said = counted-none l (drop at s) e }
 
-  pub counted-short : {s : List ℕ} {at n p : ℕ} {t : Answer} {r : Counted} → r .ok ≡ false → Took group s at n p → t ≡ Bad → Passes (times n l) s p t → CountedRead l s at r
+  pub counted-short : {s : List ℕ} {at n p : ℕ} {t : Answer} → Took group s at n p → t ≡ Bad → Passes (times n l) s p t → CountedRead l s at entries.Not
   unfolding times
-  counted-short {s} {at} {n} {p} {t} b w e d = record { no = λ k. counted-half l w (subst (PassSaid (times n l) s p) e (d .said)); yes = λ k. absurd (true≢false (sym k ∙ b)) }
+  counted-short {s} {at} {n} {p} {t} w e d = record { said = counted-half l w (subst (PassSaid (times n l) s p) e (d .said)) }
+
+  pub counted-missing : {s : List ℕ} {at : ℕ} {r : CountedOrNot} → r ≡ entries.Not → CountedRead l s at r → counted l .get (drop at s) ≡ none
+  counted-missing {s} {at} e w = subst (CountedSaid l s at) e (w .said)
+
+  pub counted-there : {s : List ℕ} {at : ℕ} {r : CountedOrNot} {c : Counted} → r ≡ entries.Counted c → CountedRead l s at r → Entries l s at (c .count) (c .first) (c .next)
+  counted-there {s} {at} e w = subst (CountedSaid l s at) e (w .said)
 
   pub counted-good : {s : List ℕ} {at n p m q : ℕ} {t : Answer} → Took group s at n p → t ≡ Value m q → Passes (times n l) s p t
-      → CountedRead l s at (record { ok = true; count = n; first = p; next = q })
-  counted-good {s} {at} {n} {p} {m} {q} {t} w e d = record { no = λ k. absurd (true≢false k); yes = λ k. go (subst (PassSaid (times n l) s p) e (d .said)) }
+      → CountedRead l s at (entries.Counted (record { count = n; first = p; next = q }))
+  counted-good {s} {at} {n} {p} {m} {q} {t} w e d = record { said = go (subst (PassSaid (times n l) s p) e (d .said)) }
     where
       go : PassSaid (times n l) s p (Value m q) → Entries l s at n p q
       go d = record { items = d .0; count-read = w; items-read = d .1 }
@@ -137,12 +151,12 @@ faces-no {s} {at} {n} {p} w h = go (counted (counted face-dart) .get (drop at s)
     go (some r) e = let t = counted-items (counted face-dart) (r .0) (r .1) w e in rw (h (r .0) (t .0) (t .1))
 
 -- PART 1 OF A TRANSFER
-pub front-bad : {s : List ℕ} {at : ℕ} {v x b z : List ℕ} {r : Front} → Sides v x b z → r .ok ≡ false → part1 .get (drop at s) ≡ none → FrontRead s at v x b z r
-front-bad w e n = record { sides = w; no = λ k. n; yes = λ k. absurd (true≢false (sym k ∙ e)) }
+pub front-bad : {s : List ℕ} {at : ℕ} {v x b z : List ℕ} → Sides v x b z → part1 .get (drop at s) ≡ none → FrontRead s at v x b z front.Not
+front-bad w n = record { sides = w; said = n }
 
-pub no-head : {s : List ℕ} {at : ℕ} {h : Head} → h .ok ≡ false → HeadRead 1 s at h → part1 .get (drop at s) ≡ none
+pub no-head : {s : List ℕ} {at : ℕ} → NoHead 1 s at → part1 .get (drop at s) ≡ none
 unfolding part1
-no-head {s} {at} e w = head-none 1 (counted point ⊕ faces-layout) (w .no e)
+no-head {s} {at} w = head-none 1 (counted point ⊕ faces-layout) w
 
 pub no-points : {s : List ℕ} {at from to p : ℕ} {r : Answer} → Headed 1 s at from to p → r ≡ Bad → PointsRead s p r → part1 .get (drop at s) ≡ none
 unfolding part1
@@ -161,67 +175,75 @@ module _ (m start : ℕ) {s : List ℕ} {at from to p : ℕ} (h : Headed 1 s at 
   no-count e = head-half 1 (counted point ⊕ faces-layout) h (both-half (counted point) faces-layout points
       (such-none (counted (counted face-dart)) some-darts (drop (start + 24 * m) s) (counted-none (counted face-dart) (drop (start + 24 * m) s) e)))
 
-  pub front-read : {n first : ℕ} {v x b z : List ℕ} {f : Faces} → Took group s (start + 24 * m) n first → FacesRead s first n v x b z f
-      → FrontRead s at v x b z (record { ok = f .ok; hollow = f .hollow; from = from; to = to; vertices = m; points = start; darts = f .darts; next = f .next })
-  unfolding part1
-  front-read {n} {first} {v} {x} {b} {z} {f} count w = record {
-    sides = w .sides;
-    no = λ e. head-half 1 (counted point ⊕ faces-layout) h (both-half (counted point) faces-layout points (faces-no count (w .no e)));
-    yes = λ e. let y = w .yes e in record {
-      fs = y .0;
-      took =
-          head-took 1 (counted point ⊕ faces-layout) h
-          (both-took (counted point) faces-layout points (such-took (counted (counted face-dart)) some-darts (counted-took (counted face-dart) count (y .1)) (y .2)));
-      points-fit = points .within;
-      some-there = y .2;
-      darts-are = y .3;
-      hollow-is = y .4;
-      inside = y .5;
-    };
-  }
+  module _ {n first : ℕ} {v x b z : List ℕ} {r : FacesOrNot} (count : Took group s (start + 24 * m) n first) (w : FacesRead s first n v x b z r) where
+    pub no-faces : r ≡ faces.Not → FrontRead s at v x b z front.Not
+    unfolding part1
+    no-faces e = record {
+      sides = w .sides;
+      said = head-half 1 (counted point ⊕ faces-layout) h (both-half (counted point) faces-layout points (faces-no count (subst (FacesSaid s first n v x b z) e (w .said))));
+    }
+
+    pub front-read : {f : Faces} → r ≡ faces.Faces f
+        → FrontRead s at v x b z (front.Front (record { hollow = f .hollow; from = from; to = to; vertices = m; points = start; darts = f .darts; next = f .next }))
+    unfolding part1
+    front-read {f} e = record { sides = w .sides; said = go (subst (FacesSaid s first n v x b z) e (w .said)) }
+      where
+        go : FacesSaid s first n v x b z (faces.Faces f)
+            → Fronted s at v x b z (record { hollow = f .hollow; from = from; to = to; vertices = m; points = start; darts = f .darts; next = f .next })
+        go y = record {
+          fs = y .0;
+          took =
+              head-took 1 (counted point ⊕ faces-layout) h
+              (both-took (counted point) faces-layout points (such-took (counted (counted face-dart)) some-darts (counted-took (counted face-dart) count (y .1)) (y .2)));
+          points-fit = points .within;
+          some-there = y .2;
+          darts-are = y .3;
+          hollow-is = y .4;
+          inside = y .5;
+        }
 
 -- PARTS 2 TO 4
 module _ (fs : List (List FaceDart)) where
-  pub tail-bad : {s : List ℕ} {at : ℕ} {r : Tail} → r .ok ≡ false → tail-layout fs .get (drop at s) ≡ none → TailRead fs s at r
-  tail-bad {s} {at} e n = record { no = λ k. whole-none (tail-layout fs) (drop at s) n; yes = λ k. absurd (true≢false (sym k ∙ e)) }
+  pub tail-bad : {s : List ℕ} {at : ℕ} → tail-layout fs .get (drop at s) ≡ none → TailRead fs s at tail.Not
+  tail-bad {s} {at} n = record { said = whole-none (tail-layout fs) (drop at s) n }
 
-  pub no-second : {s : List ℕ} {at : ℕ} {c2 : Counted} → CountedRead part2 s at c2 → c2 .ok ≡ false → tail-layout fs .get (drop at s) ≡ none
-  no-second {s} {at} w2 e = both-none (counted part2) (counted part3 ⊕ counted (part4 fs)) (drop at s) (w2 .no e)
+  pub no-second : (s : List ℕ) (at : ℕ) → counted part2 .get (drop at s) ≡ none → tail-layout fs .get (drop at s) ≡ none
+  no-second s at e = both-none (counted part2) (counted part3 ⊕ counted (part4 fs)) (drop at s) e
 
-  module _ {s : List ℕ} {at : ℕ} {c2 : Counted} (w2 : CountedRead part2 s at c2) (y2 : c2 .ok ≡ true) where
-    pub no-third : {c3 : Counted} → CountedRead part3 s (c2 .next) c3 → c3 .ok ≡ false → tail-layout fs .get (drop at s) ≡ none
-    no-third w3 e = both-half (counted part2) (counted part3 ⊕ counted (part4 fs)) (entries-took part2 (w2 .yes y2)) (both-none (counted part3) (counted (part4 fs)) (drop (c2 .next) s) (w3 .no e))
+  module _ {s : List ℕ} {at : ℕ} (c2 : Counted) (e2 : Entries part2 s at (c2 .count) (c2 .first) (c2 .next)) where
+    pub no-third : counted part3 .get (drop (c2 .next) s) ≡ none → tail-layout fs .get (drop at s) ≡ none
+    no-third e = both-half (counted part2) (counted part3 ⊕ counted (part4 fs)) (entries-took part2 e2) (both-none (counted part3) (counted (part4 fs)) (drop (c2 .next) s) e)
 
-    module _ {c3 c4 : Counted} (w3 : CountedRead part3 s (c2 .next) c3) (y3 : c3 .ok ≡ true) (w4 : CountedRead (part4 fs) s (c3 .next) c4) where
-      pub no-fourth : c4 .ok ≡ false → tail-layout fs .get (drop at s) ≡ none
+    module _ (c3 : Counted) (e3 : Entries part3 s (c2 .next) (c3 .count) (c3 .first) (c3 .next)) where
+      pub no-fourth : counted (part4 fs) .get (drop (c3 .next) s) ≡ none → tail-layout fs .get (drop at s) ≡ none
       no-fourth e =
-          both-half (counted part2) (counted part3 ⊕ counted (part4 fs)) (entries-took part2 (w2 .yes y2))
-          (both-half (counted part3) (counted (part4 fs)) (entries-took part3 (w3 .yes y3)) (w4 .no e))
+          both-half (counted part2) (counted part3 ⊕ counted (part4 fs)) (entries-took part2 e2)
+          (both-half (counted part3) (counted (part4 fs)) (entries-took part3 e3) e)
 
-      pub tail-read : c4 .ok ≡ true → {end : Bool} → end ≡ eqb (c4 .next) (length s)
-          → TailRead fs s at (record { ok = end; count2 = c2 .count; part2 = c2 .first; count3 = c3 .count; part3 = c3 .first; count4 = c4 .count; part4 = c4 .first })
-      tail-read y4 {end} last =
-          let e2 = w2 .yes y2 in
-          let e3 = w3 .yes y3 in
-          let e4 = w4 .yes y4 in
-          let taken : Took (tail-layout fs) s at (e2 .items, (e3 .items, e4 .items)) (c4 .next)
-          = both-took (counted part2) (counted part3 ⊕ counted (part4 fs)) (entries-took part2 e2)
-          (both-took (counted part3) (counted (part4 fs)) (entries-took part3 e3) (entries-took (part4 fs) e4)) in
-          record {
-            no = λ e. whole-more (tail-layout fs) taken (eqb-false (c4 .next) (length s) (sym last ∙ e));
-            yes = λ e. record {
-              second = e2 .items;
-              third = e3 .items;
-              fourth = e4 .items;
-              took = subst (Took (tail-layout fs) s at (e2 .items, (e3 .items, e4 .items))) (eqb-true (c4 .next) (length s) (sym last ∙ e)) taken;
-              past2 = c2 .next;
-              past3 = c3 .next;
-              past4 = c4 .next;
-              part2-in = e2 .items-read;
-              part3-in = e3 .items-read;
-              part4-in = e4 .items-read;
-            };
-          }
+      module _ (c4 : Counted) (e4 : Entries (part4 fs) s (c3 .next) (c4 .count) (c4 .first) (c4 .next)) where
+        taken : Took (tail-layout fs) s at (e2 .items, (e3 .items, e4 .items)) (c4 .next)
+        taken = both-took (counted part2) (counted part3 ⊕ counted (part4 fs)) (entries-took part2 e2)
+            (both-took (counted part3) (counted (part4 fs)) (entries-took part3 e3) (entries-took (part4 fs) e4))
+
+        pub tail-more : c4 .next ≢ length s → TailRead fs s at tail.Not
+        tail-more e = record { said = whole-more (tail-layout fs) taken e }
+
+        pub tail-read : c4 .next ≡ length s
+            → TailRead fs s at (tail.Tail (record { count2 = c2 .count; part2 = c2 .first; count3 = c3 .count; part3 = c3 .first; count4 = c4 .count; part4 = c4 .first }))
+        tail-read e = record {
+          said = record {
+            second = e2 .items;
+            third = e3 .items;
+            fourth = e4 .items;
+            took = subst (Took (tail-layout fs) s at (e2 .items, (e3 .items, e4 .items))) e taken;
+            past2 = c2 .next;
+            past3 = c3 .next;
+            past4 = c4 .next;
+            part2-in = e2 .items-read;
+            part3-in = e3 .items-read;
+            part4-in = e4 .items-read;
+          };
+        }
 
 -- A TRANSFER of both halves
 pub no-front : (s : List ℕ) (at : ℕ) → part1 .get (drop at s) ≡ none → whole transfer (drop at s) ≡ none
@@ -263,37 +285,36 @@ unfolding transfer
 transfer-took w y = whole-took transfer (as-took _ _ _ (pair-took part1 (λ h. tail-layout (h .1 .1 .1 .1)) (w .took) (y .took))) refl
 
 -- AN UPDATE
-pub update-bad : {s : List ℕ} {at : ℕ} {r : UpdateOutline} → r .ok ≡ false → whole update (drop at s) ≡ none → UpdateRead s at r
-update-bad e n = record { no = λ k. n; yes = λ k. absurd (true≢false (sym k ∙ e)) }
+pub update-bad : {s : List ℕ} {at : ℕ} → whole update (drop at s) ≡ none → UpdateRead s at outline.Not
+update-bad n = record { said = n }
 
 no-update : (s : List ℕ) (at : ℕ) → headed-by 2 (at-most 15 ⊕ counted label) .get (drop at s) ≡ none → whole update (drop at s) ≡ none
 unfolding update
 no-update s at e = whole-none update (drop at s) (as-none _ _ _ (drop at s) e)
 
-pub update-no-head : {s : List ℕ} {at : ℕ} {h : Head} → h .ok ≡ false → HeadRead 2 s at h → whole update (drop at s) ≡ none
-update-no-head {s} {at} e w = no-update s at (head-none 2 (at-most 15 ⊕ counted label) (w .no e))
+pub update-no-head : {s : List ℕ} {at : ℕ} → NoHead 2 s at → whole update (drop at s) ≡ none
+update-no-head {s} {at} w = no-update s at (head-none 2 (at-most 15 ⊕ counted label) w)
 
 module _ {s : List ℕ} {at from to p : ℕ} (h : Headed 2 s at from to p) where
   pub no-block : at-most 15 .get (drop p s) ≡ none → whole update (drop at s) ≡ none
   no-block e = no-update s at (head-half 2 (at-most 15 ⊕ counted label) h (both-none (at-most 15) (counted label) (drop p s) e))
 
-  module _ {block q : ℕ} (b : Took (at-most 15) s p block q) {c : Counted} (w : CountedRead label s q c) where
-    pub no-labels : c .ok ≡ false → whole update (drop at s) ≡ none
-    no-labels e = no-update s at (head-half 2 (at-most 15 ⊕ counted label) h (both-half (at-most 15) (counted label) b (w .no e)))
+  module _ {block q : ℕ} (b : Took (at-most 15) s p block q) where
+    pub no-labels : counted label .get (drop q s) ≡ none → whole update (drop at s) ≡ none
+    no-labels e = no-update s at (head-half 2 (at-most 15 ⊕ counted label) h (both-half (at-most 15) (counted label) b e))
 
-    module _ (y : c .ok ≡ true) where
-      told : Took update s at (record { from = from; to = to; block = block; labels = w .yes y .items }) (c .next)
+    module _ (c : Counted) (w : Entries label s q (c .count) (c .first) (c .next)) where
+      told : Took update s at (record { from = from; to = to; block = block; labels = w .items }) (c .next)
       unfolding update
-      told = as-took _ _ _ (head-took 2 (at-most 15 ⊕ counted label) h (both-took (at-most 15) (counted label) b (entries-took label (w .yes y))))
+      told = as-took _ _ _ (head-took 2 (at-most 15 ⊕ counted label) h (both-took (at-most 15) (counted label) b (entries-took label w)))
 
       pub update-more : c .next ≢ length s → whole update (drop at s) ≡ none
       update-more e = whole-more update told e
 
-      pub update-good : c .next ≡ length s → UpdateRead s at (record { ok = true; from = from; to = to; block = block; count = c .count; labels = c .first })
+      pub update-good : c .next ≡ length s → UpdateRead s at (outline.Update (record { from = from; to = to; block = block; count = c .count; labels = c .first }))
       update-good e = record {
-        no = λ bad. absurd (true≢false bad);
-        yes = λ good. (
-          record { from = from; to = to; block = block; labels = w .yes y .items },
+        said = (
+          record { from = from; to = to; block = block; labels = w .items },
           whole-took update told e,
           record {
             from-is = refl;
@@ -302,7 +323,7 @@ module _ {s : List ℕ} {at from to p : ℕ} (h : Headed 2 s at from to p) where
             from-small = at-most-bound 15 _ from _ (h .from-read .value);
             block-small = at-most-bound 15 _ block _ (b .value);
             past = c .next;
-            labels-in = w .yes y .items-read;
+            labels-in = w .items-read;
           },
         );
       }

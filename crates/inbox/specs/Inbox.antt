@@ -12,7 +12,8 @@ use Rattle.model.specs.Layouts.{Layout, Read as Reading, coordinate, times, cou
 use Rattle.model.specs.Messages.{FaceDart, face-dart, point, size-all}
 use Rattle.groups.specs.declared.Read.{Read}
 use Rattle.groups.specs.declared.Read.the-variants.{Value, Bad}
-use Rattle.inbox.specs.declared.faces.Faces.{Faces}
+use Rattle.inbox.specs.declared.faces.FacesOrNot.{FacesOrNot}
+use Rattle.inbox.specs.declared.faces.FacesOrNot.the-variants as faces
 
 -- darts that a message may have
 abbrev pub most : ℕ
@@ -111,10 +112,15 @@ some-darts fs = leb 1 (size-all fs) && leb (size-all fs) 512
 abbrev pub is-hollow : List (List FaceDart) → Bool
 is-hollow fs = any (λ f. eqb (length f) 0) fs
 
-pub record FacesRead (s : List ℕ) (at count : ℕ) (v x b z : List ℕ) (r : Faces) : Type 0 where
+-- the faces, or that there are none of so many darts
+abbrev pub FacesSaid : List ℕ → ℕ → ℕ → List ℕ → List ℕ → List ℕ → List ℕ → FacesOrNot → Type 0
+FacesSaid s at count v x b z faces.Not = (fs : List (List FaceDart)) (rest : List ℕ) → get-all (counted face-dart) count (drop at s) ≡ some (fs, rest) → some-darts fs ≡ false
+FacesSaid s at count v x b z (faces.Faces r) =
+    (fs : List (List FaceDart)) × Took (times count (counted face-dart)) s at fs (r .next) × (some-darts fs ≡ true) × (r .darts ≡ size-all fs) × (r .hollow ≡ is-hollow fs) × FacesIn fs v x b z
+
+pub record FacesRead (s : List ℕ) (at count : ℕ) (v x b z : List ℕ) (r : FacesOrNot) : Type 0 where
   pub sides : Sides v x b z
-  pub no : r .ok ≡ false → (fs : List (List FaceDart)) (rest : List ℕ) → get-all (counted face-dart) count (drop at s) ≡ some (fs, rest) → some-darts fs ≡ false
-  pub yes : r .ok ≡ true → (fs : List (List FaceDart)) × Took (times count (counted face-dart)) s at fs (r .next) × (some-darts fs ≡ true) × (r .darts ≡ size-all fs) × (r .hollow ≡ is-hollow fs) × FacesIn fs v x b z
+  pub said : FacesSaid s at count v x b z r
 
 -- PARTS stay where they stand: something is passed over
 abbrev pub PassSaid : {A : Type 0} → Layout A → List ℕ → ℕ → Read → Type 0

@@ -1,6 +1,6 @@
 -- What the readers of whole messages answer: an outline of the message that the layout takes, or that it takes none. Assumes nothing.
 use mathlib.Core.Path.{_≡_}
-use mathlib.Core.Bool.{true, false}
+use mathlib.Core.Bool.{true}
 use mathlib.Core.List.{List}
 use mathlib.Core.Option.{none, some}
 use Prim.Native.Nat.{ℕ, _+_, _*_, _≤_}
@@ -9,11 +9,19 @@ use Rattle.model.specs.Layouts.{Layout, group, _⊕_, at-most, exactly, times, 
 use Rattle.model.specs.Messages.{FaceDart, Part2, Part3, Part4, Update, transfer, update, label, part1, part2, part3, part4, size-all}
 use Rattle.groups.specs.declared.Read.{Read}
 use Rattle.groups.specs.declared.Read.the-variants.{Value, Bad}
-use Rattle.inbox.specs.declared.message.Head.{Head}
-use Rattle.inbox.specs.declared.message.Counted.{Counted}
+use Rattle.inbox.specs.declared.message.HeadOrNot.{HeadOrNot}
+use Rattle.inbox.specs.declared.message.HeadOrNot.the-variants as head
+use Rattle.inbox.specs.declared.message.CountedOrNot.{CountedOrNot}
+use Rattle.inbox.specs.declared.message.CountedOrNot.the-variants as entries
 use Rattle.inbox.specs.declared.message.Front.{Front}
+use Rattle.inbox.specs.declared.message.FrontOrNot.{FrontOrNot}
+use Rattle.inbox.specs.declared.message.FrontOrNot.the-variants as front
 use Rattle.inbox.specs.declared.message.Tail.{Tail}
+use Rattle.inbox.specs.declared.message.TailOrNot.{TailOrNot}
+use Rattle.inbox.specs.declared.message.TailOrNot.the-variants as tail
 use Rattle.inbox.specs.declared.message.Update.{Update as UpdateOutline}
+use Rattle.inbox.specs.declared.message.UpdateOrNot.{UpdateOrNot}
+use Rattle.inbox.specs.declared.message.UpdateOrNot.the-variants as outline
 use Rattle.inbox.specs.Inbox.{Took, Sides, FacesIn, points-in, some-darts, is-hollow}
 
 -- THE FRAME: "Its first number is the length of the rest"
@@ -37,9 +45,12 @@ pub record Headed (k : ℕ) (s : List ℕ) (at from to next : ℕ) : Type 0 wher
   pub from-read : Took (at-most 15) s past from after
   pub to-read : Took (at-most 15) s after to next
 
-pub record HeadRead (k : ℕ) (s : List ℕ) (at : ℕ) (r : Head) : Type 0 where
-  pub no : r .ok ≡ false → NoHead k s at
-  pub yes : r .ok ≡ true → Headed k s at (r .from) (r .to) (r .next)
+abbrev pub HeadSaid : ℕ → List ℕ → ℕ → HeadOrNot → Type 0
+HeadSaid k s at head.Not = NoHead k s at
+HeadSaid k s at (head.Head h) = Headed k s at (h .from) (h .to) (h .next)
+
+pub record HeadRead (k : ℕ) (s : List ℕ) (at : ℕ) (r : HeadOrNot) : Type 0 where
+  pub said : HeadSaid k s at r
 
 -- A COUNT and so many entries
 pub record Entries {A : Type 0} (l : Layout A) (s : List ℕ) (at count first next : ℕ) : Type 0 where
@@ -47,9 +58,12 @@ pub record Entries {A : Type 0} (l : Layout A) (s : List ℕ) (at count first ne
   pub count-read : Took group s at count first
   pub items-read : Took (times count l) s first items next
 
-pub record CountedRead {A : Type 0} (l : Layout A) (s : List ℕ) (at : ℕ) (r : Counted) : Type 0 where
-  pub no : r .ok ≡ false → counted l .get (drop at s) ≡ none
-  pub yes : r .ok ≡ true → Entries l s at (r .count) (r .first) (r .next)
+abbrev pub CountedSaid : {A : Type 0} → Layout A → List ℕ → ℕ → CountedOrNot → Type 0
+CountedSaid l s at entries.Not = counted l .get (drop at s) ≡ none
+CountedSaid l s at (entries.Counted c) = Entries l s at (c .count) (c .first) (c .next)
+
+pub record CountedRead {A : Type 0} (l : Layout A) (s : List ℕ) (at : ℕ) (r : CountedOrNot) : Type 0 where
+  pub said : CountedSaid l s at r
 
 -- A TRANSFER in two halves: part 1, and parts 2 to 4
 pub record Fronted (s : List ℕ) (at : ℕ) (v x b z : List ℕ) (r : Front) : Type 0 where
@@ -61,10 +75,13 @@ pub record Fronted (s : List ℕ) (at : ℕ) (v x b z : List ℕ) (r : Front) : 
   pub hollow-is : r .hollow ≡ is-hollow fs
   pub inside : FacesIn fs v x b z
 
-pub record FrontRead (s : List ℕ) (at : ℕ) (v x b z : List ℕ) (r : Front) : Type 0 where
+abbrev pub FrontSaid : List ℕ → ℕ → List ℕ → List ℕ → List ℕ → List ℕ → FrontOrNot → Type 0
+FrontSaid s at v x b z front.Not = part1 .get (drop at s) ≡ none
+FrontSaid s at v x b z (front.Front r) = Fronted s at v x b z r
+
+pub record FrontRead (s : List ℕ) (at : ℕ) (v x b z : List ℕ) (r : FrontOrNot) : Type 0 where
   pub sides : Sides v x b z
-  pub no : r .ok ≡ false → part1 .get (drop at s) ≡ none
-  pub yes : r .ok ≡ true → Fronted s at v x b z r
+  pub said : FrontSaid s at v x b z r
 
 abbrev pub tail-layout : List (List FaceDart) → Layout (List Part2 × (List Part3 × List Part4))
 tail-layout fs = counted part2 ⊕ counted part3 ⊕ counted (part4 fs)
@@ -81,9 +98,12 @@ pub record Tailed (fs : List (List FaceDart)) (s : List ℕ) (at : ℕ) (r : Tai
   pub part3-in : Took (times (r .count3) part3) s (r .part3) third past3
   pub part4-in : Took (times (r .count4) (part4 fs)) s (r .part4) fourth past4
 
-pub record TailRead (fs : List (List FaceDart)) (s : List ℕ) (at : ℕ) (r : Tail) : Type 0 where
-  pub no : r .ok ≡ false → whole (tail-layout fs) (drop at s) ≡ none
-  pub yes : r .ok ≡ true → Tailed fs s at r
+abbrev pub TailSaid : List (List FaceDart) → List ℕ → ℕ → TailOrNot → Type 0
+TailSaid fs s at tail.Not = whole (tail-layout fs) (drop at s) ≡ none
+TailSaid fs s at (tail.Tail r) = Tailed fs s at r
+
+pub record TailRead (fs : List (List FaceDart)) (s : List ℕ) (at : ℕ) (r : TailOrNot) : Type 0 where
+  pub said : TailSaid fs s at r
 
 -- AN UPDATE
 pub record UpdateOutlined (u : Update) (s : List ℕ) (r : UpdateOutline) : Type 0 where
@@ -95,6 +115,9 @@ pub record UpdateOutlined (u : Update) (s : List ℕ) (r : UpdateOutline) : Type
   pub past : ℕ
   pub labels-in : Took (times (r .count) label) s (r .labels) (u .labels) past
 
-pub record UpdateRead (s : List ℕ) (at : ℕ) (r : UpdateOutline) : Type 0 where
-  pub no : r .ok ≡ false → whole update (drop at s) ≡ none
-  pub yes : r .ok ≡ true → (u : Update) × (whole update (drop at s) ≡ some u) × UpdateOutlined u s r
+abbrev pub OutlineSaid : List ℕ → ℕ → UpdateOrNot → Type 0
+OutlineSaid s at outline.Not = whole update (drop at s) ≡ none
+OutlineSaid s at (outline.Update r) = (u : Update) × (whole update (drop at s) ≡ some u) × UpdateOutlined u s r
+
+pub record UpdateRead (s : List ℕ) (at : ℕ) (r : UpdateOrNot) : Type 0 where
+  pub said : OutlineSaid s at r

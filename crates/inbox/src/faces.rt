@@ -4,6 +4,8 @@ ghost use Prim.Native.Nat.{_+_, _≤_, _<_};
 ghost use lib.ListN.{length};
 ghost use Rattle.inbox.specs.Inbox.{most, PointsRead, DartRead, DartsRead, FaceRead, FacesRead, Sides};
 use groups::Read;
+use memory::header::Header;
+use memory::record::MessageIndex;
 
 // How many points there are, and where the first one stands; each takes 24 bytes.
 pub fn read_points(s: &[u8], at: usize) -> Read
@@ -20,9 +22,9 @@ pub fn read_points(s: &[u8], at: usize) -> Read
 }
 
 // The vertex and the serial of the dart with index i.
-fn read_dart(s: &[u8], at: usize, i: usize, vertex: &mut [u64], serial: &mut [u64]) -> Read
-    requires { ⌜ (i < most) × (length (now vertex) ≡ most) × (length (now serial) ≡ most) ⌝ }
-    ensures { λ r. ⌜ DartRead (now (s .entry)) at i (now (vertex .entry)) (now (vertex .exit)) (now (serial .entry)) (now (serial .exit)) r ⌝ }
+fn read_dart(s: &[u8], at: usize, i: MessageIndex, vertex: &mut [u64], serial: &mut [u64]) -> Read
+    requires { ⌜ (i .0 < most) × (length (now vertex) ≡ most) × (length (now serial) ≡ most) ⌝ }
+    ensures { λ r. ⌜ DartRead (now (s .entry)) at (i .0) (now (vertex .entry)) (now (vertex .exit)) (now (serial .entry)) (now (serial .exit)) r ⌝ }
 {
     let Read::Value(v, past) = reader::read_group(s, at) else {
         return Read::Bad;
@@ -30,8 +32,9 @@ fn read_dart(s: &[u8], at: usize, i: usize, vertex: &mut [u64], serial: &mut [u6
     let Read::Value(x, next) = reader::read_serial(s, past) else {
         return Read::Bad;
     };
-    vertex[i] = v;
-    serial[i] = x;
+    let n = i.0;
+    vertex[n] = v;
+    serial[n] = x;
     Read::Value(x, next)
 }
 
@@ -39,24 +42,25 @@ fn read_dart(s: &[u8], at: usize, i: usize, vertex: &mut [u64], serial: &mut [u6
 fn read_darts(
     s: &[u8],
     at: usize,
-    start: usize,
+    start: MessageIndex,
     size: usize,
     vertex: &mut [u64],
     serial: &mut [u64],
     starts: &mut [usize],
     sizes: &mut [usize],
 ) -> Read
-    requires { ⌜ (at ≤ length (now s)) × (start + size ≤ most) × Sides (now vertex) (now serial) (now starts) (now sizes) ⌝ }
-    ensures { λ r. ⌜ DartsRead (now (s .entry)) at start size (now (vertex .entry)) (now (vertex .exit)) (now (serial .entry)) (now (serial .exit)) (now (starts .entry)) (now (starts .exit)) (now (sizes .entry)) (now (sizes .exit)) r ⌝ }
+    requires { ⌜ (at ≤ length (now s)) × (start .0 + size ≤ most) × Sides (now vertex) (now serial) (now starts) (now sizes) ⌝ }
+    ensures { λ r. ⌜ DartsRead (now (s .entry)) at (start .0) size (now (vertex .entry)) (now (vertex .exit)) (now (serial .entry)) (now (serial .exit)) (now (starts .entry)) (now (starts .exit)) (now (sizes .entry)) (now (sizes .exit)) r ⌝ }
 {
     // The darts before index i are read.
-    let mut i = start;
+    let first = start.0;
+    let mut i = first;
     let mut p = at;
-    while i < start + size {
-        let Read::Value(x, next) = read_dart(s, p, i, vertex, serial) else {
+    while i < first + size {
+        let Read::Value(x, next) = read_dart(s, p, MessageIndex(i), vertex, serial) else {
             return Read::Bad;
         };
-        starts[i] = start;
+        starts[i] = first;
         sizes[i] = size;
         p = next;
         i += 1;
@@ -68,31 +72,36 @@ fn read_darts(
 fn read_face(
     s: &[u8],
     at: usize,
-    start: usize,
+    start: MessageIndex,
     vertex: &mut [u64],
     serial: &mut [u64],
     starts: &mut [usize],
     sizes: &mut [usize],
 ) -> Read
-    requires { ⌜ (start ≤ most) × Sides (now vertex) (now serial) (now starts) (now sizes) ⌝ }
-    ensures { λ r. ⌜ FaceRead (now (s .entry)) at start (now (vertex .entry)) (now (vertex .exit)) (now (serial .entry)) (now (serial .exit)) (now (starts .entry)) (now (starts .exit)) (now (sizes .entry)) (now (sizes .exit)) r ⌝ }
+    requires { ⌜ (start .0 ≤ most) × Sides (now vertex) (now serial) (now starts) (now sizes) ⌝ }
+    ensures { λ r. ⌜ FaceRead (now (s .entry)) at (start .0) (now (vertex .entry)) (now (vertex .exit)) (now (serial .entry)) (now (serial .exit)) (now (starts .entry)) (now (starts .exit)) (now (sizes .entry)) (now (sizes .exit)) r ⌝ }
 {
     let Read::Value(n, past) = reader::read_group(s, at) else {
         return Read::Bad;
     };
-    let room = 512 - start;
+    let room = Header::VOLUME - start.0;
     if (room as u64) < n {
         return Read::Bad;
     }
     read_darts(s, past, start, n as usize, vertex, serial, starts, sizes)
 }
 
-// How many darts the faces have, whether one has none, and the place past them; not ok where they are none or too many.
+// How many darts the faces have, whether one has none, and the place past them.
 pub struct Faces {
-    pub ok: bool,
     pub hollow: bool,
     pub darts: usize,
     pub next: usize,
+}
+
+// Not: there are no darts, or too many.
+pub enum FacesOrNot {
+    Faces(Faces),
+    Not,
 }
 
 // So many faces, one after the other.
@@ -104,7 +113,7 @@ pub fn read_faces(
     serial: &mut [u64],
     starts: &mut [usize],
     sizes: &mut [usize],
-) -> Faces
+) -> FacesOrNot
     requires { ⌜ (at ≤ length (now s)) × Sides (now vertex) (now serial) (now starts) (now sizes) ⌝ }
     ensures { λ r. ⌜ FacesRead (now (s .entry)) at count (now (vertex .exit)) (now (serial .exit)) (now (starts .exit)) (now (sizes .exit)) r ⌝ }
 {
@@ -114,23 +123,28 @@ pub fn read_faces(
     let mut darts: usize = 0;
     let mut p = at;
     while 0 < left {
-        let Read::Value(n, next) = read_face(s, p, darts, vertex, serial, starts, sizes) else {
-            return Faces {
-                ok: false,
-                hollow,
-                darts,
-                next: p,
-            };
+        let Read::Value(n, next) = read_face(
+            s,
+            p,
+            MessageIndex(darts),
+            vertex,
+            serial,
+            starts,
+            sizes,
+        ) else {
+            return FacesOrNot::Not;
         };
         hollow = hollow | (n == 0);
         darts += n as usize;
         p = next;
         left -= 1;
     }
-    Faces {
-        ok: 0 < darts,
+    if darts == 0 {
+        return FacesOrNot::Not;
+    }
+    FacesOrNot::Faces(Faces {
         hollow,
         darts,
         next: p,
-    }
+    })
 }

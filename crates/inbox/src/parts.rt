@@ -7,6 +7,8 @@ ghost use Rattle.model.specs.Layouts.{times};
 ghost use Rattle.model.specs.Messages.{FaceDart, label, part2, part3, part4};
 ghost use Rattle.inbox.specs.Inbox.{Passes, Sized};
 use groups::Read;
+use memory::header::Header;
+use memory::record::MessageIndex;
 
 // An entry of part 2: a label, then an index.
 pub fn pass_part2(s: &[u8], at: usize) -> Read
@@ -93,10 +95,10 @@ pub fn pass_part4(s: &[u8], at: usize, darts: usize, sizes: &[usize]) -> Read
     if darts as u64 <= index {
         return Read::Bad;
     }
-    let Read::Value(other, from) = reader::read_at_most(s, past, 15) else {
+    let Read::Value(other, from) = reader::read_at_most(s, past, Header::BLOCKS - 1) else {
         return Read::Bad;
     };
-    let size = sizes[index as usize];
+    let size = place::size_at(sizes, MessageIndex(index as usize));
     pass_labels(s, from, size as u64)
 }
 

@@ -3,8 +3,11 @@ ghost use Rattle.inbox.specs.Inbox.{Sides};
 ghost use Rattle.inbox.specs.Arrived.{UpdateTold, MessageRead};
 use crate::message;
 use crate::message::Front;
+use crate::message::FrontOrNot;
 use crate::message::Tail;
+use crate::message::TailOrNot;
 use crate::message::Update;
+use crate::message::UpdateOrNot;
 use groups::Read;
 
 pub enum Received {
@@ -17,10 +20,9 @@ pub enum Received {
 fn update_from(s: &[u8], at: usize) -> Received
     ensures { λ r. ⌜ UpdateTold (now (s .entry)) at r ⌝ }
 {
-    let update = message::read_update(s, at);
-    if !update.ok {
+    let UpdateOrNot::Update(update) = message::read_update(s, at) else {
         return Received::Nothing;
-    }
+    };
     Received::Update(update)
 }
 
@@ -38,13 +40,11 @@ pub fn message_in(
     let Read::Value(n, at) = message::read_frame(s) else {
         return Received::Nothing;
     };
-    let front = message::read_front(s, at, vertex, serial, starts, sizes);
-    if !front.ok {
+    let FrontOrNot::Front(front) = message::read_front(s, at, vertex, serial, starts, sizes) else {
         return update_from(s, at);
-    }
-    let tail = message::read_tail(s, front.next, front.darts, sizes);
-    if !tail.ok {
+    };
+    let TailOrNot::Tail(tail) = message::read_tail(s, front.next, front.darts, sizes) else {
         return update_from(s, at);
-    }
+    };
     Received::Transfer(front, tail)
 }

@@ -15,11 +15,9 @@ use Rattle.laws.proofs.Tests.{by-cases, same-truth}
 use Rattle.laws.proofs.Maps.{tab-more}
 use Rattle.laws.proofs.Tables.{getD-tab, mem-place, place-mem, mem-none}
 use Rattle.arrival.proofs.PairLaws.{all-same}
-use Rattle.memory.specs.Lookup.{place-in}
-use Rattle.memory.specs.declared.record.Place.{Place}
-use Rattle.memory.specs.declared.lookup.Found.the-variants.{At, Nothing}
-use Rattle.memory.proofs.Lookups.{place-at, place-nothing}
-use Rattle.ranking.specs.Ranks.{value-at, index-at, Ranked}
+use Rattle.ranking.specs.declared.Ranking.the-variants.{At, Nothing}
+use Rattle.ranking.specs.Ranks.{value-at, index-at, rank-in, Ranked}
+use Rattle.ranking.proofs.Found.{rank-at, rank-nothing}
 use Rattle.parts.specs.Fresh.{own-right, own-at, fresh-value, fresh-at, ValuesPut, clear-at, labels-fit}
 
 pub own-free : (me counter kind link : ℕ) → kind < 2 → true ≡ own-right me counter kind link
@@ -65,11 +63,11 @@ module _ (m keys : List ℕ) (k p : ℕ) where
   pub clear-free : column m 3 p < 2 → true ≡ clear-at m (tab (value-at keys) k) p
   clear-free h = rw (lt-ltb (column m 3 p) 2 h) refl
 
-  pub clear-none : 2 ≤ column m 3 p → place-in (value-at keys) k (column m 4 p) ≡ Nothing → true ≡ clear-at m (tab (value-at keys) k) p
-  clear-none h e = rw (le-ltb (column m 3 p) 2 h, mem-none (value-at keys) k (column m 4 p) (place-nothing (value-at keys) k (column m 4 p) e)) refl
+  pub clear-none : 2 ≤ column m 3 p → rank-in (value-at keys) k (column m 4 p) ≡ Nothing → true ≡ clear-at m (tab (value-at keys) k) p
+  clear-none h e = rw (le-ltb (column m 3 p) 2 h, mem-none (value-at keys) k (column m 4 p) (rank-nothing (value-at keys) k (column m 4 p) e)) refl
 
-  pub clear-found : 2 ≤ column m 3 p → {r : Place} → place-in (value-at keys) k (column m 4 p) ≡ At r → false ≡ clear-at m (tab (value-at keys) k) p
-  clear-found h {r} e = let w = place-at (value-at keys) k (column m 4 p) e in rw (le-ltb (column m 3 p) 2 h, mem-place (value-at keys) k (r .0) (column m 4 p) (w .0) (w .1)) refl
+  pub clear-found : 2 ≤ column m 3 p → {r : ℕ} → rank-in (value-at keys) k (column m 4 p) ≡ At r → false ≡ clear-at m (tab (value-at keys) k) p
+  clear-found h {r} e = let w = rank-at (value-at keys) k (column m 4 p) e in rw (le-ltb (column m 3 p) 2 h, mem-place (value-at keys) k r (column m 4 p) (w .0) (w .1)) refl
 
 -- ALL
 module _ (m : List ℕ) (n : ℕ) (kinds links : List ℕ) (k : ℕ) where

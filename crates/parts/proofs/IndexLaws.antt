@@ -32,14 +32,14 @@ module _ (idx b marks : List ℕ) (k e : ℕ) where
   pub fits-low : above-at idx e ≡ false → false ≡ fits-at idx b marks k e
   fits-low g = by-cases (ltb (getD idx e 0) k) (λ h. rw (h, g) refl) (λ h. rw h refl)
 
-  pub fits-rest : getD idx e 0 < k → above-at idx e ≡ true → {r : Bool} → r ≡ (eqb (getD b (getD idx e 0) 0) (getD idx e 0) && eqb (getD marks (getD idx e 0) 0) 0) → r ≡ fits-at idx b marks k e
-  fits-rest h g {r} q = rw (lt-ltb (getD idx e 0) k h, g) q
+  pub fits-rest : getD idx e 0 < k → above-at idx e ≡ true → {i s : ℕ} → i ≡ getD idx e 0 → s ≡ getD b i 0 → (eqb s i && eqb (getD marks i 0) 0) ≡ fits-at idx b marks k e
+  fits-rest h g {i} {s} at start = rw (lt-ltb (getD idx e 0) k h, g, start, at) refl
 
 pub above-first : (idx : List ℕ) (e : ℕ) → e ≡ 0 → true ≡ above-at idx e
 above-first idx e h = rw (eq-eqb e 0 h) refl
 
-pub above-later : (idx : List ℕ) (e : ℕ) → (e ≡ 0 → ⊥) → ltb (getD idx (e - 1) 0) (getD idx e 0) ≡ above-at idx e
-above-later idx e h = rw (ne-eqb e 0 h) refl
+pub above-later : (idx : List ℕ) (e : ℕ) → (e ≡ 0 → ⊥) → {i j : ℕ} → i ≡ getD idx (e - 1) 0 → j ≡ getD idx e 0 → ltb i j ≡ above-at idx e
+above-later idx e h p q = rw (ne-eqb e 0 h, p, q) refl
 
 -- the first c as a table
 pub front-tab : (l : List ℕ) (c : ℕ) → c ≤ length l → take c l ≡ tab (λ k. getD l k 0) c

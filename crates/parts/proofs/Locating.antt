@@ -10,11 +10,9 @@ use Rattle.model.specs.Image.{column}
 use Rattle.laws.specs.Order.{Ascending}
 use Rattle.laws.proofs.Tests.{lt-or-ge, eq-or-ne, last-or-below}
 use Rattle.laws.proofs.Tables.{one-place}
-use Rattle.memory.specs.Lookup.{place-in}
-use Rattle.memory.specs.declared.record.Place.{Place}
-use Rattle.memory.specs.declared.lookup.Found.the-variants.{At, Nothing}
-use Rattle.memory.proofs.Lookups.{place-at, place-nothing}
-use Rattle.ranking.specs.Ranks.{value-at, index-at, Ranked}
+use Rattle.ranking.specs.declared.Ranking.the-variants.{At, Nothing}
+use Rattle.ranking.specs.Ranks.{value-at, index-at, rank-in, Ranked}
+use Rattle.ranking.proofs.Found.{rank-at, rank-nothing}
 use Rattle.parts.specs.Locate.{none-there, Noted, LocatedAt, Located}
 
 -- ONE DART
@@ -22,22 +20,22 @@ module _ (m keys : List ℕ) (c p : ℕ) (a : List ℕ) (len : length a ≡ 512)
   pub noted-free : column m 3 p < 2 → Noted m keys c p a a
   noted-free h = record { size = len; hit = λ k. absurd (omega arith); other = λ e k. refl }
 
-  pub noted-none : place-in (value-at keys) c (column m 4 p) ≡ Nothing → Noted m keys c p a a
-  noted-none e = record { size = len; hit = λ k r h q. absurd (place-nothing (value-at keys) c (column m 4 p) e r h q); other = λ d k. refl }
+  pub noted-none : rank-in (value-at keys) c (column m 4 p) ≡ Nothing → Noted m keys c p a a
+  noted-none e = record { size = len; hit = λ k r h q. absurd (rank-nothing (value-at keys) c (column m 4 p) e r h q); other = λ d k. refl }
 
-  pub noted-found : {r : Place} → 2 ≤ column m 3 p → Ascending c (value-at keys) → c ≤ 512 → ((r : ℕ) → r < c → index-at keys r < c)
-      → place-in (value-at keys) c (column m 4 p) ≡ At r → Noted m keys c p a (set a (index-at keys (r .0)) p)
+  pub noted-found : {r : ℕ} → 2 ≤ column m 3 p → Ascending c (value-at keys) → c ≤ 512 → ((r : ℕ) → r < c → index-at keys r < c)
+      → rank-in (value-at keys) c (column m 4 p) ≡ At r → Noted m keys c p a (set a (index-at keys r) p)
   noted-found {r} h up few below e =
-      let w = place-at (value-at keys) c (column m 4 p) e in
+      let w = rank-at (value-at keys) c (column m 4 p) e in
       record {
         size = simp length-set len;
-        hit = λ k s l q. let same : s ≡ r .0 = one-place up l (w .0) (q ∙ sym (w .1)) in
-            ap (λ (i : ℕ). getD (set a (index-at keys (r .0)) p) (index-at keys i) 0) same ∙ getD-set-same a (index-at keys (r .0)) p 0 (let b = below (r .0) (w .0) in omega arith);
-        other = λ d k. getD-set-other a (index-at keys (r .0)) d p 0 (λ q. k (omega arith) (r .0) (w .0) (w .1) (sym q));
+        hit = λ k s l q. let same : s ≡ r = one-place up l (w .0) (q ∙ sym (w .1)) in
+            ap (λ (i : ℕ). getD (set a (index-at keys r) p) (index-at keys i) 0) same ∙ getD-set-same a (index-at keys r) p 0 (let b = below r (w .0) in omega arith);
+        other = λ d k. getD-set-other a (index-at keys r) d p 0 (λ q. k (omega arith) r (w .0) (w .1) (sym q));
       }
 
-pub found-below : (keys : List ℕ) (c x : ℕ) {r : Place} → place-in (value-at keys) c x ≡ At r → r .0 < c
-found-below keys c x e = place-at (value-at keys) c x e .0
+pub found-below : (keys : List ℕ) (c x : ℕ) {r : ℕ} → rank-in (value-at keys) c x ≡ At r → r < c
+found-below keys c x e = rank-at (value-at keys) c x e .0
 
 -- ALL
 pub located-none : (m codes : List ℕ) (c : ℕ) {a : List ℕ} → c ≤ 512 → a ≡ replicate 512 none-there → Located m codes c 0 a

@@ -1,6 +1,8 @@
 -- Entries of a part read into two arrays, one after the other. Assumes nothing.
-use Rattle.parts.specs.Entries.{EntryThere, EntryRead, Part4Read, entry-at, labels-at, LabelsThere}
+use Rattle.parts.specs.Entries.{EntryThere, EntrySaid, EntryRead, Part4Read, entry-at, labels-at, LabelsThere}
 use Rattle.parts.specs.declared.entries.Entry.{Entry}
+use Rattle.parts.specs.declared.entries.EntryOrNot.{EntryOrNot}
+use Rattle.parts.specs.declared.entries.EntryOrNot.the-variants as entry
 use Rattle.laws.proofs.Maps.{tab-more}
 use Rattle.laws.proofs.Tables.{tab-cong}
 use Rattle.laws.proofs.Tests.{last-or-below}
@@ -127,18 +129,25 @@ part4-took fs {index =
     index} a b c = as-took _ _ _ (pair-took (such-that group (λ i. ltb i (size-all fs)))
     (λ i. at-most 15 ⊕ times (size-at i fs) label) a (both-took (at-most 15) (times (size-at index fs) label) b c))
 
-pub entry-no : (fs : List (List FaceDart)) {z s : List ℕ} {at : ℕ} {r : Entry} → r .ok ≡ false → Passes (part4 fs) s at Bad → EntryRead fs z s at r
-entry-no fs e d = record { no = λ q. d .said; yes = λ q. absurd (true≢false (sym q ∙ e)) }
+pub entry-no : (fs : List (List FaceDart)) {z s : List ℕ} {at : ℕ} → Passes (part4 fs) s at Bad → EntryRead fs z s at entry.Not
+entry-no fs d = record { said = d .said }
+
+module _ (fs : List (List FaceDart)) {z s : List ℕ} {at : ℕ} {r : EntryOrNot} (w : EntryRead fs z s at r) where
+  pub entry-missing : r ≡ entry.Not → part4 fs .get (drop at s) ≡ none
+  entry-missing e = subst (EntrySaid fs z s at) e (w .said)
+
+  pub entry-there : {o : Entry} → r ≡ entry.Entry o → EntryThere fs z s at (o .index .0) (o .other) (o .labels) (o .next)
+  entry-there e = subst (EntrySaid fs z s at) e (w .said)
 
 module _ (fs : List (List FaceDart)) {s z : List ℕ} {at p index other labels darts n : ℕ} (sized : Sized fs darts z)
     (first : Took group s at index p) (h : index < darts) (second : Took (at-most 15) s p other labels)
     (same : n ≡ getD z index 0) where
-  pub entry-half : {r : Entry} {a : Answer} → r .ok ≡ false → a ≡ Bad → Passes (times n label) s labels a → EntryRead fs z s at r
-  entry-half {r} {a} e q d = entry-no fs e (part4-pass fs first sized h second same (subst (λ (b : Answer). Passes (times n label) s labels b) q d))
+  pub entry-half : {a : Answer} → a ≡ Bad → Passes (times n label) s labels a → EntryRead fs z s at entry.Not
+  entry-half q d = entry-no fs (part4-pass fs first sized h second same (subst (λ (b : Answer). Passes (times n label) s labels b) q d))
 
   pub entry-yes : {a : Answer} {u next : ℕ} → a ≡ Value u next → Passes (times n label) s labels a
-      → EntryRead fs z s at (record { ok = true; index = index; other = other; labels = labels; next = next })
-  entry-yes {a} {u} {next} q d = record { no = λ e. absurd (true≢false e); yes = λ e. go (subst (PassSaid (times n label) s labels) q (d .said)) }
+      → EntryRead fs z s at (entry.Entry (record { index = record { 0 = index }; other = other; labels = labels; next = next }))
+  entry-yes {a} {u} {next} q d = record { said = go (subst (PassSaid (times n label) s labels) q (d .said)) }
     where
       go : PassSaid (times n label) s labels (Value u next) → EntryThere fs z s at index other labels next
       go d =

@@ -30,8 +30,9 @@ pub a-place : (y n : ℕ) (b : Bool) → y < n → b ≡ (ltb y n && b)
 a-place y n b h = rw (lt-ltb y n h) refl
 
 -- PAINTING a trail
-pub paint-trail : (trail : List ℕ) {t t′ : List ℕ} (j : ℕ) → Painted 1 (take j trail) t t′ → j < length trail → getD trail j 0 < length t → Painted 1 (take (j + 1) trail) t (set t′ (getD trail j 0) 1)
-paint-trail trail {t} {t′} j w h l = subst (λ (k : List ℕ). Painted 1 k t (set t′ (getD trail j 0) 1)) (sym (take-suc trail j 0 h) ∙ ap (λ (k : ℕ). take k trail) (sym (add-one j))) (paint-more w l)
+pub paint-trail : (trail : List ℕ) {t t′ : List ℕ} (j : ℕ) → Painted 1 (take j trail) t t′ → j < length trail → getD trail j 0 < length t → {p : ℕ} → p ≡ getD trail j 0 → Painted 1 (take (j + 1) trail) t (set t′ p 1)
+paint-trail trail {t} {t′} j w h l {p} e = subst (λ (x : ℕ). Painted 1 (take (j + 1) trail) t (set t′ x 1)) (sym e)
+    (subst (λ (k : List ℕ). Painted 1 k t (set t′ (getD trail j 0) 1)) (sym (take-suc trail j 0 h) ∙ ap (λ (k : ℕ). take k trail) (sym (add-one j))) (paint-more w l))
 
 pub painted-all : (trail : List ℕ) {t t′ : List ℕ} (j size : ℕ) → Painted 1 (take j trail) t t′ → j ≤ size → size ≤ j → Painted 1 (take size trail) t t′
 painted-all trail {t} {t′} j size w h k = let e : j ≡ size = omega arith in subst (λ (c : ℕ). Painted 1 (take c trail) t t′) e w
@@ -125,6 +126,15 @@ seen-more {m} {places} {seen} {seen′} e w p = record {
     either true false = refl
     either false true = refl
     either false false = refl
+
+-- entry e by what is read of it: the place y, the index i and the size s of its face
+pub entered-at : {m d ranks : List ℕ} (z places indices : List ℕ) {n from : ℕ} (e : ℕ) {y i s : ℕ} {trail seen seen′ kinds kinds′ links links′ : List ℕ} {r : Bool}
+    → y ≡ getD places e 0 → i ≡ getD indices e 0 → s ≡ getD z i 0 → Entered m d ranks n from y i s trail seen seen′ kinds kinds′ links links′ r
+    → Entered m d ranks n from (getD places e 0) (getD indices e 0) (face-size z indices e) trail seen seen′ kinds kinds′ links links′ r
+entered-at {m} {d} {ranks} z places indices {n} {from} e {y} {i} {s} {trail} {seen} {seen′} {kinds} {kinds′} {links} {links′} {r} a b c v =
+    subst (λ (x : ℕ). Entered m d ranks n from (getD places e 0) (getD indices e 0) x trail seen seen′ kinds kinds′ links links′ r) (c ∙ ap (λ (j : ℕ). getD z j 0) b)
+    (subst (λ (x : ℕ). Entered m d ranks n from (getD places e 0) x s trail seen seen′ kinds kinds′ links links′ r) b
+    (subst (λ (x : ℕ). Entered m d ranks n from x i s trail seen seen′ kinds kinds′ links links′ r) a v))
 
 pub entered-said : {m d ranks : List ℕ} (z places indices : List ℕ) {n from : ℕ} (e : ℕ) {trail seen seen′ kinds kinds′ links links′ : List ℕ} {r : Bool} → SeenBy m places e seen
     → Entered m d ranks n from (getD places e 0) (getD indices e 0) (face-size z indices e) trail seen seen′ kinds kinds′ links links′ r → r ≡ passes-at m d ranks z places indices n from e

@@ -111,10 +111,9 @@ Ready m d p w =
     × (FiniteAt d p × FiniteAt d (column d 1 p) × FiniteAt m w × FiniteAt m (column m 1 w))
 
 module _ {m d ranks : List ℕ} {n k : ℕ} (o : Meetable m n d k ranks) (at : ℕ) {size j : ℕ} {trail : List ℕ} (fits : at + size ≤ k) (l : j < size) (t : Trailed n size trail) where
-  pub ready : {w : ℕ} → w ≡ met-at trail size j → Ready m d (getD ranks (at + j) 0) w
-  ready {w} e =
-      let p = getD ranks (at + j) 0 in
-      let hp : p < k = o .rank-below (at + j) (omega arith) in
+  pub ready : {p w : ℕ} → p ≡ getD ranks (at + j) 0 → w ≡ met-at trail size j → Ready m d p w
+  ready {p} {w} r e =
+      let hp : p < k = omega (arith, r, o .rank-below (at + j) (omega arith)) in
       let hw : w < n = let b = met-below j l t in omega (arith, e, b) in
       let np = o .new-within p hp in
       let nw = o .linked .next-within w hw in
@@ -131,8 +130,8 @@ module _ {m d ranks : List ℕ} {n k : ℕ} (o : Meetable m n d k ranks) (at : �
         (o .new-finite p hp, o .new-finite (column d 1 p) np, o .finite w hw, o .finite (column m 1 w) nw),
       )
 
-pub meets-told : (m d ranks : List ℕ) (at size j : ℕ) (trail : List ℕ) {w : ℕ} {r : Bool} → w ≡ met-at trail size j → r ≡ meet-at m d (getD ranks (at + j) 0) w → r ≡ meets-at m d ranks at size trail j
-meets-told m d ranks at size j trail e q = q ∙ ap (meet-at m d (getD ranks (at + j) 0)) e
+pub meets-told : (m d ranks : List ℕ) (at size j : ℕ) (trail : List ℕ) {p w : ℕ} {r : Bool} → p ≡ getD ranks (at + j) 0 → w ≡ met-at trail size j → r ≡ meet-at m d p w → r ≡ meets-at m d ranks at size trail j
+meets-told m d ranks at size j trail {p} {w} h e q = q ∙ ap (λ (x : ℕ). meet-at m d x w) h ∙ ap (meet-at m d (getD ranks (at + j) 0)) e
 
 -- AN ENTRY
 first-no : (a b c : Bool) → a ≡ false → false ≡ (a && b && c)

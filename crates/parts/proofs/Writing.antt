@@ -43,6 +43,17 @@ pub over-all : {at j n : ℕ} {f : ℕ → ℕ} {a a′ : List ℕ} → Over at 
 over-all {at} {j} {n} {f} {a} {a′} w h k = let e : j ≡ n = omega arith in rw e at w
 
 -- THE FACES OF A PART
+-- the face of entry e, by what is read of it: its start i and its size n
+module _ (z indices : List ℕ) (e : ℕ) {i n : ℕ} (at : i ≡ getD indices e 0) (size : n ≡ getD z i 0) where
+  pub face-size-is : n ≡ getD z (getD indices e 0) 0
+  face-size-is = size ∙ ap (λ (j : ℕ). getD z j 0) at
+
+  pub face-within : {c : ℕ} → Spans z indices c → e < c → i + n ≤ 512
+  face-within s h = omega (arith, at, face-size-is, s .within e h)
+
+  pub over-face : (g : ℕ → ℕ → ℕ) {a a′ : List ℕ} → Over i n (g n) a a′ → Over (getD indices e 0) (getD z (getD indices e 0) 0) (g (getD z (getD indices e 0) 0)) a a′
+  over-face g {a} {a′} o = subst (λ (k : ℕ). Over (getD indices e 0) k (g k) a a′) face-size-is (subst (λ (j : ℕ). Over j n (g n) a a′) at o)
+
 pub faced-none : (z indices : List ℕ) (f : ℕ → ℕ → ℕ) (a : List ℕ) → length a ≡ 512 → Faced z indices 0 f a a
 faced-none z indices f a n = record { size = n; inside = λ e h. absurd (omega arith); outside = λ q h. refl }
 

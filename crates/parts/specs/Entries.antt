@@ -1,6 +1,5 @@
 -- The entries of the parts in arrays. Assumes nothing.
 use mathlib.Core.Path.{_≡_}
-use mathlib.Core.Bool.{true, false}
 use mathlib.Core.List.{List, [], map}
 use mathlib.Core.Option.{none, some}
 use Prim.Native.Nat.{ℕ, _≤_, _<_}
@@ -10,7 +9,8 @@ use Rattle.model.specs.Values.{Label, code}
 use Rattle.model.specs.Layouts.{Layout, Read, get-all, times}
 use Rattle.model.specs.Messages.{FaceDart, Part2, Part3, Part4, label, part4}
 use Rattle.inbox.specs.Inbox.{most, Took}
-use Rattle.parts.specs.declared.entries.Entry.{Entry}
+use Rattle.parts.specs.declared.entries.EntryOrNot.{EntryOrNot}
+use Rattle.parts.specs.declared.entries.EntryOrNot.the-variants as entry
 
 -- what an entry has
 abbrev pub code2 : Part2 → ℕ
@@ -57,9 +57,12 @@ pub record EntryThere (fs : List (List FaceDart)) (z s : List ℕ) (at index oth
   pub there : LabelsThere s labels (getD z index 0)
   pub took : Took (part4 fs) s at (record { index = index; other = other; labels = labels-at s labels (getD z index 0) }) next
 
-pub record EntryRead (fs : List (List FaceDart)) (z s : List ℕ) (at : ℕ) (r : Entry) : Type 0 where
-  pub no : r .ok ≡ false → part4 fs .get (drop at s) ≡ none
-  pub yes : r .ok ≡ true → EntryThere fs z s at (r .index) (r .other) (r .labels) (r .next)
+abbrev pub EntrySaid : List (List FaceDart) → List ℕ → List ℕ → ℕ → EntryOrNot → Type 0
+EntrySaid fs z s at entry.Not = part4 fs .get (drop at s) ≡ none
+EntrySaid fs z s at (entry.Entry e) = EntryThere fs z s at (e .index .0) (e .other) (e .labels) (e .next)
+
+pub record EntryRead (fs : List (List FaceDart)) (z s : List ℕ) (at : ℕ) (r : EntryOrNot) : Type 0 where
+  pub said : EntrySaid fs z s at r
 
 -- an entry by the arrays
 abbrev pub entry-at : List ℕ → List ℕ → List ℕ → List ℕ → List ℕ → ℕ → Part4

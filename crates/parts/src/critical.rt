@@ -14,12 +14,14 @@ use crate::fresh;
 use crate::indices;
 use crate::numbers;
 use inbox::message::Tail;
+use memory::header::Header;
 
 // Whether no part has more entries than a message may have darts.
 fn few(tail: Tail) -> bool
     ensures { λ r. ⌜ r ≡ few-entries tail ⌝ }
 {
-    (tail.count2 <= 512) & (tail.count3 <= 512) & (tail.count4 <= 512)
+    let most = Header::VOLUME as u64;
+    (tail.count2 <= most) & (tail.count3 <= most) & (tail.count4 <= most)
 }
 
 // The indices, numbers and blocks of the entries.
@@ -72,11 +74,11 @@ pub fn critical_right(
     let c2 = tail.count2 as usize;
     let c3 = tail.count3 as usize;
     let c4 = tail.count4 as usize;
-    let mut numbers = [0u64; 512];
-    let mut third = [0u64; 512];
-    let mut fourth = [0u64; 512];
-    let mut others = [0u64; 512];
-    let mut places = [0usize; 512];
+    let mut numbers = [0u64; Header::VOLUME];
+    let mut third = [0u64; Header::VOLUME];
+    let mut fourth = [0u64; Header::VOLUME];
+    let mut others = [0u64; Header::VOLUME];
+    let mut places = [0usize; Header::VOLUME];
     entries::read_part2(message, tail.part2, c2, codes, indices);
     entries::read_part3(message, tail.part3, c3, &mut numbers, &mut third);
     entries::read_part4(

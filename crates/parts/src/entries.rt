@@ -1,6 +1,5 @@
 // The entries of the parts as they stand in a message, read into arrays by their number in the part.
 ghost use mathlib.Core.Path.{_≡_};
-ghost use mathlib.Core.Bool.{false};
 ghost use mathlib.Core.List.{List};
 ghost use Prim.Native.Nat.{_≤_};
 ghost use lib.ListN.{length};
@@ -8,6 +7,8 @@ ghost use Rattle.model.specs.Messages.{FaceDart, part2, part3};
 ghost use Rattle.inbox.specs.Inbox.{most, Sized};
 ghost use Rattle.parts.specs.Entries.{EntriesRead, EntryRead, Part4Read, code2, index2, number3, index3};
 use groups::Read;
+use memory::header::Header;
+use memory::record::MessageIndex;
 
 // The codes of the labels of part 2, and its indices.
 pub fn read_part2(s: &[u8], at: usize, count: usize, codes: &mut [u64], indices: &mut [u64])
@@ -55,49 +56,40 @@ pub fn read_part3(s: &[u8], at: usize, count: usize, numbers: &mut [u64], indice
 
 // An entry of part 4: the index, the block, where the labels stand, and the place past them.
 pub struct Entry {
-    pub ok: bool,
-    pub index: u64,
+    pub index: MessageIndex,
     pub other: u64,
     pub labels: usize,
     pub next: usize,
 }
 
-fn no_entry() -> Entry
-    ensures { λ r. ⌜ r .ok ≡ false ⌝ }
-{
-    Entry {
-        ok: false,
-        index: 0,
-        other: 0,
-        labels: 0,
-        next: 0,
-    }
+pub enum EntryOrNot {
+    Entry(Entry),
+    Not,
 }
 
-fn read_entry(s: &[u8], at: usize, darts: usize, sizes: &[usize]) -> Entry
+fn read_entry(s: &[u8], at: usize, darts: usize, sizes: &[usize]) -> EntryOrNot
     requires { ⌜ darts ≤ length (now sizes) ⌝ }
     ensures { λ r. ⌜ ((fs : List (List FaceDart)) → Sized fs darts (now (sizes .entry)) → EntryRead fs (now (sizes .entry)) (now (s .entry)) at r) ⌝ }
 {
     let Read::Value(index, past) = reader::read_group(s, at) else {
-        return no_entry();
+        return EntryOrNot::Not;
     };
     if darts as u64 <= index {
-        return no_entry();
+        return EntryOrNot::Not;
     }
-    let Read::Value(other, labels) = reader::read_at_most(s, past, 15) else {
-        return no_entry();
+    let Read::Value(other, labels) = reader::read_at_most(s, past, Header::BLOCKS - 1) else {
+        return EntryOrNot::Not;
     };
-    let size = sizes[index as usize];
+    let size = place::size_at(sizes, MessageIndex(index as usize));
     let Read::Value(n, next) = inbox::parts::pass_labels(s, labels, size as u64) else {
-        return no_entry();
+        return EntryOrNot::Not;
     };
-    Entry {
-        ok: true,
-        index,
+    EntryOrNot::Entry(Entry {
+        index: MessageIndex(index as usize),
         other,
         labels,
         next,
-    }
+    })
 }
 
 // The indices and blocks of part 4, and where the labels of each entry stand.
@@ -118,11 +110,11 @@ pub fn read_part4(
     let mut i = 0;
     let mut p = at;
     while i < count {
-        let entry = read_entry(s, p, darts, sizes);
-        if !entry.ok {
+        let EntryOrNot::Entry(entry) = read_entry(s, p, darts, sizes) else {
             return;
-        }
-        indices[i] = entry.index;
+        };
+        let index = entry.index;
+        indices[i] = index.0 as u64;
         others[i] = entry.other;
         places[i] = entry.labels;
         p = entry.next;

@@ -5,38 +5,42 @@ ghost use lib.ListN.{length, getD};
 ghost use Rattle.parts.specs.Faces.{Over, Spans, Faced, numbered-code, code-at};
 ghost use Rattle.parts.specs.Entries.{LabelsThere};
 use groups::Read;
+use memory::record::MessageIndex;
 
 // The same word from index `at` on, n times.
-pub fn fill(array: &mut [u64], at: usize, n: usize, word: u64)
-    requires { ⌜ (length (now array) ≡ 512) × (at + n ≤ 512) ⌝ }
-    ensures { λ _. ⌜ Over at n (λ j. word) (now (array .entry)) (now (array .exit)) ⌝ }
+pub fn fill(array: &mut [u64], at: MessageIndex, n: usize, word: u64)
+    requires { ⌜ (length (now array) ≡ 512) × (at .0 + n ≤ 512) ⌝ }
+    ensures { λ _. ⌜ Over (at .0) n (λ j. word) (now (array .entry)) (now (array .exit)) ⌝ }
 {
+    let first = at.0;
     // The first j are put.
     let mut j = 0;
     while j < n {
-        array[at + j] = word;
+        array[first + j] = word;
         j += 1;
     }
 }
 
 // Numbers that count up from index `at` on, n of them.
-fn count_up(array: &mut [u64], at: usize, n: usize, first: u64)
-    requires { ⌜ (length (now array) ≡ 512) × (at + n ≤ 512) × (first < 2 ^ 63) ⌝ }
-    ensures { λ _. ⌜ Over at n (λ j. first + j) (now (array .entry)) (now (array .exit)) ⌝ }
+fn count_up(array: &mut [u64], at: MessageIndex, n: usize, least: u64)
+    requires { ⌜ (length (now array) ≡ 512) × (at .0 + n ≤ 512) × (least < 2 ^ 63) ⌝ }
+    ensures { λ _. ⌜ Over (at .0) n (λ j. least + j) (now (array .entry)) (now (array .exit)) ⌝ }
 {
+    let first = at.0;
     // The first j are put.
     let mut j = 0;
     while j < n {
-        array[at + j] = first + j as u64;
+        array[first + j] = least + j as u64;
         j += 1;
     }
 }
 
 // The codes of n labels that stand from a place of the message on, from index `at` on.
-fn put_codes(message: &[u8], from: usize, array: &mut [u64], at: usize, n: usize)
-    requires { ⌜ (length (now array) ≡ 512) × (at + n ≤ 512) × LabelsThere (now message) from n ⌝ }
-    ensures { λ _. ⌜ Over at n (code-at (now (message .entry)) from n) (now (array .entry)) (now (array .exit)) ⌝ }
+fn put_codes(message: &[u8], from: usize, array: &mut [u64], at: MessageIndex, n: usize)
+    requires { ⌜ (length (now array) ≡ 512) × (at .0 + n ≤ 512) × LabelsThere (now message) from n ⌝ }
+    ensures { λ _. ⌜ Over (at .0) n (code-at (now (message .entry)) from n) (now (array .entry)) (now (array .exit)) ⌝ }
 {
+    let first = at.0;
     // The first j are put.
     let mut j = 0;
     let mut p = from;
@@ -44,7 +48,7 @@ fn put_codes(message: &[u8], from: usize, array: &mut [u64], at: usize, n: usize
         let Read::Value(code, next) = reader::read_label(message, p) else {
             return;
         };
-        array[at + j] = code;
+        array[first + j] = code;
         p = next;
         j += 1;
     }
@@ -67,8 +71,8 @@ pub fn put_part3(
     // The faces before e have their links.
     let mut e = 0;
     while e < c {
-        let i = indices[e] as usize;
-        let n = sizes[i];
+        let i = place::entry_index(indices, e);
+        let n = place::size_at(sizes, i);
         fill(kinds, i, n, 2 + 4 * from);
         count_up(links, i, n, (from * 4294967296 + numbers[e]) * 4096);
         e += 1;
@@ -93,8 +97,8 @@ pub fn put_part4(
     // The faces before e have their links.
     let mut e = 0;
     while e < c {
-        let i = indices[e] as usize;
-        let n = sizes[i];
+        let i = place::entry_index(indices, e);
+        let n = place::size_at(sizes, i);
         fill(kinds, i, n, 2 + 4 * others[e]);
         put_codes(message, places[e], links, i, n);
         e += 1;

@@ -9,7 +9,12 @@ ghost use Rattle.model.specs.Lists.{all, tab};
 ghost use Rattle.model.specs.Image.{room, words};
 ghost use Rattle.ranking.specs.Ranks.{value-at};
 ghost use Rattle.parts.specs.Fresh.{own-right, own-at, fresh-value, ValuesPut, clear-at, labels-fit};
-use memory::lookup::Found;
+use memory::header::Header;
+use memory::label;
+use memory::record;
+use memory::record::MessageIndex;
+use memory::record::Place;
+use ranking::Ranking;
 
 // Whether a kind and a link word are not of an own-made label from the counter on.
 fn own_right(number: u64, counter: u64, kind: u64, link: u64) -> bool
@@ -18,7 +23,7 @@ fn own_right(number: u64, counter: u64, kind: u64, link: u64) -> bool
     if kind < 2 {
         return true;
     }
-    (link / 4096 / 4294967296 != number) | (link / 4096 % 4294967296 < counter)
+    (label::maker_of(link) != number) | (label::number_of(link) < counter)
 }
 
 // Whether the words of the first k darts are not.
@@ -38,12 +43,12 @@ fn all_own(number: u64, counter: u64, kinds: &[u64], links: &[u64], k: usize) ->
 }
 
 // The label's code of a critical dart; above all codes, and its own, of any other.
-fn fresh_value(kind: u64, link: u64, q: usize) -> u64
-    requires { ⌜ q < 512 ⌝ }
-    ensures { λ r. ⌜ r ≡ fresh-value kind link q ⌝ }
+fn fresh_value(kind: u64, link: u64, q: MessageIndex) -> u64
+    requires { ⌜ q .0 < 512 ⌝ }
+    ensures { λ r. ⌜ r ≡ fresh-value kind link (q .0) ⌝ }
 {
     if kind < 2 {
-        return 281474976710656 + q as u64;
+        return 281474976710656 + q.0 as u64;
     }
     link
 }
@@ -56,20 +61,20 @@ fn put_values(kinds: &[u64], links: &[u64], k: usize, values: &mut [u64])
     // Those before q are put.
     let mut q = 0;
     while q < k {
-        values[q] = fresh_value(kinds[q], links[q], q);
+        values[q] = fresh_value(kinds[q], links[q], MessageIndex(q));
         q += 1;
     }
 }
 
 // Whether the dart at place p of the block has none of k values for a label.
-fn clear_at(block: &[u64], p: usize, keys: &[u64], k: usize) -> bool
-    requires { ⌜ (length (now block) ≡ words) × (p < room) × (length (now keys) ≡ 512) × (k ≤ 512) × Ascending k (value-at (now keys)) ⌝ }
-    ensures { λ r. ⌜ r ≡ clear-at (now (block .entry)) (tab (value-at (now (keys .entry))) k) p ⌝ }
+fn clear_at(block: &[u64], p: Place, keys: &[u64], k: usize) -> bool
+    requires { ⌜ (length (now block) ≡ words) × (p .0 < room) × (length (now keys) ≡ 512) × (k ≤ 512) × Ascending k (value-at (now keys)) ⌝ }
+    ensures { λ r. ⌜ r ≡ clear-at (now (block .entry)) (tab (value-at (now (keys .entry))) k) (p .0) ⌝ }
 {
-    if cells::walk::field(block, p, 3) < 2 {
+    if record::field(block, p, 3) < 2 {
         return true;
     }
-    let Found::At(r) = ranking::find(keys, k, cells::walk::field(block, p, 4)) else {
+    let Ranking::At(r) = ranking::find(keys, k, record::field(block, p, 4)) else {
         return true;
     };
     false
@@ -83,7 +88,7 @@ fn all_clear(block: &[u64], n: usize, keys: &[u64], k: usize) -> bool
     // Those before p have none.
     let mut p = 0;
     while p < n {
-        if !clear_at(block, p, keys, k) {
+        if !clear_at(block, Place(p), keys, k) {
             return false;
         }
         p += 1;
@@ -100,11 +105,11 @@ pub fn labels_fit(block: &[u64], n: usize, kinds: &[u64], links: &[u64], k: usiz
     if !all_own(block[0], block[1], kinds, links, k) {
         return false;
     }
-    let mut values = [0u64; 512];
+    let mut values = [0u64; Header::VOLUME];
     put_values(kinds, links, k, &mut values);
-    let mut keys = [0u64; 512];
-    let mut scratch = [0u64; 512];
-    let mut ranks = [0usize; 512];
+    let mut keys = [0u64; Header::VOLUME];
+    let mut scratch = [0u64; Header::VOLUME];
+    let mut ranks = [0usize; Header::VOLUME];
     if !ranking::rank(&values, k, &mut keys, &mut scratch, &mut ranks) {
         return false;
     }

@@ -3,6 +3,7 @@ ghost use mathlib.Core.Path.{_≡_};
 ghost use Prim.Native.Nat.{ℕ, _≤_, _<_};
 ghost use lib.ListN.{length, getD, take};
 ghost use Rattle.parts.specs.Indices.{above-at, fits-at, FitTold, MarkedBy, indices-fit};
+use memory::header::Header;
 
 // Whether the index of entry e is above the one before it.
 fn above(indices: &[u64], e: usize) -> bool
@@ -12,7 +13,9 @@ fn above(indices: &[u64], e: usize) -> bool
     if e == 0 {
         return true;
     }
-    indices[e - 1] < indices[e]
+    let before = place::entry_index(indices, e - 1);
+    let here = place::entry_index(indices, e);
+    before.0 < here.0
 }
 
 // Whether the index of entry e names a start that is not marked, above the index before it.
@@ -20,15 +23,16 @@ fn fits_at(indices: &[u64], e: usize, starts: &[usize], k: usize, marks: &[u8]) 
     requires { ⌜ (length (now indices) ≡ 512) × (length (now starts) ≡ 512) × (length (now marks) ≡ 512) × (e < 512) × (k ≤ 512) ⌝ }
     ensures { λ r. ⌜ r ≡ fits-at (now (indices .entry)) (now (starts .entry)) (now (marks .entry)) k e ⌝ }
 {
-    let i = indices[e];
-    if k as u64 <= i {
+    let i = place::entry_index(indices, e);
+    if k <= i.0 {
         return false;
     }
     if !above(indices, e) {
         return false;
     }
-    let at = i as usize;
-    (starts[at] == at) & (marks[at] == 0)
+    let start = place::index_at(starts, i);
+    let at = i.0;
+    (start.0 == at) & (marks[at] == 0)
 }
 
 // Whether those of the first c entries do.
@@ -55,7 +59,8 @@ fn mark(indices: &[u64], c: usize, marks: &mut [u8])
     // Those before e are marked.
     let mut e = 0;
     while e < c {
-        let at = indices[e] as usize;
+        let i = place::entry_index(indices, e);
+        let at = i.0;
         marks[at] = 1;
         e += 1;
     }
@@ -76,7 +81,7 @@ pub fn indices_fit(
     requires { ⌜ (c2 ≤ 512) × (c3 ≤ 512) × (c4 ≤ 512) × (k ≤ 512) ⌝ }
     ensures { λ r. ⌜ r ≡ indices-fit (now (starts .entry)) k (take c2 (now (second .entry))) (take c3 (now (third .entry))) (take c4 (now (fourth .entry))) ⌝ }
 {
-    let mut marks = [0u8; 512];
+    let mut marks = [0u8; Header::VOLUME];
     if !fit(second, c2, starts, k, &marks) {
         return false;
     }

@@ -6,22 +6,23 @@ ghost use Rattle.laws.specs.Order.{Ascending};
 ghost use Rattle.model.specs.Image.{room, words};
 ghost use Rattle.ranking.specs.Ranks.{value-at, index-at, Ranked};
 ghost use Rattle.parts.specs.Locate.{Noted, Located, none-there};
-use memory::lookup::Found;
+use memory::record;
+use memory::record::Place;
+use ranking::Ranking;
 
 // Notes place p for the entry whose label the dart at p has.
-fn note(block: &[u64], p: usize, keys: &[u64], c: usize, places: &mut [usize])
-    requires { ⌜ (length (now block) ≡ words) × (p < room) × (length (now keys) ≡ 512) × (c ≤ 512) × (length (now places) ≡ 512) × Ascending c (value-at (now keys)) × ((r : ℕ) → r < c → index-at (now keys) r < c) ⌝ }
-    ensures { λ _. ⌜ Noted (now (block .entry)) (now (keys .entry)) c p (now (places .entry)) (now (places .exit)) ⌝ }
+fn note(block: &[u64], p: Place, keys: &[u64], c: usize, places: &mut [usize])
+    requires { ⌜ (length (now block) ≡ words) × (p .0 < room) × (length (now keys) ≡ 512) × (c ≤ 512) × (length (now places) ≡ 512) × Ascending c (value-at (now keys)) × ((r : ℕ) → r < c → index-at (now keys) r < c) ⌝ }
+    ensures { λ _. ⌜ Noted (now (block .entry)) (now (keys .entry)) c (p .0) (now (places .entry)) (now (places .exit)) ⌝ }
 {
-    if cells::walk::field(block, p, 3) < 2 {
+    if record::field(block, p, 3) < 2 {
         return;
     }
-    let Found::At(r) = ranking::find(keys, c, cells::walk::field(block, p, 4)) else {
+    let Ranking::At(r) = ranking::find(keys, c, record::field(block, p, 4)) else {
         return;
     };
-    let rank = r.0;
-    let e = (keys[rank] % 512) as usize;
-    places[e] = p;
+    let e = (keys[r] % 512) as usize;
+    places[e] = p.0;
 }
 
 // The place of the dart that has each of the first c codes, which are ranked; 4,096 where none of the n darts has it.
@@ -40,7 +41,7 @@ pub fn locate(
     // The darts before p are noted.
     let mut p = 0;
     while p < n {
-        note(block, p, keys, c, places);
+        note(block, Place(p), keys, c, places);
         p += 1;
     }
 }

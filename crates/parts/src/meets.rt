@@ -12,21 +12,26 @@ ghost use Rattle.parts.specs.Faces.{Over};
 ghost use Rattle.parts.specs.Sewing.{Entered, Sewable, Part2Told};
 use crate::faces;
 use crate::meet;
-use cells::walk;
+use memory::header::Header;
+use memory::record;
+use memory::record::MessageIndex;
+use memory::record::Place;
 
 // Walks the face of the dart at place `start` into `trail`, at most `size` steps. Whether it has `size` darts.
-fn walk_face(block: &[u64], n: usize, start: usize, size: usize, trail: &mut [usize]) -> bool
-    requires { ⌜ Linked (now block) n × (start < n) × (size ≤ 512) × (length (now trail) ≡ 512) ⌝ }
-    ensures { λ r. ⌜ Walked (now (block .entry)) start size (now (trail .exit)) r ⌝ }
+fn walk_face(block: &[u64], n: usize, start: Place, size: usize, trail: &mut [usize]) -> bool
+    requires { ⌜ Linked (now block) n × (start .0 < n) × (size ≤ 512) × (length (now trail) ≡ 512) ⌝ }
+    ensures { λ r. ⌜ Walked (now (block .entry)) (start .0) size (now (trail .exit)) r ⌝ }
 {
-    // The darts from `start` up to the one before p are put; none of the steps led back.
+    let first = start.0;
+    // The darts from `first` up to the one before p are put; none of the steps led back.
     let mut i = 0;
-    let mut p = start;
+    let mut p = first;
     while i < size {
         trail[i] = p;
         i += 1;
-        p = walk::field(block, p, 1) as usize;
-        if p == start {
+        let next = place::next_of(block, Place(p));
+        p = next.0;
+        if p == first {
             return i == size;
         }
     }
@@ -34,14 +39,14 @@ fn walk_face(block: &[u64], n: usize, start: usize, size: usize, trail: &mut [us
 }
 
 // The place that dart j of a new face meets: the face of the block goes the other way.
-fn met(trail: &[usize], size: usize, j: usize) -> usize
+fn met(trail: &[usize], size: usize, j: usize) -> Place
     requires { ⌜ (length (now trail) ≡ 512) × (size ≤ 512) × (j < size) ⌝ }
-    ensures { λ r. ⌜ r ≡ met-at (now (trail .entry)) size j ⌝ }
+    ensures { λ r. ⌜ r .0 ≡ met-at (now (trail .entry)) size j ⌝ }
 {
     if j == 0 {
-        return trail[0];
+        return place::place_at(trail, 0);
     }
-    trail[size - j]
+    place::place_at(trail, size - j)
 }
 
 // Whether the points of dart j of the new face from index `at` on agree.
@@ -51,16 +56,17 @@ fn meets(
     draft: &[u64],
     k: usize,
     ranks: &[usize],
-    at: usize,
+    at: MessageIndex,
     size: usize,
     trail: &[usize],
     j: usize,
 ) -> bool
-    requires { ⌜ Meetable (now block) n (now draft) k (now ranks) × (at + size ≤ k) × (j < size) × Trailed n size (now trail) ⌝ }
-    ensures { λ r. ⌜ r ≡ meets-at (now (block .entry)) (now (draft .entry)) (now (ranks .entry)) at size (now (trail .entry)) j ⌝ }
+    requires { ⌜ Meetable (now block) n (now draft) k (now ranks) × (at .0 + size ≤ k) × (j < size) × Trailed n size (now trail) ⌝ }
+    ensures { λ r. ⌜ r ≡ meets-at (now (block .entry)) (now (draft .entry)) (now (ranks .entry)) (at .0) size (now (trail .entry)) j ⌝ }
 {
     let w = met(trail, size, j);
-    let p = ranks[at + j];
+    let i = at.0 + j;
+    let p = place::rank_at(ranks, MessageIndex(i));
     meet::meet_at(block, draft, p, w)
 }
 
@@ -71,18 +77,30 @@ fn all_meet(
     draft: &[u64],
     k: usize,
     ranks: &[usize],
-    at: usize,
+    at: MessageIndex,
     size: usize,
     trail: &[usize],
 ) -> bool
-    requires { ⌜ Meetable (now block) n (now draft) k (now ranks) × (at + size ≤ k) × Trailed n size (now trail) ⌝ }
-    ensures { λ r. ⌜ r ≡ all (meets-at (now (block .entry)) (now (draft .entry)) (now (ranks .entry)) at size (now (trail .entry))) (tab (λ j. j) size) ⌝ }
+    requires { ⌜ Meetable (now block) n (now draft) k (now ranks) × (at .0 + size ≤ k) × Trailed n size (now trail) ⌝ }
+    ensures { λ r. ⌜ r ≡ all (meets-at (now (block .entry)) (now (draft .entry)) (now (ranks .entry)) (at .0) size (now (trail .entry))) (tab (λ j. j) size) ⌝ }
 {
+    let first = at.0;
     // Those before j do.
     let mut ok = true;
     let mut j = 0;
     while j < size {
-        ok = ok & meets(block, n, draft, k, ranks, at, size, trail, j);
+        ok = ok
+            & meets(
+                block,
+                n,
+                draft,
+                k,
+                ranks,
+                MessageIndex(first),
+                size,
+                trail,
+                j,
+            );
         j += 1;
     }
     ok
@@ -96,15 +114,15 @@ pub fn entry_right(
     k: usize,
     ranks: &[usize],
     from: u64,
-    y: usize,
-    at: usize,
+    y: Place,
+    at: MessageIndex,
     size: usize,
     trail: &mut [usize],
 ) -> bool
-    requires { ⌜ Meetable (now block) n (now draft) k (now ranks) × (from ≤ 15) × (y < n) × (at + size ≤ k) × (length (now trail) ≡ 512) ⌝ }
-    ensures { λ r. ⌜ EntryRight (now (block .entry)) (now (draft .entry)) (now (ranks .entry)) from y at size (now (trail .exit)) r ⌝ }
+    requires { ⌜ Meetable (now block) n (now draft) k (now ranks) × (from ≤ 15) × (y .0 < n) × (at .0 + size ≤ k) × (length (now trail) ≡ 512) ⌝ }
+    ensures { λ r. ⌜ EntryRight (now (block .entry)) (now (draft .entry)) (now (ranks .entry)) from (y .0) (at .0) size (now (trail .exit)) r ⌝ }
 {
-    if walk::field(block, y, 3) != 2 + 4 * from {
+    if record::field(block, y, 3) != 2 + 4 * from {
         return false;
     }
     if !walk_face(block, n, y, size, trail) {
@@ -114,14 +132,16 @@ pub fn entry_right(
 }
 
 // The places that the darts of a new face meet, from index `at` on.
-fn put_met(trail: &[usize], size: usize, links: &mut [u64], at: usize)
-    requires { ⌜ (length (now trail) ≡ 512) × (length (now links) ≡ 512) × (at + size ≤ 512) ⌝ }
-    ensures { λ _. ⌜ Over at size (met-at (now (trail .entry)) size) (now (links .entry)) (now (links .exit)) ⌝ }
+fn put_met(trail: &[usize], size: usize, links: &mut [u64], at: MessageIndex)
+    requires { ⌜ (length (now trail) ≡ 512) × (length (now links) ≡ 512) × (at .0 + size ≤ 512) ⌝ }
+    ensures { λ _. ⌜ Over (at .0) size (met-at (now (trail .entry)) size) (now (links .entry)) (now (links .exit)) ⌝ }
 {
+    let first = at.0;
     // The first j are put.
     let mut j = 0;
     while j < size {
-        links[at + j] = met(trail, size, j) as u64;
+        let there = met(trail, size, j);
+        links[first + j] = there.0 as u64;
         j += 1;
     }
 }
@@ -134,20 +154,23 @@ fn paint(trail: &[usize], size: usize, seen: &mut [u8])
     // The first j are painted.
     let mut j = 0;
     while j < size {
-        seen[trail[j]] = 1;
+        let place = place::place_at(trail, j);
+        let p = place.0;
+        seen[p] = 1;
         j += 1;
     }
 }
 
 // Whether y is one of the n places, and not yet seen.
-fn is_new(seen: &[u8], n: usize, y: usize) -> bool
+fn is_new(seen: &[u8], n: usize, y: Place) -> bool
     requires { ⌜ (n ≤ room) × (length (now seen) ≡ room) ⌝ }
-    ensures { λ r. ⌜ r ≡ (ltb y n && eqb (getD (now (seen .entry)) y 0) 0) ⌝ }
+    ensures { λ r. ⌜ r ≡ (ltb (y .0) n && eqb (getD (now (seen .entry)) (y .0) 0) 0) ⌝ }
 {
-    if y >= n {
+    let p = y.0;
+    if p >= n {
         return false;
     }
-    seen[y] == 0
+    seen[p] == 0
 }
 
 // Sews the face of `size` new darts from index `at` on to that of the dart at place y, if it is right and that was not seen before.
@@ -158,16 +181,16 @@ fn enter(
     k: usize,
     ranks: &[usize],
     from: u64,
-    y: usize,
-    at: usize,
+    y: Place,
+    at: MessageIndex,
     size: usize,
     trail: &mut [usize],
     seen: &mut [u8],
     kinds: &mut [u64],
     links: &mut [u64],
 ) -> bool
-    requires { ⌜ Meetable (now block) n (now draft) k (now ranks) × (from ≤ 15) × (at + size ≤ k) × (length (now trail) ≡ 512) × (length (now seen) ≡ room) × (length (now kinds) ≡ 512) × (length (now links) ≡ 512) ⌝ }
-    ensures { λ r. ⌜ Entered (now (block .entry)) (now (draft .entry)) (now (ranks .entry)) n from y at size (now (trail .exit)) (now (seen .entry)) (now (seen .exit)) (now (kinds .entry)) (now (kinds .exit)) (now (links .entry)) (now (links .exit)) r ⌝ }
+    requires { ⌜ Meetable (now block) n (now draft) k (now ranks) × (from ≤ 15) × (at .0 + size ≤ k) × (length (now trail) ≡ 512) × (length (now seen) ≡ room) × (length (now kinds) ≡ 512) × (length (now links) ≡ 512) ⌝ }
+    ensures { λ r. ⌜ Entered (now (block .entry)) (now (draft .entry)) (now (ranks .entry)) n from (y .0) (at .0) size (now (trail .exit)) (now (seen .entry)) (now (seen .exit)) (now (kinds .entry)) (now (kinds .exit)) (now (links .entry)) (now (links .exit)) r ⌝ }
 {
     if !is_new(seen, n, y) {
         return false;
@@ -205,9 +228,9 @@ fn enter_all(
     // Those before e are right, and the faces that they meet are seen.
     let mut e = 0;
     while e < c {
-        let y = places[e];
-        let at = indices[e] as usize;
-        let size = sizes[at];
+        let y = place::place_at(places, e);
+        let at = place::entry_index(indices, e);
+        let size = place::size_at(sizes, at);
         if !enter(
             block,
             n,
@@ -249,8 +272,8 @@ pub fn part2_right(
     requires { ⌜ (length (now kinds) ≡ 512) × (length (now links) ≡ 512) ⌝ }
     ensures { λ r. ⌜ Part2Told (now (block .entry)) (now (draft .entry)) (now (ranks .entry)) (now (sizes .entry)) (now (places .entry)) (now (indices .entry)) n from c (now (kinds .entry)) (now (kinds .exit)) (now (links .entry)) (now (links .exit)) r ⌝ }
 {
-    let mut trail = [0usize; 512];
-    let mut seen = [0u8; 4096];
+    let mut trail = [0usize; Header::VOLUME];
+    let mut seen = [0u8; Header::DARTS];
     enter_all(
         block,
         n,

@@ -1,3 +1,4 @@
 pub mod RankLaws
 pub mod Steps
 pub mod Halves
+pub mod Found

@@ -38,8 +38,8 @@ use Rattle.arrival.proofs.Eighteen.{eighteen-is}
 use Rattle.fitting.specs.Fitting.{NewVolume, Parted}
 use Rattle.fitting.proofs.Outlined.{told-of}
 use Rattle.receive.specs.Taken.{AllYes, AskedSaid, AskedAll, Takes, receive-by}
-use Rattle.receive.specs.declared.asks.Asked.{Asked}
-use Rattle.receive.specs.declared.asks.Asked.the-variants as asked
+use Rattle.answers.specs.declared.Answer.{Answer as Answered}
+use Rattle.answers.specs.declared.Answer.the-variants as answer
 
 module _ (m : List ℕ) {s v x b z : List ℕ} {f : Front} {l : Tail} where
   count-is : (t : Transfer) → TransferOutlined t s v x b z f l → length (block-in m .darts) + size-all (t .faces) ≡ getD m 2 0 + f .darts
@@ -50,7 +50,7 @@ module _ (m : List ℕ) {s v x b z : List ℕ} {f : Front} {l : Tail} where
     here-is : (t : Transfer) → TransferOutlined t s v x b z f l → here ≡ addressed (t .from) (t .to) (block-in m)
     here-is t w = seventeen ∙ ap (λ (a : ℕ). addressed a (f .to) (block-in m)) (w .from-is) ∙ ap (λ (a : ℕ). addressed (t .from) a (block-in m)) (w .to-is)
 
-    pub no-17 : {keys ranks q c kinds links : List ℕ} → not here ≡ true → AskedAll m s v x b z f l keys ranks q c kinds links (asked.No refusal.NotForHere)
+    pub no-17 : {keys ranks q c kinds links : List ℕ} → not here ≡ true → AskedAll m s v x b z f l keys ranks q c kinds links (answer.Refused refusal.NotForHere)
     unfolding receive-checks
     no-17 h = record { said = λ t e w. alone _ (ask-no refl (said-no (here-is t w) h) refl) }
 
@@ -60,19 +60,19 @@ module _ (m : List ℕ) {s v x b z : List ℕ} {f : Front} {l : Tail} where
       new-is : (t : Transfer) → TransferOutlined t s v x b z f l → fresh ≡ serials-new (block-in m .darts) t
       new-is t w = eighteen .is ∙ sym (eighteen-is (block-in m .darts) (told-of w) fit)
 
-      pub no-18 : {q c kinds links : List ℕ} → not fresh ≡ true → AskedAll m s v x b z f l keys ranks q c kinds links (asked.No refusal.SerialsNotNew)
+      pub no-18 : {q c kinds links : List ℕ} → not fresh ≡ true → AskedAll m s v x b z f l keys ranks q c kinds links (answer.Refused refusal.SerialsNotNew)
       unfolding receive-checks
       no-18 h = record { said = λ t e w. alone _ (ask-yes (said-yes (here-is t w) yes-17) (ask-no refl (said-no (new-is t w) h) refl)) }
 
       -- 19
       module _ (yes-18 : not fresh ≡ false) {right : Bool} (nineteen : (t : Transfer) → Told t v x b z s (f .points) (f .vertices) (f .darts) (f .hollow) → right ≡ volume-right t) where
-        pub no-19 : {q c kinds links : List ℕ} → not right ≡ true → AskedAll m s v x b z f l keys ranks q c kinds links (asked.No refusal.VolumeWrong)
+        pub no-19 : {q c kinds links : List ℕ} → not right ≡ true → AskedAll m s v x b z f l keys ranks q c kinds links (answer.Refused refusal.VolumeWrong)
         unfolding receive-checks
         no-19 h = record { said = λ t e w. alone _ (ask-yes (said-yes (here-is t w) yes-17) (ask-yes (said-yes (new-is t w) yes-18) (ask-no refl (said-no (nineteen t (told-of w)) h) refl))) }
 
         -- 20
         module _ (yes-19 : not right ≡ false) {kinds links : List ℕ} {parted : Bool} (twenty : Parted m s v x b z f l kinds links parted) where
-          pub no-20 : {q c : List ℕ} → not parted ≡ true → AskedAll m s v x b z f l keys ranks q c kinds links (asked.No refusal.PartsWrong)
+          pub no-20 : {q c : List ℕ} → not parted ≡ true → AskedAll m s v x b z f l keys ranks q c kinds links (answer.Refused refusal.PartsWrong)
           unfolding receive-checks
           no-20 h = record {
             said = λ t e w. alone _ (ask-yes (said-yes (here-is t w) yes-17) (ask-yes (said-yes (new-is t w) yes-18) (ask-yes (said-yes (nineteen t (told-of w)) yes-19)
@@ -81,7 +81,7 @@ module _ (m : List ℕ) {s v x b z : List ℕ} {f : Front} {l : Tail} where
 
           -- 21
           module _ (yes-20 : not parted ≡ false) where
-            pub no-21 : {q c : List ℕ} → 4096 < getD m 2 0 + f .darts → AskedAll m s v x b z f l keys ranks q c kinds links (asked.No refusal.BlockFull)
+            pub no-21 : {q c : List ℕ} → 4096 < getD m 2 0 + f .darts → AskedAll m s v x b z f l keys ranks q c kinds links (answer.Refused refusal.BlockFull)
             unfolding receive-checks
             no-21 h = record {
               said = λ t e w. alone _ (ask-yes (said-yes (here-is t w) yes-17) (ask-yes (said-yes (new-is t w) yes-18) (ask-yes (said-yes (nineteen t (told-of w)) yes-19)
@@ -90,7 +90,7 @@ module _ (m : List ℕ) {s v x b z : List ℕ} {f : Front} {l : Tail} where
 
             pub yes-all : {q c : List ℕ} → getD m 2 0 + f .darts ≤ 4096 → Draft v x b z keys ranks q s (f .points) (f .darts) c
                 → length kinds ≡ 512 → length links ≡ 512 → length ranks ≡ 512
-                → AskedAll m s v x b z f l keys ranks q c kinds links asked.Yes
+                → AskedAll m s v x b z f l keys ranks q c kinds links answer.Served
             unfolding receive-checks
             yes-all h d lk ll lr = record {
               said = (
@@ -201,11 +201,11 @@ unfolding receive-checks
 none-no m t a = yes-then 17 _ _ (a .for-here) ∙ yes-then 18 _ _ (a .serials) ∙ yes-then 19 _ _ (a .volume) ∙ yes-then 20 _ _ (a .parts) ∙ yes-then 21 _ _ (a .fits) ∙ no-more
 
 -- WHAT `questions` TELLS, where a caller has looked which it is
-module _ {m s v x b z : List ℕ} {f : Front} {l : Tail} {keys ranks q c kinds links : List ℕ} {r : Asked} (h : AskedAll m s v x b z f l keys ranks q c kinds links r) where
-  pub asked-no : {n : Refusal} → r ≡ asked.No n → AskedSaid m s v x b z f l keys ranks q c kinds links (asked.No n)
+module _ {m s v x b z : List ℕ} {f : Front} {l : Tail} {keys ranks q c kinds links : List ℕ} {r : Answered} (h : AskedAll m s v x b z f l keys ranks q c kinds links r) where
+  pub asked-no : {n : Refusal} → r ≡ answer.Refused n → AskedSaid m s v x b z f l keys ranks q c kinds links (answer.Refused n)
   asked-no e = subst (AskedSaid m s v x b z f l keys ranks q c kinds links) e (h .said)
 
-  pub asked-yes : r ≡ asked.Yes → AskedSaid m s v x b z f l keys ranks q c kinds links asked.Yes
+  pub asked-yes : r ≡ answer.Served → AskedSaid m s v x b z f l keys ranks q c kinds links answer.Served
   asked-yes e = subst (AskedSaid m s v x b z f l keys ranks q c kinds links) e (h .said)
 
 -- the transfer that was read

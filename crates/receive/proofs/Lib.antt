@@ -1,4 +1,3 @@
-pub mod Joining
 pub mod TakenImage
 pub mod Answered
 pub mod Served

@@ -25,17 +25,18 @@ use Rattle.inbox.specs.Inbox.{points-in}
 use Rattle.inbox.specs.Arrived.{TransferOutlined}
 use Rattle.arrival.specs.Draft.{Draft}
 use Rattle.arrival.proofs.Eighteen.{eighteen-is}
-use Rattle.joined.specs.Join.{Indexed, Linking}
+use Rattle.join.specs.Join.{Indexed, Linking}
 use Rattle.soundness.proofs.Served.{transfer-read}
-use Rattle.woven.specs.Woven.{Drafted}
+use Rattle.join.specs.Woven.{Drafted}
 use Rattle.fitting.proofs.Outlined.{told-of}
-use Rattle.receive.specs.Taken.{AskedSaid, MayJoin, Joins, receive-by}
-use Rattle.receive.specs.declared.asks.Asked.the-variants as asked
+use Rattle.join.specs.Join.{MayJoin, Joins}
+use Rattle.receive.specs.Taken.{AskedSaid, receive-by}
+use Rattle.answers.specs.declared.Answer.the-variants as answer
 use Rattle.receive.proofs.TakenImage.{indexed, weaves, taken-image}
 use Rattle.receive.proofs.Answered.{transfer-served, none-no}
 
 module _ {m s v x b z : List ℕ} {f : Front} {l : Tail} {keys ranks q c kinds links : List ℕ} (ok : is-image rack m ≡ true)
-    (fit : f .darts ≤ length x) (h : AskedSaid m s v x b z f l keys ranks q c kinds links asked.Yes)
+    (fit : f .darts ≤ length x) (h : AskedSaid m s v x b z f l keys ranks q c kinds links answer.Served)
     (t : Transfer) (e : message-in s ≡ a-transfer t) (w : TransferOutlined t s v x b z f l) where
   d : Draft v x b z keys ranks q s (f .points) (f .darts) c
   d = h .1

@@ -24,19 +24,19 @@ use Rattle.soundness.proofs.Fits.{fits}
 use Rattle.soundness.proofs.Passed.{passed}
 use Rattle.soundness.proofs.Linking.{unlinked-sound}
 use Rattle.soundness.proofs.ReceiveSound.{received-is}
-use Rattle.weave.specs.Weave.{woven-at}
-use Rattle.woven.specs.Woven.{Drafted}
-use Rattle.woven.proofs.WovenImage.{drafted, woven-image}
-use Rattle.woven.proofs.WovenPlaces.{woven-block, count-is, size-is, number-is, counter-is}
-use Rattle.joined.specs.Join.{Indexed, Linking}
-use Rattle.joined.proofs.JoinedImage.{image-joined}
+use Rattle.join.specs.Weave.{woven-at}
+use Rattle.join.specs.Woven.{Drafted}
+use Rattle.join.proofs.WovenImage.{drafted, woven-image}
+use Rattle.join.proofs.WovenPlaces.{woven-block, count-is, size-is, number-is, counter-is}
+use Rattle.join.specs.Join.{Indexed, Linking}
+use Rattle.join.proofs.JoinedImage.{image-joined}
 use Rattle.ranking.specs.Ranks.{index-at}
 use Rattle.arrival.specs.Draft.{Draft, Told}
 use Rattle.arrival.proofs.DraftLaws.{sited, serial-of, links}
 use Rattle.arrival.proofs.NewDarts.{all-new, dart-there}
 use Rattle.arrival.proofs.Nineteen.{is-numbered, vertices-fit, each-below}
 use Rattle.ranking.proofs.RankLaws.{tab-distinct}
-use Rattle.receive.specs.Taken.{Joins}
+use Rattle.join.specs.Join.{Joins}
 
 module _ {v x b z keys ranks q s : List ℕ} {from k : ℕ} {c : List ℕ} (d : Draft v x b z keys ranks q s from k c) where
   -- the draft by index

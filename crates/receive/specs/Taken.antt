@@ -1,4 +1,4 @@
--- What the parts of the call answer: new darts joined to a block, and what a transfer does to its memory. Assumes nothing.
+-- What the parts of the call answer: the questions of a transfer, and what it does to the memory. Assumes nothing.
 use mathlib.Core.Path.{_≡_}
 use mathlib.Core.List.{List, _++_}
 use mathlib.Core.Bool.{true}
@@ -8,35 +8,16 @@ use lib.ListN.{length, getD}
 use Rattle.model.specs.Values.{rack}
 use Rattle.model.specs.Image.{room, block-in, memory-checks}
 use Rattle.model.specs.Messages.{Transfer, Message, a-transfer, message-in, size-all}
-use Rattle.model.specs.Departure.{Link}
 use Rattle.model.specs.Arrival.{addressed, transfer-links, serials-new, volume-right, parts-right, receive-checks, received-from}
 use Rattle.model.specs.Calls.{Answer, Result, refused, storing}
 use Rattle.answers.specs.Answers.{Gives, answered, question}
 use Rattle.inbox.specs.declared.message.Front.{Front}
 use Rattle.inbox.specs.declared.message.Tail.{Tail}
 use Rattle.inbox.specs.Arrived.{TransferOutlined}
-use Rattle.weave.specs.Weave.{woven-at}
-use Rattle.woven.specs.Woven.{Drafted, Stands}
-use Rattle.sewing.specs.Thirds.{Sewn}
-use Rattle.joined.specs.Join.{Indexed, Linking}
+use Rattle.join.specs.Join.{Linking}
 use Rattle.arrival.specs.Draft.{Draft}
-use Rattle.receive.specs.declared.asks.Asked.{Asked}
-use Rattle.receive.specs.declared.asks.Asked.the-variants as asked
-
--- a draft that may join a block, with the links that it brings
-pub record MayJoin (m c : List ℕ) (n k : ℕ) (kinds links ranks : List ℕ) : Type 0 where
-  pub drafted : Drafted m c n k
-  pub serials : List ℕ
-  pub brings : List Link
-  pub indexed : Indexed c serials ranks k
-  pub linking : Linking m n k serials kinds links brings
-
--- it has joined: woven, then sewn
-pub record Joins (m c : List ℕ) (n k : ℕ) (kinds links ranks y : List ℕ) : Type 0 where
-  pub old : List ℕ
-  pub new : List ℕ
-  pub stand : Stands m c (woven-at m n c k) n k old new
-  pub sewn : Sewn (woven-at m n c k) kinds links ranks old new k y
+use Rattle.answers.specs.declared.Answer.{Answer as Answered}
+use Rattle.answers.specs.declared.Answer.the-variants as answer
 
 -- the call on a message that was read
 unfoldable pub receive-by : List ℕ → Message → Result (Unit {0})
@@ -55,11 +36,11 @@ pub record AllYes (m : List ℕ) (t : Transfer) : Type 0 where
   pub fits : leb (length (block-in m .darts) + size-all (t .faces)) 4096 ≡ true
 
 -- QUESTIONS 17 TO 21 of the transfer that an outline tells: the first no, or what a yes to all leads to
-abbrev pub AskedSaid : List ℕ → List ℕ → List ℕ → List ℕ → List ℕ → List ℕ → Front → Tail → List ℕ → List ℕ → List ℕ → List ℕ → List ℕ → List ℕ → Asked → Type 0
-AskedSaid m s v x b z f l keys ranks q c kinds links (asked.No r) = (t : Transfer) → message-in s ≡ a-transfer t → TransferOutlined t s v x b z f l → refused (question r) ≡ answered (receive-checks rack (block-in m) (a-transfer t))
-AskedSaid m s v x b z f l keys ranks q c kinds links asked.Yes =
+abbrev pub AskedSaid : List ℕ → List ℕ → List ℕ → List ℕ → List ℕ → List ℕ → Front → Tail → List ℕ → List ℕ → List ℕ → List ℕ → List ℕ → List ℕ → Answered → Type 0
+AskedSaid m s v x b z f l keys ranks q c kinds links (answer.Refused r) = (t : Transfer) → message-in s ≡ a-transfer t → TransferOutlined t s v x b z f l → refused (question r) ≡ answered (receive-checks rack (block-in m) (a-transfer t))
+AskedSaid m s v x b z f l keys ranks q c kinds links answer.Served =
     ((t : Transfer) → message-in s ≡ a-transfer t → TransferOutlined t s v x b z f l → AllYes m t × Linking m (getD m 2 0) (f .darts) x kinds links (transfer-links (block-in m .darts) t))
     × Draft v x b z keys ranks q s (f .points) (f .darts) c × (getD m 2 0 + f .darts ≤ room) × (length kinds ≡ 512) × (length links ≡ 512) × (length ranks ≡ 512)
 
-pub record AskedAll (m s v x b z : List ℕ) (f : Front) (l : Tail) (keys ranks q c kinds links : List ℕ) (r : Asked) : Type 0 where
+pub record AskedAll (m s v x b z : List ℕ) (f : Front) (l : Tail) (keys ranks q c kinds links : List ℕ) (r : Answered) : Type 0 where
   pub said : AskedSaid m s v x b z f l keys ranks q c kinds links r

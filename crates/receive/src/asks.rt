@@ -10,14 +10,11 @@ ghost use Rattle.model.specs.Arrival.{addressed};
 ghost use Rattle.inbox.specs.Inbox.{Sides};
 ghost use Rattle.inbox.specs.Arrived.{TransferOutlined};
 ghost use Rattle.receive.specs.Taken.{AskedAll};
+use answers::Answer;
 use answers::Refusal;
 use inbox::message::Front;
 use inbox::message::Tail;
-
-pub enum Asked {
-    Yes,
-    No(Refusal),
-}
+use memory::header::Header;
 
 // 17: addressed here, from elsewhere.
 fn for_here(block: &[u64], from: u64, to: u64) -> bool
@@ -27,7 +24,7 @@ fn for_here(block: &[u64], from: u64, to: u64) -> bool
     (to == block[0]) & (from != block[0])
 }
 
-// All of them, in their order. `queue` and `firsts` are lent to work in.
+// All of them, in their order: the first no, or served. `queue` and `firsts` are lent to work in.
 pub fn questions(
     block: &[u64],
     message: &[u8],
@@ -45,13 +42,13 @@ pub fn questions(
     links: &mut [u64],
     queue: &mut [usize],
     firsts: &mut [usize],
-) -> Asked
+) -> Answer
     requires { ⌜ (is-image rack (now block) ≡ true) × Sides (now vertex) (now serial) (now starts) (now sizes) × ((t : Transfer) × (message-in (now message) ≡ a-transfer t) × TransferOutlined t (now message) (now vertex) (now serial) (now starts) (now sizes) front tail) ⌝ }
     requires { ⌜ (length (now keys) ≡ 512) × (length (now ranks) ≡ 512) × (length (now opposite) ≡ 512) × (length (now draft) ≡ words) × (now kinds ≡ replicate 512 0) × (now links ≡ replicate 512 0) × (length (now queue) ≡ room) × (length (now firsts) ≡ room) ⌝ }
     ensures { λ r. ⌜ AskedAll (now (block .entry)) (now (message .entry)) (now (vertex .entry)) (now (serial .entry)) (now (starts .entry)) (now (sizes .entry)) front tail (now (keys .exit)) (now (ranks .exit)) (now (opposite .exit)) (now (draft .exit)) (now (kinds .exit)) (now (links .exit)) r × (length (now (queue .exit)) ≡ room) × (length (now (firsts .exit)) ≡ room) ⌝ }
 {
     if !for_here(block, front.from, front.to) {
-        return Asked::No(Refusal::NotForHere);
+        return Answer::Refused(Refusal::NotForHere);
     }
     let n = block[2] as usize;
     let k = front.darts;
@@ -66,7 +63,7 @@ pub fn questions(
         keys,
         ranks,
     ) {
-        return Asked::No(Refusal::SerialsNotNew);
+        return Answer::Refused(Refusal::SerialsNotNew);
     }
     if !arrival::volume::volume_right(
         message,
@@ -85,7 +82,7 @@ pub fn questions(
         queue,
         firsts,
     ) {
-        return Asked::No(Refusal::VolumeWrong);
+        return Answer::Refused(Refusal::VolumeWrong);
     }
     if !fitting::parts_right(
         block,
@@ -99,10 +96,10 @@ pub fn questions(
         kinds,
         links,
     ) {
-        return Asked::No(Refusal::PartsWrong);
+        return Answer::Refused(Refusal::PartsWrong);
     }
-    if 4096 < n + k {
-        return Asked::No(Refusal::BlockFull);
+    if Header::DARTS < n + k {
+        return Answer::Refused(Refusal::BlockFull);
     }
-    Asked::Yes
+    Answer::Served
 }

@@ -1,6 +1,5 @@
 // Receive, the paper's take: a transfer's volume joins the block. Nothing is written before the last question is answered.
 mod asks; // asks.rt: questions 17 to 21
-mod join; // join.rt: new darts woven in, sewn and labelled
 
 ghost use mathlib.Core.Path.{_≡_};
 ghost use mathlib.Core.Bool.{true};
@@ -12,7 +11,6 @@ ghost use Rattle.answers.specs.Answers.{answer-of, Gives};
 ghost use Rattle.inbox.specs.Inbox.{Sides};
 ghost use Rattle.inbox.specs.Arrived.{TransferOutlined};
 ghost use Rattle.receive.specs.Taken.{Takes};
-use crate::asks::Asked;
 use answers::Answer;
 use answers::Refusal;
 use inbox::message::Front;
@@ -34,15 +32,15 @@ fn take(
     requires { ⌜ (is-image rack (now block) ≡ true) × Sides (now vertex) (now serial) (now starts) (now sizes) × ((t : Transfer) × (message-in (now message) ≡ a-transfer t) × TransferOutlined t (now message) (now vertex) (now serial) (now starts) (now sizes) front tail) ⌝ }
     ensures { λ r. ⌜ Takes (now (block .entry)) (now (message .entry)) (now (vertex .entry)) (now (serial .entry)) (now (starts .entry)) (now (sizes .entry)) front tail (answer-of r) (now (block .exit)) ⌝ }
 {
-    let mut keys = [0u64; 512];
-    let mut ranks = [0usize; 512];
-    let mut opposite = [0usize; 512];
-    let mut draft = [0u64; 32776];
-    let mut kinds = [0u64; 512];
-    let mut links = [0u64; 512];
+    let mut keys = [0u64; Header::VOLUME];
+    let mut ranks = [0usize; Header::VOLUME];
+    let mut opposite = [0usize; Header::VOLUME];
+    let mut draft = [0u64; Header::WORDS];
+    let mut kinds = [0u64; Header::VOLUME];
+    let mut links = [0u64; Header::VOLUME];
     // The questions work in both; then they are for the places of all darts.
-    let mut old = [0usize; 4096];
-    let mut new = [0usize; 4096];
+    let mut old = [0usize; Header::DARTS];
+    let mut new = [0usize; Header::DARTS];
     match asks::questions(
         block,
         message,
@@ -61,8 +59,8 @@ fn take(
         &mut old,
         &mut new,
     ) {
-        Asked::No(r) => Answer::Refused(r),
-        Asked::Yes => {
+        Answer::Refused(r) => Answer::Refused(r),
+        Answer::Served => {
             join::join(block, &draft, &kinds, &links, &ranks, &mut old, &mut new);
             Answer::Served
         }
@@ -81,10 +79,10 @@ pub fn receive(block: &mut [u64], message: &[u8]) -> Answer
     if !sound::is_sound(block) {
         return Answer::Refused(Refusal::NotAnImage);
     }
-    let mut vertex = [0u64; 512];
-    let mut serial = [0u64; 512];
-    let mut starts = [0usize; 512];
-    let mut sizes = [0usize; 512];
+    let mut vertex = [0u64; Header::VOLUME];
+    let mut serial = [0u64; Header::VOLUME];
+    let mut starts = [0usize; Header::VOLUME];
+    let mut sizes = [0usize; Header::VOLUME];
     match inbox::received::message_in(message, &mut vertex, &mut serial, &mut starts, &mut sizes) {
         Received::Transfer(f, t) => take(block, message, f, t, &vertex, &serial, &starts, &sizes),
         Received::Update(u) => Answer::Refused(Refusal::NotForHere),

@@ -1,7 +1,9 @@
 -- `arrival::draft::record_of` meets its contract.
 -- Assumes nothing.
 use Rattle.arrival.proofs.SegmentLaws.{next-below}
-use mathlib.Core.Path.{refl}
+use Rattle.arrival.proofs.Drafting.{finite-read, words-read}
+use Rattle.model.specs.Values.{Point as Patterns}
+use mathlib.Core.Path.{refl, _∙_, ap}
 use native.Mathlib.Omega.{arith}
 use borrow.Author.Needs.{needs}
 use Rattle.arrival.proofs.draft.record_of.Statement.{statement}
@@ -10,127 +12,115 @@ use Rattle.arrival.proofs.draft.record_of.Tie as tie
 mul-i : tie.Need-mul-i
 mul-i c =
     let start : tie.Start = search in
-    let f = start .pre .1 .few in omega (arith, f)
+    omega (arith, start .pre .1 .few, start .pre .0 .6)
 
 shared-slice-read-i : tie.Need-shared-slice-read-i
 shared-slice-read-i c =
     let start : tie.Start = search in
-    let f = start .pre .1 .few in omega (arith, f)
+    omega (arith, start .pre .1 .few, start .pre .0 .6, start .pre .0 .3)
+
+mul-serial : tie.Need-mul-serial
+mul-serial c =
+    let start : tie.Start = search in
+    omega (arith, start .pre .1 .few, start .pre .0 .6)
+
+shared-slice-read-serial : tie.Need-shared-slice-read-serial
+shared-slice-read-serial c =
+    let start : tie.Start = search in
+    omega (arith, start .pre .1 .few, start .pre .0 .6, start .pre .0 .3)
 
 next-index-requires : tie.Need-next-index-requires
 next-index-requires c κs =
     let start : tie.Start = search in
-    let i = start .pre .1 .index-below (start .args .p) (start .pre .0 .6) in
+    let i = start .pre .1 .index-below (start .args .p .0) (start .pre .0 .6) in
     let a = start .pre .1 .segs .start-le _ i in let e = start .pre .1 .segs .end-within _ i in let f = start .pre .1 .few in
     (start .pre .0 .1, start .pre .0 .2, omega (arith, i, f), omega (arith, a, i, f), omega (arith, e, f))
 
-mul-other : tie.Need-mul-other
-mul-other c = search needs
-
-shared-slice-read-other : tie.Need-shared-slice-read-other
-shared-slice-read-other c = search needs
-
-mul-point : tie.Need-mul-point
-mul-point c = search needs
-
-shared-slice-read-point : tie.Need-shared-slice-read-point
-shared-slice-read-point c = search needs
-
-mul-point-2 : tie.Need-mul-point-2
-mul-point-2 c =
+index-at-requires : tie.Need-index-at-requires
+index-at-requires c κs =
     let start : tie.Start = search in
-    let i = start .pre .1 .index-below (start .args .p) (start .pre .0 .6) in
-    let f = start .pre .1 .point-fits _ i in let g = start .pre .1 .few in
-    omega (arith, f)
+    let i = start .pre .1 .index-below (start .args .p .0) (start .pre .0 .6) in omega (arith, i, start .pre .1 .few, start .pre .0 .5)
 
-add-point : tie.Need-add-point
-add-point c =
-    let start : tie.Start = search in
-    let i = start .pre .1 .index-below (start .args .p) (start .pre .0 .6) in
-    let f = start .pre .1 .point-fits _ i in let g = start .pre .1 .few in
-    omega (arith, f)
-
-mul-t15 : tie.Need-mul-t15
-mul-t15 c =
-    let start : tie.Start = search in
-    let f = start .pre .1 .few in omega (arith, f)
-
-shared-slice-read-t17 : tie.Need-shared-slice-read-t17
-shared-slice-read-t17 c =
-    let start : tie.Start = search in
-    let f = start .pre .1 .few in omega (arith, f)
-
-mul-t20 : tie.Need-mul-t20
-mul-t20 c =
+rank-at-requires : tie.Need-rank-at-requires
+rank-at-requires c κs =
     let start : tie.Start = search in
     let next-index-ensures = (let p : tie.After-next-index = search in p .next-index .ensures) in
-    let i = start .pre .1 .index-below (start .args .p) (start .pre .0 .6) in
-    let n = next-below (start .pre .1 .segs) _ i in let f = start .pre .1 .few in
-    omega (arith, n, f, next-index-ensures)
+    let i = start .pre .1 .index-below (start .args .p .0) (start .pre .0 .6) in
+    let n = next-below (start .pre .1 .segs) _ i in
+    omega (arith, n, start .pre .1 .few, next-index-ensures, start .pre .0 .4)
 
-shared-slice-read-t22 : tie.Need-shared-slice-read-t22
-shared-slice-read-t22 c =
+rank-at-requires-2 : tie.Need-rank-at-requires-2
+rank-at-requires-2 c κs =
     let start : tie.Start = search in
-    let next-index-ensures = (let p : tie.After-next-index = search in p .next-index .ensures) in
-    let i = start .pre .1 .index-below (start .args .p) (start .pre .0 .6) in
-    let n = next-below (start .pre .1 .segs) _ i in let f = start .pre .1 .few in
-    omega (arith, n, f, next-index-ensures)
+    let index-at-ensures = (let p : tie.After-index-at = search in p .index-at .ensures) in
+    let i = start .pre .1 .index-below (start .args .p .0) (start .pre .0 .6) in
+    omega (arith, start .pre .1 .opposite-below _ i, start .pre .1 .few, index-at-ensures, start .pre .0 .4)
 
-mul-t26 : tie.Need-mul-t26
-mul-t26 c =
-    let start : tie.Start = search in
-    let i = start .pre .1 .index-below (start .args .p) (start .pre .0 .6) in
-    let o = start .pre .1 .opposite-below _ i in let f = start .pre .1 .few in
-    omega (arith, o, f)
+mul-point-in : tie.Need-mul-point-in
+mul-point-in c = search needs
 
-shared-slice-read-t28 : tie.Need-shared-slice-read-t28
-shared-slice-read-t28 c =
+shared-slice-read-point-in : tie.Need-shared-slice-read-point-in
+shared-slice-read-point-in c =
     let start : tie.Start = search in
-    let i = start .pre .1 .index-below (start .args .p) (start .pre .0 .6) in
-    let o = start .pre .1 .opposite-below _ i in let f = start .pre .1 .few in
-    omega (arith, o, f)
+    let i = start .pre .1 .index-below (start .args .p .0) (start .pre .0 .6) in omega (arith, i, start .pre .1 .few, start .pre .0 .0)
 
-word-at-requires : tie.Need-word-at-requires
-word-at-requires c κs =
+mul-point-in-2 : tie.Need-mul-point-in-2
+mul-point-in-2 c =
     let start : tie.Start = search in
-    let i = start .pre .1 .index-below (start .args .p) (start .pre .0 .6) in
-    let f = start .pre .1 .point-fits _ i in let g = start .pre .1 .few in
-    omega (arith, f)
+    let i = start .pre .1 .index-below (start .args .p .0) (start .pre .0 .6) in omega (arith, start .pre .1 .point-fits _ i)
 
-add-word-at : tie.Need-add-word-at
-add-word-at c =
+add-point-in : tie.Need-add-point-in
+add-point-in c =
     let start : tie.Start = search in
-    let i = start .pre .1 .index-below (start .args .p) (start .pre .0 .6) in
-    let f = start .pre .1 .point-fits _ i in let g = start .pre .1 .few in
-    omega (arith, f)
+    let i = start .pre .1 .index-below (start .args .p .0) (start .pre .0 .6) in omega (arith, start .pre .1 .point-fits _ i)
 
-word-at-requires-2 : tie.Need-word-at-requires-2
-word-at-requires-2 c κs =
+point-in-requires : tie.Need-point-in-requires
+point-in-requires c κs =
     let start : tie.Start = search in
-    let i = start .pre .1 .index-below (start .args .p) (start .pre .0 .6) in
-    let f = start .pre .1 .point-fits _ i in let g = start .pre .1 .few in
-    omega (arith, f)
+    let i = start .pre .1 .index-below (start .args .p .0) (start .pre .0 .6) in (omega (arith, start .pre .1 .point-fits _ i), start .pre .1 .point-finite _ i)
 
-add-word-at-2 : tie.Need-add-word-at-2
-add-word-at-2 c =
+pattern-requires : tie.Need-pattern-requires
+pattern-requires c κs =
     let start : tie.Start = search in
-    let i = start .pre .1 .index-below (start .args .p) (start .pre .0 .6) in
-    let f = start .pre .1 .point-fits _ i in let g = start .pre .1 .few in
-    omega (arith, f)
+    let point-in-ensures = (let p : tie.After-point-in = search in p .point-in .ensures) in
+    let i = start .pre .1 .index-below (start .args .p .0) (start .pre .0 .6) in
+    finite-read (start .pre .1 .point-finite _ i) point-in-ensures .on-x
 
-word-at-requires-3 : tie.Need-word-at-requires-3
-word-at-requires-3 c κs =
+pattern-requires-2 : tie.Need-pattern-requires-2
+pattern-requires-2 c κs =
     let start : tie.Start = search in
-    let i = start .pre .1 .index-below (start .args .p) (start .pre .0 .6) in
-    let f = start .pre .1 .point-fits _ i in let g = start .pre .1 .few in
-    omega (arith, f)
+    let point-in-ensures = (let p : tie.After-point-in = search in p .point-in .ensures) in
+    let i = start .pre .1 .index-below (start .args .p .0) (start .pre .0 .6) in
+    finite-read (start .pre .1 .point-finite _ i) point-in-ensures .on-y
+
+pattern-requires-3 : tie.Need-pattern-requires-3
+pattern-requires-3 c κs =
+    let start : tie.Start = search in
+    let point-in-ensures = (let p : tie.After-point-in = search in p .point-in .ensures) in
+    let i = start .pre .1 .index-below (start .args .p .0) (start .pre .0 .6) in
+    finite-read (start .pre .1 .point-finite _ i) point-in-ensures .on-z
 
 returns : tie.Need-returns
 returns c =
+    let start : tie.Start = search in
     let next-index-ensures = (let p : tie.After-next-index = search in p .next-index .ensures) in
-    let word-at-ensures = (let p : tie.After-word-at = search in p .word-at .ensures) in
-    let word-at2-ensures = (let p : tie.After-word-at2 = search in p .word-at2 .ensures) in
-    rw (next-index-ensures, word-at-ensures, word-at2-ensures, c .word-at3 .ensures) refl
+    let index-at-ensures = (let p : tie.After-index-at = search in p .index-at .ensures) in
+    let rank-at-ensures = (let p : tie.After-rank-at = search in p .rank-at .ensures) in
+    let rank-at2-ensures = (let p : tie.After-rank-at2 = search in p .rank-at2 .ensures) in
+    let point-in-ensures = (let p : tie.After-point-in = search in p .point-in .ensures) in
+    let pattern-ensures = (let p : tie.After-pattern = search in p .pattern .ensures) in
+    let pattern2-ensures = (let p : tie.After-pattern2 = search in p .pattern2 .ensures) in
+    let i = start .pre .1 .index-below (start .args .p .0) (start .pre .0 .6) in
+    let words = words-read (start .pre .1 .point-finite _ i) point-in-ensures in
+    rw (
+      rank-at-ensures,
+      rank-at2-ensures,
+      next-index-ensures,
+      index-at-ensures,
+      pattern-ensures ∙ ap (λ (w : Patterns). w .x) words,
+      pattern2-ensures ∙ ap (λ (w : Patterns). w .y) words,
+      c .pattern3 .ensures ∙ ap (λ (w : Patterns). w .z) words,
+    ) refl
 
 pub record-of-spec : {M : Type 1} → statement M
 record-of-spec =
@@ -138,22 +128,18 @@ record-of-spec =
     (tie.spec
     mul-i
     shared-slice-read-i
+    mul-serial
+    shared-slice-read-serial
     next-index-requires
-    mul-other
-    shared-slice-read-other
-    mul-point
-    shared-slice-read-point
-    mul-point-2
-    add-point
-    mul-t15
-    shared-slice-read-t17
-    mul-t20
-    shared-slice-read-t22
-    mul-t26
-    shared-slice-read-t28
-    word-at-requires
-    add-word-at
-    word-at-requires-2
-    add-word-at-2
-    word-at-requires-3
+    index-at-requires
+    rank-at-requires
+    rank-at-requires-2
+    mul-point-in
+    shared-slice-read-point-in
+    mul-point-in-2
+    add-point-in
+    point-in-requires
+    pattern-requires
+    pattern-requires-2
+    pattern-requires-3
     returns)

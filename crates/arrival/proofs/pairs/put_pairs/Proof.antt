@@ -81,7 +81,7 @@ couple-requires c κs =
     let next-index-ensures = (let p : tie.After-next-index Inv-loop μ-loop = search in p .next-index .ensures) in
     let next-index-result = (let p : tie.After-next-index Inv-loop μ-loop = search in p .next-index .result) in (
       start .pre .1 .1 loop-i loop-test-taken,
-      start .pre .1 .1 next-index-result
+      start .pre .1 .1 (next-index-result .0)
           (let n = next-below (start .pre .1 .0) loop-i (omega arith) in omega (arith, n, next-index-ensures)),
     )
 

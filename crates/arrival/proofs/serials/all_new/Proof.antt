@@ -1,13 +1,9 @@
 -- `arrival::serials::all_new` meets its contract.
 -- Assumes nothing.
 use Prim.Native.Nat.{_-_, _≤_}
-use mathlib.Core.Path.{sym, _∙_}
-use mathlib.Core.Bool.{not, _&&_}
-use lib.Dec.{leb}
 use lib.ListN.{getD}
-use borrow.Author.Tests.{le-leb, lt-leb}
-use Rattle.model.specs.Cells.{held}
-use Rattle.model.specs.Image.{block-in}
+use Rattle.arrival.specs.Draft.{is-new}
+use Rattle.arrival.proofs.Eighteen.{told-old, told-new}
 use Rattle.arrival.proofs.Steps.{Passing, passing-none, passing-more, passing-all, passing-not}
 use native.Mathlib.Omega.{arith}
 use borrow.Author.Needs.{needs}
@@ -16,7 +12,7 @@ use Rattle.arrival.proofs.serials.all_new.Tie as tie
 
 abbrev Inv-loop : tie.InvT-loop
 Inv-loop block n serial k near₀ i₀ near i =
-    (near ≤ n) × Passing (λ j. leb 1 (getD serial j 0) && not (held (block-in block .darts) (getD serial j 0))) i
+    (near ≤ n) × Passing (λ j. is-new block (getD serial j 0)) i
 
 abbrev μ-loop : tie.MeasureT-loop
 μ-loop block n serial k near₀ i₀ near i =
@@ -40,6 +36,12 @@ gap-of-requires c κs =
     let loop-test-taken = (let p : tie.In-loop Inv-loop μ-loop = search in p .loop-test .taken) in
     (start .pre .0, start .pre .1, start .pre .2, start .pre .3, start .pre .4, start .pre .7 loop-i loop-test-taken, loop-inv .0)
 
+enum-known-gap : tie.Need-enum-known-gap Inv-loop μ-loop
+enum-known-gap c = search needs
+
+enum-told : tie.Need-enum-told Inv-loop μ-loop
+enum-told c = search needs
+
 returns : tie.Need-returns Inv-loop μ-loop
 returns c =
     let start : tie.Start Inv-loop μ-loop = search in
@@ -48,8 +50,7 @@ returns c =
     let k = start .args .k in
     let loop-i = (let p : tie.At-loop Inv-loop μ-loop = search in p .loop .i) in
     let gap-of-ensures = (let p : tie.After-gap-of Inv-loop μ-loop = search in p .gap-of .ensures) in
-    passing-not (λ j. leb 1 (getD serial j 0) && not (held (block-in block .darts) (getD serial j 0))) loop-i k (omega arith)
-    (sym gap-of-ensures ∙ lt-leb _ _ (c .if1 .taken))
+    passing-not (λ j. is-new block (getD serial j 0)) loop-i k (omega arith) (told-old gap-of-ensures (c .enum-told .given .1))
 
 add-i : tie.Need-add-i Inv-loop μ-loop
 add-i c = search needs
@@ -59,11 +60,11 @@ loop-less c = search needs
 
 loop-again : tie.Need-loop-again Inv-loop μ-loop
 loop-again c =
-    let start : tie.Start Inv-loop μ-loop = search in
     let loop-inv = (let p : tie.At-loop Inv-loop μ-loop = search in p .loop .inv) in
     let gap-of-ensures = (let p : tie.After-gap-of Inv-loop μ-loop = search in p .gap-of .ensures) in
-    let gap-of-result = (let p : tie.After-gap-of Inv-loop μ-loop = search in p .gap-of .result) in
-    (omega arith, passing-more (loop-inv .1) (sym gap-of-ensures ∙ le-leb gap-of-result (start .args .n) (omega (arith, c .if1 .left))))
+    let gap-given = (let p : tie.After-gap Inv-loop μ-loop = search in p .gap .given) in
+    let new = told-new gap-of-ensures (gap-given .1) in
+    (new .1, passing-more (loop-inv .1) (new .0))
 
 returns-2 : tie.Need-returns-2 Inv-loop μ-loop
 returns-2 c =
@@ -81,6 +82,8 @@ all-new-spec =
     mul-gap-of
     shared-slice-read-gap-of
     gap-of-requires
+    enum-known-gap
+    enum-told
     returns
     add-i
     loop-less

@@ -1,7 +1,6 @@
 -- `arrival::serials::gap_of` meets its contract.
 -- Assumes nothing.
 use mathlib.Core.Path.{sym, ap, _∙_}
-use Prim.Native.Nat.{_+_}
 use Rattle.model.specs.Image.{column}
 use Rattle.arrival.proofs.Eighteen.{gap-zero, gap-held, gap-new}
 use native.Mathlib.Omega.{arith}
@@ -9,13 +8,10 @@ use borrow.Author.Needs.{needs}
 use Rattle.arrival.proofs.serials.gap_of.Statement.{statement}
 use Rattle.arrival.proofs.serials.gap_of.Tie as tie
 
-add-result : tie.Need-add-result
-add-result c = search needs
-
 returns : tie.Need-returns
 returns c =
     let start : tie.Start = search in
-    gap-zero (start .args .block .now) {n = start .args .n} {r = start .args .n + 1} (c .if1 .taken) (omega arith)
+    gap-zero (start .args .block .now) {n = start .args .n} (c .if1 .taken)
 
 in-gap-requires : tie.Need-in-gap-requires
 in-gap-requires c κs = search needs
@@ -36,19 +32,16 @@ last-of-requires c κs =
 field-requires : tie.Need-field-requires
 field-requires c κs = search needs
 
-add-result-2 : tie.Need-add-result-2
-add-result-2 c = search needs
-
 returns-3 : tie.Need-returns-3
 returns-3 c =
     let start : tie.Start = search in
     let if1-left = (let p : tie.Else1 = search in p .if1 .left) in
     let last-of-ensures = (let p : tie.After-last-of = search in p .last-of .ensures) in
     let field-ensures = (let p : tie.After-field = search in p .field .ensures) in
-    gap-held (start .args .block .now) if1-left (start .pre .0) (start .pre .3) (last-of-ensures .0) (sym field-ensures ∙ c .if3 .taken) (omega arith)
+    gap-held (start .args .block .now) if1-left (start .pre .0) (start .pre .3) (last-of-ensures .0) (sym field-ensures ∙ c .if3 .taken)
 
-add-result-3 : tie.Need-add-result-3
-add-result-3 c = search needs
+add-below : tie.Need-add-below
+add-below c = search needs
 
 returns-4 : tie.Need-returns-4
 returns-4 c =
@@ -78,14 +71,12 @@ pub gap-of-spec : {M : Type 1} → statement M
 gap-of-spec =
     tie.close
     (tie.spec
-    add-result
     returns
     in-gap-requires
     returns-2
     last-of-requires
     field-requires
-    add-result-2
     returns-3
-    add-result-3
+    add-below
     returns-4
     returns-5)

@@ -18,7 +18,7 @@ returns c =
 ordered-requires : tie.Need-ordered-requires
 ordered-requires c κs =
     let start : tie.Start = search in
-    (start .pre .0 .1, start .pre .0 .2, (start .pre .1 .1 .1) .few, segs (start .pre .1 .1 .1) .start-le)
+    (start .pre .0 .1, start .pre .0 .2, (start .pre .1 .2 .1) .few, segs (start .pre .1 .2 .1) .start-le)
 
 returns-2 : tie.Need-returns-2
 returns-2 c =
@@ -31,7 +31,7 @@ returns-2 c =
 vertices-fit-requires : tie.Need-vertices-fit-requires
 vertices-fit-requires c κs =
     let start : tie.Start = search in
-    (start .pre .0 .0, (start .pre .1 .1 .1) .few)
+    (start .pre .0 .0, (start .pre .1 .2 .1) .few)
 
 returns-3 : tie.Need-returns-3
 returns-3 c =
@@ -51,10 +51,10 @@ paired-requires c κs =
         start .pre .0 .2,
         start .pre .0 .3,
         start .pre .0 .6,
-        (start .pre .1 .1 .1) .some-darts,
-        (start .pre .1 .1 .1) .few,
+        (start .pre .1 .2 .1) .some-darts,
+        (start .pre .1 .2 .1) .few,
       ),
-      (segs (start .pre .1 .1 .1), small (start .pre .1 .1 .1) (sym vertices-fit-ensures ∙ not-false _ if3-left)),
+      (segs (start .pre .1 .2 .1), small (start .pre .1 .2 .1) (sym vertices-fit-ensures ∙ not-false _ if3-left)),
     )
 
 same-length : tie.Need-same-length
@@ -87,18 +87,19 @@ put-draft-requires c κs =
         paired-ensures .1,
         start .pre .0 .7,
       ),
-      draftable (start .pre .1 .1 .1) (sym vertices-fit-ensures ∙ not-false _ if3-left) (start .pre .1 .0) (paired-ensures .0)
-          (not-false _ if4-left),
+      draftable (start .pre .1 .2 .1) (sym vertices-fit-ensures ∙ not-false _ if3-left) (start .pre .1 .0) (paired-ensures .0)
+          (not-false _ if4-left) (start .pre .1 .1),
     )
 
-shared-slice-read-one-volume : tie.Need-shared-slice-read-one-volume
-shared-slice-read-one-volume c =
-    let c : tie.After-shared-slice-known7 = search in
+rank-at-requires : tie.Need-rank-at-requires
+rank-at-requires c κs =
+    let c : tie.After-paired = search in
     let start : tie.Start = search in
     let l = start .pre .0 .5 in omega (arith, l)
 
 one-volume-requires : tie.Need-one-volume-requires
 one-volume-requires c κs =
+    let rank-at-ensures = (let p : tie.After-rank-at = search in p .rank-at .ensures) in
     let put-draft-ensures = (let p : tie.After-put-draft = search in p .put-draft .ensures) in
     let if4-left = (let p : tie.Else4 = search in p .if4 .left) in
     let paired-ensures = (let p : tie.After-paired = search in p .paired .ensures) in
@@ -107,9 +108,9 @@ one-volume-requires c κs =
     let c : tie.After-vertices-fit = search in
     let start : tie.Start = search in (
       links
-          (draft-of (start .pre .1 .1 .1) (sym vertices-fit-ensures ∙ not-false _ if3-left) (start .pre .1 .0) (paired-ensures .0)
+          (draft-of (start .pre .1 .2 .1) (sym vertices-fit-ensures ∙ not-false _ if3-left) (start .pre .1 .0) (paired-ensures .0)
           (not-false _ if4-left) put-draft-ensures),
-      start .pre .1 .0 .rank-below 0 ((start .pre .1 .1 .1) .some-darts),
+      omega (arith, rank-at-ensures, start .pre .1 .0 .rank-below 0 ((start .pre .1 .2 .1) .some-darts)),
       start .pre .0 .8,
     )
 
@@ -126,6 +127,7 @@ returns-5 : tie.Need-returns-5
 returns-5 c =
     let if5-taken = (let p : tie.Then5 = search in p .if5 .taken) in
     let one-volume-ensures = (let p : tie.After-one-volume = search in p .one-volume .ensures) in
+    let rank-at-ensures = (let p : tie.After-rank-at = search in p .rank-at .ensures) in
     let put-draft-ensures = (let p : tie.After-put-draft = search in p .put-draft .ensures) in
     let if4-left = (let p : tie.Else4 = search in p .if4 .left) in
     let paired-ensures = (let p : tie.After-paired = search in p .paired .ensures) in
@@ -136,7 +138,7 @@ returns-5 c =
     let vertices-fit-yes = sym vertices-fit-ensures ∙ not-false _ if3-left in (
       (λ t w. volume-no w vertices-fit-yes
           (draft-of w vertices-fit-yes (start .pre .1 .0) (paired-ensures .0) (not-false _ if4-left) put-draft-ensures)
-          (sym (one-volume-ensures .0) ∙ not-true _ if5-taken)),
+          rank-at-ensures (sym (one-volume-ensures .0) ∙ not-true _ if5-taken)),
       ((λ y. absurd (true≢false (sym y))), paired-ensures .1, put-draft-ensures .size, one-volume-ensures .1, start .pre .0 .9),
     )
 
@@ -151,11 +153,11 @@ numbered-requires c κs =
     let vertices-fit-ensures = (let p : tie.After-vertices-fit = search in p .vertices-fit .ensures) in
     let start : tie.Start = search in (
       links
-          (draft-of (start .pre .1 .1 .1) (sym vertices-fit-ensures ∙ not-false _ if3-left) (start .pre .1 .0) (paired-ensures .0)
+          (draft-of (start .pre .1 .2 .1) (sym vertices-fit-ensures ∙ not-false _ if3-left) (start .pre .1 .0) (paired-ensures .0)
           (not-false _ if4-left) put-draft-ensures),
       start .pre .0 .0,
       start .pre .0 .5,
-      (start .pre .1 .1 .1) .few,
+      (start .pre .1 .2 .1) .few,
       start .pre .1 .0 .rank-below,
       one-volume-ensures .1,
       start .pre .0 .9,
@@ -178,6 +180,7 @@ returns-6 c =
     let numbered-ensures = (let p : tie.After-numbered = search in p .numbered .ensures) in
     let if5-left = (let p : tie.Else5 = search in p .if5 .left) in
     let one-volume-ensures = (let p : tie.After-one-volume = search in p .one-volume .ensures) in
+    let rank-at-ensures = (let p : tie.After-rank-at = search in p .rank-at .ensures) in
     let put-draft-ensures = (let p : tie.After-put-draft = search in p .put-draft .ensures) in
     let if4-left = (let p : tie.Else4 = search in p .if4 .left) in
     let c : tie.Else4 = search in
@@ -192,13 +195,13 @@ returns-6 c =
     let vertices-fit-yes = sym vertices-fit-ensures ∙ not-false _ if3-left in (
       (λ t w. numbered-ensures .0 .result ∙ numbers-tell w vertices-fit-yes
           (draft-of w vertices-fit-yes (start .pre .1 .0) (paired-ensures .0) (not-false _ if4-left) put-draft-ensures)
-          (let l = start .pre .0 .5 in let f = w .few in omega (arith, l, f)) (numbered-ensures .0 .numbered)
+          rank-at-ensures (let l = start .pre .0 .5 in let f = w .few in omega (arith, l, f)) (numbered-ensures .0 .numbered)
           (order-yes w if1-left (sym ordered-ensures ∙ not-false _ if2-left))
           (paired-yes w vertices-fit-yes (start .pre .1 .0) (paired-ensures .0) (not-false _ if4-left))
           (sym (one-volume-ensures .0) ∙ not-false _ if5-left)),
       (
         (λ y.
-            (draft-of (start .pre .1 .1 .1) vertices-fit-yes (start .pre .1 .0) (paired-ensures .0) (not-false _ if4-left)
+            (draft-of (start .pre .1 .2 .1) vertices-fit-yes (start .pre .1 .0) (paired-ensures .0) (not-false _ if4-left)
             put-draft-ensures)),
         paired-ensures .1,
         put-draft-ensures .size,
@@ -220,7 +223,7 @@ volume-right-spec =
     same-length
     returns-4
     put-draft-requires
-    shared-slice-read-one-volume
+    rank-at-requires
     one-volume-requires
     same-length-2
     same-length-3

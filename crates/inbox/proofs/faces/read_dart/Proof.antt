@@ -5,42 +5,30 @@ use Rattle.inbox.proofs.Taking.{took-group, took-serial, dart-none, dar
 use borrow.Author.Needs.{needs}
 use Rattle.inbox.proofs.faces.read_dart.Statement.{statement}
 use Rattle.inbox.proofs.faces.read_dart.Tie as tie
-use Rattle.inbox.proofs.faces.read_dart.Reads as reads
-use Rattle.inbox.proofs.faces.read_dart.Lts as lts
-use Rattle.reader.proofs.read_group.Reads as read-group-reads
-use Rattle.reader.proofs.read_serial.Reads as read-serial-reads
 
--- src/faces.rt:27:32
 read-group-requires : tie.Need-read-group-requires
 read-group-requires c κs = search needs
 
--- src/faces.rt:27:21
 enum-known-v : tie.Need-enum-known-v
 enum-known-v c = search needs
 
--- src/faces.rt:28:9
 enum-told : tie.Need-enum-told
 enum-told c = search needs
 
--- src/faces.rt:28:9
 returns : tie.Need-returns
 returns c =
     let read-group-ensures = (let p : tie.After-read-group = search in p .read-group .ensures) in
     record { said = (dart-none _ (bad-at group _ _ (sym (c .enum-told .given .1) ∙ read-group-ensures)), refl, refl) }
 
--- src/faces.rt:30:32
 read-serial-requires : tie.Need-read-serial-requires
 read-serial-requires c κs = search needs
 
--- src/faces.rt:30:21
 enum-known-x : tie.Need-enum-known-x
 enum-known-x c = search needs
 
--- src/faces.rt:31:9
 enum-told-2 : tie.Need-enum-told-2
 enum-told-2 c = search needs
 
--- src/faces.rt:31:9
 returns-2 : tie.Need-returns-2
 returns-2 c =
     let read-group-ensures = (let p : tie.After-read-group = search in p .read-group .ensures) in
@@ -55,31 +43,24 @@ returns-2 c =
       );
     }
 
--- src/faces.rt:33:5
 mul-vertex : tie.Need-mul-vertex
 mul-vertex c = search needs
 
--- src/faces.rt:33:5
 slice-write-vertex : tie.Need-slice-write-vertex
 slice-write-vertex c = search needs
 
--- src/faces.rt:34:5
 mul-serial : tie.Need-mul-serial
 mul-serial c = search needs
 
--- src/faces.rt:34:5
 slice-write-serial : tie.Need-slice-write-serial
 slice-write-serial c = search needs
 
--- src/faces.rt:23:1
 same-length : tie.Need-same-length
 same-length c = search needs
 
--- src/faces.rt:23:1
 same-length-2 : tie.Need-same-length-2
 same-length-2 c = search needs
 
--- src/faces.rt:23:1
 returns-3 : tie.Need-returns-3
 returns-3 c =
     let read-group-ensures = (let p : tie.After-read-group = search in p .read-group .ensures) in

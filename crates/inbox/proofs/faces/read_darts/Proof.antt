@@ -5,57 +5,44 @@ use native.Mathlib.Omega.{arith}
 use borrow.Author.Needs.{needs}
 use Rattle.inbox.proofs.faces.read_darts.Statement.{statement}
 use Rattle.inbox.proofs.faces.read_darts.Tie as tie
-use Rattle.inbox.proofs.faces.read_darts.Reads as reads
-use Rattle.inbox.proofs.faces.read_darts.Lts as lts
-use Rattle.inbox.proofs.faces.read_dart.Reads as read-dart-reads
 
 abbrev Inv-loop : tie.InvT-loop
-Inv-loop s at start size vertex₀ serial₀ starts₀ sizes₀ i₀ p₀ vertex serial starts sizes i p =
-    Darts s at start size vertex₀ serial₀ starts₀ sizes₀ i p vertex serial starts sizes
+Inv-loop s at size vertex₀ serial₀ starts₀ sizes₀ first i₀ p₀ vertex serial starts sizes i p =
+    Darts s at first size vertex₀ serial₀ starts₀ sizes₀ i p vertex serial starts sizes
 
 abbrev μ-loop : tie.MeasureT-loop
-μ-loop s at start size vertex₀ serial₀ starts₀ sizes₀ i₀ p₀ vertex serial starts sizes i p =
-    start + size - i
+μ-loop s at size vertex₀ serial₀ starts₀ sizes₀ first i₀ p₀ vertex serial starts sizes i p =
+    first + size - i
 
--- src/faces.rt:55:5
 loop-holds : tie.Need-loop-holds Inv-loop μ-loop
 loop-holds c =
     let start : tie.Start Inv-loop μ-loop = search in
     darts-start (start .pre .0) (start .pre .2)
 
--- src/faces.rt:55:15
 add-loop : tie.Need-add-loop Inv-loop μ-loop
 add-loop c = search needs
 
--- src/faces.rt:56:36
 read-dart-requires : tie.Need-read-dart-requires Inv-loop μ-loop
 read-dart-requires c κs = search needs
 
--- src/faces.rt:56:25
 enum-known-x : tie.Need-enum-known-x Inv-loop μ-loop
 enum-known-x c = search needs
 
--- src/faces.rt:57:13
 enum-told : tie.Need-enum-told Inv-loop μ-loop
 enum-told c = search needs
 
--- src/faces.rt:57:13
 same-length : tie.Need-same-length Inv-loop μ-loop
 same-length c = search needs
 
--- src/faces.rt:57:13
 same-length-2 : tie.Need-same-length-2 Inv-loop μ-loop
 same-length-2 c = search needs
 
--- src/faces.rt:57:13
 same-length-3 : tie.Need-same-length-3 Inv-loop μ-loop
 same-length-3 c = search needs
 
--- src/faces.rt:57:13
 same-length-4 : tie.Need-same-length-4 Inv-loop μ-loop
 same-length-4 c = search needs
 
--- src/faces.rt:57:13
 returns : tie.Need-returns Inv-loop μ-loop
 returns c =
     let start : tie.Start Inv-loop μ-loop = search in
@@ -64,31 +51,24 @@ returns c =
     let read-dart-ensures = (let p : tie.After-read-dart Inv-loop μ-loop = search in p .read-dart .ensures) in
     darts-stop (start .pre .1) loop-inv (c .enum-told .given .1) (omega (arith, loop-test-taken)) read-dart-ensures
 
--- src/faces.rt:59:9
 mul-starts : tie.Need-mul-starts Inv-loop μ-loop
 mul-starts c = search needs
 
--- src/faces.rt:59:9
 slice-write-starts : tie.Need-slice-write-starts Inv-loop μ-loop
 slice-write-starts c = search needs
 
--- src/faces.rt:60:9
 mul-sizes : tie.Need-mul-sizes Inv-loop μ-loop
 mul-sizes c = search needs
 
--- src/faces.rt:60:9
 slice-write-sizes : tie.Need-slice-write-sizes Inv-loop μ-loop
 slice-write-sizes c = search needs
 
--- src/faces.rt:62:9
 add-i : tie.Need-add-i Inv-loop μ-loop
 add-i c = search needs
 
--- src/faces.rt:55:5
 loop-less : tie.Need-loop-less Inv-loop μ-loop
 loop-less c = search needs
 
--- src/faces.rt:55:5
 loop-again : tie.Need-loop-again Inv-loop μ-loop
 loop-again c =
     let start : tie.Start Inv-loop μ-loop = search in
@@ -98,23 +78,18 @@ loop-again c =
     let x-given = (let p : tie.After-x Inv-loop μ-loop = search in p .x .given) in
     darts-more (start .pre .1) loop-inv (x-given .1) (omega (arith, loop-test-taken)) read-dart-ensures
 
--- src/faces.rt:39:1
 same-length-5 : tie.Need-same-length-5 Inv-loop μ-loop
 same-length-5 c = search needs
 
--- src/faces.rt:39:1
 same-length-6 : tie.Need-same-length-6 Inv-loop μ-loop
 same-length-6 c = search needs
 
--- src/faces.rt:39:1
 same-length-7 : tie.Need-same-length-7 Inv-loop μ-loop
 same-length-7 c = search needs
 
--- src/faces.rt:39:1
 same-length-8 : tie.Need-same-length-8 Inv-loop μ-loop
 same-length-8 c = search needs
 
--- src/faces.rt:39:1
 returns-2 : tie.Need-returns-2 Inv-loop μ-loop
 returns-2 c =
     let start : tie.Start Inv-loop μ-loop = search in

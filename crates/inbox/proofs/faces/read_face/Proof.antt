@@ -7,35 +7,25 @@ use native.Mathlib.Omega.{arith}
 use borrow.Author.Needs.{needs}
 use Rattle.inbox.proofs.faces.read_face.Statement.{statement}
 use Rattle.inbox.proofs.faces.read_face.Tie as tie
-use Rattle.inbox.proofs.faces.read_face.Reads as reads
-use Rattle.inbox.proofs.faces.read_face.Lts as lts
-use Rattle.reader.proofs.read_group.Reads as read-group-reads
-use Rattle.inbox.proofs.faces.read_darts.Reads as read-darts-reads
 
--- src/faces.rt:80:32
 read-group-requires : tie.Need-read-group-requires
 read-group-requires c κs = search needs
 
--- src/faces.rt:80:21
 enum-known-n : tie.Need-enum-known-n
 enum-known-n c = search needs
 
--- src/faces.rt:81:9
 enum-told : tie.Need-enum-told
 enum-told c = search needs
 
--- src/faces.rt:81:9
 returns : tie.Need-returns
 returns c =
     let start : tie.Start = search in
     let read-group-ensures = (let p : tie.After-read-group = search in p .read-group .ensures) in
     face-none (start .args .s .now) (start .args .at) (bad-at group _ _ (sym (c .enum-told .given .1) ∙ read-group-ensures)) (start .pre .1)
 
--- src/faces.rt:83:16
 sub-room : tie.Need-sub-room
 sub-room c = search needs
 
--- src/faces.rt:85:9
 returns-2 : tie.Need-returns-2
 returns-2 c =
     let start : tie.Start = search in
@@ -43,7 +33,6 @@ returns-2 c =
     let n-given = (let p : tie.After-n = search in p .n .given) in
     face-large _ (took-group (sym (n-given .1) ∙ read-group-ensures)) (omega (arith, c .if1 .taken)) (start .pre .1)
 
--- src/faces.rt:87:5
 read-darts-requires : tie.Need-read-darts-requires
 read-darts-requires c κs =
     let start : tie.Start = search in
@@ -52,23 +41,18 @@ read-darts-requires c κs =
     let if1-left = (let p : tie.Else1 = search in p .if1 .left) in
     (took-group (sym (n-given .1) ∙ read-group-ensures) .within, omega (arith, if1-left), start .pre .1)
 
--- src/faces.rt:68:1
 same-length : tie.Need-same-length
 same-length c = search needs
 
--- src/faces.rt:68:1
 same-length-2 : tie.Need-same-length-2
 same-length-2 c = search needs
 
--- src/faces.rt:68:1
 same-length-3 : tie.Need-same-length-3
 same-length-3 c = search needs
 
--- src/faces.rt:68:1
 same-length-4 : tie.Need-same-length-4
 same-length-4 c = search needs
 
--- src/faces.rt:68:1
 returns-3 : tie.Need-returns-3
 returns-3 c =
     let read-darts-ensures = (let p : tie.After-read-darts = search in p .read-darts .ensures) in
@@ -77,7 +61,7 @@ returns-3 c =
     let read-group-ensures = (let p : tie.After-read-group = search in p .read-group .ensures) in
     let c : tie.After-read-group = search in
     let start : tie.Start = search in
-    face-read (start .args .start) (took-group (sym (n-given .1) ∙ read-group-ensures)) (omega (arith, if1-left)) read-darts-ensures
+    face-read (start .args .start .0) (took-group (sym (n-given .1) ∙ read-group-ensures)) (omega (arith, if1-left)) read-darts-ensures
 
 pub read-face-spec : {M : Type 1} → statement M
 read-face-spec =

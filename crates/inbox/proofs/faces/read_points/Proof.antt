@@ -8,43 +8,33 @@ use native.Mathlib.Omega.{arith}
 use borrow.Author.Needs.{needs}
 use Rattle.inbox.proofs.faces.read_points.Statement.{statement}
 use Rattle.inbox.proofs.faces.read_points.Tie as tie
-use Rattle.inbox.proofs.faces.read_points.Reads as reads
-use Rattle.inbox.proofs.faces.read_points.Lts as lts
-use Rattle.reader.proofs.read_group.Reads as read-group-reads
 
--- src/faces.rt:12:32
 read-group-requires : tie.Need-read-group-requires
 read-group-requires c κs = search needs
 
--- src/faces.rt:12:21
 enum-known-n : tie.Need-enum-known-n
 enum-known-n c = search needs
 
--- src/faces.rt:13:9
 enum-told : tie.Need-enum-told
 enum-told c = search needs
 
--- src/faces.rt:13:9
 returns : tie.Need-returns
 returns c =
     let read-group-ensures = (let p : tie.After-read-group = search in p .read-group .ensures) in
     record { said = counted-none point _ (bad-at group _ _ (sym (c .enum-told .given .1) ∙ read-group-ensures)) }
 
--- src/faces.rt:15:16
 sub-room : tie.Need-sub-room
 sub-room c =
     let read-group-ensures = (let p : tie.After-read-group = search in p .read-group .ensures) in
     let n-given = (let p : tie.After-n = search in p .n .given) in
     omega (arith, took-group (sym (n-given .1) ∙ read-group-ensures) .within)
 
--- src/faces.rt:17:9
 returns-2 : tie.Need-returns-2
 returns-2 c =
     let read-group-ensures = (let p : tie.After-read-group = search in p .read-group .ensures) in
     let n-given = (let p : tie.After-n = search in p .n .given) in
     points-bad (took-group (sym (n-given .1) ∙ read-group-ensures)) (omega (arith, c .if1 .taken, took-group (sym (n-given .1) ∙ read-group-ensures) .within))
 
--- src/faces.rt:9:1
 returns-3 : tie.Need-returns-3
 returns-3 c =
     let read-group-ensures = (let p : tie.After-read-group = search in p .read-group .ensures) in

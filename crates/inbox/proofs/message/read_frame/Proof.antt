@@ -7,44 +7,34 @@ use native.Mathlib.Omega.{arith}
 use borrow.Author.Needs.{needs}
 use Rattle.inbox.proofs.message.read_frame.Statement.{statement}
 use Rattle.inbox.proofs.message.read_frame.Tie as tie
-use Rattle.inbox.proofs.message.read_frame.Reads as reads
-use Rattle.inbox.proofs.message.read_frame.Lts as lts
-use Rattle.reader.proofs.read_group.Reads as read-group-reads
 
--- src/message.rt:18:32
 read-group-requires : tie.Need-read-group-requires
 read-group-requires c κs = search needs
 
--- src/message.rt:18:21
 enum-known-n : tie.Need-enum-known-n
 enum-known-n c = search needs
 
--- src/message.rt:19:9
 enum-told : tie.Need-enum-told
 enum-told c = search needs
 
--- src/message.rt:19:9
 returns : tie.Need-returns
 returns c =
     let start : tie.Start = search in
     let read-group-ensures = (let p : tie.After-read-group = search in p .read-group .ensures) in
     frame-none (start .args .s .now) (bad-at group _ _ (sym (c .enum-told .given .1) ∙ read-group-ensures))
 
--- src/message.rt:21:16
 sub-rest : tie.Need-sub-rest
 sub-rest c =
     let read-group-ensures = (let p : tie.After-read-group = search in p .read-group .ensures) in
     let n-given = (let p : tie.After-n = search in p .n .given) in
     omega (arith, took-group (sym (n-given .1) ∙ read-group-ensures) .within)
 
--- src/message.rt:23:9
 returns-2 : tie.Need-returns-2
 returns-2 c =
     let read-group-ensures = (let p : tie.After-read-group = search in p .read-group .ensures) in
     let n-given = (let p : tie.After-n = search in p .n .given) in
     frame-wrong (took-group (sym (n-given .1) ∙ read-group-ensures)) (c .if1 .taken)
 
--- src/message.rt:15:1
 returns-3 : tie.Need-returns-3
 returns-3 c =
     let read-group-ensures = (let p : tie.After-read-group = search in p .read-group .ensures) in

@@ -1,108 +1,80 @@
-use borrow.Author.Tests.{not-true, not-false}
+-- `inbox::message::read_front` meets its contract: what is missing, or the outline of part 1.
+-- Assumes nothing.
 use mathlib.Core.Path.{sym, _∙_}
 use Rattle.model.specs.Layouts.{group}
 use Rattle.groups.proofs.Ends.{bad-at}
 use Rattle.inbox.proofs.Taking.{took-group}
-use Rattle.inbox.proofs.Outlining.{front-bad, no-head, no-points, took-points, no-count, front-read}
+use Rattle.inbox.proofs.Outlining.{head-missing, head-there, front-bad, no-head, no-points, took-points, no-count, no-faces, front-read}
 use native.Mathlib.Omega.{arith}
 use borrow.Author.Needs.{needs}
 use Rattle.inbox.proofs.message.read_front.Statement.{statement}
 use Rattle.inbox.proofs.message.read_front.Tie as tie
-use Rattle.inbox.proofs.message.read_front.Reads as reads
-use Rattle.inbox.proofs.message.read_front.Lts as lts
-use Rattle.reader.proofs.read_group.Reads as read-group-reads
-use Rattle.inbox.proofs.faces.read_faces.Reads as read-faces-reads
-use Rattle.inbox.proofs.faces.read_points.Reads as read-points-reads
-use Rattle.inbox.proofs.message.no_front.Reads as no-front-reads
-use Rattle.inbox.proofs.message.read_head.Reads as read-head-reads
 
--- src/message.rt:201:9
 read-head-requires : tie.Need-read-head-requires
 read-head-requires c κs = search needs
 
--- src/message.rt:203:9
-no-front-requires : tie.Need-no-front-requires
-no-front-requires c κs = search needs
+enum-known-head : tie.Need-enum-known-head
+enum-known-head c = search needs
 
--- src/message.rt:203:9
+enum-told : tie.Need-enum-told
+enum-told c = search needs
+
 returns : tie.Need-returns
 returns c =
     let start : tie.Start = search in
     let read-head-ensures = (let p : tie.After-read-head = search in p .read-head .ensures) in
-    let if1-taken = (let p : tie.Then1 = search in p .if1 .taken) in
-    front-bad (start .pre) (c .no-front .ensures) (no-head (not-true _ if1-taken) read-head-ensures)
+    front-bad (start .pre) (no-head (head-missing (c .enum-told .given .1) read-head-ensures))
 
--- src/message.rt:205:41
 read-points-requires : tie.Need-read-points-requires
 read-points-requires c κs = search needs
 
--- src/message.rt:205:21
 enum-known-vertices : tie.Need-enum-known-vertices
 enum-known-vertices c = search needs
 
--- src/message.rt:206:9
-enum-told : tie.Need-enum-told
-enum-told c = search needs
+enum-told-2 : tie.Need-enum-told-2
+enum-told-2 c = search needs
 
--- src/message.rt:206:9
-no-front-requires-2 : tie.Need-no-front-requires-2
-no-front-requires-2 c κs = search needs
-
--- src/message.rt:206:9
 returns-2 : tie.Need-returns-2
 returns-2 c =
     let start : tie.Start = search in
     let read-head-ensures = (let p : tie.After-read-head = search in p .read-head .ensures) in
-    let if1-left = (let p : tie.Else1 = search in p .if1 .left) in
+    let head-given = (let p : tie.After-head = search in p .head .given) in
     let read-points-ensures = (let p : tie.After-read-points = search in p .read-points .ensures) in
-    let enum-told-given = (let p : tie.After-enum-told = search in p .enum-told .given) in
-    front-bad (start .pre) (c .no-front2 .ensures) (no-points (read-head-ensures .yes (not-false _ if1-left)) (enum-told-given .1) read-points-ensures)
+    front-bad (start .pre) (no-points (head-there (head-given .1) read-head-ensures) (c .enum-told2 .given .1) read-points-ensures)
 
--- src/message.rt:208:68
 mul-read-group : tie.Need-mul-read-group
 mul-read-group c =
     let read-points-ensures = (let p : tie.After-read-points = search in p .read-points .ensures) in
     let vertices-given = (let p : tie.After-vertices = search in p .vertices .given) in
     omega (arith, took-points (vertices-given .1) read-points-ensures .within)
 
--- src/message.rt:208:59
 add-read-group : tie.Need-add-read-group
 add-read-group c =
     let read-points-ensures = (let p : tie.After-read-points = search in p .read-points .ensures) in
     let vertices-given = (let p : tie.After-vertices = search in p .vertices .given) in
     omega (arith, took-points (vertices-given .1) read-points-ensures .within)
 
--- src/message.rt:208:37
 read-group-requires : tie.Need-read-group-requires
 read-group-requires c κs = search needs
 
--- src/message.rt:208:21
 enum-known-count : tie.Need-enum-known-count
 enum-known-count c = search needs
 
--- src/message.rt:209:9
-enum-told-2 : tie.Need-enum-told-2
-enum-told-2 c = search needs
+enum-told-3 : tie.Need-enum-told-3
+enum-told-3 c = search needs
 
--- src/message.rt:209:9
-no-front-requires-3 : tie.Need-no-front-requires-3
-no-front-requires-3 c κs = search needs
-
--- src/message.rt:209:9
 returns-3 : tie.Need-returns-3
 returns-3 c =
     let start : tie.Start = search in
     let read-head-ensures = (let p : tie.After-read-head = search in p .read-head .ensures) in
-    let if1-left = (let p : tie.Else1 = search in p .if1 .left) in
+    let head-given = (let p : tie.After-head = search in p .head .given) in
     let read-points-ensures = (let p : tie.After-read-points = search in p .read-points .ensures) in
     let vertices-given = (let p : tie.After-vertices = search in p .vertices .given) in
     let read-group-ensures = (let p : tie.After-read-group = search in p .read-group .ensures) in
-    let enum-told2-given = (let p : tie.After-enum-told2 = search in p .enum-told2 .given) in
-    front-bad (start .pre) (c .no-front3 .ensures)
-    (no-count _ _ (read-head-ensures .yes (not-false _ if1-left)) (took-points (vertices-given .1) read-points-ensures)
-    (bad-at group _ _ (sym (enum-told2-given .1) ∙ read-group-ensures)))
+    front-bad (start .pre)
+    (no-count _ _ (head-there (head-given .1) read-head-ensures) (took-points (vertices-given .1) read-points-ensures)
+    (bad-at group _ _ (sym (c .enum-told3 .given .1) ∙ read-group-ensures)))
 
--- src/message.rt:211:9
 read-faces-requires : tie.Need-read-faces-requires
 read-faces-requires c κs =
     let start : tie.Start = search in
@@ -110,23 +82,24 @@ read-faces-requires c κs =
     let count-given = (let p : tie.After-count = search in p .count .given) in
     (took-group (sym (count-given .1) ∙ read-group-ensures) .within, start .pre)
 
--- src/message.rt:190:1
+enum-known-faces : tie.Need-enum-known-faces
+enum-known-faces c = search needs
+
+enum-told-4 : tie.Need-enum-told-4
+enum-told-4 c = search needs
+
 same-length : tie.Need-same-length
 same-length c = search needs
 
--- src/message.rt:190:1
 same-length-2 : tie.Need-same-length-2
 same-length-2 c = search needs
 
--- src/message.rt:190:1
 same-length-3 : tie.Need-same-length-3
 same-length-3 c = search needs
 
--- src/message.rt:190:1
 same-length-4 : tie.Need-same-length-4
 same-length-4 c = search needs
 
--- src/message.rt:190:1
 returns-4 : tie.Need-returns-4
 returns-4 c =
     let read-faces-ensures = (let p : tie.After-read-faces = search in p .read-faces .ensures) in
@@ -134,34 +107,67 @@ returns-4 c =
     let read-group-ensures = (let p : tie.After-read-group = search in p .read-group .ensures) in
     let vertices-given = (let p : tie.After-vertices = search in p .vertices .given) in
     let read-points-ensures = (let p : tie.After-read-points = search in p .read-points .ensures) in
-    let if1-left = (let p : tie.Else1 = search in p .if1 .left) in
-    let c : tie.Else1 = search in
+    let told = c .enum-told4 .given .1 in
+    let c : tie.After-read-points = search in
+    let head-given = (let p : tie.After-head = search in p .head .given) in
     let read-head-ensures = (let p : tie.After-read-head = search in p .read-head .ensures) in
-    front-read _ _ (read-head-ensures .yes (not-false _ if1-left)) (took-points (vertices-given .1) read-points-ensures)
-    (took-group (sym (count-given .1) ∙ read-group-ensures)) read-faces-ensures
+    no-faces _ _ (head-there (head-given .1) read-head-ensures) (took-points (vertices-given .1) read-points-ensures)
+    (took-group (sym (count-given .1) ∙ read-group-ensures)) read-faces-ensures told
+
+same-length-5 : tie.Need-same-length-5
+same-length-5 c = search needs
+
+same-length-6 : tie.Need-same-length-6
+same-length-6 c = search needs
+
+same-length-7 : tie.Need-same-length-7
+same-length-7 c = search needs
+
+same-length-8 : tie.Need-same-length-8
+same-length-8 c = search needs
+
+returns-5 : tie.Need-returns-5
+returns-5 c =
+    let faces-given = (let p : tie.After-faces = search in p .faces .given) in
+    let read-faces-ensures = (let p : tie.After-read-faces = search in p .read-faces .ensures) in
+    let count-given = (let p : tie.After-count = search in p .count .given) in
+    let read-group-ensures = (let p : tie.After-read-group = search in p .read-group .ensures) in
+    let vertices-given = (let p : tie.After-vertices = search in p .vertices .given) in
+    let read-points-ensures = (let p : tie.After-read-points = search in p .read-points .ensures) in
+    let c : tie.After-read-points = search in
+    let head-given = (let p : tie.After-head = search in p .head .given) in
+    let read-head-ensures = (let p : tie.After-read-head = search in p .read-head .ensures) in
+    front-read _ _ (head-there (head-given .1) read-head-ensures) (took-points (vertices-given .1) read-points-ensures)
+    (took-group (sym (count-given .1) ∙ read-group-ensures)) read-faces-ensures (faces-given .1)
 
 pub read-front-spec : {M : Type 1} → statement M
 read-front-spec =
     tie.close
     (tie.spec
     read-head-requires
-    no-front-requires
+    enum-known-head
+    enum-told
     returns
     read-points-requires
     enum-known-vertices
-    enum-told
-    no-front-requires-2
+    enum-told-2
     returns-2
     mul-read-group
     add-read-group
     read-group-requires
     enum-known-count
-    enum-told-2
-    no-front-requires-3
+    enum-told-3
     returns-3
     read-faces-requires
+    enum-known-faces
+    enum-told-4
     same-length
     same-length-2
     same-length-3
     same-length-4
-    returns-4)
+    returns-4
+    same-length-5
+    same-length-6
+    same-length-7
+    same-length-8
+    returns-5)

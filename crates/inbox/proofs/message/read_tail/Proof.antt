@@ -1,93 +1,101 @@
-use borrow.Author.Tests.{not-true, not-false}
-use mathlib.Core.Path.{refl}
-use Rattle.inbox.proofs.Outlining.{tail-bad, no-second, no-third, no-fourth, tail-read}
+-- `inbox::message::read_tail` meets its contract: the part that is missing, or the outline of all three.
+-- Assumes nothing.
+use Rattle.model.specs.Messages.{part2, part3, part4}
+use Rattle.inbox.proofs.Outlining.{counted-missing, counted-there, tail-bad, no-second, no-third, no-fourth, tail-more, tail-read}
 use borrow.Author.Needs.{needs}
 use Rattle.inbox.proofs.message.read_tail.Statement.{statement}
 use Rattle.inbox.proofs.message.read_tail.Tie as tie
-use Rattle.inbox.proofs.message.read_tail.Reads as reads
-use Rattle.inbox.proofs.message.read_tail.Lts as lts
-use Rattle.inbox.proofs.message.counted2.Reads as counted2-reads
-use Rattle.inbox.proofs.message.counted3.Reads as counted3-reads
-use Rattle.inbox.proofs.message.counted4.Reads as counted4-reads
-use Rattle.inbox.proofs.message.no_tail.Reads as no-tail-reads
 
--- src/message.rt:254:9
 counted2-requires : tie.Need-counted2-requires
 counted2-requires c κs = search needs
 
--- src/message.rt:256:9
-no-tail-requires : tie.Need-no-tail-requires
-no-tail-requires c κs = search needs
+enum-known-second : tie.Need-enum-known-second
+enum-known-second c = search needs
 
--- src/message.rt:256:9
+enum-told : tie.Need-enum-told
+enum-told c = search needs
+
 returns : tie.Need-returns
 returns c =
     let counted2-ensures = (let p : tie.After-counted2 = search in p .counted2 .ensures) in
-    let if1-taken = (let p : tie.Then1 = search in p .if1 .taken) in
-    λ fs z. tail-bad fs (c .no-tail .ensures) (no-second fs counted2-ensures (not-true _ if1-taken))
+    let start : tie.Start = search in
+    λ fs z. tail-bad fs (no-second fs (start .args .s .now) (start .args .at) (counted-missing part2 (c .enum-told .given .1) counted2-ensures))
 
--- src/message.rt:258:9
 counted3-requires : tie.Need-counted3-requires
 counted3-requires c κs = search needs
 
--- src/message.rt:260:9
-no-tail-requires-2 : tie.Need-no-tail-requires-2
-no-tail-requires-2 c κs = search needs
+enum-known-third : tie.Need-enum-known-third
+enum-known-third c = search needs
 
--- src/message.rt:260:9
+enum-told-2 : tie.Need-enum-told-2
+enum-told-2 c = search needs
+
 returns-2 : tie.Need-returns-2
 returns-2 c =
     let counted2-ensures = (let p : tie.After-counted2 = search in p .counted2 .ensures) in
-    let if1-left = (let p : tie.Else1 = search in p .if1 .left) in
+    let second-given = (let p : tie.After-second = search in p .second .given) in
     let counted3-ensures = (let p : tie.After-counted3 = search in p .counted3 .ensures) in
-    let if2-taken = (let p : tie.Then2 = search in p .if2 .taken) in
-    λ fs z. tail-bad fs (c .no-tail2 .ensures) (no-third fs counted2-ensures (not-false _ if1-left) counted3-ensures (not-true _ if2-taken))
+    λ fs z. tail-bad fs (no-third fs _ (counted-there part2 (second-given .1) counted2-ensures) (counted-missing part3 (c .enum-told2 .given .1) counted3-ensures))
 
--- src/message.rt:262:9
 counted4-requires : tie.Need-counted4-requires
 counted4-requires c κs =
     let start : tie.Start = search in
     start .pre
 
--- src/message.rt:264:9
-no-tail-requires-3 : tie.Need-no-tail-requires-3
-no-tail-requires-3 c κs = search needs
+enum-known-fourth : tie.Need-enum-known-fourth
+enum-known-fourth c = search needs
 
--- src/message.rt:264:9
+enum-told-3 : tie.Need-enum-told-3
+enum-told-3 c = search needs
+
 returns-3 : tie.Need-returns-3
 returns-3 c =
     let counted2-ensures = (let p : tie.After-counted2 = search in p .counted2 .ensures) in
-    let if1-left = (let p : tie.Else1 = search in p .if1 .left) in
+    let second-given = (let p : tie.After-second = search in p .second .given) in
     let counted3-ensures = (let p : tie.After-counted3 = search in p .counted3 .ensures) in
-    let if2-left = (let p : tie.Else2 = search in p .if2 .left) in
+    let third-given = (let p : tie.After-third = search in p .third .given) in
     let counted4-ensures = (let p : tie.After-counted4 = search in p .counted4 .ensures) in
-    let if3-taken = (let p : tie.Then3 = search in p .if3 .taken) in
-    λ fs z. tail-bad fs (c .no-tail3 .ensures)
-    (no-fourth fs counted2-ensures (not-false _ if1-left) counted3-ensures (not-false _ if2-left) (counted4-ensures fs z)
-    (not-true _ if3-taken))
+    λ fs z. tail-bad fs
+    (no-fourth fs _ (counted-there part2 (second-given .1) counted2-ensures) _ (counted-there part3 (third-given .1) counted3-ensures)
+    (counted-missing (part4 fs) (c .enum-told3 .given .1) (counted4-ensures fs z)))
 
--- src/message.rt:250:1
 returns-4 : tie.Need-returns-4
 returns-4 c =
     let counted2-ensures = (let p : tie.After-counted2 = search in p .counted2 .ensures) in
-    let if1-left = (let p : tie.Else1 = search in p .if1 .left) in
+    let second-given = (let p : tie.After-second = search in p .second .given) in
     let counted3-ensures = (let p : tie.After-counted3 = search in p .counted3 .ensures) in
-    let if2-left = (let p : tie.Else2 = search in p .if2 .left) in
+    let third-given = (let p : tie.After-third = search in p .third .given) in
     let counted4-ensures = (let p : tie.After-counted4 = search in p .counted4 .ensures) in
-    let if3-left = (let p : tie.Else3 = search in p .if3 .left) in
-    λ fs z. tail-read fs counted2-ensures (not-false _ if1-left) counted3-ensures (not-false _ if2-left) (counted4-ensures fs z) (not-false _ if3-left) refl
+    let fourth-given = (let p : tie.After-fourth = search in p .fourth .given) in
+    λ fs z. tail-more fs _ (counted-there part2 (second-given .1) counted2-ensures) _ (counted-there part3 (third-given .1) counted3-ensures)
+    _ (counted-there (part4 fs) (fourth-given .1) (counted4-ensures fs z)) (c .if1 .taken)
+
+returns-5 : tie.Need-returns-5
+returns-5 c =
+    let counted2-ensures = (let p : tie.After-counted2 = search in p .counted2 .ensures) in
+    let second-given = (let p : tie.After-second = search in p .second .given) in
+    let counted3-ensures = (let p : tie.After-counted3 = search in p .counted3 .ensures) in
+    let third-given = (let p : tie.After-third = search in p .third .given) in
+    let counted4-ensures = (let p : tie.After-counted4 = search in p .counted4 .ensures) in
+    let fourth-given = (let p : tie.After-fourth = search in p .fourth .given) in
+    λ fs z. tail-read fs _ (counted-there part2 (second-given .1) counted2-ensures) _ (counted-there part3 (third-given .1) counted3-ensures)
+    _ (counted-there (part4 fs) (fourth-given .1) (counted4-ensures fs z)) (c .if1 .left)
 
 pub read-tail-spec : {M : Type 1} → statement M
 read-tail-spec =
     tie.close
     (tie.spec
     counted2-requires
-    no-tail-requires
+    enum-known-second
+    enum-told
     returns
     counted3-requires
-    no-tail-requires-2
+    enum-known-third
+    enum-told-2
     returns-2
     counted4-requires
-    no-tail-requires-3
+    enum-known-fourth
+    enum-told-3
     returns-3
-    returns-4)
+    returns-4
+    returns-5)

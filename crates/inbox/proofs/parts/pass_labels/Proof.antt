@@ -4,9 +4,6 @@ use native.Mathlib.Omega.{arith}
 use borrow.Author.Needs.{needs}
 use Rattle.inbox.proofs.parts.pass_labels.Statement.{statement}
 use Rattle.inbox.proofs.parts.pass_labels.Tie as tie
-use Rattle.inbox.proofs.parts.pass_labels.Reads as reads
-use Rattle.inbox.proofs.parts.pass_labels.Lts as lts
-use Rattle.reader.proofs.read_label.Reads as read-label-reads
 
 abbrev Inv-loop : tie.InvT-loop
 Inv-loop s at count left₀ p₀ left p =
@@ -16,25 +13,20 @@ abbrev μ-loop : tie.MeasureT-loop
 μ-loop s at count left₀ p₀ left p =
     left
 
--- src/parts.rt:75:5
 loop-holds : tie.Need-loop-holds Inv-loop μ-loop
 loop-holds c =
     let start : tie.Start Inv-loop μ-loop = search in
     passing-start label (start .pre)
 
--- src/parts.rt:76:39
 read-label-requires : tie.Need-read-label-requires Inv-loop μ-loop
 read-label-requires c κs = search needs
 
--- src/parts.rt:76:25
 enum-known-code : tie.Need-enum-known-code Inv-loop μ-loop
 enum-known-code c = search needs
 
--- src/parts.rt:77:13
 enum-told : tie.Need-enum-told Inv-loop μ-loop
 enum-told c = search needs
 
--- src/parts.rt:77:13
 returns : tie.Need-returns Inv-loop μ-loop
 returns c =
     let loop-inv = (let p : tie.At-loop Inv-loop μ-loop = search in p .loop .inv) in
@@ -42,15 +34,12 @@ returns c =
     let read-label-ensures = (let p : tie.After-read-label Inv-loop μ-loop = search in p .read-label .ensures) in
     passing-stop label loop-inv (c .enum-told .given .1) (omega (arith, loop-test-taken)) (label-pass _ _ read-label-ensures)
 
--- src/parts.rt:80:9
 sub-left : tie.Need-sub-left Inv-loop μ-loop
 sub-left c = search needs
 
--- src/parts.rt:75:5
 loop-less : tie.Need-loop-less Inv-loop μ-loop
 loop-less c = search needs
 
--- src/parts.rt:75:5
 loop-again : tie.Need-loop-again Inv-loop μ-loop
 loop-again c =
     let loop-inv = (let p : tie.At-loop Inv-loop μ-loop = search in p .loop .inv) in
@@ -59,7 +48,6 @@ loop-again c =
     let code-given = (let p : tie.After-code Inv-loop μ-loop = search in p .code .given) in
     passing-more label loop-inv (code-given .1) (omega (arith, loop-test-taken)) (label-pass _ _ read-label-ensures)
 
--- src/parts.rt:68:1
 returns-2 : tie.Need-returns-2 Inv-loop μ-loop
 returns-2 c =
     let loop-inv = (let p : tie.At-loop Inv-loop μ-loop = search in p .loop .inv) in

@@ -3,35 +3,25 @@ use Rattle.inbox.proofs.Passing.{no-label, took-label, group-pass, part
 use borrow.Author.Needs.{needs}
 use Rattle.inbox.proofs.parts.pass_part2.Statement.{statement}
 use Rattle.inbox.proofs.parts.pass_part2.Tie as tie
-use Rattle.inbox.proofs.parts.pass_part2.Reads as reads
-use Rattle.inbox.proofs.parts.pass_part2.Lts as lts
-use Rattle.reader.proofs.read_group.Reads as read-group-reads
-use Rattle.reader.proofs.read_label.Reads as read-label-reads
 
--- src/parts.rt:15:35
 read-label-requires : tie.Need-read-label-requires
 read-label-requires c κs = search needs
 
--- src/parts.rt:15:21
 enum-known-code : tie.Need-enum-known-code
 enum-known-code c = search needs
 
--- src/parts.rt:16:9
 enum-told : tie.Need-enum-told
 enum-told c = search needs
 
--- src/parts.rt:16:9
 returns : tie.Need-returns
 returns c =
     let start : tie.Start = search in
     let read-label-ensures = (let p : tie.After-read-label = search in p .read-label .ensures) in
     part2-none (start .args .s .now) (start .args .at) (no-label _ _ (sym (c .enum-told .given .1) ∙ read-label-ensures))
 
--- src/parts.rt:18:5
 read-group-requires : tie.Need-read-group-requires
 read-group-requires c κs = search needs
 
--- src/parts.rt:12:1
 returns-2 : tie.Need-returns-2
 returns-2 c =
     let read-label-ensures = (let p : tie.After-read-label = search in p .read-label .ensures) in

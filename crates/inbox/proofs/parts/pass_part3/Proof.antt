@@ -6,34 +6,25 @@ use Rattle.inbox.proofs.Passing.{group-pass, part3-none, part3-pass}
 use borrow.Author.Needs.{needs}
 use Rattle.inbox.proofs.parts.pass_part3.Statement.{statement}
 use Rattle.inbox.proofs.parts.pass_part3.Tie as tie
-use Rattle.inbox.proofs.parts.pass_part3.Reads as reads
-use Rattle.inbox.proofs.parts.pass_part3.Lts as lts
-use Rattle.reader.proofs.read_group.Reads as read-group-reads
 
--- src/parts.rt:25:37
 read-group-requires : tie.Need-read-group-requires
 read-group-requires c κs = search needs
 
--- src/parts.rt:25:21
 enum-known-number : tie.Need-enum-known-number
 enum-known-number c = search needs
 
--- src/parts.rt:26:9
 enum-told : tie.Need-enum-told
 enum-told c = search needs
 
--- src/parts.rt:26:9
 returns : tie.Need-returns
 returns c =
     let start : tie.Start = search in
     let read-group-ensures = (let p : tie.After-read-group = search in p .read-group .ensures) in
     part3-none (start .args .s .now) (start .args .at) (bad-at group _ _ (sym (c .enum-told .given .1) ∙ read-group-ensures))
 
--- src/parts.rt:28:5
 read-group-requires-2 : tie.Need-read-group-requires-2
 read-group-requires-2 c κs = search needs
 
--- src/parts.rt:22:1
 returns-2 : tie.Need-returns-2
 returns-2 c =
     let read-group-ensures = (let p : tie.After-read-group = search in p .read-group .ensures) in

@@ -7,51 +7,40 @@ use native.Mathlib.Omega.{arith}
 use borrow.Author.Needs.{needs}
 use Rattle.inbox.proofs.parts.pass_part4.Statement.{statement}
 use Rattle.inbox.proofs.parts.pass_part4.Tie as tie
-use Rattle.inbox.proofs.parts.pass_part4.Reads as reads
-use Rattle.inbox.proofs.parts.pass_part4.Lts as lts
-use Rattle.reader.proofs.read_at_most.Reads as read-at-most-reads
-use Rattle.reader.proofs.read_group.Reads as read-group-reads
-use Rattle.inbox.proofs.parts.pass_labels.Reads as pass-labels-reads
 
--- src/parts.rt:90:36
 read-group-requires : tie.Need-read-group-requires
 read-group-requires c κs = search needs
 
--- src/parts.rt:90:21
 enum-known-index : tie.Need-enum-known-index
 enum-known-index c = search needs
 
--- src/parts.rt:91:9
 enum-told : tie.Need-enum-told
 enum-told c = search needs
 
--- src/parts.rt:91:9
 returns : tie.Need-returns
 returns c =
     let start : tie.Start = search in
     let read-group-ensures = (let p : tie.After-read-group = search in p .read-group .ensures) in
     λ fs z. part4-none fs (start .args .s .now) (start .args .at) (bad-at group _ _ (sym (c .enum-told .given .1) ∙ read-group-ensures))
 
--- src/parts.rt:94:9
 returns-2 : tie.Need-returns-2
 returns-2 c =
     let read-group-ensures = (let p : tie.After-read-group = search in p .read-group .ensures) in
     let index-given = (let p : tie.After-index = search in p .index .given) in
     λ fs z. part4-outside fs (took-group (sym (index-given .1) ∙ read-group-ensures)) z (omega (arith, c .if1 .taken))
 
--- src/parts.rt:96:36
+sub-read-at-most : tie.Need-sub-read-at-most
+sub-read-at-most c = search needs
+
 read-at-most-requires : tie.Need-read-at-most-requires
 read-at-most-requires c κs = search needs
 
--- src/parts.rt:96:21
 enum-known-other : tie.Need-enum-known-other
 enum-known-other c = search needs
 
--- src/parts.rt:97:9
 enum-told-2 : tie.Need-enum-told-2
 enum-told-2 c = search needs
 
--- src/parts.rt:97:9
 returns-3 : tie.Need-returns-3
 returns-3 c =
     let read-group-ensures = (let p : tie.After-read-group = search in p .read-group .ensures) in
@@ -61,22 +50,15 @@ returns-3 c =
     λ fs z. part4-alone fs (took-group (sym (index-given .1) ∙ read-group-ensures)) z (omega (arith, if1-left))
     (bad-at (at-most 15) _ _ (sym (c .enum-told2 .given .1) ∙ read-at-most-ensures))
 
--- src/parts.rt:99:16
-mul-size : tie.Need-mul-size
-mul-size c = search needs
+size-at-requires : tie.Need-size-at-requires
+size-at-requires c κs = search needs
 
--- src/parts.rt:99:16
-shared-slice-read-size : tie.Need-shared-slice-read-size
-shared-slice-read-size c = search needs
-
--- src/parts.rt:100:5
 pass-labels-requires : tie.Need-pass-labels-requires
 pass-labels-requires c κs =
     let read-at-most-ensures = (let p : tie.After-read-at-most = search in p .read-at-most .ensures) in
     let other-given = (let p : tie.After-other = search in p .other .given) in
     took-at-most 15 (sym (other-given .1) ∙ read-at-most-ensures) .within
 
--- src/parts.rt:86:1
 returns-4 : tie.Need-returns-4
 returns-4 c =
     let read-group-ensures = (let p : tie.After-read-group = search in p .read-group .ensures) in
@@ -84,8 +66,9 @@ returns-4 c =
     let if1-left = (let p : tie.Else1 = search in p .if1 .left) in
     let read-at-most-ensures = (let p : tie.After-read-at-most = search in p .read-at-most .ensures) in
     let other-given = (let p : tie.After-other = search in p .other .given) in
+    let size-at-ensures = (let p : tie.After-size-at = search in p .size-at .ensures) in
     λ fs z. part4-pass fs (took-group (sym (index-given .1) ∙ read-group-ensures)) z (omega (arith, if1-left))
-    (took-at-most 15 (sym (other-given .1) ∙ read-at-most-ensures)) refl (c .pass-labels .ensures)
+    (took-at-most 15 (sym (other-given .1) ∙ read-at-most-ensures)) size-at-ensures (c .pass-labels .ensures)
 
 pub pass-part4-spec : {M : Type 1} → statement M
 pass-part4-spec =
@@ -96,11 +79,11 @@ pass-part4-spec =
     enum-told
     returns
     returns-2
+    sub-read-at-most
     read-at-most-requires
     enum-known-other
     enum-told-2
     returns-3
-    mul-size
-    shared-slice-read-size
+    size-at-requires
     pass-labels-requires
     returns-4)

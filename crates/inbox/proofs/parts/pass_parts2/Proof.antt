@@ -4,9 +4,6 @@ use native.Mathlib.Omega.{arith}
 use borrow.Author.Needs.{needs}
 use Rattle.inbox.proofs.parts.pass_parts2.Statement.{statement}
 use Rattle.inbox.proofs.parts.pass_parts2.Tie as tie
-use Rattle.inbox.proofs.parts.pass_parts2.Reads as reads
-use Rattle.inbox.proofs.parts.pass_parts2.Lts as lts
-use Rattle.inbox.proofs.parts.pass_part2.Reads as pass-part2-reads
 
 abbrev Inv-loop : tie.InvT-loop
 Inv-loop s at count left₀ p₀ left p =
@@ -16,25 +13,20 @@ abbrev μ-loop : tie.MeasureT-loop
 μ-loop s at count left₀ p₀ left p =
     left
 
--- src/parts.rt:39:5
 loop-holds : tie.Need-loop-holds Inv-loop μ-loop
 loop-holds c =
     let start : tie.Start Inv-loop μ-loop = search in
     passing-start part2 (start .pre)
 
--- src/parts.rt:40:40
 pass-part2-requires : tie.Need-pass-part2-requires Inv-loop μ-loop
 pass-part2-requires c κs = search needs
 
--- src/parts.rt:40:25
 enum-known-index : tie.Need-enum-known-index Inv-loop μ-loop
 enum-known-index c = search needs
 
--- src/parts.rt:41:13
 enum-told : tie.Need-enum-told Inv-loop μ-loop
 enum-told c = search needs
 
--- src/parts.rt:41:13
 returns : tie.Need-returns Inv-loop μ-loop
 returns c =
     let loop-inv = (let p : tie.At-loop Inv-loop μ-loop = search in p .loop .inv) in
@@ -42,15 +34,12 @@ returns c =
     let pass-part2-ensures = (let p : tie.After-pass-part2 Inv-loop μ-loop = search in p .pass-part2 .ensures) in
     passing-stop part2 loop-inv (c .enum-told .given .1) (omega (arith, loop-test-taken)) pass-part2-ensures
 
--- src/parts.rt:44:9
 sub-left : tie.Need-sub-left Inv-loop μ-loop
 sub-left c = search needs
 
--- src/parts.rt:39:5
 loop-less : tie.Need-loop-less Inv-loop μ-loop
 loop-less c = search needs
 
--- src/parts.rt:39:5
 loop-again : tie.Need-loop-again Inv-loop μ-loop
 loop-again c =
     let loop-inv = (let p : tie.At-loop Inv-loop μ-loop = search in p .loop .inv) in
@@ -59,7 +48,6 @@ loop-again c =
     let index-given = (let p : tie.After-index Inv-loop μ-loop = search in p .index .given) in
     passing-more part2 loop-inv (index-given .1) (omega (arith, loop-test-taken)) pass-part2-ensures
 
--- src/parts.rt:32:1
 returns-2 : tie.Need-returns-2 Inv-loop μ-loop
 returns-2 c =
     let loop-inv = (let p : tie.At-loop Inv-loop μ-loop = search in p .loop .inv) in

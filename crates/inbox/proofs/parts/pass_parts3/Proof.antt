@@ -4,9 +4,6 @@ use native.Mathlib.Omega.{arith}
 use borrow.Author.Needs.{needs}
 use Rattle.inbox.proofs.parts.pass_parts3.Statement.{statement}
 use Rattle.inbox.proofs.parts.pass_parts3.Tie as tie
-use Rattle.inbox.proofs.parts.pass_parts3.Reads as reads
-use Rattle.inbox.proofs.parts.pass_parts3.Lts as lts
-use Rattle.inbox.proofs.parts.pass_part3.Reads as pass-part3-reads
 
 abbrev Inv-loop : tie.InvT-loop
 Inv-loop s at count left₀ p₀ left p =
@@ -16,25 +13,20 @@ abbrev μ-loop : tie.MeasureT-loop
 μ-loop s at count left₀ p₀ left p =
     left
 
--- src/parts.rt:57:5
 loop-holds : tie.Need-loop-holds Inv-loop μ-loop
 loop-holds c =
     let start : tie.Start Inv-loop μ-loop = search in
     passing-start part3 (start .pre)
 
--- src/parts.rt:58:40
 pass-part3-requires : tie.Need-pass-part3-requires Inv-loop μ-loop
 pass-part3-requires c κs = search needs
 
--- src/parts.rt:58:25
 enum-known-index : tie.Need-enum-known-index Inv-loop μ-loop
 enum-known-index c = search needs
 
--- src/parts.rt:59:13
 enum-told : tie.Need-enum-told Inv-loop μ-loop
 enum-told c = search needs
 
--- src/parts.rt:59:13
 returns : tie.Need-returns Inv-loop μ-loop
 returns c =
     let loop-inv = (let p : tie.At-loop Inv-loop μ-loop = search in p .loop .inv) in
@@ -42,15 +34,12 @@ returns c =
     let pass-part3-ensures = (let p : tie.After-pass-part3 Inv-loop μ-loop = search in p .pass-part3 .ensures) in
     passing-stop part3 loop-inv (c .enum-told .given .1) (omega (arith, loop-test-taken)) pass-part3-ensures
 
--- src/parts.rt:62:9
 sub-left : tie.Need-sub-left Inv-loop μ-loop
 sub-left c = search needs
 
--- src/parts.rt:57:5
 loop-less : tie.Need-loop-less Inv-loop μ-loop
 loop-less c = search needs
 
--- src/parts.rt:57:5
 loop-again : tie.Need-loop-again Inv-loop μ-loop
 loop-again c =
     let loop-inv = (let p : tie.At-loop Inv-loop μ-loop = search in p .loop .inv) in
@@ -59,7 +48,6 @@ loop-again c =
     let index-given = (let p : tie.After-index Inv-loop μ-loop = search in p .index .given) in
     passing-more part3 loop-inv (index-given .1) (omega (arith, loop-test-taken)) pass-part3-ensures
 
--- src/parts.rt:50:1
 returns-2 : tie.Need-returns-2 Inv-loop μ-loop
 returns-2 c =
     let loop-inv = (let p : tie.At-loop Inv-loop μ-loop = search in p .loop .inv) in

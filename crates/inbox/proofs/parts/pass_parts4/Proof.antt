@@ -6,9 +6,6 @@ use native.Mathlib.Omega.{arith}
 use borrow.Author.Needs.{needs}
 use Rattle.inbox.proofs.parts.pass_parts4.Statement.{statement}
 use Rattle.inbox.proofs.parts.pass_parts4.Tie as tie
-use Rattle.inbox.proofs.parts.pass_parts4.Reads as reads
-use Rattle.inbox.proofs.parts.pass_parts4.Lts as lts
-use Rattle.inbox.proofs.parts.pass_part4.Reads as pass-part4-reads
 
 abbrev Inv-loop : tie.InvT-loop
 Inv-loop s at count darts sizes left₀ p₀ left p =
@@ -18,25 +15,20 @@ abbrev μ-loop : tie.MeasureT-loop
 μ-loop s at count darts sizes left₀ p₀ left p =
     left
 
--- src/parts.rt:111:5
 loop-holds : tie.Need-loop-holds Inv-loop μ-loop
 loop-holds c =
     let start : tie.Start Inv-loop μ-loop = search in
     λ fs z. passing-start (part4 fs) (start .pre .0)
 
--- src/parts.rt:112:40
 pass-part4-requires : tie.Need-pass-part4-requires Inv-loop μ-loop
 pass-part4-requires c κs = search needs
 
--- src/parts.rt:112:25
 enum-known-index : tie.Need-enum-known-index Inv-loop μ-loop
 enum-known-index c = search needs
 
--- src/parts.rt:113:13
 enum-told : tie.Need-enum-told Inv-loop μ-loop
 enum-told c = search needs
 
--- src/parts.rt:113:13
 returns : tie.Need-returns Inv-loop μ-loop
 returns c =
     let loop-inv = (let p : tie.At-loop Inv-loop μ-loop = search in p .loop .inv) in
@@ -44,15 +36,12 @@ returns c =
     let pass-part4-ensures = (let p : tie.After-pass-part4 Inv-loop μ-loop = search in p .pass-part4 .ensures) in
     λ fs z. passing-stop (part4 fs) (loop-inv fs z) (c .enum-told .given .1) (omega (arith, loop-test-taken)) (pass-part4-ensures fs z)
 
--- src/parts.rt:116:9
 sub-left : tie.Need-sub-left Inv-loop μ-loop
 sub-left c = search needs
 
--- src/parts.rt:111:5
 loop-less : tie.Need-loop-less Inv-loop μ-loop
 loop-less c = search needs
 
--- src/parts.rt:111:5
 loop-again : tie.Need-loop-again Inv-loop μ-loop
 loop-again c =
     let loop-inv = (let p : tie.At-loop Inv-loop μ-loop = search in p .loop .inv) in
@@ -61,7 +50,6 @@ loop-again c =
     let index-given = (let p : tie.After-index Inv-loop μ-loop = search in p .index .given) in
     λ fs z. passing-more (part4 fs) (loop-inv fs z) (index-given .1) (omega (arith, loop-test-taken)) (pass-part4-ensures fs z)
 
--- src/parts.rt:104:1
 returns-2 : tie.Need-returns-2 Inv-loop μ-loop
 returns-2 c =
     let loop-inv = (let p : tie.At-loop Inv-loop μ-loop = search in p .loop .inv) in

@@ -1,7 +1,6 @@
 -- `inbox::received::message_in` meets its contract: each answer is what the frame and the two layouts say.
 -- Assumes nothing.
-use borrow.Author.Tests.{not-true, not-false}
-use Rattle.inbox.proofs.Arriving.{no-frame, front-missing, front-sized, front-fits, tail-missing, other-read, transfer-read}
+use Rattle.inbox.proofs.Arriving.{no-frame, front-missing, front-there, front-sized, front-fits, tail-missing, tail-there, other-read, transfer-read}
 use borrow.Author.Needs.{needs}
 use Rattle.inbox.proofs.received.message_in.Statement.{statement}
 use Rattle.inbox.proofs.received.message_in.Tie as tie
@@ -24,6 +23,12 @@ returns c =
 read-front-requires : tie.Need-read-front-requires
 read-front-requires c κs = search needs
 
+enum-known-front : tie.Need-enum-known-front
+enum-known-front c = search needs
+
+enum-told-2 : tie.Need-enum-told-2
+enum-told-2 c = search needs
+
 update-from-requires : tie.Need-update-from-requires
 update-from-requires c κs = search needs
 
@@ -43,15 +48,21 @@ returns-2 : tie.Need-returns-2
 returns-2 c =
     let read-frame-ensures = (let p : tie.After-read-frame = search in p .read-frame .ensures) in
     let n-given = (let p : tie.After-n = search in p .n .given) in
-    let if1-taken = (let p : tie.Then1 = search in p .if1 .taken) in
-    let front = (let p : tie.After-read-front = search in p .read-front .ensures) in
-    other-read (n-given .1) read-frame-ensures (front .sides) (front-missing front (not-true _ if1-taken)) (c .update-from .ensures)
+    let told = (let p : tie.After-enum-told2 = search in p .enum-told2 .given .1) in
+    let read-front-ensures = (let p : tie.After-read-front = search in p .read-front .ensures) in
+    other-read (n-given .1) read-frame-ensures (read-front-ensures .sides) (front-missing read-front-ensures told) (c .update-from .ensures)
 
 read-tail-requires : tie.Need-read-tail-requires
 read-tail-requires c κs =
     let read-front-ensures = (let p : tie.After-read-front = search in p .read-front .ensures) in
-    let if1-left = (let p : tie.Else1 = search in p .if1 .left) in
-    front-fits read-front-ensures (not-false _ if1-left)
+    let front-given = (let p : tie.After-front = search in p .front .given) in
+    front-fits (front-there read-front-ensures (front-given .1)) (read-front-ensures .sides)
+
+enum-known-tail : tie.Need-enum-known-tail
+enum-known-tail c = search needs
+
+enum-told-3 : tie.Need-enum-told-3
+enum-told-3 c = search needs
 
 update-from-requires-2 : tie.Need-update-from-requires-2
 update-from-requires-2 c κs = search needs
@@ -71,19 +82,16 @@ same-length-8 c = search needs
 returns-3 : tie.Need-returns-3
 returns-3 c =
     let update-from2-ensures = (let p : tie.After-update-from2 = search in p .update-from2 .ensures) in
-    let if2-taken = (let p : tie.Then2 = search in p .if2 .taken) in
+    let told = (let p : tie.After-enum-told3 = search in p .enum-told3 .given .1) in
     let read-tail-ensures = (let p : tie.After-read-tail = search in p .read-tail .ensures) in
-    let if1-left = (let p : tie.Else1 = search in p .if1 .left) in
-    let c : tie.Else1 = search in
+    let front-given = (let p : tie.After-front = search in p .front .given) in
     let read-front-ensures = (let p : tie.After-read-front = search in p .read-front .ensures) in
     let c : tie.After-read-front = search in
     let n-given = (let p : tie.After-n = search in p .n .given) in
     let read-frame-ensures = (let p : tie.After-read-frame = search in p .read-frame .ensures) in
-    let there = not-false _ if1-left in
+    let there = front-there read-front-ensures (front-given .1) in
     other-read (n-given .1) read-frame-ensures (read-front-ensures .sides)
-    (tail-missing read-front-ensures there
-    (read-tail-ensures (read-front-ensures .yes there .fs) (front-sized read-front-ensures there)) (not-true _ if2-taken))
-    update-from2-ensures
+    (tail-missing there (read-tail-ensures (there .fs) (front-sized there)) told) update-from2-ensures
 
 same-length-9 : tie.Need-same-length-9
 same-length-9 c = search needs
@@ -99,16 +107,16 @@ same-length-12 c = search needs
 
 returns-4 : tie.Need-returns-4
 returns-4 c =
-    let if2-left = (let p : tie.Else2 = search in p .if2 .left) in
+    let tail-given = (let p : tie.After-tail = search in p .tail .given) in
     let read-tail-ensures = (let p : tie.After-read-tail = search in p .read-tail .ensures) in
-    let if1-left = (let p : tie.Else1 = search in p .if1 .left) in
+    let front-given = (let p : tie.After-front = search in p .front .given) in
     let read-front-ensures = (let p : tie.After-read-front = search in p .read-front .ensures) in
     let c : tie.After-read-front = search in
     let n-given = (let p : tie.After-n = search in p .n .given) in
     let read-frame-ensures = (let p : tie.After-read-frame = search in p .read-frame .ensures) in
-    let there = not-false _ if1-left in
-    transfer-read (n-given .1) read-frame-ensures read-front-ensures there
-    (read-tail-ensures (read-front-ensures .yes there .fs) (front-sized read-front-ensures there)) (not-false _ if2-left)
+    let there = front-there read-front-ensures (front-given .1) in
+    transfer-read (n-given .1) read-frame-ensures (read-front-ensures .sides) there
+    (tail-there there (read-tail-ensures (there .fs) (front-sized there)) (tail-given .1))
 
 pub message-in-spec : {M : Type 1} → statement M
 message-in-spec =
@@ -119,6 +127,8 @@ message-in-spec =
     enum-told
     returns
     read-front-requires
+    enum-known-front
+    enum-told-2
     update-from-requires
     same-length
     same-length-2
@@ -126,6 +136,8 @@ message-in-spec =
     same-length-4
     returns-2
     read-tail-requires
+    enum-known-tail
+    enum-told-3
     update-from-requires-2
     same-length-5
     same-length-6

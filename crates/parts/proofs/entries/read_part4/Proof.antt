@@ -4,10 +4,9 @@ use Prim.Native.Nat.{_-_}
 use mathlib.Core.Path.{_≡_, sym, _∙_}
 use mathlib.Core.List.{List}
 use lib.ListN.{length, length-set}
-use borrow.Author.Tests.{not-true, not-false}
 use Rattle.model.specs.Messages.{FaceDart}
 use Rattle.inbox.specs.Inbox.{Sized, most}
-use Rattle.parts.proofs.Reading.{Reading4, reading4-start, reading4-more, reading4-bad, reading4-end}
+use Rattle.parts.proofs.Reading.{entry-missing, entry-there, Reading4, reading4-start, reading4-more, reading4-bad, reading4-end}
 use native.Mathlib.Omega.{arith}
 use borrow.Author.Needs.{needs}
 use Rattle.parts.proofs.entries.read_part4.Statement.{statement}
@@ -29,6 +28,12 @@ loop-holds c =
 
 read-entry-requires : tie.Need-read-entry-requires Inv-loop μ-loop
 read-entry-requires c κs = search needs
+
+enum-known-entry : tie.Need-enum-known-entry Inv-loop μ-loop
+enum-known-entry c = search needs
+
+enum-told : tie.Need-enum-told Inv-loop μ-loop
+enum-told c = search needs
 
 same-length : tie.Need-same-length Inv-loop μ-loop
 same-length c =
@@ -56,7 +61,7 @@ returns c =
       loop-inv .0,
       loop-inv .1,
       loop-inv .2,
-      (λ fs z. reading4-bad fs (loop-inv .3 fs z) loop-test-taken (read-entry-ensures fs z .no (not-true _ (c .if1 .taken)))),
+      (λ fs z. reading4-bad fs (loop-inv .3 fs z) loop-test-taken (entry-missing fs (read-entry-ensures fs z) (c .enum-told .given .1))),
     )
 
 mul-indices : tie.Need-mul-indices Inv-loop μ-loop
@@ -88,13 +93,14 @@ loop-again c =
     let start : tie.Start Inv-loop μ-loop = search in
     let loop-inv = (let p : tie.At-loop Inv-loop μ-loop = search in p .loop .inv) in
     let loop-test-taken = (let p : tie.In-loop Inv-loop μ-loop = search in p .loop-test .taken) in
-    let read-entry-ensures = (let p : tie.After-read-entry Inv-loop μ-loop = search in p .read-entry .ensures) in (
+    let read-entry-ensures = (let p : tie.After-read-entry Inv-loop μ-loop = search in p .read-entry .ensures) in
+    let entry-given = (let p : tie.After-entry Inv-loop μ-loop = search in p .entry .given) in (
       simp length-set (loop-inv .0),
       simp length-set (loop-inv .1),
       simp length-set (loop-inv .2),
       (λ fs z. reading4-more fs (loop-inv .3 fs z) loop-test-taken (omega (arith, loop-test-taken, start .pre .1, loop-inv .0))
           (omega (arith, loop-test-taken, start .pre .1, loop-inv .1)) (omega (arith, loop-test-taken, start .pre .1, loop-inv .2))
-          (read-entry-ensures fs z .yes (not-false _ (c .if1 .left)))),
+          (entry-there fs (read-entry-ensures fs z) (entry-given .1))),
     )
 
 same-length-4 : tie.Need-same-length-4 Inv-loop μ-loop
@@ -128,6 +134,8 @@ read-part4-spec =
     μ-loop
     loop-holds
     read-entry-requires
+    enum-known-entry
+    enum-told
     same-length
     same-length-2
     same-length-3

@@ -10,11 +10,11 @@ use Rattle.parts.proofs.faces.count_up.Statement.{statement}
 use Rattle.parts.proofs.faces.count_up.Tie as tie
 
 abbrev Inv-loop : tie.InvT-loop
-Inv-loop array₀ at n first j₀ array j =
-    Over at j (λ i. first + i) array₀ array × (j ≤ n)
+Inv-loop array₀ n least first j₀ array j =
+    Over first j (λ i. least + i) array₀ array × (j ≤ n)
 
 abbrev μ-loop : tie.MeasureT-loop
-μ-loop array₀ at n first j₀ array j =
+μ-loop array₀ n least first j₀ array j =
     n - j
 
 loop-holds : tie.Need-loop-holds Inv-loop μ-loop

@@ -10,11 +10,11 @@ use Rattle.parts.proofs.faces.fill.Statement.{statement}
 use Rattle.parts.proofs.faces.fill.Tie as tie
 
 abbrev Inv-loop : tie.InvT-loop
-Inv-loop array₀ at n word j₀ array j =
-    Over at j (λ i. word) array₀ array × (j ≤ n)
+Inv-loop array₀ n word first j₀ array j =
+    Over first j (λ i. word) array₀ array × (j ≤ n)
 
 abbrev μ-loop : tie.MeasureT-loop
-μ-loop array₀ at n word j₀ array j =
+μ-loop array₀ n word first j₀ array j =
     n - j
 
 loop-holds : tie.Need-loop-holds Inv-loop μ-loop

@@ -9,11 +9,11 @@ use Rattle.parts.proofs.faces.put_codes.Statement.{statement}
 use Rattle.parts.proofs.faces.put_codes.Tie as tie
 
 abbrev Inv-loop : tie.InvT-loop
-Inv-loop message from array₀ at n j₀ p₀ array j p =
-    Coding message from n at array₀ array j p
+Inv-loop message from array₀ n first j₀ p₀ array j p =
+    Coding message from n first array₀ array j p
 
 abbrev μ-loop : tie.MeasureT-loop
-μ-loop message from array₀ at n j₀ p₀ array j p =
+μ-loop message from array₀ n first j₀ p₀ array j p =
     n - j
 
 loop-holds : tie.Need-loop-holds Inv-loop μ-loop

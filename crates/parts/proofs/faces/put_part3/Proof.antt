@@ -3,7 +3,7 @@
 use Prim.Native.Nat.{_+_, _*_, _-_, _≤_}
 use mathlib.Core.Path.{sym, _∙_}
 use Rattle.parts.specs.Faces.{Faced, numbered-code}
-use Rattle.parts.proofs.Writing.{faced-none, faced-more, faced-all}
+use Rattle.parts.proofs.Writing.{face-within, over-face, faced-none, faced-more, faced-all}
 use native.Mathlib.Omega.{arith}
 use borrow.Author.Needs.{needs}
 use Rattle.parts.proofs.faces.put_part3.Statement.{statement}
@@ -22,23 +22,14 @@ loop-holds c =
     let start : tie.Start Inv-loop μ-loop = search in
     (faced-none _ _ _ _ (start .pre .0 .3), faced-none _ _ _ _ (start .pre .0 .4), omega arith)
 
-mul-i : tie.Need-mul-i Inv-loop μ-loop
-mul-i c = search needs
+entry-index-requires : tie.Need-entry-index-requires Inv-loop μ-loop
+entry-index-requires c κs = search needs
 
-shared-slice-read-i : tie.Need-shared-slice-read-i Inv-loop μ-loop
-shared-slice-read-i c = search needs
-
-mul-n : tie.Need-mul-n Inv-loop μ-loop
-mul-n c =
+size-at-requires : tie.Need-size-at-requires Inv-loop μ-loop
+size-at-requires c κs =
     let start : tie.Start Inv-loop μ-loop = search in
     let loop-e = (let p : tie.At-loop Inv-loop μ-loop = search in p .loop .e) in
-    let h = start .pre .1 .0 .below loop-e (omega arith) in omega arith
-
-shared-slice-read-n : tie.Need-shared-slice-read-n Inv-loop μ-loop
-shared-slice-read-n c =
-    let start : tie.Start Inv-loop μ-loop = search in
-    let loop-e = (let p : tie.At-loop Inv-loop μ-loop = search in p .loop .e) in
-    let h = start .pre .1 .0 .below loop-e (omega arith) in omega arith
+    let h = start .pre .1 .0 .below loop-e (omega arith) in omega (arith, h, c .entry-index .ensures, start .pre .0 .2)
 
 mul-fill : tie.Need-mul-fill Inv-loop μ-loop
 mul-fill c = search needs
@@ -49,9 +40,13 @@ add-fill c = search needs
 fill-requires : tie.Need-fill-requires Inv-loop μ-loop
 fill-requires c κs =
     let start : tie.Start Inv-loop μ-loop = search in
+    let sizes = start .args .sizes .now in
+    let indices = start .args .indices .now in
+    let entry-index-ensures = (let p : tie.After-entry-index Inv-loop μ-loop = search in p .entry-index .ensures) in
+    let size-at-ensures = (let p : tie.After-size-at Inv-loop μ-loop = search in p .size-at .ensures) in
     let loop-e = (let p : tie.At-loop Inv-loop μ-loop = search in p .loop .e) in
     let loop-inv = (let p : tie.At-loop Inv-loop μ-loop = search in p .loop .inv) in
-    (loop-inv .0 .size, start .pre .1 .0 .within loop-e (omega arith))
+    (loop-inv .0 .size, face-within sizes indices loop-e entry-index-ensures size-at-ensures (start .pre .1 .0) (omega arith))
 
 mul-count-up : tie.Need-mul-count-up Inv-loop μ-loop
 mul-count-up c = search needs
@@ -77,9 +72,13 @@ mul-count-up-3 c =
 count-up-requires : tie.Need-count-up-requires Inv-loop μ-loop
 count-up-requires c κs =
     let start : tie.Start Inv-loop μ-loop = search in
+    let sizes = start .args .sizes .now in
+    let indices = start .args .indices .now in
+    let entry-index-ensures = (let p : tie.After-entry-index Inv-loop μ-loop = search in p .entry-index .ensures) in
+    let size-at-ensures = (let p : tie.After-size-at Inv-loop μ-loop = search in p .size-at .ensures) in
     let loop-e = (let p : tie.At-loop Inv-loop μ-loop = search in p .loop .e) in
     let loop-inv = (let p : tie.At-loop Inv-loop μ-loop = search in p .loop .inv) in
-    (loop-inv .1 .size, start .pre .1 .0 .within loop-e (omega arith), (let h = start .pre .1 .3 loop-e (omega arith) in omega arith))
+    (loop-inv .1 .size, face-within sizes indices loop-e entry-index-ensures size-at-ensures (start .pre .1 .0) (omega arith), (let h = start .pre .1 .3 loop-e (omega arith) in omega arith))
 
 add-e : tie.Need-add-e Inv-loop μ-loop
 add-e c = search needs
@@ -91,10 +90,19 @@ loop-again : tie.Need-loop-again Inv-loop μ-loop
 loop-again c =
     let start : tie.Start Inv-loop μ-loop = search in
     let loop-inv = (let p : tie.At-loop Inv-loop μ-loop = search in p .loop .inv) in
+    let sizes = start .args .sizes .now in
+    let indices = start .args .indices .now in
+    let loop-e = (let p : tie.At-loop Inv-loop μ-loop = search in p .loop .e) in
+    let entry-index-ensures = (let p : tie.After-entry-index Inv-loop μ-loop = search in p .entry-index .ensures) in
+    let size-at-ensures = (let p : tie.After-size-at Inv-loop μ-loop = search in p .size-at .ensures) in
+    let from = start .args .from in
+    let numbers = start .args .numbers .now in
     let fill-ensures = (let p : tie.After-fill Inv-loop μ-loop = search in p .fill .ensures) in
     let count-up-ensures = (let p : tie.After-count-up Inv-loop μ-loop = search in p .count-up .ensures) in (
-      faced-more (start .pre .1 .0) (loop-inv .0) (omega arith) fill-ensures,
-      faced-more (start .pre .1 .0) (loop-inv .1) (omega arith) count-up-ensures,
+      faced-more (start .pre .1 .0) (loop-inv .0) (omega arith)
+          (over-face sizes indices loop-e entry-index-ensures size-at-ensures (λ k j. 2 + 4 * from) fill-ensures),
+      faced-more (start .pre .1 .0) (loop-inv .1) (omega arith)
+          (over-face sizes indices loop-e entry-index-ensures size-at-ensures (λ k. numbered-code from numbers loop-e) count-up-ensures),
       omega arith,
     )
 
@@ -122,10 +130,8 @@ put-part3-spec =
     Inv-loop
     μ-loop
     loop-holds
-    mul-i
-    shared-slice-read-i
-    mul-n
-    shared-slice-read-n
+    entry-index-requires
+    size-at-requires
     mul-fill
     add-fill
     fill-requires

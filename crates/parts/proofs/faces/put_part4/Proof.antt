@@ -1,10 +1,11 @@
 -- `parts::faces::put_part4` meets its contract.
 -- Assumes nothing.
 use Prim.Native.Nat.{_+_, _*_, _-_, _≤_}
-use mathlib.Core.Path.{sym, _∙_}
+use mathlib.Core.Path.{sym, _∙_, subst}
 use lib.ListN.{getD}
+use Rattle.parts.specs.Entries.{LabelsThere}
 use Rattle.parts.specs.Faces.{Faced, code-at}
-use Rattle.parts.proofs.Writing.{faced-none, faced-more, faced-all}
+use Rattle.parts.proofs.Writing.{face-size-is, face-within, over-face, faced-none, faced-more, faced-all}
 use native.Mathlib.Omega.{arith}
 use borrow.Author.Needs.{needs}
 use Rattle.parts.proofs.faces.put_part4.Statement.{statement}
@@ -24,23 +25,14 @@ loop-holds c =
     let start : tie.Start Inv-loop μ-loop = search in
     (faced-none _ _ _ _ (start .pre .0 .4), faced-none _ _ _ _ (start .pre .0 .5), omega arith)
 
-mul-i : tie.Need-mul-i Inv-loop μ-loop
-mul-i c = search needs
+entry-index-requires : tie.Need-entry-index-requires Inv-loop μ-loop
+entry-index-requires c κs = search needs
 
-shared-slice-read-i : tie.Need-shared-slice-read-i Inv-loop μ-loop
-shared-slice-read-i c = search needs
-
-mul-n : tie.Need-mul-n Inv-loop μ-loop
-mul-n c =
+size-at-requires : tie.Need-size-at-requires Inv-loop μ-loop
+size-at-requires c κs =
     let start : tie.Start Inv-loop μ-loop = search in
     let loop-e = (let p : tie.At-loop Inv-loop μ-loop = search in p .loop .e) in
-    let h = start .pre .1 .0 .below loop-e (omega arith) in omega arith
-
-shared-slice-read-n : tie.Need-shared-slice-read-n Inv-loop μ-loop
-shared-slice-read-n c =
-    let start : tie.Start Inv-loop μ-loop = search in
-    let loop-e = (let p : tie.At-loop Inv-loop μ-loop = search in p .loop .e) in
-    let h = start .pre .1 .0 .below loop-e (omega arith) in omega arith
+    let h = start .pre .1 .0 .below loop-e (omega arith) in omega (arith, h, c .entry-index .ensures, start .pre .0 .3)
 
 mul-fill : tie.Need-mul-fill Inv-loop μ-loop
 mul-fill c = search needs
@@ -63,9 +55,13 @@ add-fill c =
 fill-requires : tie.Need-fill-requires Inv-loop μ-loop
 fill-requires c κs =
     let start : tie.Start Inv-loop μ-loop = search in
+    let sizes = start .args .sizes .now in
+    let indices = start .args .indices .now in
+    let entry-index-ensures = (let p : tie.After-entry-index Inv-loop μ-loop = search in p .entry-index .ensures) in
+    let size-at-ensures = (let p : tie.After-size-at Inv-loop μ-loop = search in p .size-at .ensures) in
     let loop-e = (let p : tie.At-loop Inv-loop μ-loop = search in p .loop .e) in
     let loop-inv = (let p : tie.At-loop Inv-loop μ-loop = search in p .loop .inv) in
-    (loop-inv .0 .size, start .pre .1 .0 .within loop-e (omega arith))
+    (loop-inv .0 .size, face-within sizes indices loop-e entry-index-ensures size-at-ensures (start .pre .1 .0) (omega arith))
 
 mul-put-codes : tie.Need-mul-put-codes Inv-loop μ-loop
 mul-put-codes c = search needs
@@ -76,9 +72,18 @@ shared-slice-read-put-codes c = search needs
 put-codes-requires : tie.Need-put-codes-requires Inv-loop μ-loop
 put-codes-requires c κs =
     let start : tie.Start Inv-loop μ-loop = search in
+    let sizes = start .args .sizes .now in
+    let indices = start .args .indices .now in
+    let entry-index-ensures = (let p : tie.After-entry-index Inv-loop μ-loop = search in p .entry-index .ensures) in
+    let size-at-ensures = (let p : tie.After-size-at Inv-loop μ-loop = search in p .size-at .ensures) in
     let loop-e = (let p : tie.At-loop Inv-loop μ-loop = search in p .loop .e) in
     let loop-inv = (let p : tie.At-loop Inv-loop μ-loop = search in p .loop .inv) in
-    (loop-inv .1 .size, start .pre .1 .0 .within loop-e (omega arith), start .pre .1 .3 loop-e (omega arith))
+    let message = start .args .message .now in
+    let places = start .args .places .now in (
+      loop-inv .1 .size,
+      face-within sizes indices loop-e entry-index-ensures size-at-ensures (start .pre .1 .0) (omega arith),
+      subst (LabelsThere message (getD places loop-e 0)) (sym (face-size-is sizes indices loop-e entry-index-ensures size-at-ensures)) (start .pre .1 .3 loop-e (omega arith)),
+    )
 
 add-e : tie.Need-add-e Inv-loop μ-loop
 add-e c = search needs
@@ -90,10 +95,20 @@ loop-again : tie.Need-loop-again Inv-loop μ-loop
 loop-again c =
     let start : tie.Start Inv-loop μ-loop = (let c : tie.At-loop Inv-loop μ-loop = search in search) in
     let loop-inv = (let p : tie.At-loop Inv-loop μ-loop = search in p .loop .inv) in
+    let sizes = start .args .sizes .now in
+    let indices = start .args .indices .now in
+    let loop-e = (let p : tie.At-loop Inv-loop μ-loop = search in p .loop .e) in
+    let entry-index-ensures = (let p : tie.After-entry-index Inv-loop μ-loop = search in p .entry-index .ensures) in
+    let size-at-ensures = (let p : tie.After-size-at Inv-loop μ-loop = search in p .size-at .ensures) in
+    let message = start .args .message .now in
+    let others = start .args .others .now in
+    let places = start .args .places .now in
     let fill-ensures = (let p : tie.After-fill Inv-loop μ-loop = search in p .fill .ensures) in
     let put-codes-ensures = (let p : tie.After-put-codes Inv-loop μ-loop = search in p .put-codes .ensures) in (
-      faced-more (start .pre .1 .0) (loop-inv .0) (omega arith) fill-ensures,
-      faced-more (start .pre .1 .0) (loop-inv .1) (omega arith) put-codes-ensures,
+      faced-more (start .pre .1 .0) (loop-inv .0) (omega arith)
+          (over-face sizes indices loop-e entry-index-ensures size-at-ensures (λ k j. 2 + 4 * getD others loop-e 0) fill-ensures),
+      faced-more (start .pre .1 .0) (loop-inv .1) (omega arith)
+          (over-face sizes indices loop-e entry-index-ensures size-at-ensures (code-at message (getD places loop-e 0)) put-codes-ensures),
       omega arith,
     )
 
@@ -121,10 +136,8 @@ put-part4-spec =
     Inv-loop
     μ-loop
     loop-holds
-    mul-i
-    shared-slice-read-i
-    mul-n
-    shared-slice-read-n
+    entry-index-requires
+    size-at-requires
     mul-fill
     shared-slice-read-fill
     mul-fill-2

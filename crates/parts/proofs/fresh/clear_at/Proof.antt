@@ -1,7 +1,6 @@
 -- `parts::fresh::clear_at` meets its contract.
 -- Assumes nothing.
-use Rattle.memory.specs.Lookup.{place-in}
-use Rattle.ranking.specs.Ranks.{value-at}
+use Rattle.ranking.specs.Ranks.{value-at, rank-in}
 use mathlib.Core.Path.{sym, _∙_, ap}
 use Rattle.parts.proofs.FreshSteps.{clear-free, clear-none, clear-found}
 use native.Mathlib.Omega.{arith}
@@ -16,7 +15,7 @@ returns : tie.Need-returns
 returns c =
     let start : tie.Start = search in
     let field-ensures = (let p : tie.After-field = search in p .field .ensures) in
-    clear-free (start .args .block .now) (start .args .keys .now) (start .args .k) (start .args .p) (let e = field-ensures in omega arith)
+    clear-free (start .args .block .now) (start .args .keys .now) (start .args .k) (start .args .p .0) (let e = field-ensures in omega arith)
 
 field-requires-2 : tie.Need-field-requires-2
 field-requires-2 c κs = search needs
@@ -36,12 +35,12 @@ returns-2 c =
     let block = start .args .block .now in
     let keys = start .args .keys .now in
     let k = start .args .k in
-    let p' = start .args .p in
+    let p' = start .args .p .0 in
     let field-ensures = (let p : tie.After-field = search in p .field .ensures) in
     let field2-ensures = (let p : tie.After-field2 = search in p .field2 .ensures) in
     let find-ensures = (let p : tie.After-find = search in p .find .ensures) in
     clear-none block keys k p' (let e = field-ensures in omega arith)
-    (ap (place-in (value-at keys) k) (sym field2-ensures) ∙ sym find-ensures ∙ c .enum-told .given .1)
+    (ap (rank-in (value-at keys) k) (sym field2-ensures) ∙ sym find-ensures ∙ c .enum-told .given .1)
 
 returns-3 : tie.Need-returns-3
 returns-3 c =
@@ -49,12 +48,12 @@ returns-3 c =
     let block = start .args .block .now in
     let keys = start .args .keys .now in
     let k = start .args .k in
-    let p' = start .args .p in
+    let p' = start .args .p .0 in
     let field-ensures = (let p : tie.After-field = search in p .field .ensures) in
     let field2-ensures = (let p : tie.After-field2 = search in p .field2 .ensures) in
     let find-ensures = (let p : tie.After-find = search in p .find .ensures) in
     let r-given = (let p : tie.After-r = search in p .r .given) in
-    clear-found block keys k p' (let e = field-ensures in omega arith) (ap (place-in (value-at keys) k) (sym field2-ensures) ∙ sym find-ensures ∙ r-given .1)
+    clear-found block keys k p' (let e = field-ensures in omega arith) (ap (rank-in (value-at keys) k) (sym field2-ensures) ∙ sym find-ensures ∙ r-given .1)
 
 pub clear-at-spec : {M : Type 1} → statement M
 clear-at-spec =

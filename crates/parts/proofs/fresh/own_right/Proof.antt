@@ -3,6 +3,7 @@
 use mathlib.Core.Path.{refl}
 use Rattle.parts.proofs.FreshSteps.{own-free, own-critical}
 use native.Mathlib.Omega.{arith}
+use borrow.Author.Needs.{needs}
 use Rattle.parts.proofs.fresh.own_right.Statement.{statement}
 use Rattle.parts.proofs.fresh.own_right.Tie as tie
 
@@ -11,10 +12,20 @@ returns c =
     let start : tie.Start = search in
     own-free (start .args .number) (start .args .counter) (start .args .kind) (start .args .link) (omega arith)
 
+maker-of-requires : tie.Need-maker-of-requires
+maker-of-requires c κs = search needs
+
+number-of-requires : tie.Need-number-of-requires
+number-of-requires c κs = search needs
+
 returns-2 : tie.Need-returns-2
 returns-2 c =
     let start : tie.Start = search in
-    own-critical (start .args .number) (start .args .counter) (start .args .kind) (start .args .link) (omega arith) refl
+    let if1-left = (let p : tie.Else1 = search in p .if1 .left) in
+    let maker-of-ensures = (let p : tie.After-maker-of = search in p .maker-of .ensures) in
+    let number-of-ensures = (let p : tie.After-number-of = search in p .number-of .ensures) in
+    own-critical (start .args .number) (start .args .counter) (start .args .kind) (start .args .link) (omega (arith, if1-left))
+    (rw (maker-of-ensures, number-of-ensures) refl)
 
 pub own-right-spec : {M : Type 1} → statement M
-own-right-spec = tie.close (tie.spec returns returns-2)
+own-right-spec = tie.close (tie.spec returns maker-of-requires number-of-requires returns-2)

@@ -1,6 +1,6 @@
 -- `parts::indices::fits_at` meets its contract.
 -- Assumes nothing.
-use mathlib.Core.Path.{refl, sym, _∙_}
+use mathlib.Core.Path.{sym, _∙_}
 use borrow.Author.Tests.{not-true, not-false}
 use Rattle.parts.proofs.IndexLaws.{fits-past, fits-low, fits-rest}
 use native.Mathlib.Omega.{arith}
@@ -8,16 +8,15 @@ use borrow.Author.Needs.{needs}
 use Rattle.parts.proofs.indices.fits_at.Statement.{statement}
 use Rattle.parts.proofs.indices.fits_at.Tie as tie
 
-mul-i : tie.Need-mul-i
-mul-i c = search needs
-
-shared-slice-read-i : tie.Need-shared-slice-read-i
-shared-slice-read-i c = search needs
+entry-index-requires : tie.Need-entry-index-requires
+entry-index-requires c κs = search needs
 
 returns : tie.Need-returns
 returns c =
     let start : tie.Start = search in
-    fits-past (start .args .indices .now) (start .args .starts .now) (start .args .marks .now) (start .args .k) (start .args .e) (c .if1 .taken)
+    let entry-index-ensures = (let p : tie.After-entry-index = search in p .entry-index .ensures) in
+    fits-past (start .args .indices .now) (start .args .starts .now) (start .args .marks .now) (start .args .k) (start .args .e)
+    (omega (arith, entry-index-ensures, c .if1 .taken))
 
 above-requires : tie.Need-above-requires
 above-requires c κs = search needs
@@ -33,14 +32,17 @@ returns-2 c =
     let above-ensures = (let p : tie.After-above = search in p .above .ensures) in
     fits-low indices starts marks k e (sym above-ensures ∙ not-true _ (c .if2 .taken))
 
-mul-result : tie.Need-mul-result
-mul-result c = search needs
+index-at-requires : tie.Need-index-at-requires
+index-at-requires c κs =
+    let start : tie.Start = search in
+    let if1-left = (let p : tie.Else1 = search in p .if1 .left) in
+    omega (arith, if1-left, start .pre .1, start .pre .4)
 
 shared-slice-read-result : tie.Need-shared-slice-read-result
-shared-slice-read-result c = search needs
-
-shared-slice-read-result-2 : tie.Need-shared-slice-read-result-2
-shared-slice-read-result-2 c = search needs
+shared-slice-read-result c =
+    let start : tie.Start = search in
+    let if1-left = (let p : tie.Else1 = search in p .if1 .left) in
+    omega (arith, if1-left, start .pre .2, start .pre .4)
 
 returns-3 : tie.Need-returns-3
 returns-3 c =
@@ -50,20 +52,21 @@ returns-3 c =
     let marks = start .args .marks .now in
     let k = start .args .k in
     let e = start .args .e in
+    let entry-index-ensures = (let p : tie.After-entry-index = search in p .entry-index .ensures) in
+    let if1-left = (let p : tie.Else1 = search in p .if1 .left) in
     let above-ensures = (let p : tie.After-above = search in p .above .ensures) in
     let if2-left = (let p : tie.Else2 = search in p .if2 .left) in
-    fits-rest indices starts marks k e (omega arith) (sym above-ensures ∙ not-false _ if2-left) refl
+    let index-at-ensures = (let p : tie.After-index-at = search in p .index-at .ensures) in
+    fits-rest indices starts marks k e (omega (arith, entry-index-ensures, if1-left)) (sym above-ensures ∙ not-false _ if2-left) entry-index-ensures index-at-ensures
 
 pub fits-at-spec : {M : Type 1} → statement M
 fits-at-spec =
     tie.close
     (tie.spec
-    mul-i
-    shared-slice-read-i
+    entry-index-requires
     returns
     above-requires
     returns-2
-    mul-result
+    index-at-requires
     shared-slice-read-result
-    shared-slice-read-result-2
     returns-3)

@@ -1,7 +1,7 @@
 -- `parts::indices::mark` meets its contract.
 -- Assumes nothing.
 use Prim.Native.Nat.{_-_, _≤_}
-use mathlib.Core.Path.{refl, sym, _∙_}
+use mathlib.Core.Path.{sym, _∙_}
 use Rattle.parts.proofs.IndexLaws.{Marking, marking-none, marking-more, marking-end}
 use native.Mathlib.Omega.{arith}
 use borrow.Author.Needs.{needs}
@@ -18,20 +18,19 @@ abbrev μ-loop : tie.MeasureT-loop
 
 loop-holds : tie.Need-loop-holds Inv-loop μ-loop
 loop-holds c =
-    (marking-none _ _ (c .pre .1), omega arith)
+    let start : tie.Start Inv-loop μ-loop = search in
+    (marking-none _ _ (start .pre .1), omega arith)
 
-mul-at : tie.Need-mul-at Inv-loop μ-loop
-mul-at c = search needs
-
-shared-slice-read-at : tie.Need-shared-slice-read-at Inv-loop μ-loop
-shared-slice-read-at c = search needs
+entry-index-requires : tie.Need-entry-index-requires Inv-loop μ-loop
+entry-index-requires c κs = search needs
 
 slice-write-marks : tie.Need-slice-write-marks Inv-loop μ-loop
 slice-write-marks c =
     let start : tie.Start Inv-loop μ-loop = search in
     let loop-e = (let p : tie.At-loop Inv-loop μ-loop = search in p .loop .e) in
     let loop-inv = (let p : tie.At-loop Inv-loop μ-loop = search in p .loop .inv) in
-    let s = loop-inv .0 .size in let h = start .pre .3 loop-e (omega arith) in omega arith
+    let entry-index-ensures = (let p : tie.After-entry-index Inv-loop μ-loop = search in p .entry-index .ensures) in
+    omega (arith, loop-inv .0 .size, start .pre .3 loop-e (omega arith), entry-index-ensures)
 
 add-e : tie.Need-add-e Inv-loop μ-loop
 add-e c = search needs
@@ -44,7 +43,8 @@ loop-again c =
     let start : tie.Start Inv-loop μ-loop = search in
     let loop-e = (let p : tie.At-loop Inv-loop μ-loop = search in p .loop .e) in
     let loop-inv = (let p : tie.At-loop Inv-loop μ-loop = search in p .loop .inv) in
-    (marking-more (loop-inv .0) refl (start .pre .3 loop-e (omega arith)), omega arith)
+    let entry-index-ensures = (let p : tie.After-entry-index Inv-loop μ-loop = search in p .entry-index .ensures) in
+    (marking-more (loop-inv .0) entry-index-ensures (omega (arith, entry-index-ensures, start .pre .3 loop-e (omega arith))), omega arith)
 
 same-length : tie.Need-same-length Inv-loop μ-loop
 same-length c =
@@ -64,8 +64,7 @@ mark-spec =
     Inv-loop
     μ-loop
     loop-holds
-    mul-at
-    shared-slice-read-at
+    entry-index-requires
     slice-write-marks
     add-e
     loop-less

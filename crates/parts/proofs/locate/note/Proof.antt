@@ -1,8 +1,7 @@
 -- `parts::locate::note` meets its contract.
 -- Assumes nothing.
 use mathlib.Core.Path.{sym, _∙_, ap}
-use Rattle.memory.specs.Lookup.{place-in}
-use Rattle.ranking.specs.Ranks.{value-at}
+use Rattle.ranking.specs.Ranks.{value-at, rank-in}
 use Rattle.parts.proofs.Locating.{noted-free, noted-none, noted-found, found-below}
 use native.Mathlib.Omega.{arith}
 use borrow.Author.Needs.{needs}
@@ -18,7 +17,7 @@ returns c =
     let block = start .args .block .now in
     let keys = start .args .keys .now in
     let c' = start .args .c in
-    let p' = start .args .p in
+    let p' = start .args .p .0 in
     let places = start .args .places .now in
     let field-ensures = (let p : tie.After-field = search in p .field .ensures) in
     noted-free block keys c' p' places (start .pre .4) (let e = field-ensures in omega arith)
@@ -41,11 +40,11 @@ returns-2 c =
     let block = start .args .block .now in
     let keys = start .args .keys .now in
     let c' = start .args .c in
-    let p' = start .args .p in
+    let p' = start .args .p .0 in
     let places = start .args .places .now in
     let field2-ensures = (let p : tie.After-field2 = search in p .field2 .ensures) in
     let find-ensures = (let p : tie.After-find = search in p .find .ensures) in
-    noted-none block keys c' p' places (start .pre .4) (ap (place-in (value-at keys) c') (sym field2-ensures) ∙ sym find-ensures ∙ c .enum-told .given .1)
+    noted-none block keys c' p' places (start .pre .4) (ap (rank-in (value-at keys) c') (sym field2-ensures) ∙ sym find-ensures ∙ c .enum-told .given .1)
 
 mul-e : tie.Need-mul-e
 mul-e c =
@@ -76,14 +75,14 @@ returns-3 c =
     let block = start .args .block .now in
     let keys = start .args .keys .now in
     let c' = start .args .c in
-    let p' = start .args .p in
+    let p' = start .args .p .0 in
     let places = start .args .places .now in
     let field-ensures = (let p : tie.After-field = search in p .field .ensures) in
     let field2-ensures = (let p : tie.After-field2 = search in p .field2 .ensures) in
     let find-ensures = (let p : tie.After-find = search in p .find .ensures) in
     let r-given = (let p : tie.After-r = search in p .r .given) in
     noted-found block keys c' p' places (start .pre .4) (let e = field-ensures in omega arith) (start .pre .5) (start .pre .3)
-    (start .pre .6) (ap (place-in (value-at keys) c') (sym field2-ensures) ∙ sym find-ensures ∙ r-given .1)
+    (start .pre .6) (ap (rank-in (value-at keys) c') (sym field2-ensures) ∙ sym find-ensures ∙ r-given .1)
 
 pub note-spec : {M : Type 1} → statement M
 note-spec =

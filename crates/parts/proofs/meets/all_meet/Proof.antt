@@ -11,11 +11,11 @@ use Rattle.parts.proofs.meets.all_meet.Statement.{statement}
 use Rattle.parts.proofs.meets.all_meet.Tie as tie
 
 abbrev Inv-loop : tie.InvT-loop
-Inv-loop block n draft k ranks at size trail ok₀ j₀ ok j =
-    (ok ≡ all (meets-at block draft ranks at size trail) (tab (λ i. i) j)) × (j ≤ size)
+Inv-loop block n draft k ranks size trail first ok₀ j₀ ok j =
+    (ok ≡ all (meets-at block draft ranks first size trail) (tab (λ i. i) j)) × (j ≤ size)
 
 abbrev μ-loop : tie.MeasureT-loop
-μ-loop block n draft k ranks at size trail ok₀ j₀ ok j =
+μ-loop block n draft k ranks size trail first ok₀ j₀ ok j =
     size - j
 
 loop-holds : tie.Need-loop-holds Inv-loop μ-loop
@@ -24,7 +24,7 @@ loop-holds c =
     let block = start .args .block .now in
     let draft = start .args .draft .now in
     let ranks = start .args .ranks .now in
-    let at = start .args .at in
+    let at = start .args .at .0 in
     let size = start .args .size in
     let trail = start .args .trail .now in
     (every-none (meets-at block draft ranks at size trail), omega arith)
@@ -46,7 +46,7 @@ loop-again c =
     let block = start .args .block .now in
     let draft = start .args .draft .now in
     let ranks = start .args .ranks .now in
-    let at = start .args .at in
+    let at = start .args .at .0 in
     let size = start .args .size in
     let trail = start .args .trail .now in
     let loop-inv = (let p : tie.At-loop Inv-loop μ-loop = search in p .loop .inv) in
@@ -59,7 +59,7 @@ returns c =
     let block = start .args .block .now in
     let draft = start .args .draft .now in
     let ranks = start .args .ranks .now in
-    let at = start .args .at in
+    let at = start .args .at .0 in
     let size = start .args .size in
     let trail = start .args .trail .now in
     let loop-inv = (let p : tie.At-loop Inv-loop μ-loop = search in p .loop .inv) in

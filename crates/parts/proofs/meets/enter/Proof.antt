@@ -21,8 +21,8 @@ returns : tie.Need-returns
 returns c =
     let start : tie.Start = search in
     let from = start .args .from in
-    let y = start .args .y in
-    let at = start .args .at in
+    let y = start .args .y .0 in
+    let at = start .args .at .0 in
     let size = start .args .size in
     let is-new-ensures = (let p : tie.After-is-new = search in p .is-new .ensures) in
     entered-old from y at size (start .pre .3) (start .pre .4) (start .pre .5) (start .pre .6) (sym is-new-ensures ∙ not-true _ (c .if1 .taken))
@@ -32,7 +32,7 @@ entry-right-requires c κs =
     let start : tie.Start = search in
     let is-new-ensures = (let p : tie.After-is-new = search in p .is-new .ensures) in
     let if1-left = (let p : tie.Else1 = search in p .if1 .left) in
-    (start .pre .0, start .pre .1, new-below (start .args .y) (start .args .n) _ (sym is-new-ensures ∙ not-false _ if1-left), start .pre .2, start .pre .3)
+    (start .pre .0, start .pre .1, new-below (start .args .y .0) (start .args .n) _ (sym is-new-ensures ∙ not-false _ if1-left), start .pre .2, start .pre .3)
 
 same-length-2 : tie.Need-same-length-2
 same-length-2 c =
@@ -47,8 +47,8 @@ returns-2 : tie.Need-returns-2
 returns-2 c =
     let start : tie.Start = search in
     let from = start .args .from in
-    let y = start .args .y in
-    let at = start .args .at in
+    let y = start .args .y .0 in
+    let at = start .args .at .0 in
     let size = start .args .size in
     let block = start .args .block .now in
     let draft = start .args .draft .now in
@@ -79,8 +79,8 @@ paint-requires c κs =
     let c : tie.After-is-new = search in
     let start : tie.Start = search in
     let from = start .args .from in
-    let y = start .args .y in
-    let at = start .args .at in
+    let y = start .args .y .0 in
+    let at = start .args .at .0 in
     let size = start .args .size in
     let n = start .args .n in
     let block = start .args .block .now in
@@ -116,8 +116,8 @@ returns-3 c =
     let c : tie.After-is-new = search in
     let start : tie.Start = search in
     let from = start .args .from in
-    let y = start .args .y in
-    let at = start .args .at in
+    let y = start .args .y .0 in
+    let at = start .args .at .0 in
     let size = start .args .size in
     let block = start .args .block .now in
     let draft = start .args .draft .now in

@@ -10,8 +10,8 @@ use Rattle.arrival.proofs.Steps.{Passing, passing-none, passing-more, passing-a
 use Rattle.parts.specs.Faces.{Faced}
 use Rattle.parts.specs.Meets.{met-at}
 use Rattle.parts.specs.Sewing.{SeenBy, face-size, passes-at}
-use Rattle.parts.proofs.Writing.{faced-none, faced-more, faced-all}
-use Rattle.parts.proofs.SewnFaces.{seen-none, seen-more, entered-said, part2-no}
+use Rattle.parts.proofs.Writing.{face-size-is, faced-none, faced-more, faced-all}
+use Rattle.parts.proofs.SewnFaces.{seen-none, seen-more, entered-at, entered-said, part2-no}
 use native.Mathlib.Omega.{arith}
 use borrow.Author.Needs.{needs}
 use Rattle.parts.proofs.meets.enter_all.Statement.{statement}
@@ -38,46 +38,33 @@ loop-holds c =
       start .pre .1 .0,
     )
 
-mul-y : tie.Need-mul-y Inv-loop μ-loop
-mul-y c =
+place-at-requires : tie.Need-place-at-requires Inv-loop μ-loop
+place-at-requires c κs =
     let start : tie.Start Inv-loop μ-loop = search in
-    let s = start .pre .0 .places-size in let f = start .pre .0 .few in omega (arith, s, f)
+    omega (arith, start .pre .0 .places-size, start .pre .0 .few)
 
-shared-slice-read-y : tie.Need-shared-slice-read-y Inv-loop μ-loop
-shared-slice-read-y c =
+entry-index-requires : tie.Need-entry-index-requires Inv-loop μ-loop
+entry-index-requires c κs =
     let start : tie.Start Inv-loop μ-loop = search in
-    let s = start .pre .0 .places-size in let f = start .pre .0 .few in omega (arith, s, f)
+    omega (arith, start .pre .0 .indices-size, start .pre .0 .few)
 
-mul-at : tie.Need-mul-at Inv-loop μ-loop
-mul-at c =
-    let start : tie.Start Inv-loop μ-loop = search in
-    let s = start .pre .0 .indices-size in let f = start .pre .0 .few in omega (arith, s, f)
-
-shared-slice-read-at : tie.Need-shared-slice-read-at Inv-loop μ-loop
-shared-slice-read-at c =
-    let start : tie.Start Inv-loop μ-loop = search in
-    let s = start .pre .0 .indices-size in let f = start .pre .0 .few in omega (arith, s, f)
-
-mul-size : tie.Need-mul-size Inv-loop μ-loop
-mul-size c =
+size-at-requires : tie.Need-size-at-requires Inv-loop μ-loop
+size-at-requires c κs =
     let start : tie.Start Inv-loop μ-loop = search in
     let loop-e = (let p : tie.At-loop Inv-loop μ-loop = search in p .loop .e) in
-    let h = start .pre .0 .spans .below loop-e (omega arith) in let s = start .pre .0 .sizes-size in omega (arith, h, s)
-
-shared-slice-read-size : tie.Need-shared-slice-read-size Inv-loop μ-loop
-shared-slice-read-size c =
-    let start : tie.Start Inv-loop μ-loop = search in
-    let loop-e = (let p : tie.At-loop Inv-loop μ-loop = search in p .loop .e) in
-    let h = start .pre .0 .spans .below loop-e (omega arith) in let s = start .pre .0 .sizes-size in omega (arith, h, s)
+    omega (arith, start .pre .0 .spans .below loop-e (omega arith), start .pre .0 .sizes-size, c .entry-index .ensures)
 
 enter-requires : tie.Need-enter-requires Inv-loop μ-loop
 enter-requires c κs =
     let start : tie.Start Inv-loop μ-loop = search in
     let loop-e = (let p : tie.At-loop Inv-loop μ-loop = search in p .loop .e) in
-    let loop-inv = (let p : tie.At-loop Inv-loop μ-loop = search in p .loop .inv) in (
+    let loop-inv = (let p : tie.At-loop Inv-loop μ-loop = search in p .loop .inv) in
+    let entry-index-ensures = (let p : tie.After-entry-index Inv-loop μ-loop = search in p .entry-index .ensures) in
+    let size-at-ensures = (let p : tie.After-size-at Inv-loop μ-loop = search in p .size-at .ensures) in
+    let size-is = face-size-is (start .args .sizes .now) (start .args .indices .now) loop-e entry-index-ensures size-at-ensures in (
       start .pre .0 .beside,
       start .pre .0 .sender,
-      start .pre .0 .within loop-e (omega arith),
+      omega (arith, start .pre .0 .within loop-e (omega arith), entry-index-ensures, size-is),
       loop-inv .5,
       loop-inv .0 .size,
       loop-inv .1 .size,
@@ -126,13 +113,20 @@ returns c =
     let loop-e = (let p : tie.At-loop Inv-loop μ-loop = search in p .loop .e) in
     let loop-inv = (let p : tie.At-loop Inv-loop μ-loop = search in p .loop .inv) in
     let enter-ensures = (let p : tie.After-enter Inv-loop μ-loop = search in p .enter .ensures) in
+    let place-at-ensures = (let p : tie.After-place-at Inv-loop μ-loop = search in p .place-at .ensures) in
+    let entry-index-ensures = (let p : tie.After-entry-index Inv-loop μ-loop = search in p .entry-index .ensures) in
+    let size-at-ensures = (let p : tie.After-size-at Inv-loop μ-loop = search in p .size-at .ensures) in
+    let entered = entered-at (sizes .now) (places .now) (indices .now) loop-e place-at-ensures entry-index-ensures size-at-ensures enter-ensures in
     part2-no
     (passing-not (passes-at (block .now) (draft .now) (ranks .now) (sizes .now) (places .now) (indices .now) n from) loop-e c'
     (omega arith)
-    (sym (entered-said (sizes .now) (places .now) (indices .now) loop-e (loop-inv .0) enter-ensures) ∙ not-true _ (c .if1 .taken)))
+    (sym (entered-said (sizes .now) (places .now) (indices .now) loop-e (loop-inv .0) entered) ∙ not-true _ (c .if1 .taken)))
 
 add-e : tie.Need-add-e Inv-loop μ-loop
-add-e c = search needs
+add-e c =
+    let loop-test-taken = (let p : tie.In-loop Inv-loop μ-loop = search in p .loop-test .taken) in
+    let few = (let c : tie.At-loop Inv-loop μ-loop = search in let p : tie.Start Inv-loop μ-loop = search in p .pre .0 .few) in
+    omega (arith, loop-test-taken, few)
 
 loop-less : tie.Need-loop-less Inv-loop μ-loop
 loop-less c = search needs
@@ -146,14 +140,18 @@ loop-again c =
     let loop-e = (let p : tie.At-loop Inv-loop μ-loop = search in p .loop .e) in
     let loop-inv = (let p : tie.At-loop Inv-loop μ-loop = search in p .loop .inv) in
     let enter-ensures = (let p : tie.After-enter Inv-loop μ-loop = search in p .enter .ensures) in
+    let place-at-ensures = (let p : tie.After-place-at Inv-loop μ-loop = search in p .place-at .ensures) in
+    let entry-index-ensures = (let p : tie.After-entry-index Inv-loop μ-loop = search in p .entry-index .ensures) in
+    let size-at-ensures = (let p : tie.After-size-at Inv-loop μ-loop = search in p .size-at .ensures) in
+    let entered = entered-at (sizes .now) (places .now) (indices .now) loop-e place-at-ensures entry-index-ensures size-at-ensures enter-ensures in
     let yes = not-false _ (c .if1 .left) in (
-      seen-more loop-e (loop-inv .0) (enter-ensures .seen-are yes),
-      faced-more (pre .0 .spans) (loop-inv .1) (omega arith) (enter-ensures .kinds-are yes),
-      faced-more (pre .0 .spans) (loop-inv .2) (omega arith) (enter-ensures .links-are yes),
+      seen-more loop-e (loop-inv .0) (entered .seen-are yes),
+      faced-more (pre .0 .spans) (loop-inv .1) (omega arith) (entered .kinds-are yes),
+      faced-more (pre .0 .spans) (loop-inv .2) (omega arith) (entered .links-are yes),
       passing-more (loop-inv .3)
-          (sym (entered-said (sizes .now) (places .now) (indices .now) loop-e (loop-inv .0) enter-ensures) ∙ yes),
+          (sym (entered-said (sizes .now) (places .now) (indices .now) loop-e (loop-inv .0) entered) ∙ yes),
       omega arith,
-      enter-ensures .len,
+      entered .len,
     )
 
 same-length-5 : tie.Need-same-length-5 Inv-loop μ-loop
@@ -199,12 +197,9 @@ enter-all-spec =
     Inv-loop
     μ-loop
     loop-holds
-    mul-y
-    shared-slice-read-y
-    mul-at
-    shared-slice-read-at
-    mul-size
-    shared-slice-read-size
+    place-at-requires
+    entry-index-requires
+    size-at-requires
     enter-requires
     same-length
     same-length-2

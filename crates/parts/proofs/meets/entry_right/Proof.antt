@@ -27,8 +27,8 @@ returns c =
     let draft = start .args .draft .now in
     let ranks = start .args .ranks .now in
     let from = start .args .from in
-    let y = start .args .y in
-    let at = start .args .at in
+    let y = start .args .y .0 in
+    let at = start .args .at .0 in
     let size = start .args .size in
     let field-ensures = (let p : tie.After-field = search in p .field .ensures) in
     not-critical block draft ranks from y at size (start .pre .4) field-ensures (c .if1 .taken)
@@ -48,8 +48,8 @@ returns-2 c =
     let draft = start .args .draft .now in
     let ranks = start .args .ranks .now in
     let from = start .args .from in
-    let y = start .args .y in
-    let at = start .args .at in
+    let y = start .args .y .0 in
+    let at = start .args .at .0 in
     let size = start .args .size in
     let walk-face-ensures = (let p : tie.After-walk-face = search in p .walk-face .ensures) in
     not-equal block draft ranks from y at size (subst (Walked block y size _) (not-true _ (c .if2 .taken)) walk-face-ensures)
@@ -58,7 +58,7 @@ all-meet-requires : tie.Need-all-meet-requires
 all-meet-requires c κs =
     let start : tie.Start = search in
     let block = start .args .block .now in
-    let y = start .args .y in
+    let y = start .args .y .0 in
     let size = start .args .size in
     let walk-face-ensures = (let p : tie.After-walk-face = search in p .walk-face .ensures) in
     let if2-left = (let p : tie.Else2 = search in p .if2 .left) in (
@@ -78,8 +78,8 @@ returns-3 c =
     let draft = start .args .draft .now in
     let ranks = start .args .ranks .now in
     let from = start .args .from in
-    let y = start .args .y in
-    let at = start .args .at in
+    let y = start .args .y .0 in
+    let at = start .args .at .0 in
     let size = start .args .size in
     let field-ensures = (let p : tie.After-field = search in p .field .ensures) in
     let if1-left = (let p : tie.Else1 = search in p .if1 .left) in

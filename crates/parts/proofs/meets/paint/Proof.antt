@@ -22,22 +22,18 @@ loop-holds : tie.Need-loop-holds Inv-loop μ-loop
 loop-holds c =
     (paint-none 1 _, omega arith)
 
-mul-seen : tie.Need-mul-seen Inv-loop μ-loop
-mul-seen c =
+place-at-requires : tie.Need-place-at-requires Inv-loop μ-loop
+place-at-requires c κs =
     let start : tie.Start Inv-loop μ-loop = search in
-    let l = start .pre .0 .len in omega (arith, l)
-
-shared-slice-read-seen : tie.Need-shared-slice-read-seen Inv-loop μ-loop
-shared-slice-read-seen c =
-    let start : tie.Start Inv-loop μ-loop = search in
-    let l = start .pre .0 .len in omega (arith, l)
+    omega (arith, start .pre .0 .len)
 
 slice-write-seen : tie.Need-slice-write-seen Inv-loop μ-loop
 slice-write-seen c =
     let start : tie.Start Inv-loop μ-loop = search in
     let loop-inv = (let p : tie.At-loop Inv-loop μ-loop = search in p .loop .inv) in
     let loop-j = (let p : tie.At-loop Inv-loop μ-loop = search in p .loop .j) in
-    let b = start .pre .0 .below loop-j (omega arith) in let s = loop-inv .0 .size in let l = start .pre .2 in omega (arith, b, s, l)
+    let place-at-ensures = (let p : tie.After-place-at Inv-loop μ-loop = search in p .place-at .ensures) in
+    omega (arith, start .pre .0 .below loop-j (omega arith), loop-inv .0 .size, start .pre .2, place-at-ensures)
 
 add-j : tie.Need-add-j Inv-loop μ-loop
 add-j c = search needs
@@ -50,9 +46,11 @@ loop-again c =
     let start : tie.Start Inv-loop μ-loop = search in
     let trail = start .args .trail .now in
     let loop-inv = (let p : tie.At-loop Inv-loop μ-loop = search in p .loop .inv) in
-    let loop-j = (let p : tie.At-loop Inv-loop μ-loop = search in p .loop .j) in (
+    let loop-j = (let p : tie.At-loop Inv-loop μ-loop = search in p .loop .j) in
+    let place-at-ensures = (let p : tie.After-place-at Inv-loop μ-loop = search in p .place-at .ensures) in (
       paint-trail trail loop-j (loop-inv .0) (let l = start .pre .0 .len in omega (arith, l))
-          (let b = start .pre .0 .below loop-j (omega arith) in let l = start .pre .2 in omega (arith, b, l)),
+          (let b = start .pre .0 .below loop-j (omega arith) in let l = start .pre .2 in omega (arith, b, l))
+          place-at-ensures,
       omega arith,
     )
 
@@ -75,8 +73,7 @@ paint-spec =
     Inv-loop
     μ-loop
     loop-holds
-    mul-seen
-    shared-slice-read-seen
+    place-at-requires
     slice-write-seen
     add-j
     loop-less

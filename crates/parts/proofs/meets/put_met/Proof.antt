@@ -11,11 +11,11 @@ use Rattle.parts.proofs.meets.put_met.Statement.{statement}
 use Rattle.parts.proofs.meets.put_met.Tie as tie
 
 abbrev Inv-loop : tie.InvT-loop
-Inv-loop trail size links₀ at j₀ links j =
-    Over at j (met-at trail size) links₀ links × (j ≤ size)
+Inv-loop trail size links₀ first j₀ links j =
+    Over first j (met-at trail size) links₀ links × (j ≤ size)
 
 abbrev μ-loop : tie.MeasureT-loop
-μ-loop trail size links₀ at j₀ links j =
+μ-loop trail size links₀ first j₀ links j =
     size - j
 
 loop-holds : tie.Need-loop-holds Inv-loop μ-loop

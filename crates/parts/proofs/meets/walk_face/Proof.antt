@@ -13,11 +13,11 @@ use Rattle.parts.proofs.meets.walk_face.Statement.{statement}
 use Rattle.parts.proofs.meets.walk_face.Tie as tie
 
 abbrev Inv-loop : tie.InvT-loop
-Inv-loop block n start size trail₀ i₀ p₀ trail i p =
-    Going n (column block 1) start (length (cycle (column block 1) start)) (i - 0) p × Writing (column block 1) start 0 trail₀ trail i × (i ≤ size)
+Inv-loop block n size trail₀ first i₀ p₀ trail i p =
+    Going n (column block 1) first (length (cycle (column block 1) first)) (i - 0) p × Writing (column block 1) first 0 trail₀ trail i × (i ≤ size)
 
 abbrev μ-loop : tie.MeasureT-loop
-μ-loop block n start size trail₀ i₀ p₀ trail i p =
+μ-loop block n size trail₀ first i₀ p₀ trail i p =
     size - i
 
 loop-holds : tie.Need-loop-holds Inv-loop μ-loop
@@ -38,11 +38,11 @@ slice-write-trail c = omega arith
 add-i : tie.Need-add-i Inv-loop μ-loop
 add-i c = omega arith
 
-field-requires : tie.Need-field-requires Inv-loop μ-loop
-field-requires c κs =
+next-of-requires : tie.Need-next-of-requires Inv-loop μ-loop
+next-of-requires c κs =
     let start : tie.Start Inv-loop μ-loop = search in
     let loop-inv = (let p : tie.At-loop Inv-loop μ-loop = search in p .loop .inv) in
-    (omega (arith, loop-inv .0 .below, start .pre .0 .few), omega arith, start .pre .0 .size)
+    (omega (arith, loop-inv .0 .below, start .pre .0 .few), start .pre .0 .size)
 
 same-length : tie.Need-same-length Inv-loop μ-loop
 same-length c =
@@ -55,10 +55,10 @@ returns c =
     let loop-i = (let p : tie.At-loop Inv-loop μ-loop = search in p .loop .i) in
     let loop-inv = (let p : tie.At-loop Inv-loop μ-loop = search in p .loop .inv) in
     let loop-trail = (let p : tie.At-loop Inv-loop μ-loop = search in p .loop .trail) in
-    let field-ensures = (let p : tie.After-field Inv-loop μ-loop = search in p .field .ensures) in
+    let next-of-ensures = (let p : tie.After-next-of Inv-loop μ-loop = search in p .next-of .ensures) in
     let R = round (start .pre .0 .few) (start .pre .0 .next-within) (start .pre .0 .next-apart) _ (start .pre .1) in
     let left : loop-i < length loop-trail = omega (arith, loop-inv .1 .size, start .pre .3, start .pre .2) in
-    walked-back loop-i (start .pre .3) (writing-end (start .pre .0 .next-within) R (loop-inv .0) (loop-inv .1) left field-ensures (c .if1 .taken) refl)
+    walked-back loop-i (start .pre .3) (writing-end (start .pre .0 .next-within) R (loop-inv .0) (loop-inv .1) left next-of-ensures (c .if1 .taken) refl)
 
 loop-less : tie.Need-loop-less Inv-loop μ-loop
 loop-less c = search needs
@@ -69,10 +69,10 @@ loop-again c =
     let loop-i = (let p : tie.At-loop Inv-loop μ-loop = search in p .loop .i) in
     let loop-inv = (let p : tie.At-loop Inv-loop μ-loop = search in p .loop .inv) in
     let loop-trail = (let p : tie.At-loop Inv-loop μ-loop = search in p .loop .trail) in
-    let field-ensures = (let p : tie.After-field Inv-loop μ-loop = search in p .field .ensures) in
+    let next-of-ensures = (let p : tie.After-next-of Inv-loop μ-loop = search in p .next-of .ensures) in
     let R = round (start .pre .0 .few) (start .pre .0 .next-within) (start .pre .0 .next-apart) _ (start .pre .1) in
     let left : loop-i < length loop-trail = omega (arith, loop-inv .1 .size, start .pre .3, start .pre .2) in (
-      going-again (start .pre .0 .next-within) R (loop-inv .0) (loop-inv .1) left field-ensures (c .if1 .left),
+      going-again (start .pre .0 .next-within) R (loop-inv .0) (loop-inv .1) left next-of-ensures (c .if1 .left),
       writing-on (start .pre .0 .next-within) R (loop-inv .0) (loop-inv .1) left,
       omega arith,
     )
@@ -99,7 +99,7 @@ walk-face-spec =
     mul-trail
     slice-write-trail
     add-i
-    field-requires
+    next-of-requires
     same-length
     returns
     loop-less

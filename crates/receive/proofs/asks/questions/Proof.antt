@@ -7,6 +7,7 @@ use Rattle.model.specs.Values.{rack}
 use Rattle.cells.proofs.Sited.{sited}
 use Rattle.columns.proofs.Question.{image-passed}
 use Rattle.fitting.proofs.Outlined.{told-of}
+use Rattle.arrival.proofs.Eighteen.{finite-told}
 use Rattle.receive.proofs.Answered.{bytes-in, serials-small, sender-small, new-volume, no-17, no-18, no-19, no-20, no-21, yes-all}
 use native.Mathlib.Omega.{arith}
 use borrow.Author.Needs.{needs}
@@ -95,7 +96,11 @@ volume-right-requires c κs =
         start .pre .1 .6,
         start .pre .1 .7,
       ),
-      (new-serials-ensures .0 .ranked (not-false _ if2-left), (start .pre .0 .2 .0, (told-of (start .pre .0 .2 .2)))),
+      (
+        new-serials-ensures .0 .ranked (not-false _ if2-left),
+        finite-told (new-serials-ensures .0) (not-false _ if2-left),
+        (start .pre .0 .2 .0, (told-of (start .pre .0 .2 .2))),
+      ),
     )
 
 same-length-3 : tie.Need-same-length-3

@@ -1,4 +1,0 @@
-pub mod Found
-pub mod Brought
-pub mod MetFaces
-pub mod Transfers

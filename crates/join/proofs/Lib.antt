@@ -1,0 +1,9 @@
+pub mod Weaving
+pub mod Positions
+pub mod Inserted
+pub mod WovenImage
+pub mod WovenPlaces
+pub mod SewLaws
+pub mod JoinedDarts
+pub mod JoinedImage
+pub mod Joining

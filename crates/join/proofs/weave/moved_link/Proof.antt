@@ -1,0 +1,25 @@
+-- `join::weave::moved_link` meets its contract: only a sewn dart's link is a place. Assumes nothing.
+use mathlib.Core.Path.{_∙_}
+use lib.ListN.{getD}
+use Rattle.removal.proofs.ReleasedImage.{link-sewn, link-other}
+use native.Mathlib.Omega.{arith}
+use Rattle.join.proofs.weave.moved_link.Statement.{statement}
+use Rattle.join.proofs.weave.moved_link.Tie as tie
+
+moved-at-requires : tie.Need-moved-at-requires
+moved-at-requires c κs =
+    let start : tie.Start = search in
+    omega (arith, start .pre .0, start .pre .1 (c .if1 .taken))
+
+returns : tie.Need-returns
+returns c =
+    let start : tie.Start = search in
+    let if1-taken = (let p : tie.Then1 = search in p .if1 .taken) in
+    c .moved-at .ensures ∙ link-sewn (λ p. getD (start .args .table .now) p 0) _ _ if1-taken
+
+returns-2 : tie.Need-returns-2
+returns-2 c =
+    link-other _ _ _ (c .if1 .left)
+
+pub moved-link-spec : {M : Type 1} → statement M
+moved-link-spec = tie.close (tie.spec moved-at-requires returns returns-2)

@@ -1,0 +1,4 @@
+pub mod Weave
+pub mod Woven
+pub mod Thirds
+pub mod Join

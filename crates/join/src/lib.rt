@@ -1,0 +1,29 @@
+// New darts join a block: put among its darts by serial, then sewn to them or labelled.
+pub mod weave; // weave.rt: the darts of a draft put among those of the block, renumbered
+pub mod sewing; // sewing.rt: words 3 and 4 of the new darts, and of those they meet
+
+ghost use mathlib.Core.Path.{_≡_};
+ghost use Prim.Native.Nat.{_≤_};
+ghost use lib.ListN.{length, getD};
+ghost use Rattle.model.specs.Image.{room};
+ghost use Rattle.join.specs.Join.{MayJoin, Joins};
+
+// `old` and `new` are lent for the places of the darts of both.
+pub fn join(
+    block: &mut [u64],
+    draft: &[u64],
+    kinds: &[u64],
+    links: &[u64],
+    ranks: &[usize],
+    old: &mut [usize],
+    new: &mut [usize],
+)
+    requires { ⌜ (length (now old) ≡ room) × (length (now new) ≡ room) ⌝ }
+    requires { ⌜ (length (now kinds) ≡ 512) × (length (now links) ≡ 512) × (length (now ranks) ≡ 512) × MayJoin (now block) (now draft) (getD (now block) 2 0) (getD (now draft) 2 0) (now kinds) (now links) (now ranks) × (getD (now draft) 2 0 ≤ 512) ⌝ }
+    ensures { λ _. ⌜ Joins (now (block .entry)) (now (draft .entry)) (getD (now (block .entry)) 2 0) (getD (now (draft .entry)) 2 0) (now (kinds .entry)) (now (links .entry)) (now (ranks .entry)) (now (block .exit)) ⌝ }
+{
+    let n = block[2] as usize;
+    let k = draft[2] as usize;
+    weave::insert(block, draft, old, new);
+    sewing::sew(block, n, k, kinds, links, ranks, old, new);
+}

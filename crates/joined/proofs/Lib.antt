@@ -1,2 +1,0 @@
-pub mod JoinedDarts
-pub mod JoinedImage

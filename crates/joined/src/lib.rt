@@ -1,1 +1,0 @@
-// What receive leaves in memory, by places, and that this is the model's block. No code.

@@ -1,4 +1,0 @@
-pub mod Positions
-pub mod Inserted
-pub mod WovenImage
-pub mod WovenPlaces
