@@ -4,7 +4,7 @@ use mathlib.Core.List.{List}
 use mathlib.Core.Logic.{⊎-elim}
 use Prim.Native.Nat.{ℕ, _+_, _*_, _-_, _≤_, _<_}
 use native.Mathlib.Omega.{arith}
-use lib.ListN.{length, drop, set, length-set}
+use lib.ListN.{length, getD, drop, set, length-set}
 use lib.Seq.{getD-set-same, getD-set-other}
 use Rattle.model.specs.Image.{words, column}
 use Rattle.laws.proofs.Tests.{last-or-below}
@@ -18,8 +18,10 @@ use Rattle.model.specs.Layouts.{coordinate}
 use Rattle.groups.specs.Slices.{read-at}
 use Rattle.groups.specs.declared.Read.the-variants.{Value, Bad}
 use Rattle.inbox.specs.Inbox.{word-in}
+use Rattle.ranking.specs.Ranks.{value-at, index-at}
 use Rattle.inbox.proofs.Points.{word-took}
-use Rattle.arrival.specs.Draft.{FiniteIn, Drafted}
+use Rattle.arrival.specs.Sides.{next-index}
+use Rattle.arrival.specs.Draft.{draft-record, FiniteIn, Draftable, Drafted}
 
 -- the records below p are put
 pub record Drafting (f : ℕ → Record) (k : ℕ) (m : List ℕ) (p : ℕ) : Type 0 where
@@ -95,6 +97,10 @@ word-there s at h e =
     let z : _≡_ {A = ℕ} 0 1 = cc in
     omega arith
 
+-- the index of the dart at place p, by what is read of it
+pub index-fits : {v b z keys q s : List ℕ} {from k : ℕ} → Draftable v b z keys q s from k → {p i : ℕ} → p < k → i ≡ index-at keys p → i < k
+index-fits d {p} h e = omega (arith, e, d .index-below p h)
+
 -- A POINT read by value, and its words again
 module _ {s : List ℕ} {at : ℕ} {p : Point} (f : FiniteIn s at) (e : p ≡ point-of (word-in s at) (word-in s (at + 8)) (word-in s (at + 16))) where
   pub finite-read : FinitePoint p
@@ -102,3 +108,10 @@ module _ {s : List ℕ} {at : ℕ} {p : Point} (f : FiniteIn s at) (e : p ≡ po
 
   pub words-read : patterns p ≡ record { x = word-in s at; y = word-in s (at + 8); z = word-in s (at + 16) }
   words-read = rw e (point-patterns (word-in s at) (word-in s (at + 8)) (word-in s (at + 16)) (f .on-x) (f .on-y) (f .on-z))
+
+-- THE RECORD at place p, by what is read of it
+pub record-told : (v b z keys ranks t s : List ℕ) (from p : ℕ) {i n o a c x y w : ℕ} → i ≡ index-at keys p → n ≡ next-index b z i → o ≡ getD t i 0
+    → a ≡ getD ranks n 0 → c ≡ getD ranks o 0 → x ≡ word-in s (from + 24 * getD v i 0) → y ≡ word-in s (from + 24 * getD v i 0 + 8)
+    → w ≡ word-in s (from + 24 * getD v i 0 + 16)
+    → _≡_ {A = Record} (record { serial = value-at keys p; next = a; opposite = c; kind = 0; link = 0; x = x; y = y; z = w }) (draft-record v b z keys ranks t s from p)
+record-told v b z keys ranks t s from p i n o a c x y w = rw (a, c, n, o, x, y, w, i) refl

@@ -110,7 +110,10 @@ module _ {ds : List Dart} {s : List ℕ} {from n : ℕ} {x : List ℕ} {k : ℕ}
   new-ranked e f d g = record { is = rw (e, f) d; ranked = g }
 
   pub finite-told : {r : Bool} → NewSerials ds s from n x k keys ranks r → r ≡ true → all finite (points-in s from n) ≡ true
-  finite-told w e = and-left (all finite (points-in s from n)) _ (and-left (all finite (points-in s from n) && all (λ i. leb 1 (getD x i 0) && not (held ds (getD x i 0))) (tab (λ i. i) k)) _ (sym (w .is) ∙ e))
+  finite-told w e = and-left (all finite (points-in s from n)) _ (and-left (all finite (points-in s from n) && new) _ (sym (w .is) ∙ e))
+    where
+      new : Bool
+      new = all (λ i. leb 1 (getD x i 0) && not (held ds (getD x i 0))) (tab (λ i. i) k)
 
 -- of a transfer
 pub eighteen-is : {t : Transfer} {v x b z s : List ℕ} {from n k : ℕ} {hollow : Bool} (ds : List Dart) → Told t v x b z s from n k hollow → k ≤ length x

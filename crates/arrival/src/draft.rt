@@ -5,6 +5,7 @@ ghost use lib.ListN.{length, set};
 ghost use Rattle.model.specs.Image.{words};
 ghost use Rattle.memory.specs.Point.{point-of};
 ghost use Rattle.inbox.specs.Inbox.{word-in};
+ghost use Rattle.ranking.specs.Ranks.{index-at};
 ghost use Rattle.arrival.specs.Draft.{draft-record, FiniteIn, Draftable, Drafted};
 use crate::pairs;
 use groups::Read;
@@ -38,6 +39,15 @@ fn point_in(message: &[u8], at: usize) -> Point
     point::point_of(x, y, z)
 }
 
+// The index in the message of the dart at a place of the draft.
+fn index_of(keys: &[u64], p: DraftPlace) -> MessageIndex
+    requires { ⌜ p .0 < length (now keys) ⌝ }
+    ensures { λ r. ⌜ r .0 ≡ index-at (now (keys .entry)) (p .0) ⌝ }
+{
+    let at = p.0;
+    MessageIndex((keys[at] % 512) as usize)
+}
+
 // The record at a place of the draft.
 fn record_of(
     message: &[u8],
@@ -56,13 +66,14 @@ fn record_of(
     ensures { λ r. ⌜ r ≡ draft-record (now (vertex .entry)) (now (starts .entry)) (now (sizes .entry)) (now (keys .entry)) (now (ranks .entry)) (now (opposite .entry)) (now (message .entry)) from (p .0) ⌝ }
 {
     let at = p.0;
-    let i = (keys[at] % 512) as usize;
     let serial = keys[at] / 512;
-    let next = pairs::next_index(starts, sizes, MessageIndex(i));
-    let other = place::index_at(opposite, MessageIndex(i));
+    let i = index_of(keys, p);
+    let next = pairs::next_index(starts, sizes, i);
+    let other = place::index_at(opposite, i);
     let after = place::rank_at(ranks, next);
     let beside = place::rank_at(ranks, other);
-    let point = point_in(message, from + 24 * (vertex[i] as usize));
+    let n = i.0;
+    let point = point_in(message, from + 24 * (vertex[n] as usize));
     Record {
         serial,
         next: after.0 as u64,

@@ -160,7 +160,8 @@ module _ {w kinds links ranks old new : List ℕ} {n k i : ℕ} {m : List ℕ} (
         ∙ so-far .stays f p l (λ j u. a j (omega (arith, u))) (λ j u. b j (omega (arith, u)));
   }
 
-  pub sewn-more : {m′ : List ℕ} {r p : ℕ} → r ≡ getD ranks i 0 → p ≡ getD new r 0 → m′ ≡ sewn-at m (getD kinds i 0) (getD links i 0) old p → Sewn w kinds links ranks old new (i + 1) m′
+  pub sewn-more : {m′ : List ℕ} {r p : ℕ} → r ≡ getD ranks i 0 → p ≡ getD new r 0
+      → m′ ≡ sewn-at m (getD kinds i 0) (getD links i 0) old p → Sewn w kinds links ranks old new (i + 1) m′
   unfolding next
   sewn-more a b e = rw (e, b, a) more
 

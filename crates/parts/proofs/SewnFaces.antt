@@ -30,7 +30,8 @@ pub a-place : (y n : ℕ) (b : Bool) → y < n → b ≡ (ltb y n && b)
 a-place y n b h = rw (lt-ltb y n h) refl
 
 -- PAINTING a trail
-pub paint-trail : (trail : List ℕ) {t t′ : List ℕ} (j : ℕ) → Painted 1 (take j trail) t t′ → j < length trail → getD trail j 0 < length t → {p : ℕ} → p ≡ getD trail j 0 → Painted 1 (take (j + 1) trail) t (set t′ p 1)
+pub paint-trail : (trail : List ℕ) {t t′ : List ℕ} (j : ℕ) → Painted 1 (take j trail) t t′ → j < length trail → getD trail j 0 < length t
+    → {p : ℕ} → p ≡ getD trail j 0 → Painted 1 (take (j + 1) trail) t (set t′ p 1)
 paint-trail trail {t} {t′} j w h l {p} e = subst (λ (x : ℕ). Painted 1 (take (j + 1) trail) t (set t′ x 1)) (sym e)
     (subst (λ (k : List ℕ). Painted 1 k t (set t′ (getD trail j 0) 1)) (sym (take-suc trail j 0 h) ∙ ap (λ (k : ℕ). take k trail) (sym (add-one j))) (paint-more w l))
 

@@ -130,7 +130,8 @@ module _ {m d ranks : List ℕ} {n k : ℕ} (o : Meetable m n d k ranks) (at : �
         (o .new-finite p hp, o .new-finite (column d 1 p) np, o .finite w hw, o .finite (column m 1 w) nw),
       )
 
-pub meets-told : (m d ranks : List ℕ) (at size j : ℕ) (trail : List ℕ) {p w : ℕ} {r : Bool} → p ≡ getD ranks (at + j) 0 → w ≡ met-at trail size j → r ≡ meet-at m d p w → r ≡ meets-at m d ranks at size trail j
+pub meets-told : (m d ranks : List ℕ) (at size j : ℕ) (trail : List ℕ) {p w : ℕ} {r : Bool} → p ≡ getD ranks (at + j) 0 → w ≡ met-at trail size j
+    → r ≡ meet-at m d p w → r ≡ meets-at m d ranks at size trail j
 meets-told m d ranks at size j trail {p} {w} h e q = q ∙ ap (λ (x : ℕ). meet-at m d x w) h ∙ ap (meet-at m d (getD ranks (at + j) 0)) e
 
 -- AN ENTRY

@@ -1,3 +1,5 @@
+-- `inbox::faces::read_dart` meets its contract: a vertex, then a serial.
+-- Assumes nothing.
 use mathlib.Core.Path.{refl, sym, _∙_}
 use Rattle.model.specs.Layouts.{group, serial}
 use Rattle.groups.proofs.Ends.{bad-at}

@@ -1,3 +1,5 @@
+-- `inbox::faces::read_darts` meets its contract. The loop's invariant: the darts before index i are in the arrays.
+-- Assumes nothing.
 use mathlib.Core.Path.{refl}
 use Prim.Native.Nat.{_+_, _-_}
 use Rattle.inbox.proofs.Arrays.{Darts, darts-start, darts-more, darts-stop, darts-end}

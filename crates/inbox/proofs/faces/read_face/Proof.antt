@@ -1,3 +1,5 @@
+-- `inbox::faces::read_face` meets its contract: a size that fits, then the darts.
+-- Assumes nothing.
 use mathlib.Core.Path.{sym, _∙_}
 use Rattle.model.specs.Layouts.{group}
 use Rattle.groups.proofs.Ends.{bad-at}

@@ -1,3 +1,5 @@
+-- `inbox::faces::read_faces` meets its contract. The loop's invariant: all faces but the last `left` are in the arrays.
+-- Assumes nothing.
 use Rattle.inbox.proofs.FaceArrays.{Reading, reading-start, reading-more, reading-stop, reading-none, reading-end, face-fits}
 use native.Mathlib.Omega.{arith}
 use borrow.Author.Needs.{needs}

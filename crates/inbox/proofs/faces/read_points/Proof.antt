@@ -1,3 +1,5 @@
+-- `inbox::faces::read_points` meets its contract: a count, and room for so many points.
+-- Assumes nothing.
 use mathlib.Core.Path.{sym, _∙_}
 use Rattle.model.specs.Layouts.{group}
 use Rattle.model.specs.Messages.{point}

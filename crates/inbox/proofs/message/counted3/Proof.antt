@@ -1,3 +1,5 @@
+-- `inbox::message::counted3` meets its contract: a count, then so many entries.
+-- Assumes nothing.
 use mathlib.Core.Path.{sym, _∙_}
 use Rattle.model.specs.Layouts.{group}
 use Rattle.model.specs.Messages.{part3}

@@ -1,3 +1,5 @@
+-- `inbox::message::read_frame` meets its contract: the first number is the length of the rest.
+-- Assumes nothing.
 use mathlib.Core.Path.{sym, _∙_}
 use Rattle.model.specs.Layouts.{group}
 use Rattle.groups.proofs.Ends.{bad-at}

@@ -1,3 +1,5 @@
+-- `inbox::message::read_head` meets its contract: the number that is missing or wrong, or all three.
+-- Assumes nothing.
 use mathlib.Core.Path.{sym, _∙_}
 use Rattle.model.specs.Layouts.{group, at-most}
 use Rattle.groups.proofs.Ends.{bad-at}

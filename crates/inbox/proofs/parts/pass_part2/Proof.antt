@@ -1,3 +1,5 @@
+-- `inbox::parts::pass_part2` meets its contract: a label, then an index.
+-- Assumes nothing.
 use mathlib.Core.Path.{sym, _∙_}
 use Rattle.inbox.proofs.Passing.{no-label, took-label, group-pass, part2-none, part2-pass}
 use borrow.Author.Needs.{needs}

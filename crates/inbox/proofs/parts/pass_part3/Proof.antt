@@ -1,3 +1,5 @@
+-- `inbox::parts::pass_part3` meets its contract: a number, then an index.
+-- Assumes nothing.
 use mathlib.Core.Path.{sym, _∙_}
 use Rattle.model.specs.Layouts.{group}
 use Rattle.groups.proofs.Ends.{bad-at}

@@ -1,3 +1,5 @@
+-- `inbox::parts::pass_parts2` meets its contract. The loop's invariant: all but the last `left` are passed.
+-- Assumes nothing.
 use Rattle.model.specs.Messages.{part2}
 use Rattle.inbox.proofs.Passing.{Passing, passing-start, passing-more, passing-stop, passing-end}
 use native.Mathlib.Omega.{arith}

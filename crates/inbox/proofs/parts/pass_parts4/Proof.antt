@@ -1,3 +1,5 @@
+-- `inbox::parts::pass_parts4` meets its contract. The loop's invariant: all but the last `left` are passed.
+-- Assumes nothing.
 use mathlib.Core.List.{List}
 use Rattle.model.specs.Messages.{FaceDart, part4}
 use Rattle.inbox.specs.Inbox.{Sized}
