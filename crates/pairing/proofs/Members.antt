@@ -22,8 +22,8 @@ use Rattle.sort.specs.Order.{weight}
 use Rattle.sort.proofs.Order.{total-append}
 use Rattle.mesh.specs.Parts.{part}
 use Rattle.mesh.proofs.Gathers.{concat-append, one-block}
-use Rattle.facing.specs.Keys.{key, key-of, keys-of, all-keys}
-use Rattle.facing.proofs.InPairs.{times}
+use Rattle.pairing.specs.Keys.{key, key-of, keys-of, all-keys}
+use Rattle.pairing.proofs.InPairs.{times}
 
 -- A KEY TAKEN APART
 pub key-code : (a i p : ℕ) → i < 16 → p < 4096 → (a * 65536 + (i * 4096 + p)) / 65536 ≡ a

@@ -11,6 +11,8 @@ use Rattle.model.specs.Sound.{blocks-right}
 use Rattle.model.specs.Image.{column, block-in, is-image}
 use Rattle.model.specs.Calls.{memories}
 use Rattle.columns.specs.Columns.{count}
+use Rattle.memory.specs.declared.point.Point.{Point}
+use Rattle.memory.specs.Point.{point-of}
 use Rattle.mesh.specs.Parts.{blocks, part}
 
 -- questions 2 and 23 were answered yes
@@ -44,6 +46,10 @@ pub record BeforeBelow (m t : List ℕ) (i p : ℕ) : Type 0 where
 
 abbrev pub before-of : List ℕ → ℕ → ℕ
 before-of t g = g / 4096 * 4096 + getD t g 0
+
+-- the point of dart g
+abbrev pub point-by : List ℕ → ℕ → Point
+point-by m g = point-of (word m 5 g) (word m 6 g) (word m 7 g)
 
 -- 25, of g that has a label with h: g names h's block, and next of g has the label of the dart before h
 unfoldable pub side-test : List ℕ → List ℕ → ℕ → ℕ → Bool

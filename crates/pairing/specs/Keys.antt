@@ -7,7 +7,7 @@ use lib.ListN.{length, getD}
 use Rattle.model.specs.Image.{column}
 use Rattle.columns.specs.Columns.{count}
 use Rattle.mesh.specs.Parts.{part}
-use Rattle.facing.specs.Numbers.{Held, side-test, meet-test}
+use Rattle.pairing.specs.Numbers.{Held, side-test, meet-test}
 
 -- labels are codes below 2^48
 abbrev pub Short : List ℕ → Type 0

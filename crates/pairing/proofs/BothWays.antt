@@ -20,12 +20,12 @@ use Rattle.sort.specs.Order.{Sorted}
 use Rattle.sort.proofs.Order.{sorted-in-order, sorted-keys}
 use Rattle.mesh.specs.Parts.{blocks, part}
 use Rattle.mesh.proofs.Parts.{mesh-tab}
-use Rattle.facing.specs.Numbers.{Asked, word, next-of, before-of, Before, side-test, meet-test}
-use Rattle.facing.specs.Keys.{key, all-keys, in-pairs, each-pair, label-pair, point-pair}
-use Rattle.facing.proofs.InPairs.{times, twins, Mate, mates, both-tests, same-members, same-back}
-use Rattle.facing.proofs.Members.{Origin, all-in, in-all, key-code}
-use Rattle.facing.proofs.InBlocks.{third-of, kind-at, before-at, next-lt, names-other, mesh-of, few, passed, number-is}
-use Rattle.facing.proofs.Facing.{Facing, paired-is, across-is, stands-twice, facing}
+use Rattle.pairing.specs.Numbers.{Asked, word, next-of, before-of, Before, side-test, meet-test}
+use Rattle.pairing.specs.Keys.{key, all-keys, in-pairs, each-pair, label-pair, point-pair}
+use Rattle.pairing.proofs.InPairs.{times, twins, Mate, mates, both-tests, same-members, same-back}
+use Rattle.pairing.proofs.Members.{Origin, all-in, in-all, key-code}
+use Rattle.pairing.proofs.InBlocks.{third-of, kind-at, before-at, next-lt, names-other, mesh-of, few, passed, number-is}
+use Rattle.pairing.proofs.Facing.{Facing, paired-is, across-is, stands-twice, facing}
 
 -- DARTS BY NUMBER
 -- a number is that of the dart at place p of block i

@@ -20,11 +20,11 @@ use Rattle.columns.proofs.Held.{darts, dart-is}
 use Rattle.columns.proofs.Question.{Passed}
 use Rattle.mesh.specs.Parts.{blocks, part}
 use Rattle.mesh.proofs.Parts.{mesh-tab}
-use Rattle.facing.specs.Numbers.{Asked}
-use Rattle.facing.specs.Keys.{all-keys}
-use Rattle.facing.proofs.InPairs.{times}
-use Rattle.facing.proofs.Members.{all-times, suc-eqb}
-use Rattle.facing.proofs.InBlocks.{third-of, kind-at, key-critical, labelled-is, labelled-there, previous-is, next-lt, third-is, kind-along, critical-third, mesh-of, block-is, block-none, few, passed, number-is}
+use Rattle.pairing.specs.Numbers.{Asked}
+use Rattle.pairing.specs.Keys.{all-keys}
+use Rattle.pairing.proofs.InPairs.{times}
+use Rattle.pairing.proofs.Members.{all-times, suc-eqb}
+use Rattle.pairing.proofs.InBlocks.{third-of, kind-at, key-critical, labelled-is, labelled-there, previous-is, next-lt, third-is, kind-along, critical-third, mesh-of, block-is, block-none, few, passed, number-is}
 
 -- the dart at place q of block j shares the label of the one at place p of block i, and each names the other's block
 pub record Facing (m : List ℕ) (i p j q : ℕ) : Type 0 where

@@ -11,7 +11,7 @@ use Rattle.laws.proofs.Tests.{by-cases, eq-or-ne, and-intro, and-left, and-righ
 use Rattle.laws.proofs.Members.{In, in-here, in-there, in-cons}
 use Rattle.sort.specs.Order.{weight, total, SameKeys, Each, Sorted}
 use Rattle.sort.proofs.Order.{each-map}
-use Rattle.facing.specs.Keys.{fresh, in-pairs, each-pair}
+use Rattle.pairing.specs.Keys.{fresh, in-pairs, each-pair}
 
 -- how often a code stands
 abbrev pub times : ℕ → List ℕ → ℕ

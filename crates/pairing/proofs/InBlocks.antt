@@ -26,8 +26,8 @@ use Rattle.departure.proofs.LeavingFaces.{labels-apart}
 use Rattle.mesh.specs.Parts.{blocks, part}
 use Rattle.mesh.proofs.Parts.{mesh-tab, numbered-at}
 use Rattle.mesh.proofs.Gathers.{few-blocks}
-use Rattle.facing.specs.Numbers.{Asked}
-use Rattle.facing.proofs.Members.{label-word}
+use Rattle.pairing.specs.Numbers.{Asked}
+use Rattle.pairing.proofs.Members.{label-word}
 
 -- ROWS BY PLACE
 -- a row whose key no other has
