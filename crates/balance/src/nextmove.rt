@@ -22,7 +22,7 @@ pub fn next_move(mesh: &[u64], o: Oracle, scratch: &mut [u64]) -> NextMove
             if !oracle::oracle_right(o) {
                 return NextMove::Refused(Refusal::OracleWrong);
             }
-            balance::next_of(mesh, o)
+            crate::next_of(mesh, o)
         }
     }
 }

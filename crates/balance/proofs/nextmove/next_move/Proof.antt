@@ -1,11 +1,11 @@
--- `nextmove::next_move` meets its contract: each answer is that of the first question that is answered no. Assumes nothing.
+-- `balance::nextmove::next_move` meets its contract: each answer is that of the first question that is answered no. Assumes nothing.
 use Rattle.answers.proofs.Questions.{said-no, said-yes}
 use Rattle.balance.proofs.Door.{parts-passed}
 use Rattle.oracle.specs.Oracle.{oracle-of}
-use Rattle.nextmove.proofs.Turns.{mesh-no, mesh-yes, refused-mesh, refused-oracle, gives-move}
+use Rattle.balance.proofs.Turns.{mesh-no, mesh-yes, refused-mesh, refused-oracle, gives-move}
 use borrow.Author.Needs.{needs}
-use Rattle.nextmove.proofs.next_move.Statement.{statement}
-use Rattle.nextmove.proofs.next_move.Tie as tie
+use Rattle.balance.proofs.nextmove.next_move.Statement.{statement}
+use Rattle.balance.proofs.nextmove.next_move.Tie as tie
 
 mesh-asked-requires : tie.Need-mesh-asked-requires
 mesh-asked-requires c κs = search needs

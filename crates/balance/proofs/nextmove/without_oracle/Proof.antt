@@ -1,8 +1,8 @@
--- `nextmove::without_oracle` meets its contract. Assumes nothing.
-use Rattle.nextmove.proofs.Turns.{mesh-no, mesh-yes, other-mesh, other-number}
+-- `balance::nextmove::without_oracle` meets its contract. Assumes nothing.
+use Rattle.balance.proofs.Turns.{mesh-no, mesh-yes, other-mesh, other-number}
 use borrow.Author.Needs.{needs}
-use Rattle.nextmove.proofs.without_oracle.Statement.{statement}
-use Rattle.nextmove.proofs.without_oracle.Tie as tie
+use Rattle.balance.proofs.nextmove.without_oracle.Statement.{statement}
+use Rattle.balance.proofs.nextmove.without_oracle.Tie as tie
 
 mesh-asked-requires : tie.Need-mesh-asked-requires
 mesh-asked-requires c κs = search needs

@@ -1,9 +1,9 @@
--- `nextmove::next_move_by_number` meets its contract. Assumes nothing.
+-- `balance::nextmove::next_move_by_number` meets its contract. Assumes nothing.
 use Rattle.memory.specs.Point.{patterns}
-use Rattle.nextmove.proofs.Turns.{by-zero, by-one, by-two, by-other}
+use Rattle.balance.proofs.Turns.{by-zero, by-one, by-two, by-other}
 use borrow.Author.Needs.{needs}
-use Rattle.nextmove.proofs.next_move_by_number.Statement.{statement}
-use Rattle.nextmove.proofs.next_move_by_number.Tie as tie
+use Rattle.balance.proofs.nextmove.next_move_by_number.Statement.{statement}
+use Rattle.balance.proofs.nextmove.next_move_by_number.Tie as tie
 
 next-move-requires : tie.Need-next-move-requires
 next-move-requires c κs = search needs
