@@ -29,7 +29,8 @@ use Rattle.picking.specs.Picked.{size-at, Sizes}
 use Rattle.picking.proofs.PickedPlaces.{picked-places, size-is}
 use Rattle.mesh.specs.Parts.{blocks, part}
 use Rattle.mesh.proofs.Parts.{mesh-tab, sound-test, sound-is}
-use Rattle.balance.specs.Moves.{can-leave, fits, leaves-at, Untried-in, going, at, SoundParts, mesh-in, count-at, Counted, Surpluses, moves-between, moves-from, all-moves, candidate-of, found-of}
+use Rattle.balance.specs.Moves.{can-leave, fits, leaves-at, Untried-in, going, candidate-of, at}
+use Rattle.balance.specs.Moves.{SoundParts, mesh-in, count-at, Counted, Surpluses, moves-between, moves-from, all-moves, found-of}
 use Rattle.balance.specs.declared.Found.{Found}
 use Rattle.balance.specs.declared.Found.the-variants as found
 use Rattle.balance.specs.declared.leaving.Candidate.{Candidate}

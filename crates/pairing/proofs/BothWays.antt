@@ -24,7 +24,8 @@ use Rattle.pairing.specs.Numbers.{Asked, word, next-of, before-of, Befor
 use Rattle.pairing.specs.Keys.{key, all-keys, in-pairs, each-pair, label-pair, point-pair}
 use Rattle.pairing.proofs.InPairs.{times, twins, Mate, mates, both-tests, same-members, same-back}
 use Rattle.pairing.proofs.Members.{Origin, all-in, in-all, key-code}
-use Rattle.pairing.proofs.InBlocks.{third-of, kind-at, before-at, next-lt, names-other, mesh-of, few, passed, number-is}
+use Rattle.pairing.proofs.InBlocks.{third-of, kind-at, before-at, next-lt}
+use Rattle.pairing.proofs.InBlocks.{names-other, mesh-of, few, passed, number-is}
 use Rattle.pairing.proofs.Facing.{Facing, paired-is, across-is, stands-twice, facing}
 
 -- DARTS BY NUMBER

@@ -24,7 +24,8 @@ use Rattle.pairing.specs.Numbers.{Asked}
 use Rattle.pairing.specs.Keys.{all-keys}
 use Rattle.pairing.proofs.InPairs.{times}
 use Rattle.pairing.proofs.Members.{all-times, suc-eqb}
-use Rattle.pairing.proofs.InBlocks.{third-of, kind-at, key-critical, labelled-is, labelled-there, previous-is, next-lt, third-is, kind-along, critical-third, mesh-of, block-is, block-none, few, passed, number-is}
+use Rattle.pairing.proofs.InBlocks.{third-of, kind-at, key-critical, labelled-is, labelled-there, previous-is, next-lt, third-is}
+use Rattle.pairing.proofs.InBlocks.{kind-along, critical-third, mesh-of, block-is, block-none, few, passed, number-is}
 
 -- the dart at place q of block j shares the label of the one at place p of block i, and each names the other's block
 pub record Facing (m : List ℕ) (i p j q : ℕ) : Type 0 where

@@ -69,11 +69,12 @@ module _ {m : List ℕ} (a : Asked m) {g : ℕ} (h : Held m g) where
   point-words : {x : Point} → x ≡ point-by m g → patterns x ≡ words-of m g
   point-words e = ap patterns e ∙ point-patterns _ _ _ (finite-words .on-x) (finite-words .on-y) (finite-words .on-z)
 
-pub point-there : (m : List ℕ) {b : List ℕ} (g : ℕ) → b ≡ part m (g / 4096) → {x : Point} → x ≡ point-of (column b 5 (g % 4096)) (column b 6 (g % 4096)) (column b 7 (g % 4096)) → x ≡ point-by m g
+pub point-there : (m : List ℕ) {b : List ℕ} (g : ℕ) → b ≡ part m (g / 4096) → {x : Point}
+    → x ≡ point-of (column b 5 (g % 4096)) (column b 6 (g % 4096)) (column b 7 (g % 4096)) → x ≡ point-by m g
 point-there m g is e = e ∙ ap (λ (l : List ℕ). point-of (column l 5 (g % 4096)) (column l 6 (g % 4096)) (column l 7 (g % 4096))) is
 
-pub meet-told : {m : List ℕ} (a : Asked m) {g : ℕ} (h : ℕ) {n : ℕ} → Held m g → Held m n → n ≡ next-of m h → {x y : Point} → x ≡ point-by m g → y ≡ point-by m n → {r : Bool} → r ≡ same-point (patterns x) (patterns y)
-    → r ≡ meet-test m g h
+pub meet-told : {m : List ℕ} (a : Asked m) {g : ℕ} (h : ℕ) {n : ℕ} → Held m g → Held m n → n ≡ next-of m h
+    → {x y : Point} → x ≡ point-by m g → y ≡ point-by m n → {r : Bool} → r ≡ same-point (patterns x) (patterns y) → r ≡ meet-test m g h
 unfolding meet-test same-point
 meet-told {m} a {g} h {n} hg hn en ex ey er =
     er ∙ (λ i. same-point (point-words a hg ex i) ((point-words a hn ey ∙ ap (words-of m) en) i))
