@@ -3,3 +3,4 @@ pub mod Searches
 pub mod MovesLaws
 pub mod SurplusLaws
 pub mod Door
+pub mod Turns

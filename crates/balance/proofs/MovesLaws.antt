@@ -19,11 +19,9 @@ use Rattle.model.specs.Image.{words, column, block-in, dart-in, is-image}
 use Rattle.model.specs.Balance.{Oracle, Move, level, blocked, move, picked, counts, surpluses, is-above, is-below, can-move, candidates, blocks-with, first-or, next-of}
 use Rattle.model.specs.Calls.{served, memories}
 use Rattle.laws.proofs.Tests.{by-cases, and-left, and-right, same-truth}
-use Rattle.laws.proofs.Members.{In, in-here, keep-in, keep-le, keep-map, keep-twice, keep-cong}
+use Rattle.laws.proofs.Members.{keep-le, keep-map, keep-twice, keep-cong}
 use Rattle.laws.proofs.Tables.{length-tab, getD-tab, tab-cong, tab-any}
 use Rattle.columns.proofs.Below.{below-at}
-use Rattle.columns.proofs.Held.{serial-positive}
-use Rattle.columns.proofs.Question.{image-passed}
 use Rattle.cells.proofs.FaceLaws.{keep-append}
 use Rattle.cells.proofs.Reached.{places, places-below}
 use Rattle.cells.proofs.Sited.{sited, darts-in}
@@ -31,7 +29,12 @@ use Rattle.picking.specs.Picked.{size-at, Sizes}
 use Rattle.picking.proofs.PickedPlaces.{picked-places, size-is}
 use Rattle.mesh.specs.Parts.{blocks, part}
 use Rattle.mesh.proofs.Parts.{mesh-tab, sound-test, sound-is}
-use Rattle.balance.specs.Moves.{can-leave, fits, leaves-at, Untried-in, going, at, SoundParts, mesh-in, count-at, Counted, Surpluses, moves-between, moves-from, all-moves, First}
+use Rattle.balance.specs.Moves.{can-leave, fits, leaves-at, Untried-in, going, candidate-of, at}
+use Rattle.balance.specs.Moves.{SoundParts, mesh-in, count-at, Counted, Surpluses, moves-between, moves-from, all-moves, found-of}
+use Rattle.balance.specs.declared.Found.{Found}
+use Rattle.balance.specs.declared.Found.the-variants as found
+use Rattle.balance.specs.declared.leaving.Candidate.{Candidate}
+use Rattle.balance.specs.declared.leaving.Candidate.the-variants.{Volume, Nothing}
 use Rattle.balance.proofs.Strikes.{leaves-any, untried-more, fits-same}
 use Rattle.balance.proofs.Searches.{joined, none-from, Searching, searching-start, searching-skip, searching-none, search-found, search-end}
 use Rattle.balance.proofs.SurplusLaws.{surpluses-are}
@@ -147,10 +150,10 @@ pub leaving-ready : {mesh : List ℕ} → SoundParts mesh → (d r : ℕ) → d 
 leaving-ready {mesh} sp d r hd hr apart {l} e =
     (subst (λ (x : List ℕ). is-image rack x ≡ true) (sym e) (sp .image d hd), omega (arith, sp .few), λ q. apart (q ∙ ap (λ (x : List ℕ). getD x 0 0) e ∙ sp .number d hd))
 
-pub between-there : (s : List ℕ) {l m s′ : List ℕ} {r a b : ℕ} → l ≡ m → a ≡ b → r ≡ getD (going (at s) l a) 0 0 → Untried-in (at s) l s′
-    → (r ≡ getD (going (at s) m b) 0 0) × Untried-in (at s) m s′
+pub between-there : (s : List ℕ) {l m s′ : List ℕ} {r : Candidate} {a b : ℕ} → l ≡ m → a ≡ b → r ≡ candidate-of (going (at s) l a) → Untried-in (at s) l s′
+    → (r ≡ candidate-of (going (at s) m b)) × Untried-in (at s) m s′
 between-there s {l} {m} {s′} {r} {a} {b} e f g u =
-    (g ∙ ap (λ (x : List ℕ). getD (going (at s) x a) 0 0) e ∙ ap (λ (x : ℕ). getD (going (at s) m x) 0 0) f, subst (λ (x : List ℕ). Untried-in (at s) x s′) e u)
+    (g ∙ ap (λ (x : List ℕ). candidate-of (going (at s) x a)) e ∙ ap (λ (x : ℕ). candidate-of (going (at s) m x)) f, subst (λ (x : List ℕ). Untried-in (at s) x s′) e u)
 
 -- counts are small
 picked-few : (o : Oracle) (m : List ℕ) → is-image rack m ≡ true → length (picked o (darts-in m)) ≤ 4096
@@ -177,18 +180,23 @@ unfolding going
 going-same {z} m {s} u left = ap (map (column m 0)) (keep-cong (fits (at s) (leaves-at m) left) (fits z (leaves-at m) left) (places (getD m 2 0))
     (λ p k. fits-same u left p (places-below (getD m 2 0) p k)))
 
--- no serial is 0
-pub going-none : (z : ℕ → ℕ) (m : List ℕ) (left : ℕ) → is-image rack m ≡ true → getD (going z m left) 0 0 ≡ 0 → going z m left ≡ []
-unfolding going
-going-none z m left ok = go (keep (fits z (leaves-at m) left) (places (getD m 2 0))) (λ p i. places-below (getD m 2 0) p (keep-in (fits z (leaves-at m) left) (places (getD m 2 0)) p i .0))
-  where
-    go : (l : List ℕ) → ((p : ℕ) → In p l → p < getD m 2 0) → getD (map (column m 0) l) 0 0 ≡ 0 → map (column m 0) l ≡ []
-    go [] below e = refl
-    go (p ∷ l) below e = absurd (omega (arith, serial-positive m (image-passed m ok .range) p (below p (in-here p l))))
+-- what the first of them says of the list
+pub none-goes : (l : List ℕ) → Nothing ≡ candidate-of l → l ≡ []
+none-goes [] e = refl
+none-goes (x ∷ l) e = let z : _≡_ {A = ℕ} 0 1 = cc in absurd (omega arith)
 
-pub going-some : (l : List ℕ) (s : ℕ) → s ≡ getD l 0 0 → (s ≡ 0 → ⊥) → (rest : List ℕ) × (l ≡ s ∷ rest)
-going-some [] s e h = absurd (h e)
-going-some (x ∷ l) s e h = (l, ap (λ (y : ℕ). y ∷ l) (sym e))
+pub one-goes : (l : List ℕ) (s : ℕ) → Volume s ≡ candidate-of l → (rest : List ℕ) × (l ≡ s ∷ rest)
+one-goes [] s e = let z : _≡_ {A = ℕ} 0 1 = cc in absurd (omega arith)
+one-goes (x ∷ l) s e = let same : s ≡ x = cc in (l, ap (λ (y : ℕ). y ∷ l) (sym same))
+
+-- and of moves
+pub no-move : (l : List Move) → blocked ≡ first-or blocked l → l ≡ []
+no-move [] e = refl
+no-move (t ∷ l) e = let z : _≡_ {A = ℕ} 0 1 = cc in absurd (omega arith)
+
+pub one-move : (l : List Move) (t : Move) → move t ≡ first-or blocked l → (ts : List Move) × (l ≡ t ∷ ts)
+one-move [] t e = let z : _≡_ {A = ℕ} 0 1 = cc in absurd (omega arith)
+one-move (x ∷ l) t e = let same : t ≡ x = cc in (l, ap (λ (y : Move). y ∷ l) (sym same))
 
 -- THE BLOCKS ABOVE AND BELOW
 abbrev pub surplus-at : Oracle → List ℕ → ℕ → ℤ
@@ -223,30 +231,30 @@ module _ {o : Oracle} {mesh : List ℕ} {d : ℕ} {s : List ℕ} {r : ℕ} (w : 
   pub giving-skip : is-below (surplus-at o mesh r) ≡ false → Giving o mesh d s (r + 1)
   giving-skip e = record { untried = w .untried; search = searching-skip (w .search) h e }
 
-  module _ (sp : SoundParts mesh) (hd : d < blocks mesh) (apart : r ≡ d → ⊥) {serial : ℕ}
-      (e : serial ≡ getD (going (at s) (part mesh d) (4096 - getD (part mesh r) 2 0)) 0 0) where
+  module _ (sp : SoundParts mesh) (hd : d < blocks mesh) (apart : r ≡ d → ⊥) {c : Candidate}
+      (e : c ≡ candidate-of (going (at s) (part mesh d) (4096 - getD (part mesh r) 2 0))) where
     abbrev there : List ℕ
     there = going (size-at o (part mesh d)) (part mesh d) (4096 - getD (part mesh r) 2 0)
 
-    serial-is : serial ≡ getD there 0 0
-    serial-is = e ∙ ap (λ (l : List ℕ). getD l 0 0) (going-same (part mesh d) (w .untried) (4096 - getD (part mesh r) 2 0))
+    first-is : c ≡ candidate-of there
+    first-is = e ∙ ap candidate-of (going-same (part mesh d) (w .untried) (4096 - getD (part mesh r) 2 0))
 
-    pub giving-none : serial ≡ 0 → {s′ : List ℕ} → Untried-in (at s) (part mesh d) s′ → Giving o mesh d s′ (r + 1)
+    pub giving-none : c ≡ Nothing → {s′ : List ℕ} → Untried-in (at s) (part mesh d) s′ → Giving o mesh d s′ (r + 1)
     giving-none q u = record {
       untried = untried-more (w .untried) u;
       search = searching-none (w .search) h (between-is o mesh sp d r hd h apart
-          ∙ ap (map (λ x. record { donor = d; recipient = r; serial = x })) (going-none (size-at o (part mesh d)) (part mesh d) (4096 - getD (part mesh r) 2 0) (sp .image d hd) (sym serial-is ∙ q)));
+          ∙ ap (map (λ x. record { donor = d; recipient = r; serial = x })) (none-goes there (sym q ∙ first-is)));
     }
 
-    pub giving-found : (serial ≡ 0 → ⊥) → is-below (surplus-at o mesh r) ≡ true → First (moves-from o mesh d) d r serial
-    giving-found q b =
-        let g = going-some there serial serial-is q in
+    pub giving-found : {serial : ℕ} → c ≡ Volume serial → is-below (surplus-at o mesh r) ≡ true → found-of d (found.Move r serial) ≡ first-or blocked (moves-from o mesh d)
+    giving-found {serial} q b =
+        let g = one-goes there serial (sym q ∙ first-is) in
         let f = search-found (w .search) h b (record { donor = d; recipient = r; serial = serial }) (map (λ x. record { donor = d; recipient = r; serial = x }) (g .0))
         (between-is o mesh sp d r hd h apart ∙ ap (map (λ x. record { donor = d; recipient = r; serial = x })) (g .1)) in
-        record { nothing = λ z. absurd (q z); something = λ z. (f .0, from-is o mesh d ∙ f .1) }
+        sym (ap (first-or blocked) (from-is o mesh d ∙ f .1))
 
-pub giving-end : {o : Oracle} {mesh : List ℕ} {d : ℕ} {s : List ℕ} {r : ℕ} → Giving o mesh d s r → blocks mesh ≤ r → First (moves-from o mesh d) d 0 0
-giving-end {o} {mesh} {d} w h = record { nothing = λ z. from-is o mesh d ∙ search-end (w .search) h; something = λ z. absurd (z refl) }
+pub giving-end : {o : Oracle} {mesh : List ℕ} {d : ℕ} {s : List ℕ} {r : ℕ} → Giving o mesh d s r → blocks mesh ≤ r → found-of d found.Nothing ≡ first-or blocked (moves-from o mesh d)
+giving-end {o} {mesh} {d} w h = sym (ap (first-or blocked) (from-is o mesh d ∙ search-end (w .search) h))
 
 -- THE NEXT MOVE
 module _ (o : Oracle) (mesh : List ℕ) {s : List ℤ} (ss : Surpluses o mesh s) where
@@ -304,13 +312,16 @@ module _ (o : Oracle) (mesh : List ℕ) {s : List ℤ} (ss : Surpluses o mesh s)
       both a b x y = rw (x, y) refl
 
 -- THE LOOP over donors
-pub donor-found : (o : Oracle) (mesh : List ℕ) {d to serial : ℕ} → Searching (λ b. is-above (surplus-at o mesh b)) (moves-from o mesh) (blocks mesh) d → d < blocks mesh
-    → is-above (surplus-at o mesh d) ≡ true → First (moves-from o mesh d) d to serial → (serial ≡ 0 → ⊥)
+pub donor-found : (o : Oracle) (mesh : List ℕ) {d to serial : ℕ} {f : Found} → Searching (λ b. is-above (surplus-at o mesh b)) (moves-from o mesh) (blocks mesh) d → d < blocks mesh
+    → is-above (surplus-at o mesh d) ≡ true → found-of d f ≡ first-or blocked (moves-from o mesh d) → f ≡ found.Move to serial
     → served (move (record { donor = d; recipient = to; serial = serial })) ≡ served (first-or blocked (all-moves o mesh))
-donor-found o mesh {d} {to} {serial} w h a f q =
-    let g = f .something q in
+donor-found o mesh {d} {to} {serial} w h a e q =
+    let g = one-move (moves-from o mesh d) (record { donor = d; recipient = to; serial = serial }) (sym (ap (found-of d) q) ∙ e) in
     let r = search-found w h a (record { donor = d; recipient = to; serial = serial }) (g .0) (g .1) in
     ap served (sym (ap (first-or blocked) (all-are o mesh ∙ r .1)))
+
+pub donor-none : (o : Oracle) (mesh : List ℕ) (d : ℕ) {f : Found} → found-of d f ≡ first-or blocked (moves-from o mesh d) → f ≡ found.Nothing → moves-from o mesh d ≡ []
+donor-none o mesh d e q = no-move (moves-from o mesh d) (sym (ap (found-of d) q) ∙ e)
 
 pub donor-end : (o : Oracle) (mesh : List ℕ) {d : ℕ} → Searching (λ b. is-above (surplus-at o mesh b)) (moves-from o mesh) (blocks mesh) d → blocks mesh ≤ d
     → served blocked ≡ served (first-or blocked (all-moves o mesh))

@@ -16,7 +16,8 @@ use Rattle.model.specs.Departure.{departure-checks}
 use Rattle.model.specs.Calls.{served, refused, Result, asked}
 use Rattle.answers.specs.Answers.{answered}
 use Rattle.laws.proofs.Tests.{eq-or-ne, last-or-below}
-use Rattle.balance.specs.Moves.{can-leave, fits, Untried, leaves-at, Untried-in, going, at}
+use Rattle.balance.specs.Moves.{can-leave, fits, Untried, leaves-at, Untried-in, going, candidate-of, at}
+use Rattle.balance.specs.declared.leaving.Candidate.the-variants.{Volume, Nothing}
 
 -- WHAT THE QUESTIONS GAVE
 abbrev outcome : Bool → ℕ → Result (Unit {0})
@@ -152,12 +153,12 @@ module _ {z : ℕ → ℕ} {m : List ℕ} {left : ℕ} {s : List ℕ} {i : ℕ} 
   pub trying-strike : getD m 2 0 ≤ room → i < getD m 2 0 → leaves-at m i ≡ false → Trying z m left (set s i 0) (i + 1)
   trying-strike few h e = record { untried = untried-strike (w .untried) i few h e; i-le = omega arith; before = passed h (skip-stays (w .untried) left i h e) }
 
-  pub tried-found : i < getD m 2 0 → {x : ℕ} → x ≡ getD s i 0 → (x ≡ 0 → ⊥) → x ≤ left → leaves-at m i ≡ true → column m 0 i ≡ getD (going z m left) 0 0
+  pub tried-found : i < getD m 2 0 → {x : ℕ} → x ≡ getD s i 0 → (x ≡ 0 → ⊥) → x ≤ left → leaves-at m i ≡ true → Volume (column m 0 i) ≡ candidate-of (going z m left)
   unfolding going
   tried-found h v e l k =
       let r = kept-first (fits z (leaves-at m) left) (λ p. p) (getD m 2 0) i h (w .before) (fits-here (w .untried) left i h v e l k) in
-      sym (ap (λ (c : List ℕ). getD (map (column m 0) c) 0 0) (r .1))
+      sym (ap (λ (c : List ℕ). candidate-of (map (column m 0) c)) (r .1))
 
-  pub tried-all : getD m 2 0 ≤ i → 0 ≡ getD (going z m left) 0 0
+  pub tried-all : getD m 2 0 ≤ i → Nothing ≡ candidate-of (going z m left)
   unfolding going
-  tried-all l = sym (ap (λ (c : List ℕ). getD (map (column m 0) c) 0 0) (kept-none (fits z (leaves-at m) left) (λ p. p) (getD m 2 0) (λ q k. w .before q (omega arith))))
+  tried-all l = sym (ap (λ (c : List ℕ). candidate-of (map (column m 0) c)) (kept-none (fits z (leaves-at m) left) (λ p. p) (getD m 2 0) (λ q k. w .before q (omega arith))))

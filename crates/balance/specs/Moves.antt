@@ -12,8 +12,12 @@ use Rattle.model.specs.Values.{Block, rack, all-rack}
 use Rattle.model.specs.Sound.{block-at}
 use Rattle.model.specs.Image.{room, column, block-in, is-image}
 use Rattle.model.specs.Departure.{departure-checks}
-use Rattle.model.specs.Balance.{Oracle, Move, picked, counts, surpluses, is-above, is-below, can-move, blocks-with}
+use Rattle.model.specs.Balance.{Oracle, Move, NextMove, move, blocked, picked, counts, surpluses, is-above, is-below, can-move, blocks-with}
 use Rattle.mesh.specs.Parts.{blocks, part}
+use Rattle.balance.specs.declared.Found.{Found}
+use Rattle.balance.specs.declared.Found.the-variants as found
+use Rattle.balance.specs.declared.leaving.Candidate.{Candidate}
+use Rattle.balance.specs.declared.leaving.Candidate.the-variants as candidate
 
 -- 10 to 14 of the volume of the dart with this serial: they do not depend on the destination
 unfoldable pub can-leave : List ℕ → ℕ → Bool
@@ -48,6 +52,11 @@ Untried-in size m sizes = Untried size (leaves-at m) (getD m 2 0) sizes
 -- the serials of a block's volumes of these sizes that may go where there is room for `left` darts, ascending
 unfoldable pub going : (ℕ → ℕ) → List ℕ → ℕ → List ℕ
 going size m left = map (column m 0) (keep (fits size (leaves-at m) left) (tab (λ p. p) (getD m 2 0)))
+
+-- the first of them
+abbrev pub candidate-of : List ℕ → Candidate
+candidate-of [] = candidate.Nothing
+candidate-of (s ∷ l) = candidate.Volume s
 
 -- a table as a function
 abbrev pub at : List ℕ → ℕ → ℕ
@@ -90,7 +99,7 @@ moves-from o mesh d = concat-map (moves-between o mesh d) (blocks-with is-below 
 abbrev pub all-moves : Oracle → List ℕ → List Move
 all-moves o mesh = concat-map (moves-from o mesh) (blocks-with is-above (surpluses (counts o (mesh-in mesh))))
 
--- the first of some moves of block d; serial 0 where there is none
-pub record First (l : List Move) (d to serial : ℕ) : Type 0 where
-  pub nothing : serial ≡ 0 → l ≡ []
-  pub something : (serial ≡ 0 → ⊥) → (ts : List Move) × (l ≡ record { donor = d; recipient = to; serial = serial } ∷ ts)
+-- what was found of block d: a move, or none and so blocked
+abbrev pub found-of : ℕ → Found → NextMove
+found-of d (found.Move r s) = move (record { donor = d; recipient = r; serial = s })
+found-of d found.Nothing = blocked

@@ -5,10 +5,17 @@ ghost use Prim.Native.Nat.{_≤_, _<_};
 ghost use lib.ListN.{length, getD};
 ghost use Rattle.model.specs.Values.{rack};
 ghost use Rattle.model.specs.Image.{room, is-image};
-ghost use Rattle.balance.specs.Moves.{Asking, can-leave, Untried-in, going, at};
+ghost use Rattle.balance.specs.Moves.{Asking, can-leave, Untried-in, going, candidate-of, at};
 use departure::Leaving;
+use memory::header::Header;
 use memory::record;
 use memory::record::Place;
+
+// A volume that may go, by its least serial.
+pub enum Candidate {
+    Volume(u64),
+    Nothing,
+}
 
 // Whether the volume of the dart with this serial may go to another block: 9 to 14. On a no `marks` and `seen` are clear again; what
 // stands in the other arrays is written before it is read. So no asking clears more than its volume has.
@@ -59,10 +66,10 @@ fn first_asked(
     numbers: &mut [usize],
     firsts: &mut [usize],
     stamps: &mut [usize],
-) -> u64
+) -> Candidate
     requires { ⌜ (is-image rack (now block) ≡ true) × (to ≤ 15) × (to ≡ getD (now block) 0 0 → ⊥) × (length (now sizes) ≡ room) ⌝ }
     requires { ⌜ Asking (now marks) (now order) (now starts) (now seen) (now numbers) (now firsts) (now stamps) ⌝ }
-    ensures serial { λ r. ⌜ r ≡ getD (going (at (now (sizes .entry))) (now (block .entry)) left) 0 0 ⌝ }
+    ensures candidate { λ r. ⌜ r ≡ candidate-of (going (at (now (sizes .entry))) (now (block .entry)) left) ⌝ }
     ensures untried { λ r. ⌜ Untried-in (at (now (sizes .entry))) (now (block .entry)) (now (sizes .exit)) ⌝ }
 {
     let n = block[2] as usize;
@@ -91,27 +98,27 @@ fn first_asked(
             firsts,
             stamps,
         ) {
-            return serial;
+            return Candidate::Volume(serial);
         }
         sizes[p] = 0;
     }
-    0
+    Candidate::Nothing
 }
 
-// The least serial of a volume of at most `left` darts that may go, 0 where there is none. `sizes` has the size of each volume at its
-// least place. One that may not go is struck off.
-pub fn first_leaving(block: &[u64], to: u64, left: usize, sizes: &mut [usize]) -> u64
+// The first volume of at most `left` darts that may go. `sizes` has the size of each volume at its least place. One that may not go is
+// struck off.
+pub fn first_leaving(block: &[u64], to: u64, left: usize, sizes: &mut [usize]) -> Candidate
     requires { ⌜ (is-image rack (now block) ≡ true) × (to ≤ 15) × (to ≡ getD (now block) 0 0 → ⊥) × (length (now sizes) ≡ room) ⌝ }
-    ensures serial { λ r. ⌜ r ≡ getD (going (at (now (sizes .entry))) (now (block .entry)) left) 0 0 ⌝ }
+    ensures candidate { λ r. ⌜ r ≡ candidate-of (going (at (now (sizes .entry))) (now (block .entry)) left) ⌝ }
     ensures untried { λ r. ⌜ Untried-in (at (now (sizes .entry))) (now (block .entry)) (now (sizes .exit)) ⌝ }
 {
-    let mut marks = [0u8; 4096];
-    let mut order = [0usize; 4096];
-    let mut starts = [0usize; 4096];
-    let mut seen = [0u8; 4096];
-    let mut numbers = [0usize; 4096];
-    let mut firsts = [0usize; 4096];
-    let mut stamps = [0usize; 512];
+    let mut marks = [0u8; Header::DARTS];
+    let mut order = [0usize; Header::DARTS];
+    let mut starts = [0usize; Header::DARTS];
+    let mut seen = [0u8; Header::DARTS];
+    let mut numbers = [0usize; Header::DARTS];
+    let mut firsts = [0usize; Header::DARTS];
+    let mut stamps = [0usize; Header::VOLUME];
     first_asked(
         block,
         to,

@@ -8,26 +8,30 @@ ghost use Rattle.model.specs.Balance.{is-above as above-zero, is-below as below
 ghost use Rattle.oracle.specs.Oracle.{oracle-of};
 ghost use Rattle.mesh.specs.Parts.{blocks};
 ghost use Rattle.balance.specs.Moves.{SoundParts, count-at, Counted, Surpluses};
+use memory::header::Header;
 use oracle::Oracle;
+
+// Blocks that a mesh may have, as the length of an array.
+pub const BLOCKS: usize = Header::BLOCKS as usize;
 
 // How many volumes of block i are picked.
 fn count_part(mesh: &[u64], i: usize, o: Oracle) -> u32
     requires { ⌜ SoundParts (now mesh) × (i < blocks (now mesh)) ⌝ }
     ensures { λ r. ⌜ (r ≡ count-at (oracle-of o) (now (mesh .entry)) i) × (r ≤ 4096) ⌝ }
 {
-    let from = i * 32776;
-    let to = from + 32776;
+    let from = i * Header::WORDS;
+    let to = from + Header::WORDS;
     picking::count(&mesh[from..to], o) as u32
 }
 
 // How many volumes of each block are picked.
-fn counts(mesh: &[u64], o: Oracle) -> [u32; 16]
+fn counts(mesh: &[u64], o: Oracle) -> [u32; BLOCKS]
     requires { ⌜ SoundParts (now mesh) ⌝ }
     ensures { λ r. ⌜ Counted (oracle-of o) (now (mesh .entry)) r ⌝ }
 {
-    let k = mesh.len() / 32776;
+    let k = mesh.len() / Header::WORDS;
     // The blocks before i are counted.
-    let mut c = [0u32; 16];
+    let mut c = [0u32; BLOCKS];
     let mut i = 0;
     while i < k {
         c[i] = count_part(mesh, i, o);
@@ -37,7 +41,7 @@ fn counts(mesh: &[u64], o: Oracle) -> [u32; 16]
 }
 
 // The sum of the first k counts.
-fn total(c: [u32; 16], k: usize) -> u32
+fn total(c: [u32; BLOCKS], k: usize) -> u32
     requires { ⌜ (k ≤ 16) × ((i : ℕ) → i < k → getD c i 0 ≤ 4096) ⌝ }
     ensures { λ r. ⌜ (r ≡ sum (tab (λ i. getD c i 0) k)) × (r ≤ 65536) ⌝ }
 {
@@ -60,12 +64,12 @@ fn surplus_of(count: u32, mean: u32) -> i32
 }
 
 // The surpluses of the first k counts.
-fn less_mean(c: [u32; 16], k: usize, mean: u32) -> [i32; 16]
+fn less_mean(c: [u32; BLOCKS], k: usize, mean: u32) -> [i32; BLOCKS]
     requires { ⌜ (k ≤ 16) × (mean ≤ 65536) × ((i : ℕ) → i < k → getD c i 0 ≤ 4096) ⌝ }
     ensures { λ r. ⌜ (length r ≡ 16) × ((i : ℕ) → i < k → getD r i (pos 0) ≡ subℕ (getD c i 0) mean) ⌝ }
 {
     // Those before i are told.
-    let mut s = [0i32; 16];
+    let mut s = [0i32; BLOCKS];
     let mut i = 0;
     while i < k {
         s[i] = surplus_of(c[i], mean);
@@ -75,11 +79,11 @@ fn less_mean(c: [u32; 16], k: usize, mean: u32) -> [i32; 16]
 }
 
 // The surplus of each block of a mesh.
-pub fn surpluses(mesh: &[u64], o: Oracle) -> [i32; 16]
+pub fn surpluses(mesh: &[u64], o: Oracle) -> [i32; BLOCKS]
     requires { ⌜ SoundParts (now mesh) ⌝ }
     ensures { λ r. ⌜ Surpluses (oracle-of o) (now (mesh .entry)) r ⌝ }
 {
-    let k = mesh.len() / 32776;
+    let k = mesh.len() / Header::WORDS;
     let c = counts(mesh, o);
     let mean = total(c, k) / (k as u32);
     less_mean(c, k, mean)
@@ -100,7 +104,7 @@ pub fn is_below(s: i32) -> bool
 }
 
 // Whether some of the first k blocks is above.
-pub fn some_above(s: [i32; 16], k: usize) -> bool
+pub fn some_above(s: [i32; BLOCKS], k: usize) -> bool
     requires { ⌜ k ≤ 16 ⌝ }
     ensures { λ r. ⌜ r ≡ any above-zero (tab (λ i. getD s i (pos 0)) k) ⌝ }
 {
@@ -117,7 +121,7 @@ pub fn some_above(s: [i32; 16], k: usize) -> bool
 }
 
 // Whether some of the first k blocks is below.
-pub fn some_below(s: [i32; 16], k: usize) -> bool
+pub fn some_below(s: [i32; BLOCKS], k: usize) -> bool
     requires { ⌜ k ≤ 16 ⌝ }
     ensures { λ r. ⌜ r ≡ any below-zero (tab (λ i. getD s i (pos 0)) k) ⌝ }
 {

@@ -1,6 +1,8 @@
 // Next moves of small meshes: kind (0 level, 1 blocked, 2 a move), donor, recipient and serial.
 ghost use Prim.Native.Nat.{_≤_, _<_};
+use memory::header::Header;
 use memory::point::Point;
+use memory::record::Place;
 use oracle::Oracle;
 
 fn text(s: &[u8]) {
@@ -16,34 +18,36 @@ fn wide(x: u32) -> u64 {
     x as u64
 }
 
-// Four blocks, one after the other.
-fn put(mesh: &mut [u64; 131104], i: usize, w: u64) {
-    if i < 131104 {
+// Words of four blocks, one after the other.
+const MESH: usize = 4 * Header::WORDS;
+
+fn put(mesh: &mut [u64; MESH], i: usize, w: u64) {
+    if i < MESH {
         mesh[i] = w;
     }
 }
 
 // A free dart: serial, next and opposite by place, and its point.
 fn dart(
-    mesh: &mut [u64; 131104],
+    mesh: &mut [u64; MESH],
     block: usize,
-    p: usize,
+    p: Place,
     serial: u64,
-    next: usize,
-    opposite: usize,
+    next: Place,
+    opposite: Place,
     x: u64,
 )
-    requires { ⌜ (block < 4) × (p < 4096) ⌝ }
+    requires { ⌜ (block < 4) × (p .0 < 4096) ⌝ }
 {
-    let at = block * 32776 + 8 + p * 8;
+    let at = block * Header::WORDS + 8 + p.0 * 8;
     put(mesh, at, serial);
-    put(mesh, at + 1, next as u64);
-    put(mesh, at + 2, opposite as u64);
+    put(mesh, at + 1, next.0 as u64);
+    put(mesh, at + 2, opposite.0 as u64);
     put(mesh, at + 5, x);
 }
 
 // Volume j of a block: two triangles back to back, with vertices at x 1, 2 and 3.
-fn pillow(mesh: &mut [u64; 131104], block: usize, j: usize)
+fn pillow(mesh: &mut [u64; MESH], block: usize, j: usize)
     requires { ⌜ (block < 4) × (j < 600) ⌝ }
 {
     let p = j * 6;
@@ -51,20 +55,26 @@ fn pillow(mesh: &mut [u64; 131104], block: usize, j: usize)
     let one = 4607182418800017408;
     let two = 4611686018427387904;
     let three = 4613937818241073152;
-    dart(mesh, block, p, s, p + 1, p + 5, one);
-    dart(mesh, block, p + 1, s + 1, p + 2, p + 4, two);
-    dart(mesh, block, p + 2, s + 2, p, p + 3, three);
-    dart(mesh, block, p + 3, s + 3, p + 4, p + 2, one);
-    dart(mesh, block, p + 4, s + 4, p + 5, p + 1, three);
-    dart(mesh, block, p + 5, s + 5, p + 3, p, two);
+    let a = Place(p);
+    let b = Place(p + 1);
+    let c = Place(p + 2);
+    let d = Place(p + 3);
+    let e = Place(p + 4);
+    let f = Place(p + 5);
+    dart(mesh, block, a, s, b, f, one);
+    dart(mesh, block, b, s + 1, c, e, two);
+    dart(mesh, block, c, s + 2, a, d, three);
+    dart(mesh, block, d, s + 3, e, c, one);
+    dart(mesh, block, e, s + 4, f, b, three);
+    dart(mesh, block, f, s + 5, d, a, two);
 }
 
 // A block of so many volumes.
-fn fill(mesh: &mut [u64; 131104], block: usize, volumes: usize)
+fn fill(mesh: &mut [u64; MESH], block: usize, volumes: usize)
     requires { ⌜ (block < 4) × (volumes ≤ 600) ⌝ }
 {
-    put(mesh, block * 32776, block as u64);
-    put(mesh, block * 32776 + 2, volumes as u64 * 6);
+    put(mesh, block * Header::WORDS, block as u64);
+    put(mesh, block * Header::WORDS + 2, volumes as u64 * 6);
     let mut j = 0;
     while j < volumes {
         pillow(mesh, block, j);
@@ -100,19 +110,19 @@ fn first(name: &[u8], mesh: &[u64], k: usize, o: Oracle) {
     if 4 < k {
         return;
     }
-    let end = k * 32776;
+    let end = k * Header::WORDS;
     if mesh.len() < end {
         return;
     }
     show(name, &mesh[..end], o);
 }
 
-fn first_of(name: &[u8], mesh: &[u64; 131104], k: usize, o: Oracle) {
+fn first_of(name: &[u8], mesh: &[u64; MESH], k: usize, o: Oracle) {
     first(name, mesh, k, o);
 }
 
 fn main() {
-    let mut mesh = [0u64; 131104];
+    let mut mesh = [0u64; MESH];
     fill(&mut mesh, 0, 5);
     fill(&mut mesh, 1, 1);
     fill(&mut mesh, 2, 1);

@@ -11,10 +11,10 @@ pub use answers::Answer;
 pub use answers::NextMove;
 pub use answers::Refusal;
 pub use answers::Written;
+pub use balance::nextmove::next_move;
 pub use checkmesh::check_mesh;
 pub use memory::header::empty;
 pub use memory::point::Point;
-pub use nextmove::next_move;
 pub use oracle::Oracle;
 pub use readfile::read_file;
 pub use receive::receive;
@@ -116,7 +116,7 @@ pub extern "C" fn dmap_next_move(
         z: z1,
     };
     tell_move(
-        nextmove::next_move_by_number(mesh, oracle, axis, low, high, scratch),
+        balance::nextmove::next_move_by_number(mesh, oracle, axis, low, high, scratch),
         answer,
     )
 }

@@ -35,7 +35,7 @@ fn carry_out(mesh: &mut [u64], donor: u32, recipient: u32, serial: u64, outbox: 
 pub fn step(mesh: &mut [u64], o: Oracle, scratch: &mut [u64], outbox: &mut [u8]) -> Ending
     ensures { λ r. ⌜ Levelled (now (mesh .entry)) (oracle-of o) (now (scratch .entry)) (now (outbox .entry)) r (now (mesh .exit)) (now (scratch .exit)) (now (outbox .exit)) ⌝ }
 {
-    match nextmove::next_move(mesh, o, scratch) {
+    match balance::nextmove::next_move(mesh, o, scratch) {
         NextMove::Level => Ending::Level,
         NextMove::Blocked => Ending::Blocked,
         NextMove::Move(donor, recipient, serial) => {

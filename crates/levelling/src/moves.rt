@@ -41,7 +41,7 @@ fn put_move(moves: &mut [u64], n: usize, donor: u32, recipient: u32, serial: u64
 fn ask(mesh: &[u64], o: Oracle, scratch: &mut [u64], n: usize) -> Balanced
     ensures { λ r. ⌜ Asked (now (mesh .entry)) (oracle-of o) (now (scratch .entry)) n r (now (scratch .exit)) ⌝ }
 {
-    match nextmove::next_move(mesh, o, scratch) {
+    match balance::nextmove::next_move(mesh, o, scratch) {
         NextMove::Level => Balanced::Level(n),
         NextMove::Blocked => Balanced::Blocked(n),
         NextMove::Move(donor, recipient, serial) => Balanced::Full(n),

@@ -7,13 +7,14 @@ ghost use Rattle.model.specs.Calls.{read-file};
 ghost use Rattle.model.specs.Listing.{listing-of, listed};
 ghost use Rattle.listing.specs.Printed.{Printed, listing-room};
 use answers::Answer;
+use memory::header::Header;
 
 // Of a file of any length.
 pub fn list_whole(file: &[u8], out: &mut [u8]) -> usize
     requires { ⌜ listing-room ≤ length (now out) ⌝ }
     ensures { λ r. ⌜ Printed (listing-of (read-file rack (now (file .entry)) (replicate words 0))) (now (out .entry)) (now (out .exit)) r ⌝ }
 {
-    let mut block = [0u64; 32776];
+    let mut block = [0u64; Header::WORDS];
     match readfile::read_file(file, &mut block) {
         Answer::Served => listing::put_listing(&block, out),
         Answer::Refused(r) => listing::put_refused(answers::refusal_number(r), out),

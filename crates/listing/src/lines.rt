@@ -36,14 +36,14 @@ fn put_third(kind: u64, named: u64, out: &mut [u8], at: usize) -> usize
 }
 
 // The line of the dart at place p.
-fn put_dart(block: &[u64], p: usize, out: &mut [u8], at: usize) -> usize
-    requires { ⌜ Small (now block) p × (at + 60 ≤ length (now out)) ⌝ }
-    ensures { λ r. ⌜ Stored (now (out .entry)) at (dart-line (dart-in (now (block .entry)) p)) (now (out .exit)) r ⌝ }
+fn put_dart(block: &[u64], p: Place, out: &mut [u8], at: usize) -> usize
+    requires { ⌜ Small (now block) (p .0) × (at + 60 ≤ length (now out)) ⌝ }
+    ensures { λ r. ⌜ Stored (now (out .entry)) at (dart-line (dart-in (now (block .entry)) (p .0))) (now (out .exit)) r ⌝ }
 {
-    let past_serial = text::put_number(out, at, record::field(block, Place(p), 0), b' ');
+    let past_serial = text::put_number(out, at, record::field(block, p, 0), b' ');
     let past_next = text::put_number(out, past_serial, links::serial_along(block, p, 1), b' ');
     let past_opposite = text::put_number(out, past_next, links::serial_along(block, p, 2), b' ');
-    let kind = record::field(block, Place(p), 3);
+    let kind = record::field(block, p, 3);
     let past_third = put_third(kind, links::third_along(block, p), out, past_opposite);
     text::put_byte(out, past_third, b'\n')
 }
@@ -57,7 +57,7 @@ pub fn put_darts(block: &[u64], n: usize, out: &mut [u8], at: usize) -> usize
     let mut past = at;
     let mut i = 0;
     while i < n {
-        past = put_dart(block, i, out, past);
+        past = put_dart(block, Place(i), out, past);
         i += 1;
     }
     past

@@ -14,6 +14,7 @@ ghost use Rattle.model.specs.Image.{block-in, is-image};
 ghost use Rattle.model.specs.Calls.{memories, mesh-lent as lent, scratch-entries};
 ghost use Rattle.columns.specs.Columns.{all-below};
 ghost use Rattle.mesh.specs.Parts.{blocks, part, number-test};
+use memory::header::Header;
 
 // Whether all entries are zero.
 fn zeros(scratch: &[u64]) -> bool
@@ -33,7 +34,7 @@ fn zeros(scratch: &[u64]) -> bool
 pub fn mesh_lent(mesh: &[u64], scratch: &[u64]) -> bool
     ensures { λ r. ⌜ r ≡ lent scratch-entries (now (mesh .entry)) (now (scratch .entry)) ⌝ }
 {
-    if mesh.len() / 32776 * 32776 != mesh.len() {
+    if mesh.len() / Header::WORDS * Header::WORDS != mesh.len() {
         return false;
     }
     if scratch.len() != 65536 {
@@ -47,8 +48,8 @@ fn sound_at(mesh: &[u64], i: usize) -> bool
     requires { ⌜ i < blocks (now mesh) ⌝ }
     ensures { λ r. ⌜ r ≡ is-image rack (part (now (mesh .entry)) i) ⌝ }
 {
-    let from = i * 32776;
-    let to = from + 32776;
+    let from = i * Header::WORDS;
+    let to = from + Header::WORDS;
     sound::is_sound(&mesh[from..to])
 }
 
@@ -56,7 +57,7 @@ fn sound_at(mesh: &[u64], i: usize) -> bool
 pub fn all_sound(mesh: &[u64]) -> bool
     ensures { λ r. ⌜ r ≡ all (λ b. is-image rack b) (memories (now (mesh .entry))) ⌝ }
 {
-    let k = mesh.len() / 32776;
+    let k = mesh.len() / Header::WORDS;
     // The blocks below i are sound.
     let mut i = 0;
     while i < k {
@@ -77,7 +78,7 @@ fn numbered(mesh: &[u64], k: usize) -> bool
     let mut ok = true;
     let mut i = 0;
     while i < k {
-        ok = ok & (mesh[i * 32776] == i as u64);
+        ok = ok & (mesh[i * Header::WORDS] == i as u64);
         i += 1;
     }
     ok
@@ -87,11 +88,11 @@ fn numbered(mesh: &[u64], k: usize) -> bool
 pub fn blocks_right(mesh: &[u64]) -> bool
     ensures { λ r. ⌜ r ≡ right-blocks (map block-in (memories (now (mesh .entry)))) ⌝ }
 {
-    let k = mesh.len() / 32776;
+    let k = mesh.len() / Header::WORDS;
     if k < 1 {
         return false;
     }
-    if 16 < k {
+    if (Header::BLOCKS as usize) < k {
         return false;
     }
     numbered(mesh, k)

@@ -10,6 +10,7 @@ ghost use Rattle.model.specs.Sound.{makers-right as right-makers};
 ghost use Rattle.model.specs.Image.{room, words, block-in, is-image};
 ghost use Rattle.model.specs.Calls.{memories};
 ghost use Rattle.mesh.specs.Parts.{blocks, part, Roomy, made-test, made-block};
+use memory::header::Header;
 use memory::record;
 use memory::record::Place;
 
@@ -21,10 +22,10 @@ fn made(mesh: &[u64], kind: u64, link: u64) -> bool
         return true;
     }
     let maker = (link / 4096 / 4294967296) as usize;
-    if mesh.len() / 32776 <= maker {
+    if mesh.len() / Header::WORDS <= maker {
         return false;
     }
-    link / 4096 % 4294967296 < mesh[maker * 32776 + 1]
+    link / 4096 % 4294967296 < mesh[maker * Header::WORDS + 1]
 }
 
 // Of all darts of a block.
@@ -51,8 +52,8 @@ fn made_part(mesh: &[u64], i: usize) -> bool
     requires { ⌜ (i < blocks (now mesh)) × Roomy (now mesh) ⌝ }
     ensures { λ r. ⌜ r ≡ made-block (now (mesh .entry)) (part (now (mesh .entry)) i) ⌝ }
 {
-    let from = i * 32776;
-    let to = from + 32776;
+    let from = i * Header::WORDS;
+    let to = from + Header::WORDS;
     made_darts(mesh, &mesh[from..to])
 }
 
@@ -61,7 +62,7 @@ pub fn makers_right(mesh: &[u64]) -> bool
     requires { ⌜ all (λ b. is-image rack b) (memories (now mesh)) ≡ true ⌝ }
     ensures { λ r. ⌜ r ≡ right-makers (map block-in (memories (now (mesh .entry)))) ⌝ }
 {
-    let k = mesh.len() / 32776;
+    let k = mesh.len() / Header::WORDS;
     // The blocks below i pass.
     let mut i = 0;
     while i < k {

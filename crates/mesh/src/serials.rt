@@ -11,6 +11,7 @@ ghost use Rattle.model.specs.Sound.{blocks-right, serials-distinct as distinct-
 ghost use Rattle.model.specs.Image.{room, words, block-in, is-image};
 ghost use Rattle.model.specs.Calls.{memories, mesh-lent, scratch-entries};
 ghost use Rattle.mesh.specs.Parts.{blocks, part, Roomy, serials-of, gathered, Put};
+use memory::header::Header;
 use memory::record;
 use memory::record::Place;
 
@@ -34,8 +35,8 @@ fn put_part(mesh: &[u64], i: usize, out: &mut [u64], at: usize) -> usize
     requires { ⌜ (i < blocks (now mesh)) × Roomy (now mesh) × (at + room ≤ length (now out)) ⌝ }
     ensures { λ r. ⌜ (r ≤ at + room) × Put at (serials-of (part (now (mesh .entry)) i)) (now (out .entry)) (now (out .exit)) r ⌝ }
 {
-    let from = i * 32776;
-    let to = from + 32776;
+    let from = i * Header::WORDS;
+    let to = from + Header::WORDS;
     put_serials(&mesh[from..to], out, at)
 }
 
@@ -44,7 +45,7 @@ fn gather(mesh: &[u64], out: &mut [u64]) -> usize
     requires { ⌜ (blocks (now mesh) ≤ 16) × Roomy (now mesh) × (length (now out) ≡ 65536) ⌝ }
     ensures { λ r. ⌜ (r ≤ 65536) × (length (now (out .exit)) ≡ 65536) × (take r (now (out .exit)) ≡ gathered (now (mesh .entry)) (blocks (now (mesh .entry)))) ⌝ }
 {
-    let k = mesh.len() / 32776;
+    let k = mesh.len() / Header::WORDS;
     // The first c entries are the serials of the blocks below i.
     let mut c = 0;
     let mut i = 0;

@@ -13,10 +13,10 @@ use Rattle.laws.proofs.Members.{In, in-here, in-there}
 use Rattle.columns.specs.Columns.{count, Kind, kind-free, kind-sewn, kind-critical}
 use Rattle.columns.proofs.Question.{Passed}
 use Rattle.mesh.specs.Parts.{blocks, part}
-use Rattle.facing.specs.Numbers.{Asked, word, Held, next-of, before-of, Before, BeforeBelow}
-use Rattle.facing.specs.Keys.{Short, HeldKeys, all-keys}
-use Rattle.facing.proofs.InBlocks.{kind-at, before-at, next-lt, few, passed}
-use Rattle.facing.proofs.BothWays.{Sits, sits-next, sits-before, origin, sits}
+use Rattle.pairing.specs.Numbers.{Asked, word, Held, next-of, before-of, Before, BeforeBelow}
+use Rattle.pairing.specs.Keys.{Short, HeldKeys, all-keys}
+use Rattle.pairing.proofs.InBlocks.{kind-at, before-at, next-lt, few, passed}
+use Rattle.pairing.proofs.BothWays.{Sits, sits-next, sits-before, origin, sits}
 
 -- a word of a part is the mesh's word there
 pub word-in : (m : List ℕ) (i x : ℕ) → x < 32776 → getD m (i * 32776 + x) 0 ≡ getD (part m i) x 0

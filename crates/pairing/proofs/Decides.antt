@@ -8,10 +8,10 @@ use borrow.Author.Tests.{not-true, not-false}
 use Rattle.model.specs.Lists.{sorted}
 use Rattle.model.specs.Sound.{labels-paired, points-across}
 use Rattle.mesh.specs.Parts.{blocks}
-use Rattle.facing.specs.Numbers.{Asked, Before}
-use Rattle.facing.specs.Keys.{all-keys, in-pairs, each-pair, label-pair, point-pair}
-use Rattle.facing.proofs.InBlocks.{mesh-of}
-use Rattle.facing.proofs.BothWays.{labels-are, points-are}
+use Rattle.pairing.specs.Numbers.{Asked, Before}
+use Rattle.pairing.specs.Keys.{all-keys, in-pairs, each-pair, label-pair, point-pair}
+use Rattle.pairing.proofs.InBlocks.{mesh-of}
+use Rattle.pairing.proofs.BothWays.{labels-are, points-are}
 use Rattle.pairing.specs.Told.{pairing-of}
 use Rattle.pairing.specs.declared.Pairing.the-variants.{Right, Unpaired, Apart}
 

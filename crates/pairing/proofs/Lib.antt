@@ -1,3 +1,8 @@
+pub mod InPairs
+pub mod Members
+pub mod InBlocks
+pub mod Facing
+pub mod BothWays
 pub mod ByNumber
 pub mod Steps
 pub mod ToldBy

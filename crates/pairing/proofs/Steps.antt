@@ -14,7 +14,7 @@ use Rattle.laws.proofs.Tests.{eq-or-ne}
 use Rattle.laws.proofs.Lists.{drop-at-cons, drop-end}
 use Rattle.columns.specs.Columns.{count}
 use Rattle.mesh.specs.Parts.{blocks, part, Put}
-use Rattle.facing.specs.Keys.{key, key-of, keys-of, all-keys, fresh, two-test, in-pairs, each-pair}
+use Rattle.pairing.specs.Keys.{key, key-of, keys-of, all-keys, fresh, two-test, in-pairs, each-pair}
 
 -- PUTTING
 put-none : (at : ℕ) (out : List ℕ) → Put at [] out out at

@@ -9,20 +9,28 @@ use lib.ListN.{length, getD, take, drop}
 use lib.Seq.{length-take-le, take-at}
 use Rattle.model.specs.Lists.{sorted}
 use Rattle.model.specs.Image.{room, words, column}
+use Rattle.model.specs.Values.{Point as Patterns, same-point}
+use Rattle.memory.specs.declared.point.Point.{Point}
+use Rattle.memory.specs.Point.{point-of, patterns, FinitePoint, FiniteAt}
+use Rattle.memory.proofs.Points.{point-finite, point-patterns}
+use Rattle.sound.proofs.OneDart.{finite-at}
 use Rattle.columns.specs.Columns.{count}
 use Rattle.sort.proofs.Order.{same-length, sorted-keys}
 use Rattle.mesh.specs.Parts.{blocks, part, Put}
 use Rattle.mesh.proofs.Gathers.{part-length}
-use Rattle.facing.specs.Numbers.{Asked, Held, word, next-of, before-of, Before, side-test, meet-test}
-use Rattle.facing.specs.Keys.{Short, keys-of, label-pair, point-pair}
-use Rattle.facing.proofs.InBlocks.{next-lt, few, passed}
-use Rattle.facing.proofs.BothWays.{Sits, word-at}
+use Rattle.pairing.specs.Numbers.{Asked, Held, word, next-of, before-of, Before, point-by, side-test, meet-test}
+use Rattle.pairing.specs.Keys.{Short, keys-of, label-pair, point-pair}
+use Rattle.pairing.proofs.InBlocks.{next-lt, few, passed}
+use Rattle.pairing.proofs.BothWays.{Sits, word-at}
 use Rattle.pairing.proofs.ByNumber.{short, roomy, held-next, held-before}
 
 -- A WORD of the next dart, and of the one before
 module _ {m : List ℕ} {g : ℕ} (a : Asked m) (h : Held m g) where
   pub read-next : {r : ℕ} → r ≡ next-of m g → (f : ℕ) → f < 8 → (r / 4096 < blocks m) × (f < 8)
   read-next e f l = (subst (λ (x : ℕ). x / 4096 < blocks m) (sym e) (held-next a h .block-lt), l)
+
+  pub next-held : {r : ℕ} → r ≡ next-of m g → Held m r
+  next-held e = subst (Held m) (sym e) (held-next a h)
 
   pub read-before : {t : List ℕ} {r : ℕ} → Before m t → r ≡ before-of t g → (f : ℕ) → f < 8 → (r / 4096 < blocks m) × (f < 8)
   read-before b e f l = (subst (λ (x : ℕ). x / 4096 < blocks m) (sym e) (held-before a h b .block-lt), l)
@@ -37,10 +45,39 @@ pub labels-told : (m t : List ℕ) (x y : ℕ) {a b : Bool} → a ≡ side-test 
 unfolding label-pair
 labels-told m t x y e f = λ i. e i && f i
 
-pub meet-told : (m : List ℕ) (g h : ℕ) {a b c d e f n : ℕ} → n ≡ next-of m h → a ≡ word m 5 g → b ≡ word m 5 n → c ≡ word m 6 g → d ≡ word m 6 n → e ≡ word m 7 g → f ≡ word m 7 n
-    → (eqb a b && eqb c d && eqb e f) ≡ meet-test m g h
-unfolding meet-test
-meet-told m g h en ea eb ec ed ee ef = λ i. eqb (ea i) ((eb ∙ ap (word m 5) en) i) && eqb (ec i) ((ed ∙ ap (word m 6) en) i) && eqb (ee i) ((ef ∙ ap (word m 7) en) i)
+-- a point by value
+abbrev words-of : List ℕ → ℕ → Patterns
+words-of m g = record { x = word m 5 g; y = word m 6 g; z = word m 7 g }
+
+module _ {m : List ℕ} (a : Asked m) {g : ℕ} (h : Held m g) where
+  finite-words : FiniteAt (part m (g / 4096)) (g % 4096)
+  finite-words = finite-at (part m (g / 4096)) (g % 4096) (passed a (g / 4096) (h .block-lt) .finite-points (g % 4096) (h .place-lt))
+
+  pub point-ready : {b : List ℕ} → b ≡ part m (g / 4096) → (g % 4096 < room) × (length b ≡ words) × FiniteAt b (g % 4096)
+  point-ready {b} is = (
+    less g,
+    ap length is ∙ part-length m (g / 4096) (h .block-lt),
+    subst (λ (x : List ℕ). FiniteAt x (g % 4096)) (sym is) finite-words,
+  )
+    where
+      less : (n : ℕ) → n % 4096 < 4096
+      less n = omega arith
+
+  pub point-fine : {x : Point} → x ≡ point-by m g → FinitePoint x
+  point-fine e = rw e (point-finite _ _ _ (finite-words .on-x) (finite-words .on-y) (finite-words .on-z))
+
+  point-words : {x : Point} → x ≡ point-by m g → patterns x ≡ words-of m g
+  point-words e = ap patterns e ∙ point-patterns _ _ _ (finite-words .on-x) (finite-words .on-y) (finite-words .on-z)
+
+pub point-there : (m : List ℕ) {b : List ℕ} (g : ℕ) → b ≡ part m (g / 4096) → {x : Point}
+    → x ≡ point-of (column b 5 (g % 4096)) (column b 6 (g % 4096)) (column b 7 (g % 4096)) → x ≡ point-by m g
+point-there m g is e = e ∙ ap (λ (l : List ℕ). point-of (column l 5 (g % 4096)) (column l 6 (g % 4096)) (column l 7 (g % 4096))) is
+
+pub meet-told : {m : List ℕ} (a : Asked m) {g : ℕ} (h : ℕ) {n : ℕ} → Held m g → Held m n → n ≡ next-of m h
+    → {x y : Point} → x ≡ point-by m g → y ≡ point-by m n → {r : Bool} → r ≡ same-point (patterns x) (patterns y) → r ≡ meet-test m g h
+unfolding meet-test same-point
+meet-told {m} a {g} h {n} hg hn en ex ey er =
+    er ∙ (λ i. same-point (point-words a hg ex i) ((point-words a hn ey ∙ ap (words-of m) en) i))
 
 pub points-told : (m : List ℕ) (x y : ℕ) {a b : Bool} → a ≡ meet-test m (x % 65536) (y % 65536) → b ≡ meet-test m (y % 65536) (x % 65536) → (a && b) ≡ point-pair m x y
 unfolding point-pair

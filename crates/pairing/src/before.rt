@@ -4,15 +4,17 @@ ghost use Prim.Native.Nat.{_+_, _<_};
 ghost use lib.ListN.{length, getD};
 ghost use Rattle.model.specs.Image.{column};
 ghost use Rattle.mesh.specs.Parts.{blocks, part};
-ghost use Rattle.facing.specs.Numbers.{Asked, Before, BeforeBelow};
+ghost use Rattle.pairing.specs.Numbers.{Asked, Before, BeforeBelow};
 use crate::dart;
+use memory::header::Header;
+use memory::record::Place;
 
 // The place of the dart next to the one at place p of block i.
-fn next_place(mesh: &[u64], i: usize, p: usize) -> usize
-    requires { ⌜ Asked (now mesh) × (i < blocks (now mesh)) × (p < getD (part (now mesh) i) 2 0) ⌝ }
-    ensures { λ r. ⌜ (r ≡ column (part (now (mesh .entry)) i) 1 p) × (r < 4096) ⌝ }
+fn next_place(mesh: &[u64], i: usize, p: Place) -> Place
+    requires { ⌜ Asked (now mesh) × (i < blocks (now mesh)) × (p .0 < getD (part (now mesh) i) 2 0) ⌝ }
+    ensures { λ r. ⌜ (r .0 ≡ column (part (now (mesh .entry)) i) 1 (p .0)) × (r .0 < 4096) ⌝ }
 {
-    dart::word(mesh, i * 4096 + p, 1) as usize
+    Place(dart::word(mesh, i * Header::DARTS + p.0, 1) as usize)
 }
 
 // Of block i; the blocks below it are done.
@@ -20,12 +22,12 @@ fn fill_part(mesh: &[u64], i: usize, table: &mut [u64])
     requires { ⌜ Asked (now mesh) × (i < blocks (now mesh)) × BeforeBelow (now mesh) (now table) i 0 ⌝ }
     ensures { λ _. ⌜ BeforeBelow (now (mesh .entry)) (now (table .exit)) (i + 1) 0 ⌝ }
 {
-    let n = mesh[i * 32776 + 2] as usize;
+    let n = mesh[i * Header::WORDS + 2] as usize;
     // The darts below p are done.
     let mut p = 0;
     while p < n {
-        let next = next_place(mesh, i, p);
-        table[i * 4096 + next] = p as u64;
+        let next = next_place(mesh, i, Place(p));
+        table[i * Header::DARTS + next.0] = p as u64;
         p += 1;
     }
 }
@@ -35,7 +37,7 @@ pub fn fill(mesh: &[u64], table: &mut [u64])
     requires { ⌜ Asked (now mesh) × (length (now table) ≡ 65536) ⌝ }
     ensures { λ _. ⌜ Before (now (mesh .entry)) (now (table .exit)) ⌝ }
 {
-    let k = mesh.len() / 32776;
+    let k = mesh.len() / Header::WORDS;
     // The blocks below i are done.
     let mut i = 0;
     while i < k {

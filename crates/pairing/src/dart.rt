@@ -2,15 +2,19 @@
 ghost use mathlib.Core.Path.{_≡_};
 ghost use Prim.Native.Nat.{_/_, _%_, _<_};
 ghost use Rattle.mesh.specs.Parts.{blocks};
-ghost use Rattle.facing.specs.Numbers.{Asked, Held, Before, word as word-of, next-of, before-of, side-test, meet-test};
-ghost use Rattle.facing.specs.Keys.{label-pair, point-pair};
+ghost use Rattle.pairing.specs.Numbers.{Asked, Held, Before, word as word-of, next-of, before-of, point-by, side-test, meet-test};
+ghost use Rattle.pairing.specs.Keys.{label-pair, point-pair};
+use memory::header::Header;
+use memory::point;
+use memory::point::Point;
+use memory::record::Place;
 
 // Word f of dart g.
 pub fn word(mesh: &[u64], g: usize, f: usize) -> u64
     requires { ⌜ (g / 4096 < blocks (now mesh)) × (f < 8) ⌝ }
     ensures { λ r. ⌜ r ≡ word-of (now (mesh .entry)) f g ⌝ }
 {
-    mesh[g / 4096 * 32776 + (8 + g % 4096 * 8 + f)]
+    mesh[g / Header::DARTS * Header::WORDS + (8 + g % Header::DARTS * 8 + f)]
 }
 
 // The next dart.
@@ -18,7 +22,7 @@ pub fn next(mesh: &[u64], g: usize) -> usize
     requires { ⌜ Asked (now mesh) × Held (now mesh) g ⌝ }
     ensures { λ r. ⌜ r ≡ next-of (now (mesh .entry)) g ⌝ }
 {
-    g / 4096 * 4096 + word(mesh, g, 1) as usize
+    g / Header::DARTS * Header::DARTS + word(mesh, g, 1) as usize
 }
 
 // The one before, by the table of places.
@@ -26,7 +30,7 @@ pub fn previous(mesh: &[u64], table: &[u64], g: usize) -> usize
     requires { ⌜ Asked (now mesh) × Before (now mesh) (now table) × Held (now mesh) g ⌝ }
     ensures { λ r. ⌜ r ≡ before-of (now (table .entry)) g ⌝ }
 {
-    g / 4096 * 4096 + table[g] as usize
+    g / Header::DARTS * Header::DARTS + table[g] as usize
 }
 
 // 25: g names the block of h, and next of g has the label of the dart before h.
@@ -37,7 +41,7 @@ fn side(mesh: &[u64], table: &[u64], g: usize, h: usize) -> bool
     let named = word(mesh, g, 3) / 4;
     let after = word(mesh, next(mesh, g), 4);
     let last = word(mesh, previous(mesh, table, h), 4);
-    (named == (h / 4096) as u64) & (after == last)
+    (named == (h / Header::DARTS) as u64) & (after == last)
 }
 
 // 25, of the darts of two keys.
@@ -52,16 +56,24 @@ pub fn labels_pair(mesh: &[u64], table: &[u64], x: u64, y: u64) -> bool
     there & back
 }
 
+// The point of dart g.
+fn point_of(mesh: &[u64], g: usize) -> Point
+    requires { ⌜ Asked (now mesh) × Held (now mesh) g ⌝ }
+    ensures { λ r. ⌜ r ≡ point-by (now (mesh .entry)) g ⌝ }
+{
+    let from = g / Header::DARTS * Header::WORDS;
+    let to = from + Header::WORDS;
+    point::point_at(&mesh[from..to], Place(g % Header::DARTS))
+}
+
 // 26: g and next of h have one point.
 fn meet(mesh: &[u64], g: usize, h: usize) -> bool
     requires { ⌜ Asked (now mesh) × Held (now mesh) g × Held (now mesh) h ⌝ }
     ensures { λ r. ⌜ r ≡ meet-test (now (mesh .entry)) g h ⌝ }
 {
-    let n = next(mesh, h);
-    let x = word(mesh, g, 5) == word(mesh, n, 5);
-    let y = word(mesh, g, 6) == word(mesh, n, 6);
-    let z = word(mesh, g, 7) == word(mesh, n, 7);
-    x & y & z
+    let here = point_of(mesh, g);
+    let there = point_of(mesh, next(mesh, h));
+    point::same_point(here, there)
 }
 
 // 26, of the darts of two keys.

@@ -5,22 +5,23 @@ ghost use lib.ListN.{length, getD, take};
 ghost use Rattle.model.specs.Lists.{sorted};
 ghost use Rattle.model.specs.Image.{room, words};
 ghost use Rattle.mesh.specs.Parts.{blocks, part, Put};
-ghost use Rattle.facing.specs.Numbers.{Asked};
-ghost use Rattle.facing.specs.Keys.{Short, key-of, keys-of, all-keys};
+ghost use Rattle.pairing.specs.Numbers.{Asked};
+ghost use Rattle.pairing.specs.Keys.{Short, key-of, keys-of, all-keys};
+use memory::header::Header;
 use memory::record;
 use memory::record::Place;
 
 // Puts the key of the dart at place p of block i, if it is critical; where the keys end.
-fn put_key(block: &[u64], i: usize, p: usize, out: &mut [u64], at: usize) -> usize
-    requires { ⌜ (length (now block) ≡ words) × (getD (now block) 2 0 ≤ room) × Short (now block) × (i < 16) × (p < getD (now block) 2 0) × (at < length (now out)) ⌝ }
-    ensures { λ r. ⌜ (r ≤ at + 1) × Put at (key-of (now (block .entry)) i p) (now (out .entry)) (now (out .exit)) r ⌝ }
+fn put_key(block: &[u64], i: usize, p: Place, out: &mut [u64], at: usize) -> usize
+    requires { ⌜ (length (now block) ≡ words) × (getD (now block) 2 0 ≤ room) × Short (now block) × (i < 16) × (p .0 < getD (now block) 2 0) × (at < length (now out)) ⌝ }
+    ensures { λ r. ⌜ (r ≤ at + 1) × Put at (key-of (now (block .entry)) i (p .0)) (now (out .entry)) (now (out .exit)) r ⌝ }
 {
-    let kind = record::field(block, Place(p), 3);
+    let kind = record::field(block, p, 3);
     if kind <= 1 {
         return at;
     }
-    let link = record::field(block, Place(p), 4);
-    out[at] = link * 65536 + (i * 4096 + p) as u64;
+    let link = record::field(block, p, 4);
+    out[at] = link * 65536 + (i * Header::DARTS + p.0) as u64;
     at + 1
 }
 
@@ -34,7 +35,7 @@ fn put_keys(block: &[u64], i: usize, out: &mut [u64], at: usize) -> usize
     let mut end = at;
     let mut p = 0;
     while p < n {
-        end = put_key(block, i, p, out, end);
+        end = put_key(block, i, Place(p), out, end);
         p += 1;
     }
     end
@@ -45,8 +46,8 @@ fn put_part(mesh: &[u64], i: usize, out: &mut [u64], at: usize) -> usize
     requires { ⌜ Asked (now mesh) × (i < blocks (now mesh)) × (at + room ≤ length (now out)) ⌝ }
     ensures { λ r. ⌜ (r ≤ at + room) × Put at (keys-of (part (now (mesh .entry)) i) i (getD (part (now (mesh .entry)) i) 2 0)) (now (out .entry)) (now (out .exit)) r ⌝ }
 {
-    let from = i * 32776;
-    let to = from + 32776;
+    let from = i * Header::WORDS;
+    let to = from + Header::WORDS;
     put_keys(&mesh[from..to], i, out, at)
 }
 
@@ -55,7 +56,7 @@ pub fn gather(mesh: &[u64], out: &mut [u64]) -> usize
     requires { ⌜ Asked (now mesh) × (length (now out) ≡ 65536) ⌝ }
     ensures { λ r. ⌜ (r ≤ 65536) × (length (now (out .exit)) ≡ 65536) × (take r (now (out .exit)) ≡ all-keys (now (mesh .entry)) (blocks (now (mesh .entry)))) ⌝ }
 {
-    let k = mesh.len() / 32776;
+    let k = mesh.len() / Header::WORDS;
     // The first c entries are the keys of the blocks below i.
     let mut c = 0;
     let mut i = 0;

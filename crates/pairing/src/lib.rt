@@ -14,8 +14,8 @@ ghost use Rattle.model.specs.Sound.{labels-paired, points-across};
 ghost use Rattle.model.specs.Image.{block-in};
 ghost use Rattle.model.specs.Calls.{memories, mesh-lent, scratch-entries};
 ghost use Rattle.mesh.specs.Parts.{blocks};
-ghost use Rattle.facing.specs.Numbers.{Asked, Before};
-ghost use Rattle.facing.specs.Keys.{all-keys};
+ghost use Rattle.pairing.specs.Numbers.{Asked, Before};
+ghost use Rattle.pairing.specs.Keys.{all-keys};
 ghost use Rattle.pairing.specs.Told.{pairing-of};
 
 // What questions 25 and 26 say.

@@ -2,8 +2,8 @@
 ghost use mathlib.Core.Path.{_≡_};
 ghost use Prim.Native.Nat.{_+_, _/_, _<_};
 ghost use lib.ListN.{length, getD, drop};
-ghost use Rattle.facing.specs.Numbers.{Asked, Before};
-ghost use Rattle.facing.specs.Keys.{HeldKeys, fresh as fresh-in, in-pairs, each-pair, label-pair, point-pair, two-test};
+ghost use Rattle.pairing.specs.Numbers.{Asked, Before};
+ghost use Rattle.pairing.specs.Keys.{HeldKeys, fresh as fresh-in, in-pairs, each-pair, label-pair, point-pair, two-test};
 use crate::dart;
 
 // Whether key t, if there is one, has another label than x.

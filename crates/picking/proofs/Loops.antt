@@ -1,5 +1,5 @@
 -- The loops over a queue and over all places: what holds before and after each step. Assumes nothing.
-use mathlib.Core.Path.{_≡_, refl, sym, ap, _∙_}
+use mathlib.Core.Path.{_≡_, refl, sym, ap, subst, _∙_}
 use mathlib.Core.Bool.{Bool, true, false, true≢false, _&&_}
 use mathlib.Core.List.{List, [], _∷_}
 use mathlib.Core.Logic.{⊎-elim}
@@ -31,10 +31,15 @@ use Rattle.picking.specs.Picked.{size-at, Sizes, Walkable, Some, holds-a
 use Rattle.picking.proofs.PickedPlaces.{picked-places}
 
 -- ONE POINT of a block's memory
-pub held : (o : Oracle) (second : Bool) (m : List ℕ) (p : ℕ) → FiniteAt m p → {x : Point} {r : Bool} → x ≡ point-of (column m 5 p) (column m 6 p) (column m 7 p)
+held : (o : Oracle) (second : Bool) (m : List ℕ) (p : ℕ) → FiniteAt m p → {x : Point} {r : Bool} → x ≡ point-of (column m 5 p) (column m 6 p) (column m 7 p)
     → r ≡ holds o second (patterns x) → r ≡ holds-at o second m p
 held o second m p f e h =
     h ∙ ap (λ (q : Point). holds o second (patterns q)) e ∙ ap (holds o second) (point-patterns (column m 5 p) (column m 6 p) (column m 7 p) (f .on-x) (f .on-y) (f .on-z))
+
+-- the one that a queue has at k
+pub held-in : (o : Oracle) (second : Bool) (m : List ℕ) {p q : ℕ} → FiniteAt m q → p ≡ q → {x : Point} {r : Bool} → x ≡ point-of (column m 5 p) (column m 6 p) (column m 7 p)
+    → r ≡ holds o second (patterns x) → r ≡ holds-at o second m q
+held-in o second m {p} {q} f is e h = held o second m p (subst (FiniteAt m) (sym is) f) e h ∙ ap (holds-at o second m) is
 
 -- A QUEUE'S PART: no place before i passes
 pub record Looking (t : ℕ → Bool) (order : List ℕ) (from i : ℕ) : Type 0 where

@@ -6,26 +6,44 @@ ghost use lib.Dec.{ltb};
 ghost use lib.ListN.{length, getD, replicate};
 ghost use Rattle.model.specs.Lists.{keep, tab};
 ghost use Rattle.model.specs.Values.{rack};
-ghost use Rattle.model.specs.Image.{room, column, block-in, is-image};
+ghost use Rattle.model.specs.Image.{room, words, column, block-in, is-image};
 ghost use Rattle.model.specs.Balance.{picked as model-picked};
 ghost use Rattle.oracle.specs.Oracle.{oracle-of};
 ghost use Rattle.cells.specs.Places.{Linked, Visited, volume-of};
 ghost use Rattle.picking.specs.Picked.{Walkable, Some, holds-at, Marking, Added, Through, Measures, Sizes};
+use memory::header::Header;
 use memory::point;
 use memory::record;
 use memory::record::Place;
 use oracle::Oracle;
 
-// A place that is not marked is marked and put at the end of the queue. Returns the queue's new length.
-fn visit(marks: &mut [u8], order: &mut [usize], tail: usize, p: usize) -> usize
-    requires { ⌜ (length (now marks) ≡ room) × (length (now order) ≡ room) × (p < room) × (tail ≤ room) × (getD (now marks) p 0 ≡ 0 → tail < room) ⌝ }
-    ensures { λ r. ⌜ Visited p (now (marks .entry)) (now (order .entry)) tail (now (marks .exit)) (now (order .exit)) r ⌝ }
+// The place at index k of the queue.
+fn place_at(order: &[usize], k: usize) -> Place
+    requires { ⌜ (k < length (now order)) × (length (now order) ≡ room) ⌝ }
+    ensures { λ r. ⌜ r .0 ≡ getD (now (order .entry)) k 0 ⌝ }
 {
-    if marks[p] != 0 {
+    Place(order[k])
+}
+
+// The place that word f of the dart at place p leads to.
+fn along(block: &[u64], p: Place, f: usize) -> Place
+    requires { ⌜ (p .0 < room) × (f < 8) × (length (now block) ≡ words) ⌝ }
+    ensures { λ r. ⌜ r .0 ≡ column (now (block .entry)) f (p .0) ⌝ }
+{
+    Place(record::field(block, p, f) as usize)
+}
+
+// A place that is not marked is marked and put at the end of the queue. Returns the queue's new length.
+fn visit(marks: &mut [u8], order: &mut [usize], tail: usize, p: Place) -> usize
+    requires { ⌜ (length (now marks) ≡ room) × (length (now order) ≡ room) × (p .0 < room) × (tail ≤ room) × (getD (now marks) (p .0) 0 ≡ 0 → tail < room) ⌝ }
+    ensures { λ r. ⌜ Visited (p .0) (now (marks .entry)) (now (order .entry)) tail (now (marks .exit)) (now (order .exit)) r ⌝ }
+{
+    let i = p.0;
+    if marks[i] != 0 {
         return tail;
     }
-    marks[p] = 1;
-    order[tail] = p;
+    marks[i] = 1;
+    order[tail] = i;
     tail + 1
 }
 
@@ -33,24 +51,24 @@ fn visit(marks: &mut [u8], order: &mut [usize], tail: usize, p: usize) -> usize
 fn add_volume(
     block: &[u64],
     n: usize,
-    start: usize,
+    start: Place,
     order: &mut [usize],
     tail: usize,
     marks: &mut [u8],
 ) -> usize
-    requires { ⌜ Linked (now block) n × (start < n) × Marking n (column (now block) 1) (column (now block) 2) (now marks) (now order) tail × (getD (now marks) start 0 ≡ 0) ⌝ }
+    requires { ⌜ Linked (now block) n × (start .0 < n) × Marking n (column (now block) 1) (column (now block) 2) (now marks) (now order) tail × (getD (now marks) (start .0) 0 ≡ 0) ⌝ }
     ensures marking { λ r. ⌜ Marking n (column (now (block .entry)) 1) (column (now (block .entry)) 2) (now (marks .exit)) (now (order .exit)) r ⌝ }
-    ensures added { λ r. ⌜ Added n (volume-of (now (block .entry)) start) (now (marks .entry)) tail (now (marks .exit)) (now (order .exit)) r ⌝ }
+    ensures added { λ r. ⌜ Added n (volume-of (now (block .entry)) (start .0)) (now (marks .entry)) tail (now (marks .exit)) (now (order .exit)) r ⌝ }
 {
     // Both links of what stands before `head` lead to what is marked.
     let mut end = visit(marks, order, tail, start);
     let mut head = tail;
     while head < end {
-        let p = order[head];
+        let p = place_at(order, head);
         head += 1;
-        let a = record::field(block, Place(p), 1) as usize;
+        let a = along(block, p, 1);
         end = visit(marks, order, end, a);
-        let b = record::field(block, Place(p), 2) as usize;
+        let b = along(block, p, 2);
         end = visit(marks, order, end, b);
     }
     end
@@ -58,14 +76,14 @@ fn add_volume(
 
 // Whether the oracle's test holds at some of the places that stand in the queue from one index on up to another.
 fn some(block: &[u64], o: Oracle, second: bool, order: &[usize], from: usize, to: usize) -> bool
-    requires { ⌜ Walkable (now block) × (to ≤ length (now order)) × (to ≤ room) × ((k : ℕ) → k < to → getD (now order) k 0 < getD (now block) 2 0) ⌝ }
+    requires { ⌜ Walkable (now block) × (to ≤ room) × (length (now order) ≡ room) × ((k : ℕ) → k < to → getD (now order) k 0 < getD (now block) 2 0) ⌝ }
     ensures { λ r. ⌜ Some (holds-at (oracle-of o) second (now (block .entry))) (now (order .entry)) from to r ⌝ }
 {
     // It holds at none before i.
     let mut i = from;
     while i < to {
-        let p = order[i];
-        let x = point::point_at(block, Place(p));
+        let p = place_at(order, i);
+        let x = point::point_at(block, p);
         if oracle::holds(o, second, x) {
             return true;
         }
@@ -84,15 +102,16 @@ struct Measured {
 fn measure(
     block: &[u64],
     o: Oracle,
-    p: usize,
+    p: Place,
     order: &mut [usize],
     tail: usize,
     marks: &mut [u8],
 ) -> Measured
-    requires { ⌜ Walkable (now block) × (p < getD (now block) 2 0) × Through (now block) p (now marks) (now order) tail ⌝ }
-    ensures { λ r. ⌜ Measures (oracle-of o) (now (block .entry)) p r (now (marks .exit)) (now (order .exit)) ⌝ }
+    requires { ⌜ Walkable (now block) × (p .0 < getD (now block) 2 0) × Through (now block) (p .0) (now marks) (now order) tail ⌝ }
+    ensures { λ r. ⌜ Measures (oracle-of o) (now (block .entry)) (p .0) r (now (marks .exit)) (now (order .exit)) ⌝ }
 {
-    if marks[p] != 0 {
+    let i = p.0;
+    if marks[i] != 0 {
         return Measured { tail, size: 0 };
     }
     let n = block[2] as usize;
@@ -119,7 +138,7 @@ fn measure_all(block: &[u64], o: Oracle, sizes: &mut [usize], order: &mut [usize
     let mut tail = 0;
     let mut p = 0;
     while p < n {
-        let m = measure(block, o, p, order, tail, marks);
+        let m = measure(block, o, Place(p), order, tail, marks);
         tail = m.tail;
         sizes[p] = m.size;
         p += 1;
@@ -131,8 +150,8 @@ pub fn sizes_of(block: &[u64], o: Oracle, sizes: &mut [usize])
     requires { ⌜ (is-image rack (now block) ≡ true) × (length (now sizes) ≡ room) ⌝ }
     ensures { λ _. ⌜ Sizes (oracle-of o) (now (block .entry)) (now (sizes .exit)) ⌝ }
 {
-    let mut order = [0usize; 4096];
-    let mut marks = [0u8; 4096];
+    let mut order = [0usize; Header::DARTS];
+    let mut marks = [0u8; Header::DARTS];
     measure_all(block, o, sizes, &mut order, &mut marks);
 }
 
@@ -160,7 +179,7 @@ pub fn count(block: &[u64], o: Oracle) -> usize
     requires { ⌜ is-image rack (now block) ≡ true ⌝ }
     ensures { λ r. ⌜ (r ≡ length (model-picked (oracle-of o) (block-in (now (block .entry)) .darts))) × (r ≤ room) ⌝ }
 {
-    let mut sizes = [0usize; 4096];
+    let mut sizes = [0usize; Header::DARTS];
     sizes_of(block, o, &mut sizes);
     let n = block[2] as usize;
     count_of(&sizes, n)

@@ -11,7 +11,8 @@ pub enum Linked {
     Bad,
 }
 
-// A point that was read, and the place past it.
+// A point that was read, and the place past it. Its coordinates stay words, and so they do in the record that the dart becomes: whether they
+// are finite is question 4, which is asked after the whole file was read, and only finite ones make a point.
 pub enum Located {
     Point(u64, u64, u64, usize),
     Bad,

@@ -60,7 +60,7 @@ pub fn read_file(file: &[u8], block: &mut [u64]) -> Answer
     if block.len() != Header::WORDS {
         return Answer::Refused(Refusal::MemorySize);
     }
-    let mut image = [0u64; 32776];
+    let mut image = [0u64; Header::WORDS];
     if !read_image(file, &mut image) {
         return Answer::Refused(Refusal::FileLayout);
     }

@@ -12,12 +12,13 @@ use memory::record::Place;
 use memory::record::Record;
 
 // Where a serial would stand if serials rose by one from place p on, whose serial is given. Nothing rests on it.
-fn guess(p: usize, own: u64, serial: u64) -> u64 {
-    std::num::wrapping_sub_u64(std::num::wrapping_add_u64(serial, p as u64), own)
+fn guess(p: Place, own: u64, serial: u64) -> u64 {
+    let i = p.0;
+    std::num::wrapping_sub_u64(std::num::wrapping_add_u64(serial, i as u64), own)
 }
 
-// The place of a serial among n darts, n where none has it: first where it stands if serials rise by one from place p on.
-fn place_near(block: &[u64], n: usize, p: usize, own: u64, serial: u64) -> u64
+// The word of a link to a serial: its place among n darts, n where none has it. First where it stands if serials rise by one from place p on.
+fn place_near(block: &[u64], n: usize, p: Place, own: u64, serial: u64) -> u64
     requires { ⌜ (n ≤ room) × (length (now block) ≡ words) × Ascending n (column (now block) 0) ⌝ }
     ensures { λ r. ⌜ r ≡ index-of serial (tab (column (now (block .entry)) 0) n) ⌝ }
 {
@@ -34,7 +35,7 @@ fn place_near(block: &[u64], n: usize, p: usize, own: u64, serial: u64) -> u64
 }
 
 // The link word: the place of the dart that a sewn one is sewn to.
-fn link_place(block: &[u64], n: usize, p: usize, own: u64, kind: u64, link: u64) -> u64
+fn link_place(block: &[u64], n: usize, p: Place, own: u64, kind: u64, link: u64) -> u64
     requires { ⌜ (n ≤ room) × (length (now block) ≡ words) × Ascending n (column (now block) 0) ⌝ }
     ensures { λ r. ⌜ r ≡ place-link (tab (column (now (block .entry)) 0) n) kind link ⌝ }
 {
@@ -45,11 +46,11 @@ fn link_place(block: &[u64], n: usize, p: usize, own: u64, kind: u64, link: u64)
 }
 
 // Places for the serials of the dart at place p.
-fn resolve_dart(block: &mut [u64], n: usize, p: usize)
-    requires { ⌜ (p < n) × (n ≤ room) × (length (now block) ≡ words) × Ascending n (column (now block) 0) ⌝ }
-    ensures { λ _. ⌜ now (block .exit) ≡ put (now (block .entry)) p (place-words (tab (column (now (block .entry)) 0) n) (now (block .entry)) p) ⌝ }
+fn resolve_dart(block: &mut [u64], n: usize, p: Place)
+    requires { ⌜ (p .0 < n) × (n ≤ room) × (length (now block) ≡ words) × Ascending n (column (now block) 0) ⌝ }
+    ensures { λ _. ⌜ now (block .exit) ≡ put (now (block .entry)) (p .0) (place-words (tab (column (now (block .entry)) 0) n) (now (block .entry)) (p .0)) ⌝ }
 {
-    let r = memory::record::record_at(block, Place(p));
+    let r = memory::record::record_at(block, p);
     let own = r.serial;
     let next = place_near(block, n, p, own, r.next);
     let opposite = place_near(block, n, p, own, r.opposite);
@@ -64,7 +65,7 @@ fn resolve_dart(block: &mut [u64], n: usize, p: usize)
         y: r.y,
         z: r.z,
     };
-    memory::record::put_record(block, Place(p), placed);
+    memory::record::put_record(block, p, placed);
 }
 
 // Places for the serials of all darts.
@@ -76,7 +77,7 @@ pub fn resolve(block: &mut [u64])
     // The first i darts have places.
     let mut i = 0;
     while i < n {
-        resolve_dart(block, n, i);
+        resolve_dart(block, n, Place(i));
         i += 1;
     }
 }

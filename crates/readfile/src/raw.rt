@@ -17,9 +17,9 @@ pub enum End {
 }
 
 // Reads a dart with a serial above the last one, and stores it at place p.
-fn store_dart(file: &[u8], at: usize, last: u64, block: &mut [u64], p: usize) -> Read
-    requires { ⌜ (p < room) × (length (now block) ≡ words) ⌝ }
-    ensures { λ r. ⌜ DartStored (now (file .entry)) at last (now (block .entry)) p (now (block .exit)) r ⌝ }
+fn store_dart(file: &[u8], at: usize, last: u64, block: &mut [u64], p: Place) -> Read
+    requires { ⌜ (p .0 < room) × (length (now block) ≡ words) ⌝ }
+    ensures { λ r. ⌜ DartStored (now (file .entry)) at last (now (block .entry)) (p .0) (now (block .exit)) r ⌝ }
 {
     let Parsed::Dart(r, next) = dart::read_dart(file, at) else {
         return Read::Bad;
@@ -28,7 +28,7 @@ fn store_dart(file: &[u8], at: usize, last: u64, block: &mut [u64], p: usize) ->
     if serial <= last {
         return Read::Bad;
     }
-    memory::record::put_record(block, Place(p), r);
+    memory::record::put_record(block, p, r);
     Read::Value(serial, next)
 }
 
@@ -42,7 +42,7 @@ fn read_darts(file: &[u8], from: usize, n: usize, block: &mut [u64]) -> End
     let mut last = 0;
     let mut i = 0;
     while i < n {
-        let Read::Value(serial, next) = store_dart(file, at, last, block, i) else {
+        let Read::Value(serial, next) = store_dart(file, at, last, block, Place(i)) else {
             return End::Bad;
         };
         last = serial;
@@ -66,7 +66,7 @@ pub fn read_raw(file: &[u8], block: &mut [u64]) -> bool
     let Read::Value(count, past_count) = groups::read_group(file, past_counter) else {
         return false;
     };
-    if 4096 < count {
+    if (Header::DARTS as u64) < count {
         return false;
     }
     let n = count as usize;

@@ -9,12 +9,15 @@ use lib.Dec.{eqb}
 use lib.ListN.{length, getD, length-append}
 use borrow.Author.Tests.{eq-eqb, ne-eqb, lt-ltb}
 use Rattle.model.specs.Lists.{tab, concat-map}
-use Rattle.model.specs.Values.{Third, rack, serial-bound}
+use Rattle.model.specs.Values.{Third, Point as Patterns, rack, serial-bound}
 use Rattle.model.specs.Layouts.{Layout, group, serial, coordinate, _⊗_, _⊕_, as-type, such-that, at-most, put-all, times, counted, groups, group-below}
 use Rattle.model.specs.Image.{column, label-in, third-in, dart-in, block-in}
 use Rattle.model.specs.Messages.{label, point, kind-of, critical-link, third-put, third, a-dart, file}
 use Rattle.laws.proofs.Tests.{by-cases, eq-or-ne}
 use Rattle.laws.proofs.Tables.{length-tab}
+use Rattle.memory.specs.declared.point.Point.{Point}
+use Rattle.memory.specs.Point.{point-of, patterns, FinitePoint, FiniteAt}
+use Rattle.memory.proofs.Points.{point-finite, point-patterns}
 use Rattle.groups.proofs.Counts.{group-most}
 use Rattle.groups.proofs.Labels.{label-most}
 use Rattle.groups.proofs.Coordinates.{coordinate-length}
@@ -91,16 +94,24 @@ dart-put m p = dart-parts m p (third-in (column m 0) (column m 3 p) (column m 4 
     ∙ ap (λ (t : Third). link-bytes m p ++ ((at-most 2 ⊗ third) .put (kind-of t, t) ++ place-point m p)) (third-is m p)
     ∙ ap (λ (b : List ℕ). link-bytes m p ++ (b ++ place-point m p)) (sym (third-put-is (column m 3 p) (third-named m p)))
 
-pub point-put : (m : List ℕ) (p : ℕ) → point .put (dart-in m p .point) ≡ coordinate .put (column m 5 p) ++ (coordinate .put (column m 6 p) ++ coordinate .put (column m 7 p))
+pub point-put : (p : Patterns) → point .put p ≡ coordinate .put (p .x) ++ (coordinate .put (p .y) ++ coordinate .put (p .z))
 unfolding point as-type _⊕_ _⊗_
-point-put m p = refl
+point-put p = refl
 
-pub point-length : (m : List ℕ) (p : ℕ) → length (point .put (dart-in m p .point)) ≡ 24
-point-length m p =
-    let x = coordinate .put (column m 5 p) in
-    let y = coordinate .put (column m 6 p) in
-    let z = coordinate .put (column m 7 p) in
-    rw (point-put m p) (omega (arith, length-append x (y ++ z), length-append y z, coordinate-length (column m 5 p), coordinate-length (column m 6 p), coordinate-length (column m 7 p)))
+point-length : (p : Patterns) → length (point .put p) ≡ 24
+point-length p =
+    let x = coordinate .put (p .x) in
+    let y = coordinate .put (p .y) in
+    let z = coordinate .put (p .z) in
+    rw (point-put p) (omega (arith, length-append x (y ++ z), length-append y z, coordinate-length (p .x), coordinate-length (p .y), coordinate-length (p .z)))
+
+-- the point at place p, by value
+module _ (m : List ℕ) (p : ℕ) (f : FiniteAt m p) {q : Point} (e : q ≡ point-of (column m 5 p) (column m 6 p) (column m 7 p)) where
+  pub point-fine : FinitePoint q
+  point-fine = rw e (point-finite _ _ _ (f .on-x) (f .on-y) (f .on-z))
+
+  pub point-is : point .put (patterns q) ≡ point .put (dart-in m p .point)
+  point-is = ap (λ (x : Point). point .put (patterns x)) e ∙ ap (point .put) (point-patterns _ _ _ (f .on-x) (f .on-y) (f .on-z))
 
 pub link-length : (m : List ℕ) (p : ℕ)
     → length (link-bytes m p) ≡ length (serial .put (column m 0 p)) + (length (serial .put (column m 0 (column m 1 p))) + length (serial .put (column m 0 (column m 2 p))))
@@ -115,7 +126,7 @@ pub dart-length : (m : List ℕ) (p : ℕ)
 dart-length m p =
     let t = third-bytes (column m 3 p) (third-named m p) in
     let q = point .put (dart-in m p .point) in
-    rw (dart-put m p) (omega (arith, length-append (link-bytes m p) (t ++ q), length-append t q, link-length m p, point-length m p))
+    rw (dart-put m p) (omega (arith, length-append (link-bytes m p) (t ++ q), length-append t q, link-length m p, point-length (dart-in m p .point)))
 
 pub dart-most : (m : List ℕ) (p : ℕ) → Small m p → length (a-dart .put (dart-in m p)) ≤ 60
 dart-most m p s = omega (

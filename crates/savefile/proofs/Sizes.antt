@@ -10,10 +10,11 @@ use Rattle.model.specs.Values.{rack, serial-bound}
 use Rattle.model.specs.Image.{room, words, column, dart-in, block-in, is-image}
 use Rattle.laws.proofs.Tables.{length-tab}
 use Rattle.theory.proofs.ImageLaws.{image-is, image-length}
-use Rattle.columns.specs.Columns.{count, Kind, kind-free, kind-sewn, kind-critical, Ranged, Places, SewnPlaces}
+use Rattle.columns.specs.Columns.{count, Kind, kind-free, kind-sewn, kind-critical, Ranged, Places, SewnPlaces, Finite}
 use Rattle.columns.proofs.Links.{places}
 use Rattle.columns.proofs.ThirdLinks.{sewn-places}
 use Rattle.columns.proofs.Question.{image-passed}
+use Rattle.sound.proofs.OneDart.{finite-at}
 use Rattle.savefile.specs.Named.{third-named, ThirdSmall, Small, AllSmall}
 
 -- the dart at place p, by the columns' facts
@@ -48,8 +49,8 @@ module _ (m : List ℕ) (p : ℕ) where
   one-kind (kind-sewn e) h = e
   one-kind (kind-critical e o a) h = absurd (omega arith)
 
-  small-at : length m ≡ words → Ranged m → Places m (count m) → SewnPlaces m (count m) → p < count m → Small m p
-  small-at len w g s h =
+  small-at : length m ≡ words → Ranged m → Places m (count m) → SewnPlaces m (count m) → Finite m (count m) → p < count m → Small m p
+  small-at len w g s f h =
       let k = w .kinds p h in
       let few = w .few in
       let a = g .next-lt p h in
@@ -64,6 +65,7 @@ module _ (m : List ℕ) (p : ℕ) where
         next-small = w .serial-small (column m 1 p) a;
         opposite-small = w .serial-small (column m 2 p) b;
         third-small = third-small k (λ e. w .serial-small (column m 4 p) (s p h e));
+        finite-here = finite-at m p (f p h);
       }
 
 module _ (m : List ℕ) (e : is-image rack m ≡ true) where
@@ -77,7 +79,7 @@ module _ (m : List ℕ) (e : is-image rack m ≡ true) where
   image-small =
       let q = image-passed m e in
       let n = count m in
-      record { few = q .range .few; each = λ p h. small-at m p image-size (q .range) (places m n (q .links)) (sewn-places m n (q .thirds)) h }
+      record { few = q .range .few; each = λ p h. small-at m p image-size (q .range) (places m n (q .links)) (sewn-places m n (q .thirds)) (q .finite-points) h }
 
   -- the header's words
   pub number-small : getD m 0 0 < 2 ^ 32

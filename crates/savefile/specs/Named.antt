@@ -1,6 +1,6 @@
 -- What a file says of the dart at a place, and the numbers that it needs small. Assumes nothing.
 --   third-named    what a third link names, by itself: the serial of a sewn dart, the code of a label
---   Small          the words of a dart lead to places, and what it names is in range
+--   Small          the words of a dart lead to places, what it names is in range, and its point is finite
 use mathlib.Core.Path.{_≡_}
 use mathlib.Core.Bool.{cond}
 use mathlib.Core.List.{List, _++_}
@@ -11,6 +11,7 @@ use Rattle.model.specs.Values.{serial-bound}
 use Rattle.model.specs.Layouts.{group, serial, at-most, _⊗_}
 use Rattle.model.specs.Image.{room, words, column, third-in}
 use Rattle.model.specs.Messages.{kind-of, third}
+use Rattle.memory.specs.Point.{FiniteAt}
 
 unfoldable pub third-named : List ℕ → ℕ → ℕ
 third-named m p = cond (eqb (column m 3 p % 4) 1) (column m 0 (column m 4 p)) (column m 4 p)
@@ -45,6 +46,7 @@ pub record Small (m : List ℕ) (p : ℕ) : Type 0 where
   pub next-small : column m 0 (column m 1 p) < serial-bound
   pub opposite-small : column m 0 (column m 2 p) < serial-bound
   pub third-small : ThirdSmall (column m 3 p) (third-named m p)
+  pub finite-here : FiniteAt m p
 
 -- of the first n darts
 pub record AllSmall (m : List ℕ) (n : ℕ) : Type 0 where

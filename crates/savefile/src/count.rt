@@ -29,17 +29,14 @@ fn count_third(kind: u64, named: u64) -> usize
 }
 
 // Of the dart at place p.
-fn count_dart(block: &[u64], p: usize) -> usize
-    requires { ⌜ Small (now block) p ⌝ }
-    ensures { λ r. ⌜ r ≡ length (a-dart .put (dart-in (now (block .entry)) p)) ⌝ }
+fn count_dart(block: &[u64], p: Place) -> usize
+    requires { ⌜ Small (now block) (p .0) ⌝ }
+    ensures { λ r. ⌜ r ≡ length (a-dart .put (dart-in (now (block .entry)) (p .0))) ⌝ }
 {
-    let serial = groups::serial_count(record::field(block, Place(p), 0));
+    let serial = groups::serial_count(record::field(block, p, 0));
     let next = groups::serial_count(links::serial_along(block, p, 1));
     let opposite = groups::serial_count(links::serial_along(block, p, 2));
-    let third = count_third(
-        record::field(block, Place(p), 3),
-        links::third_along(block, p),
-    );
+    let third = count_third(record::field(block, p, 3), links::third_along(block, p));
     serial + (next + (opposite + (third + 24)))
 }
 
@@ -52,7 +49,7 @@ fn count_darts(block: &[u64], n: usize) -> usize
     let mut bytes = 0;
     let mut i = 0;
     while i < n {
-        bytes += count_dart(block, i);
+        bytes += count_dart(block, Place(i));
         i += 1;
     }
     bytes

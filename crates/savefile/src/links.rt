@@ -8,24 +8,24 @@ use memory::record;
 use memory::record::Place;
 
 // The serial of the dart whose place is word f of the dart at place p.
-pub fn serial_along(block: &[u64], p: usize, f: usize) -> u64
-    requires { ⌜ (p < room) × (f < 8) × (length (now block) ≡ words) × (column (now block) f p < room) ⌝ }
-    ensures { λ r. ⌜ r ≡ column (now (block .entry)) 0 (column (now (block .entry)) f p) ⌝ }
+pub fn serial_along(block: &[u64], p: Place, f: usize) -> u64
+    requires { ⌜ (p .0 < room) × (f < 8) × (length (now block) ≡ words) × (column (now block) f (p .0) < room) ⌝ }
+    ensures { λ r. ⌜ r ≡ column (now (block .entry)) 0 (column (now (block .entry)) f (p .0)) ⌝ }
 {
-    let q = record::field(block, Place(p), f) as usize;
+    let q = record::field(block, p, f) as usize;
     record::field(block, Place(q), 0)
 }
 
 // What the third link of the dart at place p names: the serial of a sewn dart, the code of a label.
-pub fn third_along(block: &[u64], p: usize) -> u64
-    requires { ⌜ Small (now block) p ⌝ }
-    ensures { λ r. ⌜ r ≡ third-named (now (block .entry)) p ⌝ }
+pub fn third_along(block: &[u64], p: Place) -> u64
+    requires { ⌜ Small (now block) (p .0) ⌝ }
+    ensures { λ r. ⌜ r ≡ third-named (now (block .entry)) (p .0) ⌝ }
 {
-    let k = record::field(block, Place(p), 3);
+    let k = record::field(block, p, 3);
     if k % 4 == 1 {
         return serial_along(block, p, 4);
     }
-    record::field(block, Place(p), 4)
+    record::field(block, p, 4)
 }
 
 // A word that holds a number below 2^32.

@@ -7,19 +7,22 @@ ghost use Rattle.model.specs.Lists.{tab};
 ghost use Rattle.model.specs.Values.{rack};
 ghost use Rattle.model.specs.Layouts.{put-all};
 ghost use Rattle.model.specs.Image.{dart-in, block-in, is-image};
-ghost use Rattle.model.specs.Messages.{point, a-dart, file};
+ghost use Rattle.model.specs.Messages.{point as point-layout, a-dart, file};
 ghost use Rattle.groups.specs.Slices.{Stored};
+ghost use Rattle.memory.specs.Point.{patterns, FinitePoint};
 ghost use Rattle.savefile.specs.Named.{ThirdSmall, third-bytes, link-bytes, header-bytes, Small, AllSmall};
 use crate::links;
+use memory::point;
+use memory::point::Point;
 use memory::record;
 use memory::record::Place;
 
 // Serial, next and opposite of the dart at place p.
-fn put_links(block: &[u64], p: usize, out: &mut [u8], at: usize) -> usize
-    requires { ⌜ Small (now block) p × (at + length (link-bytes (now block) p) ≤ length (now out)) ⌝ }
-    ensures { λ r. ⌜ Stored (now (out .entry)) at (link-bytes (now (block .entry)) p) (now (out .exit)) r ⌝ }
+fn put_links(block: &[u64], p: Place, out: &mut [u8], at: usize) -> usize
+    requires { ⌜ Small (now block) (p .0) × (at + length (link-bytes (now block) (p .0)) ≤ length (now out)) ⌝ }
+    ensures { λ r. ⌜ Stored (now (out .entry)) at (link-bytes (now (block .entry)) (p .0)) (now (out .exit)) r ⌝ }
 {
-    let past_serial = groups::put_serial(out, at, record::field(block, Place(p), 0));
+    let past_serial = groups::put_serial(out, at, record::field(block, p, 0));
     let past_next = groups::put_serial(out, past_serial, links::serial_along(block, p, 1));
     groups::put_serial(out, past_next, links::serial_along(block, p, 2))
 }
@@ -42,25 +45,28 @@ fn put_third(kind: u64, named: u64, out: &mut [u8], at: usize) -> usize
     groups::put_label(out, past_other, named)
 }
 
-// The point of the dart at place p.
-fn put_point(block: &[u64], p: usize, out: &mut [u8], at: usize) -> usize
-    requires { ⌜ Small (now block) p × (at + 24 ≤ length (now out)) ⌝ }
-    ensures { λ r. ⌜ Stored (now (out .entry)) at (point .put (dart-in (now (block .entry)) p .point)) (now (out .exit)) r ⌝ }
+// A point goes by value.
+fn put_point(out: &mut [u8], at: usize, p: Point) -> usize
+    requires { ⌜ FinitePoint p × (at + 24 ≤ length (now out)) ⌝ }
+    ensures { λ r. ⌜ Stored (now (out .entry)) at (point-layout .put (patterns p)) (now (out .exit)) r ⌝ }
 {
-    let past_x = groups::put_coordinate(out, at, record::field(block, Place(p), 5));
-    let past_y = groups::put_coordinate(out, past_x, record::field(block, Place(p), 6));
-    groups::put_coordinate(out, past_y, record::field(block, Place(p), 7))
+    let x = point::pattern(p.x);
+    let y = point::pattern(p.y);
+    let z = point::pattern(p.z);
+    let past_x = groups::put_coordinate(out, at, x);
+    let past_y = groups::put_coordinate(out, past_x, y);
+    groups::put_coordinate(out, past_y, z)
 }
 
 // The dart at place p.
-fn put_dart(block: &[u64], p: usize, out: &mut [u8], at: usize) -> usize
-    requires { ⌜ Small (now block) p × (at + length (a-dart .put (dart-in (now block) p)) ≤ length (now out)) ⌝ }
-    ensures { λ r. ⌜ Stored (now (out .entry)) at (a-dart .put (dart-in (now (block .entry)) p)) (now (out .exit)) r ⌝ }
+fn put_dart(block: &[u64], p: Place, out: &mut [u8], at: usize) -> usize
+    requires { ⌜ Small (now block) (p .0) × (at + length (a-dart .put (dart-in (now block) (p .0))) ≤ length (now out)) ⌝ }
+    ensures { λ r. ⌜ Stored (now (out .entry)) at (a-dart .put (dart-in (now (block .entry)) (p .0))) (now (out .exit)) r ⌝ }
 {
     let past_links = put_links(block, p, out, at);
-    let kind = record::field(block, Place(p), 3);
+    let kind = record::field(block, p, 3);
     let past_third = put_third(kind, links::third_along(block, p), out, past_links);
-    put_point(block, p, out, past_third)
+    put_point(out, past_third, point::point_at(block, p))
 }
 
 // The first n darts.
@@ -72,7 +78,7 @@ fn put_darts(block: &[u64], n: usize, out: &mut [u8], at: usize) -> usize
     let mut past = at;
     let mut i = 0;
     while i < n {
-        past = put_dart(block, i, out, past);
+        past = put_dart(block, Place(i), out, past);
         i += 1;
     }
     past

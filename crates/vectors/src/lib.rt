@@ -319,7 +319,14 @@ fn move_is(record: &[u8], at: usize, m: NextMove) -> bool {
 fn asked_move(record: &[u8], mesh: &[u64], scratch: &mut [u64]) -> NextMove {
     let low = point(record, 12);
     let high = point(record, 36);
-    nextmove::next_move_by_number(mesh, small(record, 4), small(record, 8), low, high, scratch)
+    balance::nextmove::next_move_by_number(
+        mesh,
+        small(record, 4),
+        small(record, 8),
+        low,
+        high,
+        scratch,
+    )
 }
 
 // On a mesh and a scratch of the record's sizes; the scratch stands at a place, the answer behind it.

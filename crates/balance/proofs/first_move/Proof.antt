@@ -13,7 +13,7 @@ use Rattle.oracle.specs.Oracle.{oracle-of}
 use Rattle.mesh.specs.Parts.{blocks}
 use Rattle.balance.specs.Moves.{moves-from}
 use Rattle.balance.proofs.Searches.{Searching, searching-start, searching-skip, searching-none}
-use Rattle.balance.proofs.MovesLaws.{surplus-at, above-told, donor-found, donor-end}
+use Rattle.balance.proofs.MovesLaws.{surplus-at, above-told, donor-found, donor-none, donor-end}
 use native.Mathlib.Omega.{arith}
 use borrow.Author.Needs.{needs}
 use Rattle.balance.proofs.first_move.Statement.{statement}
@@ -73,6 +73,12 @@ from-donor-requires c κs =
     let e : toZ w32 (ofZ w32 (getD t3 loop-d (pos 0))) ≡ getD t3 loop-d (pos 0) = toZ-ofZ w32 (getD t3 loop-d (pos 0)) (search needs) in
     ((start .pre .0, loop-test-taken, loop-inv .0), (start .pre .1, ap is-above (sym e) ∙ sym is-above-ensures ∙ not-false _ if1-left))
 
+enum-known-to : tie.Need-enum-known-to Inv-loop μ-loop
+enum-known-to c = search needs
+
+enum-told : tie.Need-enum-told Inv-loop μ-loop
+enum-told c = search needs
+
 loop-less-2 : tie.Need-loop-less-2 Inv-loop μ-loop
 loop-less-2 c = omega arith
 
@@ -81,19 +87,19 @@ loop-again-2 c =
     let loop-inv = (let p : tie.At-loop Inv-loop μ-loop = search in p .loop .inv) in
     let loop-test-taken = (let p : tie.In-loop Inv-loop μ-loop = search in p .loop-test .taken) in
     let from-donor-ensures = (let p : tie.After-from-donor Inv-loop μ-loop = search in p .from-donor .ensures) in
-    (from-donor-ensures .2, searching-none (loop-inv .1) loop-test-taken (from-donor-ensures .0 .nothing (c .if2 .taken)))
+    let start : tie.Start Inv-loop μ-loop = search in
+    let loop-d = (let p : tie.At-loop Inv-loop μ-loop = search in p .loop .d) in
+    let none = donor-none (oracle-of (start .args .o)) (start .args .mesh .now) loop-d (from-donor-ensures .0) (c .enum-told .given .1) in
+    (from-donor-ensures .1, searching-none (loop-inv .1) loop-test-taken none)
 
-cast-t21 : tie.Need-cast-t21 Inv-loop μ-loop
-cast-t21 c = omega arith
-
-cast-t22 : tie.Need-cast-t22 Inv-loop μ-loop
-cast-t22 c = omega arith
+cast-t23 : tie.Need-cast-t23 Inv-loop μ-loop
+cast-t23 c = omega arith
 
 same-length : tie.Need-same-length Inv-loop μ-loop
 same-length c =
     let start : tie.Start Inv-loop μ-loop = search in
     let from-donor-ensures = (let p : tie.After-from-donor Inv-loop μ-loop = search in p .from-donor .ensures) in
-    from-donor-ensures .2 ∙ sym (start .pre .2)
+    from-donor-ensures .1 ∙ sym (start .pre .2)
 
 returns : tie.Need-returns Inv-loop μ-loop
 returns c =
@@ -107,11 +113,11 @@ returns c =
     let is-above-ensures = (let p : tie.After-is-above Inv-loop μ-loop = search in p .is-above .ensures) in
     let if1-left = (let p : tie.Else1 Inv-loop μ-loop = search in p .if1 .left) in
     let from-donor-ensures = (let p : tie.After-from-donor Inv-loop μ-loop = search in p .from-donor .ensures) in
-    let if2-left = (let p : tie.Else2 Inv-loop μ-loop = search in p .if2 .left) in
+    let to-given = (let p : tie.After-to Inv-loop μ-loop = search in p .to .given) in
     let e : toZ w32 (ofZ w32 (getD t3 loop-d (pos 0))) ≡ getD t3 loop-d (pos 0) = toZ-ofZ w32 (getD t3 loop-d (pos 0)) (search needs) in
     donor-found (oracle-of o) mesh (loop-inv .1) loop-test-taken
     (sym (above-told (start .pre .1) loop-d loop-test-taken e is-above-ensures) ∙ not-false _ if1-left) (from-donor-ensures .0)
-    if2-left
+    (to-given .1)
 
 same-length-2 : tie.Need-same-length-2 Inv-loop μ-loop
 same-length-2 c =
@@ -139,10 +145,11 @@ first-move-spec =
     loop-less
     loop-again
     from-donor-requires
+    enum-known-to
+    enum-told
     loop-less-2
     loop-again-2
-    cast-t21
-    cast-t22
+    cast-t23
     same-length
     returns
     same-length-2

@@ -81,6 +81,12 @@ between-requires c κs =
       (loop-inv (oracle-of o) sizes-at-ensures (start .pre .1 .0)) .untried .len,
     )
 
+enum-known-serial : tie.Need-enum-known-serial Inv-loop μ-loop
+enum-known-serial c = search needs
+
+enum-told : tie.Need-enum-told Inv-loop μ-loop
+enum-told c = search needs
+
 loop-less-2 : tie.Need-loop-less-2 Inv-loop μ-loop
 loop-less-2 c = omega arith
 
@@ -97,8 +103,14 @@ loop-again-2 c =
     let between-ensures = (let p : tie.After-between Inv-loop μ-loop = search in p .between .ensures) in
     let e : toZ w32 (ofZ w32 (getD t3 loop-r (pos 0))) ≡ getD t3 loop-r (pos 0) = toZ-ofZ w32 (getD t3 loop-r (pos 0)) (search needs) in
     λ o z s. giving-none (loop-inv o z s) loop-test-taken (start .pre .0 .0) (start .pre .0 .1)
-    (blocks-apart t3 d loop-r (start .pre .1 .1) e is-below-ensures (not-false _ if1-left)) (between-ensures .0) (c .if2 .taken)
+    (blocks-apart t3 d loop-r (start .pre .1 .1) e is-below-ensures (not-false _ if1-left)) (between-ensures .0) (c .enum-told .given .1)
     (between-ensures .1)
+
+cast-t25 : tie.Need-cast-t25 Inv-loop μ-loop
+cast-t25 c =
+    let start : tie.Start Inv-loop μ-loop = search in
+    let loop-test-taken = (let p : tie.In-loop Inv-loop μ-loop = search in p .loop-test .taken) in
+    omega (arith, loop-test-taken, start .pre .0 .0 .few)
 
 same-length : tie.Need-same-length Inv-loop μ-loop
 same-length c =
@@ -119,12 +131,12 @@ returns c =
     let is-below-ensures = (let p : tie.After-is-below Inv-loop μ-loop = search in p .is-below .ensures) in
     let if1-left = (let p : tie.Else1 Inv-loop μ-loop = search in p .if1 .left) in
     let between-ensures = (let p : tie.After-between Inv-loop μ-loop = search in p .between .ensures) in
+    let serial-given = (let p : tie.After-serial Inv-loop μ-loop = search in p .serial .given) in
     let e : toZ w32 (ofZ w32 (getD t3 loop-r (pos 0))) ≡ getD t3 loop-r (pos 0) = toZ-ofZ w32 (getD t3 loop-r (pos 0)) (search needs) in (
       giving-found (loop-inv (oracle-of o) sizes-at-ensures (start .pre .1 .0)) loop-test-taken (start .pre .0 .0)
           (start .pre .0 .1) (blocks-apart t3 d loop-r (start .pre .1 .1) e is-below-ensures (not-false _ if1-left))
-          (between-ensures .0) (c .if2 .left)
+          (between-ensures .0) (serial-given .1)
           (sym (below-told (start .pre .1 .0) loop-r loop-test-taken e is-below-ensures) ∙ not-false _ if1-left),
-      omega (arith, loop-test-taken, start .pre .0 .0 .few),
       between-ensures .1 .len,
     )
 
@@ -142,7 +154,6 @@ returns-2 c =
     let sizes-at-ensures = (let p : tie.After-sizes-at Inv-loop μ-loop = search in p .sizes-at .ensures) in
     let loop-inv = (let p : tie.At-loop Inv-loop μ-loop = search in p .loop .inv) in (
       giving-end (loop-inv (oracle-of o) sizes-at-ensures (start .pre .1 .0)) (c .loop-test .left),
-      omega arith,
       (loop-inv (oracle-of o) sizes-at-ensures (start .pre .1 .0)) .untried .len,
     )
 
@@ -161,8 +172,11 @@ from-donor-spec =
     loop-less
     loop-again
     between-requires
+    enum-known-serial
+    enum-told
     loop-less-2
     loop-again-2
+    cast-t25
     same-length
     returns
     same-length-2

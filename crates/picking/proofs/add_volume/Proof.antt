@@ -1,7 +1,7 @@
 -- `picking::add_volume` meets its contract. Assumes nothing.
-use Prim.Native.Nat.{ℕ, _-_}
+use Prim.Native.Nat.{ℕ, _-_, _<_}
 use mathlib.Core.List.{List}
-use mathlib.Core.Path.{sym, _∙_}
+use mathlib.Core.Path.{sym, ap, _∙_}
 use Rattle.model.specs.Image.{column}
 use Rattle.cells.specs.Places.{Visited, volume-of}
 use Rattle.cells.proofs.Walks.{queue-le, queue-room}
@@ -13,12 +13,12 @@ use Rattle.picking.proofs.add_volume.Statement.{statement}
 use Rattle.picking.proofs.add_volume.Tie as tie
 
 abbrev Inv-loop : tie.InvT-loop
-Inv-loop block n start order₀ tail marks₀ end₀ head₀ order marks end head =
-    (m o : List ℕ) → Marking n (column block 1) (column block 2) m o tail → Visited start m o tail marks₀ order₀ end₀
-    → Going n (column block 1) (column block 2) start (volume-of block start) m tail marks order end head
+Inv-loop block n order₀ tail marks₀ end₀ head₀ order marks end head =
+    (s : ℕ) → s < n → (m o : List ℕ) → Marking n (column block 1) (column block 2) m o tail → Visited s m o tail marks₀ order₀ end₀
+    → Going n (column block 1) (column block 2) s (volume-of block s) m tail marks order end head
 
 abbrev μ-loop : tie.MeasureT-loop
-μ-loop block n start order₀ tail marks₀ end₀ head₀ order marks end head =
+μ-loop block n order₀ tail marks₀ end₀ head₀ order marks end head =
     4096 - head
 
 visit-requires : tie.Need-visit-requires Inv-loop μ-loop
@@ -30,36 +30,33 @@ visit-requires c κs =
 loop-holds : tie.Need-loop-holds Inv-loop μ-loop
 loop-holds c =
     let start : tie.Start Inv-loop μ-loop = search in
-    λ m o k x. going-start _ _ _ _ _ (volume-linked (start .pre .0) (start .pre .1)) (start .pre .0 .few) k (start .pre .1) x
+    λ s l m o k x. going-start _ _ _ _ _ (volume-linked (start .pre .0) l) (start .pre .0 .few) k l x
 
-mul-p : tie.Need-mul-p Inv-loop μ-loop
-mul-p c =
+place-at-requires : tie.Need-place-at-requires Inv-loop μ-loop
+place-at-requires c κs =
     let start : tie.Start Inv-loop μ-loop = search in
     let visit-ensures = (let p : tie.After-visit Inv-loop μ-loop = search in p .visit .ensures) in
     let loop-inv = (let p : tie.At-loop Inv-loop μ-loop = search in p .loop .inv) in
-    omega (arith, queue-le ((loop-inv _ _ (start .pre .2) visit-ensures) .queue))
-
-slice-read-p : tie.Need-slice-read-p Inv-loop μ-loop
-slice-read-p c =
-    let start : tie.Start Inv-loop μ-loop = search in
-    let visit-ensures = (let p : tie.After-visit Inv-loop μ-loop = search in p .visit .ensures) in
-    let loop-inv = (let p : tie.At-loop Inv-loop μ-loop = search in p .loop .inv) in
-    omega (arith, queue-le ((loop-inv _ _ (start .pre .2) visit-ensures) .queue), (loop-inv _ _ (start .pre .2) visit-ensures) .queue .len-o)
+    let loop-test-taken = (let p : tie.In-loop Inv-loop μ-loop = search in p .loop-test .taken) in
+    let q = (loop-inv _ (start .pre .1) _ _ (start .pre .2) visit-ensures) .queue in
+    (omega (arith, queue-le q, q .len-o, loop-test-taken), q .len-o)
 
 add-head : tie.Need-add-head Inv-loop μ-loop
 add-head c =
     let start : tie.Start Inv-loop μ-loop = search in
     let visit-ensures = (let p : tie.After-visit Inv-loop μ-loop = search in p .visit .ensures) in
     let loop-inv = (let p : tie.At-loop Inv-loop μ-loop = search in p .loop .inv) in
-    omega (arith, queue-le ((loop-inv _ _ (start .pre .2) visit-ensures) .queue))
+    omega (arith, queue-le ((loop-inv _ (start .pre .1) _ _ (start .pre .2) visit-ensures) .queue))
 
-field-requires : tie.Need-field-requires Inv-loop μ-loop
-field-requires c κs =
+along-requires : tie.Need-along-requires Inv-loop μ-loop
+along-requires c κs =
     let start : tie.Start Inv-loop μ-loop = search in
     let visit-ensures = (let p : tie.After-visit Inv-loop μ-loop = search in p .visit .ensures) in
     let loop-inv = (let p : tie.At-loop Inv-loop μ-loop = search in p .loop .inv) in
     let loop-test-taken = (let p : tie.In-loop Inv-loop μ-loop = search in p .loop-test .taken) in
-    (omega (arith, (loop-inv _ _ (start .pre .2) visit-ensures) .queue .queued _ loop-test-taken .0, start .pre .0 .few), omega arith, start .pre .0 .size)
+    let place-at-ensures = (let p : tie.After-place-at Inv-loop μ-loop = search in p .place-at .ensures) in
+    let held = (loop-inv _ (start .pre .1) _ _ (start .pre .2) visit-ensures) .queue .queued _ loop-test-taken .0 in
+    (omega (arith, held, place-at-ensures, start .pre .0 .few), omega arith, start .pre .0 .size)
 
 visit-requires-2 : tie.Need-visit-requires-2 Inv-loop μ-loop
 visit-requires-2 c κs =
@@ -67,40 +64,48 @@ visit-requires-2 c κs =
     let visit-ensures = (let p : tie.After-visit Inv-loop μ-loop = search in p .visit .ensures) in
     let loop-inv = (let p : tie.At-loop Inv-loop μ-loop = search in p .loop .inv) in
     let loop-test-taken = (let p : tie.In-loop Inv-loop μ-loop = search in p .loop-test .taken) in
-    let field-ensures = (let p : tie.After-field Inv-loop μ-loop = search in p .field .ensures) in
-    let q = (loop-inv _ _ (start .pre .2) visit-ensures) .queue in
+    let place-at-ensures = (let p : tie.After-place-at Inv-loop μ-loop = search in p .place-at .ensures) in
+    let along-ensures = (let p : tie.After-along Inv-loop μ-loop = search in p .along .ensures) in
+    let next-is = along-ensures ∙ ap (column (start .args .block .now) 1) place-at-ensures in
+    let q = (loop-inv _ (start .pre .1) _ _ (start .pre .2) visit-ensures) .queue in
     let x = start .pre .0 .next-within _ (q .queued _ loop-test-taken .0) in
-    (q .len-m, q .len-o, omega (arith, x, field-ensures, start .pre .0 .few), queue-le q, queue-room q _ (omega (arith, x, field-ensures, start .pre .0 .few)))
+    (q .len-m, q .len-o, omega (arith, x, next-is, start .pre .0 .few), queue-le q, queue-room q _ (omega (arith, x, next-is, start .pre .0 .few)))
 
-field-requires-2 : tie.Need-field-requires-2 Inv-loop μ-loop
-field-requires-2 c κs =
+along-requires-2 : tie.Need-along-requires-2 Inv-loop μ-loop
+along-requires-2 c κs =
     let start : tie.Start Inv-loop μ-loop = search in
     let visit-ensures = (let p : tie.After-visit Inv-loop μ-loop = search in p .visit .ensures) in
     let loop-inv = (let p : tie.At-loop Inv-loop μ-loop = search in p .loop .inv) in
     let loop-test-taken = (let p : tie.In-loop Inv-loop μ-loop = search in p .loop-test .taken) in
-    (omega (arith, (loop-inv _ _ (start .pre .2) visit-ensures) .queue .queued _ loop-test-taken .0, start .pre .0 .few), omega arith, start .pre .0 .size)
+    let place-at-ensures = (let p : tie.After-place-at Inv-loop μ-loop = search in p .place-at .ensures) in
+    let held = (loop-inv _ (start .pre .1) _ _ (start .pre .2) visit-ensures) .queue .queued _ loop-test-taken .0 in
+    (omega (arith, held, place-at-ensures, start .pre .0 .few), omega arith, start .pre .0 .size)
 
 visit-requires-3 : tie.Need-visit-requires-3 Inv-loop μ-loop
 visit-requires-3 c κs =
-    let field2-ensures = (let p : tie.After-field2 Inv-loop μ-loop = search in p .field2 .ensures) in
+    let along2-ensures = (let p : tie.After-along2 Inv-loop μ-loop = search in p .along2 .ensures) in
     let visit2-ensures = (let p : tie.After-visit2 Inv-loop μ-loop = search in p .visit2 .ensures) in
-    let field-ensures = (let p : tie.After-field Inv-loop μ-loop = search in p .field .ensures) in
+    let along-ensures = (let p : tie.After-along Inv-loop μ-loop = search in p .along .ensures) in
+    let place-at-ensures = (let p : tie.After-place-at Inv-loop μ-loop = search in p .place-at .ensures) in
     let loop-test-taken = (let p : tie.In-loop Inv-loop μ-loop = search in p .loop-test .taken) in
     let loop-inv = (let p : tie.At-loop Inv-loop μ-loop = search in p .loop .inv) in
     let visit-ensures = (let p : tie.After-visit Inv-loop μ-loop = search in p .visit .ensures) in
     let c : tie.After-visit Inv-loop μ-loop = search in
     let start : tie.Start Inv-loop μ-loop = search in
+    let block = start .args .block .now in
+    let next-is = along-ensures ∙ ap (column block 1) place-at-ensures in
+    let opposite-is = along2-ensures ∙ ap (column block 2) place-at-ensures in
     let q =
     going-mid _ _ _ _ _ (volume-linked (start .pre .0) (start .pre .1)) (start .pre .0 .few) (start .pre .2)
-    (loop-inv _ _ (start .pre .2) visit-ensures) (start .pre .0 .next-within) (start .pre .0 .opposite-within) loop-test-taken
-    field-ensures visit2-ensures
+    (loop-inv _ (start .pre .1) _ _ (start .pre .2) visit-ensures) (start .pre .0 .next-within) (start .pre .0 .opposite-within) loop-test-taken
+    next-is visit2-ensures
     in
-    let x = start .pre .0 .opposite-within _ ((loop-inv _ _ (start .pre .2) visit-ensures) .queue .queued _ loop-test-taken .0) in (
+    let x = start .pre .0 .opposite-within _ ((loop-inv _ (start .pre .1) _ _ (start .pre .2) visit-ensures) .queue .queued _ loop-test-taken .0) in (
       q .len-m,
       q .len-o,
-      omega (arith, x, field2-ensures, start .pre .0 .few),
+      omega (arith, x, opposite-is, start .pre .0 .few),
       queue-le q,
-      queue-room q _ (omega (arith, x, field2-ensures, start .pre .0 .few)),
+      queue-room q _ (omega (arith, x, opposite-is, start .pre .0 .few)),
     )
 
 loop-less : tie.Need-loop-less Inv-loop μ-loop
@@ -110,20 +115,24 @@ loop-less c =
     let c : tie.At-loop Inv-loop μ-loop = search in
     let visit-ensures = (let p : tie.After-visit Inv-loop μ-loop = search in p .visit .ensures) in
     let start : tie.Start Inv-loop μ-loop = search in
-    omega (arith, queue-le ((loop-inv _ _ (start .pre .2) visit-ensures) .queue), loop-test-taken)
+    omega (arith, queue-le ((loop-inv _ (start .pre .1) _ _ (start .pre .2) visit-ensures) .queue), loop-test-taken)
 
 loop-again : tie.Need-loop-again Inv-loop μ-loop
 loop-again c =
     let visit3-ensures = (let p : tie.After-visit3 Inv-loop μ-loop = search in p .visit3 .ensures) in
-    let field2-ensures = (let p : tie.After-field2 Inv-loop μ-loop = search in p .field2 .ensures) in
+    let along2-ensures = (let p : tie.After-along2 Inv-loop μ-loop = search in p .along2 .ensures) in
     let visit2-ensures = (let p : tie.After-visit2 Inv-loop μ-loop = search in p .visit2 .ensures) in
-    let field-ensures = (let p : tie.After-field Inv-loop μ-loop = search in p .field .ensures) in
+    let along-ensures = (let p : tie.After-along Inv-loop μ-loop = search in p .along .ensures) in
+    let place-at-ensures = (let p : tie.After-place-at Inv-loop μ-loop = search in p .place-at .ensures) in
     let loop-test-taken = (let p : tie.In-loop Inv-loop μ-loop = search in p .loop-test .taken) in
     let loop-inv = (let p : tie.At-loop Inv-loop μ-loop = search in p .loop .inv) in
     let c : tie.At-loop Inv-loop μ-loop = search in
     let start : tie.Start Inv-loop μ-loop = search in
-    λ m o k x. going-step _ _ _ _ _ (volume-linked (start .pre .0) (start .pre .1)) (start .pre .0 .few) k (loop-inv m o k x)
-    (start .pre .0 .next-within) (start .pre .0 .opposite-within) loop-test-taken field-ensures visit2-ensures field2-ensures
+    let block = start .args .block .now in
+    let next-is = along-ensures ∙ ap (column block 1) place-at-ensures in
+    let opposite-is = along2-ensures ∙ ap (column block 2) place-at-ensures in
+    λ s l m o k x. going-step _ _ _ _ _ (volume-linked (start .pre .0) l) (start .pre .0 .few) k (loop-inv s l m o k x)
+    (start .pre .0 .next-within) (start .pre .0 .opposite-within) loop-test-taken next-is visit2-ensures opposite-is
     visit3-ensures
 
 same-length : tie.Need-same-length Inv-loop μ-loop
@@ -131,14 +140,14 @@ same-length c =
     let start : tie.Start Inv-loop μ-loop = search in
     let visit-ensures = (let p : tie.After-visit Inv-loop μ-loop = search in p .visit .ensures) in
     let loop-inv = (let p : tie.At-loop Inv-loop μ-loop = search in p .loop .inv) in
-    (loop-inv _ _ (start .pre .2) visit-ensures) .queue .len-o ∙ sym (start .pre .2 .len-order)
+    (loop-inv _ (start .pre .1) _ _ (start .pre .2) visit-ensures) .queue .len-o ∙ sym (start .pre .2 .len-order)
 
 same-length-2 : tie.Need-same-length-2 Inv-loop μ-loop
 same-length-2 c =
     let start : tie.Start Inv-loop μ-loop = search in
     let visit-ensures = (let p : tie.After-visit Inv-loop μ-loop = search in p .visit .ensures) in
     let loop-inv = (let p : tie.At-loop Inv-loop μ-loop = search in p .loop .inv) in
-    (loop-inv _ _ (start .pre .2) visit-ensures) .queue .len-m ∙ sym (start .pre .2 .len-marks)
+    (loop-inv _ (start .pre .1) _ _ (start .pre .2) visit-ensures) .queue .len-m ∙ sym (start .pre .2 .len-marks)
 
 returns : tie.Need-returns Inv-loop μ-loop
 returns c =
@@ -147,8 +156,8 @@ returns c =
     let loop-inv = (let p : tie.At-loop Inv-loop μ-loop = search in p .loop .inv) in
     let l = start .pre .0 in
     let v = volume-linked l (start .pre .1) in (
-      going-marks _ _ _ _ _ v (l .few) (start .pre .2) (loop-inv _ _ (start .pre .2) visit-ensures) (c .loop-test .left),
-      going-added _ _ _ _ _ v (l .few) (start .pre .2) (loop-inv _ _ (start .pre .2) visit-ensures) (c .loop-test .left)
+      going-marks _ _ _ _ _ v (l .few) (start .pre .2) (loop-inv _ (start .pre .1) _ _ (start .pre .2) visit-ensures) (c .loop-test .left),
+      going-added _ _ _ _ _ v (l .few) (start .pre .2) (loop-inv _ (start .pre .1) _ _ (start .pre .2) visit-ensures) (c .loop-test .left)
           (volume-away l (start .pre .1) (start .pre .2) (start .pre .3)) (volume-below l (start .pre .1)),
     )
 
@@ -160,12 +169,11 @@ add-volume-spec =
     μ-loop
     visit-requires
     loop-holds
-    mul-p
-    slice-read-p
+    place-at-requires
     add-head
-    field-requires
+    along-requires
     visit-requires-2
-    field-requires-2
+    along-requires-2
     visit-requires-3
     loop-less
     loop-again

@@ -30,7 +30,7 @@ some-requires c κs =
     let start : tie.Start = search in
     let add-volume-ensures = (let p : tie.After-add-volume = search in p .add-volume .ensures) in
     let mk = add-volume-ensures .0 in
-    (start .pre .0, omega (arith, queue-le (as-queue mk), mk .len-order), queue-le (as-queue mk), λ k l. mk .queued k l .0)
+    (start .pre .0, queue-le (as-queue mk), mk .len-order, λ k l. mk .queued k l .0)
 
 same-length : tie.Need-same-length
 same-length c =
@@ -59,7 +59,7 @@ some-requires-2 c κs =
     let start : tie.Start = search in
     let add-volume-ensures = (let p : tie.After-add-volume = search in p .add-volume .ensures) in
     let mk = add-volume-ensures .0 in
-    (start .pre .0, omega (arith, queue-le (as-queue mk), mk .len-order), queue-le (as-queue mk), λ k l. mk .queued k l .0)
+    (start .pre .0, queue-le (as-queue mk), mk .len-order, λ k l. mk .queued k l .0)
 
 same-length-3 : tie.Need-same-length-3
 same-length-3 c =
@@ -85,8 +85,8 @@ returns-3 c =
     measured-second (oracle-of o) (start .pre .0) (start .pre .1) (start .pre .2) if1-left (add-volume-ensures .0)
     (add-volume-ensures .1) some-ensures if2-left some2-ensures (c .if3 .taken)
 
-sub-t23 : tie.Need-sub-t23
-sub-t23 c = omega arith
+sub-t24 : tie.Need-sub-t24
+sub-t24 c = omega arith
 
 same-length-5 : tie.Need-same-length-5
 same-length-5 c =
@@ -128,7 +128,7 @@ measure-spec =
     same-length-3
     same-length-4
     returns-3
-    sub-t23
+    sub-t24
     same-length-5
     same-length-6
     returns-4)

@@ -1,8 +1,10 @@
 -- `picking::some` meets its contract. Assumes nothing.
 use Prim.Native.Nat.{_-_}
+use mathlib.Core.Path.{sym, subst}
+use Rattle.memory.specs.Point.{FiniteAt}
 use Rattle.oracle.specs.Oracle.{oracle-of}
 use Rattle.picking.specs.Picked.{holds-at}
-use Rattle.picking.proofs.Loops.{held, Looking, looking-start, looking-next, looked-found, looked-all}
+use Rattle.picking.proofs.Loops.{held-in, Looking, looking-start, looking-next, looked-found, looked-all}
 use native.Mathlib.Omega.{arith}
 use borrow.Author.Needs.{needs}
 use Rattle.picking.proofs.some.Statement.{statement}
@@ -20,18 +22,19 @@ loop-holds : tie.Need-loop-holds Inv-loop μ-loop
 loop-holds c =
     looking-start _ _ _
 
-mul-p : tie.Need-mul-p Inv-loop μ-loop
-mul-p c = omega arith
-
-shared-slice-read-p : tie.Need-shared-slice-read-p Inv-loop μ-loop
-shared-slice-read-p c = search needs
+place-at-requires : tie.Need-place-at-requires Inv-loop μ-loop
+place-at-requires c κs = search needs
 
 point-at-requires : tie.Need-point-at-requires Inv-loop μ-loop
 point-at-requires c κs =
     let start : tie.Start Inv-loop μ-loop = search in
     let loop-test-taken = (let p : tie.In-loop Inv-loop μ-loop = search in p .loop-test .taken) in
     let h = start .pre .3 _ loop-test-taken in
-    (omega (arith, h, start .pre .0 .linked .few), start .pre .0 .linked .size, start .pre .0 .finite-at _ h)
+    let place-at-ensures = c .place-at .ensures in (
+      omega (arith, h, place-at-ensures, start .pre .0 .linked .few),
+      start .pre .0 .linked .size,
+      subst (FiniteAt (start .args .block .now)) (sym place-at-ensures) (start .pre .0 .finite-at _ h),
+    )
 
 holds-requires : tie.Need-holds-requires Inv-loop μ-loop
 holds-requires c κs = search needs
@@ -45,10 +48,11 @@ returns c =
     let block = start .args .block .now in
     let loop-inv = (let p : tie.At-loop Inv-loop μ-loop = search in p .loop .inv) in
     let loop-test-taken = (let p : tie.In-loop Inv-loop μ-loop = search in p .loop-test .taken) in
+    let place-at-ensures = (let p : tie.After-place-at Inv-loop μ-loop = search in p .place-at .ensures) in
     let point-at-ensures = (let p : tie.After-point-at Inv-loop μ-loop = search in p .point-at .ensures) in
     let holds-ensures = (let p : tie.After-holds Inv-loop μ-loop = search in p .holds .ensures) in
     looked-found loop-inv to loop-test-taken
-    (held (oracle-of o) second block _ (start .pre .0 .finite-at _ (start .pre .3 _ loop-test-taken)) point-at-ensures
+    (held-in (oracle-of o) second block (start .pre .0 .finite-at _ (start .pre .3 _ loop-test-taken)) place-at-ensures point-at-ensures
     holds-ensures) (c .if1 .taken)
 
 add-i : tie.Need-add-i Inv-loop μ-loop
@@ -65,10 +69,11 @@ loop-again c =
     let block = start .args .block .now in
     let loop-inv = (let p : tie.At-loop Inv-loop μ-loop = search in p .loop .inv) in
     let loop-test-taken = (let p : tie.In-loop Inv-loop μ-loop = search in p .loop-test .taken) in
+    let place-at-ensures = (let p : tie.After-place-at Inv-loop μ-loop = search in p .place-at .ensures) in
     let point-at-ensures = (let p : tie.After-point-at Inv-loop μ-loop = search in p .point-at .ensures) in
     let holds-ensures = (let p : tie.After-holds Inv-loop μ-loop = search in p .holds .ensures) in
     looking-next loop-inv
-    (held (oracle-of o) second block _ (start .pre .0 .finite-at _ (start .pre .3 _ loop-test-taken)) point-at-ensures
+    (held-in (oracle-of o) second block (start .pre .0 .finite-at _ (start .pre .3 _ loop-test-taken)) place-at-ensures point-at-ensures
     holds-ensures) (c .if1 .left)
 
 returns-2 : tie.Need-returns-2 Inv-loop μ-loop
@@ -84,8 +89,7 @@ some-spec =
     Inv-loop
     μ-loop
     loop-holds
-    mul-p
-    shared-slice-read-p
+    place-at-requires
     point-at-requires
     holds-requires
     returns

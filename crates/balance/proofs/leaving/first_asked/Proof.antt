@@ -1,11 +1,12 @@
 -- `balance::leaving::first_asked` meets its contract. The loop's invariant: the volumes before i may not go, and nothing is marked.
 -- The measure is what is left of the places. Assumes nothing.
-use Prim.Native.Nat.{_-_}
+use Prim.Native.Nat.{ℕ, _-_}
 use mathlib.Core.Path.{_≡_, refl, sym, ap, _∙_}
 use lib.ListN.{length}
 use Rattle.model.specs.Values.{rack}
 use Rattle.cells.proofs.Sited.{sited}
 use Rattle.balance.specs.Moves.{Asking, can-leave, at}
+use Rattle.balance.specs.declared.leaving.Candidate.the-variants.{Volume}
 use Rattle.balance.proofs.Strikes.{Trying, trying-start, trying-none, trying-large, trying-strike, tried-found, tried-all}
 use native.Mathlib.Omega.{arith}
 use borrow.Author.Needs.{needs}
@@ -159,7 +160,7 @@ returns c =
     let if2-left = (let c : tie.After-may-leave Inv-loop μ-loop = search in let p : tie.Else2 Inv-loop μ-loop = search in p .if2 .left) in
     let field-ensures = (let c : tie.After-may-leave Inv-loop μ-loop = search in let p : tie.After-field Inv-loop μ-loop = search in p .field .ensures) in
     let may-leave-ensures = (let p : tie.After-may-leave Inv-loop μ-loop = search in p .may-leave .ensures) in (
-      field-ensures
+      ap (λ (x : ℕ). Volume x) field-ensures
           ∙ tried-found (loop-inv .0) loop-test-taken refl if1-left if2-left
           (ap (can-leave block) (sym field-ensures) ∙ sym (may-leave-ensures .0) ∙ c .if3 .taken),
       loop-inv .0 .untried,

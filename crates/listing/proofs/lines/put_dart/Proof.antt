@@ -17,7 +17,7 @@ put-number-requires : tie.Need-put-number-requires
 put-number-requires c κs =
     let start : tie.Start = search in
     let block = start .args .block .now in
-    let p' = start .args .p in
+    let p' = start .args .p .0 in
     rw (c .field .ensures) (start .pre .0 .serial-small, omega (arith, decimal-ten (column block 0 p') (start .pre .0 .serial-small), start .pre .1))
 
 serial-along-requires : tie.Need-serial-along-requires
@@ -27,7 +27,7 @@ put-number-requires-2 : tie.Need-put-number-requires-2
 put-number-requires-2 c κs =
     let start : tie.Start = search in
     let block = start .args .block .now in
-    let p' = start .args .p in
+    let p' = start .args .p .0 in
     let field-ensures = (let p : tie.After-field = search in p .field .ensures) in
     let put-number-ensures = (let p : tie.After-put-number = search in p .put-number .ensures) in
     let a = rw field-ensures at put-number-ensures in
@@ -44,7 +44,7 @@ put-number-requires-3 : tie.Need-put-number-requires-3
 put-number-requires-3 c κs =
     let start : tie.Start = search in
     let block = start .args .block .now in
-    let p' = start .args .p in
+    let p' = start .args .p .0 in
     let field-ensures = (let p : tie.After-field = search in p .field .ensures) in
     let put-number-ensures = (let p : tie.After-put-number = search in p .put-number .ensures) in
     let serial-along-ensures = (let p : tie.After-serial-along = search in p .serial-along .ensures) in
@@ -72,7 +72,7 @@ put-third-requires : tie.Need-put-third-requires
 put-third-requires c κs =
     let start : tie.Start = (let c : tie.After-field = search in search) in
     let block = start .args .block .now in
-    let p' = start .args .p in
+    let p' = start .args .p .0 in
     let field-ensures = (let p : tie.After-field = search in p .field .ensures) in
     let put-number-ensures = (let p : tie.After-put-number = search in p .put-number .ensures) in
     let serial-along-ensures = (let p : tie.After-serial-along = search in p .serial-along .ensures) in
@@ -101,7 +101,7 @@ put-byte-requires : tie.Need-put-byte-requires
 put-byte-requires c κs =
     let start : tie.Start = (let c : tie.After-put-number = search in search) in
     let block = start .args .block .now in
-    let p' = start .args .p in
+    let p' = start .args .p .0 in
     let field-ensures = (let c : tie.After-put-number = search in let p : tie.After-field = search in p .field .ensures) in
     let put-number-ensures = (let p : tie.After-put-number = search in p .put-number .ensures) in
     let serial-along-ensures = (let p : tie.After-serial-along = search in p .serial-along .ensures) in

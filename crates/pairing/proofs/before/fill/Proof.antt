@@ -2,7 +2,7 @@
 -- Assumes nothing.
 use Prim.Native.Nat.{_-_}
 use mathlib.Core.Path.{_∙_, sym}
-use Rattle.facing.specs.Numbers.{BeforeBelow}
+use Rattle.pairing.specs.Numbers.{BeforeBelow}
 use Rattle.pairing.proofs.ByNumber.{table-none, table-all}
 use borrow.Author.Needs.{needs}
 use Rattle.pairing.proofs.before.fill.Statement.{statement}

@@ -2,7 +2,7 @@
 -- Assumes nothing.
 use Prim.Native.Nat.{_-_}
 use mathlib.Core.Path.{_∙_, sym}
-use Rattle.facing.proofs.InBlocks.{few}
+use Rattle.pairing.proofs.InBlocks.{few}
 use Rattle.pairing.proofs.ToldBy.{place-in}
 use Rattle.pairing.proofs.ByNumber.{word-in, table-first, table-more, write-lt, Filling, filling-lt, filling-end}
 use native.Mathlib.Omega.{arith}
@@ -48,20 +48,23 @@ mul-table c =
 
 add-table : tie.Need-add-table Inv-loop μ-loop
 add-table c =
+    let next-place-ensures = (let p : tie.After-next-place Inv-loop μ-loop = search in p .next-place .ensures) in
     let start : tie.Start Inv-loop μ-loop = search in
-    omega (arith, few (start .pre .0), start .pre .1, c .next-place .ensures .1)
+    omega (arith, few (start .pre .0), start .pre .1, next-place-ensures .1)
 
 mul-table-2 : tie.Need-mul-table-2 Inv-loop μ-loop
 mul-table-2 c =
+    let next-place-ensures = (let p : tie.After-next-place Inv-loop μ-loop = search in p .next-place .ensures) in
     let start : tie.Start Inv-loop μ-loop = search in
-    omega (arith, few (start .pre .0), start .pre .1, c .next-place .ensures .1)
+    omega (arith, few (start .pre .0), start .pre .1, next-place-ensures .1)
 
 slice-write-table : tie.Need-slice-write-table Inv-loop μ-loop
 slice-write-table c =
+    let next-place-ensures = (let p : tie.After-next-place Inv-loop μ-loop = search in p .next-place .ensures) in
     let start : tie.Start Inv-loop μ-loop = search in
     let loop-inv = (let p : tie.At-loop Inv-loop μ-loop = search in p .loop .inv) in
     let loop-test-taken = (let p : tie.In-loop Inv-loop μ-loop = search in p .loop-test .taken) in
-    write-lt (start .pre .0) (loop-inv .filled) (start .pre .1) (filling-lt loop-inv loop-test-taken) (c .next-place .ensures .0)
+    write-lt (start .pre .0) (loop-inv .filled) (start .pre .1) (filling-lt loop-inv loop-test-taken) (next-place-ensures .0)
 
 add-p : tie.Need-add-p Inv-loop μ-loop
 add-p c =
@@ -76,6 +79,7 @@ loop-less c = omega arith
 
 loop-again : tie.Need-loop-again Inv-loop μ-loop
 loop-again c =
+    let next-place-ensures = (let p : tie.After-next-place Inv-loop μ-loop = search in p .next-place .ensures) in
     let start : tie.Start Inv-loop μ-loop = search in
     let loop-inv = (let p : tie.At-loop Inv-loop μ-loop = search in p .loop .inv) in
     let loop-test-taken = (let p : tie.In-loop Inv-loop μ-loop = search in p .loop-test .taken) in
@@ -83,7 +87,7 @@ loop-again c =
       size =
           loop-inv .size;
       filled = table-more (start .pre .0) (loop-inv .filled) (start .pre .1)
-          (filling-lt loop-inv loop-test-taken) (c .next-place .ensures .0);
+          (filling-lt loop-inv loop-test-taken) (next-place-ensures .0);
     }
 
 same-length : tie.Need-same-length Inv-loop μ-loop

@@ -1,6 +1,6 @@
 -- `pairing::before::next_place` meets its contract.
 -- Assumes nothing.
-use Rattle.facing.proofs.InBlocks.{few}
+use Rattle.pairing.proofs.InBlocks.{few}
 use Rattle.pairing.proofs.ToldBy.{place-in, number-held, next-told}
 use native.Mathlib.Omega.{arith}
 use borrow.Author.Needs.{needs}
@@ -13,20 +13,20 @@ mul-word c = search needs
 add-word : tie.Need-add-word
 add-word c =
     let start : tie.Start = search in
-    omega (arith, place-in (start .pre .0) (start .args .i) (start .args .p) (start .pre .1) (start .pre .2), few (start .pre .0), start .pre .1)
+    omega (arith, place-in (start .pre .0) (start .args .i) (start .args .p .0) (start .pre .1) (start .pre .2), few (start .pre .0), start .pre .1)
 
 word-requires : tie.Need-word-requires
 word-requires c κs =
     let start : tie.Start = search in
     let mesh = start .args .mesh .now in
     let i = start .args .i in
-    let p' = start .args .p in
+    let p' = start .args .p .0 in
     number-held mesh i p' (start .pre .1) (place-in (start .pre .0) i p' (start .pre .1) (start .pre .2))
 
 returns : tie.Need-returns
 returns c =
     let start : tie.Start = search in
-    next-told (start .pre .0) (start .args .i) (start .args .p) (start .pre .1) (start .pre .2) (c .word .ensures)
+    next-told (start .pre .0) (start .args .i) (start .args .p .0) (start .pre .1) (start .pre .2) (c .word .ensures)
 
 pub next-place-spec : {M : Type 1} → statement M
 next-place-spec =

@@ -1,64 +1,44 @@
--- `pairing::dart::meet` meets its contract.
+-- `pairing::dart::meet` meets its contract: two points by value.
 -- Assumes nothing.
-use Rattle.pairing.proofs.ToldBy.{read-next, meet-told}
-use native.Mathlib.Omega.{arith}
+use Rattle.pairing.proofs.ToldBy.{next-held, point-fine, meet-told}
 use borrow.Author.Needs.{needs}
 use Rattle.pairing.proofs.dart.meet.Statement.{statement}
 use Rattle.pairing.proofs.dart.meet.Tie as tie
 
+point-of-requires : tie.Need-point-of-requires
+point-of-requires c κs = search needs
+
 next-requires : tie.Need-next-requires
 next-requires c κs = search needs
 
-word-requires : tie.Need-word-requires
-word-requires c κs = search needs
-
-word-requires-2 : tie.Need-word-requires-2
-word-requires-2 c κs =
+point-of-requires-2 : tie.Need-point-of-requires-2
+point-of-requires-2 c κs =
     let start : tie.Start = search in
-    let next-ensures = (let p : tie.After-next = search in p .next .ensures) in
-    read-next (start .pre .0) (start .pre .2) next-ensures 5 (omega arith)
+    (start .pre .0, next-held (start .pre .0) (start .pre .2) (c .next .ensures))
 
-word-requires-3 : tie.Need-word-requires-3
-word-requires-3 c κs = search needs
-
-word-requires-4 : tie.Need-word-requires-4
-word-requires-4 c κs =
+same-point-requires : tie.Need-same-point-requires
+same-point-requires c κs =
     let start : tie.Start = search in
+    let asked = start .pre .0 in
+    let point-of-ensures = (let p : tie.After-point-of = search in p .point-of .ensures) in
     let next-ensures = (let p : tie.After-next = search in p .next .ensures) in
-    read-next (start .pre .0) (start .pre .2) next-ensures 6 (omega arith)
-
-word-requires-5 : tie.Need-word-requires-5
-word-requires-5 c κs = search needs
-
-word-requires-6 : tie.Need-word-requires-6
-word-requires-6 c κs =
-    let start : tie.Start = search in
-    let next-ensures = (let p : tie.After-next = search in p .next .ensures) in
-    read-next (start .pre .0) (start .pre .2) next-ensures 7 (omega arith)
+    (point-fine asked (start .pre .1) point-of-ensures, point-fine asked (next-held asked (start .pre .2) next-ensures) (c .point-of2 .ensures))
 
 returns : tie.Need-returns
 returns c =
     let start : tie.Start = search in
-    let mesh = start .args .mesh .now in
-    let g = start .args .g in
-    let h = start .args .h in
+    let asked = start .pre .0 in
+    let point-of-ensures = (let p : tie.After-point-of = search in p .point-of .ensures) in
     let next-ensures = (let p : tie.After-next = search in p .next .ensures) in
-    let word-ensures = (let p : tie.After-word = search in p .word .ensures) in
-    let word2-ensures = (let p : tie.After-word2 = search in p .word2 .ensures) in
-    let word3-ensures = (let p : tie.After-word3 = search in p .word3 .ensures) in
-    let word4-ensures = (let p : tie.After-word4 = search in p .word4 .ensures) in
-    let word5-ensures = (let p : tie.After-word5 = search in p .word5 .ensures) in
-    meet-told mesh g h next-ensures word-ensures word2-ensures word3-ensures word4-ensures word5-ensures (c .word6 .ensures)
+    let point-of2-ensures = (let p : tie.After-point-of2 = search in p .point-of2 .ensures) in
+    meet-told asked (start .args .h) (start .pre .1) (next-held asked (start .pre .2) next-ensures) next-ensures point-of-ensures point-of2-ensures (c .same-point .ensures)
 
 pub meet-spec : {M : Type 1} → statement M
 meet-spec =
     tie.close
     (tie.spec
+    point-of-requires
     next-requires
-    word-requires
-    word-requires-2
-    word-requires-3
-    word-requires-4
-    word-requires-5
-    word-requires-6
+    point-of-requires-2
+    same-point-requires
     returns)

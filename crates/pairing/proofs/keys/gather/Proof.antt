@@ -2,7 +2,7 @@
 -- Assumes nothing.
 use Prim.Native.Nat.{_-_}
 use mathlib.Core.Path.{_∙_, sym}
-use Rattle.facing.proofs.InBlocks.{few}
+use Rattle.pairing.proofs.InBlocks.{few}
 use Rattle.pairing.proofs.Steps.{Gathering, gathering-none, gathering-more, gathering-room, gathering-end}
 use borrow.Author.Needs.{needs}
 use Rattle.pairing.proofs.keys.gather.Statement.{statement}

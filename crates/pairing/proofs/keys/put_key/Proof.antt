@@ -14,7 +14,7 @@ returns : tie.Need-returns
 returns c =
     let start : tie.Start = search in
     let field-ensures = (let p : tie.After-field = search in p .field .ensures) in
-    key-none (start .args .block .now) (start .args .i) (start .args .p) (start .args .at) (start .args .out .now) field-ensures (c .if1 .taken)
+    key-none (start .args .block .now) (start .args .i) (start .args .p .0) (start .args .at) (start .args .out .now) field-ensures (c .if1 .taken)
 
 field-requires-2 : tie.Need-field-requires-2
 field-requires-2 c κs = search needs
@@ -24,7 +24,7 @@ mul-out c =
     let start : tie.Start = search in
     let field-ensures = (let p : tie.After-field = search in p .field .ensures) in
     let if1-left = (let p : tie.Else1 = search in p .if1 .left) in
-    omega (arith, code-fits (start .args .block .now) (start .args .p) (start .pre .2) (start .pre .4) field-ensures if1-left (c .field2 .ensures))
+    omega (arith, code-fits (start .args .block .now) (start .args .p .0) (start .pre .2) (start .pre .4) field-ensures if1-left (c .field2 .ensures))
 
 mul-out-2 : tie.Need-mul-out-2
 mul-out-2 c = search needs
@@ -36,8 +36,9 @@ add-out-2 : tie.Need-add-out-2
 add-out-2 c =
     let start : tie.Start = search in
     let field-ensures = (let p : tie.After-field = search in p .field .ensures) in
+    let field2-ensures = (let p : tie.After-field2 = search in p .field2 .ensures) in
     let if1-left = (let p : tie.Else1 = search in p .if1 .left) in
-    omega (arith, code-fits (start .args .block .now) (start .args .p) (start .pre .2) (start .pre .4) field-ensures if1-left (c .field2 .ensures))
+    omega (arith, code-fits (start .args .block .now) (start .args .p .0) (start .pre .2) (start .pre .4) field-ensures if1-left field2-ensures)
 
 mul-out-3 : tie.Need-mul-out-3
 mul-out-3 c = search needs
@@ -56,12 +57,13 @@ returns-2 c =
     let start : tie.Start = search in
     let block = start .args .block .now in
     let i = start .args .i in
-    let p' = start .args .p in
+    let p' = start .args .p .0 in
     let at = start .args .at in
     let out = start .args .out .now in
     let field-ensures = (let p : tie.After-field = search in p .field .ensures) in
+    let field2-ensures = (let p : tie.After-field2 = search in p .field2 .ensures) in
     let if1-left = (let p : tie.Else1 = search in p .if1 .left) in
-    key-put block i p' at out (start .pre .5) field-ensures if1-left (c .field2 .ensures)
+    key-put block i p' at out (start .pre .5) field-ensures if1-left field2-ensures
 
 pub put-key-spec : {M : Type 1} → statement M
 put-key-spec =

@@ -3,7 +3,7 @@
 use lib.ListN.{length}
 use Prim.Native.Nat.{_-_}
 use borrow.Author.Tests.{not-true, not-false}
-use Rattle.facing.specs.Keys.{label-pair}
+use Rattle.pairing.specs.Keys.{label-pair}
 use Rattle.pairing.proofs.Steps.{PairsLeft, pairs-all, pairs-more, pairs-no, pairs-end, two-there}
 use borrow.Author.Needs.{needs}
 use Rattle.pairing.proofs.pairs.labels.Statement.{statement}

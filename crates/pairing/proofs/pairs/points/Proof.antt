@@ -3,7 +3,7 @@
 use lib.ListN.{length}
 use Prim.Native.Nat.{_-_, _+_}
 use borrow.Author.Tests.{not-true, not-false}
-use Rattle.facing.specs.Keys.{point-pair}
+use Rattle.pairing.specs.Keys.{point-pair}
 use Rattle.pairing.proofs.Steps.{EachLeft, each-all, each-more, each-no, each-end, two-there, first-of}
 use borrow.Author.Needs.{needs}
 use Rattle.pairing.proofs.pairs.points.Statement.{statement}

@@ -1,7 +1,7 @@
 -- `pairing::pairs::two` meets its contract.
 -- Assumes nothing.
 use lib.ListN.{length, getD, drop}
-use Rattle.facing.specs.Keys.{label-pair}
+use Rattle.pairing.specs.Keys.{label-pair}
 use Prim.Native.Nat.{_+_}
 use Rattle.pairing.proofs.Steps.{two-told, first-of}
 use borrow.Author.Needs.{needs}

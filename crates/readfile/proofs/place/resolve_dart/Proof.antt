@@ -31,7 +31,7 @@ returns c =
     let place-near2-ensures = (let p : tie.After-place-near2 = search in p .place-near2 .ensures) in
     let link-place-ensures = (let p : tie.After-link-place = search in p .link-place .ensures) in
     let put-record-ensures = (let p : tie.After-put-record = search in p .put-record .ensures) in
-    record-placed _ (start .args .block .now) (start .args .p) record-at-ensures place-near-ensures place-near2-ensures link-place-ensures put-record-ensures
+    record-placed _ (start .args .block .now) (start .args .p .0) record-at-ensures place-near-ensures place-near2-ensures link-place-ensures put-record-ensures
 
 pub resolve-dart-spec : {M : Type 1} → statement M
 resolve-dart-spec =

@@ -41,7 +41,7 @@ counted : (c : tie.After-count-third) →
     let serial-count-result = (let p : tie.After-serial-count = search in p .serial-count .result) in
     let serial-count2-result = (let p : tie.After-serial-count2 = search in p .serial-count2 .result) in
     let serial-count3-result = (let p : tie.After-serial-count3 = search in p .serial-count3 .result) in
-    DartCounted (start .args .block .now) (start .args .p) serial-count-result serial-count2-result serial-count3-result (c .count-third .result)
+    DartCounted (start .args .block .now) (start .args .p .0) serial-count-result serial-count2-result serial-count3-result (c .count-third .result)
 counted c =
     let start : tie.Start = search in
     let field-ensures = (let p : tie.After-field = search in p .field .ensures) in

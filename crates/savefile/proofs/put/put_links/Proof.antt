@@ -15,7 +15,7 @@ put-serial-requires : tie.Need-put-serial-requires
 put-serial-requires c κs =
     let start : tie.Start = search in
     let block = start .args .block .now in
-    let p' = start .args .p in
+    let p' = start .args .p .0 in
     (rw (c .field .ensures) (start .pre .0 .serial-small), rw (c .field .ensures) (omega (arith, start .pre .1, link-length block p')))
 
 serial-along-requires : tie.Need-serial-along-requires
@@ -25,7 +25,7 @@ put-serial-requires-2 : tie.Need-put-serial-requires-2
 put-serial-requires-2 c κs =
     let start : tie.Start = search in
     let block = start .args .block .now in
-    let p' = start .args .p in
+    let p' = start .args .p .0 in
     let field-ensures = (let p : tie.After-field = search in p .field .ensures) in
     let put-serial-ensures = (let p : tie.After-put-serial = search in p .put-serial .ensures) in
     let s = rw field-ensures at put-serial-ensures in (
@@ -40,7 +40,7 @@ put-serial-requires-3 : tie.Need-put-serial-requires-3
 put-serial-requires-3 c κs =
     let start : tie.Start = search in
     let block = start .args .block .now in
-    let p' = start .args .p in
+    let p' = start .args .p .0 in
     let field-ensures = (let p : tie.After-field = search in p .field .ensures) in
     let put-serial-ensures = (let p : tie.After-put-serial = search in p .put-serial .ensures) in
     let serial-along-ensures = (let p : tie.After-serial-along = search in p .serial-along .ensures) in
