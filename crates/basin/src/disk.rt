@@ -234,7 +234,7 @@ fn mend_with(committed: Contents, bytes: &[u8], room: &mut [u8]) -> bool {
         Contents::Missing => mend_found(0),
         Contents::TooLarge => no_commit(),
         Contents::Failed(e) => {
-            say::failed(b"cannot read", b"basin.commit", e);
+            files::say_unread(b"basin.commit", e);
             false
         }
     }
@@ -242,11 +242,10 @@ fn mend_with(committed: Contents, bytes: &[u8], room: &mut [u8]) -> bool {
 
 // Finishes a save that was cut short if it was committed and its files are there, and forgets it if it was not. Whether the basin can
 // be read.
-pub fn mend() -> bool {
-    let mut room = [0u8; 262144];
+pub fn mend(room: &mut [u8]) -> bool {
     let mut bytes = [0u8; 512];
     let committed = read(File::Commit, &mut bytes);
-    mend_with(committed, &bytes, &mut room)
+    mend_with(committed, &bytes, room)
 }
 
 // Saves the blocks of a mesh. A save that fails is forgotten, or finished where it was committed.
@@ -257,7 +256,7 @@ fn save_mesh(mesh: &[u64], room: &mut [u8]) -> bool {
         let e = carry_out(plan::save(k, i), mesh, room);
         if e != 0 {
             say::failed(b"cannot save the blocks in", b"this folder", e);
-            mend();
+            mend(room);
             return false;
         }
         i += 1;
