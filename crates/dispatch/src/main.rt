@@ -89,6 +89,9 @@ fn check(mesh: &mut [u64], scratch: &mut [u64], room: &mut [u8]) -> Status {
 
 // The listing of a file, by way of lent bytes.
 fn show_listing(file: &[u8], text: &mut [u8]) {
+    if text.len() < 262144 {
+        return;
+    }
     let n = listfile::list_whole(file, text);
     if n <= text.len() {
         say::text(&text[0..n]);
@@ -387,68 +390,69 @@ fn do_planned(
     }
 }
 
-fn run(
-    c: Command,
-    o: Options,
-    text: &mut [u8],
-    requests: &mut [u64],
-    outcomes: &mut [u64],
-    mesh: &mut [u64],
-    scratch: &mut [u64],
-    outbox: &mut [u8],
-    room: &mut [u8],
-) -> Status {
+// Runs a command, with all memory that any of them needs: sixteen blocks and what is made of them, 6.5 MB.
+fn run(c: Command, o: Options) -> Status {
+    let mut mesh = [0u64; 524416];
+    let mut scratch = [0u64; 65536];
+    let mut outbox = [0u8; 65536];
+    let mut room = [0u8; 262144];
+    let mut text = [0u8; 524288];
+    let mut requests = [0u64; 98304];
+    let mut outcomes = [0u64; 16384];
     match c {
         Command::Check => {
             if words_are(2, o) {
-                return check(mesh, scratch, room);
+                return check(&mut mesh, &mut scratch, &mut room);
             }
             wrong_words(b"check")
         }
-        Command::List => tell_word(false, o, mesh, requests, text, room),
-        Command::Cells => tell_word(true, o, mesh, requests, text, room),
+        Command::List => tell_word(false, o, &mut mesh, &mut requests, &mut text, &mut room),
+        Command::Cells => tell_word(true, o, &mut mesh, &mut requests, &mut text, &mut room),
         Command::Play => {
             if arguments::count() == 2 {
-                return play(o, text, requests, outcomes, mesh, scratch, outbox, room);
+                return play(
+                    o,
+                    &mut text,
+                    &mut requests,
+                    &mut outcomes,
+                    &mut mesh,
+                    &mut scratch,
+                    &mut outbox,
+                    &mut room,
+                );
             }
             wrong_words(b"play [--dry-run] [--all-or-nothing]")
         }
-        Command::Balance => {
-            do_planned(
-                balance_words(),
-                o,
-                requests,
-                outcomes,
-                mesh,
-                scratch,
-                outbox,
-                room,
-            )
-        }
-        Command::Split => {
-            do_planned(
-                split_words(),
-                o,
-                requests,
-                outcomes,
-                mesh,
-                scratch,
-                outbox,
-                room,
-            )
-        }
-        Command::Add => {
-            do_planned(
-                add_words(),
-                o,
-                requests,
-                outcomes,
-                mesh,
-                scratch,
-                outbox,
-                room,
-            )
-        }
+        Command::Balance => do_planned(
+            balance_words(),
+            o,
+            &mut requests,
+            &mut outcomes,
+            &mut mesh,
+            &mut scratch,
+            &mut outbox,
+            &mut room,
+        ),
+        Command::Split => do_planned(
+            split_words(),
+            o,
+            &mut requests,
+            &mut outcomes,
+            &mut mesh,
+            &mut scratch,
+            &mut outbox,
+            &mut room,
+        ),
+        Command::Add => do_planned(
+            add_words(),
+            o,
+            &mut requests,
+            &mut outcomes,
+            &mut mesh,
+            &mut scratch,
+            &mut outbox,
+            &mut room,
+        ),
         Command::Help => {
             help();
             Status::Done
@@ -470,28 +474,6 @@ fn command_given() -> Command {
     command::command_of(&word[..n])
 }
 
-// Runs a command with all memory that any of them needs: sixteen blocks and what is made of them, 6.5 MB.
-fn run_in_memory(c: Command, o: Options) -> Status {
-    let mut mesh = [0u64; 524416];
-    let mut scratch = [0u64; 65536];
-    let mut outbox = [0u8; 65536];
-    let mut room = [0u8; 262144];
-    let mut text = [0u8; 524288];
-    let mut requests = [0u64; 98304];
-    let mut outcomes = [0u64; 16384];
-    run(
-        c,
-        o,
-        &mut text,
-        &mut requests,
-        &mut outcomes,
-        &mut mesh,
-        &mut scratch,
-        &mut outbox,
-        &mut room,
-    )
-}
-
 // The stack that a command needs, in bytes.
 const STACK: u64 = 7864320;
 
@@ -501,7 +483,7 @@ fn start() -> Status {
         return Status::Error;
     }
     match arguments::options_given() {
-        Given::Options(o) => run_in_memory(command_given(), o),
+        Given::Options(o) => run(command_given(), o),
         Given::Told => Status::Error,
     }
 }

@@ -33,14 +33,16 @@ pub const MOST: usize = 16384;
 
 // Request n, at its place.
 fn put(requests: &mut [u64], n: usize, from: u64, to: u64, serial: u64) -> Taken {
-    if (MOST <= n) | (requests.len() / 3 <= n) {
-        return Taken::Full;
+    if n < MOST {
+        if n < requests.len() / 3 {
+            let at = n * 3;
+            requests[at] = from;
+            requests[at + 1] = to;
+            requests[at + 2] = serial;
+            return Taken::Requests(n + 1);
+        }
     }
-    let at = n * 3;
-    requests[at] = from;
-    requests[at + 1] = to;
-    requests[at + 2] = serial;
-    Taken::Requests(n + 1)
+    Taken::Full
 }
 
 // The request of a line, if it has one, behind n others.
