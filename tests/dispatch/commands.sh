@@ -129,6 +129,12 @@ run --version | wc -l
 fresh thirteen
 run cells 2
 run cells
+# one cell with the corners (-1, 1, 0), (-2.5, 0, 4e9) and the origin: darts as they stand in a file, coordinates with the lowest byte first
+o='\0\0\0\0\0\0\0\0' one="\0\0\0\0\0\0\xf0\xbf\0\0\0\0\0\0\xf0\x3f$o" two="\0\0\0\0\0\0\x04\xc0$o\0\0\0\0\x65\xcd\xed\x41"
+printf "\0\0\6\1\2\6\0$one\2\3\5\0$two\3\1\4\0$o$o$o\4\5\3\0$one\5\6\2\0$o$o$o\6\4\1\0$two" >block-00.dmap
+run list 0
+run cells 0
+fresh thirteen
 run cells 7
 run cells x
 run add 5

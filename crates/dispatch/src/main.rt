@@ -1,6 +1,5 @@
 // One program for the desk and for the restart: it keeps a basin as block files in the folder that it is run in.
 mod arguments; // arguments.rt: the words of a command
-mod cell_lines; // cell_lines.rt: the cells of a block, a line for each
 mod inspect; // inspect.rt: what is told of a basin
 mod moving; // moving.rt: the moves of a balance, as lines
 mod playing; // playing.rt: requests, from lines and told line by line
@@ -101,7 +100,7 @@ fn show_listing(file: &[u8], text: &mut [u8]) {
 // What list and cells tell of a block once it is read into a block's memory.
 fn tell_block(cells: bool, file: &[u8], block: &[u64], rows: &mut [u64], text: &mut [u8]) {
     if cells {
-        cell_lines::show(block, rows);
+        cells_text::show(block, rows);
         return;
     }
     show_listing(file, text);

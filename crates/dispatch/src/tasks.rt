@@ -196,7 +196,7 @@ fn grows(k: usize, n: usize, mesh: &mut [u64]) -> bool {
     true
 }
 
-// Does a task on the blocks that were read, and on those that were added since, if it has grown.
+// Does a task on a basin that is open, and that may have grown since it was read.
 fn carry_out(
     task: Task,
     o: Options,
@@ -244,7 +244,7 @@ fn blocks_after(task: Task, k: usize) -> usize {
     }
 }
 
-// The same once k blocks were read, and the others are added.
+// Does a task on the k blocks that were read, and on those that it adds.
 fn carry_out_on(
     task: Task,
     o: Options,

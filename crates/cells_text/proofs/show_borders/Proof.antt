@@ -1,8 +1,8 @@
--- `dispatch::cell_lines::show_borders` meets its contract. The measure is how many blocks are left. Assumes nothing.
+-- `cells_text::show_borders` meets its contract. The measure is how many blocks are left. Assumes nothing.
 use Prim.Native.Nat.{_-_, _≤_}
 use borrow.Author.Needs.{needs}
-use Rattle.dispatch.proofs.cell_lines.show_borders.Statement.{statement}
-use Rattle.dispatch.proofs.cell_lines.show_borders.Tie as tie
+use Rattle.cells_text.proofs.show_borders.Statement.{statement}
+use Rattle.cells_text.proofs.show_borders.Tie as tie
 
 abbrev Inv-loop : tie.InvT-loop
 Inv-loop row told₀ o₀ t4 told o =

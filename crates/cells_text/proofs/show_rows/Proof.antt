@@ -1,9 +1,9 @@
--- `dispatch::cell_lines::show_rows` meets its contract. The measure is what is left of the rows. Assumes nothing.
+-- `cells_text::show_rows` meets its contract. The measure is what is left of the rows. Assumes nothing.
 use Prim.Native.Nat.{_-_, _/_, _≤_}
 use lib.ListN.{length}
 use borrow.Author.Needs.{needs}
-use Rattle.dispatch.proofs.cell_lines.show_rows.Statement.{statement}
-use Rattle.dispatch.proofs.cell_lines.show_rows.Tie as tie
+use Rattle.cells_text.proofs.show_rows.Statement.{statement}
+use Rattle.cells_text.proofs.show_rows.Tie as tie
 
 abbrev Inv-loop : tie.InvT-loop
 Inv-loop block count rows c₀ c =
