@@ -46,6 +46,12 @@ fn is_named(name: &[u8], n: usize) -> bool {
     false
 }
 
+fn say_unread_named(name: &[u8], n: usize, error: i32) {
+    if n <= name.len() {
+        files::say_unread(&name[0..n], error);
+    }
+}
+
 // The first n bytes of a room under a name.
 fn write(name: Name, room: &[u8], n: usize) -> i32 {
     if n <= room.len() {
@@ -76,6 +82,13 @@ fn read(file: File, room: &mut [u8]) -> Contents {
     let name = names::name_of(file);
     let text = name.bytes;
     files::read_named(&text, name.size, room)
+}
+
+// Says that a file could not be read.
+fn say_unread(file: File, error: i32) {
+    let name = names::name_of(file);
+    let text = name.bytes;
+    say_unread_named(&text, name.size, error);
 }
 
 // One step, with the names and the bytes that `prepare` gives; 0, or the error of the system.
@@ -111,7 +124,7 @@ fn see(file: File, room: &mut [u8]) -> Sight {
         Contents::Missing => Sight::Is(Found::Nothing),
         Contents::TooLarge => Sight::Trouble,
         Contents::Failed(e) => {
-            say::failed(b"cannot read a block in", b"this folder", e);
+            say_unread(file, e);
             Sight::Trouble
         }
     }
@@ -234,7 +247,7 @@ fn mend_with(committed: Contents, bytes: &[u8], room: &mut [u8]) -> bool {
         Contents::Missing => mend_found(0),
         Contents::TooLarge => no_commit(),
         Contents::Failed(e) => {
-            files::say_unread(b"basin.commit", e);
+            say_unread(File::Commit, e);
             false
         }
     }

@@ -222,11 +222,9 @@ fn open_to_add(name: &[u8]) -> i32 {
         return fd;
     }
     let made = os::create(name);
-    if made < 0 {
-        // Another process may have made it in between.
-        if last_error() != libc::EEXIST {
-            return made;
-        }
+    // Where it is there now, another process made it in between.
+    if (made < 0) & (last_error() != libc::EEXIST) {
+        return made;
     }
     libc::close(made);
     os::open_append(name)

@@ -1,5 +1,5 @@
-// Processes of this machine, and the stack of this one, as /proc tells of them. A number alone does not name a process, since it is given again: the time at which the
-// process started stands beside it.
+// Processes of this machine, and the stack of this one, as /proc tells of them. A number alone does not name a process, since it is given
+// again: the time at which the process started stands beside it.
 ghost use Prim.Native.Nat.{_≤_};
 ghost use lib.ListN.{length};
 use crate::files;
