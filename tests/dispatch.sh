@@ -14,6 +14,18 @@ source "$stored/folders.sh"
 source "$stored/commands.sh" >"$work/said" 2>&1
 diff "$work/said" "$stored/said" || { echo 'dispatch: another output than is stored'; exit 1; }
 
+# The calls on files of a save of sixteen blocks, the lock's before and behind it: those of its plan (crate saving), to the last.
+planned() {
+    printf '%s\n' 'open basin.lock' 'open basin.lock' 'open basin.lock' write keep
+    for b in {00..15}; do printf '%s\n' "open block-$b.dmap.new" write keep; done
+    printf '%s\n' 'open basin.commit.new' write keep keep 'rename basin.commit.new basin.commit' keep
+    for b in {00..15}; do echo "rename block-$b.dmap.new block-$b.dmap"; done
+    printf '%s\n' keep 'remove basin.commit' keep 'remove basin.lock'
+}
+fresh blocks
+(export LD_PRELOAD="$work/stop.so" STOP_LOG="$work/calls"; "$dispatch" add 16 >/dev/null)
+planned | diff - "$work/calls" || { echo 'dispatch: a save of sixteen blocks is not carried out as it is planned'; exit 1; }
+
 # What a balance leads to.
 fresh new; "$dispatch" balance all >/dev/null
 fresh old

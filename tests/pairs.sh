@@ -1,5 +1,5 @@
 #!/usr/bin/env bash
-# Two commands of the dispatcher's program in one folder: a balance or a play is held at each of its calls on files while another
+# Two commands of the dispatcher's program in one folder: a balance, a play or a split is held at each of its calls on files while another
 # command runs; then pairs at random. What is left is what the two leave one after the other, or one alone where the other was turned away;
 # a reader always sees one of these states.
 set -euo pipefail
@@ -22,6 +22,7 @@ command() {
     s) "$dispatch" split 4 ;;
     c) "$dispatch" check ;;
     l) "$dispatch" list 0 ;;
+    d) "$dispatch" balance all --dry-run ;;
     esac
 }
 quick() { LD_PRELOAD="$work/stop.so" SHORT_WAIT=1 command "$1"; }
@@ -34,7 +35,7 @@ for one in b p q s; do
     done
 done
 fresh none
-for state in "$work"/{none,b,p,q,s,bp,bq,bs,pb,pq,ps,qb,qp,qs,sb,sp,sq}; do (cd "$state"; command c >"$state.check"; command l >"$state.list"); done
+for state in "$work"/{none,b,p,q,s,bp,bq,bs,pb,pq,ps,qb,qp,qs,sb,sp,sq}; do (cd "$state"; for reader in c l d; do command $reader >"$state.$reader"; done); done
 
 # Whether this folder, once it is mended, is one of some states.
 is_one_of() {
@@ -77,17 +78,16 @@ beside() {
     kill -CONT "$(cat "$work/stopped")"
     wait "$job" || true
     case $two in
-    c) read_one_of check none "$one" || fail "check beside $one stopped at call $at saw a mix" ;;
-    l) read_one_of list none "$one" || fail "list beside $one stopped at call $at saw a mix" ;;
-    esac
-    case $two in
-    c | l) is_one_of "$one" || fail "$one, stopped at call $at while $two ran, was not saved" ;;
+    c | l | d)
+        read_one_of "$two" none "$one" || fail "$two beside $one stopped at call $at saw a mix"
+        is_one_of "$one" || fail "$one, stopped at call $at while $two ran, was not saved"
+        ;;
     *) left "$one" "$two" || fail "$one, stopped at call $at, and $two left a mix" ;;
     esac
     met=$((met + 1))
 }
-for one in b p; do
-    for two in c l b p q s; do
+for one in b p s; do
+    for two in c l d b p q s; do
         [ $one = $two ] && continue
         call=1
         while beside $one $two $call; do call=$((call + 1)); done
@@ -95,21 +95,20 @@ for one in b p; do
 done
 
 # Pairs at random, at one moment.
-letters=(b p q s c l)
+letters=(b p q s c l d)
 turned=0
 for ((n = 0; n < pairs; n++)); do
-    one=${letters[RANDOM % 4]} two=${letters[RANDOM % 6]}
+    one=${letters[RANDOM % 4]} two=${letters[RANDOM % 7]}
     fresh run
     quick "$one" >"$work/first" 2>&1 &
     quick "$two" >"$work/said" 2>&1 || true
     wait || true
     grep -q 'is writing this basin' "$work/first" "$work/said" && turned=$((turned + 1))
     case $two in
-    c) read_one_of check none "$one" || fail "check beside $one saw a mix" ;;
-    l) read_one_of list none "$one" || fail "list beside $one saw a mix" ;;
-    esac
-    case $two in
-    c | l) is_one_of "$one" || fail "$one, while $two ran, was not saved" ;;
+    c | l | d)
+        read_one_of "$two" none "$one" || fail "$two beside $one saw a mix"
+        is_one_of "$one" || fail "$one, while $two ran, was not saved"
+        ;;
     *) left "$one" "$two" || fail "$one and $two at one moment left a mix, or what was said to be saved is not there" ;;
     esac
 done

@@ -124,3 +124,87 @@ touch block-16.dmap
 run check
 rm block-16.dmap
 run --version | wc -l
+
+# the cells of a block, and blocks that are added without a balance
+fresh thirteen
+run cells 2
+run cells
+# one cell with the corners (-1, 1, 0), (-2.5, 0, 4e9) and the origin: darts as they stand in a file, coordinates with the lowest byte first
+o='\0\0\0\0\0\0\0\0' one="\0\0\0\0\0\0\xf0\xbf\0\0\0\0\0\0\xf0\x3f$o" two="\0\0\0\0\0\0\x04\xc0$o\0\0\0\0\x65\xcd\xed\x41"
+printf "\0\0\6\1\2\6\0$one\2\3\5\0$two\3\1\4\0$o$o$o\4\5\3\0$one\5\6\2\0$o$o$o\6\4\1\0$two" >block-00.dmap
+run list 0
+run cells 0
+fresh thirteen
+run cells 7
+run cells x
+run add 5
+run check
+run add 5
+run add 4
+run add
+run add 17
+run cells 4
+
+# a dry run prints as always and leaves every name and byte of the folder as it was; so does a list of which one request is refused, where that is asked
+unchanged() { sha256sum * >"$work/before"; run "$@"; sha256sum * | cmp -s - "$work/before" || echo 'the folder has changed'; }
+fresh fourteen
+printf '0 2 1\n0 1 25\n' | unchanged play --dry-run
+printf '0 2 1\n0 0 25\n' | unchanged play --dry-run
+printf '0 2 1\n0 0 25\n' | unchanged play --all-or-nothing
+printf '0 2 1\n0 0 25\n' | unchanged play --all-or-nothing --dry-run
+printf '0 2 1\n0 1 25\n' | unchanged play --dry-run --all-or-nothing
+unchanged balance all --dry-run
+unchanged balance --dry-run plane 0 0.5
+unchanged balance box -0.25 --dry-run 0 0 2.5e-1 1 1
+unchanged split --dry-run 5
+unchanged add 4 --dry-run
+unchanged --dry-run add 2
+unchanged play --dry
+unchanged balance all --all-or-nothing
+unchanged balance --dry-run
+unchanged check --dry-run
+unchanged list 2 --dry-run
+unchanged help --all
+printf '0 2 1\n0 1 25\n' | run play --all-or-nothing
+run check
+
+# over a save that was cut: a dry run shows what was committed, and mends nothing
+fresh fifteen
+stopping kill 20 balance all >/dev/null || true
+unchanged balance all --dry-run
+unchanged cells 2 | tail -n 1
+
+# a user who may not write, not read a file, not search the folder
+guest() {
+    local status as=()
+    [ "$(id -u)" != 0 ] || as=(setpriv --reuid=65534 --regid=65534 --clear-groups)
+    printf '$ dispatch %s, by a guest\n' "$*"
+    { status=$("${as[@]}" "$work/program" --status 3 "$@" 3>&1 >&4 4>&-); } 4>&1
+    [ "$status" = 0 ] || echo "status $status"
+}
+fresh sixteen
+cp "$dispatch" "$work/program"
+chmod 755 "$work" "$work/program"
+chmod 555 .
+guest check
+printf '0 2 1\n' | guest play --dry-run
+guest balance all
+chmod 000 block-01.dmap
+guest check
+guest list 1
+chmod 644 .
+guest check
+guest list 0
+guest balance all
+chmod 755 . block-01.dmap
+
+# the program by itself: descriptors that are closed, and a stack that is too small
+fresh seventeen
+echo '$ dispatch balance all, its output closed'
+"$dispatch" balance all >&-
+"$dispatch" check 2>&-
+echo '$ dispatch play, its input closed'
+"$dispatch" play <&-
+echo '$ dispatch check, its stack too small'
+(ulimit -s 4096; "$dispatch" --status 3 check 3>&1)
+echo

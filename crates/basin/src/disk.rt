@@ -46,6 +46,12 @@ fn is_named(name: &[u8], n: usize) -> bool {
     false
 }
 
+fn say_unread_named(name: &[u8], n: usize, error: i32) {
+    if n <= name.len() {
+        files::say_unread(&name[0..n], error);
+    }
+}
+
 // The first n bytes of a room under a name.
 fn write(name: Name, room: &[u8], n: usize) -> i32 {
     if n <= room.len() {
@@ -76,6 +82,13 @@ fn read(file: File, room: &mut [u8]) -> Contents {
     let name = names::name_of(file);
     let text = name.bytes;
     files::read_named(&text, name.size, room)
+}
+
+// Says that a file could not be read.
+fn say_unread(file: File, error: i32) {
+    let name = names::name_of(file);
+    let text = name.bytes;
+    say_unread_named(&text, name.size, error);
 }
 
 // One step, with the names and the bytes that `prepare` gives; 0, or the error of the system.
@@ -111,7 +124,7 @@ fn see(file: File, room: &mut [u8]) -> Sight {
         Contents::Missing => Sight::Is(Found::Nothing),
         Contents::TooLarge => Sight::Trouble,
         Contents::Failed(e) => {
-            say::failed(b"cannot read a block in", b"this folder", e);
+            say_unread(file, e);
             Sight::Trouble
         }
     }
@@ -234,7 +247,7 @@ fn mend_with(committed: Contents, bytes: &[u8], room: &mut [u8]) -> bool {
         Contents::Missing => mend_found(0),
         Contents::TooLarge => no_commit(),
         Contents::Failed(e) => {
-            say::failed(b"cannot read", b"basin.commit", e);
+            say_unread(File::Commit, e);
             false
         }
     }
@@ -242,11 +255,10 @@ fn mend_with(committed: Contents, bytes: &[u8], room: &mut [u8]) -> bool {
 
 // Finishes a save that was cut short if it was committed and its files are there, and forgets it if it was not. Whether the basin can
 // be read.
-pub fn mend() -> bool {
-    let mut room = [0u8; 262144];
+pub fn mend(room: &mut [u8]) -> bool {
     let mut bytes = [0u8; 512];
     let committed = read(File::Commit, &mut bytes);
-    mend_with(committed, &bytes, &mut room)
+    mend_with(committed, &bytes, room)
 }
 
 // Saves the blocks of a mesh. A save that fails is forgotten, or finished where it was committed.
@@ -257,7 +269,7 @@ fn save_mesh(mesh: &[u64], room: &mut [u8]) -> bool {
         let e = carry_out(plan::save(k, i), mesh, room);
         if e != 0 {
             say::failed(b"cannot save the blocks in", b"this folder", e);
-            mend();
+            mend(room);
             return false;
         }
         i += 1;

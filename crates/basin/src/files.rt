@@ -1,6 +1,7 @@
 // Whole files by name.
 ghost use Prim.Native.Nat.{_≤_};
 ghost use lib.ListN.{length};
+use crate::say;
 use crate::text;
 
 // What a file holds, or why that is not known.
@@ -127,6 +128,19 @@ fn number_of(fd: i32) -> u64 {
     0
 }
 
+// What a file of /proc tells, at the start of the room; how many bytes, 0 where there is no such file.
+pub fn read_told(path: &[u8], room: &mut [u8]) -> usize
+    ensures { λ r. ⌜ r ≤ length (now (room .exit)) ⌝ }
+{
+    let fd = os::open_read(path);
+    if fd < 0 {
+        return 0;
+    }
+    let got = io::read_full(fd, room);
+    libc::close(fd);
+    got
+}
+
 // What the system says of an open file, at the start of the room; how many bytes.
 fn read_info(fd: i32, room: &mut [u8]) -> usize
     ensures { λ r. ⌜ r ≤ length (now (room .exit)) ⌝ }
@@ -136,13 +150,7 @@ fn read_info(fd: i32, room: &mut [u8]) -> usize
     let a = text::add(&mut path, 0, b"/proc/self/fdinfo/");
     let d = io::decimal(number_of(fd), &mut digits);
     let n = text::add(&mut path, a, &digits[..d]);
-    let info = os::open_read(&path[0..n]);
-    if info < 0 {
-        return 0;
-    }
-    let got = io::read_full(info, room);
-    libc::close(info);
-    got
+    read_told(&path[0..n], room)
 }
 
 // Whether two descriptors are of one file, by the number that the system has for it; yes where the system does not tell.
@@ -214,9 +222,11 @@ fn open_to_add(name: &[u8]) -> i32 {
         return fd;
     }
     let made = os::create(name);
-    if 0 <= made {
-        libc::close(made);
+    // Where it is there now, another process made it in between.
+    if (made < 0) & (last_error() != libc::EEXIST) {
+        return made;
     }
+    libc::close(made);
     os::open_append(name)
 }
 
@@ -264,4 +274,43 @@ pub fn keep_names() -> i32 {
     let e = keep(fd);
     libc::close(fd);
     e
+}
+
+// Whether this folder can be opened.
+fn folder_opens() -> bool {
+    let fd = os::open_read(b".");
+    if fd < 0 {
+        return false;
+    }
+    libc::close(fd);
+    true
+}
+
+// Says that a file of this folder could not be read, or that the folder cannot be.
+pub fn say_unread(name: &[u8], error: i32) {
+    if folder_opens() {
+        say::failed(b"cannot read", name, error);
+        return;
+    }
+    say::failed(b"cannot read", b"this folder", error);
+}
+
+// Opens a file in the place of the lowest free descriptor, if that is 0, 1 or 2: nothing can be read from it, and what is written to it
+// is gone. Whether it did.
+fn fill_lowest() -> bool {
+    let lowest = os::open_read(b"/dev/null");
+    libc::close(lowest);
+    if (lowest < 0) | (2 < lowest) {
+        return false;
+    }
+    0 <= os::open_append(b"/dev/null")
+}
+
+// Fills descriptors 0 to 2 where they are closed: else a block's file would get such a number, and what is printed would go there.
+pub fn fill_standard() {
+    if fill_lowest() {
+        if fill_lowest() {
+            fill_lowest();
+        }
+    }
 }

@@ -19,12 +19,14 @@ pub enum Taken {
     Failed,
 }
 
-// Who stands first: this process; another one, whose line stands there; nobody, this process's line is missing; that is not known.
+// Who stands first: this process; another one, whose line stands there; nobody, this process's line is missing; that is not known, since
+// the file is too large, or since it cannot be read.
 enum First {
     Own,
     Other(usize, usize),
     Nobody,
     Unknown,
+    Unread(i32),
 }
 
 fn lock_name() -> [u8; 10] {
@@ -121,7 +123,7 @@ fn look(own: &[u8], room: &mut [u8]) -> First {
         }
         Contents::Missing => First::Nobody,
         Contents::TooLarge => First::Unknown,
-        Contents::Failed(_) => First::Unknown,
+        Contents::Failed(e) => First::Unread(e),
     }
 }
 
@@ -188,6 +190,7 @@ fn is_first_again(own: &[u8], room: &mut [u8]) -> bool {
         First::Other(_, _) => false,
         First::Nobody => false,
         First::Unknown => false,
+        First::Unread(_) => false,
     }
 }
 
@@ -228,7 +231,11 @@ fn turn(clock: Clock, own: &[u8], room: &mut [u8]) -> Looked {
             Looked::Again(clock)
         }
         First::Unknown => {
-            say::error(b"cannot read basin.lock");
+            say::error(b"basin.lock is too large");
+            Looked::Ended(Taken::Failed)
+        }
+        First::Unread(e) => {
+            files::say_unread(b"basin.lock", e);
             Looked::Ended(Taken::Failed)
         }
     }

@@ -1,10 +1,12 @@
-// Processes of this machine, as /proc tells of them. A number alone does not name a process, since it is given again: the time at which the
-// process started stands beside it.
+// Processes of this machine, and the stack of this one, as /proc tells of them. A number alone does not name a process, since it is given
+// again: the time at which the process started stands beside it.
 ghost use Prim.Native.Nat.{_≤_};
 ghost use lib.ListN.{length};
+use crate::files;
 use crate::text;
 use crate::text::Span;
 use desk::words;
+use desk::words::Number;
 
 // The place behind the last closing bracket of a text, where a process's name ends; 0 where there is none.
 fn past_name(stat: &[u8]) -> usize
@@ -59,13 +61,7 @@ pub fn read_stat(process: &[u8], room: &mut [u8]) -> usize
     let a = text::add(&mut path, 0, b"/proc/");
     let b = text::add(&mut path, a, process);
     let n = text::add(&mut path, b, b"/stat");
-    let fd = os::open_read(&path[0..n]);
-    if fd < 0 {
-        return 0;
-    }
-    let got = io::read_full(fd, room);
-    libc::close(fd);
-    got
+    files::read_told(&path[0..n], room)
 }
 
 // Whether the process that is named by a number and the time of its start still runs.
@@ -91,5 +87,27 @@ pub fn pause() {
     while i < 1000 {
         libc::sched_yield();
         i += 1;
+    }
+}
+
+// The number that a line has as its fourth word.
+fn fourth_number(line: &[u8]) -> Number {
+    let s = text::word(line, 3);
+    let from = s.from;
+    let end = s.end;
+    words::number_in(&line[from..end])
+}
+
+// Whether this process's stack may grow to a size in bytes; yes where /proc does not tell, or tells of no limit below 2^32.
+pub fn has_stack(size: u64) -> bool {
+    let mut room = [0u8; 4096];
+    let n = files::read_told(b"/proc/self/limits", &mut room);
+    let limits = &room[0..n];
+    let line = text::line_with(limits, b"Max stack size");
+    let from = line.from;
+    let end = line.end;
+    match fourth_number(&limits[from..end]) {
+        Number::Is(limit) => size <= limit,
+        Number::Not => true,
     }
 }

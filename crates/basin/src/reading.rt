@@ -23,12 +23,14 @@ pub enum Fault {
     Failed(i32),
 }
 
-// What is seen: so many blocks; one whose file is wrong; one that is missing before another; a commit that is none; a save goes on.
+// What is seen: so many blocks; one whose file is wrong; one that is missing before another; a commit that is none, or that cannot be read; a
+// save goes on.
 pub enum Seen {
     Blocks(usize),
     Wrong(usize, Fault),
     Gap(usize, usize),
     NoCommit,
+    Unread(i32),
     Moving,
 }
 
@@ -255,7 +257,7 @@ fn see(mesh: &mut [u64], room: &mut [u8]) -> Seen {
         }
         Contents::Missing => see_names(mesh, room),
         Contents::TooLarge => Seen::NoCommit,
-        Contents::Failed(_) => Seen::NoCommit,
+        Contents::Failed(e) => Seen::Unread(e),
     }
 }
 
@@ -279,6 +281,9 @@ fn look_again(mesh: &mut [u64], room: &mut [u8]) -> Seen {
             }
             Seen::NoCommit => {
                 return Seen::NoCommit;
+            }
+            Seen::Unread(e) => {
+                return Seen::Unread(e);
             }
         }
     }
@@ -321,7 +326,7 @@ fn say_fault(b: usize, fault: Fault) -> Basin {
             Basin::Error
         }
         Fault::Failed(e) => {
-            say::failed(b"cannot read", &names::block(b), e);
+            files::say_unread(&names::block(b), e);
             Basin::Error
         }
     }
@@ -359,7 +364,11 @@ pub fn look(mesh: &mut [u64], room: &mut [u8]) -> Basin {
             Basin::Error
         }
         Seen::NoCommit => {
-            say::error(b"basin.commit is no commit, or cannot be read");
+            say::error(b"basin.commit is no commit");
+            Basin::Error
+        }
+        Seen::Unread(e) => {
+            files::say_unread(b"basin.commit", e);
             Basin::Error
         }
         Seen::Moving => {

@@ -110,6 +110,10 @@ pub fn cause(error: i32) {
         complain(b"it is a pipe");
         return;
     }
+    if error == libc::EBADF {
+        complain(b"it is closed");
+        return;
+    }
     if error == libc::EROFS {
         complain(b"the disk cannot be written");
         return;

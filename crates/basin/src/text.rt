@@ -72,7 +72,7 @@ fn begins(text: &[u8], word: &[u8]) -> bool {
 }
 
 // The first line that begins with a word; no byte, at the end, where there is none.
-fn line_with(text: &[u8], word: &[u8]) -> Span
+pub fn line_with(text: &[u8], word: &[u8]) -> Span
     ensures { λ r. ⌜ (r .from ≤ r .end) × (r .end ≤ length (now (text .entry))) ⌝ }
 {
     // No line before `at` does.

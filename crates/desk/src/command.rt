@@ -1,15 +1,24 @@
-// Commands and oracles by their words.
+// Commands, oracles and options by their words.
 ghost use mathlib.Core.Path.{_≡_};
-ghost use Rattle.desk.specs.Commands.{command-in, oracle-word-in};
+ghost use Rattle.desk.specs.Commands.{command-in, oracle-word-in, option-word-in};
 use crate::words;
 
 pub enum Command {
     Check,
     List,
+    Cells,
     Play,
     Balance,
     Split,
+    Add,
     Help,
+    Unknown,
+}
+
+// What a word that begins with two minuses asks for: nothing is saved; nothing is saved unless every request is served.
+pub enum OptionWord {
+    DryRun,
+    AllOrNothing,
     Unknown,
 }
 
@@ -30,6 +39,9 @@ pub fn command_of(word: &[u8]) -> Command
     if words::same(word, b"list") {
         return Command::List;
     }
+    if words::same(word, b"cells") {
+        return Command::Cells;
+    }
     if words::same(word, b"play") {
         return Command::Play;
     }
@@ -38,6 +50,9 @@ pub fn command_of(word: &[u8]) -> Command
     }
     if words::same(word, b"split") {
         return Command::Split;
+    }
+    if words::same(word, b"add") {
+        return Command::Add;
     }
     if words::same(word, b"help") {
         return Command::Help;
@@ -58,4 +73,16 @@ pub fn oracle_of(word: &[u8]) -> OracleWord
         return OracleWord::Plane;
     }
     OracleWord::Unknown
+}
+
+pub fn option_of(word: &[u8]) -> OptionWord
+    ensures { λ r. ⌜ r ≡ option-word-in (now (word .entry)) ⌝ }
+{
+    if words::same(word, b"--dry-run") {
+        return OptionWord::DryRun;
+    }
+    if words::same(word, b"--all-or-nothing") {
+        return OptionWord::AllOrNothing;
+    }
+    OptionWord::Unknown
 }

@@ -1,7 +1,9 @@
-// The words of a command, by their place.
+// The words of a command, by their place, and its options, which begin with two minuses and may stand anywhere among them.
 ghost use Rattle.io.specs.Counts.{Counts};
 use basin::say;
 use decimal::Decimal;
+use desk::command;
+use desk::command::OptionWord;
 use desk::words;
 use desk::words::Number;
 use memory::point::Point;
@@ -39,21 +41,119 @@ pub fn status_descriptor() -> i32 {
     }
 }
 
-// How many words there are, the program's name among them.
-pub fn count() -> usize {
-    let n = os::arg_count();
-    let before = in_front();
-    if n < before {
-        return 0;
+// Whether a text begins with two minuses.
+fn is_option(text: &[u8]) -> bool {
+    if text.len() < 2 {
+        return false;
     }
-    n - before
+    (text[0] == b'-') & (text[1] == b'-')
+}
+
+// Whether argument i is an option.
+fn is_option_at(i: usize) -> bool {
+    let mut text = [0u8; 256];
+    let n = os::arg(i, &mut text);
+    is_option(&text[..n])
+}
+
+// How many words there are, the program's name among them, options left out.
+pub fn count() -> usize {
+    let all = os::arg_count();
+    // Of the arguments before i that do not stand in front, n are words.
+    let mut n: usize = 0;
+    let mut i = in_front();
+    while i < all {
+        n = std::num::wrapping_add_usize(n, !is_option_at(i) as usize);
+        i += 1;
+    }
+    n
+}
+
+// Which argument word i is, options left out; there is none past the end.
+fn argument_of(i: usize) -> usize {
+    let all = os::arg_count();
+    // So many words are still to be passed over.
+    let mut left = i;
+    let mut at = in_front();
+    while at < all {
+        if is_option_at(at) {
+            at += 1;
+            continue;
+        }
+        if left == 0 {
+            return at;
+        }
+        left -= 1;
+        at += 1;
+    }
+    all
 }
 
 // Word i at the start of the room; how many bytes.
 pub fn word(i: usize, room: &mut [u8]) -> usize
     ensures { λ r. ⌜ Counts r (now (room .exit)) ⌝ }
 {
-    os::arg(std::num::wrapping_add_usize(i, in_front()), room)
+    os::arg(argument_of(i), room)
+}
+
+// What the options ask for: that nothing is saved; that nothing is saved unless every request is served.
+pub struct Options {
+    pub dry: bool,
+    pub whole: bool,
+}
+
+// The options of a command, or that one of them is unknown, which was told.
+pub enum Given {
+    Options(Options),
+    Told,
+}
+
+// The same with argument i.
+fn with_option(o: Options, i: usize) -> Given {
+    let mut text = [0u8; 256];
+    let n = os::arg(i, &mut text);
+    if !is_option(&text[..n]) {
+        return Given::Options(o);
+    }
+    match command::option_of(&text[..n]) {
+        OptionWord::DryRun => Given::Options(Options {
+            dry: true,
+            whole: o.whole,
+        }),
+        OptionWord::AllOrNothing => Given::Options(Options {
+            dry: o.dry,
+            whole: true,
+        }),
+        OptionWord::Unknown => {
+            say::complain(b"error: unknown word '");
+            say::complain(&text[..n]);
+            say::complain(b"': dispatch help tells what there is\n");
+            Given::Told
+        }
+    }
+}
+
+// The options among the words.
+pub fn options_given() -> Given {
+    let all = os::arg_count();
+    // Those before argument i are taken.
+    let mut taken = Options {
+        dry: false,
+        whole: false,
+    };
+    let mut i = in_front();
+    while i < all {
+        match with_option(taken, i) {
+            Given::Options(o) => {
+                taken = o;
+            }
+            Given::Told => {
+                return Given::Told;
+            }
+        }
+        i += 1;
+    }
+    Given::Options(taken)
 }
 
 // The block or the number of blocks that a word gives.

@@ -4,7 +4,18 @@ use basin::say;
 use desk::names;
 use oracle::Oracle;
 
-// A block's darts, volumes, critical faces and counter.
+// Into how many pieces a block's volumes fall.
+fn show_pieces(n: u64) {
+    say::text(b" in ");
+    say::number(n);
+    if n == 1 {
+        say::text(b" piece");
+        return;
+    }
+    say::text(b" pieces");
+}
+
+// A block's darts, volumes and their pieces, critical faces and counter.
 fn show_block(b: usize, block: &[u64]) {
     say::text(b"block ");
     say::number(b as u64);
@@ -13,7 +24,9 @@ fn show_block(b: usize, block: &[u64]) {
     say::number(t.darts);
     say::text(b" darts, ");
     say::number(t.volumes);
-    say::text(b" volumes, ");
+    say::text(b" volumes");
+    show_pieces(t.pieces);
+    say::text(b", ");
     say::number(t.critical);
     say::text(b" critical faces, counter ");
     say::number(t.counter);
@@ -46,12 +59,75 @@ fn first_refused(question: u32, mesh: &[u64], scratch: &mut [u64]) -> usize {
     b
 }
 
-// Which file a refusal is about: one of them, where its number or a serial is wrong, or all together.
+// Whether the dart at place p has a kind, which is that of a third link and of the other block.
+fn has_kind_at(block: &[u64], p: usize, kind: u64) -> bool {
+    if p < 4096 {
+        let at = p * 8 + 11;
+        if at < block.len() {
+            return block[at] == kind;
+        }
+    }
+    false
+}
+
+// Whether some dart of a block has a kind.
+fn has_kind(block: &[u64], kind: u64) -> bool {
+    // None before p has it.
+    let mut p: usize = 0;
+    while p < 4096 {
+        if has_kind_at(block, p, kind) {
+            return true;
+        }
+        p += 1;
+    }
+    false
+}
+
+// The first block that has a dart of a kind; how many there are where none has.
+fn first_with_kind(kind: u64, mesh: &[u64]) -> usize {
+    let k = mesh.len() / 32776;
+    let mut b = 0;
+    while b < k {
+        let from = b * 32776;
+        let end = from + 32776;
+        if has_kind(&mesh[from..end], kind) {
+            return b;
+        }
+        b += 1;
+    }
+    b
+}
+
+// Says which block is named by a critical dart and has no file, the first of them; whether there is one.
+fn say_missing(mesh: &[u64]) -> bool {
+    let k = mesh.len() / 32776;
+    let mut m = k;
+    while m < 16 {
+        // critical with block m
+        let b = first_with_kind(2 + 4 * (m as u64), mesh);
+        if b < k {
+            say::text(&names::block(m));
+            say::text(b" is missing, and ");
+            say::text(&names::block(b));
+            say::text(b" names it");
+            return true;
+        }
+        m += 1;
+    }
+    false
+}
+
+// Which file a refusal is about: one of them, where its number or a serial is wrong; one that is missing and named; or all together.
 fn say_where(question: u32, mesh: &[u64], scratch: &mut [u64]) {
     if (question == 23) | (question == 24) {
         let b = first_refused(question, mesh, scratch);
         say::text(&names::block(b));
         return;
+    }
+    if question == 25 {
+        if say_missing(mesh) {
+            return;
+        }
     }
     say::text(b"the blocks together");
 }

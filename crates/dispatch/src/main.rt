@@ -4,14 +4,15 @@ mod inspect; // inspect.rt: what is told of a basin
 mod moving; // moving.rt: the moves of a balance, as lines
 mod playing; // playing.rt: requests, from lines and told line by line
 mod status; // status.rt: how a command ended
+mod tasks; // tasks.rt: what is done to a basin, and saved
 
 use answers::Answer;
+use arguments::Given;
 use arguments::Named;
-use basin::disk;
+use arguments::Options;
 use basin::files;
 use basin::files::Contents;
-use basin::lock;
-use basin::lock::Taken;
+use basin::process;
 use basin::reading;
 use basin::reading::Basin;
 use basin::say;
@@ -20,10 +21,10 @@ use desk::command::Command;
 use desk::command::OracleWord;
 use desk::names;
 use desk::words::Number;
-use levelling::Balanced;
 use oracle::Oracle;
 use playing::Input;
 use status::Status;
+use tasks::Task;
 
 fn help() {
     say::text(b"dispatch keeps a basin as files block-00.dmap to block-15.dmap in this folder\n");
@@ -31,6 +32,9 @@ fn help() {
         b"  dispatch check            a line for each block, and whether the basin is sound\n",
     );
     say::text(b"  dispatch list B           the darts of block B\n");
+    say::text(
+        b"  dispatch cells B          the cells of block B: serial, darts, faces, critical faces by block, mean of the corners\n",
+    );
     say::text(
         b"  dispatch play             requests 'from to serial' on standard input, one a line\n",
     );
@@ -40,9 +44,13 @@ fn help() {
     say::text(
         b"  dispatch split K          the basin over K blocks, new ones empty, then balanced\n",
     );
+    say::text(b"  dispatch add K            the basin over K blocks, new ones empty\n");
     say::text(b"  dispatch help             this\n");
     say::text(
         b"ORACLE is one of: all; box x0 y0 z0 x1 y1 z1; plane axis value (decimals, as -2.5 or 1e-3; axis 0, 1 or 2)\n",
+    );
+    say::text(
+        b"play, balance, split and add take --dry-run: all is printed, nothing is saved; play takes --all-or-nothing: one refusal, and nothing is saved\n",
     );
 }
 
@@ -78,35 +86,63 @@ fn check(mesh: &mut [u64], scratch: &mut [u64], room: &mut [u8]) -> Status {
     }
 }
 
-// The listing of a file.
-fn show_listing(file: &[u8]) {
-    let mut text = [0u8; 262144];
-    let n = listfile::list_whole(file, &mut text);
+// The listing of a file, by way of lent bytes.
+fn show_listing(file: &[u8], text: &mut [u8]) {
+    if text.len() < 262144 {
+        return;
+    }
+    let n = listfile::list_whole(file, text);
     if n <= text.len() {
         say::text(&text[0..n]);
     }
 }
 
-// The listing of block b's file, or why it is refused.
-fn list_file(b: usize, file: &[u8]) -> Status {
-    let mut block = [0u64; 32776];
-    match readfile::read_file(file, &mut block) {
+// What list and cells tell of a block once it is read into a block's memory.
+fn tell_block(cells: bool, file: &[u8], block: &[u64], rows: &mut [u64], text: &mut [u8]) {
+    if cells {
+        cells_text::show(block, rows);
+        return;
+    }
+    show_listing(file, text);
+}
+
+// What list and cells tell of block b's file, or why it is refused.
+fn tell_file(
+    cells: bool,
+    b: usize,
+    file: &[u8],
+    block: &mut [u64],
+    rows: &mut [u64],
+    text: &mut [u8],
+) -> Status {
+    match readfile::read_file(file, block) {
         Answer::Refused(r) => {
             reading::say_refused(b, answers::refusal_number(r));
             Status::Refused
         }
         Answer::Served => {
-            show_listing(file);
+            tell_block(cells, file, block, rows, text);
             Status::Done
         }
     }
 }
 
-fn list(b: usize, room: &mut [u8]) -> Status {
+// List and cells of block b.
+fn tell(
+    cells: bool,
+    b: usize,
+    mesh: &mut [u64],
+    rows: &mut [u64],
+    text: &mut [u8],
+    room: &mut [u8],
+) -> Status {
     match reading::file_of(b, room) {
         Contents::Bytes(n) => {
             if n <= room.len() {
-                return list_file(b, &room[0..n]);
+                if 32776 <= mesh.len() {
+                    let block = &mut mesh[0..32776];
+                    return tell_file(cells, b, &room[0..n], block, rows, text);
+                }
             }
             Status::Error
         }
@@ -123,143 +159,47 @@ fn list(b: usize, room: &mut [u8]) -> Status {
             Status::Error
         }
         Contents::Failed(e) => {
-            say::failed(b"cannot read", &names::block(b), e);
+            files::say_unread(&names::block(b), e);
             Status::Error
         }
     }
 }
 
-// The list command's word.
-fn list_word(room: &mut [u8]) -> Status {
+// How list and cells are written.
+fn tell_usage(cells: bool) -> Status {
+    if cells {
+        return wrong_words(b"cells B");
+    }
+    wrong_words(b"list B")
+}
+
+// Whether there are n words, the program's name among them, and no option.
+fn words_are(n: usize, o: Options) -> bool {
+    (arguments::count() == n) & !o.dry & !o.whole
+}
+
+// The word of list and cells.
+fn tell_word(
+    cells: bool,
+    o: Options,
+    mesh: &mut [u64],
+    rows: &mut [u64],
+    text: &mut [u8],
+    room: &mut [u8],
+) -> Status {
+    if !words_are(3, o) {
+        return tell_usage(cells);
+    }
     match arguments::number_at(2) {
         Number::Is(b) => {
             if 15 < b {
                 say::error(b"a block's number is 0 to 15");
                 return Status::Error;
             }
-            list(b as usize, room)
+            tell(cells, b as usize, mesh, rows, text, room)
         }
-        Number::Not => wrong_words(b"list B"),
+        Number::Not => tell_usage(cells),
     }
-}
-
-// The blocks that a command writes to, once the lock is held: a save that was cut short is finished or forgotten, and the basin is read.
-fn open(mesh: &mut [u64], room: &mut [u8]) -> Basin {
-    if !disk::mend() {
-        return Basin::Error;
-    }
-    reading::look(mesh, room)
-}
-
-// Saves a basin that has changed; whether nothing is left to save.
-fn save_if(changed: bool, mesh: &[u64], room: &mut [u8]) -> bool {
-    if changed {
-        return disk::save(mesh, room);
-    }
-    true
-}
-
-// What was played. A round that did not finish, which never is on a sound basin, keeps all from being saved.
-fn end_play(outcomes: &[u64], mesh: &[u64], room: &mut [u8]) -> Status {
-    if 0 < playing::count(outcomes, rounds::list::UNFINISHED) {
-        say::error(b"a round did not finish: nothing is saved");
-        return Status::Error;
-    }
-    let asked = outcomes.len() as u64;
-    let moved = playing::count(outcomes, 0);
-    say::text(b"# ");
-    say::number(moved);
-    say::text(b" of ");
-    say::number(asked);
-    say::text(b" moved\n");
-    if !save_if(0 < moved, mesh, room) {
-        return Status::Error;
-    }
-    if moved == asked {
-        return Status::Done;
-    }
-    Status::Refused
-}
-
-// Plays requests on a basin that is open.
-fn play_on(
-    input: &[u8],
-    requests: &[u64],
-    outcomes: &mut [u64],
-    mesh: &mut [u64],
-    scratch: &mut [u64],
-    outbox: &mut [u8],
-    room: &mut [u8],
-) -> Status {
-    if !inspect::is_sound(mesh, scratch) {
-        return Status::Refused;
-    }
-    rounds::list::play_all(mesh, requests, outcomes, outbox);
-    playing::show(input, outcomes);
-    end_play(outcomes, mesh, room)
-}
-
-// Opens the basin and plays requests on it.
-fn play_open(
-    input: &[u8],
-    requests: &[u64],
-    outcomes: &mut [u64],
-    mesh: &mut [u64],
-    scratch: &mut [u64],
-    outbox: &mut [u8],
-    room: &mut [u8],
-) -> Status {
-    match open(mesh, room) {
-        Basin::Blocks(k) => {
-            if k <= mesh.len() / 32776 {
-                let end = k * 32776;
-                let part = &mut mesh[0..end];
-                return play_on(input, requests, outcomes, part, scratch, outbox, room);
-            }
-            Status::Error
-        }
-        Basin::Refused => Status::Refused,
-        Basin::Error => Status::Error,
-    }
-}
-
-// The same while this process alone writes.
-fn play_locked(
-    input: &[u8],
-    requests: &[u64],
-    outcomes: &mut [u64],
-    mesh: &mut [u64],
-    scratch: &mut [u64],
-    outbox: &mut [u8],
-    room: &mut [u8],
-) -> Status {
-    match lock::take(room) {
-        Taken::Held => {
-            let s = play_open(input, requests, outcomes, mesh, scratch, outbox, room);
-            lock::release();
-            s
-        }
-        Taken::Busy => Status::Error,
-        Taken::Failed => Status::Error,
-    }
-}
-
-// Play, once n requests are read.
-fn play_requests(
-    input: &[u8],
-    requests: &[u64],
-    n: usize,
-    mesh: &mut [u64],
-    scratch: &mut [u64],
-    outbox: &mut [u8],
-    room: &mut [u8],
-) -> Status {
-    let mut outcomes = [0u64; 16384];
-    if n <= outcomes.len() {
-        let part = &mut outcomes[0..n];
-        return play_locked(input, requests, part, mesh, scratch, outbox, room);
-    }
-    Status::Error
 }
 
 // A line that keeps the list from being played.
@@ -273,15 +213,29 @@ fn wrong_line(number: u64, why: &[u8]) -> Status {
 
 // Play, once the input is read.
 fn play_input(
+    o: Options,
     input: &[u8],
+    requests: &mut [u64],
+    outcomes: &mut [u64],
     mesh: &mut [u64],
     scratch: &mut [u64],
     outbox: &mut [u8],
     room: &mut [u8],
 ) -> Status {
-    let mut requests = [0u64; 49152];
-    match playing::take(input, &mut requests) {
-        Input::Requests(n) => play_requests(input, &requests, n, mesh, scratch, outbox, room),
+    match playing::take(input, requests) {
+        Input::Requests(n) => {
+            tasks::run(
+                Task::Play(n),
+                o,
+                input,
+                requests,
+                outcomes,
+                mesh,
+                scratch,
+                outbox,
+                room,
+            )
+        }
         Input::Wrong(number) => wrong_line(number, b" is no request 'from to serial'"),
         Input::Cut(number) => wrong_line(number, b" is cut off, it has no line feed at its end"),
         Input::TooMany => {
@@ -291,19 +245,22 @@ fn play_input(
     }
 }
 
-// Play, with what was read of standard input.
-fn play_contents(
-    contents: Contents,
-    input: &[u8],
+// Play, with what is read of standard input into lent bytes.
+fn play(
+    o: Options,
+    text: &mut [u8],
+    requests: &mut [u64],
+    outcomes: &mut [u64],
     mesh: &mut [u64],
     scratch: &mut [u64],
     outbox: &mut [u8],
     room: &mut [u8],
 ) -> Status {
-    match contents {
+    match files::read_open(0, text) {
         Contents::Bytes(n) => {
-            if n <= input.len() {
-                return play_input(&input[0..n], mesh, scratch, outbox, room);
+            if n <= text.len() {
+                let input = &text[0..n];
+                return play_input(o, input, requests, outcomes, mesh, scratch, outbox, room);
             }
             Status::Error
         }
@@ -319,148 +276,37 @@ fn play_contents(
     }
 }
 
-fn play(mesh: &mut [u64], scratch: &mut [u64], outbox: &mut [u8], room: &mut [u8]) -> Status {
-    let mut input = [0u8; 524288];
-    let contents = files::read_open(0, &mut input);
-    play_contents(contents, &input, mesh, scratch, outbox, room)
+// The task that words name, or that they name none, which was told.
+enum Planned {
+    Task(Task),
+    Told,
 }
 
-// The moves of a balance, and how it ended.
-fn show_moves(moves: &[u64], n: usize, how: &[u8]) {
-    moving::show(moves, n);
-    say::text(b"# ");
-    say::text(how);
-    say::text(b" after ");
-    say::number(n as u64);
-    say::text(b" moves\n");
-}
-
-// What the moves came to, and the basin saved if anything changed.
-fn end_balance(
-    balanced: Balanced,
-    moves: &[u64],
-    o: Oracle,
-    grown: bool,
-    mesh: &[u64],
-    room: &mut [u8],
-) -> Status {
-    let mut n = 0;
-    match balanced {
-        Balanced::Level(m) => {
-            n = m;
-            show_moves(moves, m, b"level");
-        }
-        Balanced::Blocked(m) => {
-            n = m;
-            show_moves(moves, m, b"blocked");
-        }
-        Balanced::Full(_) => {
-            say::error(b"there are more moves than cells: nothing is saved");
-            return Status::Error;
-        }
-        Balanced::Unfinished(_) => {
-            say::error(b"a move did not finish: nothing is saved");
-            return Status::Error;
-        }
-        Balanced::Refused(_, r) => {
-            let question = answers::refusal_number(r);
-            say::refused(question);
-            say::meaning(question);
-            say::text(b"\n");
-            return Status::Refused;
-        }
-    }
-    say::text(b"# after:");
-    inspect::show_picked(mesh, o);
-    if !save_if(grown | (0 < n), mesh, room) {
-        return Status::Error;
-    }
-    Status::Done
-}
-
-// Balances a basin that is open, and that may have grown since it was read.
-fn balance_on(
-    o: Oracle,
-    grown: bool,
-    mesh: &mut [u64],
-    scratch: &mut [u64],
-    outbox: &mut [u8],
-    room: &mut [u8],
-) -> Status {
-    if !inspect::is_sound(mesh, scratch) {
-        return Status::Refused;
-    }
-    say::text(b"# before:");
-    inspect::show_picked(mesh, o);
-    let mut moves = [0u64; 98304];
-    let balanced = levelling::balance(mesh, o, scratch, outbox, &mut moves);
-    end_balance(balanced, &moves, o, grown, mesh, room)
-}
-
-// Opens the basin and balances it.
-fn balance_open(
-    o: Oracle,
-    mesh: &mut [u64],
-    scratch: &mut [u64],
-    outbox: &mut [u8],
-    room: &mut [u8],
-) -> Status {
-    match open(mesh, room) {
-        Basin::Blocks(k) => {
-            if k <= mesh.len() / 32776 {
-                let end = k * 32776;
-                return balance_on(o, false, &mut mesh[0..end], scratch, outbox, room);
-            }
-            Status::Error
-        }
-        Basin::Refused => Status::Refused,
-        Basin::Error => Status::Error,
-    }
-}
-
-// The same while this process alone writes.
-fn balance(
-    o: Oracle,
-    mesh: &mut [u64],
-    scratch: &mut [u64],
-    outbox: &mut [u8],
-    room: &mut [u8],
-) -> Status {
-    match lock::take(room) {
-        Taken::Held => {
-            let s = balance_open(o, mesh, scratch, outbox, room);
-            lock::release();
-            s
-        }
-        Taken::Busy => Status::Error,
-        Taken::Failed => Status::Error,
-    }
-}
-
-// Whether there are n words, the program's name among them.
-fn words_are(n: usize) -> bool {
-    arguments::count() == n
+fn no_task(usage: &[u8]) -> Planned {
+    wrong_words(usage);
+    Planned::Told
 }
 
 // The oracle that the words name.
 fn oracle_named() -> Named {
     let mut word = [0u8; 16];
     let n = arguments::word(2, &mut word);
+    let words = arguments::count();
     match command::oracle_of(&word[..n]) {
         OracleWord::All => {
-            if words_are(3) {
+            if words == 3 {
                 return Named::Oracle(Oracle::Every);
             }
             Named::Not
         }
         OracleWord::Box => {
-            if words_are(9) {
+            if words == 9 {
                 return arguments::box_of();
             }
             Named::Not
         }
         OracleWord::Plane => {
-            if words_are(5) {
+            if words == 5 {
                 return arguments::plane_of();
             }
             Named::Not
@@ -469,148 +315,143 @@ fn oracle_named() -> Named {
     }
 }
 
-fn balance_words(
-    mesh: &mut [u64],
-    scratch: &mut [u64],
-    outbox: &mut [u8],
-    room: &mut [u8],
-) -> Status {
+fn balance_words() -> Planned {
     match oracle_named() {
-        Named::Oracle(o) => balance(o, mesh, scratch, outbox, room),
-        Named::Told => Status::Error,
-        Named::Not => wrong_words(
-            b"balance all, balance box x0 y0 z0 x1 y1 z1, balance plane axis value",
+        Named::Oracle(o) => Planned::Task(Task::Balance(o)),
+        Named::Told => Planned::Told,
+        Named::Not => no_task(
+            b"balance ORACLE [--dry-run], ORACLE one of: all; box x0 y0 z0 x1 y1 z1; plane axis value",
         ),
     }
 }
 
-// Makes block b empty.
-fn empty_part(b: usize, mesh: &mut [u64]) {
-    if b < mesh.len() / 32776 {
-        let from = b * 32776;
-        let end = from + 32776;
-        memory::header::empty(b as u64, &mut mesh[from..end]);
-    }
+// A number of blocks for a basin.
+enum Blocks {
+    Are(usize),
+    Told,
 }
 
-// Adds empty blocks to k of them, up to n.
-fn grow(k: usize, n: usize, mesh: &mut [u64]) {
-    let mut b = k;
-    while b < n {
-        empty_part(b, mesh);
-        b += 1;
+// The word of split and add.
+fn blocks_word(usage: &[u8]) -> Blocks {
+    if arguments::count() != 3 {
+        wrong_words(usage);
+        return Blocks::Told;
     }
-}
-
-// Adds blocks to k of them, up to n, and balances.
-fn split_on(
-    k: usize,
-    n: usize,
-    mesh: &mut [u64],
-    scratch: &mut [u64],
-    outbox: &mut [u8],
-    room: &mut [u8],
-) -> Status {
-    if n < k {
-        say::complain(b"error: the basin has ");
-        say::complain_number(k as u64);
-        say::complain(b" blocks; it cannot go down to fewer, since their labels name them\n");
-        return Status::Error;
-    }
-    grow(k, n, mesh);
-    if n <= mesh.len() / 32776 {
-        let end = n * 32776;
-        let part = &mut mesh[0..end];
-        return balance_on(Oracle::Every, k < n, part, scratch, outbox, room);
-    }
-    Status::Error
-}
-
-// Opens the basin and splits it.
-fn split_open(
-    n: usize,
-    mesh: &mut [u64],
-    scratch: &mut [u64],
-    outbox: &mut [u8],
-    room: &mut [u8],
-) -> Status {
-    match open(mesh, room) {
-        Basin::Blocks(k) => split_on(k, n, mesh, scratch, outbox, room),
-        Basin::Refused => Status::Refused,
-        Basin::Error => Status::Error,
-    }
-}
-
-// The same while this process alone writes.
-fn split(
-    n: usize,
-    mesh: &mut [u64],
-    scratch: &mut [u64],
-    outbox: &mut [u8],
-    room: &mut [u8],
-) -> Status {
-    match lock::take(room) {
-        Taken::Held => {
-            let s = split_open(n, mesh, scratch, outbox, room);
-            lock::release();
-            s
-        }
-        Taken::Busy => Status::Error,
-        Taken::Failed => Status::Error,
-    }
-}
-
-fn split_words(
-    mesh: &mut [u64],
-    scratch: &mut [u64],
-    outbox: &mut [u8],
-    room: &mut [u8],
-) -> Status {
     match arguments::number_at(2) {
         Number::Is(n) => {
             if (n < 1) | (16 < n) {
                 say::error(b"a basin has 1 to 16 blocks");
-                return Status::Error;
+                return Blocks::Told;
             }
-            split(n as usize, mesh, scratch, outbox, room)
+            Blocks::Are(n as usize)
         }
-        Number::Not => wrong_words(b"split K"),
+        Number::Not => {
+            wrong_words(usage);
+            Blocks::Told
+        }
     }
 }
 
-fn run(
-    c: Command,
+fn split_words() -> Planned {
+    match blocks_word(b"split K [--dry-run]") {
+        Blocks::Are(n) => Planned::Task(Task::Split(n)),
+        Blocks::Told => Planned::Told,
+    }
+}
+
+fn add_words() -> Planned {
+    match blocks_word(b"add K [--dry-run]") {
+        Blocks::Are(n) => Planned::Task(Task::Add(n)),
+        Blocks::Told => Planned::Told,
+    }
+}
+
+// A task that takes no list of requests.
+fn do_planned(
+    planned: Planned,
+    o: Options,
+    requests: &mut [u64],
+    outcomes: &mut [u64],
     mesh: &mut [u64],
     scratch: &mut [u64],
     outbox: &mut [u8],
     room: &mut [u8],
 ) -> Status {
+    if o.whole {
+        say::error(b"only play takes --all-or-nothing");
+        return Status::Error;
+    }
+    match planned {
+        Planned::Task(t) => {
+            tasks::run(t, o, &[], requests, outcomes, mesh, scratch, outbox, room)
+        }
+        Planned::Told => Status::Error,
+    }
+}
+
+// Runs a command, with all memory that any of them needs: sixteen blocks and what is made of them, 6.5 MB.
+fn run(c: Command, o: Options) -> Status {
+    let mut mesh = [0u64; 524416];
+    let mut scratch = [0u64; 65536];
+    let mut outbox = [0u8; 65536];
+    let mut room = [0u8; 262144];
+    let mut text = [0u8; 524288];
+    let mut requests = [0u64; 98304];
+    let mut outcomes = [0u64; 16384];
     match c {
         Command::Check => {
-            if words_are(2) {
-                return check(mesh, scratch, room);
+            if words_are(2, o) {
+                return check(&mut mesh, &mut scratch, &mut room);
             }
             wrong_words(b"check")
         }
-        Command::List => {
-            if words_are(3) {
-                return list_word(room);
-            }
-            wrong_words(b"list B")
-        }
+        Command::List => tell_word(false, o, &mut mesh, &mut requests, &mut text, &mut room),
+        Command::Cells => tell_word(true, o, &mut mesh, &mut requests, &mut text, &mut room),
         Command::Play => {
-            if words_are(2) {
-                return play(mesh, scratch, outbox, room);
+            if arguments::count() == 2 {
+                return play(
+                    o,
+                    &mut text,
+                    &mut requests,
+                    &mut outcomes,
+                    &mut mesh,
+                    &mut scratch,
+                    &mut outbox,
+                    &mut room,
+                );
             }
-            wrong_words(b"play")
+            wrong_words(b"play [--dry-run] [--all-or-nothing]")
         }
-        Command::Balance => balance_words(mesh, scratch, outbox, room),
-        Command::Split => {
-            if words_are(3) {
-                return split_words(mesh, scratch, outbox, room);
-            }
-            wrong_words(b"split K")
-        }
+        Command::Balance => do_planned(
+            balance_words(),
+            o,
+            &mut requests,
+            &mut outcomes,
+            &mut mesh,
+            &mut scratch,
+            &mut outbox,
+            &mut room,
+        ),
+        Command::Split => do_planned(
+            split_words(),
+            o,
+            &mut requests,
+            &mut outcomes,
+            &mut mesh,
+            &mut scratch,
+            &mut outbox,
+            &mut room,
+        ),
+        Command::Add => do_planned(
+            add_words(),
+            o,
+            &mut requests,
+            &mut outcomes,
+            &mut mesh,
+            &mut scratch,
+            &mut outbox,
+            &mut room,
+        ),
         Command::Help => {
             help();
             Status::Done
@@ -632,13 +473,23 @@ fn command_given() -> Command {
     command::command_of(&word[..n])
 }
 
+// The stack that a command needs, in bytes.
+const STACK: u64 = 7864320;
+
+fn start() -> Status {
+    if !process::has_stack(STACK) {
+        say::error(b"the program needs 7.5 MB of stack, and its limit is lower (ulimit -s 8192)");
+        return Status::Error;
+    }
+    match arguments::options_given() {
+        Given::Options(o) => run(command_given(), o),
+        Given::Told => Status::Error,
+    }
+}
+
 fn main() {
-    let c = command_given();
-    let mut mesh = [0u64; 524416];
-    let mut scratch = [0u64; 65536];
-    let mut outbox = [0u8; 65536];
-    let mut room = [0u8; 262144];
-    let s = run(c, &mut mesh, &mut scratch, &mut outbox, &mut room);
+    files::fill_standard();
+    let s = start();
     let to = arguments::status_descriptor();
     if 0 <= to {
         io::write_all(to, &[status::digit(s)]);

@@ -28,24 +28,19 @@ fn is_note(line: &[u8]) -> bool {
     line[0] == b'#'
 }
 
-// A number at its place.
-fn store(numbers: &mut [u64], i: usize, v: u64) {
-    if i < numbers.len() {
-        numbers[i] = v;
-    }
-}
-
 // How many requests there is room for.
 pub const MOST: usize = 16384;
 
 // Request n, at its place.
 fn put(requests: &mut [u64], n: usize, from: u64, to: u64, serial: u64) -> Taken {
     if n < MOST {
-        let at = n * 3;
-        store(requests, at, from);
-        store(requests, at + 1, to);
-        store(requests, at + 2, serial);
-        return Taken::Requests(n + 1);
+        if n < requests.len() / 3 {
+            let at = n * 3;
+            requests[at] = from;
+            requests[at + 1] = to;
+            requests[at + 2] = serial;
+            return Taken::Requests(n + 1);
+        }
     }
     Taken::Full
 }

@@ -83,6 +83,9 @@ same-length-8 c = search needs
 returns-4 : tie.Need-returns-4 Inv-loop μ-loop
 returns-4 c = search needs
 
+enum-known-e : tie.Need-enum-known-e Inv-loop μ-loop
+enum-known-e c = search needs
+
 same-length-9 : tie.Need-same-length-9 Inv-loop μ-loop
 same-length-9 c = search needs
 
@@ -91,6 +94,15 @@ same-length-10 c = search needs
 
 returns-5 : tie.Need-returns-5 Inv-loop μ-loop
 returns-5 c = search needs
+
+same-length-11 : tie.Need-same-length-11 Inv-loop μ-loop
+same-length-11 c = search needs
+
+same-length-12 : tie.Need-same-length-12 Inv-loop μ-loop
+same-length-12 c = search needs
+
+returns-6 : tie.Need-returns-6 Inv-loop μ-loop
+returns-6 c = search needs
 
 pub look-again-spec : {M : Type 1} → statement M
 look-again-spec =
@@ -121,6 +133,10 @@ look-again-spec =
     same-length-7
     same-length-8
     returns-4
+    enum-known-e
     same-length-9
     same-length-10
-    returns-5)
+    returns-5
+    same-length-11
+    same-length-12
+    returns-6)

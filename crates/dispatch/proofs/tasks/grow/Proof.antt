@@ -1,10 +1,10 @@
--- `dispatch::grow` meets its contract. The loop's invariant: the mesh's length stays. The measure is what is left of the blocks. Assumes nothing.
+-- `dispatch::tasks::grow` meets its contract. The loop's invariant: the mesh's length stays. The measure is what is left of the blocks. Assumes nothing.
 use mathlib.Core.Path.{_≡_}
 use Prim.Native.Nat.{_-_}
 use lib.ListN.{length}
 use borrow.Author.Needs.{needs}
-use Rattle.dispatch.proofs.grow.Statement.{statement}
-use Rattle.dispatch.proofs.grow.Tie as tie
+use Rattle.dispatch.proofs.tasks.grow.Statement.{statement}
+use Rattle.dispatch.proofs.tasks.grow.Tie as tie
 
 abbrev Inv-loop : tie.InvT-loop
 Inv-loop k n mesh₀ b₀ mesh b =

@@ -1,0 +1,2 @@
+pub mod CornerLaws
+pub mod ThousandthLaws

@@ -1,0 +1,15 @@
+-- `corners::thousandths::size` meets its contract. Assumes nothing.
+use Rattle.corners.specs.Thousandths.{size-of}
+use Rattle.corners.proofs.thousandths.size.Statement.{statement}
+use Rattle.corners.proofs.thousandths.size.Tie as tie
+
+returns : tie.Need-returns
+unfolding size-of
+returns c = rw (c .if1 .taken)
+
+returns-2 : tie.Need-returns-2
+unfolding size-of
+returns-2 c = rw (c .if1 .left)
+
+pub size-spec : {M : Type 1} → statement M
+size-spec = tie.close (tie.spec returns returns-2)
