@@ -196,7 +196,8 @@ chmod 644 .
 guest check
 guest list 0
 guest balance all
-chmod 755 . block-01.dmap
+chmod 755 "$work/sixteen"
+chmod 644 block-01.dmap
 
 # the program by itself: descriptors that are closed, and a stack that is too small
 fresh seventeen

@@ -1,27 +1,25 @@
 -- Sums of points along a list, and the corners of a cell by place. Assumes nothing.
 use mathlib.Core.Path.{_≡_, refl, sym, _∙_, ap}
-use mathlib.Core.Bool.{Bool, true, false, cond, _&&_}
+use mathlib.Core.Bool.{true, false}
 use mathlib.Core.List.{List, [], _∷_, _++_, map}
-use Prim.Native.Nat.{ℕ, suc, _+_, _≤_, _<_}
+use Prim.Native.Nat.{ℕ, _+_, _<_}
 use native.Mathlib.Omega.{arith}
 use native.Mathlib.Numerals.{add-one}
 use lib.ListN.{length, getD, take, length-map}
 use lib.Seq.{take-suc, length-take-le}
-use Rattle.model.specs.Values.{Dart, Point as Patterns, rack}
+use Rattle.model.specs.Values.{Point as Patterns, rack}
 use Rattle.model.specs.Cells.{faces, held}
-use Rattle.model.specs.Image.{room, column, dart-in, block-in, is-image}
+use Rattle.model.specs.Image.{column, dart-in, block-in, is-image}
 use Rattle.model.specs.Messages.{Transfer}
 use Rattle.model.specs.Departure.{transfer-of}
 use Rattle.memory.specs.declared.point.Point.{Point}
 use Rattle.memory.specs.Point.{point-of}
 use Rattle.cells.specs.Places.{InOrder, Marked, Numbered, marked, volume-of}
 use Rattle.cells.proofs.Sited.{sited}
-use Rattle.cells.proofs.StartLaws.{in-order-few}
-use Rattle.cells.proofs.VolumeReady.{out-long, ends-ready}
+use Rattle.cells.proofs.VolumeReady.{ends-ready}
 use Rattle.columns.proofs.Question.{image-passed}
 use Rattle.departure.specs.ByPlaces.{transfer-at}
 use Rattle.departure.proofs.LeavesWith.{transfer-law}
-use Rattle.corners.specs.declared.Mean.{Mean}
 use Rattle.corners.specs.declared.Mean.the-variants as mean
 use Rattle.corners.specs.Corners.{corner-points, plus-point, over-number, sum-from, sum-of, mean-of, mean-in, Cornered}
 

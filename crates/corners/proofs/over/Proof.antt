@@ -1,7 +1,6 @@
 -- `corners::over` meets its contract. Assumes nothing.
 use lib.Ieee.{Float, binary64, div}
 use mathlib.Core.Path.{ap}
-use Rattle.memory.specs.declared.point.Point.{Point}
 use borrow.Author.Needs.{needs}
 use Rattle.corners.proofs.over.Statement.{statement}
 use Rattle.corners.proofs.over.Tie as tie

@@ -1,7 +1,7 @@
 -- `corners::sum_at` meets its contract. The loop's invariant: the points of the places before i are added. The measure is how many are left.
 -- Assumes nothing.
 use mathlib.Core.Path.{_≡_, _∙_, ap}
-use mathlib.Core.List.{List, map}
+use mathlib.Core.List.{map}
 use Prim.Native.Nat.{ℕ, _-_, _≤_}
 use lib.ListN.{take}
 use Rattle.model.specs.Image.{dart-in}
