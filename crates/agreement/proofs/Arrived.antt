@@ -14,9 +14,11 @@ use Rattle.model.specs.Values.{Label, Third, free, sewn, critical, Dart, Limits
 use Rattle.model.specs.Cells.{around, cycle, vertex, start-of, vertices, vertex-number, serials, previous-in, labels, labelled}
 use Rattle.model.specs.Sound.{Fit}
 use Rattle.model.specs.Messages.{Part2, Part4, Transfer}
-use Rattle.model.specs.Departure.{same-pair, pairs-once, vertex-pairs, Placed, placed, part2-entry, Link, relink, label-faces}
-use Rattle.model.specs.Arrival.{new-darts, face-from, sew-both, part2-links, part3-links, part4-links, critical-links, transfer-links, insert-all, received}
-use Rattle.model.specs.Runs.{Request, State, nx, op, th, cell}
+use Rattle.model.specs.Departure.{part2-entry}
+use Rattle.model.specs.Links.{same-pair, pairs-once, vertex-pairs, Placed, placed, Link, relink, label-faces, sew-both}
+use Rattle.model.specs.Arrival.{new-darts, face-from, part2-links, part3-links, part4-links, critical-links, transfer-links, insert-all, received}
+use Rattle.model.specs.Runs.{Request}
+use Rattle.model.specs.UndividedRun.{State, nx, op, th, cell}
 use Rattle.laws.proofs.Faces.{face-sym, along-face, order-has, order-only}
 use Rattle.laws.proofs.Members.{In, or-left, or-right, in-here, in-there, in-cons, in-eq, any-in, append-in, keep-ascending, Each, each-append, any-map, map-map, map-cong, keep-true}
 use Rattle.laws.proofs.Tests.{by-cases, and-intro, and-left, and-right, or-cases, no-here, same-truth}

@@ -16,9 +16,11 @@ use Rattle.model.specs.Cells.{around, cycle, faces, start-of, dart-at, next-in,
 use Rattle.model.specs.Sound.{Fit}
 use Rattle.model.specs.Image.{label-in}
 use Rattle.model.specs.Messages.{Transfer, size-all}
-use Rattle.model.specs.Departure.{Placed, placed, part2-entry, part3-from, Link, label-links, label-faces}
+use Rattle.model.specs.Departure.{part2-entry, part3-from}
+use Rattle.model.specs.Links.{Placed, placed, Link, label-links, label-faces}
 use Rattle.model.specs.Arrival.{new-darts, placed-faces, face-from, part3-links, part4-links, critical-links, indices-right, points-meet, part2-right, part2-apart, consecutive, label-new, labels-new, parts-right}
-use Rattle.model.specs.Runs.{Request, State, nx, th, cell}
+use Rattle.model.specs.Runs.{Request}
+use Rattle.model.specs.UndividedRun.{State, nx, th, cell}
 use Rattle.laws.proofs.Faces.{face-stays, face-trans, face-sym, is-start, start-unique, faces-only, along-face}
 use Rattle.laws.proofs.Members.{In, in-here, in-there, in-cons, in-eq, all-from, keep-in, in-append-left, in-append-right, append-in, distinct-append}
 use Rattle.laws.proofs.Members.{distinct-not, distinct-left, distinct-right, distinct-apart, keep-ascending, ascending-distinct, Each, all-map, map-append}

@@ -14,9 +14,10 @@ use Rattle.model.specs.Values.{Label, free, Dart, Limits, finite}
 use Rattle.model.specs.Cells.{around, cycle, volume, vertex, faces, start-of, vertices, vertex-number, held, dart-at, next-in, opposite-in}
 use Rattle.model.specs.Sound.{Fit}
 use Rattle.model.specs.Messages.{Transfer}
-use Rattle.model.specs.Departure.{same-pair, pairs-once, vertex-pairs}
+use Rattle.model.specs.Links.{same-pair, pairs-once, vertex-pairs}
 use Rattle.model.specs.Arrival.{Side, sides, reverses, first-serial, new-darts, face-serials, serials-new, faces-ordered, pairs-right, one-volume, vertices-right, volume-right, addressed}
-use Rattle.model.specs.Runs.{Request, State, nx, op, cell}
+use Rattle.model.specs.Runs.{Request}
+use Rattle.model.specs.UndividedRun.{State, nx, op, cell}
 use Rattle.laws.proofs.Carry.{volume-cong, vertex-cong}
 use Rattle.laws.proofs.Faces.{order-has, order-only}
 use Rattle.laws.proofs.Members.{In, in-here, in-there, in-keep, keep-less, in-cons, in-eq, all-from, any-in, distinct-not, keep-ascending, ascending-distinct, Each, all-map, any-map, map-map, map-cong, in-map, map-in, distinct-fewer}

@@ -12,7 +12,7 @@ use Rattle.model.specs.Values.{Point, free, Dart, no-point}
 use Rattle.model.specs.Cells.{around, cycle, vertex, faces}
 use Rattle.model.specs.Messages.{FaceDart, Transfer}
 use Rattle.model.specs.Arrival.{Side, sides-of, sides, reverses, first-serial, opposite-of, new-dart, new-darts}
-use Rattle.model.specs.Runs.{nx, op}
+use Rattle.model.specs.UndividedRun.{nx, op}
 use Rattle.laws.proofs.Faces.{order-has, order-only}
 use Rattle.laws.proofs.Members.{In, in-here, in-there, in-keep, in-cons, in-eq, any-in, keep-in, map-append, map-map, map-cong, in-map}
 use Rattle.laws.proofs.Orbits.{iter, path, around-path}

@@ -13,9 +13,10 @@ use Rattle.model.specs.Lists.{all, keep, more, concat-map, zip, mem, distinct, 
 use Rattle.model.specs.Values.{Third, sewn, Dart}
 use Rattle.model.specs.Cells.{around, serials}
 use Rattle.model.specs.Messages.{Transfer}
-use Rattle.model.specs.Departure.{Placed, placed, part3-from, Link, label-faces}
-use Rattle.model.specs.Arrival.{face-serials, placed-faces, face-from, sew-both, part3-links, insert-all}
-use Rattle.model.specs.Runs.{nx, th}
+use Rattle.model.specs.Departure.{part3-from}
+use Rattle.model.specs.Links.{Placed, placed, Link, label-faces, sew-both}
+use Rattle.model.specs.Arrival.{face-serials, placed-faces, face-from, part3-links, insert-all}
+use Rattle.model.specs.UndividedRun.{nx, th}
 use Rattle.laws.proofs.Members.{In, in-here, in-there, in-cons, in-eq, all-from, absent, Each}
 use Rattle.laws.proofs.Tests.{by-cases, and-intro, and-left, and-right, find-insert}
 use Rattle.agreement.proofs.Described.{absent-not-found}

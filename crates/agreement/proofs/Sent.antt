@@ -12,8 +12,10 @@ use Rattle.model.specs.Values.{Label, Third, free, sewn, critical, Dart, Limits
 use Rattle.model.specs.Cells.{around, cycle, vertex, faces, start-of, vertices, vertex-number, dart-at, next-in, opposite-in, third-at, labels, labels-along}
 use Rattle.model.specs.Sound.{Fit}
 use Rattle.model.specs.Messages.{Part4, Transfer}
-use Rattle.model.specs.Departure.{is-sewn-out-of, Placed, placed, part2-entry, part3-from, part4-entry, transfer-of}
-use Rattle.model.specs.Runs.{Request, State, nx, op, th, cell}
+use Rattle.model.specs.Departure.{is-sewn-out-of, part2-entry, part3-from, part4-entry, transfer-of}
+use Rattle.model.specs.Links.{Placed, placed}
+use Rattle.model.specs.Runs.{Request}
+use Rattle.model.specs.UndividedRun.{State, nx, op, th, cell}
 use Rattle.laws.proofs.Faces.{face-stays, is-start, along-face, order-only}
 use Rattle.laws.proofs.Members.{In, in-here, in-there, in-eq, keep-in, Each, map-cong, map-in}
 use Rattle.agreement.proofs.Described.{pt, third-by, block-by, Map, Inv, Mine, darts-by, third-is, point-at, kind-free, kind-sewn, kind-critical, by-kind}

@@ -15,9 +15,11 @@ use Rattle.model.specs.Cells.{cycle, vertex, start-of, vertices, vertex-number,
 use Rattle.model.specs.Sound.{Fit}
 use Rattle.model.specs.Layouts.{_⊗_, _⊕_, as-type, such-that, at-most, exactly, times, counted, framed}
 use Rattle.model.specs.Messages.{FaceDart, Part4, Transfer, point, face-dart, part2, part3, size-all, size-at, part4, part1, transfer, a-transfer, message-in}
-use Rattle.model.specs.Departure.{Placed, placed, part2-entry, part3-from}
+use Rattle.model.specs.Departure.{part2-entry, part3-from}
+use Rattle.model.specs.Links.{Placed, placed}
 use Rattle.model.specs.Arrival.{parts-right, addressed, receive-checks}
-use Rattle.model.specs.Runs.{Request, State, nx, op, th, cell, inner-faces}
+use Rattle.model.specs.Runs.{Request}
+use Rattle.model.specs.UndividedRun.{State, nx, op, th, cell, inner-faces}
 use Rattle.laws.proofs.Faces.{face-few}
 use Rattle.laws.proofs.Members.{In, keep-le, all-from, Each, all-map, firsts-fewer}
 use Rattle.laws.proofs.Tests.{by-cases, and-intro, yes-then}

@@ -10,7 +10,7 @@ use lib.Seq.{getD-set-same, getD-set-other}
 use borrow.Author.Tests.{eqb-true, eqb-false, ne-eqb, not-true}
 use Rattle.model.specs.Lists.{mem, distinct}
 use Rattle.model.specs.Values.{Limits}
-use Rattle.model.specs.Runs.{Step, Done, called, memory-at, done, run-steps}
+use Rattle.model.specs.DividedRun.{Step, Done, called, memory-at, done, run-steps}
 use Rattle.laws.proofs.Members.{in-here, in-eq, Each}
 use Rattle.laws.proofs.Tests.{by-cases, and-intro, and-left, and-right}
 use Rattle.agreement.proofs.AfterMove.{after}

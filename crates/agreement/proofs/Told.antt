@@ -14,7 +14,9 @@ use Rattle.model.specs.Sound.{Fit}
 use Rattle.model.specs.Layouts.{_⊗_, _⊕_, as-type, such-that, exactly, framed}
 use Rattle.model.specs.Messages.{Update, update, an-update, message-in}
 use Rattle.model.specs.Arrival.{addressed, names-face, update-right, redirect-checks}
-use Rattle.model.specs.Runs.{Request, addressee, State, nx, th, cell}
+use Rattle.model.specs.Runs.{Request}
+use Rattle.model.specs.UndividedRun.{State, nx, th, cell}
+use Rattle.model.specs.DividedRun.{addressee}
 use Rattle.laws.proofs.Members.{In, in-eq, all-from, all-map, map-map, in-map, map-in, distinct-fewer, distinct-map}
 use Rattle.laws.proofs.Tests.{and-intro, not-equal, yes-then, no-more}
 use Rattle.theory.proofs.DemandTwo.{small-ok}

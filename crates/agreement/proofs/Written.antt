@@ -11,7 +11,7 @@ use Rattle.model.specs.Lists.{all}
 use Rattle.model.specs.Values.{Label, serial-bound}
 use Rattle.model.specs.Layouts.{Layout, group-below, group, serial, _⊗_, _⊕_, as-type, such-that, at-most, exactly, times, counted, at-end, whole, framed, unframed}
 use Rattle.model.specs.Messages.{Transfer, label, part1, transfer, Update, update, a-transfer, an-update, message-in}
-use Rattle.model.specs.Runs.{addressee}
+use Rattle.model.specs.DividedRun.{addressee}
 use Rattle.laws.proofs.Tests.{and-intro}
 use Rattle.theory.proofs.DemandTwo.{small-ok}
 use Rattle.theory.proofs.LayoutLaws.{group-lawful, framed-back}

@@ -13,8 +13,8 @@ use lib.Seq.{take-suc-set}
 use borrow.Author.Tests.{eqb-true, eqb-false, eq-eqb, ne-eqb, leb-true}
 use Rattle.model.specs.Lists.{all, ascending, keep, concat, distinct, mem, tab}
 use Rattle.model.specs.Cells.{cycle, faces}
-use Rattle.model.specs.Image.{room}
-use Rattle.model.specs.Departure.{placed}
+use Rattle.model.specs.Values.{room}
+use Rattle.model.specs.Links.{placed}
 use Rattle.laws.proofs.Tests.{by-cases, and-left, and-right}
 use Rattle.laws.proofs.Members.{In, in-here, in-there, in-keep, keep-in, all-in, keep-ascending, ascending-distinct, distinct-not, pigeonhole, map-append, none-kept, distinct-fewer, getD-in}
 use Rattle.laws.proofs.Faces.{face-sym, face-stays, face-start, start-in, start-starts, in-faces, faces-only, faces-distinct, order-has, order-only, along-face}

@@ -9,7 +9,7 @@ use borrow.Author.Tests.{eqb-true, eq-eqb, leb-true, leb-false, le-leb, lt-leb}
 use Rattle.model.specs.Lists.{all, keep, concat}
 use Rattle.model.specs.Cells.{cycle, faces, faces-in, volume-in, next-in}
 use Rattle.model.specs.Image.{column}
-use Rattle.model.specs.Departure.{placed}
+use Rattle.model.specs.Links.{placed}
 use Rattle.laws.proofs.Tests.{by-cases}
 use Rattle.laws.proofs.Members.{In, all-map, all-cong, keep-map, map-map, map-cong, map-append, keep-in, keep-cong}
 use Rattle.laws.proofs.Faces.{face-stays}

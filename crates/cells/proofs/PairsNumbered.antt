@@ -12,8 +12,9 @@ use lib.Seq.{getD-take}
 use borrow.Author.Tests.{eq-eqb, ne-eqb}
 use Rattle.model.specs.Lists.{any, keep, mem, distinct, index-of, firsts, concat}
 use Rattle.model.specs.Cells.{cycle, faces, ring, vertex, vertices, vertex-number, volume-in, next-in, opposite-in}
-use Rattle.model.specs.Image.{room, column}
-use Rattle.model.specs.Departure.{same-pair, pairs-once, vertex-pairs}
+use Rattle.model.specs.Image.{column}
+use Rattle.model.specs.Values.{room}
+use Rattle.model.specs.Links.{same-pair, pairs-once, vertex-pairs}
 use Rattle.laws.proofs.Tests.{by-cases, and-intro, and-right, same-truth}
 use Rattle.laws.proofs.Members.{In, in-here, in-there, in-cons, in-map, map-in, map-map, map-cong, keep-in, distinct-not}
 use Rattle.laws.proofs.Faces.{along-face, face-distinct}

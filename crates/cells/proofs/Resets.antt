@@ -8,7 +8,7 @@ use native.Mathlib.Numerals.{add-one}
 use lib.ListN.{length, getD, replicate, set, take, drop}
 use lib.Seq.{take-suc, length-take-le, getD-take}
 use Rattle.model.specs.Lists.{least, least-from, mem}
-use Rattle.model.specs.Image.{room}
+use Rattle.model.specs.Values.{room}
 use Rattle.laws.proofs.Tests.{by-cases}
 use Rattle.laws.proofs.Members.{In, in-getD, least-in, least-below, least-more}
 use Rattle.cells.specs.Places.{Listed, Marked, Painted, bit, marked}

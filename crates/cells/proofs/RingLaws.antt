@@ -12,7 +12,7 @@ use lib.Seq.{getD-set-same, getD-set-other, take-suc, take-suc-set, length-take-
 use borrow.Author.Tests.{eq-eqb, ne-eqb}
 use Rattle.model.specs.Lists.{keep, mem, firsts, index-of, least}
 use Rattle.model.specs.Cells.{cycle, ring, vertex, vertices, vertex-number}
-use Rattle.model.specs.Image.{room}
+use Rattle.model.specs.Values.{room}
 use Rattle.laws.proofs.Tests.{by-cases}
 use Rattle.laws.proofs.Members.{In, in-here, in-eq, in-getD, in-append-left, in-append-right, in-map, map-append, mem-keep, least-in, least-below, least-among}
 use Rattle.laws.proofs.Faces.{face-self, face-stays, face-sym, face-trans}

@@ -9,10 +9,10 @@ use lib.Dec.{leb}
 use lib.ListN.{length, getD, length-map}
 use borrow.Author.Tests.{leb-true}
 use Rattle.model.specs.Lists.{tab, index-of, same-list, ascending}
-use Rattle.model.specs.Values.{Third, free, sewn, critical, Dart, no-dart, Limits}
+use Rattle.model.specs.Values.{Third, free, sewn, critical, Dart, no-dart, Limits, room}
 use Rattle.model.specs.Cells.{dart-at, serials, held, next-in, opposite-in, third-at, previous-in}
 use Rattle.model.specs.Sound.{links-right, thirds-right, link-right, third-right, dart-in-range}
-use Rattle.model.specs.Image.{room, image, column, dart-in, block-in, dart-words, third-in, kind-word, link-word, is-image}
+use Rattle.model.specs.Image.{image, column, dart-in, block-in, dart-words, third-in, kind-word, link-word, is-image}
 use Rattle.laws.proofs.Tests.{and-left, all-at}
 use Rattle.laws.proofs.Members.{In, ascending-distinct}
 use Rattle.laws.specs.Order.{Ascending}

@@ -7,7 +7,7 @@ use lib.ListN.{length, getD, take, length-map}
 use Rattle.model.specs.Lists.{concat}
 use Rattle.model.specs.Cells.{faces, faces-in, vertex, vertices, vertex-number, volume-in, next-in, opposite-in}
 use Rattle.model.specs.Image.{column}
-use Rattle.model.specs.Departure.{pairs-once, vertex-pairs}
+use Rattle.model.specs.Links.{pairs-once, vertex-pairs}
 use Rattle.laws.proofs.Members.{In, distinct-fewer}
 use Rattle.cells.specs.Places.{InOrder, Marked, Numbered, ends-once, marked, volume-of}
 use Rattle.cells.proofs.Sited.{Sited, darts-in, count-in}

@@ -10,7 +10,7 @@ use native.Mathlib.Numerals.{add-one}
 use lib.Seq.{getD-set-same, getD-set-other, getD-take, length-take-le, take-suc-set}
 use borrow.Author.Tests.{eqb-true, eqb-false, ne-eqb}
 use Rattle.model.specs.Lists.{distinct, keep, mem, tab, sum}
-use Rattle.model.specs.Image.{room}
+use Rattle.model.specs.Values.{room}
 use Rattle.laws.proofs.Tests.{by-cases}
 use Rattle.laws.proofs.Members.{In, distinct-append, in-eq, in-getD, in-here, in-there}
 use Rattle.laws.proofs.Volumes.{Volume}

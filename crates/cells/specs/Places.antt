@@ -7,8 +7,9 @@ use lib.Dec.{eqb}
 use lib.ListN.{length, getD, set, take}
 use Rattle.model.specs.Lists.{all, keep, mem, distinct, tab, concat}
 use Rattle.model.specs.Cells.{volume, ring, vertex, vertices, vertex-number}
-use Rattle.model.specs.Image.{room, words, column}
-use Rattle.model.specs.Departure.{placed}
+use Rattle.model.specs.Image.{words, column}
+use Rattle.model.specs.Values.{room}
+use Rattle.model.specs.Links.{placed}
 use Rattle.laws.specs.Order.{Ascending}
 
 -- f takes the places below n to places below n

@@ -2,7 +2,7 @@
 ghost use mathlib.Core.Path.{_≡_};
 ghost use Prim.Native.Nat.{ℕ, _≤_, _<_};
 ghost use lib.ListN.{length, getD, replicate, take};
-ghost use Rattle.model.specs.Image.{room};
+ghost use Rattle.model.specs.Values.{room};
 ghost use Rattle.cells.specs.Places.{Painted};
 
 // Unmarks the first `count` places of `order`.

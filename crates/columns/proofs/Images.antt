@@ -12,10 +12,10 @@ use lib.ListN.{length, getD, replicate}
 use lib.Seq.{getD-append-add, ext-getD}
 use borrow.Author.Tests.{le-leb, lt-ltb, leb-true, ltb-true}
 use Rattle.model.specs.Lists.{all, tab, ascending, concat, index-of}
-use Rattle.model.specs.Values.{free, sewn, critical, Dart, no-dart, Block, rack, serial-bound}
+use Rattle.model.specs.Values.{free, sewn, critical, Dart, no-dart, Block, rack, serial-bound, room}
 use Rattle.model.specs.Cells.{serials}
 use Rattle.model.specs.Sound.{third-in-range, dart-in-range, ranges-right}
-use Rattle.model.specs.Image.{room, words, kind-word, link-word, dart-words, image, column, label-in, third-in, dart-in, block-in}
+use Rattle.model.specs.Image.{words, kind-word, link-word, dart-words, image, column, label-in, third-in, dart-in, block-in}
 use Rattle.laws.proofs.Tests.{by-cases, lt-or-ge, and-intro, and-left, and-right}
 use Rattle.laws.proofs.Lists.{getD-zeros}
 use Rattle.laws.specs.Order.{Ascending}

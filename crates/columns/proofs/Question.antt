@@ -7,8 +7,8 @@ use lib.Dec.{leb}
 use lib.ListN.{length}
 use borrow.Author.Tests.{le-leb, leb-true}
 use Rattle.model.specs.Lists.{distinct, same-list}
-use Rattle.model.specs.Values.{rack, finite}
-use Rattle.model.specs.Image.{room, words, image, column, block-in, is-image}
+use Rattle.model.specs.Values.{rack, finite, room}
+use Rattle.model.specs.Image.{words, image, column, block-in, is-image}
 use Rattle.laws.proofs.Tests.{and-intro, and-left, and-right, same-list-self}
 use Rattle.theory.proofs.ImageLaws.{parts-of, parts-sound, image-is}
 use Rattle.columns.specs.Columns.{all-below, count, Ranged, Finite, OneToOne, own-test, link-test, third-test, point-test, codes}

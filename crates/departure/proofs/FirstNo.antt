@@ -8,11 +8,12 @@ use native.Mathlib.Omega.{arith}
 use lib.Dec.{leb, ltb, eqb}
 use lib.ListN.{length, getD, take}
 use borrow.Author.Tests.{leb-true, ltb-true, le-leb, lt-leb, not-true, not-false}
-use Rattle.model.specs.Values.{rack}
+use Rattle.model.specs.Values.{rack, room}
 use Rattle.model.specs.Lists.{all, any, keep}
 use Rattle.model.specs.Cells.{start-of, held, next-in, opposite-in, third-at, volume-in}
-use Rattle.model.specs.Image.{room, column, block-in, is-image}
-use Rattle.model.specs.Departure.{departure-checks, is-sewn-into, pairs-once, sewn-faces, vertex-pairs}
+use Rattle.model.specs.Image.{column, block-in, is-image}
+use Rattle.model.specs.Departure.{departure-checks, is-sewn-into, sewn-faces}
+use Rattle.model.specs.Links.{pairs-once, vertex-pairs}
 use Rattle.model.specs.Calls.{served, refused}
 use Rattle.answers.specs.Answers.{answered}
 use Rattle.answers.proofs.Questions.{alone, ask-no, ask-yes, ask-end, said-no, said-yes}

@@ -14,7 +14,8 @@ use Rattle.model.specs.Values.{Label, Dart, is-critical-with}
 use Rattle.model.specs.Cells.{cycle, ring, vertex, vertices, vertex-number, start-of, faces, faces-in, dart-at, next-in, opposite-in, third-at, volume-in}
 use Rattle.model.specs.Image.{column, third-in, dart-in, block-in}
 use Rattle.model.specs.Messages.{FaceDart}
-use Rattle.model.specs.Departure.{Placed, placed, part2-entry, part3-from, part4-entry, is-sewn-out-of, least-labels, transfer-of, update-for, updates-of}
+use Rattle.model.specs.Departure.{part2-entry, part3-from, part4-entry, is-sewn-out-of, least-labels, transfer-of, update-for, updates-of}
+use Rattle.model.specs.Links.{Placed, placed}
 use Rattle.laws.proofs.Tests.{by-cases, and-left}
 use Rattle.laws.proofs.Members.{In, in-eq, in-getD, in-append-left, in-append-right, map-map, map-cong, keep-map, Each, map-each, keep-each, each-kept, collect-each, collect-map}
 use Rattle.laws.proofs.Tables.{dart-place}

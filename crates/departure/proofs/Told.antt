@@ -3,7 +3,8 @@ use mathlib.Core.Path.{_≡_, subst}
 use mathlib.Core.List.{List}
 use Prim.Native.Nat.{ℕ}
 use lib.ListN.{replicate}
-use Rattle.model.specs.Image.{room, block-in}
+use Rattle.model.specs.Image.{block-in}
+use Rattle.model.specs.Values.{room}
 use Rattle.model.specs.Departure.{departure-checks}
 use Rattle.model.specs.Calls.{refused}
 use Rattle.answers.specs.Answers.{answered, question}

@@ -5,7 +5,8 @@ use Prim.Native.Nat.{ℕ, _+_, _≤_, _<_, _^_}
 use lib.ListN.{length, getD, replicate, take}
 use Rattle.model.specs.Lists.{keep}
 use Rattle.model.specs.Cells.{faces, start-of}
-use Rattle.model.specs.Image.{room, column, block-in}
+use Rattle.model.specs.Image.{column, block-in}
+use Rattle.model.specs.Values.{room}
 use Rattle.model.specs.Departure.{departure-checks}
 use Rattle.model.specs.Calls.{served, refused}
 use Rattle.answers.specs.Answers.{answered, question}

@@ -9,7 +9,7 @@ use native.Mathlib.Omega.{arith}
 use lib.Dec.{leb, ltb, eqb}
 use lib.ListN.{length, getD}
 use borrow.Author.Tests.{eqb-true, eqb-false, eq-eqb, ne-eqb, ltb-true, lt-ltb, leb-true, leb-false, not-true}
-use Rattle.model.specs.Lists.{all, any, keep, mem, distinct, ascending, find, firsts, more, collect, least, least-from}
+use Rattle.model.specs.Lists.{all, any, keep, mem, tab, distinct, ascending, find, firsts, more, collect, least, least-from}
 use Rattle.laws.proofs.Tests.{by-cases, and-intro, and-left, and-right, not-equal}
 
 -- MEMBERS
@@ -226,6 +226,10 @@ least-below (y ∷ l) x h = in-cons x y l h (λ e. omega (arith, least-from-le y
 abbrev pub Each : {A : Type 0} → (A → Type 0) → List A → Type 0
 Each P [] = Unit {0}
 Each P (x ∷ xs) = P x × Each P xs
+
+pub each-tab : {A : Type 0} (P : A → Type 0) (f : ℕ → A) (n : ℕ) → ((i : ℕ) → i < n → P (f i)) → Each P (tab f n)
+each-tab P f zero h = tt
+each-tab P f (suc n) h = (h 0 (omega arith), each-tab P (λ k. f (suc k)) n (λ i l. h (suc i) (omega (arith, l))))
 
 pub each-append : {A : Type 0} (P : A → Type 0) (xs ys : List A) → Each P xs → Each P ys → Each P (xs ++ ys)
 each-append P [] ys a b = b

@@ -10,7 +10,8 @@ use borrow.Author.Tests.{eq-eqb, ne-eqb, le-leb, lt-leb}
 use Rattle.laws.proofs.Lists.{drop-zeros}
 use Rattle.model.specs.Lists.{concat}
 use Rattle.model.specs.Cells.{labels}
-use Rattle.model.specs.Image.{room, words, image, new-block}
+use Rattle.model.specs.Image.{words, image, new-block}
+use Rattle.model.specs.Values.{room}
 use Rattle.memory.specs.Header.{empty-header, header-words}
 use Rattle.memory.specs.declared.header.Header.{Header}
 use Rattle.model.specs.Calls.{served, refused, storing, empty}

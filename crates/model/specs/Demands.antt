@@ -10,10 +10,12 @@ use lib.ListN.{length, take, drop}
 use Rattle.model.specs.Lists.{all, mem, concat}
 use Rattle.model.specs.Values.{Block, Limits, Point}
 use Rattle.model.specs.Sound.{Sound, block-at}
-use Rattle.model.specs.Image.{words, image, is-image}
+use Rattle.model.specs.Image.{words, words-of, image, memory-of, is-image}
 use Rattle.model.specs.Balance.{Oracle, Move, move, positive-surplus}
 use Rattle.model.specs.Calls.{served, refused, number-of, Result, empty, read-file, save-file, send, receive, release, redirect, check-mesh, next-move, next-move-by-number}
-use Rattle.model.specs.Runs.{Request, memory-at, is-refused, finished, unfinished, Step, last-steps, sent-messages, Round, round, State, start, whole-map, holder, Undivided, undivided}
+use Rattle.model.specs.Runs.{Request, is-refused, finished, unfinished}
+use Rattle.model.specs.UndividedRun.{State, start, whole-map, holder, Undivided, undivided}
+use Rattle.model.specs.DividedRun.{memory-at, Step, last-steps, sent-messages, Round, round}
 
 -- DEMAND 1: "A refused call returns that number only and changes no byte that was lent to it"
 pub record Unchanged {A : Type 0} (lent : List ℕ) (r : Result A) : Type 0 where
@@ -21,7 +23,7 @@ pub record Unchanged {A : Type 0} (lent : List ℕ) (r : Result A) : Type 0 wher
   pub numbered : (n : ℕ) → r .answer ≡ refused n → n ≢ 0
 
 pub record Demand1 (lim : Limits) (lims : ℕ → Limits) : Type 0 where
-  pub empty-keeps : (n : ℕ) (m : List ℕ) → Unchanged m (empty n m)
+  pub empty-keeps : (n : ℕ) (m : List ℕ) → Unchanged m (empty lim n m)
   pub read-file-keeps : (file m : List ℕ) → Unchanged m (read-file lim file m)
   pub save-file-keeps : (m out : List ℕ) → Unchanged out (save-file lim m out)
   pub send-keeps : (m : List ℕ) (j s : ℕ) (outbox : List ℕ) → Unchanged outbox (send lim m j s outbox)
@@ -40,7 +42,7 @@ abbrev pub Leaves-image : Limits → Result (Unit {0}) → Type 0
 Leaves-image lim r = r .answer ≡ served tt → is-image lim (r .lent) ≡ true
 
 pub record LeavesSound (lim : Limits) : Type 0 where
-  pub empty-leaves : (n : ℕ) (m : List ℕ) → Leaves-image lim (empty n m)
+  pub empty-leaves : (n : ℕ) (m : List ℕ) → Leaves-image lim (empty lim n m)
   pub read-file-leaves : (file m : List ℕ) → Bytes file → Leaves-image lim (read-file lim file m)
   pub receive-leaves : (m message : List ℕ) → Bytes message → Leaves-image lim (receive lim m message)
   pub release-leaves : (m : List ℕ) (j s : ℕ) → Leaves-image lim (release lim m j s)
@@ -49,7 +51,7 @@ pub record LeavesSound (lim : Limits) : Type 0 where
 -- DEMAND 2
 pub record Demand2 (lim : Limits) : Type 0 where
   -- "what is written reads back to the same block"
-  pub reads-back : (m out into : List ℕ) (n : ℕ) → length into ≡ words → save-file lim m out .answer ≡ served n
+  pub reads-back : (m out into : List ℕ) (n : ℕ) → length into ≡ words-of lim → save-file lim m out .answer ≡ served n
       → read-file lim (take n (save-file lim m out .lent)) into ≡ record { answer = served tt; lent = m }
   -- "every file that is read is written back byte for byte"
   pub writes-back : (file into out : List ℕ) → Bytes file → length file ≤ length out → read-file lim file into .answer ≡ served tt
@@ -62,7 +64,7 @@ pub record Demand2 (lim : Limits) : Type 0 where
 -- no number is used again.
 pub record Matches (lims : ℕ → Limits) (ms : List (List ℕ)) (u : State) : Type 0 where
   pub mesh : List Block
-  pub images : ms ≡ map image mesh
+  pub images : ms ≡ map (memory-of lims) mesh
   pub sound : Sound lims mesh
   pub same-map : (x : ℕ) → whole-map mesh x ≡ u .links x
   pub same-cells : (x : ℕ) → mem x (u .darts) ≡ true → holder mesh x ≡ u .number x
@@ -97,21 +99,21 @@ Named k rs = all (λ r. ltb (r .from) k && ltb (r .to) k) rs ≡ true
 -- "Two runs agree on every list of requests to move a cell, refused ones included, started from any sound mesh"
 abbrev pub Demand3 : (ℕ → Limits) → Type 0
 Demand3 lims = (m : List Block) (rs : List Request) → Sound lims m → Named (length m) rs
-    → Matches lims (map image m) (start m) × After-every (Agree lims) lims (map image m) (start m) rs
+    → Matches lims (map (memory-of lims) m) (start m) × After-every (Agree lims) lims (map (memory-of lims) m) (start m) rs
 
 -- and by the same number; with limits that differ a number may differ too, so this stands apart
 abbrev pub SameNumbers : (ℕ → Limits) → Type 0
 SameNumbers lims = (m : List Block) (rs : List Request) → Sound lims m → Named (length m) rs
-    → After-every (λ d w. d .outcome ≡ w .outcome) lims (map image m) (start m) rs
+    → After-every (λ d w. d .outcome ≡ w .outcome) lims (map (memory-of lims) m) (start m) rs
 
 -- THE NEXT MOVE: "Each move carried out lowers the sum of positive surpluses by one"
 abbrev pub MoveLowers : (ℕ → Limits) → Type 0
 MoveLowers lims = (m : List Block) (o : Oracle) (scratch outbox : List ℕ) (t : Move) (order : List Step) → Sound lims m
-    → next-move lims (concat (map image m)) o scratch .answer ≡ served (move t)
+    → next-move lims (concat (map (image words) m)) o scratch .answer ≡ served (move t)
     → let r : Request = record { from = t .donor; to = t .recipient; serial = t .serial } in
-    Enough lims (map image m) r outbox → List·Permᴰ order (last-steps r (sent-messages lims (map image m) r outbox))
-    → (round lims (map image m) r outbox order .outcome ≡ finished)
-    × ((after : List Block) → round lims (map image m) r outbox order .memories ≡ map image after → suc (positive-surplus o after) ≡ positive-surplus o m)
+    Enough lims (map (memory-of lims) m) r outbox → List·Permᴰ order (last-steps r (sent-messages lims (map (memory-of lims) m) r outbox))
+    → (round lims (map (memory-of lims) m) r outbox order .outcome ≡ finished)
+    × ((after : List Block) → round lims (map (memory-of lims) m) r outbox order .memories ≡ map (memory-of lims) after → suc (positive-surplus o after) ≡ positive-surplus o m)
 
 -- THE OUTBOX: so many bytes are always enough
 abbrev pub outbox-bytes : ℕ

@@ -9,7 +9,8 @@ use lib.ListN.{length, getD, length-append}
 use borrow.Author.Tests.{lt-ltb, le-ltb}
 use Rattle.model.specs.Layouts.{group}
 use Rattle.model.specs.Messages.{point, label, face-dart, part2, part3}
-use Rattle.model.specs.Image.{room, column, label-in}
+use Rattle.model.specs.Image.{column, label-in}
+use Rattle.model.specs.Values.{room}
 use Rattle.memory.specs.Point.{point-of, patterns, FinitePoint, FiniteAt}
 use Rattle.memory.specs.declared.point.Point.{Point}
 use Rattle.memory.proofs.Points.{point-finite, point-patterns}

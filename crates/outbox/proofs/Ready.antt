@@ -9,9 +9,9 @@ use lib.ListN.{length, getD, take, length-append}
 use lib.Seq.{getD-take, length-take-le}
 use borrow.Author.Tests.{leb-true, ltb-true}
 use Rattle.model.specs.Lists.{concat, mem}
-use Rattle.model.specs.Values.{Third, free, sewn, critical, Label, rack, serial-bound, finite, finite-bits}
+use Rattle.model.specs.Values.{Third, free, sewn, critical, Label, rack, serial-bound, finite, finite-bits, room}
 use Rattle.model.specs.Sound.{third-in-range, dart-in-range, coordinates-finite}
-use Rattle.model.specs.Image.{room, column, dart-in, dart-words, kind-word, is-image}
+use Rattle.model.specs.Image.{column, dart-in, dart-words, kind-word, is-image}
 use Rattle.laws.proofs.Tests.{and-left, and-right}
 use Rattle.laws.proofs.Members.{In, getD-in}
 use Rattle.laws.proofs.Tables.{all-tab}

@@ -11,7 +11,7 @@ use Rattle.model.specs.Lists.{keep}
 use Rattle.model.specs.Cells.{start-of}
 use Rattle.model.specs.Layouts.{groups, group-below, group, such-that, at-most, exactly, counted, framed, _⊗_, _⊕_, as-type}
 use Rattle.model.specs.Messages.{Transfer, point, face-dart, part1, part2, part3, part4, transfer}
-use Rattle.model.specs.Departure.{placed}
+use Rattle.model.specs.Links.{placed}
 use Rattle.model.specs.Image.{is-image}
 use Rattle.cells.specs.Places.{sewn-out}
 use Rattle.departure.specs.ByPlaces.{critical-with, critical-beside, part2-at, part4-at, transfer-at}

@@ -6,10 +6,10 @@ use mathlib.Core.List.{List, [], _++_}
 use Prim.Native.Nat.{ℕ, _+_, _-_, _/_, _≤_, _<_, _^_}
 use lib.Dec.{ltb}
 use lib.ListN.{length, getD}
-use Rattle.model.specs.Values.{serial-bound}
+use Rattle.model.specs.Values.{serial-bound, room}
 use Rattle.model.specs.Layouts.{group}
 use Rattle.model.specs.Messages.{point, label, face-dart, part2, part3}
-use Rattle.model.specs.Image.{room, words, column, dart-in}
+use Rattle.model.specs.Image.{words, column, dart-in}
 use Rattle.memory.specs.Point.{FiniteAt}
 use Rattle.cells.specs.Places.{sewn-out}
 use Rattle.departure.specs.ByPlaces.{critical-with, critical-beside, label-at, dart-entry}

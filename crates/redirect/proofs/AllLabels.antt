@@ -9,8 +9,8 @@ use lib.Dec.{ltb, eqb}
 use lib.ListN.{length, getD, take, drop, length-map}
 use borrow.Author.Tests.{eqb-true, lt-ltb, le-ltb, ltb-true, ltb-false}
 use Rattle.model.specs.Lists.{all, any, mem, distinct, ascending, insert, sorted, tab, index-of}
-use Rattle.model.specs.Values.{Label, code}
-use Rattle.model.specs.Image.{room, column}
+use Rattle.model.specs.Values.{Label, code, room}
+use Rattle.model.specs.Image.{column}
 use Rattle.model.specs.Layouts.{Layout, times, get-all}
 use Rattle.model.specs.Messages.{label}
 use Rattle.model.specs.Arrival.{names-face}

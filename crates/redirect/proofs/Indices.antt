@@ -9,9 +9,9 @@ use lib.Dec.{eqb}
 use lib.ListN.{length, getD, replicate, length-replicate}
 use borrow.Author.Tests.{eq-eqb, ne-eqb}
 use Rattle.model.specs.Lists.{mem, tab, index-of}
-use Rattle.model.specs.Values.{rack}
+use Rattle.model.specs.Values.{rack, room}
 use Rattle.model.specs.Cells.{cycle}
-use Rattle.model.specs.Image.{room, column, is-image}
+use Rattle.model.specs.Image.{column, is-image}
 use Rattle.laws.proofs.Tests.{by-cases}
 use Rattle.laws.proofs.Members.{In, in-eq}
 use Rattle.laws.proofs.Tables.{length-tab}

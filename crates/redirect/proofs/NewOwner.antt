@@ -12,7 +12,7 @@ use Rattle.model.specs.Lists.{all, any, mem, find, tab, concat-map}
 use Rattle.model.specs.Values.{Label, Third, Dart, code, with-other, with-third}
 use Rattle.model.specs.Cells.{third-at}
 use Rattle.model.specs.Image.{words, image, column, third-in, dart-in, block-in}
-use Rattle.model.specs.Departure.{Link, third-or, relink}
+use Rattle.model.specs.Links.{Link, third-or, relink}
 use Rattle.model.specs.Messages.{Update}
 use Rattle.model.specs.Arrival.{face-with, names-face, update-links, redirected}
 use Rattle.laws.proofs.Tests.{by-cases, and-left, and-right}

@@ -12,8 +12,8 @@ use Rattle.laws.specs.Order.{Ascending}
 use Rattle.laws.proofs.Members.{map-append}
 use Rattle.laws.proofs.Tables.{ascending-tab, index-place, index-none}
 use Rattle.model.specs.Lists.{ascending, sorted, tab, index-of}
-use Rattle.model.specs.Values.{Label, code}
-use Rattle.model.specs.Image.{room, label-in}
+use Rattle.model.specs.Values.{Label, code, room}
+use Rattle.model.specs.Image.{label-in}
 use Rattle.model.specs.Layouts.{times}
 use Rattle.model.specs.Messages.{label}
 use Rattle.theory.proofs.ImageLaws.{tab-list}

@@ -9,9 +9,9 @@ use lib.Dec.{ltb, eqb}
 use lib.ListN.{length, getD, take}
 use Rattle.laws.specs.Order.{Ascending}
 use Rattle.model.specs.Lists.{all, any, mem, distinct, least, tab, index-of}
-use Rattle.model.specs.Values.{Label, code}
+use Rattle.model.specs.Values.{Label, code, room}
 use Rattle.model.specs.Cells.{cycle}
-use Rattle.model.specs.Image.{room, column}
+use Rattle.model.specs.Image.{column}
 use Rattle.model.specs.Layouts.{times}
 use Rattle.model.specs.Messages.{label}
 use Rattle.columns.specs.Columns.{all-below}

@@ -4,7 +4,7 @@ ghost use Prim.Native.Nat.{_≤_, _<_};
 ghost use lib.ListN.{length, getD, take};
 ghost use Rattle.laws.specs.Order.{Ascending};
 ghost use Rattle.model.specs.Lists.{distinct, sorted, tab, index-of};
-ghost use Rattle.model.specs.Image.{room};
+ghost use Rattle.model.specs.Values.{room};
 ghost use Rattle.redirect.specs.ByPlaces.{CodesRead};
 use groups::Read;
 

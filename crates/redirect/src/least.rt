@@ -3,7 +3,8 @@ ghost use mathlib.Core.Path.{_≡_};
 ghost use Prim.Native.Nat.{_<_, min};
 ghost use lib.ListN.{length};
 ghost use Rattle.model.specs.Cells.{cycle};
-ghost use Rattle.model.specs.Image.{room, column};
+ghost use Rattle.model.specs.Image.{column};
+ghost use Rattle.model.specs.Values.{room};
 ghost use Rattle.cells.specs.Places.{Linked, Painted};
 ghost use Rattle.redirect.specs.ByPlaces.{face-code};
 

@@ -13,7 +13,7 @@ use Rattle.model.specs.Lists.{all, keep}
 use Rattle.model.specs.Values.{Label, critical, code}
 use Rattle.model.specs.Cells.{cycle, faces, start-of}
 use Rattle.model.specs.Image.{kind-word, link-word, column}
-use Rattle.model.specs.Departure.{Link, label-links, label-faces}
+use Rattle.model.specs.Links.{Link, label-links, label-faces}
 use Rattle.laws.proofs.Maps.{map-at}
 use Rattle.laws.proofs.Members.{In, in-here, in-there, keep-in, getD-in}
 use Rattle.laws.proofs.Orbits.{path}

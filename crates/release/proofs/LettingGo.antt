@@ -6,8 +6,8 @@ use Prim.Native.Nat.{ℕ, _+_, _*_, _-_, _<_, _^_}
 use native.Mathlib.Omega.{arith}
 use lib.ListN.{length, getD, drop, replicate}
 use borrow.Author.Tests.{eq-eqb, ne-eqb}
-use Rattle.model.specs.Values.{rack}
-use Rattle.model.specs.Image.{room, words, image, block-in, is-image, memory-checks}
+use Rattle.model.specs.Values.{rack, room}
+use Rattle.model.specs.Image.{words, image, block-in, is-image, memory-checks}
 use Rattle.model.specs.Departure.{departure-checks, released}
 use Rattle.model.specs.Calls.{Answer, served, refused, storing, release}
 use Rattle.answers.specs.Answers.{Gives, answered}

@@ -7,7 +7,8 @@ use native.Mathlib.Omega.{arith}
 use lib.ListN.{length, getD, set, take, drop, replicate, length-set, length-append, length-take, length-drop, replicate-append-replicate}
 use lib.Seq.{getD-set-same, getD-set-other, getD-drop, take-at, drop-at, drop-drop, length-take-le}
 use Rattle.model.specs.Lists.{concat}
-use Rattle.model.specs.Image.{room, words, column}
+use Rattle.model.specs.Image.{words, column}
+use Rattle.model.specs.Values.{room}
 use Rattle.laws.proofs.Tests.{eq-or-ne, last-or-below}
 use Rattle.laws.proofs.Members.{map-append}
 use Rattle.laws.proofs.Lists.{concat-snoc}

@@ -2,10 +2,10 @@
 ghost use mathlib.Core.Path.{_≡_};
 ghost use Prim.Native.Nat.{_+_, _≤_, _<_, _^_};
 ghost use lib.ListN.{length, getD};
-ghost use Rattle.model.specs.Values.{critical};
+ghost use Rattle.model.specs.Values.{critical, room};
 ghost use Rattle.model.specs.Cells.{cycle};
-ghost use Rattle.model.specs.Image.{room, words, column};
-ghost use Rattle.model.specs.Departure.{label-links};
+ghost use Rattle.model.specs.Image.{words, column};
+ghost use Rattle.model.specs.Links.{label-links};
 ghost use Rattle.cells.specs.Places.{InOrder};
 ghost use Rattle.departure.specs.Asked.{faces-at};
 ghost use Rattle.removal.specs.LetGo.{with-link, with-links, sewn-at, left-behind};

@@ -2,8 +2,8 @@
 ghost use mathlib.Core.Path.{_≡_};
 ghost use mathlib.Core.Bool.{true};
 ghost use lib.ListN.{length, replicate};
-ghost use Rattle.model.specs.Values.{rack};
-ghost use Rattle.model.specs.Image.{room, is-image};
+ghost use Rattle.model.specs.Values.{rack, room};
+ghost use Rattle.model.specs.Image.{is-image};
 ghost use Rattle.model.specs.Calls as calls;
 ghost use Rattle.answers.specs.Answers.{answer-of, Gives};
 ghost use Rattle.removal.specs.LetGo.{released-at};

@@ -10,10 +10,11 @@ use lib.ListN.{length, getD, drop, replicate, length-map, length-drop, length-re
 use lib.Seq.{ext-getD, getD-drop}
 use borrow.Author.Tests.{eq-eqb, ne-eqb, not-true}
 use Rattle.model.specs.Lists.{any, keep, mem, concat, find, index-of}
-use Rattle.model.specs.Values.{Label, Third, critical, Dart, rack, code, partner}
+use Rattle.model.specs.Values.{Label, Third, critical, Dart, rack, code, partner, room}
 use Rattle.model.specs.Cells.{serials, third-at, volume-in}
-use Rattle.model.specs.Image.{room, image, column, block-in, dart-in, dart-words, third-in, kind-word, link-word, is-image}
-use Rattle.model.specs.Departure.{Link, third-or, relink, label-faces, sewn-faces, departure-checks, released}
+use Rattle.model.specs.Image.{image, column, block-in, dart-in, dart-words, third-in, kind-word, link-word, is-image}
+use Rattle.model.specs.Departure.{sewn-faces, departure-checks, released}
+use Rattle.model.specs.Links.{Link, third-or, relink, label-faces}
 use Rattle.answers.specs.Answers.{answered}
 use Rattle.laws.proofs.Tests.{yes-first}
 use Rattle.laws.proofs.Lists.{getD-zeros}

@@ -7,8 +7,9 @@ use lib.Dec.{eqb}
 use lib.ListN.{length, getD, set, replicate}
 use Rattle.model.specs.Lists.{keep, concat, tab}
 use Rattle.model.specs.Cells.{start-of}
-use Rattle.model.specs.Image.{room, kind-word, link-word, column}
-use Rattle.model.specs.Departure.{Link, label-faces}
+use Rattle.model.specs.Image.{kind-word, link-word, column}
+use Rattle.model.specs.Values.{room}
+use Rattle.model.specs.Links.{Link, label-faces}
 use Rattle.cells.specs.Places.{sewn-out}
 use Rattle.departure.specs.Asked.{faces-at}
 

@@ -9,9 +9,9 @@ use lib.Dec.{leb, ltb, eqb}
 use lib.ListN.{length, getD}
 use borrow.Author.Tests.{eqb-true, leb-true, le-leb, ltb-true, lt-ltb}
 use Rattle.model.specs.Lists.{distinct}
-use Rattle.model.specs.Values.{rack}
+use Rattle.model.specs.Values.{rack, room}
 use Rattle.model.specs.Sound.{coordinates-finite, links-right, thirds-right, points-agree}
-use Rattle.model.specs.Image.{room, words, block-in, is-image, dart-in}
+use Rattle.model.specs.Image.{words, block-in, is-image, dart-in}
 use Rattle.laws.proofs.Tests.{by-cases, lt-or-ge, and-left, and-right, same-truth}
 use Rattle.laws.proofs.Tables.{length-tab}
 use Rattle.theory.proofs.ImageLaws.{image-is, image-length}

@@ -2,8 +2,8 @@
 ghost use mathlib.Core.Path.{_≡_};
 ghost use Prim.Native.Nat.{_≤_, _<_};
 ghost use lib.ListN.{length};
-ghost use Rattle.model.specs.Values.{finite};
-ghost use Rattle.model.specs.Image.{room, words, column, dart-in};
+ghost use Rattle.model.specs.Values.{finite, room};
+ghost use Rattle.model.specs.Image.{words, column, dart-in};
 ghost use Rattle.memory.specs.Point.{FiniteAt};
 ghost use Rattle.columns.specs.Columns.{Places, SewnPlaces, Finite, Darts, place-test, critical-test, kind-test, label-test, link-test, sewn-test, third-test, same-at, point-test, far-test};
 use memory::label;

@@ -10,15 +10,16 @@ use lib.Dec.{leb, eqb}
 use lib.ListN.{length, drop, length-append, length-map}
 use borrow.Author.Tests.{eqb-true, eqb-false, eq-eqb, le-leb, not-true}
 use Rattle.model.specs.Lists.{all, keep, concat, concat-map, collect, more, mem, distinct, tab, sum, Check, first-no}
-use Rattle.model.specs.Values.{Third, free, sewn, critical, Dart, Block, Limits, rack, code, label-of, is-critical-with}
+use Rattle.model.specs.Values.{Third, free, sewn, critical, Dart, Block, Limits, rack, code, label-of, is-critical-with, room}
 use Rattle.model.specs.Cells.{around, cycle, faces, start-of, next-in, opposite-in, third-at, vertex, vertices, volume-in, faces-in, labels-along, least-label, dart-at}
 use Rattle.laws.proofs.Faces.{faces-distinct, order-only}
 use Rattle.laws.proofs.Members.{In, in-here, in-there, in-keep, keep-in, keep-less, keep-ascending, ascending-distinct, distinct-not, Each, distinct-fewer, firsts-fewer, keep-le}
 use Rattle.laws.proofs.Tests.{by-cases, and-left, and-right, not-equal, yes-then, no-more, first-no-append, first-no-stays}
-use Rattle.model.specs.Departure.{is-sewn-out-of, departure-checks, Placed, placed, part2-entry, part3-from, part4-entry, transfer-of, least-labels, update-for, updates-of, messages}
+use Rattle.model.specs.Departure.{is-sewn-out-of, departure-checks, part2-entry, part3-from, part4-entry, transfer-of, least-labels, update-for, updates-of, messages}
+use Rattle.model.specs.Links.{Placed, placed}
 use Rattle.model.specs.Calls.{writing, send}
 use Rattle.model.specs.Demands.{outbox-bytes, OutboxSuffices}
-use Rattle.model.specs.Image.{room, block-in, memory-checks}
+use Rattle.model.specs.Image.{block-in, memory-checks}
 use Rattle.model.specs.Sound.{sound-block}
 use Rattle.model.specs.Layouts.{Layout, group, _⊗_, _⊕_, as-type, such-that, at-most, exactly, put-all, times, counted, framed}
 use Rattle.model.specs.Messages.{FaceDart, Part4, Transfer, Update, point, face-dart, part1, part2, part3, part4, transfer, update}

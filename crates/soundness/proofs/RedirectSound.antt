@@ -14,7 +14,7 @@ use Rattle.model.specs.Values.{Label, Third, free, sewn, critical, Dart, Block,
 use Rattle.model.specs.Cells.{cycle, serials, dart-at, next-in, third-at, previous-in, least-label, labelled}
 use Rattle.model.specs.Sound.{third-in-range, dart-in-range, sound-block}
 use Rattle.model.specs.Messages.{Update}
-use Rattle.model.specs.Departure.{Link, third-or, relink}
+use Rattle.model.specs.Links.{Link, third-or, relink}
 use Rattle.model.specs.Arrival.{face-with, names-face, update-right, update-links, redirected}
 use Rattle.laws.proofs.Faces.{face, face-trans, face-sym}
 use Rattle.laws.proofs.Members.{In, keep-true}

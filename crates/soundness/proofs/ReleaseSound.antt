@@ -14,7 +14,8 @@ use Rattle.model.specs.Values.{Label, Third, free, sewn, critical, Dart, Block,
 use Rattle.model.specs.Cells.{around, cycle, volume, faces, start-of, serials, dart-at, next-in, opposite-in, third-at, volume-in, faces-in}
 use Rattle.model.specs.Sound.{third-in-range, dart-in-range, sound-block}
 use Rattle.model.specs.Image.{label-in}
-use Rattle.model.specs.Departure.{is-sewn-out-of, sewn-faces, departure-checks, Link, third-or, relink, label-faces, released}
+use Rattle.model.specs.Departure.{is-sewn-out-of, sewn-faces, departure-checks, released}
+use Rattle.model.specs.Links.{Link, third-or, relink, label-faces}
 use Rattle.laws.proofs.Faces.{face, face-sym, along-face}
 use Rattle.laws.proofs.KeptFaces.{kept-distinct, kept-few, kept-in, in-kept}
 use Rattle.laws.proofs.Members.{In, in-keep, keep-in, keep-le, keep-ascending, in-eq}

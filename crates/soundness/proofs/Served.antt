@@ -9,10 +9,10 @@ use lib.Dec.{leb, eqb}
 use lib.ListN.{length}
 use borrow.Author.Tests.{le-leb, leb-true, eqb-true}
 use Rattle.model.specs.Lists.{ascending, Check, first-no}
-use Rattle.model.specs.Values.{Block, Limits, rack}
+use Rattle.model.specs.Values.{Block, Limits, rack, room}
 use Rattle.model.specs.Cells.{labels}
-use Rattle.model.specs.Sound.{ranges-right, coordinates-finite, links-right, thirds-right, labels-right, points-agree, sound-block}
-use Rattle.model.specs.Image.{room, words, image, block-in, is-image, memory-checks, new-block}
+use Rattle.model.specs.Sound.{ranges-right, coordinates-finite, links-right, thirds-right, labels-right, points-agree, block-checks, sound-block}
+use Rattle.model.specs.Image.{words-of, image, block-in, is-image, memory-checks, new-block}
 use Rattle.model.specs.Layouts.{Layout, group, _⊗_, _⊕_, as-type, such-that, at-most, exactly, counted, unframed}
 use Rattle.model.specs.Messages.{Transfer, Update, label, transfer, update, Message, a-transfer, an-update, no-message, one-of, message-in}
 use Rattle.model.specs.Departure.{released}
@@ -75,33 +75,33 @@ module _ (lim : Limits) (fits : lim .block-darts ≤ room) where
       redirected-sound lim b fits sound u (update-small u ok) (eqb-true (u .to) (b .number) (and-left (eqb (u .to) (b .number)) _ (q17 .0))) (q22 .0)
 
   -- a call that stores a block which is sound if each answer is yes
-  storing-leaves : (qs : List Check) (m : List ℕ) (b : Block) → (first-no qs ≡ 0 → sound-block lim b ≡ true) → Leaves-image lim (storing qs m b)
+  storing-leaves : (qs : List Check) (m : List ℕ) (b : Block) → (first-no qs ≡ 0 → sound-block lim b ≡ true) → Leaves-image lim (storing lim qs m b)
   unfolding storing
   storing-leaves qs m b sound e =
-      let yes = served-value qs m tt (image b) tt e .0 in
-      subst (λ (r : Result (Unit {0})). is-image lim (r .lent) ≡ true) (sym (storing-serves qs m b yes)) (is-image-of lim b fits (sound yes))
+      let yes = served-value qs m tt (image (words-of lim) b) tt e .0 in
+      subst (λ (r : Result (Unit {0})). is-image lim (r .lent) ≡ true) (sym (storing-serves lim qs m b yes)) (is-image-of lim (words-of lim) b (omega arith) (sound yes))
 
   -- one on the memory of a block
   pub after-memory : (m : List ℕ) (qs : List Check) → first-no (memory-checks lim m ++ qs) ≡ 0 → (sound-block lim (block-in m) ≡ true) × (first-no qs ≡ 0)
   unfolding memory-checks
   after-memory m qs e =
-      let q1 = yes-first 1 (eqb (length m) words) _ (λ z. omega arith) e in
+      let q1 = yes-first 1 (eqb (length m) (words-of lim)) _ (λ z. omega arith) e in
       let q2 = yes-first 2 (is-image lim m) _ (λ z. omega arith) (q1 .1) in
       (image-is lim m (q2 .0) .1, q2 .1)
 
   empty-sound : (n : ℕ) → n ≤ 15 → sound-block lim (new-block n []) ≡ true
-  unfolding ascending sound-block ranges-right coordinates-finite links-right thirds-right labels-right points-agree new-block labels
+  unfolding ascending sound-block block-checks ranges-right coordinates-finite links-right thirds-right labels-right points-agree new-block labels
   empty-sound n h = rw (le-leb n 15 h, le-leb 0 (lim .block-darts) (omega arith)) refl
 
-  pub empty-leaves : (n : ℕ) (m : List ℕ) → Leaves-image lim (empty n m)
+  pub empty-leaves : (n : ℕ) (m : List ℕ) → Leaves-image lim (empty lim n m)
   unfolding empty
   empty-leaves n m = storing-leaves _ m (new-block n []) (λ e.
-      let q1 = yes-first 1 (eqb (length m) words) _ (λ z. omega arith) e in
+      let q1 = yes-first 1 (eqb (length m) (words-of lim)) _ (λ z. omega arith) e in
       let q9 = yes-first 9 (leb n 15) [] (λ z. omega arith) (q1 .1) in
       empty-sound n (leb-true n 15 (q9 .0)))
 
   pub read-file-leaves : (file m : List ℕ) → Bytes file → Leaves-image lim (read-file lim file m)
-  read-file-leaves file m h e = let r = read-as lim fits file m h e in subst (λ (l : List ℕ). is-image lim l ≡ true) (sym (r .stored)) (is-image-of lim (r .block) fits (r .sound))
+  read-file-leaves file m h e = let r = read-as lim fits file m h e in subst (λ (l : List ℕ). is-image lim l ≡ true) (sym (r .stored)) (is-image-of lim (words-of lim) (r .block) (omega arith) (r .sound))
 
   pub release-leaves : (m : List ℕ) (j s : ℕ) → Leaves-image lim (release lim m j s)
   unfolding release

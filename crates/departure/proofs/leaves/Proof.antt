@@ -4,8 +4,7 @@ use mathlib.Core.Path.{sym, _∙_, ap}
 use Prim.Native.Nat.{ℕ}
 use lib.ListN.{length, getD, length-replicate}
 use lib.Seq.{length-take-le}
-use Rattle.model.specs.Image.{room}
-use Rattle.model.specs.Values.{rack}
+use Rattle.model.specs.Values.{rack, room}
 use Rattle.cells.proofs.Sited.{sited}
 use Rattle.cells.proofs.Reached.{volume-linked}
 use Rattle.cells.proofs.Resets.{unmarked, listed-marked, listed-some}

@@ -3,7 +3,7 @@
 use mathlib.Core.Path.{_∙_, ap}
 use Prim.Native.Nat.{ℕ}
 use lib.ListN.{length, length-replicate}
-use Rattle.model.specs.Image.{room}
+use Rattle.model.specs.Values.{room}
 use borrow.Author.Tests.{not-true, not-false}
 use Rattle.redirect.proofs.AllLabels.{not-apart, apart-ready, all-told}
 use borrow.Author.Needs.{needs}

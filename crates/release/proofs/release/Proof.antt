@@ -2,7 +2,7 @@
 use Prim.Native.Nat.{ℕ}
 use mathlib.Core.Path.{refl}
 use lib.ListN.{length-replicate}
-use Rattle.model.specs.Image.{room}
+use Rattle.model.specs.Values.{room}
 use Rattle.answers.proofs.Questions.{said-yes}
 use Rattle.release.proofs.LettingGo.{size-refused, image-refused}
 use borrow.Author.Needs.{needs}

@@ -7,7 +7,8 @@ use Prim.Native.Nat.{ℕ, _-_, _≤_, _<_}
 use lib.ListN.{length, getD, length-replicate}
 use borrow.Author.Tests.{not-true, not-false}
 use Rattle.model.specs.Lists.{distinct}
-use Rattle.model.specs.Image.{room, column}
+use Rattle.model.specs.Image.{column}
+use Rattle.model.specs.Values.{room}
 use Rattle.cells.specs.Places.{ends-of}
 use Rattle.cells.proofs.PairLaws.{clear-stamps, ends-all, ends-not, true-more}
 use native.Mathlib.Omega.{arith}

@@ -5,7 +5,8 @@ use Prim.Native.Nat.{ℕ, _-_, _<_}
 use lib.ListN.{length, getD, length-set}
 use borrow.Author.Tests.{not-true, not-false}
 use Rattle.model.specs.Cells.{cycle, ring}
-use Rattle.model.specs.Image.{room, column}
+use Rattle.model.specs.Image.{column}
+use Rattle.model.specs.Values.{room}
 use Rattle.cells.proofs.Paths.{round, going-start, going-next}
 use Rattle.cells.proofs.RingLaws.{step-within, step-apart}
 use Rattle.cells.proofs.PairLaws.{Ending, going-in, stamped-first, stamped-next, stamped-size, ending-more, ending-twice, ending-all}

@@ -2,7 +2,7 @@
 -- The measure is what is left of the list. Assumes nothing.
 use Prim.Native.Nat.{_-_, _≤_}
 use lib.ListN.{take}
-use Rattle.model.specs.Image.{room}
+use Rattle.model.specs.Values.{room}
 use Rattle.cells.specs.Places.{Painted}
 use Rattle.cells.proofs.Paths.{paint-none}
 use Rattle.cells.proofs.Resets.{paint-listed, painted-all}

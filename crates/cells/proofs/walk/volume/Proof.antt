@@ -3,7 +3,8 @@
 use Prim.Native.Nat.{ℕ, _-_}
 use mathlib.Core.Path.{refl, sym, ap, _∙_}
 use lib.ListN.{length, length-replicate}
-use Rattle.model.specs.Image.{room, column}
+use Rattle.model.specs.Image.{column}
+use Rattle.model.specs.Values.{room}
 use Rattle.cells.specs.Places.{volume-of}
 use Rattle.cells.proofs.Walks.{Walk, walk-start, walk-step, walk-mid, walk-end, walk-count, walk-listed, queue-le, queue-room}
 use Rattle.cells.proofs.Reached.{volume-linked}

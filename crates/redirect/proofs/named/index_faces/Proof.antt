@@ -3,7 +3,7 @@
 use mathlib.Core.Path.{_∙_, sym, ap}
 use Prim.Native.Nat.{ℕ, _-_}
 use lib.ListN.{length, length-replicate}
-use Rattle.model.specs.Image.{room}
+use Rattle.model.specs.Values.{room}
 use Rattle.redirect.specs.ByPlaces.{code-index}
 use Rattle.redirect.proofs.Indices.{Indexing, indexing-start, indexing-skip, indexing-away, indexing-whole, indexing-end, index-few, index-away, index-there, linked-by}
 use Rattle.redirect.proofs.Hits.{Hitting, hitting-start, hitting-face, hitting-end}

@@ -2,7 +2,7 @@
 use Prim.Native.Nat.{_<_}
 use mathlib.Core.Path.{_≡_, sym, subst}
 use lib.ListN.{getD}
-use Rattle.model.specs.Image.{room}
+use Rattle.model.specs.Values.{room}
 use Rattle.memory.specs.declared.record.Record.{Record}
 use Rattle.release.proofs.Removing.{record-moved}
 use native.Mathlib.Omega.{arith}
