@@ -79,6 +79,9 @@ is-free-word k = eqb (k % 4) 0
 abbrev pub is-sewn-word : ℕ → Bool
 is-sewn-word k = eqb (k % 4) 1
 
+abbrev pub is-critical-word : ℕ → Bool
+is-critical-word k = eqb (k % 4) 2
+
 abbrev pub other-in : ℕ → ℕ
 other-in k = k / 4
 
