@@ -12,7 +12,7 @@ use lib.Seq.{getD-take}
 use borrow.Author.Tests.{eq-eqb, ne-eqb}
 use Rattle.model.specs.Lists.{any, keep, mem, distinct, index-of, firsts, concat}
 use Rattle.model.specs.Cells.{cycle, faces, ring, vertex, vertices, vertex-number, volume-in, next-in, opposite-in}
-use Rattle.model.specs.Image.{column}
+use Rattle.model.specs.Image.{count-in, column}
 use Rattle.model.specs.Values.{room}
 use Rattle.model.specs.Links.{same-pair, pairs-once, vertex-pairs}
 use Rattle.laws.proofs.Tests.{by-cases, and-intro, and-right, same-truth}
@@ -23,7 +23,7 @@ use Rattle.theory.proofs.ImageLaws.{place-back}
 use Rattle.cells.specs.Places.{Within, Apart, Closed, Marked, Numbered, Whole, Ended, ends-of, ends-once, marked, volume-of}
 use Rattle.cells.proofs.Reached.{places, in-places, within-places}
 use Rattle.cells.proofs.Paths.{apart-places, few-places}
-use Rattle.cells.proofs.Sited.{Sited, darts-in, count-in}
+use Rattle.cells.proofs.Sited.{Sited, darts-in}
 use Rattle.cells.proofs.Serials.{serials-apart}
 use Rattle.cells.proofs.FaceLaws.{marked-in, in-marked, distinct-few, stays, marked-distinct, order-distinct, has, only}
 use Rattle.cells.proofs.FaceSerials.{marked-below, volume-marked}

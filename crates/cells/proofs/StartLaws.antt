@@ -11,7 +11,7 @@ use lib.ListN.{length, getD, take, length-append, length-map, length-take, List�
 use lib.Seq.{take-suc, take-all, getD-append-add, getD-take}
 use Rattle.model.specs.Lists.{all, keep, concat}
 use Rattle.model.specs.Cells.{cycle, faces, volume-in, third-at, start-of}
-use Rattle.model.specs.Image.{column}
+use Rattle.model.specs.Image.{count-in, column}
 use Rattle.model.specs.Values.{room}
 use Rattle.model.specs.Departure.{sewn-faces, is-sewn-out-of}
 use Rattle.model.specs.Links.{Placed, placed}
@@ -19,7 +19,7 @@ use Rattle.laws.proofs.Members.{In, keep-in, keep-map, getD-in, keep-cong}
 use Rattle.laws.proofs.Orbits.{path}
 use Rattle.cells.specs.Places.{Within, Apart, InOrder, Marked, marked, sewn-out, volume-of}
 use Rattle.cells.proofs.Paths.{Round, round}
-use Rattle.cells.proofs.Sited.{Sited, darts-in, count-in}
+use Rattle.cells.proofs.Sited.{Sited, darts-in}
 use Rattle.cells.proofs.SewnLaws.{sewn-out-is}
 use Rattle.cells.proofs.FaceLaws.{keep-append, marked-in}
 use Rattle.cells.proofs.FaceSerials.{faces-serials, marked-below}

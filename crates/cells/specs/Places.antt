@@ -7,7 +7,7 @@ use lib.Dec.{eqb}
 use lib.ListN.{length, getD, set, take}
 use Rattle.model.specs.Lists.{all, keep, mem, distinct, tab, concat}
 use Rattle.model.specs.Cells.{volume, ring, vertex, vertices, vertex-number}
-use Rattle.model.specs.Image.{words, column}
+use Rattle.model.specs.Image.{words-for, column}
 use Rattle.model.specs.Values.{room}
 use Rattle.model.specs.Links.{placed}
 use Rattle.laws.specs.Order.{Ascending}
@@ -23,7 +23,7 @@ Apart n f = (p q : ℕ) → p < n → q < n → f p ≡ f q → p ≡ q
 -- a block's memory whose first n records have their links within them; next and opposite are permutations
 pub record Linked (b : List ℕ) (n : ℕ) : Type 0 where
   pub few : n ≤ room
-  pub size : length b ≡ words
+  pub size : words-for n ≤ length b
   pub next-within : Within n (column b 1)
   pub next-apart : Apart n (column b 1)
   pub opposite-within : Within n (column b 2)

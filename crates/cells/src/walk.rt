@@ -1,9 +1,9 @@
 // The volume of a dart: a walk along next and opposite that marks what it meets.
 ghost use mathlib.Core.Path.{_≡_};
-ghost use Prim.Native.Nat.{_≤_, _<_};
+ghost use Prim.Native.Nat.{_+_, _≤_, _<_};
 ghost use lib.ListN.{length, getD, replicate, take};
 ghost use Rattle.model.specs.Lists.{least};
-ghost use Rattle.model.specs.Image.{words, column};
+ghost use Rattle.model.specs.Image.{words-for, column};
 ghost use Rattle.model.specs.Values.{room};
 ghost use Rattle.cells.specs.Places.{Linked, Listed, Marked, Visited, places-in, volume-of};
 use memory::record;
@@ -11,7 +11,7 @@ use memory::record::Place;
 
 // Word f of the dart at place p.
 pub fn field(block: &[u64], p: usize, f: usize) -> u64
-    requires { ⌜ (p < room) × (f < 8) × (length (now block) ≡ words) ⌝ }
+    requires { ⌜ (words-for (p + 1) ≤ length (now block)) × (f < 8) ⌝ }
     ensures { λ r. ⌜ r ≡ column (now (block .entry)) f p ⌝ }
 {
     record::field(block, Place(p), f)

@@ -11,7 +11,7 @@ use borrow.Author.Tests.{leb-true, ltb-true, le-leb, lt-leb, not-true, not-false
 use Rattle.model.specs.Values.{rack, room}
 use Rattle.model.specs.Lists.{all, any, keep}
 use Rattle.model.specs.Cells.{start-of, held, next-in, opposite-in, third-at, volume-in}
-use Rattle.model.specs.Image.{column, block-in, is-image}
+use Rattle.model.specs.Image.{count-in, column, block-in, is-image}
 use Rattle.model.specs.Departure.{departure-checks, is-sewn-into, sewn-faces}
 use Rattle.model.specs.Links.{pairs-once, vertex-pairs}
 use Rattle.model.specs.Calls.{served, refused}
@@ -25,7 +25,7 @@ use Rattle.memory.specs.declared.lookup.Found.{Found}
 use Rattle.memory.specs.declared.lookup.Found.the-variants.{At, Nothing}
 use Rattle.memory.proofs.Lookups.{place-at, held-at, held-nothing}
 use Rattle.cells.specs.Places.{InOrder, Marked, Numbered, ends-once, places-in, sewn-in, sewn-out, volume-of}
-use Rattle.cells.proofs.Sited.{Sited, count-in, darts-in, sited}
+use Rattle.cells.proofs.Sited.{Sited, darts-in, sited}
 use Rattle.cells.proofs.Serials.{volume-size}
 use Rattle.cells.proofs.SewnLaws.{question-12}
 use Rattle.cells.proofs.StartLaws.{in-order-few, question-14}
@@ -64,7 +64,7 @@ module _ (m : List ℕ) (ok : is-image rack m ≡ true) (j s : ℕ) {right : Boo
       found = sym ten ∙ held-there
 
       site : Sited m
-      site = sited rack m ok
+      site = sited m ok
 
       pub below : at .0 < count-in m
       below = place-at (column m 0) (count-in m) s found .0

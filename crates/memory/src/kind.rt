@@ -4,6 +4,7 @@ ghost use Prim.Native.Nat.{_+_, _*_, _<_};
 ghost use Rattle.model.specs.Image.{is-free-word, is-sewn-word, is-critical-word, other-in};
 
 pub const FREE: u64 = 0;
+
 pub const SEWN: u64 = 1;
 
 pub fn is_free(kind: u64) -> bool

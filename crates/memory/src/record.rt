@@ -26,13 +26,21 @@ pub struct Record {
 impl Record {
     // Words of a record, and the number of each.
     pub const SIZE: usize = 8;
+
     pub const SERIAL: usize = 0;
+
     pub const NEXT: usize = 1;
+
     pub const OPPOSITE: usize = 2;
+
     pub const KIND: usize = 3;
+
     pub const LINK: usize = 4;
+
     pub const X: usize = 5;
+
     pub const Y: usize = 6;
+
     pub const Z: usize = 7;
 }
 

@@ -11,13 +11,13 @@ use borrow.Author.Tests.{leb-true, ltb-true}
 use Rattle.model.specs.Lists.{concat, mem}
 use Rattle.model.specs.Values.{Third, free, sewn, critical, Label, rack, serial-bound, finite, finite-bits, room}
 use Rattle.model.specs.Sound.{third-in-range, dart-in-range, coordinates-finite}
-use Rattle.model.specs.Image.{column, dart-in, dart-words, kind-word, is-image}
+use Rattle.model.specs.Image.{count-in, column, dart-in, dart-words, kind-word, is-image}
 use Rattle.laws.proofs.Tests.{and-left, and-right}
 use Rattle.laws.proofs.Members.{In, getD-in}
 use Rattle.laws.proofs.Tables.{all-tab}
 use Rattle.memory.specs.Point.{FiniteAt}
 use Rattle.cells.specs.Places.{Linked}
-use Rattle.cells.proofs.Sited.{Sited, count-in, parts, read, sited, word-is}
+use Rattle.cells.proofs.Sited.{Sited, parts, read, sited, word-is}
 use Rattle.cells.proofs.StartLaws.{face-at, start-place}
 use Rattle.cells.proofs.PairsNumbered.{number-below}
 use Rattle.cells.proofs.VolumeReady.{out-below, out-long, out-whole}
@@ -31,7 +31,7 @@ use Rattle.outbox.proofs.ByFaces.{end-after, end-within}
 module _ (m : List ℕ) (ok : is-image rack m ≡ true) (p : ℕ) (h : p < count-in m) where
   kind-small : column m 3 p < 64
   unfolding dart-words
-  kind-small = go (dart-in m p .third) (word-is rack m ok p 3 h (omega arith)) (read rack m ok p h .in-range)
+  kind-small = go (dart-in m p .third) (word-is m ok p 3 h (omega arith)) (read m ok p h .in-range)
     where
       go : (t : Third) → column m 3 p ≡ kind-word t → third-in-range t ≡ true → column m 3 p < 64
       go free k r = omega arith
@@ -50,7 +50,7 @@ module _ (m : List ℕ) (ok : is-image rack m ≡ true) (p : ℕ) (h : p < count
   finite-there : FiniteAt m p
   unfolding coordinates-finite finite
   finite-there =
-      let r = all-tab (λ d. finite (d .point)) (dart-in m) (count-in m) (parts rack m ok .finite) p h in
+      let r = all-tab (λ d. finite (d .point)) (dart-in m) (count-in m) (parts m ok .finite) p h in
       let two = and-left (finite-bits (column m 5 p) && finite-bits (column m 6 p)) _ r in
       record {
         on-x = and-left (finite-bits (column m 5 p)) _ two;
@@ -77,7 +77,7 @@ opened-wide o h = record {
 -- A SURVEYED VOLUME
 module _ (m : List ℕ) (ok : is-image rack m ≡ true) {c : Counts} {marks order starts numbers firsts : List ℕ} (s : Surveyed m c marks order starts numbers firsts) where
   pub linked : Linked m (count-in m)
-  linked = sited rack m ok .linked
+  linked = sited m ok .linked
 
   pub some-face : (k : ℕ) → k < c .faces → 0 < length (getD (faces-at m marks) k [])
   some-face k h = face-at (count-in m) (column m 1) marks (linked .few) (linked .next-within) (linked .next-apart) k (omega (arith, s .order .count-is)) .0

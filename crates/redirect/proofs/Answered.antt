@@ -54,7 +54,7 @@ module _ (m s : List ℕ) where
 
 module _ (m : List ℕ) (ok : is-image rack m ≡ true) where
   size : length m ≡ words
-  size = sited rack m ok .linked .size
+  size = sited m ok .linked .size
 
   asked-by : (r : Message) {given : Answer (Unit {0})} {lent : List ℕ}
       → Asks (redirect-checks (block-in m) r) m tt (image (redirected-from (block-in m) r)) given lent
@@ -96,7 +96,7 @@ module _ (m : List ℕ) (ok : is-image rack m ≡ true) where
     right-is =
         ap
         (λ (b : Bool). (not (eqb (u .block) (u .from)) && not (eqb (u .block) (u .to))) && b && distinct (map code (u .labels)))
-        (names-all (sited rack m ok) (image-passed m ok) (u .from) (u .labels))
+        (names-all (sited m ok) (image-passed m ok) (u .from) (u .labels))
         ∙ together (not (eqb (u .block) (u .from)) && not (eqb (u .block) (u .to))) (all (names-at m (u .from)) (map code (u .labels))) (distinct (map code (u .labels)))
       where
         together : (a b c : Bool) → ((a && b) && c) ≡ (a && (b && c))
@@ -127,7 +127,7 @@ module _ (m : List ℕ) (ok : is-image rack m ≡ true) where
       labels-no k = record { gives = λ u w. right-no u (said-yes (here-is u w) yes-here) (right-by u w ∙ and-no ends _ (k u w)) }
 
       pub redirects-too-many : 4096 < o .count → Redirects m s o (refused 22) m
-      redirects-too-many h = labels-no (λ u w. too-many (sited rack m ok .linked) refl (o .from) (u .labels) (w .labels-in) h)
+      redirects-too-many h = labels-no (λ u w. too-many (sited m ok .linked) refl (o .from) (u .labels) (w .labels-in) h)
 
       module _ {table : List ℕ} {named : Bool} (n : AllNamed m s (o .from) (o .labels) (o .count) table named) where
         pub redirects-unnamed : not named ≡ true → Redirects m s o (refused 22) m
@@ -140,7 +140,7 @@ module _ (m : List ℕ) (ok : is-image rack m ≡ true) where
           where
             go : (u : Update) → UpdateOutlined u s o → Gives (redirect-by m (an-update u)) (served tt) m′
             go u w =
-                let site = sited rack m ok in
+                let site = sited m ok in
                 let said = sym (n .said (u .labels) (w .past) (w .labels-in)) ∙ not-false named k in
                 let names : all (names-face (darts-in m) (u .from)) (u .labels) ≡ true = names-all site (image-passed m ok) (u .from) (u .labels)
                 ∙ ap (λ (a : ℕ). all (names-at m a) (map code (u .labels))) (sym (w .from-is)) ∙ and-left (all (names-at m (o .from)) (map code (u .labels))) (distinct (map code (u .labels))) said in

@@ -46,7 +46,7 @@ pub index-along : (m : List ℕ) (ok : is-image rack m ≡ true) (from : ℕ) (c
     → In y (cycle (column m 1) x) → code-index m from codes c y ≡ code-index m from codes c x
 unfolding code-index
 index-along m ok from codes c x y h i =
-    let site = sited rack m ok in
+    let site = sited m ok in
     ap (λ (k : ℕ). cond (eqb k (2 + 4 * from)) (index-of (face-code m y) (tab (λ j. getD codes j 0) c)) 4097) (one-kind site (image-passed m ok) x y h i)
     ∙ ap (λ (a : ℕ). cond (critical-with m from x) (index-of a (tab (λ j. getD codes j 0) c)) 4097) (one-code (site .linked) x y h i)
 
@@ -110,7 +110,7 @@ indexing-end {index} {n} {p} {t} w h = record { size = w .size; index-is = λ q 
 -- IN A SOUND BLOCK'S MEMORY
 module _ (m : List ℕ) (ok : is-image rack m ≡ true) {n : ℕ} (same : n ≡ getD m 2 0) where
   pub linked-by : Linked m n
-  linked-by = subst (Linked m) (sym same) (sited rack m ok .linked)
+  linked-by = subst (Linked m) (sym same) (sited m ok .linked)
 
   pub indexing-whole : (from : ℕ) (codes : List ℕ) (c : ℕ) {p v : ℕ} {t t′ : List ℕ} → Indexing (code-index m from codes c) n p t → p < n
       → v ≡ code-index m from codes c p → Painted v (cycle (column m 1) p) t t′

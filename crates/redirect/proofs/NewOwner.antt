@@ -11,7 +11,7 @@ use borrow.Author.Tests.{eqb-true, lt-ltb, le-ltb}
 use Rattle.model.specs.Lists.{all, any, mem, find, tab, concat-map}
 use Rattle.model.specs.Values.{Label, Third, Dart, code, with-other, with-third}
 use Rattle.model.specs.Cells.{third-at}
-use Rattle.model.specs.Image.{words, image, column, third-in, dart-in, block-in}
+use Rattle.model.specs.Image.{count-in, words, image, column, third-in, dart-in, block-in}
 use Rattle.model.specs.Links.{Link, third-or, relink}
 use Rattle.model.specs.Messages.{Update}
 use Rattle.model.specs.Arrival.{face-with, names-face, update-links, redirected}
@@ -25,7 +25,7 @@ use Rattle.columns.proofs.Question.{Passed}
 use Rattle.columns.proofs.Links.{places}
 use Rattle.columns.proofs.ThirdLinks.{sewn-places}
 use Rattle.cells.proofs.Walks.{eq-or-ne}
-use Rattle.cells.proofs.Sited.{Sited, darts-in, count-in}
+use Rattle.cells.proofs.Sited.{Sited, darts-in}
 use Rattle.departure.specs.ByPlaces.{critical-with}
 use Rattle.redirect.specs.ByPlaces.{face-code, named-at, Rewritten}
 use Rattle.redirect.proofs.Names.{face-has}

@@ -12,7 +12,7 @@ use borrow.Author.Tests.{eq-eqb, ne-eqb, not-true}
 use Rattle.model.specs.Lists.{any, keep, mem, concat, find, index-of}
 use Rattle.model.specs.Values.{Label, Third, critical, Dart, rack, code, partner, room}
 use Rattle.model.specs.Cells.{serials, third-at, volume-in}
-use Rattle.model.specs.Image.{image, column, block-in, dart-in, dart-words, third-in, kind-word, link-word, is-image}
+use Rattle.model.specs.Image.{count-in, image, column, block-in, dart-in, dart-words, third-in, kind-word, link-word, is-image}
 use Rattle.model.specs.Departure.{sewn-faces, departure-checks, released}
 use Rattle.model.specs.Links.{Link, third-or, relink, label-faces}
 use Rattle.answers.specs.Answers.{answered}
@@ -29,7 +29,7 @@ use Rattle.cells.proofs.Reached.{places, places-below}
 use Rattle.cells.proofs.Serials.{serials-apart}
 use Rattle.cells.proofs.SewnLaws.{mark-is, question-12}
 use Rattle.cells.proofs.StartLaws.{sewn-faces-serials}
-use Rattle.cells.proofs.Sited.{Sited, darts-in, count-in, sited}
+use Rattle.cells.proofs.Sited.{Sited, darts-in, sited}
 use Rattle.departure.specs.Asked.{Departs}
 use Rattle.departure.specs.declared.Counts.{Counts}
 use Rattle.removal.specs.LetGo.{with-links, sewn-at, left-behind, unmarked, rank, moved-link, moved-words, records, without, released-at}
@@ -264,10 +264,10 @@ module _ (m : List ℕ) (ok : is-image rack m ≡ true) (j d : ℕ) {c : Counts}
       let q11 = yes-first 11 _ _ (λ z. omega arith) (q10 .1) in
       let q12 = yes-first 12 _ _ (λ z. omega arith) (q11 .1) in
       not-true (any (sewn-in m marks) (marked (count-in m) marks))
-      (sym (question-12 (sited rack m ok) (w .survey .place) (w .survey .place-below) (w .survey .volume-marked))
+      (sym (question-12 (sited m ok) (w .survey .place) (w .survey .place-below) (w .survey .volume-marked))
       ∙ rw (w .serial-is) (q12 .0))
 
   -- THE LAW OF RELEASE
   pub released-image : image (released (block-in m) j d) ≡ released-at m marks j
   released-image = ap (λ (y : ℕ). image (released (block-in m) j y)) (sym (w .serial-is))
-      ∙ image-left (sited rack m ok) (image-passed m ok) (w .survey .place) (w .survey .place-below) (w .survey .volume-marked) none-within j
+      ∙ image-left (sited m ok) (image-passed m ok) (w .survey .place) (w .survey .place-below) (w .survey .volume-marked) none-within j

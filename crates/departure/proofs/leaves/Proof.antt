@@ -21,7 +21,7 @@ use Rattle.departure.proofs.leaves.Tie as tie
 destination-right-requires : tie.Need-destination-right-requires
 destination-right-requires c κs =
     let start : tie.Start = search in
-    sited rack (start .args .block .now) (start .pre .0) .linked .size
+    sited (start .args .block .now) (start .pre .0) .linked .size
 
 returns : tie.Need-returns
 returns c =
@@ -34,14 +34,14 @@ returns c =
 shared-slice-read-n : tie.Need-shared-slice-read-n
 shared-slice-read-n c =
     let start : tie.Start = search in
-    omega (arith, sited rack (start .args .block .now) (start .pre .0) .linked .size)
+    omega (arith, sited (start .args .block .now) (start .pre .0) .linked .size)
 
 place-of-requires : tie.Need-place-of-requires
 place-of-requires c κs =
     let start : tie.Start = search in
     let m = start .args .block .now in
     let ok = start .pre .0 in
-    (sited rack m ok .linked .few, sited rack m ok .linked .size, sited rack m ok .ascends)
+    (sited m ok .linked .few, sited m ok .linked .size, sited m ok .ascends)
 
 enum-known-place : tie.Need-enum-known-place
 enum-known-place c = search needs
@@ -70,7 +70,7 @@ volume-requires c κs =
     let start : tie.Start = search in
     let m = start .args .block .now in
     let ok = start .pre .0 in
-    let linked = sited rack m ok .linked in
+    let linked = sited m ok .linked in
     let low = below m ok (start .args .to) (start .args .serial) destination-right-ensures if1-left place-of-ensures (place-given .1) in
     (linked, low, start .pre .1 .0 .1, start .pre .1 .0 .0)
 
@@ -81,7 +81,7 @@ unmark-requires c κs =
     let start : tie.Start = search in
     let m = start .args .block .now in
     let ok = start .pre .0 in
-    let linked = sited rack m ok .linked in
+    let linked = sited m ok .linked in
     let listed = volume-ensures .1 .1 in
     (listed .few, omega (arith, listed .few, listed .size), volume-ensures .0 .size, λ k h. omega (arith, listed .below k h, linked .few))
 
@@ -124,7 +124,7 @@ message-order-requires c κs =
     let serial = start .args .serial in
     let m = start .args .block .now in
     let ok = start .pre .0 in
-    let linked = sited rack m ok .linked in
+    let linked = sited m ok .linked in
     let low = below m ok to serial destination-right-ensures if1-left place-of-ensures (place-given .1) in
     let mk = volume-ensures .0 in
     let listed = volume-ensures .1 .1 in (
@@ -144,7 +144,7 @@ sewn-within-requires c κs =
     let start : tie.Start = search in
     let m = start .args .block .now in
     let ok = start .pre .0 in
-    let linked = sited rack m ok .linked in
+    let linked = sited m ok .linked in
     let low = below m ok (start .args .to) (start .args .serial) destination-right-ensures if1-left place-of-ensures (place-given .1) in
     let mk = volume-ensures .0 in
     let o = message-order-ensures .0 in
@@ -165,7 +165,7 @@ forget-requires c κs =
     let serial = start .args .serial in
     let m = start .args .block .now in
     let ok = start .pre .0 in
-    let linked = sited rack m ok .linked in
+    let linked = sited m ok .linked in
     let low = below m ok to serial destination-right-ensures if1-left place-of-ensures (place-given .1) in
     let mk = volume-ensures .0 in
     let o = message-order-ensures .0 in (
@@ -226,7 +226,7 @@ number-vertices-requires c κs =
     let start : tie.Start = search in
     let m = start .args .block .now in
     let ok = start .pre .0 in
-    let linked = sited rack m ok .linked in
+    let linked = sited m ok .linked in
     let low = below m ok (start .args .to) (start .args .serial) destination-right-ensures if1-left place-of-ensures (place-given .1) in
     let mk = volume-ensures .0 in
     let o = message-order-ensures .0 in
@@ -252,7 +252,7 @@ pairs-once-requires c κs =
     let serial = start .args .serial in
     let m = start .args .block .now in
     let ok = start .pre .0 in
-    let linked = sited rack m ok .linked in
+    let linked = sited m ok .linked in
     let low = below m ok to serial destination-right-ensures if1-left place-of-ensures (place-given .1) in
     let mk = volume-ensures .0 in
     let o = message-order-ensures .0 in (
@@ -283,7 +283,7 @@ forget-requires-2 c κs =
     let serial = start .args .serial in
     let m = start .args .block .now in
     let ok = start .pre .0 in
-    let linked = sited rack m ok .linked in
+    let linked = sited m ok .linked in
     let low = below m ok to serial destination-right-ensures if1-left place-of-ensures (place-given .1) in
     let mk = volume-ensures .0 in
     let o = message-order-ensures .0 in (
@@ -366,7 +366,7 @@ count-sewn-requires c κs =
     let start : tie.Start = search in
     let m = start .args .block .now in
     let ok = start .pre .0 in
-    (sited rack m ok .linked, volume-ensures .0 .size, message-order-ensures .0)
+    (sited m ok .linked, volume-ensures .0 .size, message-order-ensures .0)
 
 counter-fits-requires : tie.Need-counter-fits-requires
 counter-fits-requires c κs =
@@ -378,7 +378,7 @@ counter-fits-requires c κs =
     let start : tie.Start = search in
     let m = start .args .block .now in
     let ok = start .pre .0 in
-    (sited rack m ok .linked .size, ranges-in m ok .counter-small, sewn-few _ (message-order-ensures .0) count-sewn-ensures)
+    (sited m ok .linked .size, ranges-in m ok .counter-small, sewn-few _ (message-order-ensures .0) count-sewn-ensures)
 
 forget-requires-3 : tie.Need-forget-requires-3
 forget-requires-3 c κs =
@@ -396,7 +396,7 @@ forget-requires-3 c κs =
     let serial = start .args .serial in
     let m = start .args .block .now in
     let ok = start .pre .0 in
-    let linked = sited rack m ok .linked in
+    let linked = sited m ok .linked in
     let low = below m ok to serial destination-right-ensures if1-left place-of-ensures (place-given .1) in
     let mk = volume-ensures .0 in
     let o = message-order-ensures .0 in (

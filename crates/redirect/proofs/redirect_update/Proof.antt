@@ -12,7 +12,7 @@ use Rattle.redirect.proofs.redirect_update.Tie as tie
 for-here-requires : tie.Need-for-here-requires
 for-here-requires c κs =
     let start : tie.Start = search in
-    sited rack (start .args .block .now) (start .pre .0) .linked .size
+    sited (start .args .block .now) (start .pre .0) .linked .size
 
 same-length : tie.Need-same-length
 same-length c = search needs
@@ -51,7 +51,7 @@ returns-3 c =
 slice-read-n : tie.Need-slice-read-n
 slice-read-n c =
     let start : tie.Start = search in
-    omega (arith, sited rack (start .args .block .now) (start .pre .0) .linked .size)
+    omega (arith, sited (start .args .block .now) (start .pre .0) .linked .size)
 
 slice-aggregate-all-named : tie.Need-slice-aggregate-all-named
 slice-aggregate-all-named c = search needs
@@ -87,7 +87,7 @@ rewrite-requires : tie.Need-rewrite-requires
 rewrite-requires c κs =
     let start : tie.Start = search in
     let all-named-ensures = (let p : tie.After-all-named = search in p .all-named .ensures) in
-    let l = sited rack (start .args .block .now) (start .pre .0) .linked in
+    let l = sited (start .args .block .now) (start .pre .0) .linked in
     (l .few, l .size, all-named-ensures .size)
 
 same-length-5 : tie.Need-same-length-5

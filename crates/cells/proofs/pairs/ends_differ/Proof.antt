@@ -49,7 +49,7 @@ loop-holds c =
 field-requires : tie.Need-field-requires Inv-loop μ-loop
 field-requires c κs =
     let start : tie.Start Inv-loop μ-loop = search in
-    (omega (arith, c .loop .inv .going .below, start .pre .0 .0 .few), omega arith, start .pre .0 .0 .size)
+    (omega (arith, c .loop .inv .going .below, start .pre .0 .0 .size), omega arith)
 
 mul-b : tie.Need-mul-b Inv-loop μ-loop
 mul-b c =

@@ -51,7 +51,7 @@ field-requires c κs =
     let start : tie.Start Inv-loop μ-loop = search in
     let loop-inv = (let p : tie.At-loop Inv-loop μ-loop = search in p .loop .inv) in
     let loop-test-taken = (let p : tie.In-loop Inv-loop μ-loop = search in p .loop-test .taken) in
-    (omega (arith, loop-inv .queue .queued _ loop-test-taken .0, start .pre .0 .few), omega arith, start .pre .0 .size)
+    (omega (arith, loop-inv .queue .queued _ loop-test-taken .0, start .pre .0 .size), omega arith)
 
 visit-requires-2 : tie.Need-visit-requires-2 Inv-loop μ-loop
 visit-requires-2 c κs =
@@ -68,7 +68,7 @@ field-requires-2 c κs =
     let start : tie.Start Inv-loop μ-loop = search in
     let loop-inv = (let p : tie.At-loop Inv-loop μ-loop = search in p .loop .inv) in
     let loop-test-taken = (let p : tie.In-loop Inv-loop μ-loop = search in p .loop-test .taken) in
-    (omega (arith, loop-inv .queue .queued _ loop-test-taken .0, start .pre .0 .few), omega arith, start .pre .0 .size)
+    (omega (arith, loop-inv .queue .queued _ loop-test-taken .0, start .pre .0 .size), omega arith)
 
 visit-requires-3 : tie.Need-visit-requires-3 Inv-loop μ-loop
 visit-requires-3 c κs =
