@@ -11,7 +11,7 @@ use borrow.Author.Tests.{leb-true, ltb-true, le-leb, lt-leb, not-true, not-false
 use Rattle.model.specs.Values.{rack, room}
 use Rattle.model.specs.Lists.{all, any, keep}
 use Rattle.model.specs.Cells.{start-of, held, next-in, opposite-in, third-at, volume-in}
-use Rattle.model.specs.Image.{count-in, column, block-in, is-image}
+use Rattle.model.specs.Image.{count-in, column, block-in, holds-block}
 use Rattle.model.specs.Departure.{departure-checks, is-sewn-into, sewn-faces}
 use Rattle.model.specs.Links.{pairs-once, vertex-pairs}
 use Rattle.model.specs.Calls.{served, refused}
@@ -35,7 +35,7 @@ use Rattle.theory.proofs.ImageLaws.{image-is, parts-of, ranges-of, Ranges}
 use Rattle.departure.specs.Asked.{Departs, faces-at}
 
 -- what a sound block's header says
-pub ranges-in : (m : List ℕ) → is-image rack m ≡ true → Ranges rack (block-in m)
+pub ranges-in : (m : List ℕ) → holds-block m ≡ true → Ranges rack (block-in m)
 ranges-in m ok = ranges-of rack (block-in m) (parts-of rack (block-in m) (image-is rack m ok .1) .ranges)
 
 -- the faces that pass a test fit the arrays too
@@ -46,7 +46,7 @@ sewn-few {fs} q o e = omega (arith, in-order-few o .1, o .count-is, keep-le q fs
 abbrev FirstNo : List ℕ → ℕ → ℕ → ℕ → Type 0
 FirstNo m j s q = refused q ≡ answered (departure-checks 512 (block-in m) j s)
 
-module _ (m : List ℕ) (ok : is-image rack m ≡ true) (j s : ℕ) {right : Bool} (nine : right ≡ (leb j 15 && not (eqb j (getD m 0 0)))) where
+module _ (m : List ℕ) (ok : holds-block m ≡ true) (j s : ℕ) {right : Bool} (nine : right ≡ (leb j 15 && not (eqb j (getD m 0 0)))) where
   pub first-9 : not right ≡ true → FirstNo m j s 9
   unfolding departure-checks
   first-9 h = alone _ (ask-no refl (said-no nine h) refl)

@@ -4,8 +4,8 @@ ghost use mathlib.Core.Bool.{true, not, _&&_};
 ghost use Prim.Native.Nat.{ℕ, _+_, _≤_, _<_, _^_};
 ghost use lib.Dec.{leb, ltb, eqb};
 ghost use lib.ListN.{length, getD, replicate, take};
-ghost use Rattle.model.specs.Values.{rack, room};
-ghost use Rattle.model.specs.Image.{words, is-image};
+ghost use Rattle.model.specs.Values.{room};
+ghost use Rattle.model.specs.Image.{holds-block};
 ghost use Rattle.cells.specs.Places.{Marked};
 ghost use Rattle.departure.specs.Asked.{Forgotten, Leaves};
 use answers::Refusal;
@@ -29,7 +29,7 @@ pub enum Leaving {
 
 // 9: is the destination at most 15 and not this block?
 fn destination_right(block: &[u64], to: u64) -> bool
-    requires { ⌜ length (now block) ≡ words ⌝ }
+    requires { ⌜ 8 ≤ length (now block) ⌝ }
     ensures { λ r. ⌜ r ≡ (leb to 15 && not (eqb to (getD (now (block .entry)) 0 0))) ⌝ }
 {
     (to <= 15) & (to != block[0])
@@ -37,7 +37,7 @@ fn destination_right(block: &[u64], to: u64) -> bool
 
 // 14: does the counter stay a number below 2^32, with one more for each face sewn to another volume?
 fn counter_fits(block: &[u64], sewn: usize) -> bool
-    requires { ⌜ (length (now block) ≡ words) × (getD (now block) 1 0 < 2 ^ 32) × (sewn ≤ room) ⌝ }
+    requires { ⌜ (8 ≤ length (now block)) × (getD (now block) 1 0 < 2 ^ 32) × (sewn ≤ room) ⌝ }
     ensures { λ r. ⌜ r ≡ ltb (getD (now (block .entry)) 1 0 + sewn) (2 ^ 32) ⌝ }
 {
     block[1] + (sewn as u64) < 4294967296
@@ -68,7 +68,7 @@ pub fn leaves(
     firsts: &mut [usize],
     stamps: &mut [usize],
 ) -> Leaving
-    requires { ⌜ is-image rack (now block) ≡ true ⌝ }
+    requires { ⌜ holds-block (now block) ≡ true ⌝ }
     requires { ⌜ (now marks ≡ replicate room 0) × (length (now out) ≡ room) × (length (now starts) ≡ room) × (now seen ≡ replicate room 0) ⌝ }
     requires { ⌜ (length (now numbers) ≡ room) × (length (now firsts) ≡ room) × (length (now stamps) ≡ 512) ⌝ }
     ensures answer { λ r. ⌜ Leaves (now (block .entry)) to serial r (now (marks .exit)) (now (out .exit)) (now (starts .exit)) (now (numbers .exit)) (now (firsts .exit)) ⌝ }

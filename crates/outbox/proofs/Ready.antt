@@ -9,9 +9,9 @@ use lib.ListN.{length, getD, take, length-append}
 use lib.Seq.{getD-take, length-take-le}
 use borrow.Author.Tests.{leb-true, ltb-true}
 use Rattle.model.specs.Lists.{concat, mem}
-use Rattle.model.specs.Values.{Third, free, sewn, critical, Label, rack, serial-bound, finite, finite-bits, room}
+use Rattle.model.specs.Values.{Third, free, sewn, critical, Label, serial-bound, finite, finite-bits, room}
 use Rattle.model.specs.Sound.{third-in-range, dart-in-range, coordinates-finite}
-use Rattle.model.specs.Image.{count-in, column, dart-in, dart-words, kind-word, is-image}
+use Rattle.model.specs.Image.{count-in, column, dart-in, dart-words, kind-word, holds-block}
 use Rattle.laws.proofs.Tests.{and-left, and-right}
 use Rattle.laws.proofs.Members.{In, getD-in}
 use Rattle.laws.proofs.Tables.{all-tab}
@@ -28,7 +28,7 @@ use Rattle.outbox.specs.Bytes.{Listed, Opened, Pointed, Started, Vertexe
 use Rattle.outbox.proofs.ByFaces.{end-after, end-within}
 
 -- WORDS OF A SOUND BLOCK
-module _ (m : List ℕ) (ok : is-image rack m ≡ true) (p : ℕ) (h : p < count-in m) where
+module _ (m : List ℕ) (ok : holds-block m ≡ true) (p : ℕ) (h : p < count-in m) where
   kind-small : column m 3 p < 64
   unfolding dart-words
   kind-small = go (dart-in m p .third) (word-is m ok p 3 h (omega arith)) (read m ok p h .in-range)
@@ -75,7 +75,7 @@ opened-wide o h = record {
 }
 
 -- A SURVEYED VOLUME
-module _ (m : List ℕ) (ok : is-image rack m ≡ true) {c : Counts} {marks order starts numbers firsts : List ℕ} (s : Surveyed m c marks order starts numbers firsts) where
+module _ (m : List ℕ) (ok : holds-block m ≡ true) {c : Counts} {marks order starts numbers firsts : List ℕ} (s : Surveyed m c marks order starts numbers firsts) where
   pub linked : Linked m (count-in m)
   linked = sited m ok .linked
 

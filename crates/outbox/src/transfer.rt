@@ -4,10 +4,10 @@ ghost use mathlib.Core.Bool.{true};
 ghost use mathlib.Core.List.{List};
 ghost use Prim.Native.Nat.{ℕ, _+_, _≤_, _<_, _^_};
 ghost use lib.ListN.{length, getD};
-ghost use Rattle.model.specs.Values.{rack, room};
+ghost use Rattle.model.specs.Values.{room};
 ghost use Rattle.model.specs.Layouts.{group, framed};
 ghost use Rattle.model.specs.Messages.{transfer};
-ghost use Rattle.model.specs.Image.{is-image};
+ghost use Rattle.model.specs.Image.{holds-block};
 ghost use Rattle.groups.specs.Slices.{Stored};
 ghost use Rattle.cells.specs.Places.{Linked};
 ghost use Rattle.departure.specs.Asked.{Surveyed};
@@ -44,7 +44,7 @@ pub fn transfer_sizes(
     numbers: &[usize],
     counts: Counts,
 ) -> Sizes
-    requires { ⌜ is-image rack (now block) ≡ true ⌝ }
+    requires { ⌜ holds-block (now block) ≡ true ⌝ }
     requires { ⌜ Outlined (now block) counts (now marks) (now order) (now starts) (now numbers) ⌝ }
     requires { ⌜ (to ≤ 15) × (getD (now block) 1 0 + counts .sewn < 2 ^ 32) ⌝ }
     ensures { λ r. ⌜ ((firsts : List ℕ) → Surveyed (now (block .entry)) counts (now (marks .entry)) (now (order .entry)) (now (starts .entry)) (now (numbers .entry)) firsts → Sized (transfer-for (now (block .entry)) to counts (now (marks .entry)) (now (numbers .entry)) firsts) r) ⌝ }
@@ -165,7 +165,7 @@ pub fn put_transfer(
     out: &mut [u8],
     at: usize,
 ) -> usize
-    requires { ⌜ is-image rack (now block) ≡ true ⌝ }
+    requires { ⌜ holds-block (now block) ≡ true ⌝ }
     requires { ⌜ Surveyed (now block) counts (now marks) (now order) (now starts) (now numbers) (now firsts) ⌝ }
     requires { ⌜ (to ≤ 15) × (getD (now block) 1 0 + counts .sewn < 2 ^ 32) ⌝ }
     requires { ⌜ Sized (transfer-for (now block) to counts (now marks) (now numbers) (now firsts)) sizes × (at + sizes .whole ≤ length (now out)) ⌝ }

@@ -9,7 +9,7 @@ use lib.ListN.{length, getD}
 use borrow.Author.Tests.{eq-eqb, ne-eqb, not-true, not-false}
 use Rattle.model.specs.Lists.{all, distinct}
 use Rattle.model.specs.Values.{rack, code}
-use Rattle.model.specs.Image.{words, image, block-in, is-image, memory-checks}
+use Rattle.model.specs.Image.{words, image, block-in, holds-block, memory-checks}
 use Rattle.model.specs.Messages.{Transfer, Update, Message, a-transfer, an-update, no-message, message-in}
 use Rattle.model.specs.Arrival.{addressed, names-face, update-right, redirect-checks, redirected, redirected-from}
 use Rattle.model.specs.Calls.{Answer, served, refused, storing, redirect}
@@ -44,7 +44,7 @@ module _ (m s : List ℕ) where
   unfolding redirect storing memory-checks
   size-refused h = gives _ _ _ _ (ask-no refl (ne-eqb (length m) words h) refl)
 
-  pub image-refused : length m ≡ words → is-image rack m ≡ false → Gives (redirect rack m s) (refused 2) m
+  pub image-refused : length m ≡ words → holds-block m ≡ false → Gives (redirect rack m s) (refused 2) m
   unfolding redirect storing memory-checks
   image-refused len h = gives _ _ _ _ (ask-yes (eq-eqb (length m) words len) (ask-no refl h refl))
 
@@ -52,7 +52,7 @@ module _ (m s : List ℕ) where
   unfolding redirect redirect-by
   by-message r e g = rw e g
 
-module _ (m : List ℕ) (ok : is-image rack m ≡ true) where
+module _ (m : List ℕ) (ok : holds-block m ≡ true) where
   size : length m ≡ words
   size = sited m ok .linked .size
 

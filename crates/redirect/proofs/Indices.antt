@@ -9,9 +9,9 @@ use lib.Dec.{eqb}
 use lib.ListN.{length, getD, replicate, length-replicate}
 use borrow.Author.Tests.{eq-eqb, ne-eqb}
 use Rattle.model.specs.Lists.{mem, tab, index-of}
-use Rattle.model.specs.Values.{rack, room}
+use Rattle.model.specs.Values.{room}
 use Rattle.model.specs.Cells.{cycle}
-use Rattle.model.specs.Image.{column, is-image}
+use Rattle.model.specs.Image.{column, holds-block}
 use Rattle.laws.proofs.Tests.{by-cases}
 use Rattle.laws.proofs.Members.{In, in-eq}
 use Rattle.laws.proofs.Tables.{length-tab}
@@ -42,7 +42,7 @@ module _ (m : List ℕ) (from : ℕ) (codes : List ℕ) (c p : ℕ) where
   index-there read same face e = rw (eq-eqb (column m 3 p) (2 + 4 * from) (sym read ∙ same)) (e ∙ ap (λ (y : ℕ). index-of y (tab (λ j. getD codes j 0) c)) face)
 
 -- is that of its whole face
-pub index-along : (m : List ℕ) (ok : is-image rack m ≡ true) (from : ℕ) (codes : List ℕ) (c x y : ℕ) → x < getD m 2 0
+pub index-along : (m : List ℕ) (ok : holds-block m ≡ true) (from : ℕ) (codes : List ℕ) (c x y : ℕ) → x < getD m 2 0
     → In y (cycle (column m 1) x) → code-index m from codes c y ≡ code-index m from codes c x
 unfolding code-index
 index-along m ok from codes c x y h i =
@@ -108,7 +108,7 @@ indexing-end {index} {n} {p} {t} w h = record { size = w .size; index-is = λ q 
     go q k (inr e) = absurd (omega (arith, e .0))
 
 -- IN A SOUND BLOCK'S MEMORY
-module _ (m : List ℕ) (ok : is-image rack m ≡ true) {n : ℕ} (same : n ≡ getD m 2 0) where
+module _ (m : List ℕ) (ok : holds-block m ≡ true) {n : ℕ} (same : n ≡ getD m 2 0) where
   pub linked-by : Linked m n
   linked-by = subst (Linked m) (sym same) (sited m ok .linked)
 

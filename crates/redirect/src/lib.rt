@@ -9,7 +9,7 @@ ghost use Prim.Native.Nat.{_≤_};
 ghost use lib.Dec.{eqb};
 ghost use lib.ListN.{length, getD, replicate};
 ghost use Rattle.model.specs.Values.{rack, room};
-ghost use Rattle.model.specs.Image.{words, block-in, is-image};
+ghost use Rattle.model.specs.Image.{words, block-in, holds-block};
 ghost use Rattle.model.specs.Arrival.{addressed};
 ghost use Rattle.model.specs.Calls.{redirect as told};
 ghost use Rattle.answers.specs.Answers.{answer-of, Gives};
@@ -57,7 +57,7 @@ fn each_named(
     c: usize,
     table: &mut [u16],
 ) -> bool
-    requires { ⌜ (is-image rack (now block) ≡ true) × (n ≡ getD (now block) 2 0) × (from ≤ 15) × Ready (now codes) c × (now table ≡ replicate room 4097) ⌝ }
+    requires { ⌜ (holds-block (now block) ≡ true) × (n ≡ getD (now block) 2 0) × (from ≤ 15) × Ready (now codes) c × (now table ≡ replicate room 4097) ⌝ }
     ensures { λ r. ⌜ EachNamed (now (block .entry)) from (now (codes .entry)) c (now (table .exit)) r ⌝ }
 {
     let mut hits = [0u8; 4097];
@@ -76,7 +76,7 @@ fn all_named(
     count: usize,
     table: &mut [u16],
 ) -> bool
-    requires { ⌜ (is-image rack (now block) ≡ true) × (n ≡ getD (now block) 2 0) × (from ≤ 15) × (at ≤ length (now s)) × (count ≤ room) ⌝ }
+    requires { ⌜ (holds-block (now block) ≡ true) × (n ≡ getD (now block) 2 0) × (from ≤ 15) × (at ≤ length (now s)) × (count ≤ room) ⌝ }
     requires { ⌜ now table ≡ replicate room 4097 ⌝ }
     ensures { λ r. ⌜ AllNamed (now (block .entry)) (now (s .entry)) from at count (now (table .exit)) r ⌝ }
 {
@@ -91,7 +91,7 @@ fn all_named(
 
 // 17 and 22 of an update, then its faces get the new block.
 fn redirect_update(block: &mut [u64], s: &[u8], u: Update) -> Answer
-    requires { ⌜ (is-image rack (now block) ≡ true) × Follows (now s) u ⌝ }
+    requires { ⌜ (holds-block (now block) ≡ true) × Follows (now s) u ⌝ }
     ensures { λ r. ⌜ Redirects (now (block .entry)) (now (s .entry)) u (answer-of r) (now (block .exit)) ⌝ }
 {
     let from = u.from;

@@ -4,8 +4,8 @@ ghost use mathlib.Core.Bool.{true};
 ghost use Prim.Native.Nat.{ℕ, _≤_, _<_};
 ghost use lib.Dec.{ltb};
 ghost use lib.ListN.{length, getD, replicate};
-ghost use Rattle.model.specs.Values.{rack, room};
-ghost use Rattle.model.specs.Image.{words, is-image};
+ghost use Rattle.model.specs.Values.{room};
+ghost use Rattle.model.specs.Image.{words, holds-block};
 ghost use Rattle.redirect.specs.ByPlaces.{code-index, Ready, Indexed, HitsAre, all-hit, Rewritten};
 use crate::codes;
 use crate::least;
@@ -23,7 +23,7 @@ pub fn index_faces(
     table: &mut [u16],
     hits: &mut [u8],
 )
-    requires { ⌜ (is-image rack (now block) ≡ true) × (n ≡ getD (now block) 2 0) × (from ≤ 15) × Ready (now codes) c × (now table ≡ replicate room 4097) × (now hits ≡ replicate 4097 0) ⌝ }
+    requires { ⌜ (holds-block (now block) ≡ true) × (n ≡ getD (now block) 2 0) × (from ≤ 15) × Ready (now codes) c × (now table ≡ replicate room 4097) × (now hits ≡ replicate 4097 0) ⌝ }
     ensures { λ _. ⌜ Indexed (code-index (now (block .entry)) from (now (codes .entry)) c) n (now (table .exit)) × HitsAre (code-index (now (block .entry)) from (now (codes .entry)) c) n (now (hits .exit)) ⌝ }
 {
     let kind = 2 + 4 * from;

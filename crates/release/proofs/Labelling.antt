@@ -63,7 +63,7 @@ same-link {m} {marks} {x} a k out = record {
 -- what labelling asks still holds
 pub sewing-stays : {m marks x : List ℕ} {n : ℕ} → Sewing m marks n → Same m marks x → Sewing x marks n
 sewing-stays {m} {marks} {x} {n} w a = record {
-  size = a .size ∙ w .size;
+  size = omega (arith, a .size, w .size);
   few = w .few;
   marks-size = w .marks-size;
   number-small = omega (arith, w .number-small, a .header 0 (omega arith));

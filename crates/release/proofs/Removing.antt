@@ -7,7 +7,7 @@ use native.Mathlib.Omega.{arith}
 use lib.ListN.{length, getD, set, take, drop, replicate, length-set, length-append, length-take, length-drop, replicate-append-replicate}
 use lib.Seq.{getD-set-same, getD-set-other, getD-drop, take-at, drop-at, drop-drop, length-take-le}
 use Rattle.model.specs.Lists.{concat}
-use Rattle.model.specs.Image.{words, column}
+use Rattle.model.specs.Image.{words-for, column}
 use Rattle.model.specs.Values.{room}
 use Rattle.laws.proofs.Tests.{eq-or-ne, last-or-below}
 use Rattle.laws.proofs.Members.{map-append}
@@ -181,13 +181,13 @@ part-cleared b a e h k q =
     rw (q, size, drop-drop (e - a) a b, end)
 
 -- THE WHOLE MEMORY AFTERWARDS
-pub all-removed : (m marks : List ℕ) {x y z : List ℕ} {w counter : ℕ} → length m ≡ words → getD m 2 0 ≤ room → drop (8 + getD m 2 0 * 8) m ≡ replicate ((room - getD m 2 0) * 8) 0
+pub all-removed : (m marks : List ℕ) {x y z : List ℕ} {w counter : ℕ} → words-for (getD m 2 0) ≤ length m → drop (8 + getD m 2 0 * 8) m ≡ replicate (length m - words-for (getD m 2 0)) 0
     → Moved (moved-words (rank marks) m) m marks (getD m 2 0) x w → y ≡ take (8 + w * 8) x ++ (replicate ((8 + getD m 2 0 * 8) - (8 + w * 8)) 0 ++ drop (8 + getD m 2 0 * 8) x)
     → z ≡ (getD m 0 0 ∷ counter ∷ w ∷ 0 ∷ 0 ∷ 0 ∷ 0 ∷ 0 ∷ []) ++ drop 8 y → z ≡ without m marks counter
 unfolding without
-all-removed m marks {x} {y} {z} {w} {counter} size few zeros v e f =
+all-removed m marks {x} {y} {z} {w} {counter} size zeros v e f =
     f ∙ ap (λ (l : List ℕ). (getD m 0 0 ∷ counter ∷ w ∷ 0 ∷ 0 ∷ 0 ∷ 0 ∷ 0 ∷ []) ++ l) rest
-    ∙ ap (λ (k : ℕ). (getD m 0 0 ∷ counter ∷ k ∷ 0 ∷ 0 ∷ 0 ∷ 0 ∷ 0 ∷ []) ++ (records (moved-words (rank marks) m) marks (getD m 2 0) ++ replicate ((room - k) * 8) 0)) (v .count)
+    ∙ ap (λ (k : ℕ). (getD m 0 0 ∷ counter ∷ k ∷ 0 ∷ 0 ∷ 0 ∷ 0 ∷ 0 ∷ []) ++ (records (moved-words (rank marks) m) marks (getD m 2 0) ++ replicate (length m - words-for k) 0)) (v .count)
   where
     n : ℕ
     n = getD m 2 0
@@ -195,16 +195,16 @@ all-removed m marks {x} {y} {z} {w} {counter} size few zeros v e f =
     rows : List ℕ
     rows = records (moved-words (rank marks) m) marks n
 
-    sum : (8 + n * 8) - (8 + w * 8) + (room - n) * 8 ≡ (room - w) * 8
+    sum : (8 + n * 8) - (8 + w * 8) + (length m - words-for n) ≡ length m - words-for w
     sum = omega (arith, v .count, rank-le n marks)
 
-    tail : replicate ((8 + n * 8) - (8 + w * 8)) 0 ++ drop (8 + n * 8) x ≡ replicate ((room - w) * 8) 0
+    tail : replicate ((8 + n * 8) - (8 + w * 8)) 0 ++ drop (8 + n * 8) x ≡ replicate (length m - words-for w) 0
     tail =
         ap (λ (l : List ℕ). replicate ((8 + n * 8) - (8 + w * 8)) 0 ++ l) (v .after ∙ zeros)
-        ∙ replicate-append-replicate {A = ℕ} ((8 + n * 8) - (8 + w * 8)) ((room - n) * 8) 0 ∙ ap (λ (k : ℕ). replicate k 0) sum
+        ∙ replicate-append-replicate {A = ℕ} ((8 + n * 8) - (8 + w * 8)) (length m - words-for n) 0 ∙ ap (λ (k : ℕ). replicate k 0) sum
 
-    whole : y ≡ take 8 m ++ (rows ++ replicate ((room - w) * 8) 0)
-    whole = e ∙ ap (λ (l : List ℕ). take (8 + w * 8) x ++ l) tail ∙ ap (λ (l : List ℕ). l ++ replicate ((room - w) * 8) 0) (v .front) ∙ append-assoc (take 8 m) rows (replicate ((room - w) * 8) 0)
+    whole : y ≡ take 8 m ++ (rows ++ replicate (length m - words-for w) 0)
+    whole = e ∙ ap (λ (l : List ℕ). take (8 + w * 8) x ++ l) tail ∙ ap (λ (l : List ℕ). l ++ replicate (length m - words-for w) 0) (v .front) ∙ append-assoc (take 8 m) rows (replicate (length m - words-for w) 0)
 
-    rest : drop 8 y ≡ rows ++ replicate ((room - w) * 8) 0
-    rest = ap (drop 8) whole ∙ drop-at (take 8 m) (rows ++ replicate ((room - w) * 8) 0) 8 (length-take-le 8 m (omega arith))
+    rest : drop 8 y ≡ rows ++ replicate (length m - words-for w) 0
+    rest = ap (drop 8) whole ∙ drop-at (take 8 m) (rows ++ replicate (length m - words-for w) 0) 8 (length-take-le 8 m (omega arith))

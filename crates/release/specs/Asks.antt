@@ -3,7 +3,7 @@ use mathlib.Core.Path.{_≡_}
 use mathlib.Core.List.{List, _++_}
 use Prim.Native.Nat.{ℕ, _+_, _*_, _%_, _≤_, _<_}
 use lib.ListN.{length, getD, take, drop}
-use Rattle.model.specs.Image.{words, column}
+use Rattle.model.specs.Image.{words-for, column}
 use Rattle.model.specs.Values.{room}
 use Rattle.cells.specs.Places.{Within, Apart, Closed}
 use Rattle.departure.specs.Asked.{Departs}
@@ -20,7 +20,7 @@ pub record MayGo (m : List ℕ) (j : ℕ) (c : Counts) (marks order starts : Lis
 -- LABELLING
 -- what it asks of the first n darts: a marked face is sewn as a whole, to darts that are not marked
 pub record Sewing (m marks : List ℕ) (n : ℕ) : Type 0 where
-  pub size : length m ≡ words
+  pub size : words-for n ≤ length m
   pub few : n ≤ room
   pub marks-size : length marks ≡ room
   pub number-small : getD m 0 0 < 16
@@ -45,7 +45,7 @@ Tabled f n t = (p : ℕ) → p < n → getD t p 0 ≡ f p
 
 -- links that lead to places below n
 pub record Bounded (m : List ℕ) (n : ℕ) : Type 0 where
-  pub size : length m ≡ words
+  pub size : words-for n ≤ length m
   pub few : n ≤ room
   pub next-lt : (p : ℕ) → p < n → column m 1 p < n
   pub opposite-lt : (p : ℕ) → p < n → column m 2 p < n

@@ -4,7 +4,7 @@ ghost use Prim.Native.Nat.{_+_, _≤_, _<_, _^_};
 ghost use lib.ListN.{length, getD};
 ghost use Rattle.model.specs.Values.{critical, room};
 ghost use Rattle.model.specs.Cells.{cycle};
-ghost use Rattle.model.specs.Image.{words, column};
+ghost use Rattle.model.specs.Image.{words-for, column};
 ghost use Rattle.model.specs.Links.{label-links};
 ghost use Rattle.cells.specs.Places.{InOrder};
 ghost use Rattle.departure.specs.Asked.{faces-at};
@@ -16,7 +16,7 @@ use memory::record::Place;
 
 // The dart at place q becomes critical with block `to`, with a label that block `maker` makes.
 fn put_label(block: &mut [u64], q: usize, to: u64, maker: u64, number: u64, position: usize)
-    requires { ⌜ (length (now block) ≡ words) × (q < room) × (to ≤ 15) × (maker < 16) × (number < 2 ^ 32) × (position < room) ⌝ }
+    requires { ⌜ (words-for (q + 1) ≤ length (now block)) × (q < room) × (to ≤ 15) × (maker < 16) × (number < 2 ^ 32) × (position < room) ⌝ }
     ensures { λ _. ⌜ now (block .exit) ≡ with-link (now (block .entry)) (record { dart = q; third = critical to (record { maker = maker; number = number; position = position }) }) ⌝ }
 {
     let code = memory::label::code_of(maker, number, position as u64);

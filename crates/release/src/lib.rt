@@ -3,7 +3,7 @@ ghost use mathlib.Core.Path.{_≡_};
 ghost use mathlib.Core.Bool.{true};
 ghost use lib.ListN.{length, replicate};
 ghost use Rattle.model.specs.Values.{rack, room};
-ghost use Rattle.model.specs.Image.{is-image};
+ghost use Rattle.model.specs.Image.{words, holds-block};
 ghost use Rattle.model.specs.Calls as calls;
 ghost use Rattle.answers.specs.Answers.{answer-of, Gives};
 ghost use Rattle.removal.specs.LetGo.{released-at};
@@ -27,7 +27,7 @@ fn let_go(
     starts: &[usize],
     counts: Counts,
 )
-    requires { ⌜ is-image rack (now block) ≡ true ⌝ }
+    requires { ⌜ holds-block (now block) ≡ true ⌝ }
     requires { ⌜ MayGo (now block) to counts (now marks) (now order) (now starts) ⌝ }
     ensures { λ _. ⌜ now (block .exit) ≡ released-at (now (block .entry)) (now (marks .entry)) to ⌝ }
 {
@@ -51,7 +51,7 @@ fn release_asked(
     firsts: &mut [usize],
     stamps: &mut [usize],
 ) -> Answer
-    requires { ⌜ is-image rack (now block) ≡ true ⌝ }
+    requires { ⌜ (length (now block) ≡ words) × (holds-block (now block) ≡ true) ⌝ }
     requires { ⌜ (now marks ≡ replicate room 0) × (length (now order) ≡ room) × (length (now starts) ≡ room) × (now seen ≡ replicate room 0) ⌝ }
     requires { ⌜ (length (now numbers) ≡ room) × (length (now firsts) ≡ room) × (length (now stamps) ≡ 512) ⌝ }
     ensures { λ r. ⌜ Gives (calls.release rack (now (block .entry)) to serial) (answer-of r) (now (block .exit)) ⌝ }

@@ -3,7 +3,7 @@ ghost use mathlib.Core.Path.{_≡_};
 ghost use mathlib.Core.List.{_++_};
 ghost use Prim.Native.Nat.{_+_, _*_, _-_, _≤_, _<_, _^_};
 ghost use lib.ListN.{length, getD, take, drop, replicate};
-ghost use Rattle.model.specs.Image.{words, column};
+ghost use Rattle.model.specs.Image.{words-for, column};
 ghost use Rattle.model.specs.Values.{room};
 ghost use Rattle.memory.specs.Record.{put};
 ghost use Rattle.removal.specs.LetGo.{rank, moved-link, moved-words, without};
@@ -53,7 +53,7 @@ fn moved_link(table: &[usize], kind: u64, link: u64) -> u64
 
 // Moves the record at place `from` to place `at`, with its links by the table.
 fn move_record(block: &mut [u64], from: usize, at: usize, table: &[usize])
-    requires { ⌜ (length (now block) ≡ words) × (length (now table) ≡ room) × (from < room) × (at ≤ from) ⌝ }
+    requires { ⌜ (words-for (from + 1) ≤ length (now block)) × (length (now table) ≡ room) × (from < room) × (at ≤ from) ⌝ }
     requires { ⌜ (column (now block) 1 from < room) × (column (now block) 2 from < room) × (column (now block) 3 from ≡ 1 → column (now block) 4 from < room) ⌝ }
     ensures { λ _. ⌜ now (block .exit) ≡ put (now (block .entry)) at (moved-words (λ p. getD (now (table .entry)) p 0) (now (block .entry)) from) ⌝ }
 {
@@ -103,7 +103,7 @@ fn clear_part(block: &mut [u64], a: usize, e: usize)
 // Takes the marked records out, with a new counter; what is left over is zero.
 pub fn remove(block: &mut [u64], marks: &[u8], counter: u64)
     requires { ⌜ Bounded (now block) (getD (now block) 2 0) × (length (now marks) ≡ room) ⌝ }
-    requires { ⌜ drop (8 + getD (now block) 2 0 * 8) (now block) ≡ replicate ((room - getD (now block) 2 0) * 8) 0 ⌝ }
+    requires { ⌜ drop (8 + getD (now block) 2 0 * 8) (now block) ≡ replicate (length (now block) - words-for (getD (now block) 2 0)) 0 ⌝ }
     ensures { λ _. ⌜ now (block .exit) ≡ without (now (block .entry)) (now (marks .entry)) counter ⌝ }
 {
     let number = block[0];

@@ -4,7 +4,7 @@ use mathlib.Core.Path.{sym, _∙_, ap}
 use Prim.Native.Nat.{ℕ}
 use lib.ListN.{length, getD, length-replicate}
 use lib.Seq.{length-take-le}
-use Rattle.model.specs.Values.{rack, room}
+use Rattle.model.specs.Values.{room}
 use Rattle.cells.proofs.Sited.{sited}
 use Rattle.cells.proofs.Reached.{volume-linked}
 use Rattle.cells.proofs.Resets.{unmarked, listed-marked, listed-some}
@@ -21,7 +21,7 @@ use Rattle.departure.proofs.leaves.Tie as tie
 destination-right-requires : tie.Need-destination-right-requires
 destination-right-requires c κs =
     let start : tie.Start = search in
-    sited (start .args .block .now) (start .pre .0) .linked .size
+    omega (arith, sited (start .args .block .now) (start .pre .0) .linked .size)
 
 returns : tie.Need-returns
 returns c =
@@ -41,7 +41,7 @@ place-of-requires c κs =
     let start : tie.Start = search in
     let m = start .args .block .now in
     let ok = start .pre .0 in
-    (sited m ok .linked .few, sited m ok .linked .size, sited m ok .ascends)
+    (sited m ok .linked .size, sited m ok .ascends)
 
 enum-known-place : tie.Need-enum-known-place
 enum-known-place c = search needs
@@ -378,7 +378,7 @@ counter-fits-requires c κs =
     let start : tie.Start = search in
     let m = start .args .block .now in
     let ok = start .pre .0 in
-    (sited m ok .linked .size, ranges-in m ok .counter-small, sewn-few _ (message-order-ensures .0) count-sewn-ensures)
+    (omega (arith, sited m ok .linked .size), ranges-in m ok .counter-small, sewn-few _ (message-order-ensures .0) count-sewn-ensures)
 
 forget-requires-3 : tie.Need-forget-requires-3
 forget-requires-3 c κs =

@@ -1,7 +1,6 @@
 -- `redirect::redirect_update` meets its contract: each answer is that of the first question that is answered no.
 -- Assumes nothing.
 use mathlib.Core.Path.{refl}
-use Rattle.model.specs.Values.{rack}
 use Rattle.cells.proofs.Sited.{sited}
 use Rattle.redirect.proofs.Answered.{redirects-elsewhere, redirects-to-an-end, redirects-too-many, redirects-unnamed, redirects-served}
 use native.Mathlib.Omega.{arith}

@@ -51,8 +51,9 @@ slice-aggregate-release-asked-7 c = search needs
 release-asked-requires : tie.Need-release-asked-requires
 release-asked-requires c κs =
     let is-sound-ensures = (let p : tie.After-is-sound = search in p .is-sound .ensures) in
+    let if1-left = (let p : tie.Else1 = search in p .if1 .left) in
     let if2-left = (let p : tie.Else2 = search in p .if2 .left) in (
-      said-yes is-sound-ensures if2-left,
+      (if1-left, said-yes is-sound-ensures if2-left),
       (
         (refl, length-replicate {A = ℕ} room 0, length-replicate {A = ℕ} room 0, refl),
         (refl, length-replicate {A = ℕ} room 0, refl),

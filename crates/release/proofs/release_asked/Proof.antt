@@ -23,7 +23,7 @@ let-go-requires c κs =
     let serial' = start .args .serial in
     let block = start .args .block .now in
     let to = start .args .to in (
-      start .pre .0,
+      start .pre .0 .1,
       record {
         serial = serial';
         numbers = _;
@@ -65,7 +65,7 @@ returns c =
     let block = start .args .block .now in
     let to = start .args .to in
     let serial = start .args .serial in
-    volume-refused block to serial (start .pre .0) (refused-told block to serial _ _ _ _ _ (leaves-ensures .0) (r-given .1))
+    volume-refused block to serial (start .pre .0 .0) (start .pre .0 .1) (refused-told block to serial _ _ _ _ _ (leaves-ensures .0) (r-given .1))
 
 same-length-9 : tie.Need-same-length-9
 same-length-9 c = search needs
@@ -102,7 +102,7 @@ returns-2 c =
     let block = start .args .block .now in
     let to = start .args .to in
     let serial = start .args .serial in
-    volume-released block to serial (start .pre .0) (departs-told block to serial _ _ _ _ _ (leaves-ensures .0) (counts-given .1)) let-go-ensures
+    volume-released block to serial (start .pre .0 .0) (start .pre .0 .1) (departs-told block to serial _ _ _ _ _ (leaves-ensures .0) (counts-given .1)) let-go-ensures
 
 pub release-asked-spec : {M : Type 1} → statement M
 release-asked-spec =

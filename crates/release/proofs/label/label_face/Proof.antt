@@ -30,7 +30,7 @@ field-requires : tie.Need-field-requires Inv-loop μ-loop
 field-requires c κs =
     let start : tie.Start Inv-loop μ-loop = search in
     let loop-inv = (let p : tie.At-loop Inv-loop μ-loop = search in p .loop .inv) in
-    (omega (arith, loop-inv .going .below, start .pre .0 .few), omega arith, loop-inv .same .size ∙ start .pre .0 .size)
+    (omega (arith, loop-inv .going .below, loop-inv .same .size, start .pre .0 .size), omega arith)
 
 put-label-requires : tie.Need-put-label-requires Inv-loop μ-loop
 put-label-requires c κs =
@@ -39,9 +39,10 @@ put-label-requires c κs =
     let number = start .args .number in
     let start' = start .args .start in
     let loop-inv = (let p : tie.At-loop Inv-loop μ-loop = search in p .loop .inv) in
-    let field-ensures = (let p : tie.After-field Inv-loop μ-loop = search in p .field .ensures) in (
-      loop-inv .same .size ∙ start .pre .0 .size,
-      omega (arith, field-ensures, across (start .pre .0) to number start' (start .pre .1) loop-inv .0, start .pre .0 .few),
+    let field-ensures = (let p : tie.After-field Inv-loop μ-loop = search in p .field .ensures) in
+    let over = across (start .pre .0) to number start' (start .pre .1) loop-inv .0 in (
+      omega (arith, field-ensures, over, loop-inv .same .size, start .pre .0 .size),
+      omega (arith, field-ensures, over, start .pre .0 .few),
       start .pre .4,
       start .pre .0 .number-small,
       start .pre .5,
@@ -62,12 +63,9 @@ field-requires-2 c κs =
     let start' = start .args .start in
     let loop-inv = (let p : tie.At-loop Inv-loop μ-loop = search in p .loop .inv) in
     let field-ensures = (let p : tie.After-field Inv-loop μ-loop = search in p .field .ensures) in
-    let put-label-ensures = (let p : tie.After-put-label Inv-loop μ-loop = search in p .put-label .ensures) in (
-      omega (arith, loop-inv .going .below, start .pre .0 .few),
-      omega arith,
-      same-end (start .pre .0) to number start' (start .pre .1) loop-inv field-ensures put-label-ensures .size
-          ∙ start .pre .0 .size,
-    )
+    let put-label-ensures = (let p : tie.After-put-label Inv-loop μ-loop = search in p .put-label .ensures) in
+    let same = same-end (start .pre .0) to number start' (start .pre .1) loop-inv field-ensures put-label-ensures in
+    (omega (arith, loop-inv .going .below, same .size, start .pre .0 .size), omega arith)
 
 same-length : tie.Need-same-length Inv-loop μ-loop
 same-length c =

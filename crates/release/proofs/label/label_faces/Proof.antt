@@ -63,11 +63,8 @@ field-requires c κs =
     let start : tie.Start Inv-loop μ-loop = search in
     let loop-f = (let p : tie.At-loop Inv-loop μ-loop = search in p .loop .f) in
     let loop-inv = (let p : tie.At-loop Inv-loop μ-loop = search in p .loop .inv) in
-    let loop-test-taken = (let p : tie.In-loop Inv-loop μ-loop = search in p .loop-test .taken) in (
-      omega (arith, starting (start .pre .0) (start .pre .1) loop-f loop-test-taken .below, start .pre .0 .few),
-      omega arith,
-      loop-inv .same .size ∙ start .pre .0 .size,
-    )
+    let loop-test-taken = (let p : tie.In-loop Inv-loop μ-loop = search in p .loop-test .taken) in
+    (omega (arith, starting (start .pre .0) (start .pre .1) loop-f loop-test-taken .below, loop-inv .same .size, start .pre .0 .size), omega arith)
 
 loop-less : tie.Need-loop-less Inv-loop μ-loop
 loop-less c = omega arith

@@ -13,7 +13,7 @@ use Rattle.release.proofs.remove.move_record.Tie as tie
 record-at-requires : tie.Need-record-at-requires
 record-at-requires c κs =
     let start : tie.Start = search in
-    (start .pre .0 .2, start .pre .0 .0)
+    start .pre .0 .0
 
 moved-requires : tie.Need-moved-requires
 moved-requires c κs =
@@ -35,7 +35,7 @@ moved-link-requires c κs =
 put-record-requires : tie.Need-put-record-requires
 put-record-requires c κs =
     let start : tie.Start = search in
-    (omega (arith, start .pre), start .pre .0 .0)
+    omega (arith, start .pre .0 .0, start .pre .0 .3)
 
 same-length : tie.Need-same-length
 same-length c = search needs

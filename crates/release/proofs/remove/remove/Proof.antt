@@ -65,7 +65,7 @@ returns c =
     let compact-ensures = (let p : tie.After-compact = search in p .compact .ensures) in
     let clear-part-ensures = (let p : tie.After-clear-part = search in p .clear-part .ensures) in
     let write-ensures = (let p : tie.After-write = search in p .write .ensures) in
-    all-removed block marks (start .pre .0 .0 .size) (start .pre .0 .0 .few) (start .pre .1) compact-ensures clear-part-ensures write-ensures
+    all-removed block marks (start .pre .0 .0 .size) (start .pre .1) compact-ensures clear-part-ensures write-ensures
 
 pub remove-spec : {M : Type 1} → statement M
 remove-spec =
