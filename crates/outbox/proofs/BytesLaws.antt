@@ -62,7 +62,8 @@ face-length m numbers order s n = length-append (group .put n) (run (dart-put m 
 -- what is asked of all darts holds of the first ones
 pub listed-part : {m order : List ℕ} {darts : ℕ} → Listed m order darts → (n : ℕ) → n ≤ darts → Listed m order n
 listed-part l n h = record {
-  memory = l .memory;
+  header = l .header;
+  held = λ k j. l .held k (omega arith);
   order-size = l .order-size;
   few = omega (arith, l .few);
   below = λ k j. l .below k (omega arith);

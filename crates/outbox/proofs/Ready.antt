@@ -64,16 +64,6 @@ unfolding concat
 fewer-faces [] h = omega arith
 fewer-faces (f ∷ fs) h = omega (arith, length-append f (concat fs), h 0 (omega arith), fewer-faces fs (λ k l. h (suc k) (omega arith)))
 
--- starts that are places of a block are places of any memory
-pub opened-wide : {n : ℕ} {order starts : List ℕ} {count : ℕ} → Opened n order starts count → n ≤ room → Opened room order starts count
-opened-wide o h = record {
-  order-size = o .order-size;
-  starts-size = o .starts-size;
-  few = o .few;
-  index-small = o .index-small;
-  place-below = λ f l. omega (arith, o .place-below f l);
-}
-
 -- A SURVEYED VOLUME
 module _ (m : List ℕ) (ok : holds-block m ≡ true) {c : Counts} {marks order starts numbers firsts : List ℕ} (s : Surveyed m c marks order starts numbers firsts) where
   pub linked : Linked m (count-in m)
@@ -90,7 +80,8 @@ module _ (m : List ℕ) (ok : holds-block m ≡ true) {c : Counts} {marks order 
 
   pub listed : Listed m order (c .darts)
   listed = record {
-    memory = linked .size;
+    header = omega (arith, linked .size);
+    held = λ k h. omega (arith, place-there k h, linked .size);
     order-size = s .order .out-size;
     few = s .few;
     below = λ k h. omega (arith, place-there k h, linked .few);
@@ -144,7 +135,7 @@ module _ (m : List ℕ) (ok : holds-block m ≡ true) {c : Counts} {marks order 
 
   pub pointed : Pointed m firsts (c .vertices)
   pointed = record {
-    memory = linked .size;
+    held = λ k h. omega (arith, first-there k h, linked .size);
     firsts-size = s .numbering .firsts-size;
     few = vertices-few;
     below = λ k h. omega (arith, first-there k h, linked .few);

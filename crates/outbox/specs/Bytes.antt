@@ -9,7 +9,7 @@ use lib.ListN.{length, getD}
 use Rattle.model.specs.Values.{serial-bound, room}
 use Rattle.model.specs.Layouts.{group}
 use Rattle.model.specs.Messages.{point, label, face-dart, part2, part3}
-use Rattle.model.specs.Image.{words, column, dart-in}
+use Rattle.model.specs.Image.{words-for, column, dart-in}
 use Rattle.memory.specs.Point.{FiniteAt}
 use Rattle.cells.specs.Places.{sewn-out}
 use Rattle.departure.specs.ByPlaces.{critical-with, critical-beside, label-at, dart-entry}
@@ -74,7 +74,8 @@ part4-put m j order starts darts count f = cond (in-part4 m j order starts f) (b
 -- WHAT IS ASKED OF THE ARRAYS
 -- the darts of the volume are places of the block
 pub record Listed (m order : List ℕ) (darts : ℕ) : Type 0 where
-  pub memory : length m ≡ words
+  pub header : 8 ≤ length m
+  pub held : (k : ℕ) → k < darts → words-for (getD order k 0 + 1) ≤ length m
   pub order-size : length order ≡ room
   pub few : darts ≤ 512
   pub below : (k : ℕ) → k < darts → getD order k 0 < room
@@ -104,7 +105,7 @@ pub record Opened (n : ℕ) (order starts : List ℕ) (count : ℕ) : Type 0 whe
 
 -- the first darts of the vertices have finite points
 pub record Pointed (m firsts : List ℕ) (count : ℕ) : Type 0 where
-  pub memory : length m ≡ words
+  pub held : (k : ℕ) → k < count → words-for (getD firsts k 0 + 1) ≤ length m
   pub firsts-size : length firsts ≡ room
   pub few : count ≤ 512
   pub below : (k : ℕ) → k < count → getD firsts k 0 < room

@@ -2,7 +2,7 @@
 ghost use mathlib.Core.Path.{_≡_};
 ghost use Prim.Native.Nat.{_+_, _≤_, _<_, _^_};
 ghost use lib.ListN.{length};
-ghost use Rattle.model.specs.Image.{words};
+ghost use Rattle.model.specs.Image.{words-for, count-in};
 ghost use Rattle.model.specs.Values.{room};
 ghost use Rattle.groups.specs.Slices.{Stored};
 ghost use Rattle.cells.specs.Places.{Linked};
@@ -23,7 +23,7 @@ pub struct Tally {
 
 // Whether the dart at place p is critical with block `to`.
 fn critical_with(block: &[u64], to: u64, p: usize) -> bool
-    requires { ⌜ (length (now block) ≡ words) × (p < room) × (to < 2 ^ 32) ⌝ }
+    requires { ⌜ (words-for (p + 1) ≤ length (now block)) × (to < 2 ^ 32) ⌝ }
     ensures { λ r. ⌜ r ≡ critical-with (now (block .entry)) to p ⌝ }
 {
     walk::field(block, p, 3) == 2 + 4 * to
@@ -31,7 +31,7 @@ fn critical_with(block: &[u64], to: u64, p: usize) -> bool
 
 // Whether it is critical with another one.
 fn critical_beside(block: &[u64], to: u64, p: usize) -> bool
-    requires { ⌜ (length (now block) ≡ words) × (p < room) × (to < 2 ^ 32) ⌝ }
+    requires { ⌜ (words-for (p + 1) ≤ length (now block)) × (to < 2 ^ 32) ⌝ }
     ensures { λ r. ⌜ r ≡ critical-beside (now (block .entry)) to p ⌝ }
 {
     let kind = walk::field(block, p, 3);
@@ -40,7 +40,7 @@ fn critical_beside(block: &[u64], to: u64, p: usize) -> bool
 
 // Part 2.
 pub fn part2_tally(block: &[u64], to: u64, order: &[usize], starts: &[usize], count: usize) -> Tally
-    requires { ⌜ (length (now block) ≡ words) × Opened room (now order) (now starts) count × (to < 2 ^ 32) ⌝ }
+    requires { ⌜ (words-for (count-in (now block)) ≤ length (now block)) × Opened (count-in (now block)) (now order) (now starts) count × (to < 2 ^ 32) ⌝ }
     requires { ⌜ length (run (part2-put (now block) to (now order) (now starts)) count) < 2 ^ 32 ⌝ }
     ensures { λ r. ⌜ (r .entries ≡ tally (in-part2 (now (block .entry)) to (now (order .entry)) (now (starts .entry))) count) × (r .bytes ≡ length (run (part2-put (now (block .entry)) to (now (order .entry)) (now (starts .entry))) count)) ⌝ }
 {
@@ -70,7 +70,7 @@ pub fn put_part2s(
     out: &mut [u8],
     from: usize,
 ) -> usize
-    requires { ⌜ (length (now block) ≡ words) × Opened room (now order) (now starts) count × (to < 2 ^ 32) ⌝ }
+    requires { ⌜ (words-for (count-in (now block)) ≤ length (now block)) × Opened (count-in (now block)) (now order) (now starts) count × (to < 2 ^ 32) ⌝ }
     requires { ⌜ from + length (run (part2-put (now block) to (now order) (now starts)) count) ≤ length (now out) ⌝ }
     ensures { λ r. ⌜ Stored (now (out .entry)) from (run (part2-put (now (block .entry)) to (now (order .entry)) (now (starts .entry))) count) (now (out .exit)) r ⌝ }
 {

@@ -52,12 +52,9 @@ module _ (m s : List ℕ) where
   unfolding redirect redirect-by
   by-message r e g = rw e g
 
-module _ (m : List ℕ) (ok : holds-block m ≡ true) where
-  size : length m ≡ words
-  size = sited m ok .linked .size
-
+module _ (m : List ℕ) (size : length m ≡ words) (ok : holds-block m ≡ true) where
   asked-by : (r : Message) {given : Answer (Unit {0})} {lent : List ℕ}
-      → Asks (redirect-checks (block-in m) r) m tt (image (redirected-from (block-in m) r)) given lent
+      → Asks (redirect-checks (block-in m) r) m tt (image words (redirected-from (block-in m) r)) given lent
       → Gives (redirect-by m r) given lent
   unfolding redirect-by storing memory-checks
   asked-by r a = gives _ _ _ _ (ask-yes (eq-eqb (length m) words size) (ask-yes ok a))
@@ -85,7 +82,7 @@ module _ (m : List ℕ) (ok : holds-block m ≡ true) where
     right-no h e = asked-by (an-update u) (ask-yes h (ask-no refl e refl))
 
     all-yes : addressed (u .from) (u .to) (block-in m) ≡ true → update-right (block-in m) u ≡ true → {m′ : List ℕ}
-        → m′ ≡ image (redirected (block-in m) u) → Gives (redirect-by m (an-update u)) (served tt) m′
+        → m′ ≡ image words (redirected (block-in m) u) → Gives (redirect-by m (an-update u)) (served tt) m′
     unfolding redirect-checks
     all-yes h e q = asked-by (an-update u) (ask-yes h (ask-yes e (ask-end q)))
 
@@ -146,7 +143,8 @@ module _ (m : List ℕ) (ok : holds-block m ≡ true) where
                 ∙ ap (λ (a : ℕ). all (names-at m a) (map code (u .labels))) (sym (w .from-is)) ∙ and-left (all (names-at m (o .from)) (map code (u .labels))) (distinct (map code (u .labels))) said in
                 let by-labels = rewritten-by (λ p h. n .tells (not-false named k) (u .labels) (w .past) (w .labels-in) p h) r in
                 all-yes u (said-yes (here-is u w) yes-here) (right-by u w ∙ and-intro (not-false ends e) said)
-                (memory-now site (image-passed m ok) u names (let a = w .block-is in let b = w .block-small in omega arith) (by-outline u w by-labels) (size))
+                (memory-now site (image-passed m ok) u names (let a = w .block-is in let b = w .block-small in omega arith) (by-outline u w by-labels) (site .linked .size)
+                ∙ ap (λ (k : ℕ). image k (redirected (block-in m) u)) size)
               where
                 by-outline : (u : Update) → UpdateOutlined u s o → Rewritten m m′ (named-at m (o .from) (map code (u .labels))) (2 + 4 * o .block) (getD m 2 0)
                     → Rewritten m m′ (named-at m (u .from) (map code (u .labels))) (2 + 4 * u .block) (getD m 2 0)

@@ -34,7 +34,7 @@ fn received(s: &[u8]) -> Received
 
 // 17: addressed here, from elsewhere.
 fn for_here(block: &[u64], from: u64, to: u64) -> bool
-    requires { ⌜ length (now block) ≡ words ⌝ }
+    requires { ⌜ 8 ≤ length (now block) ⌝ }
     ensures { λ r. ⌜ r ≡ addressed from to (block-in (now (block .entry))) ⌝ }
 {
     (to == block[0]) & (from != block[0])
@@ -91,7 +91,7 @@ fn all_named(
 
 // 17 and 22 of an update, then its faces get the new block.
 fn redirect_update(block: &mut [u64], s: &[u8], u: Update) -> Answer
-    requires { ⌜ (holds-block (now block) ≡ true) × Follows (now s) u ⌝ }
+    requires { ⌜ (length (now block) ≡ words) × (holds-block (now block) ≡ true) × Follows (now s) u ⌝ }
     ensures { λ r. ⌜ Redirects (now (block .entry)) (now (s .entry)) u (answer-of r) (now (block .exit)) ⌝ }
 {
     let from = u.from;

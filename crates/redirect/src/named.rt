@@ -5,7 +5,7 @@ ghost use Prim.Native.Nat.{ℕ, _≤_, _<_};
 ghost use lib.Dec.{ltb};
 ghost use lib.ListN.{length, getD, replicate};
 ghost use Rattle.model.specs.Values.{room};
-ghost use Rattle.model.specs.Image.{words, holds-block};
+ghost use Rattle.model.specs.Image.{words-for, holds-block};
 ghost use Rattle.redirect.specs.ByPlaces.{code-index, Ready, Indexed, HitsAre, all-hit, Rewritten};
 use crate::codes;
 use crate::least;
@@ -69,7 +69,7 @@ fn wide(x: u16) -> usize
 
 // Sets the kind word of the darts whose index is below c.
 pub fn rewrite(block: &mut [u64], n: usize, word: u64, table: &[u16], c: usize)
-    requires { ⌜ (n ≤ room) × (length (now block) ≡ words) × (length (now table) ≡ room) ⌝ }
+    requires { ⌜ (n ≤ room) × (words-for n ≤ length (now block)) × (length (now table) ≡ room) ⌝ }
     ensures { λ _. ⌜ Rewritten (now (block .entry)) (now (block .exit)) (λ p. ltb (getD (now (table .entry)) p 0) c) word n ⌝ }
 {
     // The words at the places below p are set.

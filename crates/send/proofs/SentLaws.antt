@@ -102,10 +102,10 @@ pub refused-image : (m out : List ℕ) (j s : ℕ) → length m ≡ words → ho
 unfolding send writing memory-checks
 refused-image m out j s h e = gives _ _ _ _ (ask-yes (eq-eqb (length m) words h) (ask-no refl e refl))
 
-module _ (m out : List ℕ) (j s : ℕ) (ok : holds-block m ≡ true) where
+module _ (m out : List ℕ) (j s : ℕ) (size : length m ≡ words) (ok : holds-block m ≡ true) where
   pub refused-leaving : {n : ℕ} → refused n ≡ answered (departure-checks 512 (block-in m) j s) → Gives (send rack m j s out) (refused n) out
   unfolding send writing memory-checks
-  refused-leaving h = gives _ _ _ _ (ask-yes (eq-eqb (length m) words (sited m ok .linked .size)) (ask-yes ok (ask-first (departure-checks 512 (block-in m) j s) _ h refl)))
+  refused-leaving h = gives _ _ _ _ (ask-yes (eq-eqb (length m) words size) (ask-yes ok (ask-first (departure-checks 512 (block-in m) j s) _ h refl)))
 
   -- what question 15 gives, the call gives
   pub sent : {c : Counts} {marks order starts numbers firsts : List ℕ} → Departs m j s c marks order starts numbers firsts → {given : Answer ℕ} {after : List ℕ}
@@ -113,4 +113,4 @@ module _ (m out : List ℕ) (j s : ℕ) (ok : holds-block m ≡ true) where
   unfolding send writing memory-checks departure-checks
   sent d {given} {after} g =
       let w = subst (λ (b : List ℕ). Gives (writing [] out b) given after) (sym (sent-bytes m ok j s d)) g in
-      gives _ _ _ _ (ask-yes (eq-eqb (length m) words (sited m ok .linked .size)) (ask-yes ok (ask-all (departure-checks 512 (block-in m) j s) _ refl (d .asked) (record { result = w }))))
+      gives _ _ _ _ (ask-yes (eq-eqb (length m) words size) (ask-yes ok (ask-all (departure-checks 512 (block-in m) j s) _ refl (d .asked) (record { result = w }))))

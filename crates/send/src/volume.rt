@@ -3,7 +3,7 @@ ghost use mathlib.Core.Path.{_≡_};
 ghost use mathlib.Core.Bool.{true};
 ghost use lib.ListN.{length, replicate};
 ghost use Rattle.model.specs.Values.{rack, room};
-ghost use Rattle.model.specs.Image.{holds-block};
+ghost use Rattle.model.specs.Image.{words, holds-block};
 ghost use Rattle.model.specs.Calls as calls;
 ghost use Rattle.answers.specs.Answers.{Gives, written-of};
 use crate::messages;
@@ -26,7 +26,7 @@ pub fn send_volume(
     bytes: &mut [usize],
     outbox: &mut [u8],
 ) -> Written
-    requires { ⌜ holds-block (now block) ≡ true ⌝ }
+    requires { ⌜ (length (now block) ≡ words) × (holds-block (now block) ≡ true) ⌝ }
     requires { ⌜ (now marks ≡ replicate room 0) × (length (now order) ≡ room) × (length (now starts) ≡ room) × (now seen ≡ replicate room 0) ⌝ }
     requires { ⌜ (length (now numbers) ≡ room) × (length (now firsts) ≡ room) × (length (now stamps) ≡ 512) ⌝ }
     requires { ⌜ (now labels ≡ replicate 16 0) × (now bytes ≡ replicate 16 0) ⌝ }

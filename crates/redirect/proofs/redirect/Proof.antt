@@ -34,10 +34,11 @@ enum-known-u c = search needs
 redirect-update-requires : tie.Need-redirect-update-requires
 redirect-update-requires c κs =
     let is-sound-ensures = (let p : tie.After-is-sound = search in p .is-sound .ensures) in
+    let if1-left = (let p : tie.Else1 = search in p .if1 .left) in
     let if2-left = (let p : tie.Else2 = search in p .if2 .left) in
     let received-ensures = (let p : tie.After-received = search in p .received .ensures) in
     let u-given = (let p : tie.After-u = search in p .u .given) in
-    (said-yes is-sound-ensures if2-left, follows (u-given .1) received-ensures)
+    (if1-left, said-yes is-sound-ensures if2-left, follows (u-given .1) received-ensures)
 
 enum-told : tie.Need-enum-told
 enum-told c = search needs
@@ -48,10 +49,11 @@ same-length-2 c = search needs
 returns-3 : tie.Need-returns-3
 returns-3 c =
     let is-sound-ensures = (let p : tie.After-is-sound = search in p .is-sound .ensures) in
+    let if1-left = (let p : tie.Else1 = search in p .if1 .left) in
     let if2-left = (let p : tie.Else2 = search in p .if2 .left) in
     let received-ensures = (let p : tie.After-received = search in p .received .ensures) in
     let f-given = (let p : tie.After-f = search in p .f .given) in
-    transfer-refused _ (said-yes is-sound-ensures if2-left) _ (f-given .1) received-ensures
+    transfer-refused _ if1-left (said-yes is-sound-ensures if2-left) _ (f-given .1) received-ensures
 
 same-length-3 : tie.Need-same-length-3
 same-length-3 c = search needs
@@ -69,9 +71,10 @@ same-length-4 c = search needs
 returns-5 : tie.Need-returns-5
 returns-5 c =
     let is-sound-ensures = (let p : tie.After-is-sound = search in p .is-sound .ensures) in
+    let if1-left = (let p : tie.Else1 = search in p .if1 .left) in
     let if2-left = (let p : tie.Else2 = search in p .if2 .left) in
     let received-ensures = (let p : tie.After-received = search in p .received .ensures) in
-    layout-refused _ (said-yes is-sound-ensures if2-left) _ (c .enum-told .given .1) received-ensures
+    layout-refused _ if1-left (said-yes is-sound-ensures if2-left) _ (c .enum-told .given .1) received-ensures
 
 pub redirect-spec : {M : Type 1} → statement M
 redirect-spec =

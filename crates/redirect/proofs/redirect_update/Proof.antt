@@ -11,7 +11,7 @@ use Rattle.redirect.proofs.redirect_update.Tie as tie
 for-here-requires : tie.Need-for-here-requires
 for-here-requires c κs =
     let start : tie.Start = search in
-    sited (start .args .block .now) (start .pre .0) .linked .size
+    omega (arith, start .pre .0)
 
 same-length : tie.Need-same-length
 same-length c = search needs
@@ -20,7 +20,7 @@ returns : tie.Need-returns
 returns c =
     let start : tie.Start = search in
     let for-here-ensures = (let p : tie.After-for-here = search in p .for-here .ensures) in
-    redirects-elsewhere _ (start .pre .0) for-here-ensures (c .if1 .taken)
+    redirects-elsewhere _ (start .pre .0) (start .pre .1) for-here-ensures (c .if1 .taken)
 
 neither-requires : tie.Need-neither-requires
 neither-requires c κs = search needs
@@ -34,7 +34,7 @@ returns-2 c =
     let for-here-ensures = (let p : tie.After-for-here = search in p .for-here .ensures) in
     let if1-left = (let p : tie.Else1 = search in p .if1 .left) in
     let neither-ensures = (let p : tie.After-neither = search in p .neither .ensures) in
-    redirects-to-an-end _ (start .pre .0) for-here-ensures if1-left neither-ensures (c .if2 .taken)
+    redirects-to-an-end _ (start .pre .0) (start .pre .1) for-here-ensures if1-left neither-ensures (c .if2 .taken)
 
 same-length-3 : tie.Need-same-length-3
 same-length-3 c = search needs
@@ -45,12 +45,12 @@ returns-3 c =
     let for-here-ensures = (let p : tie.After-for-here = search in p .for-here .ensures) in
     let if1-left = (let p : tie.Else1 = search in p .if1 .left) in
     let neither-ensures = (let p : tie.After-neither = search in p .neither .ensures) in
-    redirects-too-many _ (start .pre .0) for-here-ensures if1-left neither-ensures (c .if3 .taken)
+    redirects-too-many _ (start .pre .0) (start .pre .1) for-here-ensures if1-left neither-ensures (c .if3 .taken)
 
 slice-read-n : tie.Need-slice-read-n
 slice-read-n c =
     let start : tie.Start = search in
-    omega (arith, sited (start .args .block .now) (start .pre .0) .linked .size)
+    omega (arith, sited (start .args .block .now) (start .pre .1) .linked .size)
 
 slice-aggregate-all-named : tie.Need-slice-aggregate-all-named
 slice-aggregate-all-named c = search needs
@@ -59,7 +59,7 @@ all-named-requires : tie.Need-all-named-requires
 all-named-requires c κs =
     let start : tie.Start = search in
     let if3-left = (let p : tie.Else3 = search in p .if3 .left) in
-    ((start .pre .0, refl, start .pre .1 .from-small, start .pre .1 .labels-within, omega (arith, if3-left)), refl)
+    ((start .pre .1, refl, start .pre .2 .from-small, start .pre .2 .labels-within, omega (arith, if3-left)), refl)
 
 same-length-4 : tie.Need-same-length-4
 same-length-4 c = search needs
@@ -71,7 +71,7 @@ returns-4 c =
     let if1-left = (let p : tie.Else1 = search in p .if1 .left) in
     let neither-ensures = (let p : tie.After-neither = search in p .neither .ensures) in
     let all-named-ensures = (let p : tie.After-all-named = search in p .all-named .ensures) in
-    redirects-unnamed _ (start .pre .0) for-here-ensures if1-left neither-ensures all-named-ensures (c .if4 .taken)
+    redirects-unnamed _ (start .pre .0) (start .pre .1) for-here-ensures if1-left neither-ensures all-named-ensures (c .if4 .taken)
 
 mul-rewrite : tie.Need-mul-rewrite
 mul-rewrite c = omega arith
@@ -86,7 +86,7 @@ rewrite-requires : tie.Need-rewrite-requires
 rewrite-requires c κs =
     let start : tie.Start = search in
     let all-named-ensures = (let p : tie.After-all-named = search in p .all-named .ensures) in
-    let l = sited (start .args .block .now) (start .pre .0) .linked in
+    let l = sited (start .args .block .now) (start .pre .1) .linked in
     (l .few, l .size, all-named-ensures .size)
 
 same-length-5 : tie.Need-same-length-5
@@ -102,7 +102,7 @@ returns-5 c =
     let all-named-ensures = (let p : tie.After-all-named = search in p .all-named .ensures) in
     let if4-left = (let p : tie.Else4 = search in p .if4 .left) in
     let rewrite-ensures = (let p : tie.After-rewrite = search in p .rewrite .ensures) in
-    redirects-served _ (start .pre .0) for-here-ensures if1-left neither-ensures all-named-ensures if2-left if4-left (start .pre .1) rewrite-ensures
+    redirects-served _ (start .pre .0) (start .pre .1) for-here-ensures if1-left neither-ensures all-named-ensures if2-left if4-left (start .pre .2) rewrite-ensures
 
 pub redirect-update-spec : {M : Type 1} → statement M
 redirect-update-spec =

@@ -48,8 +48,9 @@ slice-aggregate-send-volume-9 c = search needs
 send-volume-requires : tie.Need-send-volume-requires
 send-volume-requires c κs =
     let is-sound-ensures = (let p : tie.After-is-sound = search in p .is-sound .ensures) in
+    let if1-left = (let p : tie.Else1 = search in p .if1 .left) in
     let if2-left = (let p : tie.Else2 = search in p .if2 .left) in
-    (said-yes is-sound-ensures if2-left, (search needs, (search needs, search needs)))
+    ((if1-left, said-yes is-sound-ensures if2-left), (search needs, (search needs, search needs)))
 
 same-length : tie.Need-same-length
 same-length c = search needs

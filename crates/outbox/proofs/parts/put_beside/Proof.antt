@@ -16,7 +16,7 @@ shared-slice-read-p c = omega arith
 field-requires : tie.Need-field-requires
 field-requires c κs =
     let start : tie.Start = search in
-    (start .pre .0 .0 .below (start .args .start) (omega (arith, start .pre .0 .1)), omega arith, start .pre .0 .0 .memory)
+    (start .pre .0 .0 .held (start .args .start) (omega (arith, start .pre .0 .1)), omega arith)
 
 put-part4-requires : tie.Need-put-part4-requires
 put-part4-requires c κs =

@@ -22,7 +22,7 @@ abbrev μ-loop : tie.MeasureT-loop
 field-requires : tie.Need-field-requires Inv-loop μ-loop
 field-requires c κs =
     let start : tie.Start Inv-loop μ-loop = search in
-    (omega (arith, start .pre .1, start .pre .0 .few), omega arith, start .pre .0 .size)
+    (omega (arith, start .pre .1, start .pre .0 .size), omega arith)
 
 loop-holds : tie.Need-loop-holds Inv-loop μ-loop
 loop-holds c =
@@ -33,7 +33,7 @@ loop-holds c =
 field-requires-2 : tie.Need-field-requires-2 Inv-loop μ-loop
 field-requires-2 c κs =
     let start : tie.Start Inv-loop μ-loop = search in
-    (omega (arith, c .loop .inv .0 .below, start .pre .0 .few), omega arith, start .pre .0 .size)
+    (omega (arith, c .loop .inv .0 .below, start .pre .0 .size), omega arith)
 
 lesser-requires : tie.Need-lesser-requires Inv-loop μ-loop
 lesser-requires c κs = search needs
@@ -49,7 +49,7 @@ field-requires-3 : tie.Need-field-requires-3 Inv-loop μ-loop
 field-requires-3 c κs =
     let start : tie.Start Inv-loop μ-loop = search in
     let loop-inv = (let p : tie.At-loop Inv-loop μ-loop = search in p .loop .inv) in
-    (omega (arith, loop-inv .0 .below, start .pre .0 .few), omega arith, start .pre .0 .size)
+    (omega (arith, loop-inv .0 .below, start .pre .0 .size), omega arith)
 
 returns : tie.Need-returns Inv-loop μ-loop
 returns c =

@@ -40,7 +40,7 @@ add-steps c =
 field-requires : tie.Need-field-requires Inv-loop μ-loop
 field-requires c κs =
     let start : tie.Start Inv-loop μ-loop = search in
-    (omega (arith, c .loop .inv .0 .below, start .pre .0 .few), omega arith, start .pre .0 .size)
+    (omega (arith, c .loop .inv .0 .below, start .pre .0 .size), omega arith)
 
 same-length : tie.Need-same-length Inv-loop μ-loop
 same-length c =

@@ -36,7 +36,7 @@ field-requires : tie.Need-field-requires Inv-loop μ-loop
 field-requires c κs =
     let start : tie.Start Inv-loop μ-loop = search in
     let l = linked-by (start .args .block .now) (start .pre .0) (start .pre .1) in
-    (omega (arith, c .loop-test .taken, l .few), omega arith, l .size)
+    (omega (arith, c .loop-test .taken, l .size), omega arith)
 
 add-p : tie.Need-add-p Inv-loop μ-loop
 add-p c = search needs

@@ -8,7 +8,7 @@ use Rattle.send.proofs.volume.send_volume.Tie as tie
 leaves-requires : tie.Need-leaves-requires
 leaves-requires c κs =
     let start : tie.Start = search in
-    (start .pre .0, (start .pre .1 .0, start .pre .1 .1 .0))
+    (start .pre .0 .1, (start .pre .1 .0, start .pre .1 .1 .0))
 
 enum-known-q : tie.Need-enum-known-q
 enum-known-q c = search needs
@@ -24,7 +24,7 @@ put-messages-requires c κs =
     let c : tie.After-leaves = search in
     let start : tie.Start = search in
     let d = departs-told (start .args .block .now) (start .args .to) (start .args .serial) _ _ _ _ _ (leaves-ensures .0) (counts-given .1) in
-    (start .pre .0, (d .survey, ((d .to-block, d .counter-fits), start .pre .1 .1 .1)))
+    (start .pre .0 .1, (d .survey, ((d .to-block, d .counter-fits), start .pre .1 .1 .1)))
 
 same-length : tie.Need-same-length
 same-length c = search needs
@@ -56,7 +56,7 @@ returns c =
     let block = start .args .block .now in
     let to = start .args .to in
     let serial = start .args .serial in
-    refused-leaving block _ to serial (start .pre .0) (refused-told block to serial _ _ _ _ _ (leaves-ensures .0) (q-given .1))
+    refused-leaving block _ to serial (start .pre .0 .0) (start .pre .0 .1) (refused-told block to serial _ _ _ _ _ (leaves-ensures .0) (q-given .1))
 
 same-length-8 : tie.Need-same-length-8
 same-length-8 c = search needs
@@ -97,7 +97,7 @@ returns-2 c =
     let c : tie.After-leaves = search in
     let start : tie.Start = search in
     let d = departs-told (start .args .block .now) (start .args .to) (start .args .serial) _ _ _ _ _ (leaves-ensures .0) (counts-given .1) in
-    sent (start .args .block .now) _ (start .args .to) (start .args .serial) (start .pre .0) d put-messages-ensures
+    sent (start .args .block .now) _ (start .args .to) (start .args .serial) (start .pre .0 .0) (start .pre .0 .1) d put-messages-ensures
 
 pub send-volume-spec : {M : Type 1} → statement M
 send-volume-spec =

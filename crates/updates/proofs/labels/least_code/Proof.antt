@@ -26,7 +26,7 @@ shared-slice-read-field c = omega arith
 field-requires : tie.Need-field-requires Inv-loop μ-loop
 field-requires c κs =
     let start : tie.Start Inv-loop μ-loop = search in
-    (start .pre .0 .below (start .args .start) (omega (arith, start .pre .1)), omega arith, start .pre .0 .memory)
+    (start .pre .0 .held (start .args .start) (omega (arith, start .pre .1)), omega arith)
 
 loop-holds : tie.Need-loop-holds Inv-loop μ-loop
 loop-holds c =
@@ -47,7 +47,7 @@ field-requires-2 c κs =
     let start : tie.Start Inv-loop μ-loop = search in
     let loop-k = (let p : tie.At-loop Inv-loop μ-loop = search in p .loop .k) in
     let loop-test-taken = (let p : tie.In-loop Inv-loop μ-loop = search in p .loop-test .taken) in
-    (start .pre .0 .below (start .args .start + loop-k) (omega (arith, loop-test-taken)), omega arith, start .pre .0 .memory)
+    (start .pre .0 .held (start .args .start + loop-k) (omega (arith, loop-test-taken)), omega arith)
 
 lesser-requires : tie.Need-lesser-requires Inv-loop μ-loop
 lesser-requires c κs = search needs

@@ -59,7 +59,7 @@ field-requires c κs =
     let start : tie.Start Inv-loop μ-loop = search in
     let loop-f = (let p : tie.At-loop Inv-loop μ-loop = search in p .loop .f) in
     let loop-test-taken = (let p : tie.In-loop Inv-loop μ-loop = search in p .loop-test .taken) in
-    (start .pre .0 .0 .below (getD (start .args .starts .now) loop-f 0) (start .pre .0 .1 .below loop-f loop-test-taken), omega arith, start .pre .0 .0 .memory)
+    (start .pre .0 .0 .held (getD (start .args .starts .now) loop-f 0) (start .pre .0 .1 .below loop-f loop-test-taken), omega arith)
 
 mul-if1 : tie.Need-mul-if1 Inv-loop μ-loop
 mul-if1 c = omega arith
