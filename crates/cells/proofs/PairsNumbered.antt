@@ -120,7 +120,7 @@ module _ (n : ℕ) (nx op : ℕ → ℕ) (few : n ≤ room) (wn : Within n nx) (
       ∙ index-at (vertices nx op l) a (firsts-distinct (map (vertex nx op) l)) (omega (arith, m .count-is))
     where
       inside : a < length (take count first)
-      inside = omega (arith, length-take count first, m .firsts-size, m .count-le, w .few)
+      inside = omega (arith, length-take count first, m .firsts-size)
 
       at : vertex nx op (getD first a 0) ≡ getD (vertices nx op l) a 0
       at = ap (vertex nx op) (sym (getD-take count first a 0 h)) ∙ sym (getD-map (vertex nx op) (take count first) a inside) ∙ ap (λ (v : List ℕ). getD v a 0) (m .firsts-are)
@@ -139,10 +139,10 @@ module _ (n : ℕ) (nx op : ℕ → ℕ) (few : n ≤ room) (wn : Within n nx) (
   -- what the code asks of the arrays
   pub ended : Ended n nx op numbers first count
   ended = record {
-    numbers-size = m .numbers-size;
     firsts-size = m .firsts-size;
     count-few = omega (arith, m .count-le, w .few);
     first-below = λ a h. w .below (getD first a 0) (m .firsts-in a h);
+    end-there = λ a h q k. m .numbers-size (nx q) (w .next-in q (ring-inside (getD first a 0) q (m .firsts-in a h) k));
     end-below = λ a h q k. number-below (nx q) (w .next-in q (ring-inside (getD first a 0) q (m .firsts-in a h) k));
   }
 

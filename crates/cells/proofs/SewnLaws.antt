@@ -105,8 +105,8 @@ module _ {m : List ℕ} (site : Sited m) (p : ℕ) (h : p < count-in m) {marks :
       ∙ ap (λ (l : List ℕ). not (any (sewn-in m marks) l)) (sym (marked-places mk (count-in m)))
 
 -- THE TEST OF ONE PLACE, arm by arm
-pub not-sewn : (k j : ℕ) (rest : Bool) → j ≡ k → (j % 4 ≡ 1 → ⊥) → false ≡ (eqb (k % 4) 1 && rest)
-not-sewn k j rest e h = rw (← e, ne-eqb (j % 4) 1 h)
+pub not-sewn : (k j : ℕ) (rest : Bool) → j ≡ k → eqb (j % 4) 1 ≡ false → false ≡ (eqb (k % 4) 1 && rest)
+not-sewn k j rest e h = rw (← e, h)
 
-pub sewn-to : (marks : List ℕ) (k j q r : ℕ) → j ≡ k → j % 4 ≡ 1 → q ≡ r → eqb (getD marks q 0) 1 ≡ (eqb (k % 4) 1 && eqb (getD marks r 0) 1)
+pub sewn-to : (marks : List ℕ) (k j q r : ℕ) → j ≡ k → eqb (j % 4) 1 ≡ true → q ≡ r → eqb (getD marks q 0) 1 ≡ (eqb (k % 4) 1 && eqb (getD marks r 0) 1)
 sewn-to marks k j q r e h f = rw (← e, h, f)
