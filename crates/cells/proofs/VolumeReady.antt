@@ -17,6 +17,7 @@ use Rattle.cells.proofs.Resets.{marks-in}
 use Rattle.cells.proofs.SewnLaws.{any-within}
 use Rattle.cells.proofs.FaceLaws.{has, in-marked, marked-in, only}
 use Rattle.cells.proofs.FaceSerials.{closed-next, closed-opposite}
+use Rattle.cells.proofs.StartLaws.{in-order-few}
 use Rattle.cells.proofs.PairsNumbered.{ended, order-whole}
 
 module _ {b : List ℕ} {n d : ℕ} (l : Linked b n) (h : d < n) {marks : List ℕ} (mk : Marked (volume-of b d) marks) where
@@ -30,6 +31,9 @@ module _ {b : List ℕ} {n d : ℕ} (l : Linked b n) (h : d < n) {marks : List �
     -- what `number_vertices` asks of the order
     pub out-long : darts ≤ length out
     out-long = o .out-size
+
+    pub out-few : darts ≤ n
+    out-few = in-order-few n (column b 1) marks (l .few) (l .next-within) (l .next-apart) o .0
 
     pub out-below : (k : ℕ) → k < darts → getD out k 0 < n
     out-below k j =
