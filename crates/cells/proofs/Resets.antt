@@ -5,10 +5,11 @@ use mathlib.Core.List.{List, [], _∷_, _++_}
 use Prim.Native.Nat.{ℕ, _+_, _-_, _≤_, _<_, min}
 use native.Mathlib.Omega.{arith}
 use native.Mathlib.Numerals.{add-one}
-use lib.ListN.{length, getD, replicate, set, take, drop}
+use lib.ListN.{length, getD, replicate, set, take, drop, length-replicate}
 use lib.Seq.{take-suc, length-take-le, getD-take}
 use Rattle.model.specs.Lists.{least, least-from, mem}
 use Rattle.laws.proofs.Tests.{by-cases}
+use Rattle.laws.proofs.Lists.{getD-zeros}
 use Rattle.laws.proofs.Members.{In, in-getD, least-in, least-below, least-more}
 use Rattle.cells.specs.Places.{Clear, Listed, Marked, Painted, bit, marked}
 use Rattle.cells.proofs.Paths.{paint-more}
@@ -32,6 +33,13 @@ unmarked {v} {l} {marks} {marks′} m has w p = w .value p ∙ none p
   where
     none : (p : ℕ) → cond (mem p l) 0 (getD marks p 0) ≡ 0
     none p = by-cases (mem p l) (λ e. rw e) (λ e. rw e (m .mark p ∙ by-cases (mem p v) (λ i. absurd (true≢false (sym (has p i) ∙ e))) (λ i. rw i)))
+
+-- ZEROS are clear, and long enough for what is no more than they are
+pub zeros-clear : (k : ℕ) {l : List ℕ} → l ≡ replicate k 0 → Clear l
+zeros-clear k e p = ap (λ (m : List ℕ). getD m p 0) e ∙ getD-zeros k p
+
+pub zeros-long : (n k : ℕ) {l : List ℕ} → l ≡ replicate k 0 → n ≤ k → n ≤ length l
+zeros-long n k e h = omega (arith, ap length e, length-replicate {A = ℕ} k 0)
 
 -- THE LEAST
 least-last : (l : List ℕ) (y : ℕ) → 0 < length l → least (l ++ y ∷ []) ≡ min (least l) y

@@ -23,6 +23,7 @@ pub record Surveyed (m : List ℕ) (c : Counts) (marks out starts numbers firsts
   pub place : ℕ
   pub place-below : place < getD m 2 0
   pub volume-marked : Marked (volume-of m place) marks
+  pub marks-size : getD m 2 0 ≤ length marks
   pub order : InOrder (faces-at m marks) out starts (c .darts) (c .faces)
   pub numbering : Numbered (column m 1) (column m 2) (take (c .darts) out) numbers firsts (c .vertices)
   pub sewn-is : c .sewn ≡ length (keep (λ f. sewn-out m marks (start-of f)) (faces-at m marks))

@@ -6,8 +6,8 @@ use Prim.Native.Nat.{ℕ, _+_, _*_, _-_, _<_, _^_}
 use native.Mathlib.Omega.{arith}
 use lib.ListN.{length, getD, drop, replicate}
 use borrow.Author.Tests.{eq-eqb, ne-eqb}
-use Rattle.model.specs.Values.{rack, room}
-use Rattle.model.specs.Image.{words, words-for, image, block-in, holds-block, memory-checks}
+use Rattle.model.specs.Values.{Limits, rack}
+use Rattle.model.specs.Image.{words, words-for, words-of, image, is-image, block-in, holds-block, memory-checks}
 use Rattle.model.specs.Departure.{departure-checks, released}
 use Rattle.model.specs.Calls.{Answer, served, refused, storing, release}
 use Rattle.answers.specs.Answers.{Gives, answered}
@@ -24,7 +24,7 @@ use Rattle.removal.proofs.CutFaces.{kind-one, sewn, away}
 use Rattle.removal.proofs.ReleasedImage.{none-within, sewn-after, rest-after, released-image}
 use Rattle.release.specs.Asks.{Sewing, Bounded}
 
-module _ (m : List ℕ) (ok : holds-block m ≡ true) (j d : ℕ) {c : Counts} {marks out starts numbers firsts : List ℕ} (w : Departs m j d c marks out starts numbers firsts) where
+module _ (m : List ℕ) (ok : holds-block m ≡ true) (j d : ℕ) {most : ℕ} {c : Counts} {marks out starts numbers firsts : List ℕ} (w : Departs most m j d c marks out starts numbers firsts) where
   abbrev site : Sited m
   site = sited m ok
 
@@ -42,7 +42,6 @@ module _ (m : List ℕ) (ok : holds-block m ≡ true) (j d : ℕ) {c : Counts} {
   sewing = record {
     size = site .linked .size;
     few = site .linked .few;
-    marks-size = w .survey .volume-marked .size;
     number-small = pass .range .number-small;
     next-within = site .linked .next-within;
     next-apart = site .linked .next-apart;
@@ -63,6 +62,9 @@ module _ (m : List ℕ) (ok : holds-block m ≡ true) (j d : ℕ) {c : Counts} {
 
   count-same : getD labelled 2 0 ≡ n
   count-same = header-stays m (left-behind m marks j) 2 (omega arith)
+
+  pub count-left : {x : List ℕ} → x ≡ labelled → getD x 2 0 ≡ n
+  count-left e = ap (λ (x : List ℕ). getD x 2 0) e ∙ count-same
 
   bounded-first : Bounded labelled n
   bounded-first = record {
@@ -96,17 +98,24 @@ module _ (m : List ℕ) (j s : ℕ) where
     unfolding release storing memory-checks
     image-refused e h = gives _ _ _ _ (ask-yes (eq-eqb (length m) words size) (ask-no refl (said-no e h) refl))
 
-  module _ (size : length m ≡ words) (ok : holds-block m ≡ true) where
+  -- limits by another name
+  pub by-limits : {lim lim′ : Limits} {given : Answer (Unit {0})} {lent : List ℕ} → lim ≡ lim′ → Gives (release lim m j s) given lent → Gives (release lim′ m j s) given lent
+  by-limits {given = given} {lent = lent} e = subst (λ (l : Limits). Gives (release l m j s) given lent) e
+
+  -- by any limits
+  module _ (lim : Limits) (size : length m ≡ words-of lim) (ok : is-image lim m ≡ true) where
     -- 1 and 2 before
     block-given : {given : Answer (Unit {0})} {lent : List ℕ}
-        → Asks (departure-checks 512 (block-in m) j s ++ []) m tt (image words (released (block-in m) j s)) given lent
-        → Gives (release rack m j s) given lent
+        → Asks (departure-checks (lim .volume-darts) (block-in m) j s ++ []) m tt (image (words-of lim) (released (block-in m) j s)) given lent
+        → Gives (release lim m j s) given lent
     unfolding release storing memory-checks departure-checks
-    block-given a = gives _ _ _ _ (ask-yes (eq-eqb (length m) words size) (ask-yes ok a))
+    block-given a = gives _ _ _ _ (ask-yes (eq-eqb (length m) (words-of lim) size) (ask-yes ok a))
 
-    pub volume-refused : {q : ℕ} → refused q ≡ answered (departure-checks 512 (block-in m) j s) → Gives (release rack m j s) (refused q) m
-    volume-refused e = block-given (ask-first (departure-checks 512 (block-in m) j s) [] e refl)
+    pub volume-refused : {q : ℕ} → refused q ≡ answered (departure-checks (lim .volume-darts) (block-in m) j s) → Gives (release lim m j s) (refused q) m
+    volume-refused e = block-given (ask-first (departure-checks (lim .volume-darts) (block-in m) j s) [] e refl)
 
-    pub volume-released : {c : Counts} {marks out starts numbers firsts y : List ℕ} → Departs m j s c marks out starts numbers firsts
-        → y ≡ released-at m marks j → Gives (release rack m j s) (served tt) y
-    volume-released w e = block-given (ask-all (departure-checks 512 (block-in m) j s) [] (unfold departure-checks in refl) (w .asked) (ask-end (e ∙ sym (released-image m ok j s w) ∙ ap (λ (k : ℕ). image k (released (block-in m) j s)) size)))
+    pub volume-released : {c : Counts} {marks out starts numbers firsts y : List ℕ} → holds-block m ≡ true → Departs (lim .volume-darts) m j s c marks out starts numbers firsts
+        → y ≡ released-at m marks j → Gives (release lim m j s) (served tt) y
+    volume-released sound w e =
+        block-given (ask-all (departure-checks (lim .volume-darts) (block-in m) j s) [] (unfold departure-checks in refl) (w .asked)
+        (ask-end (e ∙ sym (released-image m sound j s w) ∙ ap (λ (k : ℕ). image k (released (block-in m) j s)) size)))

@@ -254,12 +254,12 @@ module _ {m : List ℕ} (site : Sited m) (pass : Passed m) (p : ℕ) (h : p < co
       λ i. parts (size i) (number i) (getD m 1 0 + counter-is i) ((count-after ∙ ap (rank marks) count) i) ((rows ∙ ap (records (moved-words (rank marks) x) marks) count) i)
 
 -- WHAT A SURVEY GIVES
-module _ (m : List ℕ) (ok : holds-block m ≡ true) (j d : ℕ) {c : Counts} {marks out starts numbers firsts : List ℕ} (w : Departs m j d c marks out starts numbers firsts) where
+module _ (m : List ℕ) (ok : holds-block m ≡ true) (j d : ℕ) {most : ℕ} {c : Counts} {marks out starts numbers firsts : List ℕ} (w : Departs most m j d c marks out starts numbers firsts) where
   -- 12 was answered yes
   pub none-within : any (sewn-in m marks) (marked (count-in m) marks) ≡ false
   unfolding departure-checks answered
   none-within =
-      let e = served-value (departure-checks 512 (block-in m) j d) [] tt [] tt (sym (w .asked)) .0 in
+      let e = served-value (departure-checks most (block-in m) j d) [] tt [] tt (sym (w .asked)) .0 in
       let q9 = yes-first 9 _ _ (λ z. omega arith) e in
       let q10 = yes-first 10 _ _ (λ z. omega arith) (q9 .1) in
       let q11 = yes-first 11 _ _ (λ z. omega arith) (q10 .1) in

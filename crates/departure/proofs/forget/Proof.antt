@@ -1,5 +1,4 @@
 -- `departure::forget` meets its contract: every mark is in the list. Assumes nothing.
-use mathlib.Core.Path.{sym, _∙_}
 use Rattle.cells.proofs.Resets.{unmarked}
 use borrow.Author.Needs.{needs}
 use Rattle.departure.proofs.forget.Statement.{statement}

@@ -550,6 +550,7 @@ returns-7 c =
     let message-order-ensures = (let p : tie.After-message-order = search in p .message-order .ensures) in
     let if2-left = (let p : tie.Else2 = search in p .if2 .left) in
     let c : tie.Else2 = search in
+    let volume-kept = (let p : tie.After-volume = search in p .volume .kept) in
     let volume-ensures = (let p : tie.After-volume = search in p .volume .ensures) in
     let place-given = (let p : tie.After-place = search in p .place .given) in
     let place-of-ensures = (let p : tie.After-place-of = search in p .place-of .ensures) in
@@ -565,7 +566,7 @@ returns-7 c =
     let mk = volume-ensures .0 in (
       departs most m ok to serial destination-right-ensures if1-left place-of-ensures (place-given .1) mk (volume-ensures .1 .0)
           (omega (arith, if2-left)) (message-order-ensures .0) sewn-within-ensures if3-left number-vertices-ensures pairs-once-ensures
-          if4-left count-sewn-ensures counter-fits-ensures (start .pre .0 .1) if5-left,
+          if4-left count-sewn-ensures counter-fits-ensures (start .pre .0 .1) (omega (arith, volume-kept, start .pre .1 .0 .0)) if5-left,
       tt,
     )
 
