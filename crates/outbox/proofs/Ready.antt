@@ -95,7 +95,7 @@ module _ (m : List ℕ) (ok : holds-block m ≡ true) {c : Counts} {marks order 
 
   pub vertexed : Vertexed numbers order (c .darts)
   vertexed = record {
-    numbers-size = s .numbering .numbers-size;
+    numbers-size = λ k h. s .numbering .numbers-size (getD order k 0) (in-order k h);
     number-small = λ k h. let l = linked in
         let w = out-whole l (s .place-below) (s .volume-marked) (s .order) in
         omega (
@@ -120,7 +120,7 @@ module _ (m : List ℕ) (ok : holds-block m ≡ true) {c : Counts} {marks order 
 
   pub opened : Opened (count-in m) order starts (c .faces)
   opened = record {
-    order-size = s .order .out-size;
+    order-size = λ f h. omega (arith, start-there f h .0, s .order .out-size);
     starts-size = s .order .starts-size;
     few = faces-few;
     index-small = λ f h. omega (arith, start-there f h .0, s .few);

@@ -86,7 +86,7 @@ module _ (m : List ℕ) (ok : holds-block m ≡ true) (j : ℕ) {c : Counts} {ma
   unfolding transfer-at first-bytes parts-bytes
   transfer-bytes = let o = s .order in let f = some-face m ok s in
       layout-bytes (transfer-for m j c marks numbers firsts) ∙ each-part (group .put 1) (group .put (getD m 0 0)) (group .put j)
-      (points-run m firsts (c .vertices) (omega (arith, s .numbering .firsts-size, pointed m ok s .few)))
+      (points-run m firsts (c .vertices) (s .numbering .firsts-size))
       (faces-run m numbers o f) (part2-run m numbers o f j) (part3-run m numbers o f marks (getD m 1 0)) (part4-run m numbers o f _ j)
 
   -- entries of the parts

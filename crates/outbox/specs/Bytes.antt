@@ -76,7 +76,7 @@ part4-put m j order starts darts count f = cond (in-part4 m j order starts f) (b
 pub record Listed (m order : List ℕ) (darts : ℕ) : Type 0 where
   pub header : 8 ≤ length m
   pub held : (k : ℕ) → k < darts → words-for (getD order k 0 + 1) ≤ length m
-  pub order-size : length order ≡ room
+  pub order-size : darts ≤ length order
   pub few : darts ≤ 512
   pub below : (k : ℕ) → k < darts → getD order k 0 < room
   pub serial-small : (k : ℕ) → k < darts → column m 0 (getD order k 0) < serial-bound
@@ -84,12 +84,12 @@ pub record Listed (m order : List ℕ) (darts : ℕ) : Type 0 where
 
 -- their vertices have numbers
 pub record Vertexed (numbers order : List ℕ) (darts : ℕ) : Type 0 where
-  pub numbers-size : length numbers ≡ room
+  pub numbers-size : (k : ℕ) → k < darts → getD order k 0 < length numbers
   pub number-small : (k : ℕ) → k < darts → getD numbers (getD order k 0) 0 < room
 
 -- faces start and end within the order
 pub record Started (starts : List ℕ) (darts count : ℕ) : Type 0 where
-  pub starts-size : length starts ≡ room
+  pub starts-size : count ≤ length starts
   pub few : count ≤ 512
   pub below : (f : ℕ) → f < count → getD starts f 0 < darts
   pub ends-after : (f : ℕ) → f < count → getD starts f 0 < end-of starts count darts f
@@ -97,8 +97,8 @@ pub record Started (starts : List ℕ) (darts count : ℕ) : Type 0 where
 
 -- the starts alone, as indices of a message and as places below n
 pub record Opened (n : ℕ) (order starts : List ℕ) (count : ℕ) : Type 0 where
-  pub order-size : length order ≡ room
-  pub starts-size : length starts ≡ room
+  pub order-size : (f : ℕ) → f < count → getD starts f 0 < length order
+  pub starts-size : count ≤ length starts
   pub few : count ≤ 512
   pub index-small : (f : ℕ) → f < count → getD starts f 0 < 512
   pub place-below : (f : ℕ) → f < count → start-at order starts f < n
@@ -106,7 +106,7 @@ pub record Opened (n : ℕ) (order starts : List ℕ) (count : ℕ) : Type 0 whe
 -- the first darts of the vertices have finite points
 pub record Pointed (m firsts : List ℕ) (count : ℕ) : Type 0 where
   pub held : (k : ℕ) → k < count → words-for (getD firsts k 0 + 1) ≤ length m
-  pub firsts-size : length firsts ≡ room
+  pub firsts-size : count ≤ length firsts
   pub few : count ≤ 512
   pub below : (k : ℕ) → k < count → getD firsts k 0 < room
   pub finite : (k : ℕ) → k < count → FiniteAt m (getD firsts k 0)

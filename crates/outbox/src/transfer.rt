@@ -4,7 +4,6 @@ ghost use mathlib.Core.Bool.{true};
 ghost use mathlib.Core.List.{List};
 ghost use Prim.Native.Nat.{ℕ, _+_, _≤_, _<_, _^_};
 ghost use lib.ListN.{length, getD};
-ghost use Rattle.model.specs.Values.{room};
 ghost use Rattle.model.specs.Layouts.{group, framed};
 ghost use Rattle.model.specs.Messages.{transfer};
 ghost use Rattle.model.specs.Image.{holds-block};
@@ -117,7 +116,7 @@ fn put_parts(
     at: usize,
 ) -> usize
     requires { ⌜ Listed (now block) (now order) (counts .darts) × Started (now starts) (counts .darts) (counts .faces) × (to ≤ 15) ⌝ }
-    requires { ⌜ Linked (now block) (getD (now block) 2 0) × (length (now marks) ≡ room) × Opened (getD (now block) 2 0) (now order) (now starts) (counts .faces) ⌝ }
+    requires { ⌜ Linked (now block) (getD (now block) 2 0) × (getD (now block) 2 0 ≤ length (now marks)) × Opened (getD (now block) 2 0) (now order) (now starts) (counts .faces) ⌝ }
     requires { ⌜ (sizes .part2 ≡ tally (in-part2 (now block) to (now order) (now starts)) (counts .faces)) × (counts .sewn ≡ tally (in-part3 (now block) (now marks) (now order) (now starts)) (counts .faces)) × (sizes .part4 ≡ tally (in-part4 (now block) to (now order) (now starts)) (counts .faces)) ⌝ }
     requires { ⌜ (getD (now block) 1 0 + counts .sewn < 2 ^ 32) × (at + length (parts-bytes (now block) to counts (now marks) (now order) (now starts)) ≤ length (now out)) ⌝ }
     ensures { λ r. ⌜ Stored (now (out .entry)) at (parts-bytes (now (block .entry)) to counts (now (marks .entry)) (now (order .entry)) (now (starts .entry))) (now (out .exit)) r ⌝ }

@@ -52,7 +52,7 @@ part3-size-requires c κs =
     let ok = start .pre .0 in
     let sv = start .pre .1 .0 .1 in
     let b = bounds m ok to sv in
-    ((linked m ok sv, sv .volume-marked .size, opened m ok sv), (omega (arith, start .pre .1 .1 .1, sewn-tally m ok to sv), omega (arith, b .three-bytes)))
+    ((linked m ok sv, sv .marks-size, opened m ok sv), (omega (arith, start .pre .1 .1 .1, sewn-tally m ok to sv), omega (arith, b .three-bytes)))
 
 part4-tally-requires : tie.Need-part4-tally-requires
 part4-tally-requires c κs =
