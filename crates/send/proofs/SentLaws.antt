@@ -9,11 +9,11 @@ use lib.ListN.{length, take, drop, length-append}
 use lib.Seq.{sets-eq}
 use borrow.Author.Tests.{eq-eqb, ne-eqb, le-leb, lt-leb}
 use borrow.Rule.Slice.PartMut.{putMid}
-use Rattle.model.specs.Values.{rack}
+use Rattle.model.specs.Values.{Limits, rack}
 use Rattle.model.specs.Lists.{concat}
 use Rattle.model.specs.Layouts.{framed}
 use Rattle.model.specs.Messages.{Transfer, Update, transfer, update}
-use Rattle.model.specs.Image.{words, block-in, holds-block, memory-checks}
+use Rattle.model.specs.Image.{words, words-of, is-image, block-in, holds-block, memory-checks}
 use Rattle.model.specs.Departure.{departure-checks, messages, transfer-of, updates-of}
 use Rattle.model.specs.Calls.{Answer, served, refused, writing, send}
 use Rattle.answers.specs.Answers.{Gives, answered}
@@ -64,7 +64,7 @@ all-messages : (t : Transfer) (us : List Update) → concat (framed transfer t �
 unfolding concat
 all-messages t us = refl
 
-pub sent-bytes : (m : List ℕ) → holds-block m ≡ true → (j s : ℕ) {c : Counts} {marks order starts numbers firsts : List ℕ} → Departs m j s c marks order starts numbers firsts
+pub sent-bytes : (m : List ℕ) → holds-block m ≡ true → (j s : ℕ) {most : ℕ} {c : Counts} {marks order starts numbers firsts : List ℕ} → Departs most m j s c marks order starts numbers firsts
     → concat (messages (block-in m) j s) ≡ messages-at m j c marks numbers firsts
 unfolding messages messages-at
 sent-bytes m ok j s {c} {marks} {order} {starts} {numbers} {firsts} d =
@@ -102,15 +102,20 @@ pub refused-image : (m out : List ℕ) (j s : ℕ) → length m ≡ words → ho
 unfolding send writing memory-checks
 refused-image m out j s h e = gives _ _ _ _ (ask-yes (eq-eqb (length m) words h) (ask-no refl e refl))
 
-module _ (m out : List ℕ) (j s : ℕ) (size : length m ≡ words) (ok : holds-block m ≡ true) where
-  pub refused-leaving : {n : ℕ} → refused n ≡ answered (departure-checks 512 (block-in m) j s) → Gives (send rack m j s out) (refused n) out
+-- limits by another name
+pub by-limits : (m out : List ℕ) (j s : ℕ) {lim lim′ : Limits} {given : Answer ℕ} {after : List ℕ} → lim ≡ lim′ → Gives (send lim m j s out) given after → Gives (send lim′ m j s out) given after
+by-limits m out j s {given = given} {after = after} e = subst (λ (l : Limits). Gives (send l m j s out) given after) e
+
+-- by any limits
+module _ (m out : List ℕ) (j s : ℕ) (lim : Limits) (size : length m ≡ words-of lim) (ok : is-image lim m ≡ true) where
+  pub refused-leaving : {n : ℕ} → refused n ≡ answered (departure-checks (lim .volume-darts) (block-in m) j s) → Gives (send lim m j s out) (refused n) out
   unfolding send writing memory-checks
-  refused-leaving h = gives _ _ _ _ (ask-yes (eq-eqb (length m) words size) (ask-yes ok (ask-first (departure-checks 512 (block-in m) j s) _ h refl)))
+  refused-leaving h = gives _ _ _ _ (ask-yes (eq-eqb (length m) (words-of lim) size) (ask-yes ok (ask-first (departure-checks (lim .volume-darts) (block-in m) j s) _ h refl)))
 
   -- what question 15 gives, the call gives
-  pub sent : {c : Counts} {marks order starts numbers firsts : List ℕ} → Departs m j s c marks order starts numbers firsts → {given : Answer ℕ} {after : List ℕ}
-      → Gives (writing [] out (messages-at m j c marks numbers firsts)) given after → Gives (send rack m j s out) given after
+  pub sent : holds-block m ≡ true → {c : Counts} {marks order starts numbers firsts : List ℕ} → Departs (lim .volume-darts) m j s c marks order starts numbers firsts
+      → {given : Answer ℕ} {after : List ℕ} → Gives (writing [] out (messages-at m j c marks numbers firsts)) given after → Gives (send lim m j s out) given after
   unfolding send writing memory-checks departure-checks
-  sent d {given} {after} g =
-      let w = subst (λ (b : List ℕ). Gives (writing [] out b) given after) (sym (sent-bytes m ok j s d)) g in
-      gives _ _ _ _ (ask-yes (eq-eqb (length m) words size) (ask-yes ok (ask-all (departure-checks 512 (block-in m) j s) _ refl (d .asked) (record { result = w }))))
+  sent sound d {given} {after} g =
+      let w = subst (λ (b : List ℕ). Gives (writing [] out b) given after) (sym (sent-bytes m sound j s d)) g in
+      gives _ _ _ _ (ask-yes (eq-eqb (length m) (words-of lim) size) (ask-yes ok (ask-all (departure-checks (lim .volume-darts) (block-in m) j s) _ refl (d .asked) (record { result = w }))))
