@@ -123,7 +123,7 @@ module _ (m : List ℕ) (size : length m ≡ words) (ok : holds-block m ≡ true
       labels-no : ((u : Update) → UpdateOutlined u s o → (all (names-at m (o .from)) (map code (u .labels)) && distinct (map code (u .labels))) ≡ false) → Redirects m s o (refused 22) m
       labels-no k = record { gives = λ u w. right-no u (said-yes (here-is u w) yes-here) (right-by u w ∙ and-no ends _ (k u w)) }
 
-      pub redirects-too-many : 4096 < o .count → Redirects m s o (refused 22) m
+      pub redirects-too-many : getD m 2 0 < o .count → Redirects m s o (refused 22) m
       redirects-too-many h = labels-no (λ u w. too-many (sited m ok .linked) refl (o .from) (u .labels) (w .labels-in) h)
 
       module _ {table : List ℕ} {named : Bool} (n : AllNamed m s (o .from) (o .labels) (o .count) table named) where
@@ -150,6 +150,10 @@ module _ (m : List ℕ) (size : length m ≡ words) (ok : holds-block m ≡ true
                     → Rewritten m m′ (named-at m (u .from) (map code (u .labels))) (2 + 4 * u .block) (getD m 2 0)
                 by-outline u w x = subst (λ (a : ℕ). Rewritten m m′ (named-at m a (map code (u .labels))) (2 + 4 * u .block) (getD m 2 0)) (w .from-is)
                     (subst (λ (a : ℕ). Rewritten m m′ (named-at m (o .from) (map code (u .labels))) (2 + 4 * a) (getD m 2 0)) (w .block-is) x)
+
+-- the new word, as the code has it
+pub rewritten-word : {m m′ : List ℕ} {test : ℕ → Bool} {word new n : ℕ} → word ≡ new → Rewritten m m′ test word n → Rewritten m m′ test new n
+rewritten-word {m} {m′} {test} {n = n} e = subst (λ (w : ℕ). Rewritten m m′ test w n) e
 
 -- what is told of an update can be followed
 pub follows : {s : List ℕ} {r : Received} {o : UpdateOutline} → r ≡ received.Update o → KindRead s r → Follows s o

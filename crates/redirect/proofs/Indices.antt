@@ -20,7 +20,7 @@ use Rattle.cells.specs.Places.{Linked, Painted}
 use Rattle.cells.proofs.Walks.{eq-or-ne}
 use Rattle.cells.proofs.Sited.{sited}
 use Rattle.departure.specs.ByPlaces.{critical-with}
-use Rattle.redirect.specs.ByPlaces.{face-code, code-index, Indexed}
+use Rattle.redirect.specs.ByPlaces.{face-code, code-index, Unset, Indexed}
 use Rattle.redirect.proofs.Faces.{self-in, one-code, one-kind}
 
 -- THE INDEX OF A DART'S CODE
@@ -52,7 +52,7 @@ index-along m ok from codes c x y h i =
 
 -- BY PLACE: where a dart's place is not passed yet, it may have no index yet
 pub record Indexing (index : ℕ → ℕ) (n p : ℕ) (t : List ℕ) : Type 0 where
-  pub size : length t ≡ room
+  pub size : n ≤ length t
   pub p-le : p ≤ n
   pub each : (q : ℕ) → q < n → (getD t q 0 ≡ index q) ⊎ ((p ≤ q) × (getD t q 0 ≡ 4097))
 
@@ -61,11 +61,14 @@ same-everywhere zero v q h = absurd (omega arith)
 same-everywhere (suc k) v zero h = refl
 same-everywhere (suc k) v (suc q) h = same-everywhere k v q (omega arith)
 
-pub indexing-start : (index : ℕ → ℕ) {n : ℕ} {t : List ℕ} → n ≤ room → t ≡ replicate room 4097 → Indexing index n 0 t
-indexing-start index {n} {t} few e = record {
-  size = ap length e ∙ length-replicate {A = ℕ} room 4097;
+pub values-long : (n k v : ℕ) {l : List ℕ} → l ≡ replicate k v → n ≤ k → n ≤ length l
+values-long n k v e h = omega (arith, ap length e, length-replicate {A = ℕ} k v)
+
+pub indexing-start : (index : ℕ → ℕ) {n : ℕ} {t : List ℕ} → n ≤ length t → Unset n t → Indexing index n 0 t
+indexing-start index {n} {t} long unset = record {
+  size = long;
   p-le = omega arith;
-  each = λ q h. inr (omega arith, ap (λ (u : List ℕ). getD u q 0) e ∙ same-everywhere room 4097 q (omega arith));
+  each = λ q h. inr (omega arith, unset q h);
 }
 
 above : {p q : ℕ} → (p ≡ q → ⊥) → p ≤ q → p + 1 ≤ q
@@ -91,7 +94,7 @@ module _ {index : ℕ → ℕ} {n p : ℕ} {t : List ℕ} (w : Indexing index n 
   pub indexing-face : {f t′ : List ℕ} {v : ℕ} → v ≡ index p → In p f → ((q : ℕ) → In q f → index q ≡ index p) → Painted v f t t′ → Indexing index n (p + 1) t′
   indexing-face {f} {t′} {v} e self along d =
       record {
-        size = d .size ∙ w .size;
+        size = omega (arith, d .size, w .size);
         p-le = omega arith;
         each = λ q k. by-cases (mem q f) (λ i. inl (d .value q ∙ rw i (e ∙ sym (along q i)))) (λ i. go q i (w .each q k));
       }
@@ -101,7 +104,7 @@ module _ {index : ℕ → ℕ} {n p : ℕ} {t : List ℕ} (w : Indexing index n 
       go q i (inr a) = inr (above (λ s. true≢false (sym (in-eq q p f (sym s) self) ∙ i)) (a .0), d .value q ∙ rw i (a .1))
 
 pub indexing-end : {index : ℕ → ℕ} {n p : ℕ} {t : List ℕ} → Indexing index n p t → n ≤ p → Indexed index n t
-indexing-end {index} {n} {p} {t} w h = record { size = w .size; index-is = λ q k. go q k (w .each q k) }
+indexing-end {index} {n} {p} {t} w h = record { index-is = λ q k. go q k (w .each q k) }
   where
     go : (q : ℕ) → q < n → (getD t q 0 ≡ index q) ⊎ ((p ≤ q) × (getD t q 0 ≡ 4097)) → getD t q 0 ≡ index q
     go q k (inl e) = e
