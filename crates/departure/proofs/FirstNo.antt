@@ -137,7 +137,8 @@ module _ (most : ℕ) (m : List ℕ) (ok : holds-block m ≡ true) (j s : ℕ) {
                   (ask-yes (is-12 ∙ ap not none-inside)
                   (ask-yes (is-13 ∙ not-false once yes-13) (ask-yes (is-14 ∙ not-false fits h) (ask-end refl)))))))
 
-              pub departs : most ≤ 512 → count-in m ≤ length marks → not fits ≡ false → Departs most m j s (record { darts = darts; faces = count; vertices = vs; sewn = sewn }) marks out starts numbers firsts
+              pub departs : most ≤ 512 → count-in m ≤ length marks → not fits ≡ false
+                  → Departs most m j s (record { darts = darts; faces = count; vertices = vs; sewn = sewn }) marks out starts numbers firsts
               departs small long h = record {
                 asked = all-yes h;
                 survey = record {

@@ -1,6 +1,5 @@
 -- The bytes of each entry of a transfer, by the arrays of a volume: `order` has its darts as places in message order, `starts` the
 -- index of each face's start. And what the functions that put them ask of the arrays. Assumes nothing.
-use mathlib.Core.Path.{_≡_}
 use mathlib.Core.Bool.{Bool, cond}
 use mathlib.Core.List.{List, [], _++_}
 use Prim.Native.Nat.{ℕ, _+_, _-_, _/_, _≤_, _<_, _^_}

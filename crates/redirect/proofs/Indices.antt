@@ -9,7 +9,6 @@ use lib.Dec.{eqb}
 use lib.ListN.{length, getD, replicate, length-replicate}
 use borrow.Author.Tests.{eq-eqb, ne-eqb}
 use Rattle.model.specs.Lists.{mem, tab, index-of}
-use Rattle.model.specs.Values.{room}
 use Rattle.model.specs.Cells.{cycle}
 use Rattle.model.specs.Image.{column, holds-block}
 use Rattle.laws.proofs.Tests.{by-cases}

@@ -70,7 +70,8 @@ returns-2 c =
     let order-kept = (let p : tie.After-order = search in p .order .kept) in
     let if1-left = (let p : tie.Else1 = search in p .if1 .left) in
     let each-named-ensures = (let p : tie.After-each-named = search in p .each-named .ensures) in
-    all-told (start .args .block .now) (start .args .from) _ (start .pre .0 .4) read-codes-ensures order-ensures (omega (arith, read-codes-kept, order-kept, start .pre .1 .1 .0)) (not-false _ if1-left) each-named-ensures
+    all-told (start .args .block .now) (start .args .from) _ (start .pre .0 .4) read-codes-ensures order-ensures
+    (omega (arith, read-codes-kept, order-kept, start .pre .1 .1 .0)) (not-false _ if1-left) each-named-ensures
 
 pub all-named-spec : {M : Type 1} → statement M
 all-named-spec =

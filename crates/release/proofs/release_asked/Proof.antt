@@ -114,7 +114,8 @@ returns-2 c =
     let most = start .args .limits .volume in
     let to = start .args .to in
     let serial = start .args .serial in
-    volume-released block to serial (limits-of (start .args .limits)) (start .pre .0 .0) (start .pre .0 .1) (start .pre .0 .2) (departs-told most block to serial _ _ _ _ _ (leaves-ensures .0) (counts-given .1)) let-go-ensures
+    volume-released block to serial (limits-of (start .args .limits)) (start .pre .0 .0) (start .pre .0 .1) (start .pre .0 .2)
+    (departs-told most block to serial _ _ _ _ _ (leaves-ensures .0) (counts-given .1)) let-go-ensures
 
 pub release-asked-spec : {M : Type 1} → statement M
 release-asked-spec =

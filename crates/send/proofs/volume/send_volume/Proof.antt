@@ -57,7 +57,8 @@ returns c =
     let block = start .args .block .now in
     let to = start .args .to in
     let serial = start .args .serial in
-    refused-leaving block _ to serial (limits-of (start .args .limits)) (start .pre .0 .0) (start .pre .0 .1) (refused-told (start .args .limits .volume) block to serial _ _ _ _ _ (leaves-ensures .0) (q-given .1))
+    refused-leaving block _ to serial (limits-of (start .args .limits)) (start .pre .0 .0) (start .pre .0 .1)
+    (refused-told (start .args .limits .volume) block to serial _ _ _ _ _ (leaves-ensures .0) (q-given .1))
 
 same-length-8 : tie.Need-same-length-8
 same-length-8 c = search needs
