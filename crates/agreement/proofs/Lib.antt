@@ -15,7 +15,6 @@ pub mod Received
 pub mod Arrived
 pub mod Passes
 pub mod Parts
-pub mod Written
 pub mod SentLayout
 pub mod Told
 pub mod Steps

@@ -10,12 +10,15 @@ use lib.ListN.{length, take, drop}
 use Rattle.model.specs.Lists.{all, mem, concat}
 use Rattle.model.specs.Values.{Block, Limits, Point}
 use Rattle.model.specs.Sound.{Sound, block-at}
-use Rattle.model.specs.Image.{words, words-of, image, memory-of, is-image}
+use Rattle.model.specs.Image.{words, words-of, image, memory-of, block-in, is-image}
+use Rattle.model.specs.Layouts.{framed}
+use Rattle.model.specs.Messages.{Transfer, Update, transfer, update, a-transfer, an-update, message-in}
+use Rattle.model.specs.Departure.{transfer-of, updates-of, messages}
 use Rattle.model.specs.Balance.{Oracle, Move, move, positive-surplus}
 use Rattle.model.specs.Calls.{served, refused, number-of, Result, empty, read-file, save-file, send, receive, release, redirect, check-mesh, next-move, next-move-by-number}
 use Rattle.model.specs.Runs.{Request, is-refused, finished, unfinished}
 use Rattle.model.specs.UndividedRun.{State, start, whole-map, holder, Undivided, undivided}
-use Rattle.model.specs.DividedRun.{memory-at, Step, last-steps, sent-messages, Round, round}
+use Rattle.model.specs.DividedRun.{memory-at, messages-in, Step, last-steps, sent-messages, Round, round}
 
 -- DEMAND 1: "A refused call returns that number only and changes no byte that was lent to it"
 pub record Unchanged {A : Type 0} (lent : List ℕ) (r : Result A) : Type 0 where
@@ -48,14 +51,36 @@ pub record LeavesSound (lim : Limits) : Type 0 where
   pub release-leaves : (m : List ℕ) (j s : ℕ) → Leaves-image lim (release lim m j s)
   pub redirect-leaves : (m message : List ℕ) → Bytes message → Leaves-image lim (redirect lim m message)
 
--- DEMAND 2
-pub record Demand2 (lim : Limits) : Type 0 where
+-- DEMAND 2: "Messages and block files have exactly the bytes, and blocks exactly the links, labels and points, that the published
+-- definition of distributed maps and the paper's layouts give". The layouts are Messages.file, transfer and update; links, labels and
+-- points are those of Departure and Arrival, which the calls store and write by definition.
+-- Of block files
+pub record FilesExact (lim : Limits) : Type 0 where
   -- "what is written reads back to the same block"
   pub reads-back : (m out into : List ℕ) (n : ℕ) → length into ≡ words-of lim → save-file lim m out .answer ≡ served n
       → read-file lim (take n (save-file lim m out .lent)) into ≡ record { answer = served tt; lent = m }
   -- "every file that is read is written back byte for byte"
   pub writes-back : (file into out : List ℕ) → Bytes file → length file ≤ length out → read-file lim file into .answer ≡ served tt
       → save-file lim (read-file lim file into .lent) out ≡ record { answer = served (length file); lent = file ++ drop (length file) out }
+
+-- Of messages, for any memory, destination, serial and outbox where send is served: n bytes were written
+pub record MessagesExact (lim : Limits) : Type 0 where
+  -- "writes the transfer, then an update for each relative k"; "Bytes past the last message stay"
+  pub sent-bytes : (m : List ℕ) (j s : ℕ) (outbox : List ℕ) (n : ℕ) → send lim m j s outbox .answer ≡ served n
+      → send lim m j s outbox .lent ≡ concat (messages (block-in m) j s) ++ drop n outbox
+  -- "Its first number is the length of the rest": cut by these numbers, they are the messages, and there is nothing else
+  pub sent-messages-are : (m : List ℕ) (j s : ℕ) (outbox : List ℕ) (n : ℕ) → send lim m j s outbox .answer ≡ served n
+      → messages-in (take n (send lim m j s outbox .lent)) ≡ messages (block-in m) j s
+  -- "what is written reads back": read one by one they are the transfer and the updates, "by ascending k"
+  pub sent-reads-back : (m : List ℕ) (j s : ℕ) (outbox : List ℕ) (n : ℕ) → send lim m j s outbox .answer ≡ served n
+      → map message-in (messages-in (take n (send lim m j s outbox .lent))) ≡ a-transfer (transfer-of (block-in m) j s) ∷ map an-update (updates-of (block-in m) j s)
+  -- "exactly the bytes": whatever reads as a message "to the last byte" is that message's bytes, and no others
+  pub transfer-only : (bytes : List ℕ) (t : Transfer) → Bytes bytes → message-in bytes ≡ a-transfer t → bytes ≡ framed transfer t
+  pub update-only : (bytes : List ℕ) (u : Update) → Bytes bytes → message-in bytes ≡ an-update u → bytes ≡ framed update u
+
+pub record Demand2 (lim : Limits) : Type 0 where
+  pub of-files : FilesExact lim
+  pub of-messages : MessagesExact lim
 
 -- DEMAND 3
 -- What holds between the memories of the divided run and the state of the undivided run: the memories are the images of a sound mesh, whose

@@ -9,3 +9,9 @@ pub mod CallLaws
 pub mod DemandTwo
 pub mod MeshLaws
 pub mod CutLaws
+pub mod Written
+pub mod FaceIndices
+pub mod Leaving
+pub mod SentLengths
+pub mod SentMessages
+pub mod MessagesExact
