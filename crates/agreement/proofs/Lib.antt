@@ -22,4 +22,5 @@ pub mod Finishes
 pub mod Keeps
 pub mod Homes
 pub mod Begins
+pub mod EnoughSteps
 pub mod Agreement

@@ -12,6 +12,7 @@ pub mod CutLaws
 pub mod Written
 pub mod FaceIndices
 pub mod Leaving
+pub mod EnoughSteps
 pub mod SentLengths
 pub mod SentMessages
 pub mod MessagesExact
