@@ -133,7 +133,7 @@ module _ (lims : ℕ → Limits) (fit : Fit lims) (k : ℕ) (u : State) (label :
       both-false true = refl
       both-false false = refl
 
-  pub vertices-in : (w : ℕ) → In w (vertices (nx u) (op u) order₄) → In w v₄
+  vertices-in : (w : ℕ) → In w (vertices (nx u) (op u) order₄) → In w v₄
   unfolding vertices
   vertices-in w m =
       let a = map-in (vertex (nx u) (op u)) order₄ w (firsts-only w (map (vertex (nx u) (op u)) order₄) m) in
@@ -177,7 +177,7 @@ module _ (lims : ℕ → Limits) (fit : Fit lims) (k : ℕ) (u : State) (label :
   ordered-faces = rw faces-serials (and-intro (all-each _ F₄ (each-weaken F₄ (all-faces lims fit k u label I r S) face-first)) starts-ascend)
 
   -- pairs
-  pub vertex-there₄ : (x : ℕ) → In x v₄ → In (vertex (nx u) (op u) x) (vertices (nx u) (op u) order₄)
+  vertex-there₄ : (x : ℕ) → In x v₄ → In (vertex (nx u) (op u) x) (vertices (nx u) (op u) order₄)
   unfolding vertices
   vertex-there₄ x h = firsts-have (vertex (nx u) (op u) x) (map (vertex (nx u) (op u)) order₄) (in-map (vertex (nx u) (op u)) x order₄ (v-in x h))
 

@@ -58,11 +58,11 @@ module _ (lims : ℕ → Limits) (fit : Fit lims) (k : ℕ) (u : State) (label :
           ∙ yes-then 13 _ _ (S .pairs)
           ∙ yes-then 14 _ _ (lt-ltb _ _ (S .counter-fits)) ∙ no-more
 
-  pub transfer-ok : transfer .ok t₆ ≡ true
+  transfer-ok : transfer .ok t₆ ≡ true
   transfer-ok = subst (λ (t : Transfer). transfer .ok t ≡ true) (transfer-is lims fit k u label I r S)
       (sent.transfer-ok lim₆ here₆ (fit .block-fits (r .from)) sound₆ (fit .volume-fits (r .from)) (r .to) (r .serial) leaving-asks)
 
-  pub transfer-short : length (transfer .put t₆) < 2 ^ 32
+  transfer-short : length (transfer .put t₆) < 2 ^ 32
   transfer-short = subst (λ (t : Transfer). length (transfer .put t) < 2 ^ 32) (transfer-is lims fit k u label I r S)
       (transfer-small lim₆ (fit .block-fits (r .from)) (fit .volume-fits (r .from)) here₆ sound₆ (r .to) (r .serial) leaving-asks)
 

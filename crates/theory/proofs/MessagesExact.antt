@@ -76,7 +76,7 @@ module _ (lim : Limits) (fits : lim .block-darts ≤ room) (few-sent : lim .volu
     cut-messages = messages-back _ (framed-is transfer (transfer-of b j s) (group-ok _ transfer-small), updates-framed (updates-of b j s) (updates-ok lim b fits sound few-sent j s asks))
 
     -- and read back
-    pub read-messages : map message-in (messages b j s) ≡ a-transfer (transfer-of b j s) ∷ map an-update (updates-of b j s)
+    read-messages : map message-in (messages b j s) ≡ a-transfer (transfer-of b j s) ∷ map an-update (updates-of b j s)
     unfolding messages
     read-messages = rw (
       transfer-back (transfer-of b j s) (transfer-ok lim b fits sound few-sent j s asks) transfer-small,
