@@ -1,6 +1,6 @@
 -- DEMAND 3: the divided run and the undivided run agree on every list of requests, from any sound mesh. Assumes nothing.
 --
--- The divided run is Runs.round: it is built from Calls.send, receive, release and redirect, the definitions that the contracts of the calls
+-- The divided run is DividedRun.round: it is built from Calls.send, receive, release and redirect, the definitions that the contracts of the calls
 -- cite, on memories and bytes. So the theorem is about the calls.
 --
 -- Wrong programs that it excludes, and the clause that does:
@@ -19,14 +19,16 @@ use native.Mathlib.Omega.{arith}
 use lib.Dec.{ltb}
 use lib.ListN.{length}
 use borrow.Author.Tests.{ltb-true}
-use Rattle.model.specs.Values.{Label, Block, Limits, all-rack}
+use Rattle.model.specs.Values.{Label, Block, Limits, rack, all-rack}
 use Rattle.model.specs.Sound.{Sound, Fit}
 use Rattle.model.specs.Image.{words-of, image, memory-of}
 use Rattle.model.specs.Runs.{Request, is-refused}
 use Rattle.model.specs.UndividedRun.{State, start, Undivided, undivided}
 use Rattle.model.specs.DividedRun.{last-steps, sent-messages, Round, round}
-use Rattle.model.specs.Demands.{Claim, Agree, Enough, After-every, Named, Demand3, SameNumbers}
+use Rattle.model.specs.Demands.{Demand1, Demand2, Claim, Agree, Enough, After-every, Named, Demand3, SameNumbers}
 use Rattle.laws.proofs.Tests.{and-left, and-right}
+use Rattle.theory.proofs.CallLaws.{demand1}
+use Rattle.theory.proofs.MessagesExact.{demand2}
 use Rattle.agreement.proofs.Begins.{start-label, described, start-inv}
 use Rattle.agreement.proofs.Described.{mesh-by, Inv}
 use Rattle.agreement.proofs.Finishes.{finishes}
@@ -75,9 +77,16 @@ module _ (lims : ℕ → Limits) (fit : Fit lims) where
   same-numbers m rs sound named =
       along lims fit (λ d w. d .outcome ≡ w .outcome) (length m) (λ d w q. q .same-outcome) rs (map (memory-of lims) m) (start m) (start-label lims m sound) (start-inv lims m sound) (started m sound) named
 
--- on the rack
+-- ON THE RACK: each demand, with no hypothesis left
 pub rack-fits : Fit all-rack
 rack-fits = record { block-fits = λ b. omega arith; volume-fits = λ b. omega arith; one-volume-limit = λ b c. refl }
+
+pub rack-demand1 : Demand1 rack all-rack
+rack-demand1 = demand1 rack all-rack
+
+-- of files and of messages
+pub rack-demand2 : Demand2 rack
+rack-demand2 = demand2 rack (omega arith) (omega arith)
 
 pub rack-agreement : Demand3 all-rack
 rack-agreement = agreement all-rack rack-fits

@@ -29,7 +29,7 @@ use Rattle.laws.proofs.Members.{In, in-here, in-there, in-keep, in-cons, in-eq,
 use Rattle.laws.proofs.Tables.{length-tab, getD-tab, tab-any, map-tab, tab-ascending}
 use Rattle.laws.proofs.Tests.{by-cases, and-intro, and-left, and-right, not-equal}
 use Rattle.theory.proofs.CallLaws.{storing-serves, release-is, redirect-is}
-use Rattle.theory.proofs.CutLaws.{Framed, framed-is, messages-back}
+use Rattle.theory.proofs.MessagesExact.{cut-messages}
 use Rattle.agreement.proofs.BlockSound.{block-sound}
 use Rattle.agreement.proofs.Described.{third-by, block-by, mesh-by, Map, Inv, darts-by, kind-free, kind-sewn, kind-critical, by-kind}
 use Rattle.agreement.proofs.Moved.{Served, moved-cell, state-after, labels-after}
@@ -39,10 +39,9 @@ use Rattle.agreement.proofs.Rebuilt.{order}
 use Rattle.agreement.proofs.Redirected.{shared, chosen, told, redirected-is}
 use Rattle.agreement.proofs.Released.{released-is}
 use Rattle.agreement.proofs.Sent.{cell-faces, IsFace, all-faces, start-third, transfer-by, transfer-is}
-use Rattle.agreement.proofs.SentLayout.{transfer-short}
+use Rattle.agreement.proofs.SentLayout.{leaving-asks}
 use Rattle.agreement.proofs.Steps.{Serves, blocks-of, Ran, steps-run, each-perm, mem-perm, distinct-perm}
-use Rattle.agreement.proofs.Told.{told-read, told-short, told-addressee, told-asks}
-use Rattle.agreement.proofs.Written.{group-ok}
+use Rattle.agreement.proofs.Told.{told-read, told-addressee, told-asks}
 
 relink-none : (d : Dart) → relink [] d ≡ d
 unfolding relink
@@ -231,18 +230,11 @@ module _ (lims : ℕ → Limits) (fit : Fit lims) (k : ℕ) (u : State) (label :
   unfolding messages
   messages-are = rw (transfer-is lims fit k u label I r S)
 
-  update-framed : (l : List Update) → Each Told l → Each Framed (map (framed update) l)
-  update-framed [] e = tt
-  update-framed (w ∷ l) e = (
-    rw (e .0 .is)
-        (framed-is update _
-        (group-ok _
-        (told-short lims fit k u label I r S (e .0 .block) (e .0 .rel .below) (e .0 .rel .not-from) (e .0 .rel .not-to)))),
-    update-framed l (e .1),
-  )
-
   pub cut-again : messages-in (concat (messages (block-by u label (r .from)) (r .to) (r .serial))) ≡ framed transfer (transfer-by lims fit k u label I r S) ∷ map (framed update) updates₈
-  cut-again = rw messages-are (messages-back _ (framed-is transfer _ (group-ok _ (transfer-short lims fit k u label I r S)), update-framed updates₈ all-told))
+  cut-again =
+      cut-messages (lims (r .from)) (fit .block-fits (r .from)) (fit .volume-fits (r .from)) (block-by u label (r .from))
+      (block-sound lims k u label I (r .from) (S .from-below)) (r .to) (r .serial) (leaving-asks lims fit k u label I r S)
+      ∙ messages-are
 
   -- THE LAST STEPS, on different blocks
   abbrev last₈ : List Step

@@ -36,7 +36,7 @@ use Rattle.agreement.proofs.Moved.{Served, state-after, labels-after, i
 use Rattle.agreement.proofs.MovedCell.{first-six, twenty-one, checks-split, questions-agree}
 use Rattle.agreement.proofs.Rebuilt.{order}
 use Rattle.agreement.proofs.Sent.{transfer-by}
-use Rattle.agreement.proofs.SentLayout.{few-darts, transfer-read, receive-asks}
+use Rattle.agreement.proofs.SentLayout.{transfer-read, receive-asks}
 
 -- A ROUND, by what its calls give
 module _ (lims : ℕ → Limits) (ms : List (List ℕ)) (r : Request) (outbox : List ℕ) (order : List Step) (d : Done) (sends : done lims ms (send-step r outbox) ≡ d) where

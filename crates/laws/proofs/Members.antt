@@ -420,3 +420,33 @@ pub firsts-fewer : (l : List ℕ) → length (firsts l) ≤ length l
 unfolding firsts
 firsts-fewer [] = omega arith
 firsts-fewer (x ∷ l) = let a = keep-le (λ y. not (eqb x y)) (firsts l) in let b = firsts-fewer l in omega arith
+
+-- EACH, over lists
+pub each-both : {A : Type 0} {P Q R : A → Type 0} (l : List A) → Each P l → Each Q l → ((x : A) → P x → Q x → R x) → Each R l
+each-both [] p q f = tt
+each-both (x ∷ l) p q f = (f x (p .0) (q .0), each-both l (p .1) (q .1) f)
+
+pub each-weaken : {A : Type 0} {P Q : A → Type 0} (l : List A) → Each P l → ((x : A) → P x → Q x) → Each Q l
+each-weaken [] p f = tt
+each-weaken (x ∷ l) p f = (f x (p .0), each-weaken l (p .1) f)
+
+pub each-keep : {A : Type 0} (P : A → Type 0) (q : A → Bool) (l : List A) → Each P l → Each P (keep q l)
+each-keep P q [] p = tt
+each-keep P q (x ∷ l) p = by-cases (q x) (λ e. rw e (p .0, each-keep P q l (p .1))) (λ e. rw e (each-keep P q l (p .1)))
+
+pub all-each : {A : Type 0} (p : A → Bool) (l : List A) → Each (λ a. p a ≡ true) l → all p l ≡ true
+all-each p [] e = refl
+all-each p (a ∷ l) e = and-intro (e .0) (all-each p l (e .1))
+
+pub firsts-have : (y : ℕ) (l : List ℕ) → In y l → In y (firsts l)
+unfolding firsts
+firsts-have y [] h = h
+firsts-have y (x ∷ l) h = by-cases (eqb y x)
+    (λ e. in-eq y x (x ∷ keep (λ z. not (eqb x z)) (firsts l)) (eqb-true y x e) (in-here x (keep (λ z. not (eqb x z)) (firsts l))))
+    (λ e. in-there y x (keep (λ z. not (eqb x z)) (firsts l)) (in-keep (λ z. not (eqb x z)) y (firsts l) (firsts-have y l (rw e at h)) (not-equal x y (λ q. eqb-false y x e (sym q)))))
+
+pub firsts-only : (y : ℕ) (l : List ℕ) → In y (firsts l) → In y l
+unfolding firsts
+firsts-only y [] h = h
+firsts-only y (x ∷ l) h = in-cons y x (keep (λ z. not (eqb x z)) (firsts l)) h (λ e. in-eq y x (x ∷ l) e (in-here x l))
+    (λ k. in-there y x l (firsts-only y l (keep-in (λ z. not (eqb x z)) (firsts l) y k .0)))

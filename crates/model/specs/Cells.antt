@@ -13,7 +13,8 @@ unfoldable pub around : (ℕ → ℕ) → ℕ → ℕ → ℕ → List ℕ
 around f start zero x = []
 around f start (suc n) x = let rest = around f start n (f x) in x ∷ cond (eqb (f x) start) [] rest
 
--- the cycle of f from x on. So many steps are enough: one that stays within a block is no longer (laws, Faces.face-path)
+-- the cycle of f from x on. So many steps are enough where x and what f reaches stay within a block: with more of them the cycle is the
+-- same (laws, Faces.cycle-enough; of a sound block theory, EnoughSteps.face-steps, ring-steps; of the whole map agreement, EnoughSteps)
 unfoldable pub cycle : (ℕ → ℕ) → ℕ → List ℕ
 cycle f x = around f x room x
 
@@ -26,8 +27,9 @@ reach f g (suc n) seen (x ∷ todo) =
     let past = reach f g n seen todo in
     cond (mem x seen) past on
 
--- "A volume is what next and opposite reach". So many steps are enough: each dart of a block is met three times at the most (laws,
--- Volumes.volume-is)
+-- "A volume is what next and opposite reach": the least set with s that is closed under both (laws, Volumes.volume-is). So many steps are
+-- enough, since each dart of a block is met three times at the most: with more of them the volume is the same (laws, Volumes.volume-enough;
+-- of a sound block theory, EnoughSteps.volume-steps; of the whole map agreement, EnoughSteps)
 unfoldable pub volume : (ℕ → ℕ) → (ℕ → ℕ) → ℕ → List ℕ
 volume nx op s = reach nx op (3 * room) [] (s ∷ [])
 

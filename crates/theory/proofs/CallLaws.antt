@@ -4,7 +4,7 @@ use mathlib.Core.Logic.{_≢_}
 use mathlib.Core.Bool.{true}
 use mathlib.Core.List.{List, [], _∷_, _++_, append-assoc}
 use mathlib.Core.Option.{Option, none, some}
-use Prim.Native.Nat.{ℕ, _≤_}
+use Prim.Native.Nat.{ℕ}
 use native.Mathlib.Omega.{arith}
 use lib.Dec.{leb, eqb}
 use lib.ListN.{length, drop}
@@ -12,15 +12,15 @@ use borrow.Author.Tests.{eqb-true, eqb-false, eq-eqb, ne-eqb}
 use Rattle.model.specs.Lists.{concat, Check, first-no}
 use Rattle.model.specs.Values.{Block, Limits}
 use Rattle.model.specs.Sound.{sound-block}
-use Rattle.model.specs.Image.{words-of, image, is-image, memory-checks}
+use Rattle.model.specs.Image.{words-of, image, block-in, is-image, memory-checks}
 use Rattle.model.specs.Messages.{message-in, file}
 use Rattle.model.specs.Departure.{departure-checks, messages, released}
 use Rattle.model.specs.Arrival.{receive-checks, received-from, redirect-checks, redirected-from}
 use Rattle.model.specs.Balance.{Oracle, numbered-oracle}
 use Rattle.model.specs.Calls.{Answer, served, refused, number-of, asked, storing, writing, empty, read-file, save-file, send, receive, release, redirect, check-mesh, next-move, next-move-of, next-move-by-number}
 use Rattle.model.specs.Demands.{Unchanged, Demand1}
-use Rattle.laws.proofs.Tests.{by-cases, yes-then}
-use Rattle.theory.proofs.ImageLaws.{parts-of, ranges-of, block-back, is-image-of, image-length}
+use Rattle.laws.proofs.Tests.{by-cases, yes-then, yes-first}
+use Rattle.theory.proofs.ImageLaws.{parts-of, ranges-of, block-back, image-is, is-image-of, image-length}
 
 -- ANSWERS
 module _ {A : Type 0} (qs : List Check) (before : List ℕ) (value : A) (after : List ℕ) where
@@ -105,6 +105,14 @@ demand1 lim lims = record {
   next-move-keeps = λ m o scratch. asked-unchanged _ scratch _ scratch;
   numbered-keeps = λ m n axis low high scratch. numbered-unchanged lims m (numbered-oracle n axis low high) scratch;
 }
+
+-- ANY MEMORY of which 1 and 2 are answered yes: what is read from it is a sound block
+pub after-memory : (lim : Limits) (m : List ℕ) (qs : List Check) → first-no (memory-checks lim m ++ qs) ≡ 0 → (sound-block lim (block-in m) ≡ true) × (first-no qs ≡ 0)
+unfolding memory-checks
+after-memory lim m qs e =
+    let q1 = yes-first 1 (eqb (length m) (words-of lim)) _ (λ z. omega arith) e in
+    let q2 = yes-first 2 (is-image lim m) _ (λ z. omega arith) (q1 .1) in
+    (image-is lim m (q2 .0) .1, q2 .1)
 
 -- THE MEMORY OF A SOUND BLOCK: 1 and 2 are answered yes
 module _ (lim : Limits) (b : Block) (s : sound-block lim b ≡ true) where

@@ -1,4 +1,4 @@
--- Demand 2: what is written reads back to the same block, and every file that is read is written back byte for byte.
+-- Demand 2 of files: what is written reads back to the same block, and every file that is read is written back byte for byte.
 -- Assumes nothing.
 use mathlib.Core.Path.{_≡_, refl, sym, _∙_, ap}
 use mathlib.Core.Bool.{true, true≢false, _&&_}
@@ -18,7 +18,7 @@ use Rattle.model.specs.Image.{words-of, image, block-in, is-image, memory-check
 use Rattle.model.specs.Layouts.{group, group-below, serial, coordinate, _⊗_, _⊕_, as-type, such-that, at-most, times, counted, whole}
 use Rattle.model.specs.Messages.{kind-of, critical-link, label, point, third-ok, third, a-dart, file}
 use Rattle.model.specs.Calls.{served, Result, storing, writing, or-no-block, read-file, save-file}
-use Rattle.model.specs.Demands.{Bytes, Demand2}
+use Rattle.model.specs.Demands.{Bytes, FilesExact}
 use Rattle.laws.proofs.Tests.{and-left, and-right, and-intro, yes-then, yes-first, no-more}
 use Rattle.theory.proofs.LayoutLaws.{whole-back, whole-only}
 use Rattle.theory.proofs.FileLaws.{file-lawful}
@@ -39,7 +39,7 @@ unfolding at-most such-that group group-below
 small-ok n most h e = let k = leb-true n most e in and-intro (lt-ltb n (2 ^ 32) (omega arith)) e
 
 -- a third link as the file has it
-critical-ok : (o : ℕ) (l : Label) → third-in-range (critical o l) ≡ true → critical-link .ok (o, l) ≡ true
+pub critical-ok : (o : ℕ) (l : Label) → third-in-range (critical o l) ≡ true → critical-link .ok (o, l) ≡ true
 unfolding critical-link label as-type _⊕_ _⊗_ group group-below
 critical-ok o l k =
     let two = leb o 15 && leb (l .maker) 15 in
@@ -239,5 +239,5 @@ module _ (lim : Limits) (fits : lim .block-darts ≤ room) where
       ap (λ (m : List ℕ). save-file lim m out) (r .stored) ∙ save-file-is lim (r .block) (r .sound) out
       ∙ ap (writing [] out) (sym (r .put)) ∙ saved-whole bytes out l
 
-  pub demand2 : Demand2 lim
-  demand2 = record { reads-back = back; writes-back = forth }
+  pub files-exact : FilesExact lim
+  files-exact = record { reads-back = back; writes-back = forth }
