@@ -14,9 +14,11 @@ use borrow.Author.Tests.{ltb-true}
 use Rattle.model.specs.Lists.{all, first-no, Check}
 use Rattle.model.specs.Values.{Label, Block, all-rack}
 use Rattle.model.specs.Sound.{Sound}
-use Rattle.model.specs.Image.{image}
+use Rattle.model.specs.Image.{words-of, image, memory-of}
 use Rattle.model.specs.Calls.{memories}
-use Rattle.model.specs.Runs.{Request, Outcome, refused-by, unfinished, last-steps, memory-at, sent-messages, Round, State, Whole, start, whole-map, request-checks, after-move, undivided}
+use Rattle.model.specs.Runs.{Request, Outcome, refused-by, unfinished}
+use Rattle.model.specs.UndividedRun.{State, Whole, start, whole-map, request-checks, after-move, undivided}
+use Rattle.model.specs.DividedRun.{last-steps, memory-at, sent-messages, Round}
 use Rattle.model.specs.Demands.{Matches, Enough, outbox-bytes}
 use Rattle.laws.proofs.Members.{all-map}
 use Rattle.laws.proofs.Tests.{by-cases, and-left, and-right, and-intro}
@@ -37,7 +39,7 @@ use Rattle.agreed.proofs.Outside.{refused-outside}
 -- ONE REQUEST, whatever blocks it names
 module _ (k : ℕ) (u : State) (label : ℕ → Label) (I : Inv all-rack k u label) (r : Request) (outbox : List ℕ) (long : outbox-bytes ≤ length outbox) where
   abbrev ms : List (List ℕ)
-  ms = map image (mesh-by k u label)
+  ms = map (memory-of all-rack) (mesh-by k u label)
 
   enough : Enough all-rack ms r outbox
   enough = rack-outbox-suffices (memory-at ms (r .from)) (r .to) (r .serial) outbox long
@@ -77,10 +79,10 @@ record Followed (k : ℕ) (d : Run) (w : Course) : Type 0 where
   same-outcomes : d .outcomes ≡ w .outcomes
   labels-now : ℕ → Label
   inv-now : Inv all-rack k (w .state) labels-now
-  memories-now : d .memories ≡ map image (mesh-by k (w .state) labels-now)
+  memories-now : d .memories ≡ map (memory-of all-rack) (mesh-by k (w .state) labels-now)
 
 follows : (k : ℕ) (rs : List Request) (ms : List (List ℕ)) (outbox : List ℕ) (u : State) (label : ℕ → Label) → Inv all-rack k u label
-    → ms ≡ map image (mesh-by k u label) → outbox-bytes ≤ length outbox → Followed k (run ms outbox rs) (course k u rs)
+    → ms ≡ map (memory-of all-rack) (mesh-by k u label) → outbox-bytes ≤ length outbox → Followed k (run ms outbox rs) (course k u rs)
 unfolding run course
 follows k [] ms outbox u label I e long = record { same-outcomes = refl; labels-now = label; inv-now = I; memories-now = e }
 follows k (r ∷ rs) ms outbox u label I e long =
@@ -126,8 +128,8 @@ numbers-below k u [] = refl
 numbers-below k u (r ∷ rs) = and-intro (number-below k u r) (numbers-below k (any-undivided k u r .state) rs)
 
 -- ANY LIST
-started : (bs : List Block) (sound : Sound all-rack bs) → map image bs ≡ map image (mesh-by (length bs) (start bs) (start-label all-rack bs sound))
-started bs sound = ap (map image) (described all-rack bs sound)
+started : (bs : List Block) (sound : Sound all-rack bs) → map (memory-of all-rack) bs ≡ map (memory-of all-rack) (mesh-by (length bs) (start bs) (start-label all-rack bs sound))
+started bs sound = ap (map (memory-of all-rack)) (described all-rack bs sound)
 
 links-at-start : (bs : List Block) (x : ℕ) → start bs .links x ≡ whole-map bs x
 unfolding start
@@ -136,8 +138,8 @@ links-at-start bs x = refl
 pub lists-agree : ListsAgree
 lists-agree bs outbox rs sound long =
     let w = course-of bs rs in
-    let f = follows (length bs) rs (map image bs) outbox (start bs) (start-label all-rack bs sound) (start-inv all-rack bs sound) (started bs sound) long in
-    let m : Matches all-rack (run (map image bs) outbox rs .memories) (w .state) = says all-rack (length bs) (w .state) (f .labels-now) (f .inv-now) _ (f .memories-now) in
+    let f = follows (length bs) rs (map (memory-of all-rack) bs) outbox (start bs) (start-label all-rack bs sound) (start-inv all-rack bs sound) (started bs sound) long in
+    let m : Matches all-rack (run (map (memory-of all-rack) bs) outbox rs .memories) (w .state) = says all-rack (length bs) (w .state) (f .labels-now) (f .inv-now) _ (f .memories-now) in
     record {
       same-outcomes = f .same-outcomes;
       never-unfinished = rw (f .same-outcomes) (numbers-below (length bs) (start bs) rs);
@@ -150,10 +152,10 @@ pub promise : Promise
 promise bs m requests outcomes outbox m′ outcomes′ outbox′ sound images long p =
     let rs = take (length outcomes) (requests-in requests) in
     let a = lists-agree bs outbox rs sound long in
-    let d = run (map image bs) outbox rs in
+    let d = run (map (memory-of all-rack) bs) outbox rs in
     let numbers = map outcome-number (d .outcomes) in
     let same : outcomes′ ≡ over numbers outcomes = p .outcomes-are ∙ ap (λ (x : List (List ℕ)). over (map outcome-number (run x outbox rs .outcomes)) outcomes) images in
-    let many : length numbers ≡ length rs = length-map (d .outcomes) outcome-number ∙ run-length (map image bs) outbox rs in
+    let many : length numbers ≡ length rs = length-map (d .outcomes) outcome-number ∙ run-length (map (memory-of all-rack) bs) outbox rs in
     let left : memories m′ ≡ d .memories = p .memories-are ∙ ap (λ (x : List (List ℕ)). run x outbox rs .memories) images in
     record {
       outcomes-are = same ∙ ap (λ (os : List Outcome). over (map outcome-number os) outcomes) (a .same-outcomes);

@@ -11,10 +11,12 @@ use lib.Seq.{set-out}
 use borrow.Author.Tests.{eqb-true, eqb-false, ne-eqb, lt-ltb, le-ltb}
 use Rattle.model.specs.Lists.{all, mem, concat, first-no, Check}
 use Rattle.model.specs.Values.{Label, Block, rack, all-rack}
-use Rattle.model.specs.Image.{image, memory-checks}
+use Rattle.model.specs.Image.{words, image, memory-of, memory-checks}
 use Rattle.model.specs.Departure.{departure-checks, messages}
 use Rattle.model.specs.Calls.{refused, number-of, Result, writing, send, receive}
-use Rattle.model.specs.Runs.{Request, refused-by, Step, Done, called, memory-at, done, messages-in, send-step, receive-step, round, State, inner-faces, request-checks}
+use Rattle.model.specs.Runs.{Request, refused-by}
+use Rattle.model.specs.UndividedRun.{State, inner-faces, request-checks}
+use Rattle.model.specs.DividedRun.{Step, Done, called, memory-at, done, messages-in, send-step, receive-step, round}
 use Rattle.model.specs.Demands.{Enough}
 use Rattle.laws.proofs.Tables.{getD-tab, map-tab, length-tab}
 use Rattle.laws.proofs.Tests.{by-cases, lt-or-ge, and-left, and-right, yes-then, no-here, no-more, first-no-append, first-no-stays}
@@ -46,11 +48,11 @@ nobody-sends to serial outbox = ap (λ (w : Result ℕ). number-of (w .answer)) 
 
 nobody-receives : (message : List ℕ) → receive rack [] message ≡ record { answer = refused 1; lent = [] }
 unfolding receive memory-checks first-no
-nobody-receives message = storing-refuses _ [] _ (λ z. let e : _≡_ {A = ℕ} 1 0 = z in omega arith)
+nobody-receives message = storing-refuses rack _ [] _ (λ z. let e : _≡_ {A = ℕ} 1 0 = z in omega arith)
 
 module _ (k : ℕ) (u : State) (label : ℕ → Label) (I : Inv all-rack k u label) (r : Request) (outbox : List ℕ) (order : List Step) where
   abbrev ms : List (List ℕ)
-  ms = map image (mesh-by k u label)
+  ms = map (memory-of all-rack) (mesh-by k u label)
 
   abbrev i : ℕ
   i = r .from
@@ -65,7 +67,7 @@ module _ (k : ℕ) (u : State) (label : ℕ → Label) (I : Inv all-rack k u lab
   six = first-six all-rack u r
 
   how-many : length ms ≡ k
-  how-many = length-map (mesh-by k u label) image ∙ length-tab (block-by u label) k
+  how-many = length-map (mesh-by k u label) (memory-of all-rack) ∙ length-tab (block-by u label) k
 
   no-memory : (b : ℕ) → k ≤ b → memory-at ms b ≡ []
   no-memory b h = List·getD-eq-default ms [] (let n = how-many in omega (arith, n, h))
@@ -96,11 +98,12 @@ module _ (k : ℕ) (u : State) (label : ℕ → Label) (I : Inv all-rack k u lab
     abbrev bytes : List ℕ
     bytes = concat (messages here j s)
 
-    memory-here : memory-at ms i ≡ image here
-    memory-here = rw (map-tab image (block-by u label) k) (getD-tab (λ c. image (block-by u label c)) k i [] below)
+    memory-here : memory-at ms i ≡ image words here
+    unfolding block-by
+    memory-here = rw (map-tab (memory-of all-rack) (block-by u label) k) (getD-tab (λ c. memory-of all-rack (block-by u label c)) k i [] below)
 
     sends-is : send rack (memory-at ms i) j s outbox ≡ writing leaving outbox bytes
-    sends-is = ap (λ (m : List ℕ). send rack m j s outbox) memory-here ∙ send-is rack (rack-fits .block-fits i) here (block-sound all-rack k u label I i below) j s outbox
+    sends-is = ap (λ (m : List ℕ). send rack m j s outbox) memory-here ∙ send-is rack here (block-sound all-rack k u label I i below) j s outbox
 
     sent-number : sent ms r outbox order .number ≡ number-of (writing leaving outbox bytes .answer)
     unfolding done called

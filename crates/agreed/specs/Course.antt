@@ -6,7 +6,8 @@ use lib.Dec.{leb, ltb}
 use lib.ListN.{take}
 use Rattle.model.specs.Lists.{first-no, Check}
 use Rattle.model.specs.Values.{all-rack}
-use Rattle.model.specs.Runs.{Request, Outcome, refused-by, State, request-checks, Undivided, undivided}
+use Rattle.model.specs.Runs.{Request, Outcome, refused-by}
+use Rattle.model.specs.UndividedRun.{State, request-checks, Undivided, undivided}
 
 -- both blocks are in a mesh of k blocks
 abbrev pub named : ℕ → Request → Bool

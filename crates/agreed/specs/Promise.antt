@@ -10,9 +10,10 @@ use lib.ListN.{length, take}
 use Rattle.model.specs.Lists.{all}
 use Rattle.model.specs.Values.{Block, all-rack}
 use Rattle.model.specs.Sound.{Sound}
-use Rattle.model.specs.Image.{image}
+use Rattle.model.specs.Image.{words-of, image, memory-of}
 use Rattle.model.specs.Calls.{memories}
-use Rattle.model.specs.Runs.{Request, start, whole-map}
+use Rattle.model.specs.Runs.{Request}
+use Rattle.model.specs.UndividedRun.{start, whole-map}
 use Rattle.model.specs.Demands.{Matches, outbox-bytes}
 use Rattle.rounds.specs.Requests.{requests-in, outcome-number, Run, run, over, PlayedAll}
 use Rattle.agreed.specs.Course.{Course, course}
@@ -31,7 +32,7 @@ pub record Agreed (bs : List Block) (rs : List Request) (d : Run) : Type 0 where
   pub same-map : (x : ℕ) → whole-map (matches .mesh) x ≡ whole-map bs x
 
 abbrev pub ListsAgree : Type 0
-ListsAgree = (bs : List Block) (outbox : List ℕ) (rs : List Request) → Sound all-rack bs → outbox-bytes ≤ length outbox → Agreed bs rs (run (map image bs) outbox rs)
+ListsAgree = (bs : List Block) (outbox : List ℕ) (rs : List Request) → Sound all-rack bs → outbox-bytes ≤ length outbox → Agreed bs rs (run (map (memory-of all-rack) bs) outbox rs)
 
 -- what `play_all` leaves of a mesh and writes as outcomes
 pub record Kept (bs : List Block) (rs : List Request) (outcomes m′ outcomes′ : List ℕ) : Type 0 where
@@ -41,6 +42,6 @@ pub record Kept (bs : List Block) (rs : List Request) (outcomes m′ outcomes′
   pub same-map : (x : ℕ) → whole-map (matches .mesh) x ≡ whole-map bs x
 
 abbrev pub Promise : Type 0
-Promise = (bs : List Block) (m requests outcomes outbox m′ outcomes′ outbox′ : List ℕ) → Sound all-rack bs → memories m ≡ map image bs → outbox-bytes ≤ length outbox
+Promise = (bs : List Block) (m requests outcomes outbox m′ outcomes′ outbox′ : List ℕ) → Sound all-rack bs → memories m ≡ map (memory-of all-rack) bs → outbox-bytes ≤ length outbox
     → PlayedAll m requests outcomes outbox m′ outcomes′ outbox′
     → Kept bs (take (length outcomes) (requests-in requests)) outcomes m′ outcomes′

@@ -11,7 +11,8 @@ use borrow.Author.Tests.{eqb-true, eqb-false, eq-eqb, not-true, not-false}
 use Rattle.model.specs.Lists.{keep, mem}
 use Rattle.model.specs.Values.{Label}
 use Rattle.model.specs.Sound.{paired}
-use Rattle.model.specs.Runs.{Request, State, nx, op, th, cell, inner-faces, after-move}
+use Rattle.model.specs.Runs.{Request}
+use Rattle.model.specs.UndividedRun.{State, nx, op, th, cell, inner-faces, after-move}
 use Rattle.laws.proofs.Members.{In, in-here, in-there}
 use Rattle.laws.proofs.Tests.{by-cases, same-truth}
 use Rattle.agreement.proofs.Described.{Crossing, Map, Labelled, third-back-linked}

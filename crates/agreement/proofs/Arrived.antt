@@ -4,21 +4,22 @@ use mathlib.Core.Logic.{_⊎_, inl, inr, _≢_}
 use mathlib.Core.Bool.{Bool, true, false, true≢false, cond, not, _&&_, _||_}
 use mathlib.Core.List.{List, [], _∷_, _++_, map}
 use mathlib.Core.Option.{none, some, Option·none-ne-some}
-use Prim.Native.Nat.{ℕ, suc, _+_, _<_}
-use native.Mathlib.Omega.{arith}
+use Prim.Native.Nat.{ℕ, _+_, _<_}
 use lib.Dec.{eqb}
 use lib.ListN.{length}
 use borrow.Author.Tests.{eqb-true, eqb-false, eq-eqb, ne-eqb, not-true}
 use Rattle.model.specs.Lists.{any, keep, concat, more, collect, concat-map, zip, mem, distinct, find}
 use Rattle.model.specs.Values.{Label, Third, free, sewn, critical, Dart, Limits}
-use Rattle.model.specs.Cells.{around, cycle, vertex, start-of, vertices, vertex-number, serials, previous-in, labels, labelled}
+use Rattle.model.specs.Cells.{cycle, vertex, start-of, vertices, vertex-number, serials, previous-in, labels, labelled}
 use Rattle.model.specs.Sound.{Fit}
 use Rattle.model.specs.Messages.{Part2, Part4, Transfer}
-use Rattle.model.specs.Departure.{same-pair, pairs-once, vertex-pairs, Placed, placed, part2-entry, Link, relink, label-faces}
-use Rattle.model.specs.Arrival.{new-darts, face-from, sew-both, part2-links, part3-links, part4-links, critical-links, transfer-links, insert-all, received}
-use Rattle.model.specs.Runs.{Request, State, nx, op, th, cell}
+use Rattle.model.specs.Departure.{part2-entry}
+use Rattle.model.specs.Links.{same-pair, pairs-once, vertex-pairs, Placed, placed, Link, relink, label-faces, sew-both}
+use Rattle.model.specs.Arrival.{new-darts, face-from, part2-links, part3-links, part4-links, critical-links, transfer-links, insert-all, received}
+use Rattle.model.specs.Runs.{Request}
+use Rattle.model.specs.UndividedRun.{State, nx, op, th, cell}
 use Rattle.laws.proofs.Faces.{face-sym, along-face, order-has, order-only}
-use Rattle.laws.proofs.Members.{In, or-left, or-right, in-here, in-there, in-cons, in-eq, any-in, append-in, keep-ascending, Each, each-append, any-map, map-map, map-cong, keep-true}
+use Rattle.laws.proofs.Members.{In, or-left, or-right, in-here, in-there, in-cons, in-eq, any-in, append-in, keep-ascending, Each, each-append, any-map, map-map, map-cong, keep-true, each-weaken, each-keep}
 use Rattle.laws.proofs.Tests.{by-cases, and-intro, and-left, and-right, or-cases, no-here, same-truth}
 use Rattle.laws.proofs.Orbits.{around-some}
 use Rattle.agreement.proofs.Described.{pt, third-by, dart-by, members, block-by, Crossing, Map, Inv, serials-by, find-by, table-unique, Mine, mine-member, member-mine, darts-by, in-order-by, kind-free, kind-sewn, kind-critical, by-kind, third-back-linked}
@@ -28,10 +29,11 @@ use Rattle.agreement.proofs.Moved.{Served, moved-cell, cuts, state-afte
 use Rattle.agreement.proofs.MovedCell.{Cell}
 use Rattle.agreement.proofs.NewLabels.{Facing, next-one-cell, facing-next, facing-distinct, cut-in, in-cut, cut-distinct}
 use Rattle.agreement.proofs.Rebuilt.{new-darts-are}
-use Rattle.agreement.proofs.Received.{each-weaken, each-keep, placed-keep, face-again, part3-is, around-map, sew-gives, not-linked, sew-reach, or-else, find-insert-all, insert-all-ascends}
+use Rattle.agreement.proofs.Received.{face-again, part3-is, around-map, sew-gives, not-linked, sew-reach, or-else, find-insert-all, insert-all-ascends}
+use Rattle.theory.proofs.FaceIndices.{placed-keep, placed-each}
 use Rattle.agreement.proofs.Released.{third-after, third-stays, third-met, moved-free, moved-met, moved-cut, moved-other}
 use Rattle.agreement.proofs.Rings.{vertex-turn, vertex-opposite, vertex-point}
-use Rattle.agreement.proofs.Sent.{placed-each, cell-faces, number-in, IsFace, all-faces, start-is, in-face-cell, face-faces, part4-by, is-inner-face, transfer-by}
+use Rattle.agreement.proofs.Sent.{cell-faces, number-in, IsFace, all-faces, start-is, in-face-cell, face-faces, part4-by, is-inner-face, transfer-by}
 
 placed-strip : (n : ℕ) (l : List (List ℕ)) → map (λ p. p .face) (placed n l) ≡ l
 unfolding placed

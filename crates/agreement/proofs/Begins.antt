@@ -15,7 +15,7 @@ use Rattle.model.specs.Values.{Label, Third, free, sewn, critical, Dart, Block,
 use Rattle.model.specs.Cells.{serials, held, dart-at, next-in, opposite-in, third-at, previous-in, labelled}
 use Rattle.model.specs.Sound.{third-in-range, dart-in-range, coordinates-finite, sewn-along, third-right, thirds-right, label-right, labels-right, sewn-points, points-agree, block-at, all-darts, share-label, paired, labels-paired, same-across, points-across, made-before, makers-right, Sound}
 use Rattle.model.specs.Image.{label-in}
-use Rattle.model.specs.Runs.{Whole, other-with, third-of, whole-map, State, start, or-nothing, nx, op, th}
+use Rattle.model.specs.UndividedRun.{Whole, other-with, third-of, whole-map, State, start, or-nothing, nx, op, th}
 use Rattle.laws.proofs.Members.{In, or-left, or-right, in-eq, ascending-distinct, keep-map}
 use Rattle.laws.proofs.Tables.{length-tab, getD-tab}
 use Rattle.laws.proofs.Tests.{by-cases, and-intro, and-left, and-right, not-equal, found-key, all-at}

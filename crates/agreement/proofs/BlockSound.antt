@@ -13,7 +13,7 @@ use Rattle.model.specs.Values.{Label, sewn, Dart, Limits, serial-bound, code, l
 use Rattle.model.specs.Cells.{dart-at, next-in, opposite-in, labels}
 use Rattle.model.specs.Sound.{third-in-range, dart-in-range, ranges-right, coordinates-finite, link-right, links-right, third-right, thirds-right, label-right, labels-right, sewn-points, points-agree, sound-block}
 use Rattle.model.specs.Image.{label-in}
-use Rattle.model.specs.Runs.{State, nx, op, th}
+use Rattle.model.specs.UndividedRun.{State, nx, op, th}
 use Rattle.laws.proofs.Members.{In, in-here, in-there, in-cons, in-eq, any-in, keep-ascending, ascending-distinct, any-map}
 use Rattle.laws.proofs.Tests.{by-cases, and-intro, and-left, and-right, not-equal}
 use Rattle.theory.proofs.BlockLaws.{same-point-self}

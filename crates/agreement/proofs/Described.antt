@@ -16,7 +16,7 @@ use borrow.Author.Tests.{eqb-true, eqb-false, eq-eqb, ne-eqb, ltb-true, ltb-fals
 use Rattle.model.specs.Lists.{all, keep, tab, mem, ascending, find}
 use Rattle.model.specs.Values.{Point, Label, Third, free, sewn, critical, Dart, Block, Limits, serial-bound, finite, or-no-dart}
 use Rattle.model.specs.Cells.{serials, held, dart-at, next-in, opposite-in, third-at, previous-in}
-use Rattle.model.specs.Runs.{Whole, State, or-nothing, nx, op, th}
+use Rattle.model.specs.UndividedRun.{Whole, State, or-nothing, nx, op, th}
 use Rattle.laws.proofs.Members.{In, in-here, in-there, in-keep, in-cons, in-eq, all-from, keep-in, mem-keep, absent, keep-ascending, all-map}
 use Rattle.laws.proofs.Tests.{by-cases, and-intro, and-left, and-right}
 

@@ -15,18 +15,21 @@ use Rattle.model.specs.Lists.{any, keep, concat, tab, collect, concat-map, mem,
 use Rattle.model.specs.Values.{Label, Dart, Block, Limits, is-critical-with}
 use Rattle.model.specs.Cells.{cycle, start-of, third-at, labels}
 use Rattle.model.specs.Sound.{Fit}
-use Rattle.model.specs.Image.{image}
+use Rattle.model.specs.Image.{words-of, image, memory-of}
 use Rattle.model.specs.Layouts.{framed}
 use Rattle.model.specs.Messages.{transfer, Update, update, Message}
-use Rattle.model.specs.Departure.{departure-checks, least-labels, update-for, updates-of, messages, relink, released}
+use Rattle.model.specs.Departure.{departure-checks, least-labels, update-for, updates-of, messages, released}
+use Rattle.model.specs.Links.{relink}
 use Rattle.model.specs.Arrival.{redirect-checks, update-links, redirected, redirected-from}
 use Rattle.model.specs.Calls.{served, number-of, Result, storing, release, redirect}
-use Rattle.model.specs.Runs.{Request, releasing, Step, called, memory-at, run-steps, messages-in, addressee, redirect-step, last-steps, State, nx, th, cell}
+use Rattle.model.specs.Runs.{Request}
+use Rattle.model.specs.UndividedRun.{State, nx, th, cell}
+use Rattle.model.specs.DividedRun.{releasing, Step, called, memory-at, run-steps, messages-in, addressee, redirect-step, last-steps}
 use Rattle.laws.proofs.Members.{In, in-here, in-there, in-keep, in-cons, in-eq, keep-in, keep-ascending, ascending-distinct, Each}
 use Rattle.laws.proofs.Tables.{length-tab, getD-tab, tab-any, map-tab, tab-ascending}
 use Rattle.laws.proofs.Tests.{by-cases, and-intro, and-left, and-right, not-equal}
 use Rattle.theory.proofs.CallLaws.{storing-serves, release-is, redirect-is}
-use Rattle.theory.proofs.CutLaws.{Framed, framed-is, messages-back}
+use Rattle.theory.proofs.MessagesExact.{cut-messages}
 use Rattle.agreement.proofs.BlockSound.{block-sound}
 use Rattle.agreement.proofs.Described.{third-by, block-by, mesh-by, Map, Inv, darts-by, kind-free, kind-sewn, kind-critical, by-kind}
 use Rattle.agreement.proofs.Moved.{Served, moved-cell, state-after, labels-after}
@@ -36,10 +39,9 @@ use Rattle.agreement.proofs.Rebuilt.{order}
 use Rattle.agreement.proofs.Redirected.{shared, chosen, told, redirected-is}
 use Rattle.agreement.proofs.Released.{released-is}
 use Rattle.agreement.proofs.Sent.{cell-faces, IsFace, all-faces, start-third, transfer-by, transfer-is}
-use Rattle.agreement.proofs.SentLayout.{transfer-short}
+use Rattle.agreement.proofs.SentLayout.{leaving-asks}
 use Rattle.agreement.proofs.Steps.{Serves, blocks-of, Ran, steps-run, each-perm, mem-perm, distinct-perm}
-use Rattle.agreement.proofs.Told.{told-read, told-short, told-addressee, told-asks}
-use Rattle.agreement.proofs.Written.{group-ok}
+use Rattle.agreement.proofs.Told.{told-read, told-addressee, told-asks}
 
 relink-none : (d : Dart) → relink [] d ≡ d
 unfolding relink
@@ -187,19 +189,19 @@ module _ (lims : ℕ → Limits) (fit : Fit lims) (k : ℕ) (u : State) (label :
 
   -- THE LAST STEPS SERVE
   abbrev before-memory : ℕ → List ℕ
-  before-memory b = image (block-by u label b)
+  before-memory b = image (words-of (lims b)) (block-by u label b)
 
   abbrev after-memory : ℕ → List ℕ
-  after-memory b = image (after₈ b)
+  after-memory b = image (words-of (lims b)) (after₈ b)
 
   release-serves : first-no (departure-checks (lims (r .from) .volume-darts) (block-by u label (r .from)) (r .to) (r .serial)) ≡ 0
       → Serves lims before-memory after-memory (record { block = r .from; call = releasing (r .to) (r .serial) })
   release-serves asks = record { does = unfold called in (ap (λ (w : Result (Unit {0})). record { number = number-of (w .answer); memory = w .lent; sent = [] }) answered) }
     where
-      answered : release (lims (r .from)) (image (block-by u label (r .from))) (r .to) (r .serial) ≡ record { answer = served tt; lent = after-memory (r .from) }
-      answered = release-is (lims (r .from)) (fit .block-fits (r .from)) (block-by u label (r .from)) (block-sound lims k u label I (r .from) (S .from-below)) (r .to) (r .serial)
-          ∙ storing-serves _ (image (block-by u label (r .from))) (released (block-by u label (r .from)) (r .to) (r .serial)) asks
-          ∙ ap (λ (b : Block). record { answer = served tt; lent = image b }) (released-is lims fit k u label I r S)
+      answered : release (lims (r .from)) (before-memory (r .from)) (r .to) (r .serial) ≡ record { answer = served tt; lent = after-memory (r .from) }
+      answered = release-is (lims (r .from)) (block-by u label (r .from)) (block-sound lims k u label I (r .from) (S .from-below)) (r .to) (r .serial)
+          ∙ storing-serves (lims (r .from)) _ (before-memory (r .from)) (released (block-by u label (r .from)) (r .to) (r .serial)) asks
+          ∙ ap (λ (b : Block). record { answer = served tt; lent = image (words-of (lims (r .from))) b }) (released-is lims fit k u label I r S)
 
   redirect-serves : (w : Update) → Told w → Serves lims before-memory after-memory (redirect-step (framed update w))
   redirect-serves w t = rw (t .is) (record { does = unfold called in (rw there (ap (λ (a : Result (Unit {0})). record { number = number-of (a .answer); memory = a .lent; sent = [] }) answered)) })
@@ -207,18 +209,18 @@ module _ (lims : ℕ → Limits) (fit : Fit lims) (k : ℕ) (u : State) (label :
       there : addressee (framed update (told-to (t .block) (t .rel))) ≡ t .block
       there = told-addressee lims fit k u label I r S (t .block) (t .rel .below) (t .rel .not-from) (t .rel .not-to)
 
-      answered : redirect (lims (t .block)) (image (block-by u label (t .block))) (framed update (told-to (t .block) (t .rel))) ≡ record { answer = served tt; lent = after-memory (t .block) }
+      answered : redirect (lims (t .block)) (before-memory (t .block)) (framed update (told-to (t .block) (t .rel))) ≡ record { answer = served tt; lent = after-memory (t .block) }
       answered =
-          redirect-is (lims (t .block)) (fit .block-fits (t .block)) (block-by u label (t .block))
+          redirect-is (lims (t .block)) (block-by u label (t .block))
           (block-sound lims k u label I (t .block) (t .rel .below)) (framed update (told-to (t .block) (t .rel)))
           ∙ ap
-          (λ (m : Message). storing (redirect-checks (block-by u label (t .block)) m) (image (block-by u label (t .block)))
+          (λ (m : Message). storing (lims (t .block)) (redirect-checks (block-by u label (t .block)) m) (before-memory (t .block))
           (redirected-from (block-by u label (t .block)) m))
           (told-read lims fit k u label I r S (t .block) (t .rel .below) (t .rel .not-from) (t .rel .not-to))
-          ∙ storing-serves _ (image (block-by u label (t .block)))
+          ∙ storing-serves (lims (t .block)) _ (before-memory (t .block))
           (redirected (block-by u label (t .block)) (told-to (t .block) (t .rel)))
           (told-asks lims fit k u label I r S (t .block) (t .rel .below) (t .rel .not-from) (t .rel .not-to))
-          ∙ ap (λ (c : Block). record { answer = served tt; lent = image c }) (redirected-is lims fit k u label I r S (t .block) (t .rel .below) (t .rel .not-from) (t .rel .not-to))
+          ∙ ap (λ (c : Block). record { answer = served tt; lent = image (words-of (lims (t .block))) c }) (redirected-is lims fit k u label I r S (t .block) (t .rel .below) (t .rel .not-from) (t .rel .not-to))
 
   -- WHAT IS SENT
   abbrev updates₈ : List Update
@@ -228,18 +230,11 @@ module _ (lims : ℕ → Limits) (fit : Fit lims) (k : ℕ) (u : State) (label :
   unfolding messages
   messages-are = rw (transfer-is lims fit k u label I r S)
 
-  update-framed : (l : List Update) → Each Told l → Each Framed (map (framed update) l)
-  update-framed [] e = tt
-  update-framed (w ∷ l) e = (
-    rw (e .0 .is)
-        (framed-is update _
-        (group-ok _
-        (told-short lims fit k u label I r S (e .0 .block) (e .0 .rel .below) (e .0 .rel .not-from) (e .0 .rel .not-to)))),
-    update-framed l (e .1),
-  )
-
   pub cut-again : messages-in (concat (messages (block-by u label (r .from)) (r .to) (r .serial))) ≡ framed transfer (transfer-by lims fit k u label I r S) ∷ map (framed update) updates₈
-  cut-again = rw messages-are (messages-back _ (framed-is transfer _ (group-ok _ (transfer-short lims fit k u label I r S)), update-framed updates₈ all-told))
+  cut-again =
+      cut-messages (lims (r .from)) (fit .block-fits (r .from)) (fit .volume-fits (r .from)) (block-by u label (r .from))
+      (block-sound lims k u label I (r .from) (S .from-below)) (r .to) (r .serial) (leaving-asks lims fit k u label I r S)
+      ∙ messages-are
 
   -- THE LAST STEPS, on different blocks
   abbrev last₈ : List Step
@@ -295,21 +290,22 @@ module _ (lims : ℕ → Limits) (fit : Fit lims) (k : ℕ) (u : State) (label :
   at-block : (P : ℕ → Type 0) → P (r .from) → ((b : ℕ) → IsRelative b → P b) → Each (λ c. P (c .block)) last₈
   at-block P p q = each-block P last₈ (λ b m. in-cons b (r .from) told-blocks (subst (λ (l : List ℕ). In b l) last-blocks m) (λ e. rw e p) (λ n. q b (told-relative b n)))
 
-  pub memories-at : (b : ℕ) → b < k → memory-at (map image (mesh-by k u label)) b ≡ before-memory b
-  memories-at b h = rw (map-tab image (block-by u label) k) (getD-tab (λ c. image (block-by u label c)) k b [] h)
+  pub memories-at : (b : ℕ) → b < k → memory-at (map (memory-of lims) (mesh-by k u label)) b ≡ before-memory b
+  unfolding block-by
+  memories-at b h = rw (map-tab (memory-of lims) (block-by u label) k) (getD-tab (λ c. memory-of lims (block-by u label c)) k b [] h)
 
-  memories-length : length (map image (mesh-by k u label)) ≡ k
-  memories-length = length-map (mesh-by k u label) image ∙ length-tab (block-by u label) k
+  memories-length : length (map (memory-of lims) (mesh-by k u label)) ≡ k
+  memories-length = length-map (mesh-by k u label) (memory-of lims) ∙ length-tab (block-by u label) k
 
   -- the memories once the cell is received
   abbrev pub received-memories : List (List ℕ)
-  received-memories = set (map image (mesh-by k u label)) (r .to) (after-memory (r .to))
+  received-memories = set (map (memory-of lims) (mesh-by k u label)) (r .to) (after-memory (r .to))
 
   received-length : length received-memories ≡ k
-  received-length = length-set (map image (mesh-by k u label)) (r .to) (after-memory (r .to)) ∙ memories-length
+  received-length = length-set (map (memory-of lims) (mesh-by k u label)) (r .to) (after-memory (r .to)) ∙ memories-length
 
   not-yet : (b : ℕ) → b < k → b ≢ r .to → memory-at received-memories b ≡ before-memory b
-  not-yet b h n = getD-set-other (map image (mesh-by k u label)) (r .to) b (after-memory (r .to)) [] n ∙ memories-at b h
+  not-yet b h n = getD-set-other (map (memory-of lims) (mesh-by k u label)) (r .to) b (after-memory (r .to)) [] n ∙ memories-at b h
 
   module _ (asks : first-no (departure-checks (lims (r .from) .volume-darts) (block-by u label (r .from)) (r .to) (r .serial)) ≡ 0) (order : List Step) (any : List·Permᴰ order last₈) where
     ran : Ran lims before-memory after-memory order received-memories
@@ -326,10 +322,10 @@ module _ (lims : ℕ → Limits) (fit : Fit lims) (k : ℕ) (u : State) (label :
     -- a block that is in no step
     stays : (b : ℕ) → b < k → mem b (r .from ∷ told-blocks) ≡ false → memory-at received-memories b ≡ after-memory b
     stays b h n = by-cases (eqb b (r .to))
-        (λ e. rw (eqb-true b (r .to) e) (getD-set-same (map image (mesh-by k u label)) (r .to) (after-memory (r .to)) [] (rw memories-length (S .to-below))))
+        (λ e. rw (eqb-true b (r .to) e) (getD-set-same (map (memory-of lims) (mesh-by k u label)) (r .to) (after-memory (r .to)) [] (rw memories-length (S .to-below))))
         (λ e. let nt = eqb-false b (r .to) e in
         let nf : b ≢ r .from = λ q. true≢false (sym (in-eq b (r .from) (r .from ∷ told-blocks) q (in-here (r .from) told-blocks)) ∙ n) in
-        not-yet b h nt ∙ ap image (untold b (record { below = h; not-from = nf; not-to = nt }) (nothing-shared (shared-with b) refl nt)))
+        not-yet b h nt ∙ ap (image (words-of (lims b))) (untold b (record { below = h; not-from = nf; not-to = nt }) (nothing-shared (shared-with b) refl nt)))
       where
         not-relative : relative b ≡ true → ⊥
         not-relative t = true≢false (sym (in-there b (r .from) told-blocks (in-keep relative b (tab (λ c. c) 16) (in-sixteen b (let few = I .few-blocks in omega arith)) t)) ∙ n)
@@ -346,15 +342,16 @@ module _ (lims : ℕ → Limits) (fit : Fit lims) (k : ℕ) (u : State) (label :
         let told-or-not : mem b (blocks-of order) ≡ mem b (r .from ∷ told-blocks) = mem-perm b any ∙ ap (mem b) last-blocks in
         ran .changed b (rw received-length below) ∙ by-cases (mem b (r .from ∷ told-blocks)) (λ t. rw (told-or-not ∙ t)) (λ t. rw (told-or-not ∙ t) (stays b below t))
 
-    pub memories-after : run-steps lims order received-memories .1 ≡ map image (mesh-by k (state-after lims fit k u label I r S) (labels-after lims fit k u label I r S))
+    pub memories-after : run-steps lims order received-memories .1 ≡ map (memory-of lims) (mesh-by k (state-after lims fit k u label I r S) (labels-after lims fit k u label I r S))
+    unfolding block-by
     memories-after =
         ext-getD [] _ _
         (ran .same-length ∙ received-length
         ∙ sym
-        (length-map (mesh-by k (state-after lims fit k u label I r S) (labels-after lims fit k u label I r S)) image
+        (length-map (mesh-by k (state-after lims fit k u label I r S) (labels-after lims fit k u label I r S)) (memory-of lims)
         ∙ length-tab after₈ k)) (λ b h.
         let below : b < k = rw (ran .same-length ∙ received-length) at h in
-        let there : memory-at (map image (mesh-by k (state-after lims fit k u label I r S) (labels-after lims fit k u label I r S))) b ≡ after-memory b =
-        rw (map-tab image after₈ k) (getD-tab (λ c. image (after₈ c)) k b [] below)
+        let there : memory-at (map (memory-of lims) (mesh-by k (state-after lims fit k u label I r S) (labels-after lims fit k u label I r S))) b ≡ after-memory b =
+        rw (map-tab (memory-of lims) after₈ k) (getD-tab (λ c. memory-of lims (after₈ c)) k b [] below)
         in
         memory-after b below ∙ sym there)

@@ -13,7 +13,7 @@ use Rattle.model.specs.Lists.{all, keep, more, mem, distinct, ascending, find, 
 use Rattle.model.specs.Values.{Dart, Block, Limits, no-block}
 use Rattle.model.specs.Cells.{serials}
 use Rattle.model.specs.Sound.{sound-block, block-at, all-darts, numbered-from, blocks-right, serials-distinct, Sound}
-use Rattle.model.specs.Runs.{holder}
+use Rattle.model.specs.UndividedRun.{holder}
 use Rattle.laws.proofs.Members.{In, in-here, in-there, in-keep, in-cons, in-eq, all-from, in-append-left, in-append-right, append-in, distinct-right, distinct-apart, absent, ascending-distinct, map-append, distinct-fewer}
 use Rattle.laws.proofs.Tests.{by-cases, and-intro, and-left, and-right, all-at}
 use Rattle.theory.proofs.BlockLaws.{Links, links-from}

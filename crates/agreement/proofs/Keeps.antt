@@ -12,13 +12,16 @@ use borrow.Author.Tests.{eqb-true, eqb-false, ne-eqb, ltb-true, leb-true, not-tr
 use Rattle.model.specs.Lists.{all, any, concat, mem, Check, first-no}
 use Rattle.model.specs.Values.{Label, Block, Limits}
 use Rattle.model.specs.Sound.{sound-block, Fit, volume-limit}
-use Rattle.model.specs.Image.{image}
+use Rattle.model.specs.Image.{words-of, image, memory-of}
 use Rattle.model.specs.Layouts.{framed}
 use Rattle.model.specs.Messages.{Transfer, transfer, update, Message, a-transfer}
-use Rattle.model.specs.Departure.{pairs-once, vertex-pairs, departure-checks, updates-of, messages}
+use Rattle.model.specs.Departure.{departure-checks, updates-of, messages}
+use Rattle.model.specs.Links.{pairs-once, vertex-pairs}
 use Rattle.model.specs.Arrival.{received, receive-checks, received-from}
 use Rattle.model.specs.Calls.{number-of, Result, storing, writing, send, receive, memories}
-use Rattle.model.specs.Runs.{Request, refused-by, finished, unfinished, Step, Done, written, called, memory-at, done, run-steps, messages-in, send-step, receive-step, last-steps, sent-messages, Round, round, State, nx, op, th, cell, inner-faces, request-checks, after-move, Undivided, undivided}
+use Rattle.model.specs.Runs.{Request, refused-by, finished, unfinished}
+use Rattle.model.specs.UndividedRun.{State, nx, op, th, cell, inner-faces, request-checks, after-move, Undivided, undivided}
+use Rattle.model.specs.DividedRun.{Step, Done, written, called, memory-at, done, run-steps, messages-in, send-step, receive-step, last-steps, sent-messages, Round, round}
 use Rattle.model.specs.Demands.{Enough}
 use Rattle.laws.proofs.Members.{all-in}
 use Rattle.laws.proofs.Tables.{getD-tab, map-tab}
@@ -33,7 +36,7 @@ use Rattle.agreement.proofs.Moved.{Served, state-after, labels-after, i
 use Rattle.agreement.proofs.MovedCell.{first-six, twenty-one, checks-split, questions-agree}
 use Rattle.agreement.proofs.Rebuilt.{order}
 use Rattle.agreement.proofs.Sent.{transfer-by}
-use Rattle.agreement.proofs.SentLayout.{few-darts, transfer-read, receive-asks}
+use Rattle.agreement.proofs.SentLayout.{transfer-read, receive-asks}
 
 -- A ROUND, by what its calls give
 module _ (lims : ℕ → Limits) (ms : List (List ℕ)) (r : Request) (outbox : List ℕ) (order : List Step) (d : Done) (sends : done lims ms (send-step r outbox) ≡ d) where
@@ -56,7 +59,7 @@ pub record Kept (lims : ℕ → Limits) (k : ℕ) (d : Round) (w : Undivided) : 
   pub same-outcome : d .outcome ≡ w .outcome
   pub labels-now : ℕ → Label
   pub inv-now : Inv lims k (w .state) labels-now
-  pub memories-now : d .memories ≡ map image (mesh-by k (w .state) labels-now)
+  pub memories-now : d .memories ≡ map (memory-of lims) (mesh-by k (w .state) labels-now)
   pub never-unfinished : d .outcome ≢ unfinished
 
 undivided-refuses : (lims : ℕ → Limits) (u : State) (r : Request) (n : ℕ) → first-no (request-checks lims u r) ≡ n → n ≢ 0 → undivided lims u r ≡ record { outcome = refused-by n; state = u }
@@ -76,7 +79,7 @@ finished-not e = let z : _≡_ {A = ℕ} 0 1 = cc in omega arith
 module _ (lims : ℕ → Limits) (fit : Fit lims) (k : ℕ) (u : State) (label : ℕ → Label) (I : Inv lims k u label) (r : Request) (from-below : r .from < k) (to-below : r .to < k)
     (outbox : List ℕ) (order : List Step) where
   abbrev ms : List (List ℕ)
-  ms = map image (mesh-by k u label)
+  ms = map (memory-of lims) (mesh-by k u label)
 
   abbrev here : Block
   here = block-by u label (r .from)
@@ -93,11 +96,13 @@ module _ (lims : ℕ → Limits) (fit : Fit lims) (k : ℕ) (u : State) (label :
   abbrev sent-bytes : List ℕ
   sent-bytes = concat (messages here (r .to) (r .serial))
 
-  memory-here : memory-at ms (r .from) ≡ image here
-  memory-here = rw (map-tab image (block-by u label) k) (getD-tab (λ c. image (block-by u label c)) k (r .from) [] from-below)
+  memory-here : memory-at ms (r .from) ≡ image (words-of (lims (r .from))) here
+  unfolding block-by
+  memory-here = rw (map-tab (memory-of lims) (block-by u label) k) (getD-tab (λ c. memory-of lims (block-by u label c)) k (r .from) [] from-below)
 
-  memory-there : memory-at ms (r .to) ≡ image there
-  memory-there = rw (map-tab image (block-by u label) k) (getD-tab (λ c. image (block-by u label c)) k (r .to) [] to-below)
+  memory-there : memory-at ms (r .to) ≡ image (words-of (lims (r .to))) there
+  unfolding block-by
+  memory-there = rw (map-tab (memory-of lims) (block-by u label) k) (getD-tab (λ c. memory-of lims (block-by u label c)) k (r .to) [] to-below)
 
   here-sound : sound-block lim here ≡ true
   here-sound = block-sound lims k u label I (r .from) from-below
@@ -106,7 +111,7 @@ module _ (lims : ℕ → Limits) (fit : Fit lims) (k : ℕ) (u : State) (label :
   there-sound = block-sound lims k u label I (r .to) to-below
 
   sends-is : send lim (memory-at ms (r .from)) (r .to) (r .serial) outbox ≡ writing leaving outbox sent-bytes
-  sends-is = ap (λ (m : List ℕ). send lim m (r .to) (r .serial) outbox) memory-here ∙ send-is lim (fit .block-fits (r .from)) here here-sound (r .to) (r .serial) outbox
+  sends-is = ap (λ (m : List ℕ). send lim m (r .to) (r .serial) outbox) memory-here ∙ send-is lim here here-sound (r .to) (r .serial) outbox
 
   send-done : (w : Result ℕ) → writing leaving outbox sent-bytes ≡ w
       → done lims ms (send-step r outbox) ≡ record { number = number-of (w .answer); memory = memory-at ms (r .from); sent = take (written (w .answer)) (w .lent) }
@@ -131,7 +136,7 @@ module _ (lims : ℕ → Limits) (fit : Fit lims) (k : ℕ) (u : State) (label :
         same-outcome = outcome ∙ ap (λ (z : Undivided). z .outcome) (sym un);
         labels-now = label;
         inv-now = rw un I;
-        memories-now = ap (λ (z : Round). z .memories) round-is ∙ ap (λ (z : Undivided). map image (mesh-by k (z .state) label)) (sym un);
+        memories-now = ap (λ (z : Round). z .memories) round-is ∙ ap (λ (z : Undivided). map (memory-of lims) (mesh-by k (z .state) label)) (sym un);
         never-unfinished = λ e. not-unfinished n (sym outcome ∙ e);
       }
 
@@ -197,16 +202,16 @@ module _ (lims : ℕ → Limits) (fit : Fit lims) (k : ℕ) (u : State) (label :
     abbrev arriving : List Check
     arriving = receive-checks (lims (r .to)) there (a-transfer t₀)
 
-    receives-is : receive (lims (r .to)) (memory-at ms (r .to)) (framed transfer t₀) ≡ storing arriving (image there) (received there t₀)
+    receives-is : receive (lims (r .to)) (memory-at ms (r .to)) (framed transfer t₀) ≡ storing (lims (r .to)) arriving (image (words-of (lims (r .to))) there) (received there t₀)
     receives-is = ap (λ (m : List ℕ). receive (lims (r .to)) m (framed transfer t₀)) memory-there
-        ∙ receive-is (lims (r .to)) (fit .block-fits (r .to)) there there-sound (framed transfer t₀)
-        ∙ ap (λ (m : Message). storing (receive-checks (lims (r .to)) there m) (image there) (received-from there m)) (transfer-read lims fit k u label I r S)
+        ∙ receive-is (lims (r .to)) there there-sound (framed transfer t₀)
+        ∙ ap (λ (m : Message). storing (lims (r .to)) (receive-checks (lims (r .to)) there m) (image (words-of (lims (r .to))) there) (received-from there m)) (transfer-read lims fit k u label I r S)
 
-    receive-done : (w : Result (Unit {0})) → storing arriving (image there) (received there t₀) ≡ w
+    receive-done : (w : Result (Unit {0})) → storing (lims (r .to)) arriving (image (words-of (lims (r .to))) there) (received there t₀) ≡ w
         → done lims ms (receive-step r (messages-in sent-bytes)) ≡ record { number = number-of (w .answer); memory = w .lent; sent = [] }
     receive-done w e = ap (λ (l : List (List ℕ)). done lims ms (receive-step r l)) cut-is ∙ one w e
       where
-        one : (w : Result (Unit {0})) → storing arriving (image there) (received there t₀) ≡ w
+        one : (w : Result (Unit {0})) → storing (lims (r .to)) arriving (image (words-of (lims (r .to))) there) (received there t₀) ≡ w
             → done lims ms (receive-step r sent-list) ≡ record { number = number-of (w .answer); memory = w .lent; sent = [] }
         one w e = unfold done in unfold called in (ap (λ (a : Result (Unit {0})). record { number = number-of (a .answer); memory = a .lent; sent = [] }) (receives-is ∙ e))
 
@@ -225,7 +230,7 @@ module _ (lims : ℕ → Limits) (fit : Fit lims) (k : ℕ) (u : State) (label :
         let n21 : first-no ((21, fits) ∷ []) ≡ 21 = no-here 21 fits [] f in
         let un = undivided-refuses lims u r 21 (whole-checks ∙ n21) (λ z. omega arith) in
         let number : first-no arriving ≡ 21 = arriving-is ∙ n21 in
-        let stored-is = storing-refuses arriving (image there) (received there t₀) (λ z. let q = sym number ∙ z in omega arith) in
+        let stored-is = storing-refuses (lims (r .to)) arriving (image (words-of (lims (r .to))) there) (received there t₀) (λ z. let q = sym number ∙ z in omega arith) in
         let round-is = round-untaken lims ms r outbox order _ send-served refl _ (receive-done _ stored-is) (ne-eqb (first-no arriving) 0 (λ z. let q = sym number ∙ z in omega arith)) in
         let outcome : round lims ms r outbox order .outcome ≡ refused-by 21 = ap (λ (z : Round). z .outcome) round-is ∙ ap refused-by number in
         record {
@@ -234,7 +239,7 @@ module _ (lims : ℕ → Limits) (fit : Fit lims) (k : ℕ) (u : State) (label :
           inv-now = rw un I;
           memories-now =
               ap (λ (z : Round). z .memories) round-is ∙ ap (set ms (r .to)) (sym memory-there) ∙ set-getD ms (r .to) []
-              ∙ ap (λ (z : Undivided). map image (mesh-by k (z .state) label)) (sym un);
+              ∙ ap (λ (z : Undivided). map (memory-of lims) (mesh-by k (z .state) label)) (sym un);
           never-unfinished = λ e. not-unfinished 21 (sym outcome ∙ e);
         }
 
@@ -244,9 +249,9 @@ module _ (lims : ℕ → Limits) (fit : Fit lims) (k : ℕ) (u : State) (label :
         let n0 : first-no ((21, fits) ∷ []) ≡ 0 = yes-then 21 fits [] f ∙ no-more in
         let un : undivided lims u r ≡ record { outcome = finished; state = state-after lims fit k u label I r S } =
         undivided-serves lims u r (whole-checks ∙ n0) ∙ ap (λ (z : State). record { outcome = finished; state = z }) (after-is u r) in
-        let stored-is = storing-serves arriving (image there) (received there t₀) (arriving-is ∙ n0) in
-        let lent : image (received there t₀) ≡ image (block-by (state-after lims fit k u label I r S) (labels-after lims fit k u label I r S) (r .to)) =
-        ap image (received-is lims fit k u label I r S)
+        let stored-is = storing-serves (lims (r .to)) arriving (image (words-of (lims (r .to))) there) (received there t₀) (arriving-is ∙ n0) in
+        let lent : image (words-of (lims (r .to))) (received there t₀) ≡ image (words-of (lims (r .to))) (block-by (state-after lims fit k u label I r S) (labels-after lims fit k u label I r S) (r .to)) =
+        ap (image (words-of (lims (r .to)))) (received-is lims fit k u label I r S)
         in
         let received-done = receive-done _ stored-is ∙ ap (λ (m : List ℕ). record { number = 0; memory = m; sent = [] }) lent in
         let round-is =
@@ -259,7 +264,7 @@ module _ (lims : ℕ → Limits) (fit : Fit lims) (k : ℕ) (u : State) (label :
           same-outcome = outcome ∙ ap (λ (z : Undivided). z .outcome) (sym un);
           labels-now = labels-after lims fit k u label I r S;
           inv-now = rw un (inv-after lims fit k u label I r S (leb-true _ _ f));
-          memories-now = ap (λ (z : Round). z .memories) round-is ∙ ap (λ (z : Undivided). map image (mesh-by k (z .state) (labels-after lims fit k u label I r S))) (sym un);
+          memories-now = ap (λ (z : Round). z .memories) round-is ∙ ap (λ (z : Undivided). map (memory-of lims) (mesh-by k (z .state) (labels-after lims fit k u label I r S))) (sym un);
           never-unfinished = λ e. finished-not (sym outcome ∙ e);
         }
 

@@ -15,7 +15,6 @@ pub mod Received
 pub mod Arrived
 pub mod Passes
 pub mod Parts
-pub mod Written
 pub mod SentLayout
 pub mod Told
 pub mod Steps
@@ -23,4 +22,5 @@ pub mod Finishes
 pub mod Keeps
 pub mod Homes
 pub mod Begins
+pub mod EnoughSteps
 pub mod Agreement

@@ -10,7 +10,7 @@ use lib.Dec.{eqb}
 use borrow.Author.Tests.{eq-eqb, ne-eqb}
 use Rattle.model.specs.Lists.{concat, mem, distinct, index-of, find}
 use Rattle.model.specs.Values.{Third, critical, Dart}
-use Rattle.model.specs.Departure.{Link, third-or, relink, label-links, label-faces}
+use Rattle.model.specs.Links.{Link, third-or, relink, label-links, label-faces}
 use Rattle.laws.proofs.Members.{In, in-here, in-there, in-cons, in-append-left, in-append-right, append-in, distinct-not, distinct-left, distinct-right, distinct-apart, Each, each-append, each-found}
 use Rattle.laws.proofs.Tests.{by-cases, and-right, found-key}
 use Rattle.agreement.proofs.NewLabels.{fresh-of}

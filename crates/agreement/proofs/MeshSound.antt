@@ -14,8 +14,8 @@ use Rattle.model.specs.Lists.{all, keep, concat, tab, concat-map, mem, distinct
 use Rattle.model.specs.Values.{Label, Third, Dart, Block, Limits, code, label-key, has-label, is-critical-with, or-no-dart, no-block}
 use Rattle.model.specs.Cells.{serials, third-at, previous-in, labelled}
 use Rattle.model.specs.Sound.{sound-block, block-at, all-darts, numbered-from, blocks-right, serials-distinct, share-label, paired, labels-paired, same-across, points-across, made-before, makers-right, Sound}
-use Rattle.model.specs.Image.{image}
-use Rattle.model.specs.Runs.{Whole, other-with, third-of, whole-map, holder, State, or-nothing, nx, th}
+use Rattle.model.specs.Image.{words-of, image, memory-of}
+use Rattle.model.specs.UndividedRun.{Whole, other-with, third-of, whole-map, holder, State, or-nothing, nx, th}
 use Rattle.model.specs.Demands.{Matches}
 use Rattle.laws.proofs.Members.{In, in-here, in-there, in-cons, in-append-left, in-append-right, append-in, distinct-append, keep-ascending, ascending-distinct, keep-map, map-append, two-kept}
 use Rattle.laws.proofs.Tables.{length-tab, getD-tab, tab-all}
@@ -318,7 +318,7 @@ module _ (lims : ℕ → Limits) (k : ℕ) (u : State) (label : ℕ → Label) (
   cells-same x h = holder-by 0 k (λ m. m) x h (λ m. sym (zero-add m)) (omega arith) (let below = I .in-a-block x h in omega arith)
 
   -- WHAT THE INVARIANT SAYS
-  pub says : (ms : List (List ℕ)) → ms ≡ map image mesh → Matches lims ms u
+  pub says : (ms : List (List ℕ)) → ms ≡ map (memory-of lims) mesh → Matches lims ms u
   unfolding block-by
   says ms e = record {
     mesh = mesh;

@@ -12,8 +12,9 @@ use Rattle.model.specs.Lists.{keep, mem}
 use Rattle.model.specs.Values.{Label, Limits}
 use Rattle.model.specs.Cells.{labelled}
 use Rattle.model.specs.Sound.{Fit}
-use Rattle.model.specs.Departure.{pairs-once, vertex-pairs}
-use Rattle.model.specs.Runs.{Request, State, nx, op, th, cell, inner-faces}
+use Rattle.model.specs.Links.{pairs-once, vertex-pairs}
+use Rattle.model.specs.Runs.{Request}
+use Rattle.model.specs.UndividedRun.{State, nx, op, th, cell, inner-faces}
 use Rattle.laws.proofs.Members.{In, in-keep, keep-in, ascending-unique, keep-ascending}
 use Rattle.laws.proofs.Tests.{by-cases}
 use Rattle.agreement.proofs.AfterMove.{keep-fewer, keep-either, after, label-after, map-after, labelled-after}

@@ -13,8 +13,10 @@ use Rattle.model.specs.Lists.{all, keep, mem, ascending, Check, first-no}
 use Rattle.model.specs.Values.{Label, Dart, Limits}
 use Rattle.model.specs.Cells.{around, cycle, volume, vertex, faces, start-of, serials, next-in, opposite-in, third-at, volume-in, faces-in}
 use Rattle.model.specs.Sound.{Fit, volume-limit}
-use Rattle.model.specs.Departure.{is-sewn-into, is-sewn-out-of, sewn-faces, pairs-once, vertex-pairs, departure-checks}
-use Rattle.model.specs.Runs.{Request, State, nx, op, th, cell, inner-faces, request-checks}
+use Rattle.model.specs.Departure.{is-sewn-into, is-sewn-out-of, sewn-faces, departure-checks}
+use Rattle.model.specs.Links.{pairs-once, vertex-pairs}
+use Rattle.model.specs.Runs.{Request}
+use Rattle.model.specs.UndividedRun.{State, nx, op, th, cell, inner-faces, request-checks}
 use Rattle.laws.proofs.Carry.{volume-cong, volume-twice, faces-cong, vertex-cong}
 use Rattle.laws.proofs.Members.{In, in-here, in-there, in-keep, keep-le, all-cong, keep-in, keep-ascending, Each, map-cong}
 use Rattle.laws.proofs.Orbits.{iter, around-path, Cyc}

@@ -11,7 +11,7 @@ use borrow.Author.Tests.{eqb-true, eqb-false, eq-eqb, not-true}
 use Rattle.model.specs.Lists.{keep, concat, mem, distinct, index-of}
 use Rattle.model.specs.Values.{Label}
 use Rattle.model.specs.Cells.{around, cycle, faces, start-of}
-use Rattle.model.specs.Runs.{State, nx, th}
+use Rattle.model.specs.UndividedRun.{State, nx, th}
 use Rattle.laws.proofs.Faces.{face, is-start}
 use Rattle.laws.proofs.KeptFaces.{starts, start-there as start-there-is, starts-distinct as distinct-starts, kept-are, kept-distinct, kept-few, kept-in, start-kept, in-kept}
 use Rattle.laws.proofs.Members.{In, append-in, Each}

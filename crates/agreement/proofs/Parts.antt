@@ -8,7 +8,7 @@ use Prim.Native.Nat.{ℕ, suc, _+_, _<_}
 use native.Mathlib.Omega.{arith}
 use native.Mathlib.Nat.{zero-add, add-zero}
 use lib.Dec.{leb, ltb, eqb}
-use lib.ListN.{length, length-append, length-map}
+use lib.ListN.{length, length-map}
 use borrow.Author.Tests.{eqb-true, eqb-false, eq-eqb, ne-eqb, lt-ltb, not-true, not-false}
 use Rattle.model.specs.Lists.{all, keep, concat, more, collect, concat-map, zip, mem, distinct, ascending, least, index-of, find}
 use Rattle.model.specs.Values.{Label, Third, free, sewn, critical, Dart, Limits, code, label-of, is-critical-with}
@@ -16,13 +16,15 @@ use Rattle.model.specs.Cells.{around, cycle, faces, start-of, dart-at, next-in,
 use Rattle.model.specs.Sound.{Fit}
 use Rattle.model.specs.Image.{label-in}
 use Rattle.model.specs.Messages.{Transfer, size-all}
-use Rattle.model.specs.Departure.{Placed, placed, part2-entry, part3-from, Link, label-links, label-faces}
+use Rattle.model.specs.Departure.{part2-entry, part3-from}
+use Rattle.model.specs.Links.{Placed, placed, Link, label-links, label-faces}
 use Rattle.model.specs.Arrival.{new-darts, placed-faces, face-from, part3-links, part4-links, critical-links, indices-right, points-meet, part2-right, part2-apart, consecutive, label-new, labels-new, parts-right}
-use Rattle.model.specs.Runs.{Request, State, nx, th, cell}
+use Rattle.model.specs.Runs.{Request}
+use Rattle.model.specs.UndividedRun.{State, nx, th, cell}
 use Rattle.laws.proofs.Faces.{face-stays, face-trans, face-sym, is-start, start-unique, faces-only, along-face}
-use Rattle.laws.proofs.Members.{In, in-here, in-there, in-cons, in-eq, all-from, keep-in, in-append-left, in-append-right, append-in, distinct-append}
+use Rattle.laws.proofs.Members.{In, in-here, in-there, in-cons, in-eq, all-from, keep-in, in-append-left, in-append-right, append-in, distinct-append, each-weaken, all-each}
 use Rattle.laws.proofs.Members.{distinct-not, distinct-left, distinct-right, distinct-apart, keep-ascending, ascending-distinct, Each, all-map, map-append}
-use Rattle.laws.proofs.Members.{map-map, map-in, least-among, distinct-map}
+use Rattle.laws.proofs.Members.{map-map, least-among, distinct-map}
 use Rattle.laws.proofs.Tests.{by-cases, and-intro, and-left, and-right, not-equal}
 use Rattle.theory.proofs.BlockLaws.{same-point-self}
 use Rattle.theory.proofs.ImageLaws.{label-back}
@@ -33,11 +35,12 @@ use Rattle.agreement.proofs.Described.{pt, third-by, dart-by, members, 
 use Rattle.agreement.proofs.Moved.{Served, wider, moved-cell, state-after, labels-after, inv-wider}
 use Rattle.agreement.proofs.MovedCell.{Cell}
 use Rattle.agreement.proofs.NewLabels.{fresh-of, fresh-maker, fresh-low, Facing, next-one-cell, facing-next, facing-starts, facing-are, start-there, facing-distinct}
-use Rattle.agreement.proofs.Passes.{all-each, order-length, new-at}
+use Rattle.agreement.proofs.Passes.{order-length, new-at}
 use Rattle.agreement.proofs.Rebuilt.{face-dart-of}
-use Rattle.agreement.proofs.Received.{each-weaken, placed-low, placed-find, placed-keep, faces-back}
+use Rattle.agreement.proofs.Received.{placed-low, placed-find, faces-back}
+use Rattle.theory.proofs.FaceIndices.{placed-keep, placed-each, size-concat}
 use Rattle.agreement.proofs.Redirected.{block-face-self, block-face-is, face-across}
-use Rattle.agreement.proofs.Sent.{placed-each, cell-faces, number-in, IsFace, all-faces, start-is, in-face-cell, face-faces, part4-by, is-inner-face, transfer-by}
+use Rattle.agreement.proofs.Sent.{cell-faces, number-in, IsFace, all-faces, start-is, in-face-cell, face-faces, part4-by, is-inner-face, transfer-by}
 
 -- INDICES
 ascending-kept : {A : Type 0} (f : A → ℕ) (p : A → Bool) (l : List A) → ascending (map f l) ≡ true → ascending (map f (keep p l)) ≡ true
@@ -99,11 +102,6 @@ part3-consecutive c [] = refl
 part3-consecutive c (i ∷ []) = refl
 part3-consecutive c (i ∷ n ∷ l) = and-intro (eq-eqb (suc c) (suc c) refl) (part3-consecutive (suc c) (n ∷ l))
 
-size-concat : (nx number : ℕ → ℕ) (fs : List (List ℕ)) → size-all (map (λ f. map (face-dart-of nx number) f) fs) ≡ length (concat fs)
-unfolding size-all concat
-size-concat nx number [] = refl
-size-concat nx number (f ∷ fs) = rw (length-append f (concat fs), size-concat nx number fs, length-map f (face-dart-of nx number))
-
 module _ (lims : ℕ → Limits) (fit : Fit lims) (k : ℕ) (u : State) (label : ℕ → Label) (I : Inv lims k u label) (r : Request) (S : Served lims k u r) where
   abbrev M₅ : Map u
   M₅ = I .map-sound
@@ -135,7 +133,7 @@ module _ (lims : ℕ → Limits) (fit : Fit lims) (k : ℕ) (u : State) (label :
   -- 21
   pub size-is : size-all (t₅ .faces) ≡ length v₅
   unfolding transfer-by
-  size-is = size-concat (nx u) (number-in lims fit k u label I r S) F₅ ∙ order-length lims fit k u label I r S
+  size-is = size-concat (face-dart-of (nx u) (number-in lims fit k u label I r S)) F₅ ∙ order-length lims fit k u label I r S
 
   -- which part a face is in, by the third link of its start
   abbrev is2 : Third → Bool

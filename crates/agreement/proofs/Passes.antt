@@ -4,7 +4,7 @@ use mathlib.Core.Logic.{_≢_}
 use mathlib.Core.Bool.{Bool, true, false, true≢false, cond, not, _&&_}
 use mathlib.Core.List.{List, [], _∷_, map}
 use mathlib.Core.Option.{none, some}
-use Prim.Native.Nat.{ℕ, _≤_}
+use Prim.Native.Nat.{ℕ}
 use native.Mathlib.Omega.{arith}
 use lib.Dec.{leb, ltb, eqb}
 use lib.ListN.{length, length-map}
@@ -14,12 +14,13 @@ use Rattle.model.specs.Values.{Label, free, Dart, Limits, finite}
 use Rattle.model.specs.Cells.{around, cycle, volume, vertex, faces, start-of, vertices, vertex-number, held, dart-at, next-in, opposite-in}
 use Rattle.model.specs.Sound.{Fit}
 use Rattle.model.specs.Messages.{Transfer}
-use Rattle.model.specs.Departure.{same-pair, pairs-once, vertex-pairs}
+use Rattle.model.specs.Links.{same-pair, pairs-once, vertex-pairs}
 use Rattle.model.specs.Arrival.{Side, sides, reverses, first-serial, new-darts, face-serials, serials-new, faces-ordered, pairs-right, one-volume, vertices-right, volume-right, addressed}
-use Rattle.model.specs.Runs.{Request, State, nx, op, cell}
+use Rattle.model.specs.Runs.{Request}
+use Rattle.model.specs.UndividedRun.{State, nx, op, cell}
 use Rattle.laws.proofs.Carry.{volume-cong, vertex-cong}
 use Rattle.laws.proofs.Faces.{order-has, order-only}
-use Rattle.laws.proofs.Members.{In, in-here, in-there, in-keep, keep-less, in-cons, in-eq, all-from, any-in, distinct-not, keep-ascending, ascending-distinct, Each, all-map, any-map, map-map, map-cong, in-map, map-in, distinct-fewer}
+use Rattle.laws.proofs.Members.{In, in-here, in-there, in-cons, in-eq, all-from, any-in, keep-ascending, ascending-distinct, all-map, any-map, map-map, map-cong, in-map, map-in, distinct-fewer, each-weaken, all-each, firsts-have, firsts-only}
 use Rattle.laws.proofs.Tests.{by-cases, and-intro, and-left, and-right, not-equal, same-list-self}
 use Rattle.laws.proofs.Volumes.{Volume, volume-is}
 use Rattle.agreement.proofs.Arrived.{some-dart, once-only, new-are, order-distinct}
@@ -27,8 +28,8 @@ use Rattle.agreement.proofs.Described.{pt, block-by, Map, Inv, darts-by
 use Rattle.agreement.proofs.Moved.{Served, moved-cell}
 use Rattle.agreement.proofs.MovedCell.{Cell, round-again, reached-from}
 use Rattle.agreement.proofs.NewLabels.{index-one, next-one-cell}
-use Rattle.agreement.proofs.Rebuilt.{side-of, reverse-there, firsts-have, firsts-only, sides-order}
-use Rattle.agreement.proofs.Received.{each-weaken, faces-back}
+use Rattle.agreement.proofs.Rebuilt.{side-of, reverse-there, sides-order}
+use Rattle.agreement.proofs.Received.{faces-back}
 use Rattle.agreement.proofs.Rings.{vertex-turn, vertex-opposite, vertex-in, vertex-point}
 use Rattle.agreement.proofs.Sent.{cell-faces, number-in, IsFace, all-faces, start-is, transfer-by}
 
@@ -60,10 +61,6 @@ pair-ends f [] p x h = absurd (true≢false (sym h))
 pair-ends f (z ∷ l) p x h = in-cons x z l h
     (λ q. rw q (eqb-false (f z .0) (f z .1) (not-true _ (and-left (not (eqb (f z .0) (f z .1))) _ (and-left (not (eqb (f z .0) (f z .1)) && not (any (same-pair (f z)) (map f l))) _ p)))))
     (λ q. pair-ends f l (and-right (not (eqb (f z .0) (f z .1)) && not (any (same-pair (f z)) (map f l))) _ p) x q)
-
-pub all-each : {A : Type 0} (p : A → Bool) (l : List A) → Each (λ a. p a ≡ true) l → all p l ≡ true
-all-each p [] e = refl
-all-each p (a ∷ l) e = and-intro (e .0) (all-each p l (e .1))
 
 module _ (lims : ℕ → Limits) (fit : Fit lims) (k : ℕ) (u : State) (label : ℕ → Label) (I : Inv lims k u label) (r : Request) (S : Served lims k u r) where
   abbrev M₄ : Map u
@@ -136,7 +133,7 @@ module _ (lims : ℕ → Limits) (fit : Fit lims) (k : ℕ) (u : State) (label :
       both-false true = refl
       both-false false = refl
 
-  pub vertices-in : (w : ℕ) → In w (vertices (nx u) (op u) order₄) → In w v₄
+  vertices-in : (w : ℕ) → In w (vertices (nx u) (op u) order₄) → In w v₄
   unfolding vertices
   vertices-in w m =
       let a = map-in (vertex (nx u) (op u)) order₄ w (firsts-only w (map (vertex (nx u) (op u)) order₄) m) in
@@ -180,7 +177,7 @@ module _ (lims : ℕ → Limits) (fit : Fit lims) (k : ℕ) (u : State) (label :
   ordered-faces = rw faces-serials (and-intro (all-each _ F₄ (each-weaken F₄ (all-faces lims fit k u label I r S) face-first)) starts-ascend)
 
   -- pairs
-  pub vertex-there₄ : (x : ℕ) → In x v₄ → In (vertex (nx u) (op u) x) (vertices (nx u) (op u) order₄)
+  vertex-there₄ : (x : ℕ) → In x v₄ → In (vertex (nx u) (op u) x) (vertices (nx u) (op u) order₄)
   unfolding vertices
   vertex-there₄ x h = firsts-have (vertex (nx u) (op u) x) (map (vertex (nx u) (op u)) order₄) (in-map (vertex (nx u) (op u)) x order₄ (v-in x h))
 

@@ -1,22 +1,22 @@
 -- Receive finds again the darts that send put into a transfer. Assumes nothing.
 use mathlib.Core.Path.{_≡_, refl, sym, _∙_, ap}
-use mathlib.Core.Bool.{Bool, true, true≢false, not}
+use mathlib.Core.Bool.{Bool, true, true≢false}
 use mathlib.Core.List.{List, [], _∷_, _++_, map}
 use Prim.Native.Nat.{ℕ, zero, suc, _<_, _≤_}
 use native.Mathlib.Nat.{not-suc-le-zero}
 use lib.Dec.{eqb}
 use lib.ListN.{length, getD}
-use borrow.Author.Tests.{eqb-true, eqb-false, eq-eqb}
+use borrow.Author.Tests.{eqb-true, eq-eqb}
 use Rattle.model.specs.Lists.{any, keep, concat, concat-map, zip, firsts, index-of}
 use Rattle.model.specs.Values.{Point, free, Dart, no-point}
 use Rattle.model.specs.Cells.{around, cycle, vertex, faces}
 use Rattle.model.specs.Messages.{FaceDart, Transfer}
 use Rattle.model.specs.Arrival.{Side, sides-of, sides, reverses, first-serial, opposite-of, new-dart, new-darts}
-use Rattle.model.specs.Runs.{nx, op}
+use Rattle.model.specs.UndividedRun.{nx, op}
 use Rattle.laws.proofs.Faces.{order-has, order-only}
-use Rattle.laws.proofs.Members.{In, in-here, in-there, in-keep, in-cons, in-eq, any-in, keep-in, map-append, map-map, map-cong, in-map}
+use Rattle.laws.proofs.Members.{In, in-here, in-there, any-in, keep-in, map-append, map-map, map-cong, in-map, firsts-have}
 use Rattle.laws.proofs.Orbits.{iter, path, around-path}
-use Rattle.laws.proofs.Tests.{by-cases, and-intro, and-left, and-right, not-equal}
+use Rattle.laws.proofs.Tests.{by-cases, and-intro, and-left, and-right}
 use Rattle.agreement.proofs.NewLabels.{index-one}
 
 -- THE SIDES OF A FACE: each dart with the one after it
@@ -70,19 +70,6 @@ index-back f d y [] h = absurd (true≢false (sym h))
 index-back f d y (x ∷ l) h = by-cases (eqb y x)
     (λ e. rw e (ap f (sym (eqb-true y x e))))
     (λ e. rw e (index-back f d y l (rw e at h)))
-
-pub firsts-have : (y : ℕ) (l : List ℕ) → In y l → In y (firsts l)
-unfolding firsts
-firsts-have y [] h = h
-firsts-have y (x ∷ l) h = by-cases (eqb y x)
-    (λ e. in-eq y x (x ∷ keep (λ z. not (eqb x z)) (firsts l)) (eqb-true y x e) (in-here x (keep (λ z. not (eqb x z)) (firsts l))))
-    (λ e. in-there y x (keep (λ z. not (eqb x z)) (firsts l)) (in-keep (λ z. not (eqb x z)) y (firsts l) (firsts-have y l (rw e at h)) (not-equal x y (λ q. eqb-false y x e (sym q)))))
-
-pub firsts-only : (y : ℕ) (l : List ℕ) → In y (firsts l) → In y l
-unfolding firsts
-firsts-only y [] h = h
-firsts-only y (x ∷ l) h = in-cons y x (keep (λ z. not (eqb x z)) (firsts l)) h (λ e. in-eq y x (x ∷ l) e (in-here x l))
-    (λ k. in-there y x l (firsts-only y l (keep-in (λ z. not (eqb x z)) (firsts l) y k .0)))
 
 -- A VOLUME v in message order, with vertices c and points
 module _ (nx op c : ℕ → ℕ) (at-point : ℕ → Point) (v : List ℕ)

@@ -1,7 +1,7 @@
 -- Receive makes of its block what the state after the move describes. Assumes nothing.
 use mathlib.Core.Path.{_≡_, refl, sym, _∙_, ap}
 use mathlib.Core.Logic.{_⊎_, inl, inr, _≢_}
-use mathlib.Core.Bool.{Bool, true, false, true≢false, not}
+use mathlib.Core.Bool.{true, false, true≢false, not}
 use mathlib.Core.List.{List, [], _∷_, map}
 use mathlib.Core.Option.{Option, none, some, Option·none-ne-some}
 use Prim.Native.Nat.{ℕ, zero, suc, _+_, _<_, _≤_}
@@ -9,32 +9,20 @@ use native.Mathlib.Omega.{arith}
 use lib.Dec.{ltb, eqb}
 use lib.ListN.{length}
 use borrow.Author.Tests.{eqb-true, eqb-false, eq-eqb, ne-eqb, ltb-true, ltb-false, lt-ltb, not-true}
-use Rattle.model.specs.Lists.{all, keep, more, concat-map, zip, mem, distinct, ascending, find, insert}
+use Rattle.model.specs.Lists.{all, more, concat-map, zip, mem, distinct, ascending, find, insert}
 use Rattle.model.specs.Values.{Third, sewn, Dart}
 use Rattle.model.specs.Cells.{around, serials}
 use Rattle.model.specs.Messages.{Transfer}
-use Rattle.model.specs.Departure.{Placed, placed, part3-from, Link, label-faces}
-use Rattle.model.specs.Arrival.{face-serials, placed-faces, face-from, sew-both, part3-links, insert-all}
-use Rattle.model.specs.Runs.{nx, th}
-use Rattle.laws.proofs.Members.{In, in-here, in-there, in-cons, in-eq, all-from, absent, Each}
+use Rattle.model.specs.Departure.{part3-from}
+use Rattle.model.specs.Links.{Placed, placed, Link, label-faces, sew-both}
+use Rattle.model.specs.Arrival.{face-serials, placed-faces, face-from, part3-links, insert-all}
+use Rattle.model.specs.UndividedRun.{nx, th}
+use Rattle.laws.proofs.Members.{In, in-here, in-there, in-cons, in-eq, all-from, absent, Each, each-both, each-weaken}
 use Rattle.laws.proofs.Tests.{by-cases, and-intro, and-left, and-right, find-insert}
 use Rattle.agreement.proofs.Described.{absent-not-found}
 use Rattle.agreement.proofs.Links.{Gives}
 use Rattle.agreement.proofs.Rebuilt.{face-dart-of}
 use Rattle.agreement.proofs.Rings.{turn}
-
--- EACH, over lists
-each-both : {A : Type 0} {P Q R : A → Type 0} (l : List A) → Each P l → Each Q l → ((x : A) → P x → Q x → R x) → Each R l
-each-both [] p q f = tt
-each-both (x ∷ l) p q f = (f x (p .0) (q .0), each-both l (p .1) (q .1) f)
-
-pub each-weaken : {A : Type 0} {P Q : A → Type 0} (l : List A) → Each P l → ((x : A) → P x → Q x) → Each Q l
-each-weaken [] p f = tt
-each-weaken (x ∷ l) p f = (f x (p .0), each-weaken l (p .1) f)
-
-pub each-keep : {A : Type 0} (P : A → Type 0) (q : A → Bool) (l : List A) → Each P l → Each P (keep q l)
-each-keep P q [] p = tt
-each-keep P q (x ∷ l) p = by-cases (q x) (λ e. rw e (p .0, each-keep P q l (p .1))) (λ e. rw e (each-keep P q l (p .1)))
 
 -- FACES BY THE INDEX OF THEIR START
 pub placed-low : (a : ℕ) (fs : List (List ℕ)) → Each (λ q. a ≤ q .at) (placed a fs)
@@ -50,11 +38,6 @@ placed-find a (f ∷ fs) n = (
   each-both (placed (a + length f) fs) (placed-low (a + length f) fs) (placed-find (a + length f) fs (n .1))
       (λ q low found. let some-dart : 0 < length f = n .0 in rw (ne-eqb (q .at) a (λ e. omega arith)) found),
 )
-
-pub placed-keep : (q : List ℕ → Bool) (a : ℕ) (fs : List (List ℕ)) → map (λ p. p .face) (keep (λ p. q (p .face)) (placed a fs)) ≡ keep q fs
-unfolding placed
-placed-keep q a [] = refl
-placed-keep q a (f ∷ fs) = by-cases (q f) (λ e. rw (e, placed-keep q (a + length f) fs)) (λ e. rw (e, placed-keep q (a + length f) fs))
 
 serials-back : (nx number : ℕ → ℕ) (f : List ℕ) → face-serials (map (face-dart-of nx number) f) ≡ f
 serials-back nx number [] = refl

@@ -14,9 +14,11 @@ use Rattle.model.specs.Values.{Label, Third, critical, Dart, Limits, code, is-c
 use Rattle.model.specs.Cells.{around, cycle, start-of, next-in, third-at, labels, labels-along, least-label, labelled}
 use Rattle.model.specs.Sound.{Fit}
 use Rattle.model.specs.Messages.{Update}
-use Rattle.model.specs.Departure.{least-labels, Link, relink}
+use Rattle.model.specs.Departure.{least-labels}
+use Rattle.model.specs.Links.{Link, relink}
 use Rattle.model.specs.Arrival.{face-with, update-links, redirected}
-use Rattle.model.specs.Runs.{Request, State, nx, op, th, cell}
+use Rattle.model.specs.Runs.{Request}
+use Rattle.model.specs.UndividedRun.{State, nx, op, th, cell}
 use Rattle.laws.proofs.Carry.{around-cong}
 use Rattle.laws.proofs.Faces.{face, face-stays, face-self, face-trans, face-sym, is-start, start-unique, along-face, face-distinct}
 use Rattle.laws.proofs.Members.{In, in-here, in-there, in-cons, in-eq, least-in, least-below, each-append, keep-map, map-map, map-cong, in-map, map-in, one-kept, least-among}

@@ -11,8 +11,10 @@ use Rattle.model.specs.Lists.{keep, concat, mem, find}
 use Rattle.model.specs.Values.{Label, Third, free, sewn, critical, Dart, Limits, partner}
 use Rattle.model.specs.Cells.{third-at}
 use Rattle.model.specs.Sound.{Fit}
-use Rattle.model.specs.Departure.{Link, relink, label-faces, released}
-use Rattle.model.specs.Runs.{Request, State, nx, op, th, cell, inner-faces}
+use Rattle.model.specs.Departure.{released}
+use Rattle.model.specs.Links.{Link, relink, label-faces}
+use Rattle.model.specs.Runs.{Request}
+use Rattle.model.specs.UndividedRun.{State, nx, op, th, cell, inner-faces}
 use Rattle.laws.proofs.Members.{In, in-eq, keep-in, keep-map, map-map, map-cong}
 use Rattle.laws.proofs.Tests.{by-cases}
 use Rattle.agreement.proofs.AfterMove.{label-after}

@@ -4,7 +4,7 @@ use mathlib.Core.List.{List}
 use Prim.Native.Nat.{ℕ}
 use Rattle.model.specs.Lists.{least}
 use Rattle.model.specs.Cells.{cycle, ring, vertex}
-use Rattle.model.specs.Runs.{State, nx, op}
+use Rattle.model.specs.UndividedRun.{State, nx, op}
 use Rattle.laws.proofs.Faces.{face, face-stays, face-self, face-trans, face-sym, along-face}
 use Rattle.laws.proofs.Members.{In, in-eq, least-among}
 use Rattle.laws.proofs.Orbits.{in-cycle}

@@ -4,25 +4,27 @@ use mathlib.Core.Logic.{_≢_}
 use mathlib.Core.Bool.{Bool, true, cond}
 use mathlib.Core.List.{List, [], _∷_, map}
 use mathlib.Core.Option.{Option, none, some}
-use Prim.Native.Nat.{ℕ, _+_}
+use Prim.Native.Nat.{ℕ}
 use lib.Dec.{leb, eqb}
-use lib.ListN.{length}
 use Rattle.model.specs.Lists.{all, keep, concat, collect, firsts}
 use Rattle.model.specs.Values.{Label, Third, free, sewn, critical, Dart, Limits}
 use Rattle.model.specs.Cells.{around, cycle, vertex, faces, start-of, vertices, vertex-number, dart-at, next-in, opposite-in, third-at, labels, labels-along}
 use Rattle.model.specs.Sound.{Fit}
 use Rattle.model.specs.Messages.{Part4, Transfer}
-use Rattle.model.specs.Departure.{is-sewn-out-of, Placed, placed, part2-entry, part3-from, part4-entry, transfer-of}
-use Rattle.model.specs.Runs.{Request, State, nx, op, th, cell}
+use Rattle.model.specs.Departure.{is-sewn-out-of, part2-entry, part3-from, part4-entry, transfer-of}
+use Rattle.model.specs.Links.{Placed, placed}
+use Rattle.model.specs.Runs.{Request}
+use Rattle.model.specs.UndividedRun.{State, nx, op, th, cell}
 use Rattle.laws.proofs.Faces.{face-stays, is-start, along-face, order-only}
-use Rattle.laws.proofs.Members.{In, in-here, in-there, in-eq, keep-in, Each, map-cong, map-in}
+use Rattle.laws.proofs.Members.{In, in-here, in-there, in-eq, keep-in, Each, map-cong, map-in, firsts-only}
 use Rattle.agreement.proofs.Described.{pt, third-by, block-by, Map, Inv, Mine, darts-by, third-is, point-at, kind-free, kind-sewn, kind-critical, by-kind}
 use Rattle.agreement.proofs.Moved.{Served, moved-cell}
 use Rattle.agreement.proofs.MovedCell.{Cell, volume-same, faces-same, vertex-same, out-same}
 use Rattle.agreement.proofs.NewLabels.{Facing, next-one-cell, facing-next, inner}
-use Rattle.agreement.proofs.Rebuilt.{face-dart-of, firsts-only}
+use Rattle.agreement.proofs.Rebuilt.{face-dart-of}
 use Rattle.agreement.proofs.Redirected.{labels-map}
 use Rattle.agreement.proofs.Rings.{vertex-in}
+use Rattle.theory.proofs.FaceIndices.{placed-each}
 
 -- FACES WITH THE INDEX OF THEIR START
 pub collect-cong : {A B : Type 0} (P : A → Type 0) (f g : A → Option B) (l : List A) → Each P l → ((a : A) → P a → f a ≡ g a) → collect f l ≡ collect g l
@@ -32,11 +34,6 @@ collect-cong P f g (a ∷ l) e h = rw (h a (e .0), collect-cong P f g l (e .1) h
 pub keep-cong : {A : Type 0} (P : A → Type 0) (p q : A → Bool) (l : List A) → Each P l → ((a : A) → P a → p a ≡ q a) → keep p l ≡ keep q l
 keep-cong P p q [] e h = refl
 keep-cong P p q (a ∷ l) e h = rw (h a (e .0), keep-cong P p q l (e .1) h)
-
-pub placed-each : (P : List ℕ → Type 0) (n : ℕ) (fs : List (List ℕ)) → Each P fs → Each (λ q. P (q .face)) (placed n fs)
-unfolding placed
-placed-each P n [] e = tt
-placed-each P n (f ∷ fs) e = (e .0, placed-each P (n + length f) fs (e .1))
 
 module _ (lims : ℕ → Limits) (fit : Fit lims) (k : ℕ) (u : State) (label : ℕ → Label) (I : Inv lims k u label) (r : Request) (S : Served lims k u r) where
   abbrev M₂ : Map u

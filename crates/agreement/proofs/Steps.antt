@@ -10,12 +10,11 @@ use lib.Seq.{getD-set-same, getD-set-other}
 use borrow.Author.Tests.{eqb-true, eqb-false, ne-eqb, not-true}
 use Rattle.model.specs.Lists.{mem, distinct}
 use Rattle.model.specs.Values.{Limits}
-use Rattle.model.specs.Runs.{Step, Done, called, memory-at, done, run-steps}
-use Rattle.laws.proofs.Members.{in-here, in-eq, Each}
+use Rattle.model.specs.DividedRun.{Step, Done, called, memory-at, done, run-steps}
+use Rattle.laws.proofs.Members.{in-here, in-eq, Each, each-weaken}
 use Rattle.laws.proofs.Tests.{by-cases, and-intro, and-left, and-right}
 use Rattle.agreement.proofs.AfterMove.{after}
 use Rattle.agreement.proofs.Arrived.{es}
-use Rattle.agreement.proofs.Received.{each-weaken}
 
 -- STEPS ON DIFFERENT BLOCKS
 -- a step that finds its block as it was before the round serves, and leaves what the block is after it

@@ -3,29 +3,31 @@ use mathlib.Core.Path.{_≡_, refl, sym, _∙_, ap, subst}
 use mathlib.Core.Logic.{_⊎_, inl, inr, _≢_}
 use mathlib.Core.Bool.{true, true≢false}
 use mathlib.Core.List.{List, map}
-use Prim.Native.Nat.{ℕ, _^_, _<_, _≤_}
+use Prim.Native.Nat.{ℕ, _<_, _≤_}
 use native.Mathlib.Omega.{arith}
 use lib.ListN.{length, length-map}
-use borrow.Author.Tests.{eq-eqb, le-leb}
-use Rattle.model.specs.Lists.{all, distinct, least, first-no}
+use borrow.Author.Tests.{eq-eqb}
+use Rattle.model.specs.Lists.{distinct, least, first-no}
 use Rattle.model.specs.Values.{Label, critical, Dart, Limits, code}
-use Rattle.model.specs.Cells.{cycle, third-at, least-label}
+use Rattle.model.specs.Cells.{cycle, serials, third-at, least-label}
 use Rattle.model.specs.Sound.{Fit}
-use Rattle.model.specs.Layouts.{_⊗_, _⊕_, as-type, such-that, exactly, framed}
+use Rattle.model.specs.Layouts.{framed}
 use Rattle.model.specs.Messages.{Update, update, an-update, message-in}
 use Rattle.model.specs.Arrival.{addressed, names-face, update-right, redirect-checks}
-use Rattle.model.specs.Runs.{Request, addressee, State, nx, th, cell}
-use Rattle.laws.proofs.Members.{In, in-eq, all-from, all-map, map-map, in-map, map-in, distinct-fewer, distinct-map}
+use Rattle.model.specs.Runs.{Request}
+use Rattle.model.specs.UndividedRun.{State, nx, th, cell}
+use Rattle.model.specs.DividedRun.{addressee}
+use Rattle.laws.proofs.Faces.{face-stays}
+use Rattle.laws.proofs.Members.{In, in-eq, Each, each-map, all-from, all-map, map-map, in-map, map-in, distinct-fewer, distinct-map}
 use Rattle.laws.proofs.Tests.{and-intro, not-equal, yes-then, no-more}
-use Rattle.theory.proofs.DemandTwo.{small-ok}
-use Rattle.agreement.proofs.BlockSound.{label-range, code-one}
-use Rattle.agreement.proofs.Described.{dart-by, block-by, Crossing, Map, Inv, Mine, darts-by, third-is, kind-critical, third-back-linked, crossing-third}
+use Rattle.theory.proofs.SentMessages.{update-ok}
+use Rattle.agreement.proofs.BlockSound.{code-one, block-sound}
+use Rattle.agreement.proofs.Described.{dart-by, block-by, Crossing, Map, Inv, Mine, darts-by, held-mine, third-is, kind-critical, third-back-linked, crossing-third}
 use Rattle.agreement.proofs.Moved.{Served, moved-cell}
 use Rattle.agreement.proofs.MovedCell.{Cell}
-use Rattle.agreement.proofs.NewLabels.{Facing, start-there}
+use Rattle.agreement.proofs.NewLabels.{Facing, next-one-cell, facing-starts, start-there}
 use Rattle.agreement.proofs.Redirected.{labels-map, least-same, block-face-mine, block-face-sym, block-face-trans, face-across, shared, facing-crossing, chosen, told, picked-facing, across-mine, across-labelled, face-told, across-along}
-use Rattle.theory.proofs.LayoutLengths.{update-short}
-use Rattle.agreement.proofs.Written.{counted-ok, group-ok, label-layout, label-ok, update-back, update-addressee}
+use Rattle.theory.proofs.Written.{update-back, update-addressee}
 
 -- ONE UPDATE
 module _ (lims : ℕ → Limits) (fit : Fit lims) (k : ℕ) (u : State) (label : ℕ → Label) (I : Inv lims k u label) (r : Request) (S : Served lims k u r)
@@ -150,22 +152,32 @@ module _ (lims : ℕ → Limits) (fit : Fit lims) (k : ℕ) (u : State) (label :
   right-update = and-intro (and-intro (and-intro (not-equal (r .to) (r .from) (λ q. S .apart-blocks (sym q))) (not-equal (r .to) b (λ q. not-to (sym q))))
       (all-map (names-face es₇ (r .from)) label picked₇ ∙ all-from (λ z. names-face es₇ (r .from) (label z)) picked₇ names-right)) codes-apart
 
+  -- the faces shared with b, in message order
+  abbrev starts₇ : List ℕ
+  starts₇ = facing-starts u M₇ (r .from) (r .serial) v₇ C₇ (shared lims fit k u label I r S b below not-from not-to)
+
+  abbrev faces₇ : List (List ℕ)
+  faces₇ = map (cycle (nx u)) starts₇
+
+  abbrev Held : List ℕ → Type 0
+  Held f = (x : ℕ) → In x f → In x (serials (darts-by u label (r .from)))
+
+  held-faces : Each Held faces₇
+  unfolding cycle
+  held-faces = each-map Held (cycle (nx u)) starts₇ (λ st m x h.
+      let q = start-there u M₇ (r .from) (r .serial) v₇ C₇ (shared lims fit k u label I r S b below not-from not-to) st m in
+      held-mine u label (r .from) x (C₇ .mine x (face-stays (nx u) v₇ (C₇ .next-closed) (next-one-cell u M₇ (r .from) (r .serial) v₇ C₇) (C₇ .few) st x (q .0) h)))
+
   told-ok : update .ok told₇ ≡ true
-  unfolding update as-type _⊕_ _⊗_ told exactly such-that
+  unfolding told block-by
   told-ok =
       let few = I .few-blocks in
-      let fb = S .from-below in
       let tb = S .to-below in
-      and-intro (and-intro (group-ok 2 (omega arith)) refl)
-      (and-intro (small-ok (r .from) 15 (omega arith) (le-leb (r .from) 15 (omega arith)))
-      (and-intro (small-ok b 15 (omega arith) (le-leb b 15 (omega arith)))
-      (and-intro (small-ok (r .to) 15 (omega arith) (le-leb (r .to) 15 (omega arith))) (counted-ok label-layout (map label picked₇) (let a = length-map picked₇ label in let c = few-picked in omega arith) labels-fine))))
-    where
-      labels-fine : all (label-layout .ok) (map label picked₇) ≡ true
-      labels-fine = all-map (label-layout .ok) label picked₇ ∙ all-from (λ z. label-layout .ok (label z)) picked₇ (λ z m.
-          let q = facing₇ z m in
-          let g = label-range lims k u label I z (crossing₇ z (q .0) (q .1)) in
-          label-ok (label z) (g .maker-range) (g .number-range) (g .position-range))
+      let sound = block-sound lims k u label I (r .from) (S .from-below) in
+      let labels = chosen lims fit k u label I r S b below not-from not-to .labels-are in
+      subst (λ (l : List Label). update .ok (record { from = r .from; to = b; block = r .to; labels = l }) ≡ true) labels
+      (update-ok (lims (r .from)) (block-by u label (r .from)) (fit .block-fits (r .from)) sound (r .to) b faces₇ (omega arith) (omega arith) held-faces
+      (let n = ap length labels in let c = few-picked in omega (arith, length-map picked₇ label)))
 
   few-labels : length (told₇ .labels) ≤ 4096
   unfolding told
@@ -173,9 +185,6 @@ module _ (lims : ℕ → Limits) (fit : Fit lims) (k : ℕ) (u : State) (label :
 
   pub told-read : message-in (framed update told₇) ≡ an-update told₇
   told-read = update-back told₇ told-ok few-labels
-
-  pub told-short : length (update .put told₇) < 2 ^ 32
-  told-short = let a = update-short told₇ in let c = few-labels in omega arith
 
   pub told-addressee : addressee (framed update told₇) ≡ b
   unfolding told

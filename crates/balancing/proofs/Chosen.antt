@@ -9,7 +9,7 @@ use lib.IntN.{ℤ, pos}
 use Rattle.model.specs.Lists.{any, keep, tab, concat, concat-map}
 use Rattle.model.specs.Values.{Block, Limits}
 use Rattle.model.specs.Sound.{Sound, Fit, block-at}
-use Rattle.model.specs.Image.{image, block-in}
+use Rattle.model.specs.Image.{words, image, block-in}
 use Rattle.model.specs.Balance.{Oracle, picked, counts, surpluses, is-above, is-below, Move, NextMove, level, blocked, move, blocks-with, candidates, can-move, first-or, next-of}
 use Rattle.model.specs.Calls.{served, memories, next-move}
 use Rattle.laws.proofs.Members.{In, in-here, in-there, keep-in, Each, each-append}
@@ -20,11 +20,11 @@ use Rattle.theory.proofs.MeshLaws.{memories-are, mesh-parts, images-pass}
 
 -- THE MESH IS READ BACK from its images
 module _ (lims : ℕ → Limits) (fit : Fit lims) where
-  pub mesh-read : (m : List Block) → Sound lims m → map block-in (memories (concat (map image m))) ≡ m
-  mesh-read m sound = let r = images-pass lims fit m (mesh-parts lims m sound .blocks-sound) in ap (map block-in) (memories-are (map image m) (r .2)) ∙ r .1
+  pub mesh-read : (m : List Block) → Sound lims m → map block-in (memories (concat (map (image words) m))) ≡ m
+  mesh-read m sound = let r = images-pass lims fit m (mesh-parts lims m sound .blocks-sound) in ap (map block-in) (memories-are (map (image words) m) (r .2)) ∙ r .1
 
   pub answered : (m : List Block) (o : Oracle) (scratch : List ℕ) (t : Move) → Sound lims m
-      → next-move lims (concat (map image m)) o scratch .answer ≡ served (move t) → next-of lims o m ≡ move t
+      → next-move lims (concat (map (image words) m)) o scratch .answer ≡ served (move t) → next-of lims o m ≡ move t
   unfolding next-move
   answered m o scratch t sound e = ap (next-of lims o) (sym (mesh-read m sound)) ∙ served-value _ scratch _ scratch (move t) e .1
 

@@ -15,10 +15,12 @@ use Rattle.model.specs.Lists.{any, tab, sum, first-no}
 use Rattle.model.specs.Values.{Label, Block, Limits, all-rack}
 use Rattle.model.specs.Cells.{volume-in}
 use Rattle.model.specs.Sound.{Fit, block-at, volume-limit}
-use Rattle.model.specs.Image.{image}
+use Rattle.model.specs.Image.{words-of, image, memory-of}
 use Rattle.model.specs.Departure.{departure-checks}
 use Rattle.model.specs.Balance.{Oracle, picked, counts, mean, surpluses, is-above, is-below, positive-part, positive-surplus, Move, move, can-move, next-of}
-use Rattle.model.specs.Runs.{Request, finished, Step, last-steps, sent-messages, round, State, start, cell, inner-faces, Undivided, undivided}
+use Rattle.model.specs.Runs.{Request, finished}
+use Rattle.model.specs.UndividedRun.{State, start, cell, inner-faces, Undivided, undivided}
+use Rattle.model.specs.DividedRun.{Step, last-steps, sent-messages, round}
 use Rattle.model.specs.Demands.{Enough, MoveLowers}
 use Rattle.laws.proofs.Members.{In, keep-in}
 use Rattle.laws.proofs.Tests.{and-left, and-right, yes-then, yes-first, no-more, first-no-append}
@@ -139,7 +141,7 @@ module _ (lims : ℕ → Limits) (fit : Fit lims) (k : ℕ) (u : State) (label :
         (K .above) (K .below)
 
     -- of any blocks with the images of the mesh that is described afterwards
-    lowered-after : (label' : ℕ → Label) → Inv lims k u' label' → (after : List Block) → map image after ≡ map image (mesh-by k u' label') → suc (positive-surplus o after) ≡ positive-surplus o mesh
+    lowered-after : (label' : ℕ → Label) → Inv lims k u' label' → (after : List Block) → map (memory-of lims) after ≡ map (memory-of lims) (mesh-by k u' label') → suc (positive-surplus o after) ≡ positive-surplus o mesh
     unfolding positive-surplus
     lowered-after label' I' after e =
         let now : counts o after ≡ tab (count-by o u') k =
@@ -151,10 +153,10 @@ module _ (lims : ℕ → Limits) (fit : Fit lims) (k : ℕ) (u : State) (label :
         ∙ ap (λ (cs : List ℕ). sum (map positive-part (surpluses cs))) (sym (counts-are lims fit k u label I o))
 
   Lowers : List Block → List ℕ → List Step → Type 0
-  Lowers l outbox order = next-of lims o l ≡ move t → Enough lims (map image l) (request-of t) outbox
-      → List·Permᴰ order (last-steps (request-of t) (sent-messages lims (map image l) (request-of t) outbox))
-      → (round lims (map image l) (request-of t) outbox order .outcome ≡ finished)
-      × ((after : List Block) → round lims (map image l) (request-of t) outbox order .memories ≡ map image after → suc (positive-surplus o after) ≡ positive-surplus o l)
+  Lowers l outbox order = next-of lims o l ≡ move t → Enough lims (map (memory-of lims) l) (request-of t) outbox
+      → List·Permᴰ order (last-steps (request-of t) (sent-messages lims (map (memory-of lims) l) (request-of t) outbox))
+      → (round lims (map (memory-of lims) l) (request-of t) outbox order .outcome ≡ finished)
+      × ((after : List Block) → round lims (map (memory-of lims) l) (request-of t) outbox order .memories ≡ map (memory-of lims) after → suc (positive-surplus o after) ≡ positive-surplus o l)
 
   lowers-described : (outbox : List ℕ) (order : List Step) → Lowers mesh outbox order
   unfolding Lowers
@@ -163,7 +165,7 @@ module _ (lims : ℕ → Limits) (fit : Fit lims) (k : ℕ) (u : State) (label :
       let kept = keeps lims fit k u label I (request-of t) (K .donor-below) (K .recipient-below) outbox order enough any in
       let I' : Inv lims k u' (kept .labels-now) = subst (λ (w : Undivided). Inv lims k (w .state) (kept .labels-now)) (serves K) (kept .inv-now) in (
         kept .same-outcome ∙ ap (λ (w : Undivided). w .outcome) (serves K),
-        λ after f. lowered-after K (kept .labels-now) I' after (sym f ∙ kept .memories-now ∙ ap (λ (w : Undivided). map image (mesh-by k (w .state) (kept .labels-now))) (serves K)),
+        λ after f. lowered-after K (kept .labels-now) I' after (sym f ∙ kept .memories-now ∙ ap (λ (w : Undivided). map (memory-of lims) (mesh-by k (w .state) (kept .labels-now))) (serves K)),
       )
 
 -- EVERY MOVE

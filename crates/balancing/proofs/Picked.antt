@@ -14,7 +14,7 @@ use Rattle.model.specs.Values.{Label, Dart, Limits}
 use Rattle.model.specs.Cells.{dart-at, volume-in, volume-starts}
 use Rattle.model.specs.Sound.{Fit}
 use Rattle.model.specs.Balance.{Oracle, picks, picked, counts}
-use Rattle.model.specs.Runs.{State, nx, op, cell}
+use Rattle.model.specs.UndividedRun.{State, nx, op, cell}
 use Rattle.laws.proofs.Members.{In, in-here, in-there, all-in, keep-in, map-cong, one-kept, ascending-distinct, keep-twice, keep-cong}
 use Rattle.laws.proofs.Tables.{map-tab, tab-cong}
 use Rattle.laws.proofs.Tests.{by-cases, and-intro, and-left, and-right}

@@ -14,7 +14,7 @@ use Rattle.model.specs.Lists.{all, keep, mem, index-of, find}
 use Rattle.model.specs.Values.{Point, free, Dart, Block, Limits, no-dart, no-point, or-no-dart}
 use Rattle.model.specs.Cells.{volume, serials, dart-at, next-in, opposite-in, volume-in, volume-starts}
 use Rattle.model.specs.Sound.{dart-in-range, link-right, links-right, third-right, thirds-right, sound-block}
-use Rattle.model.specs.Image.{dart-words, image, column}
+use Rattle.model.specs.Image.{dart-words, words-of, count-in, image, memory-of, column}
 use Rattle.model.specs.Balance.{Oracle, picks, picked, counts}
 use Rattle.laws.proofs.Tests.{by-cases, and-left, and-right, all-at, find-map}
 use Rattle.theory.proofs.ImageLaws.{place-back, getD-serial, column-is, Readable, readable-dart, parts-of, ranges-of}
@@ -59,9 +59,9 @@ index-back x (y ∷ ss) h = by-cases (eqb x y)
     (λ e. rw e (sym (eqb-true x y e)))
     (λ e. rw e (index-back x ss (let k : suc (index-of x ss) < suc (length ss) = rw e at h in omega arith)))
 
-count-word : (b : Block) → getD (image b) 2 0 ≡ length (b .darts)
+count-word : (size : ℕ) (b : Block) → count-in (image size b) ≡ length (b .darts)
 unfolding image
-count-word b = refl
+count-word size b = refl
 
 getD-bare : (ds : List Dart) (p : ℕ) → getD (map bare ds) p no-dart ≡ bare (getD ds p no-dart)
 unfolding no-dart
@@ -70,9 +70,9 @@ getD-bare (d ∷ ds) zero = refl
 getD-bare (d ∷ ds) (suc p) = getD-bare ds p
 
 -- two blocks with one image, of which one is sound
-module _ (lim : Limits) (b c : Block) (sound : sound-block lim c ≡ true) (same : image b ≡ image c) where
+module _ (lim : Limits) (size other : ℕ) (b c : Block) (sound : sound-block lim c ≡ true) (same : image size b ≡ image other c) where
   length-same : length (b .darts) ≡ length (c .darts)
-  length-same = sym (count-word b) ∙ ap (λ (l : List ℕ). getD l 2 0) same ∙ count-word c
+  length-same = sym (count-word size b) ∙ ap count-in same ∙ count-word other c
 
   abbrev db : ℕ → Dart
   db p = getD (b .darts) p no-dart
@@ -87,7 +87,7 @@ module _ (lim : Limits) (b c : Block) (sound : sound-block lim c ≡ true) (same
   sc = serials (c .darts)
 
   words-same : (p f : ℕ) → p < length (c .darts) → f < 8 → getD (dart-words sb (db p)) f 0 ≡ getD (dart-words sc (dc p)) f 0
-  words-same p f h k = sym (column-is b p f (rw length-same h) k) ∙ ap (λ (l : List ℕ). column l f p) same ∙ column-is c p f h k
+  words-same p f h k = sym (column-is size b p f (rw length-same h) k) ∙ ap (λ (l : List ℕ). column l f p) same ∙ column-is other c p f h k
 
   serial-same : (p : ℕ) → p < length (c .darts) → db p .serial ≡ dc p .serial
   unfolding dart-words
@@ -138,15 +138,15 @@ module _ (lim : Limits) (b c : Block) (sound : sound-block lim c ≡ true) (same
   picked-same o = sym (picked-bare o (b .darts)) ∙ ap (picked o) bare-same ∙ picked-bare o (c .darts)
 
 -- MESHES WITH THE SAME IMAGES, of which one has sound blocks
-pub counts-same : (lims : ℕ → Limits) (o : Oracle) (m l : List Block) → all (λ b. sound-block (lims (b .number)) b) l ≡ true → map image m ≡ map image l → counts o m ≡ counts o l
+pub counts-same : (lims : ℕ → Limits) (o : Oracle) (m l : List Block) → all (λ b. sound-block (lims (b .number)) b) l ≡ true → map (memory-of lims) m ≡ map (memory-of lims) l → counts o m ≡ counts o l
 unfolding counts
 counts-same lims o [] [] s e = refl
 counts-same lims o [] (c ∷ l) s e = let z : _≡_ {A = ℕ} 0 1 = cc in absurd (omega arith)
 counts-same lims o (b ∷ m) [] s e = let z : _≡_ {A = ℕ} 0 1 = cc in absurd (omega arith)
 counts-same lims o (b ∷ m) (c ∷ l) s e =
-    let first : image b ≡ image c = cc in
-    let rest : map image m ≡ map image l = cc in
-    let one = picked-same (lims (c .number)) b c (and-left (sound-block (lims (c .number)) c) _ s) first o in
+    let first : memory-of lims b ≡ memory-of lims c = cc in
+    let rest : map (memory-of lims) m ≡ map (memory-of lims) l = cc in
+    let one = picked-same (lims (c .number)) (words-of (lims (b .number))) (words-of (lims (c .number))) b c (and-left (sound-block (lims (c .number)) c) _ s) first o in
     let others = counts-same lims o m l (and-right (sound-block (lims (c .number)) c) _ s) rest in
     both _ _ _ _ (ap length one) others
   where

@@ -8,19 +8,18 @@ use native.Mathlib.Omega.{arith}
 use native.Mathlib.Nat.{add-zero, add-assoc, zero-add}
 use native.Mathlib.Numerals.{add-one}
 use lib.Dec.{leb, eqb}
-use lib.ListN.{length, getD, set, replicate, take, length-append, length-set, length-replicate}
+use lib.ListN.{length, getD, set, take, length-append, length-set}
 use lib.Seq.{take-suc-set}
 use borrow.Author.Tests.{eqb-true, eqb-false, eq-eqb, ne-eqb, leb-true}
 use Rattle.model.specs.Lists.{all, ascending, keep, concat, distinct, mem, tab}
 use Rattle.model.specs.Cells.{cycle, faces}
-use Rattle.model.specs.Image.{room}
-use Rattle.model.specs.Departure.{placed}
+use Rattle.model.specs.Values.{room}
+use Rattle.model.specs.Links.{placed}
 use Rattle.laws.proofs.Tests.{by-cases, and-left, and-right}
 use Rattle.laws.proofs.Members.{In, in-here, in-there, in-keep, keep-in, all-in, keep-ascending, ascending-distinct, distinct-not, pigeonhole, map-append, none-kept, distinct-fewer, getD-in}
 use Rattle.laws.proofs.Faces.{face-sym, face-stays, face-start, start-in, start-starts, in-faces, faces-only, faces-distinct, order-has, order-only, along-face}
 use Rattle.laws.proofs.Tables.{length-tab, tab-ascending, tab-more}
-use Rattle.laws.proofs.Lists.{getD-zeros}
-use Rattle.cells.specs.Places.{Within, Apart, Closed, InOrder, Marked, Painted, Put, bit, marked}
+use Rattle.cells.specs.Places.{Within, Apart, Clear, Closed, InOrder, Marked, Painted, Put, bit, marked}
 use Rattle.cells.proofs.Walks.{eq-or-ne}
 use Rattle.cells.proofs.Reached.{places, in-places, places-below, within-places}
 use Rattle.cells.proofs.Paths.{apart-places, few-places, mem-append, round}
@@ -96,7 +95,9 @@ pub record Ordering (n : ℕ) (f : ℕ → ℕ) (marks : List ℕ) (p : ℕ) (ou
   pub so-far : InOrder (faces f (marked p marks)) out starts darts count
   pub p-le : p ≤ n
   pub count-le : count ≤ p
-  pub seen-size : length seen ≡ room
+  pub out-long : n ≤ length out
+  pub starts-long : n ≤ length starts
+  pub seen-long : n ≤ length seen
   pub seen-is : (q : ℕ) → getD seen q 0 ≡ bit (mem q (concat (faces f (marked p marks))))
 
 module _ (n : ℕ) (f : ℕ → ℕ) (marks : List ℕ) (few : n ≤ room) (wf : Within n f) (af : Apart n f) (closed : Closed n f marks) where
@@ -154,8 +155,11 @@ module _ (n : ℕ) (f : ℕ → ℕ) (marks : List ℕ) (few : n ≤ room) (wf :
   pub marked-distinct : distinct (marked n marks) ≡ true
   marked-distinct = ascending-distinct _ (marked-ascending n marks)
 
+  marked-few : length (marked n marks) ≤ n
+  marked-few = distinct-few (marked n marks) n marked-distinct (λ x h. marked-in n marks x h .0)
+
   small : length (marked n marks) ≤ 4096
-  small = omega (arith, distinct-few (marked n marks) n marked-distinct (λ x h. marked-in n marks x h .0), few)
+  small = omega (arith, marked-few, few)
 
   -- so that message order has each of them once
   pub has : (x : ℕ) → In x (marked n marks) → In x (concat (faces f (marked n marks)))
@@ -192,23 +196,33 @@ module _ (n : ℕ) (f : ℕ → ℕ) (marks : List ℕ) (few : n ≤ room) (wf :
   unfolding faces
   no-faces low h = ap (faces f) (none-marked low h)
 
-  pub ordering-start : (low : ℕ) (out starts seen : List ℕ) → low ≤ n → ((q : ℕ) → q < low → getD marks q 0 ≡ 1 → ⊥) → length out ≡ room
-      → length starts ≡ room → seen ≡ replicate room 0 → Ordering n f marks low out starts seen 0 0
+  pub ordering-start : (low : ℕ) (out starts seen : List ℕ) → low ≤ n → ((q : ℕ) → q < low → getD marks q 0 ≡ 1 → ⊥) → n ≤ length out
+      → n ≤ length starts → n ≤ length seen → Clear seen → Ordering n f marks low out starts seen 0 0
   unfolding concat placed
-  ordering-start low out starts seen le none a b e = record {
+  ordering-start low out starts seen le none a b c clear = record {
     so-far =
         subst (λ (fs : List (List ℕ)). InOrder fs out starts 0 0) (sym (no-faces low none))
-        (record { out-size = a; starts-size = b; order = refl; darts-are = refl; indices = refl; count-is = refl });
+        (record { out-size = omega arith; starts-size = omega arith; order = refl; darts-are = refl; indices = refl; count-is = refl });
     p-le = le;
     count-le = omega arith;
-    seen-size = rw e (length-replicate {A = ℕ} room 0);
-    seen-is = λ q. ap (λ (l : List ℕ). getD l q 0) e ∙ getD-zeros room q ∙ ap (λ (fs : List (List ℕ)). bit (mem q (concat fs))) (sym (no-faces low none));
+    out-long = a;
+    starts-long = b;
+    seen-long = c;
+    seen-is = λ q. clear q ∙ ap (λ (fs : List (List ℕ)). bit (mem q (concat fs))) (sym (no-faces low none));
   }
 
   module _ {p darts count : ℕ} {out starts seen : List ℕ} (o : Ordering n f marks p out starts seen darts count) (h : p < n) where
     -- the same faces, one place on
     stay : faces f (marked (p + 1) marks) ≡ faces f (marked p marks) → Ordering n f marks (p + 1) out starts seen darts count
-    stay e = record { so-far = rw e (o .so-far); p-le = omega arith; count-le = omega (arith, o .count-le); seen-size = o .seen-size; seen-is = λ q. rw e (o .seen-is q) }
+    stay e = record {
+      so-far = rw e (o .so-far);
+      p-le = omega arith;
+      count-le = omega (arith, o .count-le);
+      out-long = o .out-long;
+      starts-long = o .starts-long;
+      seen-long = o .seen-long;
+      seen-is = λ q. rw e (o .seen-is q);
+    }
 
     seen-bit : (b : Bool) → getD seen p 0 ≡ bit b → (getD seen p 0 ≡ 0 → ⊥) → b ≡ true
     seen-bit true e ne = refl
@@ -237,15 +251,22 @@ module _ (n : ℕ) (f : ℕ → ℕ) (marks : List ℕ) (few : n ≤ room) (wf :
       longer : concat (faces f (marked (p + 1) marks)) ≡ concat (faces f (marked p marks)) ++ cycle f p
       longer = face-longer f marks p new-face
 
-      pub face-room : darts + length (cycle f p) ≤ room
-      face-room = omega (arith, faces-fit (p + 1) (omega arith), o .so-far .darts-are, ap length longer, length-append (concat (faces f (marked p marks))) (cycle f p), small)
+      pub face-room : darts + length (cycle f p) ≤ n
+      face-room = omega (
+        arith,
+        faces-fit (p + 1) (omega arith),
+        o .so-far .darts-are,
+        ap length longer,
+        length-append (concat (faces f (marked p marks))) (cycle f p),
+        marked-few,
+      )
 
       pub ordering-put : {end : ℕ} {out′ seen′ : List ℕ} → Put (cycle f p) darts out out′ end → Painted 1 (cycle f p) seen seen′
           → Ordering n f marks (p + 1) out′ (set starts count darts) seen′ end (count + 1)
       ordering-put {end} {out′} {seen′} w s = record {
         so-far = record {
-          out-size = w .size ∙ o .so-far .out-size;
-          starts-size = simp length-set (o .so-far .starts-size);
+          out-size = omega (arith, w .size, w .end, face-room, o .out-long);
+          starts-size = simp length-set (omega (arith, o .count-le, o .starts-long));
           order = w .front ∙ ap (λ (l : List ℕ). l ++ cycle f p) (o .so-far .order) ∙ sym longer;
           darts-are = omega (arith, w .end, o .so-far .darts-are, ap length longer, length-append (concat (faces f (marked p marks))) (cycle f p));
           indices =
@@ -257,12 +278,14 @@ module _ (n : ℕ) (f : ℕ → ℕ) (marks : List ℕ) (few : n ≤ room) (wf :
                 add-one,
                 zero-add,
                 ← o .so-far .darts-are,
-              ) (take-suc-set starts count darts (omega (arith, o .so-far .starts-size, o .count-le, few)));
+              ) (take-suc-set starts count darts (omega (arith, o .starts-long, o .count-le)));
           count-is = omega (arith, o .so-far .count-is, ap length new-face, length-append (faces f (marked p marks)) (cycle f p ∷ []));
         };
         p-le = omega arith;
         count-le = omega (arith, o .count-le);
-        seen-size = s .size ∙ o .seen-size;
+        out-long = omega (arith, w .size, o .out-long);
+        starts-long = simp length-set (o .starts-long);
+        seen-long = omega (arith, s .size, o .seen-long);
         seen-is = λ q. rw (longer, mem-append q (concat (faces f (marked p marks))) (cycle f p), s .value q, o .seen-is q) (either (mem q (concat (faces f (marked p marks)))) (mem q (cycle f p)));
       }
         where
@@ -290,7 +313,9 @@ module _ (n : ℕ) (f : ℕ → ℕ) (marks : List ℕ) (few : n ≤ room) (wf :
         so-far = subst (λ (fs : List (List ℕ)). InOrder fs out starts darts count) (sym same) (o .so-far);
         p-le = small;
         count-le = omega (arith, o .count-le);
-        seen-size = o .seen-size;
+        out-long = o .out-long;
+        starts-long = o .starts-long;
+        seen-long = o .seen-long;
         seen-is = λ x. o .seen-is x ∙ ap (λ (fs : List (List ℕ)). bit (mem x (concat fs))) (sym same);
       }
 
@@ -320,7 +345,7 @@ module _ (n : ℕ) (f : ℕ → ℕ) (marks : List ℕ) (few : n ≤ room) (wf :
     ordering-end full = rw (full-end (n - p) p (omega (arith, o .p-le)) (omega (arith, o .so-far .darts-are))) (o .so-far)
 
     pub ordering-seen : Marked (take darts out) seen
-    ordering-seen = record { size = o .seen-size; mark = λ q. o .seen-is q ∙ ap (λ (l : List ℕ). bit (mem q l)) (sym (o .so-far .order)) }
+    ordering-seen = record { mark = λ q. o .seen-is q ∙ ap (λ (l : List ℕ). bit (mem q l)) (sym (o .so-far .order)) }
 
     -- before that a place is left
     pub ordering-on : darts < length (marked n marks) → p < n

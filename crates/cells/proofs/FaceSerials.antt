@@ -8,8 +8,8 @@ use lib.ListN.{length, getD, length-map}
 use borrow.Author.Tests.{eqb-true, eq-eqb, leb-true, leb-false, le-leb, lt-leb}
 use Rattle.model.specs.Lists.{all, keep, concat}
 use Rattle.model.specs.Cells.{cycle, faces, faces-in, volume-in, next-in}
-use Rattle.model.specs.Image.{column}
-use Rattle.model.specs.Departure.{placed}
+use Rattle.model.specs.Image.{count-in, column}
+use Rattle.model.specs.Links.{placed}
 use Rattle.laws.proofs.Tests.{by-cases}
 use Rattle.laws.proofs.Members.{In, all-map, all-cong, keep-map, map-map, map-cong, map-append, keep-in, keep-cong}
 use Rattle.laws.proofs.Faces.{face-stays}
@@ -19,7 +19,7 @@ use Rattle.cells.specs.Places.{Linked, Closed, Marked, marked, volume-of
 use Rattle.cells.proofs.Walks.{eq-or-ne}
 use Rattle.cells.proofs.Reached.{places, in-places, places-below, within-places, volume-linked, places-in-in}
 use Rattle.cells.proofs.Paths.{apart-places, few-places}
-use Rattle.cells.proofs.Sited.{Sited, darts-in, count-in}
+use Rattle.cells.proofs.Sited.{Sited, darts-in}
 use Rattle.cells.proofs.Serials.{serials-apart, volume-serials}
 use Rattle.cells.proofs.SewnLaws.{mark-test, marked-places}
 

@@ -12,7 +12,7 @@ use lib.Seq.{getD-set-same, getD-set-other}
 use borrow.Author.Tests.{eq-eqb, ne-eqb, eqb-true, eqb-false, not-true}
 use Rattle.model.specs.Lists.{all, any, mem, distinct, tab}
 use Rattle.model.specs.Cells.{cycle}
-use Rattle.model.specs.Departure.{same-pair, pairs-once}
+use Rattle.model.specs.Links.{same-pair, pairs-once}
 use Rattle.laws.proofs.Tests.{by-cases, and-intro, and-left, and-right, not-equal}
 use Rattle.laws.proofs.Members.{In, in-here, in-there, in-eq, in-cons, map-append, distinct-append, distinct-left, distinct-apart, distinct-not}
 use Rattle.laws.proofs.Orbits.{iter, path, in-path}

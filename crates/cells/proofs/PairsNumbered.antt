@@ -12,8 +12,9 @@ use lib.Seq.{getD-take}
 use borrow.Author.Tests.{eq-eqb, ne-eqb}
 use Rattle.model.specs.Lists.{any, keep, mem, distinct, index-of, firsts, concat}
 use Rattle.model.specs.Cells.{cycle, faces, ring, vertex, vertices, vertex-number, volume-in, next-in, opposite-in}
-use Rattle.model.specs.Image.{room, column}
-use Rattle.model.specs.Departure.{same-pair, pairs-once, vertex-pairs}
+use Rattle.model.specs.Image.{count-in, column}
+use Rattle.model.specs.Values.{room}
+use Rattle.model.specs.Links.{same-pair, pairs-once, vertex-pairs}
 use Rattle.laws.proofs.Tests.{by-cases, and-intro, and-right, same-truth}
 use Rattle.laws.proofs.Members.{In, in-here, in-there, in-cons, in-map, map-in, map-map, map-cong, keep-in, distinct-not}
 use Rattle.laws.proofs.Faces.{along-face, face-distinct}
@@ -22,7 +23,7 @@ use Rattle.theory.proofs.ImageLaws.{place-back}
 use Rattle.cells.specs.Places.{Within, Apart, Closed, Marked, Numbered, Whole, Ended, ends-of, ends-once, marked, volume-of}
 use Rattle.cells.proofs.Reached.{places, in-places, within-places}
 use Rattle.cells.proofs.Paths.{apart-places, few-places}
-use Rattle.cells.proofs.Sited.{Sited, darts-in, count-in}
+use Rattle.cells.proofs.Sited.{Sited, darts-in}
 use Rattle.cells.proofs.Serials.{serials-apart}
 use Rattle.cells.proofs.FaceLaws.{marked-in, in-marked, distinct-few, stays, marked-distinct, order-distinct, has, only}
 use Rattle.cells.proofs.FaceSerials.{marked-below, volume-marked}
@@ -119,7 +120,7 @@ module _ (n : ℕ) (nx op : ℕ → ℕ) (few : n ≤ room) (wn : Within n nx) (
       ∙ index-at (vertices nx op l) a (firsts-distinct (map (vertex nx op) l)) (omega (arith, m .count-is))
     where
       inside : a < length (take count first)
-      inside = omega (arith, length-take count first, m .firsts-size, m .count-le, w .few)
+      inside = omega (arith, length-take count first, m .firsts-size)
 
       at : vertex nx op (getD first a 0) ≡ getD (vertices nx op l) a 0
       at = ap (vertex nx op) (sym (getD-take count first a 0 h)) ∙ sym (getD-map (vertex nx op) (take count first) a inside) ∙ ap (λ (v : List ℕ). getD v a 0) (m .firsts-are)
@@ -138,10 +139,10 @@ module _ (n : ℕ) (nx op : ℕ → ℕ) (few : n ≤ room) (wn : Within n nx) (
   -- what the code asks of the arrays
   pub ended : Ended n nx op numbers first count
   ended = record {
-    numbers-size = m .numbers-size;
     firsts-size = m .firsts-size;
     count-few = omega (arith, m .count-le, w .few);
     first-below = λ a h. w .below (getD first a 0) (m .firsts-in a h);
+    end-there = λ a h q k. m .numbers-size (nx q) (w .next-in q (ring-inside (getD first a 0) q (m .firsts-in a h) k));
     end-below = λ a h q k. number-below (nx q) (w .next-in q (ring-inside (getD first a 0) q (m .firsts-in a h) k));
   }
 

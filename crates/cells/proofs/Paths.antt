@@ -12,7 +12,7 @@ use lib.Seq.{getD-set-same, getD-set-other, take-suc-set}
 use borrow.Author.Tests.{eq-eqb, ne-eqb}
 use Rattle.model.specs.Lists.{mem}
 use Rattle.model.specs.Cells.{cycle}
-use Rattle.model.specs.Image.{room}
+use Rattle.model.specs.Values.{room}
 use Rattle.laws.proofs.Tests.{by-cases}
 use Rattle.laws.proofs.Members.{In}
 use Rattle.laws.proofs.Orbits.{iter, iter-out, path, around-path, path-length}

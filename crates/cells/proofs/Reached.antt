@@ -7,7 +7,8 @@ use lib.Dec.{eqb}
 use borrow.Author.Tests.{eq-eqb, eqb-true}
 use Rattle.model.specs.Lists.{tab, mem}
 use Rattle.model.specs.Cells.{volume}
-use Rattle.model.specs.Image.{room, column}
+use Rattle.model.specs.Image.{column}
+use Rattle.model.specs.Values.{room}
 use Rattle.laws.proofs.Members.{In, in-keep, keep-in}
 use Rattle.laws.proofs.Volumes.{Volume, volume-is}
 use Rattle.laws.proofs.Tables.{length-tab, tab-any, any-tab}

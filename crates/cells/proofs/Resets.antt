@@ -1,17 +1,17 @@
 -- Tables made ready again at the places of a list: painting by a list, marks taken away, the least of a list. Assumes nothing.
 use mathlib.Core.Path.{_≡_, refl, sym, _∙_, ap, subst}
-use mathlib.Core.Bool.{Bool, true, false, true≢false, cond}
+use mathlib.Core.Bool.{Bool, true≢false, cond}
 use mathlib.Core.List.{List, [], _∷_, _++_}
-use Prim.Native.Nat.{ℕ, zero, suc, _+_, _-_, _≤_, _<_, min}
+use Prim.Native.Nat.{ℕ, _+_, _-_, _≤_, _<_, min}
 use native.Mathlib.Omega.{arith}
 use native.Mathlib.Numerals.{add-one}
-use lib.ListN.{length, getD, replicate, set, take, drop}
+use lib.ListN.{length, getD, replicate, set, take, drop, length-replicate}
 use lib.Seq.{take-suc, length-take-le, getD-take}
 use Rattle.model.specs.Lists.{least, least-from, mem}
-use Rattle.model.specs.Image.{room}
 use Rattle.laws.proofs.Tests.{by-cases}
+use Rattle.laws.proofs.Lists.{getD-zeros}
 use Rattle.laws.proofs.Members.{In, in-getD, least-in, least-below, least-more}
-use Rattle.cells.specs.Places.{Listed, Marked, Painted, bit, marked}
+use Rattle.cells.specs.Places.{Clear, Listed, Marked, Painted, bit, marked}
 use Rattle.cells.proofs.Paths.{paint-more}
 use Rattle.cells.proofs.FaceLaws.{in-marked, marked-in}
 
@@ -28,17 +28,18 @@ pub marks-in : {v marks : List ℕ} → Marked v marks → (p : ℕ) → getD ma
 marks-in {v} m p e = by-cases (mem p v) (λ i. i) (λ i. absurd (omega (arith, e, m .mark p ∙ ap bit i)))
 
 -- UNMARKED: where every mark is in the list, none is left
-zeros-are : (n : ℕ) (l : List ℕ) → length l ≡ n → ((p : ℕ) → getD l p 0 ≡ 0) → l ≡ replicate n 0
-zeros-are zero [] e h = refl
-zeros-are zero (x ∷ l) e h = absurd (omega arith)
-zeros-are (suc n) [] e h = absurd (omega arith)
-zeros-are (suc n) (x ∷ l) e h = rw (h 0, zeros-are n l (omega arith) (λ p. h (suc p)))
-
-pub unmarked : {v l marks marks′ : List ℕ} → Marked v marks → ((p : ℕ) → In p v → In p l) → Painted 0 l marks marks′ → marks′ ≡ replicate room 0
-unmarked {v} {l} {marks} {marks′} m has w = zeros-are room marks′ (w .size ∙ m .size) (λ p. w .value p ∙ none p)
+pub unmarked : {v l marks marks′ : List ℕ} → Marked v marks → ((p : ℕ) → In p v → In p l) → Painted 0 l marks marks′ → Clear marks′
+unmarked {v} {l} {marks} {marks′} m has w p = w .value p ∙ none p
   where
     none : (p : ℕ) → cond (mem p l) 0 (getD marks p 0) ≡ 0
     none p = by-cases (mem p l) (λ e. rw e) (λ e. rw e (m .mark p ∙ by-cases (mem p v) (λ i. absurd (true≢false (sym (has p i) ∙ e))) (λ i. rw i)))
+
+-- ZEROS are clear, and long enough for what is no more than they are
+pub zeros-clear : (k : ℕ) {l : List ℕ} → l ≡ replicate k 0 → Clear l
+zeros-clear k e p = ap (λ (m : List ℕ). getD m p 0) e ∙ getD-zeros k p
+
+pub zeros-long : (n k : ℕ) {l : List ℕ} → l ≡ replicate k 0 → n ≤ k → n ≤ length l
+zeros-long n k e h = omega (arith, ap length e, length-replicate {A = ℕ} k 0)
 
 -- THE LEAST
 least-last : (l : List ℕ) (y : ℕ) → 0 < length l → least (l ++ y ∷ []) ≡ min (least l) y

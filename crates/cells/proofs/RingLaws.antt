@@ -12,7 +12,7 @@ use lib.Seq.{getD-set-same, getD-set-other, take-suc, take-suc-set, length-take-
 use borrow.Author.Tests.{eq-eqb, ne-eqb}
 use Rattle.model.specs.Lists.{keep, mem, firsts, index-of, least}
 use Rattle.model.specs.Cells.{cycle, ring, vertex, vertices, vertex-number}
-use Rattle.model.specs.Image.{room}
+use Rattle.model.specs.Values.{room}
 use Rattle.laws.proofs.Tests.{by-cases}
 use Rattle.laws.proofs.Members.{In, in-here, in-eq, in-getD, in-append-left, in-append-right, in-map, map-append, mem-keep, least-in, least-below, least-among}
 use Rattle.laws.proofs.Faces.{face-self, face-stays, face-sym, face-trans}
@@ -108,20 +108,20 @@ module _ (n : ℕ) (nx op : ℕ → ℕ) (few : n ≤ room) (wn : Within n nx) (
 
 -- NUMBERS: of the darts l those of `done` are passed, and every dart of l whose vertex one of them has, has its number
 pub record Numbering (n : ℕ) (nx op : ℕ → ℕ) (l done numbers first : List ℕ) (count : ℕ) : Type 0 where
-  pub numbers-size : length numbers ≡ room
-  pub first-size : length first ≡ room
+  pub numbers-size : n ≤ length numbers
+  pub first-size : count ≤ length first
   pub value : (q : ℕ) → q < n → In q l → getD numbers q 0 ≡ cond (mem (vertex nx op q) (vertices nx op done)) (index-of (vertex nx op q) (vertices nx op done)) room
   pub count-is : count ≡ length (vertices nx op done)
   pub count-le : count ≤ length done
   pub firsts-are : map (vertex nx op) (take count first) ≡ vertices nx op done
   pub firsts-in : (k : ℕ) → k < count → In (getD first k 0) done
 
-pub numbering-start : (n : ℕ) (nx op : ℕ → ℕ) (l numbers first : List ℕ) → length numbers ≡ room → ((q : ℕ) → In q l → getD numbers q 0 ≡ room)
-    → length first ≡ room → Numbering n nx op l [] numbers first 0
+pub numbering-start : (n : ℕ) (nx op : ℕ → ℕ) (l numbers first : List ℕ) → n ≤ length numbers → ((q : ℕ) → In q l → getD numbers q 0 ≡ room)
+    → Numbering n nx op l [] numbers first 0
 unfolding vertices firsts
-numbering-start n nx op l numbers first size none fits = record {
+numbering-start n nx op l numbers first size none = record {
   numbers-size = size;
-  first-size = fits;
+  first-size = omega arith;
   value = λ q h k. none q k;
   count-is = refl;
   count-le = omega arith;
@@ -163,20 +163,20 @@ module _ {n p count : ℕ} {nx op : ℕ → ℕ} {l done numbers first : List �
     grown : vertices nx op (done ++ p ∷ []) ≡ vertices nx op done ++ vertex nx op p ∷ []
     grown = vertices-more nx op done p ∙ ap (λ (b : Bool). vertices nx op done ++ cond b [] (vertex nx op p ∷ [])) unnumbered
 
-    pub numbering-new : {numbers′ : List ℕ} → ((x y : ℕ) → x < n → y < n → mem y (ring nx op x) ≡ eqb (vertex nx op y) (vertex nx op x))
+    pub numbering-new : {numbers′ : List ℕ} → count < length first → ((x y : ℕ) → x < n → y < n → mem y (ring nx op x) ≡ eqb (vertex nx op y) (vertex nx op x))
         → Painted count (ring nx op p) numbers numbers′ → Numbering n nx op l (done ++ p ∷ []) numbers′ (set first count p) (count + 1)
-    numbering-new {numbers′} test m = record {
-      numbers-size = m .size ∙ w .numbers-size;
-      first-size = simp length-set (w .first-size);
+    numbering-new {numbers′} fits test m = record {
+      numbers-size = omega (arith, m .size, w .numbers-size);
+      first-size = simp length-set (omega arith);
       value = λ q k i. m .value q ∙ ap (λ (b : Bool). cond b count (getD numbers q 0)) (test p q h k) ∙ numbered q k i;
       count-is = omega (arith, w .count-is, ap length grown, length-append (vertices nx op done) (vertex nx op p ∷ []));
       count-le = omega (arith, w .count-le, length-append done (p ∷ []));
-      firsts-are = rw (grown, add-one, take-suc-set first count p (omega (arith, w .first-size, w .count-le)), map-append, w .firsts-are);
+      firsts-are = rw (grown, add-one, take-suc-set first count p fits, map-append, w .firsts-are);
       firsts-in = λ k j. last-or-below j
           (λ e. in-append-right (getD (set first count p) k 0) done (p ∷ [])
           (in-eq _ p (p ∷ [])
           (ap (λ (j : ℕ). getD (set first count p) j 0) e
-          ∙ getD-set-same first count p 0 (omega (arith, w .first-size, w .count-le))) (in-here p [])))
+          ∙ getD-set-same first count p 0 fits) (in-here p [])))
           (λ e. in-append-left (getD (set first count p) k 0) done (p ∷ []) (in-eq _ (getD first k 0) done (getD-set-other first count k p 0 (λ z. omega arith)) (w .firsts-in k e)));
     }
       where
@@ -193,11 +193,13 @@ pub record Passing (n : ℕ) (nx op : ℕ → ℕ) (order : List ℕ) (darts i :
   pub i-le : i ≤ darts
   pub passed : Numbering n nx op (take darts order) (take i order) numbers first count
   pub few : count ≤ i
+  pub first-long : darts ≤ length first
 
-pub passing-start : (n : ℕ) (nx op : ℕ → ℕ) (order : List ℕ) (darts : ℕ) (numbers first : List ℕ) → length numbers ≡ room
-    → ((q : ℕ) → In q (take darts order) → getD numbers q 0 ≡ room) → length first ≡ room
+pub passing-start : (n : ℕ) (nx op : ℕ → ℕ) (order : List ℕ) (darts : ℕ) (numbers first : List ℕ) → n ≤ length numbers
+    → ((q : ℕ) → In q (take darts order) → getD numbers q 0 ≡ room) → darts ≤ length first
     → Passing n nx op order darts 0 numbers first 0
-passing-start n nx op order darts numbers first size none fits = record { i-le = omega arith; passed = numbering-start n nx op (take darts order) numbers first size none fits; few = omega arith }
+passing-start n nx op order darts numbers first size none fits =
+    record { i-le = omega arith; passed = numbering-start n nx op (take darts order) numbers first size none; few = omega arith; first-long = fits }
 
 module _ {n darts i count p : ℕ} {nx op : ℕ → ℕ} {order numbers first : List ℕ} (w : Passing n nx op order darts i numbers first count)
     (h : i < darts) (fits : darts ≤ room) (there : darts ≤ length order) (below : (k : ℕ) → k < darts → getD order k 0 < n) (e : p ≡ getD order i 0) where
@@ -214,17 +216,27 @@ module _ {n darts i count p : ℕ} {nx op : ℕ → ℕ} {order numbers first : 
   place-in = rw e (in-take order darts i h (omega arith))
 
   pub passing-skip : (getD numbers p 0 ≡ room → ⊥) → Passing n nx op order darts (i + 1) numbers first count
-  passing-skip ne = record { i-le = omega arith; passed = rw one-more (numbering-skip (w .passed) place-below place-in short ne); few = omega (arith, w .few) }
+  passing-skip ne = record {
+    i-le = omega arith;
+    passed = rw one-more (numbering-skip (w .passed) place-below place-in short ne);
+    few = omega (arith, w .few);
+    first-long = w .first-long;
+  }
 
   pub passing-new : {numbers′ : List ℕ} → getD numbers p 0 ≡ room → ((x y : ℕ) → x < n → y < n → mem y (ring nx op x) ≡ eqb (vertex nx op y) (vertex nx op x))
       → Painted count (ring nx op p) numbers numbers′ → Passing n nx op order darts (i + 1) numbers′ (set first count p) (count + 1)
-  passing-new none test m = record { i-le = omega arith; passed = rw one-more (numbering-new (w .passed) place-below place-in short none test m); few = omega (arith, w .few) }
+  passing-new none test m = record {
+    i-le = omega arith;
+    passed = rw one-more (numbering-new (w .passed) place-below place-in short none (omega (arith, w .few, w .first-long)) test m);
+    few = omega (arith, w .few);
+    first-long = simp length-set (w .first-long);
+  }
 
 pub numbering-end : {n count : ℕ} {nx op : ℕ → ℕ} {l numbers first : List ℕ} → Numbering n nx op l l numbers first count → ((p : ℕ) → In p l → p < n) → Numbered nx op l numbers first count
 unfolding vertex-number vertices
 numbering-end {n} {count} {nx} {op} {l} w h =
     record {
-      numbers-size = w .numbers-size;
+      numbers-size = λ p k. omega (arith, h p k, w .numbers-size);
       firsts-size = w .first-size;
       count-le = w .count-le;
       firsts-in = w .firsts-in;

@@ -6,14 +6,14 @@ use Prim.Native.Nat.{ℕ, _<_}
 use lib.ListN.{length, length-map}
 use Rattle.model.specs.Lists.{keep, mem}
 use Rattle.model.specs.Cells.{volume, volume-in, serials, next-in, opposite-in}
-use Rattle.model.specs.Image.{column, dart-in}
+use Rattle.model.specs.Image.{count-in, column, dart-in}
 use Rattle.laws.proofs.Tests.{by-cases}
 use Rattle.laws.proofs.Members.{In, in-here, in-there, in-eq, in-map, map-in, keep-map, keep-cong}
 use Rattle.laws.proofs.Tables.{map-tab, one-place}
 use Rattle.laws.proofs.Carry.{carry-volume}
 use Rattle.cells.specs.Places.{places-in, volume-of}
 use Rattle.cells.proofs.Reached.{places, places-below, volume-below}
-use Rattle.cells.proofs.Sited.{Sited, darts-in, count-in}
+use Rattle.cells.proofs.Sited.{Sited, darts-in}
 
 -- a map that keeps x apart from what is in the list
 pub mem-map : (h : ℕ → ℕ) (x : ℕ) (l : List ℕ) → ((y : ℕ) → In y l → h x ≡ h y → x ≡ y) → mem (h x) (map h l) ≡ mem x l

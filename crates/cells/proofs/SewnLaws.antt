@@ -9,14 +9,14 @@ use lib.ListN.{length, getD, take}
 use borrow.Author.Tests.{eqb-true, ne-eqb}
 use Rattle.model.specs.Lists.{all, any, mem}
 use Rattle.model.specs.Cells.{volume-in, third-at}
-use Rattle.model.specs.Image.{column, third-in}
+use Rattle.model.specs.Image.{count-in, column, third-in}
 use Rattle.model.specs.Departure.{is-sewn-into, is-sewn-out-of}
 use Rattle.laws.proofs.Tests.{by-cases}
 use Rattle.laws.proofs.Members.{In, in-here, in-there, or-left, or-right, any-in, all-map, all-cong, mem-keep, keep-cong}
 use Rattle.cells.specs.Places.{Marked, bit, marked, places-in, sewn-in, sewn-out, volume-of}
 use Rattle.cells.proofs.Walks.{last-or-below}
 use Rattle.cells.proofs.Reached.{places, in-places, places-in-in}
-use Rattle.cells.proofs.Sited.{Sited, darts-in, count-in}
+use Rattle.cells.proofs.Sited.{Sited, darts-in}
 use Rattle.cells.proofs.Serials.{mem-map, serials-apart, volume-serials}
 
 -- SOME DART of a list
@@ -105,8 +105,8 @@ module _ {m : List ℕ} (site : Sited m) (p : ℕ) (h : p < count-in m) {marks :
       ∙ ap (λ (l : List ℕ). not (any (sewn-in m marks) l)) (sym (marked-places mk (count-in m)))
 
 -- THE TEST OF ONE PLACE, arm by arm
-pub not-sewn : (k j : ℕ) (rest : Bool) → j ≡ k → (j % 4 ≡ 1 → ⊥) → false ≡ (eqb (k % 4) 1 && rest)
-not-sewn k j rest e h = rw (← e, ne-eqb (j % 4) 1 h)
+pub not-sewn : (k j : ℕ) (rest : Bool) → j ≡ k → eqb (j % 4) 1 ≡ false → false ≡ (eqb (k % 4) 1 && rest)
+not-sewn k j rest e h = rw (← e, h)
 
-pub sewn-to : (marks : List ℕ) (k j q r : ℕ) → j ≡ k → j % 4 ≡ 1 → q ≡ r → eqb (getD marks q 0) 1 ≡ (eqb (k % 4) 1 && eqb (getD marks r 0) 1)
+pub sewn-to : (marks : List ℕ) (k j q r : ℕ) → j ≡ k → eqb (j % 4) 1 ≡ true → q ≡ r → eqb (getD marks q 0) 1 ≡ (eqb (k % 4) 1 && eqb (getD marks r 0) 1)
 sewn-to marks k j q r e h f = rw (← e, h, f)

@@ -1,32 +1,27 @@
 -- A sound block's memory by place: links within the places, serials that ascend, and each link by place is the link by serial.
 -- Assumes nothing.
 use mathlib.Core.Path.{_≡_, refl, sym, _∙_, ap, subst}
-use mathlib.Core.Bool.{true, _&&_}
+use mathlib.Core.Bool.{true}
 use mathlib.Core.List.{List}
 use Prim.Native.Nat.{ℕ, _%_, _≤_, _<_}
 use native.Mathlib.Omega.{arith}
-use lib.Dec.{leb}
 use lib.ListN.{length, getD, length-map}
-use borrow.Author.Tests.{leb-true}
-use Rattle.model.specs.Lists.{tab, index-of, same-list, ascending}
-use Rattle.model.specs.Values.{Third, free, sewn, critical, Dart, no-dart, Limits}
+use Rattle.model.specs.Lists.{tab, index-of, ascending}
+use Rattle.model.specs.Values.{Third, free, sewn, critical, Dart, no-dart, widest, room}
 use Rattle.model.specs.Cells.{dart-at, serials, held, next-in, opposite-in, third-at, previous-in}
 use Rattle.model.specs.Sound.{links-right, thirds-right, link-right, third-right, dart-in-range}
-use Rattle.model.specs.Image.{room, image, column, dart-in, block-in, dart-words, third-in, kind-word, link-word, is-image}
-use Rattle.laws.proofs.Tests.{and-left, all-at}
+use Rattle.model.specs.Image.{image, count-in, column, dart-in, block-in, dart-words, third-in, kind-word, link-word, holds-block}
+use Rattle.laws.proofs.Tests.{all-at}
 use Rattle.laws.proofs.Members.{In, ascending-distinct}
 use Rattle.laws.specs.Order.{Ascending}
 use Rattle.laws.proofs.Tables.{length-tab, getD-tab, map-tab, one-place, ascending-tab, dart-place, held-place}
 use Rattle.theory.proofs.BlockLaws.{Links, links-from}
-use Rattle.theory.proofs.ImageLaws.{links-held, Readable, readable-dart, column-is, place-back, image-is, image-length, parts-of, ranges-of, Parts}
+use Rattle.theory.proofs.ImageLaws.{links-held, Readable, readable-dart, column-is, place-back, image-is, count-fits, parts-of, ranges-of, Parts}
 use Rattle.cells.specs.Places.{Within, Apart, Linked}
 
--- the darts that a block's memory holds, how many, and the serial at a place
+-- the darts that a block's memory holds
 abbrev pub darts-in : List ℕ → List Dart
 darts-in m = block-in m .darts
-
-abbrev pub count-in : List ℕ → ℕ
-count-in m = getD m 2 0
 
 -- what the laws of cells need of a block's memory
 pub record Sited (m : List ℕ) : Type 0 where
@@ -36,25 +31,24 @@ pub record Sited (m : List ℕ) : Type 0 where
   pub opposite-is : (p : ℕ) → p < count-in m → column m 0 (column m 2 p) ≡ opposite-in (darts-in m) (column m 0 p)
   pub third-is : (p : ℕ) → p < count-in m → third-at (darts-in m) (column m 0 p) ≡ third-in (column m 0) (column m 3 p) (column m 4 p)
 
-module _ (lim : Limits) (m : List ℕ) (ok : is-image lim m ≡ true) where
-  few : count-in m ≤ room
-  unfolding is-image
-  few = leb-true (getD m 2 0) room (and-left (leb (getD m 2 0) room) _ (and-left (leb (getD m 2 0) room && same-list (image (block-in m)) m) _ ok))
+module _ (m : List ℕ) (ok : holds-block m ≡ true) where
+  back : image (length m) (block-in m) ≡ m
+  back = image-is widest m ok .0
 
-  back : image (block-in m) ≡ m
-  back = image-is lim m ok .0
-
-  pub parts : Parts lim (block-in m)
-  parts = parts-of lim (block-in m) (image-is lim m ok .1)
+  pub parts : Parts widest (block-in m)
+  parts = parts-of widest (block-in m) (image-is widest m ok .1)
 
   count-is : length (darts-in m) ≡ count-in m
   count-is = length-tab (dart-in m) (count-in m)
+
+  few : count-in m ≤ room
+  few = omega (arith, ranges-of widest (block-in m) (parts .ranges) .few-darts, count-is)
 
   serials-are : serials (darts-in m) ≡ tab (column m 0) (count-in m)
   serials-are = map-tab (λ d. d .serial) (dart-in m) (count-in m)
 
   in-order : ascending (serials (darts-in m)) ≡ true
-  in-order = ranges-of lim (block-in m) (parts .ranges) .in-order
+  in-order = ranges-of widest (block-in m) (parts .ranges) .in-order
 
   ascends′ : Ascending (count-in m) (column m 0)
   ascends′ = ascending-tab (column m 0) (count-in m) (rw serials-are at in-order)
@@ -73,13 +67,13 @@ module _ (lim : Limits) (m : List ℕ) (ok : is-image lim m ≡ true) where
       subst (Readable (darts-in m)) at (readable-dart (darts-in m) (getD (darts-in m) p no-dart)
       (all-at (link-right (darts-in m)) no-dart (darts-in m) p (parts .links) h′)
       (all-at (λ d. third-right (darts-in m) d (d .third)) no-dart (darts-in m) p (parts .thirds) h′)
-      (all-at dart-in-range no-dart (darts-in m) p (ranges-of lim (block-in m) (parts .ranges) .each-dart) h′))
+      (all-at dart-in-range no-dart (darts-in m) p (ranges-of widest (block-in m) (parts .ranges) .each-dart) h′))
 
   -- word f of the dart at a place
   pub word-is : (p f : ℕ) → p < count-in m → f < 8 → column m f p ≡ getD (dart-words (serials (darts-in m)) (dart-in m p)) f 0
   word-is p f h k =
       let at : getD (darts-in m) p no-dart ≡ dart-in m p = getD-tab (dart-in m) (count-in m) p no-dart h in
-      ap (λ (l : List ℕ). column l f p) (sym back) ∙ column-is (block-in m) p f (omega (arith, count-is)) k
+      ap (λ (l : List ℕ). column l f p) (sym back) ∙ column-is (length m) (block-in m) p f (omega (arith, count-is)) k
       ∙ ap (λ (d : Dart). getD (dart-words (serials (darts-in m)) d) f 0) at
 
   -- the index of a serial that is held is a place
@@ -127,7 +121,7 @@ module _ (lim : Limits) (m : List ℕ) (ok : is-image lim m ≡ true) where
   sited = record {
     linked = record {
       few = few;
-      size = sym (ap length back) ∙ image-length (block-in m) (omega (arith, count-is, few));
+      size = count-fits widest m ok;
       next-within = next-within′;
       next-apart = next-apart′;
       opposite-within = opposite-within′;

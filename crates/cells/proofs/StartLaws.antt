@@ -7,19 +7,23 @@ use native.Mathlib.Omega.{arith}
 use native.Mathlib.Nat.{add-assoc}
 use native.Mathlib.Numerals.{add-one}
 use lib.Dec.{leb, eqb}
-use lib.ListN.{length, getD, take, length-append, length-map, length-take, List·getD-append}
+use lib.ListN.{length, getD, take, length-append, length-map, List·getD-append}
 use lib.Seq.{take-suc, take-all, getD-append-add, getD-take}
-use Rattle.model.specs.Lists.{all, keep, concat}
+use Rattle.model.specs.Lists.{all, keep, concat, distinct}
 use Rattle.model.specs.Cells.{cycle, faces, volume-in, third-at, start-of}
-use Rattle.model.specs.Image.{room, column}
-use Rattle.model.specs.Departure.{Placed, placed, sewn-faces, is-sewn-out-of}
-use Rattle.laws.proofs.Members.{In, keep-in, keep-map, getD-in, keep-cong}
+use Rattle.model.specs.Image.{count-in, column}
+use Rattle.model.specs.Values.{room}
+use Rattle.model.specs.Departure.{sewn-faces, is-sewn-out-of}
+use Rattle.model.specs.Links.{placed}
+use Rattle.laws.proofs.Members.{In, ascending-distinct, keep-ascending, keep-in, keep-map, getD-in, keep-cong}
+use Rattle.laws.proofs.Faces.{face-stays, faces-distinct, faces-only}
 use Rattle.laws.proofs.Orbits.{path}
 use Rattle.cells.specs.Places.{Within, Apart, InOrder, Marked, marked, sewn-out, volume-of}
-use Rattle.cells.proofs.Paths.{Round, round}
-use Rattle.cells.proofs.Sited.{Sited, darts-in, count-in}
+use Rattle.cells.proofs.Reached.{places, in-places, places-below, within-places}
+use Rattle.cells.proofs.Paths.{Round, apart-places, few-places, round}
+use Rattle.cells.proofs.Sited.{Sited, darts-in}
 use Rattle.cells.proofs.SewnLaws.{sewn-out-is}
-use Rattle.cells.proofs.FaceLaws.{keep-append, marked-in}
+use Rattle.cells.proofs.FaceLaws.{distinct-few, keep-append, marked-ascending, marked-in}
 use Rattle.cells.proofs.FaceSerials.{faces-serials, marked-below}
 
 -- STARTS: the index of a face that has darts is that of its first dart
@@ -37,13 +41,6 @@ unfolding placed
 placed-length i [] = refl
 placed-length i (f ∷ fs) = ap suc (placed-length (i + length f) fs)
 
--- what is in order fits its arrays
-pub in-order-few : {fs : List (List ℕ)} {out starts : List ℕ} {darts count : ℕ} → InOrder fs out starts darts count → (darts ≤ room) × (count ≤ room)
-in-order-few {fs} {out} {starts} {darts} {count} o = (
-  omega (arith, length-take darts out, ap length (o .order), o .out-size, o .darts-are),
-  omega (arith, length-take count starts, ap length (o .indices), o .starts-size, o .count-is, length-map (placed 0 fs) (λ (f : Placed). f .at), placed-length 0 fs),
-)
-
 -- the first dart of a face
 pub cycle-start : {f : ℕ → ℕ} {x c : ℕ} → Round f x c → start-of (cycle f x) ≡ x
 cycle-start {f} {x} {c} r = rw (r .cycle-is) (go c (r .some))
@@ -58,6 +55,29 @@ getD-cycles f (x ∷ l) zero h = refl
 getD-cycles f (x ∷ l) (suc k) h = getD-cycles f l k (omega arith)
 
 module _ (n : ℕ) (f : ℕ → ℕ) (marks : List ℕ) (few : n ≤ room) (wf : Within n f) (af : Apart n f) where
+  -- faces that different places below n start are of different places below n
+  faces-few : (length (concat (faces f (marked n marks))) ≤ n) × (length (faces f (marked n marks)) ≤ n)
+  unfolding faces cycle
+  faces-few =
+      let l = keep (λ x. all (leb x) (cycle f x)) (marked n marks) in
+      let once : distinct l ≡ true = ascending-distinct l (keep-ascending (λ x. all (leb x) (cycle f x)) (marked n marks) (marked-ascending n marks)) in (
+        distinct-few (concat (faces f (marked n marks))) n
+            (faces-distinct f (places n) (within-places wf) (apart-places af) (few-places few) l (λ x k. (in-places n x (start-below x k), starts x k)) once)
+            (λ x k. let r = faces-only f (places n) (within-places wf) (apart-places af) (few-places few) l x k in
+            places-below n x (face-stays f (places n) (within-places wf) (apart-places af) (few-places few) (r .0) x (in-places n (r .0) (start-below (r .0) (r .1))) (r .2))),
+        omega (arith, distinct-few l n once start-below, length-map l (cycle f)),
+      )
+    where
+      starts : (x : ℕ) → In x (keep (λ x. all (leb x) (cycle f x)) (marked n marks)) → all (leb x) (cycle f x) ≡ true
+      starts x k = keep-in (λ x. all (leb x) (cycle f x)) (marked n marks) x k .1
+
+      start-below : (x : ℕ) → In x (keep (λ x. all (leb x) (cycle f x)) (marked n marks)) → x < n
+      start-below x k = marked-in n marks x (keep-in (λ x. all (leb x) (cycle f x)) (marked n marks) x k .0) .0
+
+  -- what is in order is at most n
+  pub in-order-few : {out starts : List ℕ} {darts count : ℕ} → InOrder (faces f (marked n marks)) out starts darts count → (darts ≤ n) × (count ≤ n)
+  in-order-few o = (omega (arith, o .darts-are, faces-few .0), omega (arith, o .count-is, faces-few .1))
+
   pub face-at : (k : ℕ) → k < length (faces f (marked n marks)) → (0 < length (getD (faces f (marked n marks)) k [])) × (start-of (getD (faces f (marked n marks)) k []) < n)
   unfolding faces
   face-at k h =
@@ -105,7 +125,7 @@ pub count-all : (q : List ℕ → Bool) (fs : List (List ℕ)) (k count : ℕ) �
 count-all q fs k count e h = e ∙ ap (λ (l : List (List ℕ)). length (keep q l)) (take-all k fs h)
 
 -- THE TEST OF ONE PLACE, arm by arm
-pub sewn-away : (marks : List ℕ) (k j q r : ℕ) → j ≡ k → j % 4 ≡ 1 → q ≡ r → not (eqb (getD marks q 0) 1) ≡ (eqb (k % 4) 1 && not (eqb (getD marks r 0) 1))
+pub sewn-away : (marks : List ℕ) (k j q r : ℕ) → j ≡ k → eqb (j % 4) 1 ≡ true → q ≡ r → not (eqb (getD marks q 0) 1) ≡ (eqb (k % 4) 1 && not (eqb (getD marks r 0) 1))
 sewn-away marks k j q r e h f = rw (← e, h, f)
 
 -- QUESTION 14

@@ -8,13 +8,13 @@ use lib.Dec.{leb, eqb}
 use borrow.Author.Tests.{eq-eqb, ne-eqb, leb-true, leb-false}
 use Rattle.model.specs.Lists.{keep, firsts, index-of, least, least-from}
 use Rattle.model.specs.Cells.{ring, vertex, vertices, vertex-number, next-in, opposite-in}
-use Rattle.model.specs.Image.{column}
+use Rattle.model.specs.Image.{count-in, column}
 use Rattle.laws.proofs.Tests.{by-cases}
 use Rattle.laws.proofs.Members.{In, in-here, in-there, map-in, keep-map, map-map, map-cong, keep-cong}
 use Rattle.laws.specs.Order.{Ascending}
 use Rattle.laws.proofs.Carry.{carry-cycle}
 use Rattle.cells.proofs.Walks.{eq-or-ne}
-use Rattle.cells.proofs.Sited.{Sited, darts-in, count-in}
+use Rattle.cells.proofs.Sited.{Sited, darts-in}
 use Rattle.cells.proofs.Serials.{serials-apart}
 use Rattle.cells.proofs.RingLaws.{mem-firsts, step-within, ring-self, ring-below, vertex-in}
 

@@ -30,7 +30,10 @@ module _ {b : List ℕ} {n d : ℕ} (l : Linked b n) (h : d < n) {marks : List �
 
     -- what `number_vertices` asks of the order
     pub out-long : darts ≤ length out
-    out-long = omega (arith, in-order-few o .0, o .out-size)
+    out-long = o .out-size
+
+    pub out-few : darts ≤ n
+    out-few = in-order-few n (column b 1) marks (l .few) (l .next-within) (l .next-apart) o .0
 
     pub out-below : (k : ℕ) → k < darts → getD out k 0 < n
     out-below k j =
@@ -40,7 +43,7 @@ module _ {b : List ℕ} {n d : ℕ} (l : Linked b n) (h : d < n) {marks : List �
 
     -- the marks are those of the order
     pub out-marked : Marked (take darts out) marks
-    out-marked = record { size = mk .size; mark = λ p. mk .mark p ∙ ap bit (same-truth _ _ (inside p) (outside p)) }
+    out-marked = record { mark = λ p. mk .mark p ∙ ap bit (same-truth _ _ (inside p) (outside p)) }
       where
         inside : (p : ℕ) → In p (volume-of b d) → In p (take darts out)
         inside p i = rw (o .order) (has n (column b 1) marks (l .few) (l .next-within) (l .next-apart) (closed-next l h mk) p (in-marked n marks p (volume-below l h p i) (mk .mark p ∙ ap bit i)))

@@ -1,21 +1,22 @@
 -- A walk along two links with a queue that never pops: what is marked at its end is the volume. Assumes nothing.
 use mathlib.Core.Path.{_≡_, refl, sym, ap, _∙_}
 use mathlib.Core.Bool.{Bool, true, false, true≢false}
-use mathlib.Core.List.{List, [], _∷_}
+use mathlib.Core.List.{List, [], _∷_, _++_}
+use mathlib.Core.Logic.{⊎-elim}
 use Prim.Native.Nat.{ℕ, zero, suc, _+_, _≤_, _<_}
 use native.Mathlib.Omega.{arith}
 use lib.Dec.{eqb}
-use lib.ListN.{length, getD, set, replicate, take, length-set, length-replicate}
+use lib.ListN.{length, getD, set, take, length-append, length-set}
 use native.Mathlib.Numerals.{add-one}
 use lib.Seq.{getD-set-same, getD-set-other, getD-take, length-take-le, take-suc-set}
 use borrow.Author.Tests.{eqb-true, eqb-false, ne-eqb}
 use Rattle.model.specs.Lists.{distinct, keep, mem, tab, sum}
-use Rattle.model.specs.Image.{room}
 use Rattle.laws.proofs.Tests.{by-cases}
-use Rattle.laws.proofs.Members.{In, distinct-append, in-eq, in-getD, in-here, in-there}
+use Rattle.laws.proofs.Members.{In, append-in, distinct-append, distinct-fewer, in-cons, in-eq, in-getD, in-here, in-there}
+use Rattle.laws.proofs.Tables.{length-tab}
 use Rattle.laws.proofs.Volumes.{Volume}
-use Rattle.laws.proofs.Lists.{getD-zeros, sum-zeros}
-use Rattle.cells.specs.Places.{Within, Listed, Marked, Visited, bit, places-in}
+use Rattle.cells.specs.Places.{Clear, Within, Listed, Marked, Visited, bit, places-in}
+use Rattle.cells.proofs.Reached.{places, in-places}
 
 -- CASES
 pub eq-or-ne {ℓ} : {C : Type ℓ} (a b : ℕ) → (a ≡ b → C) → ((a ≡ b → ⊥) → C) → C
@@ -38,16 +39,7 @@ sum-set [] i h e = absurd (omega arith)
 sum-set (x ∷ l) zero h e = omega arith
 sum-set (x ∷ l) (suc i) h e = omega (arith, sum-set l i (omega arith) e)
 
-sum-le : (l : List ℕ) → ((k : ℕ) → getD l k 0 ≤ 1) → sum l ≤ length l
-sum-le [] b = omega arith
-sum-le (x ∷ l) b = omega (arith, b 0, sum-le l (λ k. b (suc k)))
-
-sum-lt : (l : List ℕ) (i : ℕ) → i < length l → getD l i 0 ≡ 0 → ((k : ℕ) → getD l k 0 ≤ 1) → sum l < length l
-sum-lt [] i h e b = absurd (omega arith)
-sum-lt (x ∷ l) zero h e b = omega (arith, sum-le l (λ k. b (suc k)))
-sum-lt (x ∷ l) (suc i) h e b = omega (arith, b 0, sum-lt l i (omega arith) e (λ k. b (suc k)))
-
-sum-none : (l : List ℕ) → ((k : ℕ) → getD l k 0 ≡ 0) → sum l ≡ 0
+sum-none : (l : List ℕ) → Clear l → sum l ≡ 0
 sum-none [] h = refl
 sum-none (x ∷ l) h = omega (arith, h 0, sum-none l (λ k. h (suc k)))
 
@@ -63,8 +55,9 @@ sum-marks v (x ∷ l) (suc n) h small low high =
 
 -- THE QUEUE: marks m and a queue o of length t. What is queued is marked and in v, and what is marked is queued
 pub record Queue (n : ℕ) (v m o : List ℕ) (t : ℕ) : Type 0 where
-  pub len-m : length m ≡ room
-  pub len-o : length o ≡ room
+  pub len-m : n ≤ length m
+  pub len-o : n ≤ length o
+  pub fits : t ≤ n
   pub bits : (p : ℕ) → getD m p 0 ≤ 1
   pub count : t ≡ sum m
   pub once : distinct (take t o) ≡ true
@@ -78,14 +71,42 @@ pub record Grown (p : ℕ) (m o : List ℕ) (t : ℕ) (m′ o′ : List ℕ) (t�
   pub kept : (k : ℕ) → k < t → getD o′ k 0 ≡ getD o k 0
   pub longer : t ≤ t′
 
+pub visited-lengths : {p t t′ : ℕ} {m o m′ o′ : List ℕ} → Visited p m o t m′ o′ t′ → (length m′ ≡ length m) × (length o′ ≡ length o)
+visited-lengths {p} {t} {t′} {m} {o} w = by-cases (eqb (getD m p 0) 0)
+    (λ e. rw (w .marks, w .order, e) (length-set m p 1, length-set o t p))
+    (λ e. rw (w .marks, w .order, e) (refl, refl))
+
 module _ {n : ℕ} {v m o : List ℕ} {t : ℕ} (q : Queue n v m o t) where
-  pub queue-le : t ≤ room
-  queue-le = omega (arith, sum-le m (q .bits), q .len-m, q .count)
+  queued-at : (x : ℕ) → In x (take t o) → (k : ℕ) × (k < t) × (x ≡ getD o k 0)
+  queued-at x i = let r = in-getD (take t o) x i in
+      let less : r .0 < t = omega (arith, r .1, length-take-le t o (omega (arith, q .fits, q .len-o))) in
+      (r .0, less, r .2 ∙ getD-take t o (r .0) 0 less)
 
-  pub queue-room : (p : ℕ) → p < room → getD m p 0 ≡ 0 → t < room
-  queue-room p h e = omega (arith, sum-lt m p (omega (arith, q .len-m)) e (q .bits), q .len-m, q .count)
+  -- what is queued is marked: a place that is not differs from it
+  not-queued : (p : ℕ) → getD m p 0 ≡ 0 → (x : ℕ) → In x (take t o) → mem x (p ∷ []) ≡ false
+  not-queued p z x i = let r = queued-at x i in
+      let one : getD m x 0 ≡ 1 = rw (r .2) (q .queued (r .0) (r .1) .1) in
+      rw (ne-eqb x p (λ e. omega (arith, one, ap (λ (y : ℕ). getD m y 0) e, z)))
 
-  module _ {p : ℕ} (pn : p < n) (nl : n ≤ room) (r : In p v) (z : getD m p 0 ≡ 0) where
+  -- the queue with p behind it has different places below n, so that p has room there
+  pub queue-room : (p : ℕ) → p < n → getD m p 0 ≡ 0 → t < n
+  queue-room p h z =
+      let longer = distinct-append (take t o) (p ∷ []) (q .once) refl (not-queued p z) in
+      omega (
+        arith,
+        distinct-fewer (take t o ++ p ∷ []) (places n) longer inside,
+        length-tab (λ (x : ℕ). x) n,
+        length-append (take t o) (p ∷ []),
+        length-take-le t o (omega (arith, q .fits, q .len-o)),
+      )
+    where
+      inside : (x : ℕ) → In x (take t o ++ p ∷ []) → In x (places n)
+      inside x i = ⊎-elim
+          (λ j. let r = queued-at x j in in-places n x (rw (r .2) (q .queued (r .0) (r .1) .0)))
+          (λ j. in-places n x (in-cons x p [] j (λ e. rw e h) (λ none. absurd (true≢false (sym none)))))
+          (append-in x (take t o) (p ∷ []) i)
+
+  module _ {p : ℕ} (pn : p < n) (r : In p v) (z : getD m p 0 ≡ 0) where
     same : getD (set m p 1) p 0 ≡ 1
     same = getD-set-same m p 1 0 (omega (arith, q .len-m))
 
@@ -99,31 +120,24 @@ module _ {n : ℕ} {v m o : List ℕ} {t : ℕ} (q : Queue n v m o t) where
     kept′ k h = getD-set-other o t k p 0 (λ w. omega arith)
 
     last′ : getD (set o t p) t 0 ≡ p
-    last′ = getD-set-same o t p 0 (omega (arith, queue-room p (omega arith) z, q .len-o))
+    last′ = getD-set-same o t p 0 (omega (arith, queue-room p pn z, q .len-o))
 
     push : Queue n v (set m p 1) (set o t p) (t + 1)
     push = record {
       len-m = simp length-set (q .len-m);
       len-o = simp length-set (q .len-o);
+      fits = omega (arith, queue-room p pn z);
       bits = λ k. eq-or-ne k p (λ w. rw w (omega (arith, same))) (λ w. omega (arith, other k w, q .bits k));
       count = omega (arith, sum-set m p (omega (arith, q .len-m)) z, q .count);
       once =
           ap distinct
           (ap (λ (k : ℕ). take k (set o t p)) (add-one t)
-          ∙ take-suc-set o t p (omega (arith, queue-room p (omega arith) z, q .len-o)))
-          ∙ distinct-append (take t o) (p ∷ []) (q .once) refl new;
+          ∙ take-suc-set o t p (omega (arith, queue-room p pn z, q .len-o)))
+          ∙ distinct-append (take t o) (p ∷ []) (q .once) refl (not-queued p z);
       queued = λ k l. last-or-below l (λ w. rw (at-last k w) (pn, same, r)) (old k);
       back = λ k e. eq-or-ne k p (λ w. (t, omega arith, last′ ∙ sym w)) (λ w. earlier (q .back k (sym (other k w) ∙ e)));
     }
       where
-        -- what is queued is marked, and p is not
-        new : (x : ℕ) → In x (take t o) → mem x (p ∷ []) ≡ false
-        new x i = let r = in-getD (take t o) x i in
-            let less : r .0 < t = omega (arith, r .1, length-take-le t o (omega (arith, queue-le, q .len-o))) in
-            let there : x ≡ getD o (r .0) 0 = r .2 ∙ getD-take t o (r .0) 0 less in
-            let one : getD m x 0 ≡ 1 = rw there (q .queued (r .0) less .1) in
-            rw (ne-eqb x p (λ e. omega (arith, one, ap (λ (y : ℕ). getD m y 0) e, z)))
-
         old : (k : ℕ) → k < t → (getD (set o t p) k 0 < n) × (getD (set m p 1) (getD (set o t p) k 0) 0 ≡ 1) × In (getD (set o t p) k 0) v
         old k l = rw (kept′ k l) (q .queued k l .0, grows′ _ (q .queued k l .1), q .queued k l .2)
 
@@ -134,14 +148,14 @@ module _ {n : ℕ} {v m o : List ℕ} {t : ℕ} (q : Queue n v m o t) where
         earlier b = (b .0, omega (arith, b .1), kept′ (b .0) (b .1) ∙ b .2)
 
   -- a visit of a place of v keeps the queue
-  pub visit-queue : {p t′ : ℕ} {m′ o′ : List ℕ} → p < n → n ≤ room → In p v → Visited p m o t m′ o′ t′ → Queue n v m′ o′ t′ × Grown p m o t m′ o′ t′
-  visit-queue {p} {t′} {m′} {o′} pn nl r w = go (eqb (getD m p 0) 0) refl
+  pub visit-queue : {p t′ : ℕ} {m′ o′ : List ℕ} → p < n → In p v → Visited p m o t m′ o′ t′ → Queue n v m′ o′ t′ × Grown p m o t m′ o′ t′
+  visit-queue {p} {t′} {m′} {o′} pn r w = go (eqb (getD m p 0) 0) refl
     where
       go : (b : Bool) → eqb (getD m p 0) 0 ≡ b → Queue n v m′ o′ t′ × Grown p m o t m′ o′ t′
       go true e =
           let z : getD m p 0 ≡ 0 = eqb-true _ _ e in
           rw (w .marks, w .order, w .tail, e)
-          (push pn nl r z, record { grows = grows′ pn nl r z; new = same pn nl r z; kept = kept′ pn nl r z; longer = omega arith })
+          (push pn r z, record { grows = grows′ pn r z; new = same pn r z; kept = kept′ pn r z; longer = omega arith })
       go false e =
           rw (w .marks, w .order, w .tail, e)
           (q, record { grows = λ k h. h; new = one; kept = λ k l. refl; longer = omega arith })
@@ -156,36 +170,37 @@ pub record Walk (n : ℕ) (f g : ℕ → ℕ) (d : ℕ) (v m o : List ℕ) (t h 
   pub start : getD m d 0 ≡ 1
   pub done : (k : ℕ) → k < h → (getD m (f (getD o k 0)) 0 ≡ 1) × (getD m (g (getD o k 0)) 0 ≡ 1)
 
-empty-queue : (n : ℕ) (v o : List ℕ) → length o ≡ room → Queue n v (replicate room 0) o 0
-empty-queue n v o len = record {
-  len-m = length-replicate {A = ℕ} room 0;
-  len-o = len;
-  bits = λ p. omega (arith, getD-zeros room p);
-  count = sym (sum-zeros room);
+empty-queue : (n : ℕ) (v m o : List ℕ) → n ≤ length m → n ≤ length o → Clear m → Queue n v m o 0
+empty-queue n v m o lm lo clear = record {
+  len-m = lm;
+  len-o = lo;
+  fits = omega arith;
+  bits = λ p. omega (arith, clear p);
+  count = sym (sum-none m clear);
   once = refl;
   queued = λ k l. absurd (omega arith);
-  back = λ p e. absurd (omega (arith, getD-zeros room p));
+  back = λ p e. absurd (omega (arith, clear p));
 }
 
-module _ (n : ℕ) (f g : ℕ → ℕ) (d : ℕ) (v : List ℕ) (vol : Volume f g d v) (few : n ≤ room) where
-  pub walk-start : {t′ : ℕ} {m o m′ o′ : List ℕ} → m ≡ replicate room 0 → length o ≡ room → d < n → Visited d m o 0 m′ o′ t′ → Walk n f g d v m′ o′ t′ 0
-  walk-start {t′} {m} {o} e len dn x =
-      let w = visit-queue {v = v} (rw e (empty-queue n v o len)) dn few (vol .here) x in
+module _ (n : ℕ) (f g : ℕ → ℕ) (d : ℕ) (v : List ℕ) (vol : Volume f g d v) where
+  pub walk-start : {t′ : ℕ} {m o m′ o′ : List ℕ} → n ≤ length m → n ≤ length o → Clear m → d < n → Visited d m o 0 m′ o′ t′ → Walk n f g d v m′ o′ t′ 0
+  walk-start {t′} {m} {o} lm lo clear dn x =
+      let w = visit-queue {v = v} (empty-queue n v m o lm lo clear) dn (vol .here) x in
       record { queue = w .0; h-le = omega arith; start = w .1 .new; done = λ k l. absurd (omega arith) }
 
   module _ {m o : List ℕ} {t h : ℕ} (w : Walk n f g d v m o t h) where
     pub walk-mid : {a t₁ : ℕ} {m₁ o₁ : List ℕ} → Within n f → h < t → a ≡ f (getD o h 0) → Visited a m o t m₁ o₁ t₁ → Queue n v m₁ o₁ t₁
     walk-mid wf ht ea x =
         let p = w .queue .queued _ ht in
-        visit-queue (w .queue) (rw ea (wf _ (p .0))) few (rw ea (vol .closed-f _ (p .2))) x .0
+        visit-queue (w .queue) (rw ea (wf _ (p .0))) (rw ea (vol .closed-f _ (p .2))) x .0
 
     -- the place at h and both visits
     pub walk-step : {a b t₁ t₂ : ℕ} {m₁ o₁ m₂ o₂ : List ℕ} → Within n f → Within n g → h < t
         → a ≡ f (getD o h 0) → Visited a m o t m₁ o₁ t₁ → b ≡ g (getD o h 0) → Visited b m₁ o₁ t₁ m₂ o₂ t₂ → Walk n f g d v m₂ o₂ t₂ (h + 1)
     walk-step {a} {b} wf wg ht ea x eb y =
         let p = w .queue .queued _ ht in
-        let i = visit-queue (w .queue) (rw ea (wf _ (p .0))) few (rw ea (vol .closed-f _ (p .2))) x in
-        let j = visit-queue (i .0) (rw eb (wg _ (p .0))) few (rw eb (vol .closed-g _ (p .2))) y in
+        let i = visit-queue (w .queue) (rw ea (wf _ (p .0))) (rw ea (vol .closed-f _ (p .2))) x in
+        let j = visit-queue (i .0) (rw eb (wg _ (p .0))) (rw eb (vol .closed-g _ (p .2))) y in
         record {
           queue = j .0;
           h-le = omega (arith, i .1 .longer, j .1 .longer);
@@ -206,14 +221,14 @@ module _ (n : ℕ) (f g : ℕ → ℕ) (d : ℕ) (v : List ℕ) (vol : Volume f 
     found p e = let b = w .queue .back p e in rw (b .2) at (w .queue .queued (b .0) (b .1) .2)
 
     pub walk-end : t ≤ h → Marked v m
-    walk-end e = record { size = w .queue .len-m; mark = λ p. by-cases (mem p v) (λ i. rw i (reached e p i)) (λ i. rw i (unmarked p i)) }
+    walk-end e = record { mark = λ p. by-cases (mem p v) (λ i. rw i (reached e p i)) (λ i. rw i (unmarked p i)) }
       where
         unmarked : (p : ℕ) → mem p v ≡ false → getD m p 0 ≡ 0
         unmarked p i = eq-or-ne (getD m p 0) 1 (λ one. absurd (true≢false (sym (found p one) ∙ i))) (λ other. omega (arith, w .queue .bits p))
 
     pub walk-count : t ≤ h → t ≡ length (places-in n v)
     unfolding places-in
-    walk-count e = w .queue .count ∙ sum-marks v m n (λ p. p) (omega (arith, w .queue .len-m)) (λ p k. walk-end e .mark p) above
+    walk-count e = w .queue .count ∙ sum-marks v m n (λ p. p) (w .queue .len-m) (λ p k. walk-end e .mark p) above
       where
         above : (p : ℕ) → n ≤ p → getD m p 0 ≡ 0
         above p k = eq-or-ne (getD m p 0) 1
@@ -224,9 +239,9 @@ module _ (n : ℕ) (f g : ℕ → ℕ) (d : ℕ) (v : List ℕ) (vol : Volume f 
     pub walk-listed : t ≤ h → Listed n v o t
     walk-listed e = record {
       size = w .queue .len-o;
-      few = queue-le (w .queue);
+      few = w .queue .fits;
       below = λ k l. w .queue .queued k l .0;
       once = w .queue .once;
       has = λ p i. let b = w .queue .back p (reached e p i) in
-          in-eq p (getD o (b .0) 0) (take t o) (sym (b .2)) (in-take o t (b .0) (b .1) (omega (arith, b .1, queue-le (w .queue), w .queue .len-o)));
+          in-eq p (getD o (b .0) 0) (take t o) (sym (b .2)) (in-take o t (b .0) (b .1) (omega (arith, b .1, w .queue .fits, w .queue .len-o)));
     }

@@ -7,8 +7,9 @@ use lib.Dec.{eqb}
 use lib.ListN.{length, getD, set, take}
 use Rattle.model.specs.Lists.{all, keep, mem, distinct, tab, concat}
 use Rattle.model.specs.Cells.{volume, ring, vertex, vertices, vertex-number}
-use Rattle.model.specs.Image.{room, words, column}
-use Rattle.model.specs.Departure.{placed}
+use Rattle.model.specs.Image.{words-for, column}
+use Rattle.model.specs.Values.{room}
+use Rattle.model.specs.Links.{placed}
 use Rattle.laws.specs.Order.{Ascending}
 
 -- f takes the places below n to places below n
@@ -22,7 +23,7 @@ Apart n f = (p q : ℕ) → p < n → q < n → f p ≡ f q → p ≡ q
 -- a block's memory whose first n records have their links within them; next and opposite are permutations
 pub record Linked (b : List ℕ) (n : ℕ) : Type 0 where
   pub few : n ≤ room
-  pub size : length b ≡ words
+  pub size : words-for n ≤ length b
   pub next-within : Within n (column b 1)
   pub next-apart : Apart n (column b 1)
   pub opposite-within : Within n (column b 2)
@@ -37,9 +38,12 @@ abbrev pub bit : Bool → ℕ
 bit true = 1
 bit false = 0
 
+-- all zero, whatever its length
+abbrev pub Clear : List ℕ → Type 0
+Clear t = (p : ℕ) → getD t p 0 ≡ 0
+
 -- marks of the places that are in a list: 1 there, 0 elsewhere
 pub record Marked (v marks : List ℕ) : Type 0 where
-  pub size : length marks ≡ room
   pub mark : (p : ℕ) → getD marks p 0 ≡ bit (mem p v)
 
 -- the marked places below n, ascending
@@ -59,15 +63,15 @@ places-in n v = keep (λ p. mem p v) (tab (λ p. p) n)
 
 -- the first t places of o are below n and differ, and have every place of v among them
 pub record Listed (n : ℕ) (v o : List ℕ) (t : ℕ) : Type 0 where
-  pub size : length o ≡ room
-  pub few : t ≤ room
+  pub size : n ≤ length o
+  pub few : t ≤ n
   pub below : (k : ℕ) → k < t → getD o k 0 < n
   pub once : distinct (take t o) ≡ true
   pub has : (p : ℕ) → mem p v ≡ true → mem p (take t o) ≡ true
 
 -- the first t keys are places below n that ascend, and have every marked place below n among them
 pub record InTurn (n : ℕ) (marks keys : List ℕ) (t : ℕ) : Type 0 where
-  pub few : t ≤ room
+  pub few : t ≤ n
   pub there : t ≤ length keys
   pub below : (k : ℕ) → k < t → getD keys k 0 < n
   pub rises : Ascending t (λ k. getD keys k 0)
@@ -92,8 +96,8 @@ pub record Put (l : List ℕ) (i : ℕ) (o o′ : List ℕ) (e : ℕ) : Type 0 w
 
 -- faces one after the other in `out`, and the index of each one's start in `starts`
 pub record InOrder (fs : List (List ℕ)) (out starts : List ℕ) (darts count : ℕ) : Type 0 where
-  pub out-size : length out ≡ room
-  pub starts-size : length starts ≡ room
+  pub out-size : darts ≤ length out
+  pub starts-size : count ≤ length starts
   pub order : take darts out ≡ concat fs
   pub darts-are : darts ≡ length (concat fs)
   pub indices : take count starts ≡ map (λ f. f .at) (placed 0 fs)
@@ -105,8 +109,8 @@ Closed n f marks = (p : ℕ) → p < n → getD marks p 0 ≡ 1 → getD marks (
 
 -- the vertices of some darts, numbered by first use: each dart's number, and for each number the first dart with that vertex
 pub record Numbered (nx op : ℕ → ℕ) (l numbers firsts : List ℕ) (count : ℕ) : Type 0 where
-  pub numbers-size : length numbers ≡ room
-  pub firsts-size : length firsts ≡ room
+  pub numbers-size : (p : ℕ) → mem p l ≡ true → p < length numbers
+  pub firsts-size : count ≤ length firsts
   pub number : (p : ℕ) → mem p l ≡ true → getD numbers p 0 ≡ vertex-number nx op l p
   pub count-is : count ≡ length (vertices nx op l)
   pub count-le : count ≤ length l
@@ -131,10 +135,10 @@ ends-once nx op numbers firsts count = all (λ a. distinct (a ∷ ends-of nx op 
 
 -- the first dart of each vertex is below n, and the ends of its edges have numbers
 pub record Ended (n : ℕ) (nx op : ℕ → ℕ) (numbers firsts : List ℕ) (count : ℕ) : Type 0 where
-  pub numbers-size : length numbers ≡ room
-  pub firsts-size : length firsts ≡ room
+  pub firsts-size : count ≤ length firsts
   pub count-few : count ≤ room
   pub first-below : (a : ℕ) → a < count → getD firsts a 0 < n
+  pub end-there : (a : ℕ) → a < count → (q : ℕ) → mem q (ring nx op (getD firsts a 0)) ≡ true → nx q < length numbers
   pub end-below : (a : ℕ) → a < count → (q : ℕ) → mem q (ring nx op (getD firsts a 0)) ≡ true → getD numbers (nx q) 0 < count
 
 -- of m entries, those that have a colour are those of a list; none is above it

@@ -8,11 +8,14 @@ ghost use lib.Dec.{eqb};
 ghost use lib.ListN.{length, getD, replicate, set};
 ghost use Rattle.model.specs.Lists.{distinct, mem};
 ghost use Rattle.model.specs.Cells.{ring};
-ghost use Rattle.model.specs.Image.{room, column};
+ghost use Rattle.model.specs.Image.{column};
+ghost use Rattle.model.specs.Values.{room};
 ghost use Rattle.cells.specs.Places.{Ended, Linked, ends-of, ends-once};
 use crate::reset;
 use crate::vertex;
-use crate::walk;
+use memory::record;
+use memory::record::Place;
+use memory::record::Record;
 
 // Gives entry b a colour. Returns whether it had another.
 fn stamp(stamps: &mut [usize], b: usize, colour: usize) -> bool
@@ -29,32 +32,33 @@ fn stamp(stamps: &mut [usize], b: usize, colour: usize) -> bool
 fn ends_differ(
     block: &[u64],
     n: usize,
-    start: usize,
+    start: Place,
     a: usize,
     numbers: &[usize],
     stamps: &mut [usize],
 ) -> bool
-    requires { ⌜ Linked (now block) n × (start < n) × (a < length (now stamps)) × (length (now numbers) ≡ room) × (length (now stamps) ≤ room) ⌝ }
-    requires { ⌜ ((q : ℕ) → mem q (ring (column (now block) 1) (column (now block) 2) start) ≡ true → getD (now numbers) (column (now block) 1 q) 0 < length (now stamps)) ⌝ }
+    requires { ⌜ Linked (now block) n × (start .0 < n) × (a < length (now stamps)) × (length (now stamps) ≤ room) ⌝ }
+    requires { ⌜ ((q : ℕ) → mem q (ring (column (now block) 1) (column (now block) 2) (start .0)) ≡ true → (column (now block) 1 q < length (now numbers)) × (getD (now numbers) (column (now block) 1 q) 0 < length (now stamps))) ⌝ }
     requires { ⌜ ((b : ℕ) → getD (now stamps) b 0 ≤ a) ⌝ }
-    ensures differ { λ r. ⌜ r ≡ distinct (a ∷ ends-of (column (now (block .entry)) 1) (column (now (block .entry)) 2) (now (numbers .entry)) start) ⌝ }
+    ensures differ { λ r. ⌜ r ≡ distinct (a ∷ ends-of (column (now (block .entry)) 1) (column (now (block .entry)) 2) (now (numbers .entry)) (start .0)) ⌝ }
     ensures bound { λ r. ⌜ ((b : ℕ) → getD (now (stamps .exit)) b 0 ≤ a + 1) ⌝ }
     ensures size { λ r. ⌜ length (now (stamps .exit)) ≡ length (now (stamps .entry)) ⌝ }
 {
     // `a` and the ends of the edges before p's, `steps` of them, differ, and have the colour.
     let colour = a + 1;
     stamp(stamps, a, colour);
+    let first = start.0;
     let mut steps: usize = 0;
-    let mut p = start;
+    let mut p = first;
     loop {
-        let q = walk::field(block, p, 1) as usize;
+        let q = record::field(block, Place(p), Record::NEXT) as usize;
         let b = numbers[q];
         if !stamp(stamps, b, colour) {
             return false;
         }
         steps += 1;
-        p = vertex::ring_step(block, n, p);
-        if p == start {
+        p = vertex::ring_step(block, n, Place(p)).0;
+        if p == first {
             return true;
         }
     }
@@ -76,7 +80,7 @@ fn each_once(
     let mut a = 0;
     while a < count {
         let p = firsts[a];
-        if !ends_differ(block, n, p, a, numbers, stamps) {
+        if !ends_differ(block, n, Place(p), a, numbers, stamps) {
             return false;
         }
         a += 1;

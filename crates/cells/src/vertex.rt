@@ -5,33 +5,38 @@ ghost use lib.ListN.{length, getD, take};
 ghost use mathlib.Core.Bool.{true};
 ghost use Rattle.model.specs.Lists.{mem};
 ghost use Rattle.model.specs.Cells.{ring};
-ghost use Rattle.model.specs.Image.{room, column};
+ghost use Rattle.model.specs.Image.{column};
+ghost use Rattle.model.specs.Values.{room};
 ghost use Rattle.cells.specs.Places.{Linked, Numbered, Painted};
 use crate::reset;
-use crate::walk;
+use memory::record;
+use memory::record::Place;
+use memory::record::Record;
 
 // The next dart of a ring: next of opposite.
-pub fn ring_step(block: &[u64], n: usize, p: usize) -> usize
-    requires { ⌜ Linked (now block) n × (p < n) ⌝ }
-    ensures { λ r. ⌜ r ≡ column (now (block .entry)) 1 (column (now (block .entry)) 2 p) ⌝ }
+pub fn ring_step(block: &[u64], n: usize, p: Place) -> Place
+    requires { ⌜ Linked (now block) n × (p .0 < n) ⌝ }
+    ensures { λ r. ⌜ r .0 ≡ column (now (block .entry)) 1 (column (now (block .entry)) 2 (p .0)) ⌝ }
 {
-    let q = walk::field(block, p, 2) as usize;
-    walk::field(block, q, 1) as usize
+    let q = record::field(block, p, Record::OPPOSITE) as usize;
+    let r = record::field(block, Place(q), Record::NEXT) as usize;
+    Place(r)
 }
 
 // Gives the darts of the ring of the dart at place `start` a number.
-fn paint_ring(block: &[u64], n: usize, start: usize, number: usize, numbers: &mut [usize])
-    requires { ⌜ Linked (now block) n × (start < n) × (length (now numbers) ≡ room) ⌝ }
-    ensures { λ _. ⌜ Painted number (ring (column (now (block .entry)) 1) (column (now (block .entry)) 2) start) (now (numbers .entry)) (now (numbers .exit)) ⌝ }
+fn paint_ring(block: &[u64], n: usize, start: Place, number: usize, numbers: &mut [usize])
+    requires { ⌜ Linked (now block) n × (start .0 < n) × (n ≤ length (now numbers)) ⌝ }
+    ensures { λ _. ⌜ Painted number (ring (column (now (block .entry)) 1) (column (now (block .entry)) 2) (start .0)) (now (numbers .entry)) (now (numbers .exit)) ⌝ }
 {
     // The darts from `start` up to the one before p, `steps` of them, have the number.
+    let first = start.0;
     let mut steps: usize = 0;
-    let mut p = start;
+    let mut p = first;
     loop {
         numbers[p] = number;
         steps += 1;
-        p = ring_step(block, n, p);
-        if p == start {
+        p = ring_step(block, n, Place(p)).0;
+        if p == first {
             return;
         }
     }
@@ -47,7 +52,7 @@ fn number_all(
     firsts: &mut [usize],
 ) -> usize
     requires { ⌜ Linked (now block) n × (darts ≤ room) × (darts ≤ length (now order)) × ((k : ℕ) → k < darts → getD (now order) k 0 < n) ⌝ }
-    requires { ⌜ (length (now numbers) ≡ room) × ((q : ℕ) → mem q (take darts (now order)) ≡ true → getD (now numbers) q 0 ≡ room) × (length (now firsts) ≡ room) ⌝ }
+    requires { ⌜ (n ≤ length (now numbers)) × ((q : ℕ) → mem q (take darts (now order)) ≡ true → getD (now numbers) q 0 ≡ room) × (darts ≤ length (now firsts)) ⌝ }
     ensures { λ r. ⌜ Numbered (column (now (block .entry)) 1) (column (now (block .entry)) 2) (take darts (now (order .entry))) (now (numbers .exit)) (now (firsts .exit)) r ⌝ }
 {
     // The vertices of the darts before i have their numbers, at every dart of their rings.
@@ -59,7 +64,7 @@ fn number_all(
         if numbers[p] != 4096 {
             continue;
         }
-        paint_ring(block, n, p, count, numbers);
+        paint_ring(block, n, Place(p), count, numbers);
         firsts[count] = p;
         count += 1;
     }
@@ -77,7 +82,7 @@ pub fn number_vertices(
     firsts: &mut [usize],
 ) -> usize
     requires { ⌜ Linked (now block) n × (darts ≤ room) × (darts ≤ length (now order)) × ((k : ℕ) → k < darts → getD (now order) k 0 < n) ⌝ }
-    requires { ⌜ (length (now numbers) ≡ room) × (length (now firsts) ≡ room) ⌝ }
+    requires { ⌜ (n ≤ length (now numbers)) × (darts ≤ length (now firsts)) ⌝ }
     ensures { λ r. ⌜ Numbered (column (now (block .entry)) 1) (column (now (block .entry)) 2) (take darts (now (order .entry))) (now (numbers .exit)) (now (firsts .exit)) r ⌝ }
 {
     reset::unnumber(order, darts, numbers);

@@ -1,59 +1,54 @@
 // The volume of a dart: a walk along next and opposite that marks what it meets.
 ghost use mathlib.Core.Path.{_≡_};
 ghost use Prim.Native.Nat.{_≤_, _<_};
-ghost use lib.ListN.{length, getD, replicate, take};
+ghost use lib.ListN.{length, getD, take};
 ghost use Rattle.model.specs.Lists.{least};
-ghost use Rattle.model.specs.Image.{room, words, column};
-ghost use Rattle.cells.specs.Places.{Linked, Listed, Marked, Visited, places-in, volume-of};
+ghost use Rattle.model.specs.Values.{room};
+ghost use Rattle.cells.specs.Places.{Clear, Linked, Listed, Marked, Visited, places-in, volume-of};
 use memory::record;
 use memory::record::Place;
-
-// Word f of the dart at place p.
-pub fn field(block: &[u64], p: usize, f: usize) -> u64
-    requires { ⌜ (p < room) × (f < 8) × (length (now block) ≡ words) ⌝ }
-    ensures { λ r. ⌜ r ≡ column (now (block .entry)) f p ⌝ }
-{
-    record::field(block, Place(p), f)
-}
+use memory::record::Record;
 
 // A place that is not marked is marked and put at the end of the queue. Returns the queue's new length.
-fn visit(marks: &mut [u8], order: &mut [usize], tail: usize, p: usize) -> usize
-    requires { ⌜ (length (now marks) ≡ room) × (length (now order) ≡ room) × (p < room) × (tail ≤ room) × (getD (now marks) p 0 ≡ 0 → tail < room) ⌝ }
-    ensures { λ r. ⌜ Visited p (now (marks .entry)) (now (order .entry)) tail (now (marks .exit)) (now (order .exit)) r ⌝ }
+fn visit(marks: &mut [u8], order: &mut [usize], tail: usize, p: Place) -> usize
+    requires { ⌜ (p .0 < length (now marks)) × (tail ≤ room) × (getD (now marks) (p .0) 0 ≡ 0 → tail < length (now order)) ⌝ }
+    ensures { λ r. ⌜ Visited (p .0) (now (marks .entry)) (now (order .entry)) tail (now (marks .exit)) (now (order .exit)) r ⌝ }
 {
-    if marks[p] != 0 {
+    let i = p.0;
+    if marks[i] != 0 {
         return tail;
     }
-    marks[p] = 1;
-    order[tail] = p;
+    marks[i] = 1;
+    order[tail] = i;
     tail + 1
 }
 
 // Marks the volume of the dart at place `start`; `order` lists it. Returns how many darts it has (question 11).
-pub fn volume(block: &[u64], n: usize, start: usize, order: &mut [usize], marks: &mut [u8]) -> usize
-    requires { ⌜ Linked (now block) n × (start < n) × (length (now order) ≡ room) × (now marks ≡ replicate room 0) ⌝ }
-    ensures marked { λ r. ⌜ Marked (volume-of (now (block .entry)) start) (now (marks .exit)) ⌝ }
-    ensures count { λ r. ⌜ r ≡ length (places-in n (volume-of (now (block .entry)) start)) ⌝ }
-    ensures listed { λ r. ⌜ Listed n (volume-of (now (block .entry)) start) (now (order .exit)) r ⌝ }
+pub fn volume(block: &[u64], n: usize, start: Place, order: &mut [usize], marks: &mut [u8]) -> usize
+    requires { ⌜ Linked (now block) n × (start .0 < n) × (n ≤ length (now order)) × (n ≤ length (now marks)) × Clear (now marks) ⌝ }
+    ensures marked { λ r. ⌜ Marked (volume-of (now (block .entry)) (start .0)) (now (marks .exit)) ⌝ }
+    ensures count { λ r. ⌜ r ≡ length (places-in n (volume-of (now (block .entry)) (start .0))) ⌝ }
+    ensures listed { λ r. ⌜ Listed n (volume-of (now (block .entry)) (start .0)) (now (order .exit)) r ⌝ }
 {
     // What is queued is in the volume and marked; both links of what stands before `head` lead to what is marked.
-    let mut tail = visit(marks, order, 0, start);
+    let first = start.0;
+    let mut tail = visit(marks, order, 0, Place(first));
     let mut head = 0;
     while head < tail {
         let p = order[head];
         head += 1;
-        let a = field(block, p, 1) as usize;
-        tail = visit(marks, order, tail, a);
-        let b = field(block, p, 2) as usize;
-        tail = visit(marks, order, tail, b);
+        let a = record::field(block, Place(p), Record::NEXT) as usize;
+        tail = visit(marks, order, tail, Place(a));
+        let b = record::field(block, Place(p), Record::OPPOSITE) as usize;
+        tail = visit(marks, order, tail, Place(b));
     }
     tail
 }
 
 // The least of the first `count` places of a list, which has some.
-pub fn least_place(order: &[usize], count: usize) -> usize
+pub fn least_place(order: &[usize], count: usize) -> Place
     requires { ⌜ (0 < count) × (count ≤ room) × (count ≤ length (now order)) ⌝ }
-    ensures { λ r. ⌜ r ≡ least (take count (now (order .entry))) ⌝ }
+    ensures { λ r. ⌜ r .0 ≡ least (take count (now (order .entry))) ⌝ }
 {
     // The least of the places before i.
     let mut low = order[0];
@@ -65,5 +60,5 @@ pub fn least_place(order: &[usize], count: usize) -> usize
             low = p;
         }
     }
-    low
+    Place(low)
 }

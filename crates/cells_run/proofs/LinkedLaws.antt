@@ -4,7 +4,8 @@ use mathlib.Core.List.{List}
 use Prim.Native.Nat.{ℕ, _+_, _%_, _≤_, _<_}
 use native.Mathlib.Omega.{arith}
 use lib.ListN.{length, getD}
-use Rattle.model.specs.Image.{room, words, column}
+use Rattle.model.specs.Image.{words, column}
+use Rattle.model.specs.Values.{room}
 use Rattle.cells.specs.Places.{Linked}
 use Rattle.cells.proofs.Walks.{last-or-below}
 use Rattle.cells_run.specs.LinkedAt.{LinkedAt}

@@ -3,7 +3,8 @@ ghost use mathlib.Core.Path.{_≡_};
 ghost use mathlib.Core.Bool.{true};
 ghost use Prim.Native.Nat.{_≤_, _<_};
 ghost use lib.ListN.{length, replicate};
-ghost use Rattle.model.specs.Image.{room, words};
+ghost use Rattle.model.specs.Image.{words};
+ghost use Rattle.model.specs.Values.{room};
 ghost use Rattle.cells.specs.Places.{Linked};
 ghost use Rattle.cells_run.specs.LinkedAt.{LinkedAt};
 

@@ -8,7 +8,7 @@ use lib.Dec.{leb, ltb}
 use lib.ListN.{length, getD}
 use borrow.Author.Tests.{leb-true, ltb-true}
 use Rattle.model.specs.Lists.{ascending}
-use Rattle.model.specs.Values.{Third, free, sewn, critical, Dart, no-dart, Block, rack, serial-bound, code}
+use Rattle.model.specs.Values.{Third, free, sewn, critical, Dart, no-dart, Block, widest, serial-bound, code}
 use Rattle.model.specs.Cells.{serials}
 use Rattle.model.specs.Sound.{third-in-range, dart-in-range, ranges-right}
 use Rattle.model.specs.Image.{kind-word, link-word, dart-words, image, column}
@@ -34,28 +34,28 @@ third-kind ss (critical o l) r =
     let position = leb-true (l .position) 4095 (and-right three _ r) in
     kind-critical (omega arith) (omega (arith, other)) (omega (arith, maker, number, position))
 
-module _ (b : Block) (r : ranges-right rack b ≡ true) where
+module _ (size : ℕ) (b : Block) (r : ranges-right widest b ≡ true) where
   dart : ℕ → Dart
   dart p = getD (b .darts) p no-dart
 
   in-range : (p : ℕ) → p < length (b .darts) → (leb 1 (dart p .serial) && ltb (dart p .serial) serial-bound && third-in-range (dart p .third)) ≡ true
   unfolding dart dart-in-range
-  in-range p h = all-at dart-in-range no-dart (b .darts) p (ranges-of rack b r .each-dart) h
+  in-range p h = all-at dart-in-range no-dart (b .darts) p (ranges-of widest b r .each-dart) h
 
   ascends : Ascending (length (b .darts)) (λ p. dart p .serial)
   unfolding dart
   ascends = ascending-tab (λ p. getD (b .darts) p no-dart .serial) (length (b .darts)) (ap ascending (sym (map-tab (λ (d : Dart). d .serial) (λ p. getD (b .darts) p no-dart) (length (b .darts))))
-      ∙ ap (λ (ds : List Dart). ascending (serials ds)) (tab-list no-dart (b .darts) (λ p. getD (b .darts) p no-dart) (λ p h. refl)) ∙ ranges-of rack b r .in-order)
+      ∙ ap (λ (ds : List Dart). ascending (serials ds)) (tab-list no-dart (b .darts) (λ p. getD (b .darts) p no-dart) (λ p h. refl)) ∙ ranges-of widest b r .in-order)
 
-  word : (f p : ℕ) → p < length (b .darts) → f < 8 → column (image b) f p ≡ getD (dart-words (serials (b .darts)) (dart p)) f 0
+  word : (f p : ℕ) → p < length (b .darts) → f < 8 → column (image size b) f p ≡ getD (dart-words (serials (b .darts)) (dart p)) f 0
   unfolding dart
-  word f p h k = column-is b p f h k
+  word f p h k = column-is size b p f h k
 
-  serial-at : (p : ℕ) → p < length (b .darts) → column (image b) 0 p ≡ dart p .serial
+  serial-at : (p : ℕ) → p < length (b .darts) → column (image size b) 0 p ≡ dart p .serial
   unfolding dart-words
   serial-at p h = word 0 p h (omega arith)
 
-  above-at : (p : ℕ) → p < length (b .darts) → before (column (image b) 0) p < column (image b) 0 p
+  above-at : (p : ℕ) → p < length (b .darts) → before (column (image size b) 0) p < column (image size b) 0 p
   above-at zero h =
       rw (serial-at 0 h)
       (omega (
@@ -66,24 +66,24 @@ module _ (b : Block) (r : ranges-right rack b ≡ true) where
       ))
   above-at (suc p) h = rw (serial-at p (omega arith), serial-at (suc p) h) (ascends p (suc p) (omega arith) h)
 
-  kind-at : (p : ℕ) → p < length (b .darts) → Kind (column (image b) 3 p) (column (image b) 4 p)
+  kind-at : (p : ℕ) → p < length (b .darts) → Kind (column (image size b) 3 p) (column (image size b) 4 p)
   unfolding dart-words
   kind-at p h =
       rw (word 3 p h (omega arith), word 4 p h (omega arith))
       (third-kind (serials (b .darts)) (dart p .third)
       (and-right (leb 1 (dart p .serial) && ltb (dart p .serial) serial-bound) _ (in-range p h)))
 
-  pub built : Ranged (image b)
+  pub built : Ranged (image size b)
   unfolding image
   built = record {
-    number-small = omega (arith, ranges-of rack b r .number-small);
-    counter-small = ranges-of rack b r .counter-small;
-    few = ranges-of rack b r .few-darts;
+    number-small = omega (arith, ranges-of widest b r .number-small);
+    counter-small = ranges-of widest b r .counter-small;
+    few = ranges-of widest b r .few-darts;
     head = (refl, refl, refl, refl, refl);
     above = above-at;
     serial-small =
         λ p h. rw (serial-at p h)
         (ltb-true (dart p .serial) serial-bound (and-right (leb 1 (dart p .serial)) _ (and-left (leb 1 (dart p .serial) && ltb (dart p .serial) serial-bound) _ (in-range p h))));
     kinds = kind-at;
-    rest = λ i h. image-rest b i h;
+    rest = λ i h. image-rest size b i h;
   }

@@ -12,10 +12,10 @@ use lib.ListN.{length, getD, replicate}
 use lib.Seq.{getD-append-add, ext-getD}
 use borrow.Author.Tests.{le-leb, lt-ltb, leb-true, ltb-true}
 use Rattle.model.specs.Lists.{all, tab, ascending, concat, index-of}
-use Rattle.model.specs.Values.{free, sewn, critical, Dart, no-dart, Block, rack, serial-bound}
+use Rattle.model.specs.Values.{free, sewn, critical, Dart, no-dart, Block, widest, serial-bound, room}
 use Rattle.model.specs.Cells.{serials}
 use Rattle.model.specs.Sound.{third-in-range, dart-in-range, ranges-right}
-use Rattle.model.specs.Image.{room, words, kind-word, link-word, dart-words, image, column, label-in, third-in, dart-in, block-in}
+use Rattle.model.specs.Image.{words-for, kind-word, link-word, dart-words, image, column, label-in, third-in, dart-in, block-in}
 use Rattle.laws.proofs.Tests.{by-cases, lt-or-ge, and-intro, and-left, and-right}
 use Rattle.laws.proofs.Lists.{getD-zeros}
 use Rattle.laws.specs.Order.{Ascending}
@@ -42,20 +42,20 @@ unfolding concat dart-words
 rows-length ss [] = refl
 rows-length ss (d ∷ es) = let ih = rows-length ss es in omega arith
 
-pub image-rest : (b : Block) (i : ℕ) → 8 + length (b .darts) * 8 ≤ i → getD (image b) i 0 ≡ 0
+pub image-rest : (size : ℕ) (b : Block) (i : ℕ) → 8 + length (b .darts) * 8 ≤ i → getD (image size b) i 0 ≡ 0
 unfolding image
-image-rest b i h =
+image-rest size b i h =
     let head : List ℕ = b .number ∷ b .counter ∷ length (b .darts) ∷ 0 ∷ 0 ∷ 0 ∷ 0 ∷ 0 ∷ [] in
     let rows : List ℕ = concat (map (dart-words (serials (b .darts))) (b .darts)) in
-    let zeros : List ℕ = replicate ((room - length (b .darts)) * 8) 0 in
+    let zeros : List ℕ = replicate (size - words-for (length (b .darts))) 0 in
     let t : ℕ = i - (8 + length (b .darts) * 8) in
     let at : i ≡ 8 + (length rows + t) = omega (arith, rows-length (serials (b .darts)) (b .darts)) in
-    ap (λ (j : ℕ). getD (head ++ (rows ++ zeros)) j 0) at ∙ getD-append-add head (rows ++ zeros) (length rows + t) 0 ∙ getD-append-add rows zeros t 0 ∙ getD-zeros ((room - length (b .darts)) * 8) t
+    ap (λ (j : ℕ). getD (head ++ (rows ++ zeros)) j 0) at ∙ getD-append-add head (rows ++ zeros) (length rows + t) 0 ∙ getD-append-add rows zeros t 0 ∙ getD-zeros (size - words-for (length (b .darts))) t
 
 -- FROM AN IMAGE: word f of the dart at place p
 module _ (m : List ℕ) where
-  word-is : image (block-in m) ≡ m → (p f : ℕ) → p < count m → f < 8 → column m f p ≡ getD (dart-words (tab (column m 0) (count m)) (dart-in m p)) f 0
-  word-is e p f h k = ap (λ (x : List ℕ). column x f p) (sym e) ∙ column-is (block-in m) p f (rw (length-tab (dart-in m) (count m)) h) k
+  word-is : image (length m) (block-in m) ≡ m → (p f : ℕ) → p < count m → f < 8 → column m f p ≡ getD (dart-words (tab (column m 0) (count m)) (dart-in m p)) f 0
+  word-is e p f h k = ap (λ (x : List ℕ). column x f p) (sym e) ∙ column-is (length m) (block-in m) p f (rw (length-tab (dart-in m) (count m)) h) k
       ∙ rw (map-tab (λ d. d .serial) (dart-in m) (count m), getD-tab (dart-in m) (count m) p no-dart h) refl
 
   kind-of : (p : ℕ) → (ss : List ℕ) → third-in-range (dart-in m p .third) ≡ true → column m 3 p ≡ kind-word (dart-in m p .third)
@@ -80,10 +80,10 @@ module _ (m : List ℕ) where
       a : ℕ
       a = column m 4 p
 
-  pub ranged : count m ≤ room → image (block-in m) ≡ m → ranges-right rack (block-in m) ≡ true → Ranged m
+  pub ranged : count m ≤ room → image (length m) (block-in m) ≡ m → ranges-right widest (block-in m) ≡ true → Ranged m
   unfolding dart-in-range dart-words image
   ranged le e s =
-      let r = ranges-of rack (block-in m) s in
+      let r = ranges-of widest (block-in m) s in
       let asc : Ascending (count m) (column m 0) = ascending-tab (column m 0) (count m) (ap ascending (sym (map-tab (λ d. d .serial) (dart-in m) (count m))) ∙ r .in-order) in
       record {
         number-small = omega (arith, r .number-small);
@@ -97,7 +97,7 @@ module _ (m : List ℕ) where
             λ p h. kind-of p (tab (column m 0) (count m))
             (and-right (leb 1 (column m 0 p) && ltb (column m 0 p) (2 ^ 32)) _ (each p h (r .each-dart)))
             (word-is e p 3 h (omega arith)) (word-is e p 4 h (omega arith));
-        rest = λ i h. ap (λ (x : List ℕ). getD x i 0) (sym e) ∙ image-rest (block-in m) i (rw (length-tab (dart-in m) (count m)) h);
+        rest = λ i h. ap (λ (x : List ℕ). getD x i 0) (sym e) ∙ image-rest (length m) (block-in m) i (rw (length-tab (dart-in m) (count m)) h);
       }
     where
       each : (p : ℕ) → p < count m → all dart-in-range (tab (dart-in m) (count m)) ≡ true → (leb 1 (column m 0 p) && ltb (column m 0 p) serial-bound && third-in-range (dart-in m p .third)) ≡ true
@@ -119,7 +119,7 @@ module _ (m : List ℕ) (w : Ranged m) where
       (and-intro (and-intro (le-leb (k / 4) 15 (omega arith)) (le-leb (a / 4096 / 2 ^ 32) 15 (omega arith)))
       (lt-ltb (a / 4096 % 2 ^ 32) (2 ^ 32) (omega arith))) (le-leb (a % 4096) 4095 (omega arith)))
 
-  pub ranges-yes : ranges-right rack (block-in m) ≡ true
+  pub ranges-yes : ranges-right widest (block-in m) ≡ true
   unfolding ranges-right dart-in-range
   ranges-yes = and-intro (and-intro (and-intro (and-intro (le-leb (getD m 0 0) 15 (omega (arith, w .number-small))) (lt-ltb (getD m 1 0) (2 ^ 32) (w .counter-small)))
       (rw (length-tab (dart-in m) (count m)) (le-leb (count m) 4096 (w .few))))
@@ -132,7 +132,7 @@ module _ (m : List ℕ) (w : Ranged m) where
           (and-intro (le-leb 1 (column m 0 p) (omega (arith, w .above p h))) (lt-ltb (column m 0 p) (2 ^ 32) (w .serial-small p h)))
           (third-ranged (column m 3 p) (column m 4 p) (w .kinds p h))
 
-  module _ (len : length m ≡ words) (g : Places m (count m)) (s : SewnPlaces m (count m)) where
+  module _ (long : words-for (count m) ≤ length m) (g : Places m (count m)) (s : SewnPlaces m (count m)) where
     place-back : (p : ℕ) → p < count m → index-of (column m 0 p) (tab (column m 0) (count m)) ≡ p
     place-back p h = index-place (column m 0) (count m) p (in-order m w) h
 
@@ -148,20 +148,20 @@ module _ (m : List ℕ) (w : Ranged m) where
     words-back p h (suc (suc (suc (suc (suc (suc (suc zero))))))) k = refl
     words-back p h (suc (suc (suc (suc (suc (suc (suc (suc f)))))))) k = absurd (omega arith)
 
-    column-back : (p f : ℕ) → p < count m → f < 8 → column (image (block-in m)) f p ≡ column m f p
-    column-back p f h k = column-is (block-in m) p f (rw (length-tab (dart-in m) (count m)) h) k
+    column-back : (p f : ℕ) → p < count m → f < 8 → column (image (length m) (block-in m)) f p ≡ column m f p
+    column-back p f h k = column-is (length m) (block-in m) p f (rw (length-tab (dart-in m) (count m)) h) k
         ∙ rw (map-tab (λ d. d .serial) (dart-in m) (count m), getD-tab (dart-in m) (count m) p no-dart h) (words-back p h f k)
 
-    dart-word : (i : ℕ) → 8 ≤ i → i < 8 + count m * 8 → getD (image (block-in m)) i 0 ≡ getD m i 0
+    dart-word : (i : ℕ) → 8 ≤ i → i < 8 + count m * 8 → getD (image (length m) (block-in m)) i 0 ≡ getD m i 0
     dart-word i a b =
         let at : i ≡ 8 + (i - 8) / 8 * 8 + (i - 8) % 8 = omega arith in
         let c = column-back ((i - 8) / 8) ((i - 8) % 8) (omega arith) (omega arith) in
-        ap (λ (j : ℕ). getD (image (block-in m)) j 0) at ∙ c ∙ ap (λ (j : ℕ). getD m j 0) (sym at)
+        ap (λ (j : ℕ). getD (image (length m) (block-in m)) j 0) at ∙ c ∙ ap (λ (j : ℕ). getD m j 0) (sym at)
 
-    later : (i : ℕ) → 8 ≤ i → getD (image (block-in m)) i 0 ≡ getD m i 0
-    later i a = ⊎-elim (λ b. dart-word i a b) (λ b. image-rest (block-in m) i (rw (length-tab (dart-in m) (count m)) b) ∙ sym (w .rest i b)) (lt-or-ge i (8 + count m * 8))
+    later : (i : ℕ) → 8 ≤ i → getD (image (length m) (block-in m)) i 0 ≡ getD m i 0
+    later i a = ⊎-elim (λ b. dart-word i a b) (λ b. image-rest (length m) (block-in m) i (rw (length-tab (dart-in m) (count m)) b) ∙ sym (w .rest i b)) (lt-or-ge i (8 + count m * 8))
 
-    word-back : (i : ℕ) → getD (image (block-in m)) i 0 ≡ getD m i 0
+    word-back : (i : ℕ) → getD (image (length m) (block-in m)) i 0 ≡ getD m i 0
     unfolding image
     word-back zero = refl
     word-back (suc zero) = refl
@@ -173,5 +173,5 @@ module _ (m : List ℕ) (w : Ranged m) where
     word-back (suc (suc (suc (suc (suc (suc (suc zero))))))) = sym (w .head .4)
     word-back (suc (suc (suc (suc (suc (suc (suc (suc i)))))))) = later (suc (suc (suc (suc (suc (suc (suc (suc i)))))))) (omega arith)
 
-    pub image-back : image (block-in m) ≡ m
-    image-back = ext-getD 0 (image (block-in m)) m (image-length (block-in m) (rw (length-tab (dart-in m) (count m)) (w .few)) ∙ sym len) (λ i h. word-back i)
+    pub image-back : image (length m) (block-in m) ≡ m
+    image-back = ext-getD 0 (image (length m) (block-in m)) m (image-length (length m) (block-in m) (rw (length-tab (dart-in m) (count m)) long)) (λ i h. word-back i)

@@ -1,16 +1,16 @@
 -- Question 2 by columns: memory passes it where every test passes. Assumes nothing.
 use mathlib.Core.Path.{_≡_, sym, _∙_}
-use mathlib.Core.Bool.{true, _&&_}
+use mathlib.Core.Bool.{true}
 use mathlib.Core.List.{List}
-use Prim.Native.Nat.{ℕ, _<_}
-use lib.Dec.{leb}
+use Prim.Native.Nat.{ℕ, _≤_, _<_}
+use native.Mathlib.Omega.{arith}
 use lib.ListN.{length}
-use borrow.Author.Tests.{le-leb, leb-true}
-use Rattle.model.specs.Lists.{distinct, same-list}
-use Rattle.model.specs.Values.{rack, finite}
-use Rattle.model.specs.Image.{room, words, image, column, block-in, is-image}
-use Rattle.laws.proofs.Tests.{and-intro, and-left, and-right, same-list-self}
-use Rattle.theory.proofs.ImageLaws.{parts-of, parts-sound, image-is}
+use Rattle.model.specs.Lists.{distinct}
+use Rattle.model.specs.Values.{widest, finite, room}
+use Rattle.model.specs.Image.{words-for, column, dart-in, block-in, holds-block}
+use Rattle.laws.proofs.Tests.{and-intro, and-left, and-right}
+use Rattle.laws.proofs.Tables.{length-tab}
+use Rattle.theory.proofs.ImageLaws.{parts-of, parts-sound, ranges-of, image-is, is-image-by}
 use Rattle.columns.specs.Columns.{all-below, count, Ranged, Finite, OneToOne, own-test, link-test, third-test, point-test, codes}
 use Rattle.columns.proofs.Below.{below-at, at-below}
 use Rattle.columns.proofs.Images.{ranged, ranges-yes, image-back}
@@ -30,14 +30,13 @@ pub record Passed (m : List ℕ) : Type 0 where
   pub differ : distinct (codes m (count m)) ≡ true
   pub points : (p : ℕ) → p < count m → point-test m p ≡ true
 
-pub passed-image : (m : List ℕ) → length m ≡ words → Passed m → is-image rack m ≡ true
-unfolding is-image
-passed-image m len a =
+pub passed-image : (m : List ℕ) → words-for (count m) ≤ length m → Passed m → holds-block m ≡ true
+passed-image m long a =
     let n = count m in
     let w = a .range in
     let g = places m n (a .links) in
     let s = sewn-places m n (a .thirds) in
-    let sound = parts-sound rack (block-in m) (record {
+    let sound = parts-sound widest (block-in m) (record {
       ranges = ranges-yes m w;
       finite = sym (finite-is m) ∙ at-below (finite-test m) n (a .finite-points);
       links = links-yes m w (a .links) (a .apart);
@@ -45,15 +44,14 @@ passed-image m len a =
       labels = sym (labels-are m w) ∙ and-intro (at-below (own-test m) n (a .labels)) (a .differ);
       points = sym (points-are m w g s) ∙ at-below (point-test m) n (a .points);
     }) in
-    and-intro (and-intro (le-leb n room (w .few)) (rw (image-back m w len g s) (same-list-self m))) sound
+    is-image-by widest m long (image-back m w long g s) sound
 
-pub image-passed : (m : List ℕ) → is-image rack m ≡ true → Passed m
-unfolding is-image
+pub image-passed : (m : List ℕ) → holds-block m ≡ true → Passed m
 image-passed m e =
     let n = count m in
-    let i = image-is rack m e in
-    let q = parts-of rack (block-in m) (i .1) in
-    let few = leb-true n room (and-left (leb n room) _ (and-left (leb n room && same-list (image (block-in m)) m) _ e)) in
+    let i = image-is widest m e in
+    let q = parts-of widest (block-in m) (i .1) in
+    let few : n ≤ room = omega (arith, ranges-of widest (block-in m) (q .ranges) .few-darts, length-tab (dart-in m) n) in
     let w = ranged m few (i .0) (q .ranges) in
     let links = links-says m w (q .links) in
     let g = places m n links in

@@ -10,8 +10,8 @@ use mathlib.Core.List.{List, [], _∷_, _++_}
 use Prim.Native.Nat.{ℕ, zero, suc, _+_, _*_, _/_, _%_, _≤_, _<_, _^_}
 use lib.Dec.{leb, ltb, eqb}
 use lib.ListN.{getD}
-use Rattle.model.specs.Values.{same-point, finite}
-use Rattle.model.specs.Image.{room, column, dart-in}
+use Rattle.model.specs.Values.{same-point, finite, room}
+use Rattle.model.specs.Image.{column, dart-in}
 
 unfoldable pub all-below : (ℕ → Bool) → ℕ → Bool
 all-below t zero = true

@@ -8,11 +8,12 @@ use native.Mathlib.Omega.{arith}
 use lib.Dec.{leb, ltb, eqb}
 use lib.ListN.{length, getD, take}
 use borrow.Author.Tests.{leb-true, ltb-true, le-leb, lt-leb, not-true, not-false}
-use Rattle.model.specs.Values.{rack}
+use Rattle.model.specs.Values.{rack, room}
 use Rattle.model.specs.Lists.{all, any, keep}
 use Rattle.model.specs.Cells.{start-of, held, next-in, opposite-in, third-at, volume-in}
-use Rattle.model.specs.Image.{room, column, block-in, is-image}
-use Rattle.model.specs.Departure.{departure-checks, is-sewn-into, pairs-once, sewn-faces, vertex-pairs}
+use Rattle.model.specs.Image.{count-in, column, block-in, holds-block}
+use Rattle.model.specs.Departure.{departure-checks, is-sewn-into, sewn-faces}
+use Rattle.model.specs.Links.{pairs-once, vertex-pairs}
 use Rattle.model.specs.Calls.{served, refused}
 use Rattle.answers.specs.Answers.{answered}
 use Rattle.answers.proofs.Questions.{alone, ask-no, ask-yes, ask-end, said-no, said-yes}
@@ -23,8 +24,8 @@ use Rattle.memory.specs.declared.record.Place.{Place}
 use Rattle.memory.specs.declared.lookup.Found.{Found}
 use Rattle.memory.specs.declared.lookup.Found.the-variants.{At, Nothing}
 use Rattle.memory.proofs.Lookups.{place-at, held-at, held-nothing}
-use Rattle.cells.specs.Places.{InOrder, Marked, Numbered, ends-once, places-in, sewn-in, sewn-out, volume-of}
-use Rattle.cells.proofs.Sited.{Sited, count-in, darts-in, sited}
+use Rattle.cells.specs.Places.{InOrder, Linked, Marked, Numbered, ends-once, places-in, sewn-in, sewn-out, volume-of}
+use Rattle.cells.proofs.Sited.{Sited, darts-in, sited}
 use Rattle.cells.proofs.Serials.{volume-size}
 use Rattle.cells.proofs.SewnLaws.{question-12}
 use Rattle.cells.proofs.StartLaws.{in-order-few, question-14}
@@ -34,19 +35,21 @@ use Rattle.theory.proofs.ImageLaws.{image-is, parts-of, ranges-of, Ranges}
 use Rattle.departure.specs.Asked.{Departs, faces-at}
 
 -- what a sound block's header says
-pub ranges-in : (m : List ℕ) → is-image rack m ≡ true → Ranges rack (block-in m)
+pub ranges-in : (m : List ℕ) → holds-block m ≡ true → Ranges rack (block-in m)
 ranges-in m ok = ranges-of rack (block-in m) (parts-of rack (block-in m) (image-is rack m ok .1) .ranges)
 
--- the faces that pass a test fit the arrays too
-pub sewn-few : {fs : List (List ℕ)} {out starts : List ℕ} {darts count sewn : ℕ} (q : List ℕ → Bool) → InOrder fs out starts darts count → sewn ≡ length (keep q fs) → sewn ≤ room
-sewn-few {fs} q o e = omega (arith, in-order-few o .1, o .count-is, keep-le q fs)
+-- the faces that pass a test are few too
+pub sewn-few : (marks : List ℕ) {m out starts : List ℕ} {darts count sewn : ℕ} (q : List ℕ → Bool) → Linked m (count-in m) → InOrder (faces-at m marks) out starts darts count
+    → sewn ≡ length (keep q (faces-at m marks)) → sewn ≤ room
+sewn-few marks {m} q l o e =
+    omega (arith, in-order-few (count-in m) (column m 1) marks (l .few) (l .next-within) (l .next-apart) o .1, o .count-is, keep-le q (faces-at m marks), l .few)
 
 -- this question is the first that is answered no
-abbrev FirstNo : List ℕ → ℕ → ℕ → ℕ → Type 0
-FirstNo m j s q = refused q ≡ answered (departure-checks 512 (block-in m) j s)
+abbrev FirstNo : ℕ → List ℕ → ℕ → ℕ → ℕ → Type 0
+FirstNo most m j s q = refused q ≡ answered (departure-checks most (block-in m) j s)
 
-module _ (m : List ℕ) (ok : is-image rack m ≡ true) (j s : ℕ) {right : Bool} (nine : right ≡ (leb j 15 && not (eqb j (getD m 0 0)))) where
-  pub first-9 : not right ≡ true → FirstNo m j s 9
+module _ (most : ℕ) (m : List ℕ) (ok : holds-block m ≡ true) (j s : ℕ) {right : Bool} (nine : right ≡ (leb j 15 && not (eqb j (getD m 0 0)))) where
+  pub first-9 : not right ≡ true → FirstNo most m j s 9
   unfolding departure-checks
   first-9 h = alone _ (ask-no refl (said-no nine h) refl)
 
@@ -54,7 +57,7 @@ module _ (m : List ℕ) (ok : is-image rack m ≡ true) (j s : ℕ) {right : Boo
     is-9 : (leb j 15 && not (eqb j (getD m 0 0))) ≡ true
     is-9 = said-yes nine yes-9
 
-    pub first-10 : {look : Found} → look ≡ place-in (column m 0) (count-in m) s → look ≡ Nothing → FirstNo m j s 10
+    pub first-10 : {look : Found} → look ≡ place-in (column m 0) (count-in m) s → look ≡ Nothing → FirstNo most m j s 10
     unfolding departure-checks
     first-10 e h = alone _ (ask-yes is-9 (ask-no refl (held-nothing m s (sym e ∙ h)) refl))
 
@@ -63,7 +66,7 @@ module _ (m : List ℕ) (ok : is-image rack m ≡ true) (j s : ℕ) {right : Boo
       found = sym ten ∙ held-there
 
       site : Sited m
-      site = sited rack m ok
+      site = sited m ok
 
       pub below : at .0 < count-in m
       below = place-at (column m 0) (count-in m) s found .0
@@ -78,23 +81,23 @@ module _ (m : List ℕ) (ok : is-image rack m ≡ true) (j s : ℕ) {right : Boo
         size-is : length (volume-in (darts-in m) s) ≡ size
         size-is = ap (λ (x : ℕ). length (volume-in (darts-in m) x)) (sym here) ∙ volume-size site (at .0) below ∙ sym eleven
 
-        pub first-11 : 512 < size → FirstNo m j s 11
+        pub first-11 : most < size → FirstNo most m j s 11
         unfolding departure-checks
-        first-11 h = alone _ (ask-yes is-9 (ask-yes is-10 (ask-no refl (lt-leb (length (volume-in (darts-in m) s)) 512 (omega (arith, size-is))) refl)))
+        first-11 h = alone _ (ask-yes is-9 (ask-yes is-10 (ask-no refl (lt-leb (length (volume-in (darts-in m) s)) most (omega (arith, size-is))) refl)))
 
-        module _ (few : size ≤ 512) {out starts : List ℕ} {darts count : ℕ} (o : InOrder (faces-at m marks) out starts darts count)
+        module _ (few : size ≤ most) {out starts : List ℕ} {darts count : ℕ} (o : InOrder (faces-at m marks) out starts darts count)
             {inside : Bool} (twelve : inside ≡ any (sewn-in m marks) (take darts out)) where
-          is-11 : leb (length (volume-in (darts-in m) s)) 512 ≡ true
-          is-11 = le-leb (length (volume-in (darts-in m) s)) 512 (omega (arith, size-is))
+          is-11 : leb (length (volume-in (darts-in m) s)) most ≡ true
+          is-11 = le-leb (length (volume-in (darts-in m) s)) most (omega (arith, size-is))
 
-          pub darts-few : darts ≤ 512
+          pub darts-few : darts ≤ most
           darts-few = omega (arith, out-count site (at .0) below mk o, ap (λ (x : ℕ). length (volume-in (darts-in m) x)) here, size-is)
 
           is-12 : all (λ x. not (is-sewn-into (volume-in (darts-in m) s) (third-at (darts-in m) x))) (volume-in (darts-in m) s) ≡ not inside
           is-12 = ap (λ (y : ℕ). all (λ x. not (is-sewn-into (volume-in (darts-in m) y) (third-at (darts-in m) x))) (volume-in (darts-in m) y)) (sym here)
               ∙ question-12 site (at .0) below mk ∙ ap not (sym (twelve ∙ out-any (site .linked) below mk o (sewn-in m marks)))
 
-          pub first-12 : inside ≡ true → FirstNo m j s 12
+          pub first-12 : inside ≡ true → FirstNo most m j s 12
           unfolding departure-checks
           first-12 h = alone _ (ask-yes is-9 (ask-yes is-10 (ask-yes is-11 (ask-no refl (is-12 ∙ ap not h) refl))))
 
@@ -104,7 +107,7 @@ module _ (m : List ℕ) (ok : is-image rack m ≡ true) (j s : ℕ) {right : Boo
             is-13 = ap (λ (x : ℕ). pairs-once (vertex-pairs (next-in (darts-in m)) (opposite-in (darts-in m)) (volume-in (darts-in m) x))) (sym here)
                 ∙ sym (pairs-answer site (at .0) below mk o nb) ∙ sym thirteen
 
-            pub first-13 : not once ≡ true → FirstNo m j s 13
+            pub first-13 : not once ≡ true → FirstNo most m j s 13
             unfolding departure-checks
             first-13 h = alone _ (ask-yes is-9 (ask-yes is-10 (ask-yes is-11 (ask-yes (is-12 ∙ ap not none-inside) (ask-no refl (is-13 ∙ not-true once h) refl)))))
 
@@ -114,7 +117,7 @@ module _ (m : List ℕ) (ok : is-image rack m ≡ true) (j s : ℕ) {right : Boo
               is-14 = ap (λ (k : ℕ). ltb (getD m 1 0 + k) (2 ^ 32)) (ap (λ (x : ℕ). length (sewn-faces (darts-in m) x)) (sym here) ∙ question-14 site (at .0) below mk ∙ sym away)
                   ∙ sym fourteen
 
-              pub first-14 : not fits ≡ true → FirstNo m j s 14
+              pub first-14 : not fits ≡ true → FirstNo most m j s 14
               unfolding departure-checks
               first-14 h =
                   alone _
@@ -124,7 +127,7 @@ module _ (m : List ℕ) (ok : is-image rack m ≡ true) (j s : ℕ) {right : Boo
                   (ask-yes (is-12 ∙ ap not none-inside)
                   (ask-yes (is-13 ∙ not-false once yes-13) (ask-no refl (is-14 ∙ not-true fits h) refl))))))
 
-              all-yes : not fits ≡ false → served tt ≡ answered (departure-checks 512 (block-in m) j s)
+              all-yes : not fits ≡ false → served tt ≡ answered (departure-checks most (block-in m) j s)
               unfolding departure-checks
               all-yes h =
                   alone _
@@ -134,17 +137,19 @@ module _ (m : List ℕ) (ok : is-image rack m ≡ true) (j s : ℕ) {right : Boo
                   (ask-yes (is-12 ∙ ap not none-inside)
                   (ask-yes (is-13 ∙ not-false once yes-13) (ask-yes (is-14 ∙ not-false fits h) (ask-end refl)))))))
 
-              pub departs : not fits ≡ false → Departs m j s (record { darts = darts; faces = count; vertices = vs; sewn = sewn }) marks out starts numbers firsts
-              departs h = record {
+              pub departs : most ≤ 512 → count-in m ≤ length marks → not fits ≡ false
+                  → Departs most m j s (record { darts = darts; faces = count; vertices = vs; sewn = sewn }) marks out starts numbers firsts
+              departs small long h = record {
                 asked = all-yes h;
                 survey = record {
                   place = at .0;
                   place-below = below;
                   volume-marked = mk;
+                  marks-size = long;
                   order = o;
                   numbering = nb;
                   sewn-is = away;
-                  few = darts-few;
+                  few = omega (arith, darts-few, small);
                 };
                 serial-is = here;
                 to-block = leb-true j 15 (and-left (leb j 15) _ is-9);

@@ -12,9 +12,10 @@ use borrow.Author.Tests.{eqb-true, ltb-true}
 use Rattle.model.specs.Lists.{keep, collect, concat, concat-map, tab}
 use Rattle.model.specs.Values.{Label, Dart, is-critical-with}
 use Rattle.model.specs.Cells.{cycle, ring, vertex, vertices, vertex-number, start-of, faces, faces-in, dart-at, next-in, opposite-in, third-at, volume-in}
-use Rattle.model.specs.Image.{column, third-in, dart-in, block-in}
+use Rattle.model.specs.Image.{count-in, column, third-in, dart-in, block-in}
 use Rattle.model.specs.Messages.{FaceDart}
-use Rattle.model.specs.Departure.{Placed, placed, part2-entry, part3-from, part4-entry, is-sewn-out-of, least-labels, transfer-of, update-for, updates-of}
+use Rattle.model.specs.Departure.{part2-entry, part3-from, part4-entry, is-sewn-out-of, least-labels, transfer-of, update-for, updates-of}
+use Rattle.model.specs.Links.{Placed, placed}
 use Rattle.laws.proofs.Tests.{by-cases, and-left}
 use Rattle.laws.proofs.Members.{In, in-eq, in-getD, in-append-left, in-append-right, map-map, map-cong, keep-map, Each, map-each, keep-each, each-kept, collect-each, collect-map}
 use Rattle.laws.proofs.Tables.{dart-place}
@@ -31,7 +32,7 @@ use Rattle.cells.proofs.RingLaws.{step-within, step-apart, vertex-in}
 use Rattle.cells.proofs.VertexSerials.{vertex-below}
 use Rattle.cells.proofs.VolumeArrays.{number-of, vertices-of}
 use Rattle.cells.proofs.VolumeReady.{out-whole}
-use Rattle.cells.proofs.Sited.{Sited, darts-in, count-in}
+use Rattle.cells.proofs.Sited.{Sited, darts-in}
 use Rattle.departure.specs.ByPlaces.{critical-with, critical-beside, dart-entry, part2-at, part4-at, transfer-at, least-at, update-at, updates-at}
 use Rattle.departure.proofs.LeavingFaces.{Face, faces-are, start-map, start-below, critical-is, part2-is, part4-is, labels-are, least-is}
 

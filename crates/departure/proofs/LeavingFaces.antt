@@ -12,8 +12,9 @@ use borrow.Author.Tests.{eqb-true, eqb-false, eq-eqb, ne-eqb, lt-ltb, le-ltb}
 use Rattle.model.specs.Lists.{all, keep, collect, distinct, least}
 use Rattle.model.specs.Values.{Label, Dart, code, label-of, is-critical-with}
 use Rattle.model.specs.Cells.{cycle, faces, start-of, third-at, labels-along, least-label}
-use Rattle.model.specs.Image.{column, third-in, label-in}
-use Rattle.model.specs.Departure.{Placed, part2-entry, part4-entry, least-labels}
+use Rattle.model.specs.Image.{count-in, column, third-in, label-in}
+use Rattle.model.specs.Departure.{part2-entry, part4-entry, least-labels}
+use Rattle.model.specs.Links.{Placed}
 use Rattle.laws.proofs.Tests.{by-cases, and-left}
 use Rattle.laws.proofs.Members.{In, in-here, in-there, in-eq, in-append-left, in-append-right, distinct-left, distinct-apart, in-map, map-in, Each, each-map, keep-in, least-in, one-kept, keep-map, map-map, map-cong, collect-map}
 use Rattle.laws.proofs.Faces.{face-stays, along-face, face-distinct}
@@ -26,7 +27,7 @@ use Rattle.cells.proofs.Reached.{places, in-places, places-below, within-places
 use Rattle.cells.proofs.Paths.{round, apart-places, few-places}
 use Rattle.cells.proofs.FaceSerials.{marked-below}
 use Rattle.cells.proofs.StartLaws.{cycle-start}
-use Rattle.cells.proofs.Sited.{Sited, darts-in, count-in}
+use Rattle.cells.proofs.Sited.{Sited, darts-in}
 use Rattle.departure.specs.ByPlaces.{label-at, least-at}
 
 -- FACES of a block's memory

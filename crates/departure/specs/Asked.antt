@@ -2,14 +2,14 @@
 use mathlib.Core.Path.{_≡_}
 use mathlib.Core.List.{List}
 use Prim.Native.Nat.{ℕ, _+_, _≤_, _<_, _^_}
-use lib.ListN.{length, getD, replicate, take}
+use lib.ListN.{length, getD, take}
 use Rattle.model.specs.Lists.{keep}
 use Rattle.model.specs.Cells.{faces, start-of}
-use Rattle.model.specs.Image.{room, column, block-in}
+use Rattle.model.specs.Image.{column, block-in}
 use Rattle.model.specs.Departure.{departure-checks}
 use Rattle.model.specs.Calls.{served, refused}
 use Rattle.answers.specs.Answers.{answered, question}
-use Rattle.cells.specs.Places.{InOrder, Marked, Numbered, marked, sewn-out, volume-of}
+use Rattle.cells.specs.Places.{Clear, InOrder, Marked, Numbered, marked, sewn-out, volume-of}
 use Rattle.departure.specs.declared.Counts.{Counts}
 use Rattle.departure.specs.declared.Leaving.{Leaving}
 use Rattle.departure.specs.declared.Leaving.the-variants.{Volume, Refused}
@@ -23,24 +23,25 @@ pub record Surveyed (m : List ℕ) (c : Counts) (marks out starts numbers firsts
   pub place : ℕ
   pub place-below : place < getD m 2 0
   pub volume-marked : Marked (volume-of m place) marks
+  pub marks-size : getD m 2 0 ≤ length marks
   pub order : InOrder (faces-at m marks) out starts (c .darts) (c .faces)
   pub numbering : Numbered (column m 1) (column m 2) (take (c .darts) out) numbers firsts (c .vertices)
   pub sewn-is : c .sewn ≡ length (keep (λ f. sewn-out m marks (start-of f)) (faces-at m marks))
   pub few : c .darts ≤ 512
 
--- each answer is yes: the volume of the dart with serial s may go to block j
-pub record Departs (m : List ℕ) (j s : ℕ) (c : Counts) (marks out starts numbers firsts : List ℕ) : Type 0 where
-  pub asked : served tt ≡ answered (departure-checks 512 (block-in m) j s)
+-- each answer is yes: the volume of the dart with serial s, of at most `most` darts, may go to block j
+pub record Departs (most : ℕ) (m : List ℕ) (j s : ℕ) (c : Counts) (marks out starts numbers firsts : List ℕ) : Type 0 where
+  pub asked : served tt ≡ answered (departure-checks most (block-in m) j s)
   pub survey : Surveyed m c marks out starts numbers firsts
   pub serial-is : column m 0 (survey .place) ≡ s
   pub to-block : j ≤ 15
   pub counter-fits : getD m 1 0 + c .sewn < 2 ^ 32
 
-abbrev pub Leaves : List ℕ → ℕ → ℕ → Leaving → List ℕ → List ℕ → List ℕ → List ℕ → List ℕ → Type 0
-Leaves m j s (Volume c) marks out starts numbers firsts = Departs m j s c marks out starts numbers firsts
-Leaves m j s (Refused r) marks out starts numbers firsts = refused (question r) ≡ answered (departure-checks 512 (block-in m) j s)
+abbrev pub Leaves : ℕ → List ℕ → ℕ → ℕ → Leaving → List ℕ → List ℕ → List ℕ → List ℕ → List ℕ → Type 0
+Leaves most m j s (Volume c) marks out starts numbers firsts = Departs most m j s c marks out starts numbers firsts
+Leaves most m j s (Refused r) marks out starts numbers firsts = refused (question r) ≡ answered (departure-checks most (block-in m) j s)
 
 -- a volume that does not leave is marked nowhere
 abbrev pub Forgotten : Leaving → List ℕ → List ℕ → Type 0
 Forgotten (Volume c) marks seen = Unit {0}
-Forgotten (Refused r) marks seen = (marks ≡ replicate room 0) × (seen ≡ replicate room 0)
+Forgotten (Refused r) marks seen = Clear marks × Clear seen

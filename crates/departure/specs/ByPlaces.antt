@@ -11,7 +11,8 @@ use Rattle.model.specs.Values.{Label}
 use Rattle.model.specs.Cells.{start-of}
 use Rattle.model.specs.Image.{column, dart-in, label-in}
 use Rattle.model.specs.Messages.{FaceDart, Part2, Part4, Transfer, Update}
-use Rattle.model.specs.Departure.{Placed, placed, part3-from}
+use Rattle.model.specs.Departure.{part3-from}
+use Rattle.model.specs.Links.{Placed, placed}
 use Rattle.cells.specs.Places.{sewn-out}
 
 -- the dart at place p is critical with block j; with another one

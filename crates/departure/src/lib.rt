@@ -3,13 +3,14 @@ ghost use mathlib.Core.Path.{_≡_};
 ghost use mathlib.Core.Bool.{true, not, _&&_};
 ghost use Prim.Native.Nat.{ℕ, _+_, _≤_, _<_, _^_};
 ghost use lib.Dec.{leb, ltb, eqb};
-ghost use lib.ListN.{length, getD, replicate, take};
-ghost use Rattle.model.specs.Values.{rack};
-ghost use Rattle.model.specs.Image.{room, words, is-image};
-ghost use Rattle.cells.specs.Places.{Marked};
+ghost use lib.ListN.{length, getD, take};
+ghost use Rattle.model.specs.Values.{room};
+ghost use Rattle.model.specs.Image.{count-in, holds-block};
+ghost use Rattle.memory.specs.Header.{limits-of};
+ghost use Rattle.cells.specs.Places.{Clear, Marked};
 ghost use Rattle.departure.specs.Asked.{Forgotten, Leaves};
 use answers::Refusal;
-use memory::header::Header;
+use memory::header::Limits;
 use memory::lookup;
 use memory::lookup::Found;
 
@@ -29,7 +30,7 @@ pub enum Leaving {
 
 // 9: is the destination at most 15 and not this block?
 fn destination_right(block: &[u64], to: u64) -> bool
-    requires { ⌜ length (now block) ≡ words ⌝ }
+    requires { ⌜ 8 ≤ length (now block) ⌝ }
     ensures { λ r. ⌜ r ≡ (leb to 15 && not (eqb to (getD (now (block .entry)) 0 0))) ⌝ }
 {
     (to <= 15) & (to != block[0])
@@ -37,7 +38,7 @@ fn destination_right(block: &[u64], to: u64) -> bool
 
 // 14: does the counter stay a number below 2^32, with one more for each face sewn to another volume?
 fn counter_fits(block: &[u64], sewn: usize) -> bool
-    requires { ⌜ (length (now block) ≡ words) × (getD (now block) 1 0 < 2 ^ 32) × (sewn ≤ room) ⌝ }
+    requires { ⌜ (8 ≤ length (now block)) × (getD (now block) 1 0 < 2 ^ 32) × (sewn ≤ room) ⌝ }
     ensures { λ r. ⌜ r ≡ ltb (getD (now (block .entry)) 1 0 + sewn) (2 ^ 32) ⌝ }
 {
     block[1] + (sewn as u64) < 4294967296
@@ -45,19 +46,20 @@ fn counter_fits(block: &[u64], sewn: usize) -> bool
 
 // Takes the marks of a volume that does not leave away, at its own darts alone.
 fn forget(out: &[usize], darts: usize, marks: &mut [u8], seen: &mut [u8])
-    requires { ⌜ (darts ≤ room) × (darts ≤ length (now out)) × ((k : ℕ) → k < darts → getD (now out) k 0 < room) × Marked (take darts (now out)) (now marks) × Marked (take darts (now out)) (now seen) ⌝ }
-    ensures { λ _. ⌜ (now (marks .exit) ≡ replicate room 0) × (now (seen .exit) ≡ replicate room 0) ⌝ }
+    requires { ⌜ (darts ≤ room) × (darts ≤ length (now out)) × ((k : ℕ) → k < darts → (getD (now out) k 0 < length (now marks)) × (getD (now out) k 0 < length (now seen))) × Marked (take darts (now out)) (now marks) × Marked (take darts (now out)) (now seen) ⌝ }
+    ensures { λ _. ⌜ Clear (now (marks .exit)) × Clear (now (seen .exit)) ⌝ }
 {
     cells::reset::unmark(out, darts, marks);
     cells::reset::unmark(out, darts, seen);
 }
 
-// Whether the volume of the dart with this serial may go to another block. On a yes it is marked, by place, in `marks`; its faces
+// Whether the volume of the dart with this serial may go to another block, by the limits of this one. On a yes it is marked, by place, in `marks`; its faces
 // stand in `out` in message order, the index of each one's start in `starts`; `numbers` has the number of each dart's vertex, by
 // place, and `firsts` a dart of each vertex. On a no `marks` and `seen` are clear again, at a cost that goes by the volume's size, so
 // that many volumes may be asked in turn.
 pub fn leaves(
     block: &[u64],
+    limits: Limits,
     to: u64,
     serial: u64,
     marks: &mut [u8],
@@ -68,10 +70,11 @@ pub fn leaves(
     firsts: &mut [usize],
     stamps: &mut [usize],
 ) -> Leaving
-    requires { ⌜ is-image rack (now block) ≡ true ⌝ }
-    requires { ⌜ (now marks ≡ replicate room 0) × (length (now out) ≡ room) × (length (now starts) ≡ room) × (now seen ≡ replicate room 0) ⌝ }
-    requires { ⌜ (length (now numbers) ≡ room) × (length (now firsts) ≡ room) × (length (now stamps) ≡ 512) ⌝ }
-    ensures answer { λ r. ⌜ Leaves (now (block .entry)) to serial r (now (marks .exit)) (now (out .exit)) (now (starts .exit)) (now (numbers .exit)) (now (firsts .exit)) ⌝ }
+    requires { ⌜ (holds-block (now block) ≡ true) × (limits .volume ≤ 512) ⌝ }
+    requires { ⌜ (count-in (now block) ≤ length (now marks)) × Clear (now marks) × (count-in (now block) ≤ length (now seen)) × Clear (now seen) ⌝ }
+    requires { ⌜ (count-in (now block) ≤ length (now out)) × (count-in (now block) ≤ length (now starts)) × (count-in (now block) ≤ length (now numbers)) ⌝ }
+    requires { ⌜ (count-in (now block) ≤ length (now firsts)) × (limits .volume ≤ length (now stamps)) ⌝ }
+    ensures answer { λ r. ⌜ Leaves (limits-of limits .volume-darts) (now (block .entry)) to serial r (now (marks .exit)) (now (out .exit)) (now (starts .exit)) (now (numbers .exit)) (now (firsts .exit)) ⌝ }
     ensures clear { λ r. ⌜ Forgotten r (now (marks .exit)) (now (seen .exit)) ⌝ }
 {
     if !destination_right(block, to) {
@@ -82,8 +85,8 @@ pub fn leaves(
         return Leaving::Refused(Refusal::SerialNotHeld);
     };
     // `out` lists the darts as the walk met them before it has them in order.
-    let size = cells::walk::volume(block, n, place.0, out, marks);
-    if Header::VOLUME < size {
+    let size = cells::walk::volume(block, n, place, out, marks);
+    if limits.volume < size {
         cells::reset::unmark(out, size, marks);
         return Leaving::Refused(Refusal::VolumeTooLarge);
     }

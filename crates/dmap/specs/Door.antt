@@ -1,14 +1,15 @@
 -- What a call gives through the C door: its number, what was lent, and the bytes written or the next move. Assumes nothing.
 use mathlib.Core.Path.{_≡_}
+use mathlib.Core.Logic.{_≢_}
 use mathlib.Core.Bool.{cond}
 use mathlib.Core.List.{List}
 use Prim.Native.Nat.{ℕ}
 use lib.Dec.{eqb}
 use lib.ListN.{length, getD}
 use lib.Ieee.{Float, binary64, toBits}
-use Rattle.model.specs.Values.{Point, all-rack}
+use Rattle.model.specs.Values.{Point, rack, all-rack}
 use Rattle.model.specs.Balance.{NextMove}
-use Rattle.model.specs.Calls.{Answer, served, refused, Result, number-of, values-of, written-values, move-values, next-move-by-number}
+use Rattle.model.specs.Calls.{Answer, served, refused, Result, number-of, values-of, written-values, move-values, empty, read-file, save-file, send, receive, release, redirect, check-mesh, next-move-by-number}
 
 -- of a call that adds nothing: the number, and afterwards what was lent to be written
 pub record Numbered (result : Result (Unit {0})) (number : ℕ) (lent : List ℕ) : Type 0 where
@@ -56,3 +57,21 @@ pub record ToldMove (a : Answer NextMove) (before : List ℕ) (number : ℕ) (wo
 pub record Moved (result : Result NextMove) (before : List ℕ) (number : ℕ) (lent words : List ℕ) : Type 0 where
   pub told : ToldMove (result .answer) before number words
   pub left : lent ≡ result .lent
+
+-- DEMAND 1 THROUGH THE DOOR: "A refused call returns that number only and changes no byte that was lent to it". Lent to be written are the
+-- block's memory, the output, the outbox or the scratch, the count behind `written` and the words of `answer`: a call whose number is not 0
+-- leaves all of them. Files, messages and meshes, and the block of a save or a send, are lent by `&`: such a slice cannot be written, so it
+-- is not among what a call returns.
+pub record DoorKeeps : Type 0 where
+  pub empty-keeps : (n : ℕ) (m : List ℕ) (number : ℕ) (lent : List ℕ) → Numbered (empty rack n m) number lent → number ≢ 0 → lent ≡ m
+  pub read-file-keeps : (file m : List ℕ) (number : ℕ) (lent : List ℕ) → Numbered (read-file rack file m) number lent → number ≢ 0 → lent ≡ m
+  pub save-file-keeps : (m out : List ℕ) (before number : ℕ) (lent : List ℕ) (written : ℕ) → Counted (save-file rack m out) before number lent written
+      → number ≢ 0 → (lent ≡ out) × (written ≡ before)
+  pub send-keeps : (m : List ℕ) (j s : ℕ) (outbox : List ℕ) (before number : ℕ) (lent : List ℕ) (written : ℕ)
+      → Counted (send rack m j s outbox) before number lent written → number ≢ 0 → (lent ≡ outbox) × (written ≡ before)
+  pub receive-keeps : (m message : List ℕ) (number : ℕ) (lent : List ℕ) → Numbered (receive rack m message) number lent → number ≢ 0 → lent ≡ m
+  pub release-keeps : (m : List ℕ) (j s number : ℕ) (lent : List ℕ) → Numbered (release rack m j s) number lent → number ≢ 0 → lent ≡ m
+  pub redirect-keeps : (m message : List ℕ) (number : ℕ) (lent : List ℕ) → Numbered (redirect rack m message) number lent → number ≢ 0 → lent ≡ m
+  pub check-mesh-keeps : (mesh scratch : List ℕ) (number : ℕ) (lent : List ℕ) → Numbered (check-mesh all-rack mesh scratch) number lent → number ≢ 0 → lent ≡ scratch
+  pub next-move-keeps : (mesh : List ℕ) (n axis : ℕ) (low high : Point) (scratch before : List ℕ) (number : ℕ) (lent words : List ℕ)
+      → Moved (next-move-told mesh n axis low high scratch before) before number lent words → number ≢ 0 → (lent ≡ scratch) × (words ≡ before)

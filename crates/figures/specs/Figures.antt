@@ -6,7 +6,7 @@ use Prim.Native.Nat.{ℕ, zero, suc, _+_, _*_}
 use lib.ListN.{replicate}
 use Rattle.model.specs.Lists.{all, concat, same-list}
 use Rattle.model.specs.Values.{Dart, all-rack}
-use Rattle.model.specs.Image.{image, block-in}
+use Rattle.model.specs.Image.{words, image, block-in}
 use Rattle.model.specs.Balance.{every, Move, NextMove, level, blocked, move, counts, mean}
 use Rattle.model.specs.Calls.{Answer, served, refused, scratch-entries, next-move}
 use Rattle.model.specs.Everything.{everything}
@@ -21,7 +21,7 @@ pillows (suc n) k = pillow k ++ pillows n (k + 6)
 blocks-of : ℕ → ℕ → List ℕ → List (List ℕ)
 unfolding pillows block everything
 blocks-of b k [] = []
-blocks-of b k (n ∷ ns) = image (block b (pillows n k)) ∷ blocks-of (suc b) (k + n * 6) ns
+blocks-of b k (n ∷ ns) = image words (block b (pillows n k)) ∷ blocks-of (suc b) (k + n * 6) ns
 
 answered : List (List ℕ) → Answer NextMove
 unfolding everything

@@ -11,7 +11,7 @@ use borrow.Author.Tests.{leb-true, le-leb, not-true}
 use Rattle.model.specs.Lists.{all, keep, concat, mem, distinct, least}
 use Rattle.model.specs.Cells.{around, cycle, faces}
 use Rattle.laws.proofs.Members.{In, in-here, in-there, in-keep, in-cons, in-eq, all-in, all-from, keep-in, in-append-left, in-append-right, append-in, distinct-append, least-in, least-below}
-use Rattle.laws.proofs.Orbits.{iter, iter-add, path, path-in, iter-stays, iter-inj, around-path, Cyc, in-cycle, cycle-in, cycle-sym}
+use Rattle.laws.proofs.Orbits.{iter, iter-add, path, path-in, iter-stays, iter-inj, around-path, around-enough, Cyc, in-cycle, cycle-in, cycle-sym}
 use Rattle.laws.proofs.Tests.{and-intro, and-left, and-right}
 
 module _ (nx : ℕ → ℕ) (v : List ℕ) (stays : (x : ℕ) → In x v → In (nx x) v) (inj : (x y : ℕ) → In x v → In y v → nx x ≡ nx y → x ≡ y) (small : length v ≤ 4096) where
@@ -80,6 +80,11 @@ module _ (nx : ℕ → ℕ) (v : List ℕ) (stays : (x : ℕ) → In x v → In 
       path-length : (p x : ℕ) → length (path nx p x) ≡ p
       path-length zero x = refl
       path-length (suc p) x = ap suc (path-length p (nx x))
+
+  -- so many steps are enough: with more of them the cycle is the same
+  pub cycle-enough : (n x : ℕ) → 4096 ≤ n → In x v → around nx x n x ≡ cycle nx x
+  unfolding cycle
+  cycle-enough n x h m = around-enough nx v stays inj n 4096 x (omega arith) small m
 
   -- what holds of a dart and goes on along next holds of its face
   pub along-face : (P : ℕ → Type 0) → ((y : ℕ) → In y v → P y → P (nx y)) → (x y : ℕ) → In x v → P x → In y (face x) → P y

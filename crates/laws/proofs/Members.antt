@@ -9,7 +9,7 @@ use native.Mathlib.Omega.{arith}
 use lib.Dec.{leb, ltb, eqb}
 use lib.ListN.{length, getD}
 use borrow.Author.Tests.{eqb-true, eqb-false, eq-eqb, ne-eqb, ltb-true, lt-ltb, leb-true, leb-false, not-true}
-use Rattle.model.specs.Lists.{all, any, keep, mem, distinct, ascending, find, firsts, more, collect, least, least-from}
+use Rattle.model.specs.Lists.{all, any, keep, mem, tab, distinct, ascending, find, firsts, more, collect, least, least-from}
 use Rattle.laws.proofs.Tests.{by-cases, and-intro, and-left, and-right, not-equal}
 
 -- MEMBERS
@@ -227,6 +227,10 @@ abbrev pub Each : {A : Type 0} → (A → Type 0) → List A → Type 0
 Each P [] = Unit {0}
 Each P (x ∷ xs) = P x × Each P xs
 
+pub each-tab : {A : Type 0} (P : A → Type 0) (f : ℕ → A) (n : ℕ) → ((i : ℕ) → i < n → P (f i)) → Each P (tab f n)
+each-tab P f zero h = tt
+each-tab P f (suc n) h = (h 0 (omega arith), each-tab P (λ k. f (suc k)) n (λ i l. h (suc i) (omega (arith, l))))
+
 pub each-append : {A : Type 0} (P : A → Type 0) (xs ys : List A) → Each P xs → Each P ys → Each P (xs ++ ys)
 each-append P [] ys a b = b
 each-append P (x ∷ xs) ys a b = (a .0, each-append P xs ys (a .1) b)
@@ -416,3 +420,33 @@ pub firsts-fewer : (l : List ℕ) → length (firsts l) ≤ length l
 unfolding firsts
 firsts-fewer [] = omega arith
 firsts-fewer (x ∷ l) = let a = keep-le (λ y. not (eqb x y)) (firsts l) in let b = firsts-fewer l in omega arith
+
+-- EACH, over lists
+pub each-both : {A : Type 0} {P Q R : A → Type 0} (l : List A) → Each P l → Each Q l → ((x : A) → P x → Q x → R x) → Each R l
+each-both [] p q f = tt
+each-both (x ∷ l) p q f = (f x (p .0) (q .0), each-both l (p .1) (q .1) f)
+
+pub each-weaken : {A : Type 0} {P Q : A → Type 0} (l : List A) → Each P l → ((x : A) → P x → Q x) → Each Q l
+each-weaken [] p f = tt
+each-weaken (x ∷ l) p f = (f x (p .0), each-weaken l (p .1) f)
+
+pub each-keep : {A : Type 0} (P : A → Type 0) (q : A → Bool) (l : List A) → Each P l → Each P (keep q l)
+each-keep P q [] p = tt
+each-keep P q (x ∷ l) p = by-cases (q x) (λ e. rw e (p .0, each-keep P q l (p .1))) (λ e. rw e (each-keep P q l (p .1)))
+
+pub all-each : {A : Type 0} (p : A → Bool) (l : List A) → Each (λ a. p a ≡ true) l → all p l ≡ true
+all-each p [] e = refl
+all-each p (a ∷ l) e = and-intro (e .0) (all-each p l (e .1))
+
+pub firsts-have : (y : ℕ) (l : List ℕ) → In y l → In y (firsts l)
+unfolding firsts
+firsts-have y [] h = h
+firsts-have y (x ∷ l) h = by-cases (eqb y x)
+    (λ e. in-eq y x (x ∷ keep (λ z. not (eqb x z)) (firsts l)) (eqb-true y x e) (in-here x (keep (λ z. not (eqb x z)) (firsts l))))
+    (λ e. in-there y x (keep (λ z. not (eqb x z)) (firsts l)) (in-keep (λ z. not (eqb x z)) y (firsts l) (firsts-have y l (rw e at h)) (not-equal x y (λ q. eqb-false y x e (sym q)))))
+
+pub firsts-only : (y : ℕ) (l : List ℕ) → In y (firsts l) → In y l
+unfolding firsts
+firsts-only y [] h = h
+firsts-only y (x ∷ l) h = in-cons y x (keep (λ z. not (eqb x z)) (firsts l)) h (λ e. in-eq y x (x ∷ l) e (in-here x l))
+    (λ k. in-there y x l (firsts-only y l (keep-in (λ z. not (eqb x z)) (firsts l) y k .0)))

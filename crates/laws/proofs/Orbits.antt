@@ -153,3 +153,17 @@ module _ (f : ℕ → ℕ) (ds : List ℕ) (stays : (x : ℕ) → In x ds → In
     where
       go : (k : ℕ) × (y ≡ iter f k x) × ((j : ℕ) × (x ≡ iter f j y)) → In x (around f y n y)
       go q = subst (λ (z : ℕ). In z (around f y n y)) (sym (q .2 .1)) (in-cycle n y (q .2 .0) big k)
+
+  -- steps beyond the size of the set change nothing: the cycle has closed
+  pub around-enough : (n m x : ℕ) → length ds ≤ n → length ds ≤ m → In x ds → around f x n x ≡ around f x m x
+  around-enough n m x big large h = go (around-path n x big h) (around-path m x large h)
+    where
+      go : Cyc n x → Cyc m x → around f x n x ≡ around f x m x
+      go p q = p .3 ∙ ap (λ (k : ℕ). path f k x) same ∙ sym (q .3)
+        where
+          same : p .0 ≡ q .0
+          same = by-cases (ltb (p .0) (q .0))
+              (λ e. absurd (q .5 (p .0) (p .1) (ltb-true (p .0) (q .0) e) (p .4)))
+              (λ e. by-cases (ltb (q .0) (p .0))
+              (λ t. absurd (p .5 (q .0) (q .1) (ltb-true (q .0) (p .0) t) (q .4)))
+              (λ t. omega (arith, ltb-false (p .0) (q .0) e, ltb-false (q .0) (p .0) t)))

@@ -145,3 +145,9 @@ pub first-no-stays : (ps qs : List Check) → first-no ps ≢ 0 → first-no (ps
 unfolding first-no
 first-no-stays [] qs h = absurd (h refl)
 first-no-stays (p ∷ ps) qs h = by-cases (p .1) (λ t. rw t (first-no-stays ps qs (rw t at h))) (λ t. rw t)
+
+-- a yes to all is a yes to the first ones
+pub first-no-left : (ps qs : List Check) → first-no (ps ++ qs) ≡ 0 → first-no ps ≡ 0
+first-no-left ps qs e = by-cases (eqb (first-no ps) 0)
+    (λ z. eqb-true (first-no ps) 0 z)
+    (λ z. sym (first-no-stays ps qs (eqb-false (first-no ps) 0 z)) ∙ e)

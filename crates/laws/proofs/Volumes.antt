@@ -92,6 +92,21 @@ module _ (f g : ℕ → ℕ) (ds : List ℕ) (stays-f : (x : ℕ) → In x ds �
       on : Res (x ∷ seen) (f x ∷ g x ∷ todo) (reach f g n (x ∷ seen) (f x ∷ g x ∷ todo)) → Res seen (x ∷ todo) (reach f g n (x ∷ seen) (f x ∷ g x ∷ todo))
       on r = record { keeps = λ y h. r .keeps y (shift y h); closed-f = r .closed-f; closed-g = r .closed-g }
 
+  -- steps that are left over change nothing
+  reach-enough : (n m : ℕ) (seen todo : List ℕ) → ((y : ℕ) → In y todo → In y ds) → 2 * unseen seen + length todo < n → 2 * unseen seen + length todo < m
+      → reach f g n seen todo ≡ reach f g m seen todo
+  unfolding reach
+  reach-enough zero m seen todo sub few many = absurd (not-suc-le-zero few)
+  reach-enough (suc n) zero seen todo sub few many = absurd (not-suc-le-zero many)
+  reach-enough (suc n) (suc m) seen [] sub few many = refl
+  reach-enough (suc n) (suc m) seen (x ∷ todo) sub few many = by-cases (mem x seen)
+      (λ e. rw e (reach-enough n m seen todo (λ y h. sub y (in-there y x todo h)) (omega arith) (omega arith)))
+      (λ e. let here : In x ds = sub x (in-here x todo) in
+      let less = unseen-less x seen here e in
+      rw e (reach-enough n m (x ∷ seen) (f x ∷ g x ∷ todo)
+      (λ y h. in-cons y (f x) (g x ∷ todo) h (λ q. in-eq y (f x) ds q (stays-f x here))
+      (λ k. in-cons y (g x) todo k (λ q. in-eq y (g x) ds q (stays-g x here)) (λ j. sub y (in-there y x todo j)))) (omega arith) (omega arith)))
+
 -- what is reached lies in every set that is closed and holds what was seen and to do
 module _ (f g : ℕ → ℕ) (P : ℕ → Type 0) (pf : (x : ℕ) → P x → P (f x)) (pg : (x : ℕ) → P x → P (g x)) where
   pub reach-least : (n : ℕ) (seen todo : List ℕ) → ((y : ℕ) → In y seen → P y) → ((y : ℕ) → In y todo → P y) → (y : ℕ) → In y (reach f g n seen todo) → P y
@@ -126,3 +141,11 @@ volume-is f g ds sf sg small s h = go (reach-closed f g ds sf sg (3 * 4096) [] (
       closed-g = r .closed-g;
       least = λ P ps pf pg. reach-least f g P pf pg (3 * 4096) [] (s ∷ []) (λ y k. absurd (true≢false (sym k))) (λ y k. in-cons y s [] k (λ q. rw q ps) (λ j. absurd (true≢false (sym j))));
     }
+
+-- so many steps are enough: with more of them the volume is the same
+pub volume-enough : (f g : ℕ → ℕ) (ds : List ℕ) → ((x : ℕ) → In x ds → In (f x) ds) → ((x : ℕ) → In x ds → In (g x) ds) → length ds ≤ 4096
+    → (n s : ℕ) → 3 * 4096 ≤ n → In s ds → reach f g n [] (s ∷ []) ≡ volume f g s
+unfolding volume
+volume-enough f g ds sf sg small n s many h =
+    let few = keep-le (λ y. not (mem y [])) ds in
+    reach-enough f g ds sf sg n (3 * 4096) [] (s ∷ []) (λ y k. in-cons y s [] k (λ q. in-eq y s ds q h) (λ j. absurd (true≢false (sym j)))) (omega arith) (omega arith)

@@ -2,7 +2,8 @@
 ghost use mathlib.Core.Path.{_≡_};
 ghost use Prim.Native.Nat.{_<_};
 ghost use lib.ListN.{length};
-ghost use Rattle.model.specs.Image.{room, words};
+ghost use Rattle.model.specs.Image.{words};
+ghost use Rattle.model.specs.Values.{room};
 ghost use Rattle.leaves_run.specs.Filled.{Filled};
 use memory::header::Header;
 use memory::lookup::Found;

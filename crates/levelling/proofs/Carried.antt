@@ -10,7 +10,8 @@ use Rattle.model.specs.Sound.{Sound}
 use Rattle.model.specs.Image.{image, block-in}
 use Rattle.model.specs.Balance.{Oracle, oracle-right, Move, move, NextMove}
 use Rattle.model.specs.Calls.{Answer, served, memories, whole-mesh-checks, next-move}
-use Rattle.model.specs.Runs.{finished, last-steps, sent-messages, memory-at}
+use Rattle.model.specs.Runs.{finished}
+use Rattle.model.specs.DividedRun.{last-steps, sent-messages, memory-at}
 use Rattle.model.specs.Demands.{outbox-bytes}
 use Rattle.theory.proofs.CallLaws.{served-value}
 use Rattle.theory.proofs.MeshLaws.{mesh-of, mesh-parts, memories-are, images-pass}

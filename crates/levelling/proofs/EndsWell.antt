@@ -14,7 +14,8 @@ use Rattle.model.specs.Balance as balance
 use Rattle.model.specs.Balance.{Oracle, oracle-right, positive-surplus, Move, move, NextMove, next-of}
 use Rattle.model.specs.Calls.{Answer, served, refused, Result, memories, whole-mesh-checks, next-move}
 use Rattle.model.specs.Runs as runs
-use Rattle.model.specs.Runs.{Request, finished, memory-at, last-steps, sent-messages}
+use Rattle.model.specs.Runs.{Request, finished}
+use Rattle.model.specs.DividedRun.{memory-at, last-steps, sent-messages}
 use Rattle.laws.proofs.Tests.{by-cases, yes-then, no-here, no-more, first-no-append}
 use Rattle.theory.proofs.CallLaws.{served-gives, refused-gives}
 use Rattle.theory.proofs.MeshLaws.{mesh-parts, memories-are, images-pass, sound-passes}

@@ -14,7 +14,7 @@ use Rattle.model.specs.Lists.{all, keep, tab, sum, mem, distinct}
 use Rattle.model.specs.Values.{Label, Dart, Block, all-rack}
 use Rattle.model.specs.Cells.{dart-at, volume-in, volume-starts}
 use Rattle.model.specs.Balance.{Oracle, picks, picked, counts, mean, surpluses, positive-part, positive-surplus}
-use Rattle.model.specs.Runs.{State, op, start, cell}
+use Rattle.model.specs.UndividedRun.{State, op, start, cell}
 use Rattle.laws.proofs.Members.{In, all-in, keep-in, keep-le, append-in, keep-ascending, ascending-distinct, distinct-append, distinct-fewer, distinct-map, map-in}
 use Rattle.laws.proofs.Tables.{map-tab}
 use Rattle.agreement.proofs.Agreement.{rack-fits}

@@ -13,7 +13,8 @@ use Rattle.model.specs.Sound.{Sound}
 use Rattle.model.specs.Image.{image}
 use Rattle.model.specs.Balance.{Oracle, oracle-right, positive-surplus, Move}
 use Rattle.model.specs.Calls.{next-move, scratch-entries}
-use Rattle.model.specs.Runs.{Request, finished, whole-map}
+use Rattle.model.specs.Runs.{Request, finished}
+use Rattle.model.specs.UndividedRun.{whole-map}
 use Rattle.model.specs.Demands.{outbox-bytes}
 use Rattle.rounds.specs.Played.{asks-for}
 use Rattle.rounds.specs.Requests as list

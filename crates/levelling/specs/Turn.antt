@@ -8,7 +8,7 @@ use Rattle.model.specs.Balance as balance
 use Rattle.model.specs.Balance.{Oracle, NextMove, Move}
 use Rattle.model.specs.Calls.{Answer, served, refused, memories, send, next-move}
 use Rattle.model.specs.Runs as runs
-use Rattle.model.specs.Runs.{memory-at}
+use Rattle.model.specs.DividedRun.{memory-at}
 use Rattle.answers.specs.Answers.{question}
 use Rattle.rounds.specs.Played.{left-over, asks-for, round-in-order}
 use Rattle.levelling.specs.declared.Ending.{Ending}

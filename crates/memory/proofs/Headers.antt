@@ -10,7 +10,8 @@ use borrow.Author.Tests.{eq-eqb, ne-eqb, le-leb, lt-leb}
 use Rattle.laws.proofs.Lists.{drop-zeros}
 use Rattle.model.specs.Lists.{concat}
 use Rattle.model.specs.Cells.{labels}
-use Rattle.model.specs.Image.{room, words, image, new-block}
+use Rattle.model.specs.Image.{words, image, new-block}
+use Rattle.model.specs.Values.{rack}
 use Rattle.memory.specs.Header.{empty-header, header-words}
 use Rattle.memory.specs.declared.header.Header.{Header}
 use Rattle.model.specs.Calls.{served, refused, storing, empty}
@@ -43,26 +44,26 @@ clear-all {m} {x} {i} w h =
     sym (take-all i x h) ∙ w .zeros ∙ ap (λ (k : ℕ). replicate k 0) e
 
 -- zeros with the header of an empty block are its image
-image-of-empty : (n : ℕ) → image (new-block n []) ≡ (n ∷ 0 ∷ 0 ∷ 0 ∷ 0 ∷ 0 ∷ 0 ∷ 0 ∷ []) ++ replicate (room * 8) 0
+image-of-empty : (size n : ℕ) → image size (new-block n []) ≡ (n ∷ 0 ∷ 0 ∷ 0 ∷ 0 ∷ 0 ∷ 0 ∷ 0 ∷ []) ++ replicate (size - 8) 0
 unfolding image new-block labels concat
-image-of-empty n = refl
+image-of-empty size n = refl
 
-pub empty-image : (n : ℕ) (m : List ℕ) {x y : List ℕ} {h : Header} → length m ≡ words → x ≡ replicate (length m) 0
-    → h ≡ empty-header n → y ≡ header-words h ++ drop 8 x → y ≡ image (new-block n [])
+pub empty-image : (n : ℕ) (m : List ℕ) {x y : List ℕ} {h : Header} → 8 ≤ length m → x ≡ replicate (length m) 0
+    → h ≡ empty-header n → y ≡ header-words h ++ drop 8 x → y ≡ image (length m) (new-block n [])
 empty-image n m {x} {y} {h} l e g f =
     f ∙ ap (λ (k : Header). header-words k ++ drop 8 x) g
-    ∙ ap (λ (k : List ℕ). header-words (empty-header n) ++ k) (ap (drop 8) e ∙ drop-zeros 8 (room * 8) (length m) (omega arith))
-    ∙ sym (image-of-empty n)
+    ∙ ap (λ (k : List ℕ). header-words (empty-header n) ++ k) (ap (drop 8) e ∙ drop-zeros 8 (length m - 8) (length m) (omega arith))
+    ∙ sym (image-of-empty (length m) n)
 
 -- the questions of an empty block
-pub refused-size : (n : ℕ) (m : List ℕ) → (length m ≡ words → ⊥) → Gives (empty n m) (refused 1) m
+pub refused-size : (n : ℕ) (m : List ℕ) → (length m ≡ words → ⊥) → Gives (empty rack n m) (refused 1) m
 unfolding empty storing
 refused-size n m h = gives _ _ _ _ (ask-no refl (ne-eqb (length m) words h) refl)
 
-pub refused-number : (n : ℕ) (m : List ℕ) → length m ≡ words → 15 < n → Gives (empty n m) (refused 9) m
+pub refused-number : (n : ℕ) (m : List ℕ) → length m ≡ words → 15 < n → Gives (empty rack n m) (refused 9) m
 unfolding empty storing
 refused-number n m h k = gives _ _ _ _ (ask-yes (eq-eqb (length m) words h) (ask-no refl (lt-leb n 15 k) refl))
 
-pub served-empty : (n : ℕ) (m : List ℕ) {x : List ℕ} → length m ≡ words → n ≤ 15 → x ≡ image (new-block n []) → Gives (empty n m) (served tt) x
+pub served-empty : (n : ℕ) (m : List ℕ) {x : List ℕ} → length m ≡ words → n ≤ 15 → x ≡ image (length m) (new-block n []) → Gives (empty rack n m) (served tt) x
 unfolding empty storing
-served-empty n m h k e = gives _ _ _ _ (ask-yes (eq-eqb (length m) words h) (ask-yes (le-leb n 15 k) (ask-end e)))
+served-empty n m h k e = gives _ _ _ _ (ask-yes (eq-eqb (length m) words h) (ask-yes (le-leb n 15 k) (ask-end (e ∙ ap (λ (size : ℕ). image size (new-block n [])) h))))

@@ -5,12 +5,13 @@ ghost use Prim.Native.Nat.{_+_, _≤_, _<_};
 ghost use lib.ListN.{length, drop, replicate};
 ghost use Rattle.model.specs.Calls.{empty as emptied};
 ghost use Rattle.answers.specs.Answers.{answer-of, Gives};
-ghost use Rattle.model.specs.Image.{words, image, new-block};
-ghost use Rattle.memory.specs.Header.{empty-header, header-in, header-words};
+ghost use Rattle.model.specs.Image.{image, new-block};
+ghost use Rattle.model.specs.Values.{rack};
+ghost use Rattle.memory.specs.Header.{empty-header, header-in, header-words, limits-of};
 use answers::Answer;
 use answers::Refusal;
 
-// The header by value. A block's limits are its constants.
+// The header by value. A block's sizes are its constants.
 pub struct Header {
     pub number: u64,
     pub counter: u64,
@@ -27,8 +28,23 @@ impl Header {
     // Blocks that a mesh may have: numbers lie below this.
     pub const BLOCKS: u64 = 16;
 
-    // Words of a block's memory: 8 of the header, 8 for each dart.
+    // Words of the header itself.
+    pub const SIZE: usize = 8;
+
+    // Words of a block's memory: those of the header, 8 for each dart.
     pub const WORDS: usize = 32776;
+
+    // Darts that a message may bring.
+    pub const MESSAGE: usize = 512;
+
+    // Numbers of labels and counters lie below this.
+    pub const NUMBERS: u64 = 4294967296;
+
+    // Positions of labels lie below this.
+    pub const POSITIONS: u64 = 4096;
+
+    // Entries of the scratch of a mesh's calls.
+    pub const SCRATCH: usize = 65536;
 
     // The header of an empty block: from its number alone, counter 0.
     pub fn empty(number: u64) -> Header
@@ -69,6 +85,24 @@ impl Header {
     }
 }
 
+// How many darts a block may have, and how many a volume that is sent.
+pub struct Limits {
+    pub block: usize,
+    pub volume: usize,
+}
+
+impl Limits {
+    // Of a node of the rack.
+    pub fn rack() -> Limits
+        ensures { λ r. ⌜ limits-of r ≡ rack ⌝ }
+    {
+        Limits {
+            block: Header::DARTS,
+            volume: Header::VOLUME,
+        }
+    }
+}
+
 // Sets every word to zero.
 pub fn clear(part: &mut [u64])
     ensures { λ _. ⌜ now (part .exit) ≡ replicate (length (now (part .entry))) 0 ⌝ }
@@ -83,8 +117,8 @@ pub fn clear(part: &mut [u64])
 
 // Makes a block's memory the image of the empty block with this number.
 pub fn make_empty(number: u64, block: &mut [u64])
-    requires { ⌜ length (now block) ≡ words ⌝ }
-    ensures { λ _. ⌜ now (block .exit) ≡ image (new-block number []) ⌝ }
+    requires { ⌜ 8 ≤ length (now block) ⌝ }
+    ensures { λ _. ⌜ now (block .exit) ≡ image (length (now (block .entry))) (new-block number []) ⌝ }
 {
     clear(block);
     Header::empty(number).write(block);
@@ -92,7 +126,7 @@ pub fn make_empty(number: u64, block: &mut [u64])
 
 // Makes an empty block. 1: is the memory of a block's size? 9: is the number at most 15? A refused call leaves the memory.
 pub fn empty(number: u64, block: &mut [u64]) -> Answer
-    ensures { λ r. ⌜ Gives (emptied number (now (block .entry))) (answer-of r) (now (block .exit)) ⌝ }
+    ensures { λ r. ⌜ Gives (emptied rack number (now (block .entry))) (answer-of r) (now (block .exit)) ⌝ }
 {
     if block.len() != Header::WORDS {
         return Answer::Refused(Refusal::MemorySize);

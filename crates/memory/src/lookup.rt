@@ -3,7 +3,7 @@ ghost use mathlib.Core.Path.{_≡_};
 ghost use Prim.Native.Nat.{_≤_};
 ghost use lib.ListN.{length};
 ghost use Rattle.laws.specs.Order.{Ascending};
-ghost use Rattle.model.specs.Image.{room, words, column};
+ghost use Rattle.model.specs.Image.{words-for, column};
 ghost use Rattle.memory.specs.Lookup.{place-in};
 use crate::record;
 use crate::record::Place;
@@ -15,7 +15,7 @@ pub enum Found {
 
 // The place of the dart with this serial among the first n.
 pub fn place_of(block: &[u64], n: usize, serial: u64) -> Found
-    requires { ⌜ (n ≤ room) × (length (now block) ≡ words) × Ascending n (column (now block) 0) ⌝ }
+    requires { ⌜ (words-for n ≤ length (now block)) × Ascending n (column (now block) 0) ⌝ }
     ensures { λ r. ⌜ r ≡ place-in (column (now (block .entry)) 0) n serial ⌝ }
 {
     if n == 0 {

@@ -1,11 +1,11 @@
 // Points: three finite floats by value, made of the words of a block's memory and turned back into them.
 ghost use mathlib.Core.Path.{_≡_};
 ghost use mathlib.Core.Bool.{true};
-ghost use Prim.Native.Nat.{_<_};
+ghost use Prim.Native.Nat.{_+_, _≤_};
 ghost use lib.ListN.{length};
 ghost use lib.Ieee.{binary64, toBits};
 ghost use Rattle.model.specs.Values.{same-point, finite-bits};
-ghost use Rattle.model.specs.Image.{room, words, column};
+ghost use Rattle.model.specs.Image.{words-for, column};
 ghost use Rattle.memory.specs.Point.{point-of, patterns, FinitePoint, FiniteAt, with-point};
 use crate::record;
 use crate::record::Place;
@@ -37,7 +37,7 @@ pub fn point_of(x: u64, y: u64, z: u64) -> Point
 
 // The point of the dart at place p.
 pub fn point_at(block: &[u64], p: Place) -> Point
-    requires { ⌜ (p .0 < room) × (length (now block) ≡ words) × FiniteAt (now block) (p .0) ⌝ }
+    requires { ⌜ (words-for (p .0 + 1) ≤ length (now block)) × FiniteAt (now block) (p .0) ⌝ }
     ensures { λ r. ⌜ r ≡ point-of (column (now (block .entry)) 5 (p .0)) (column (now (block .entry)) 6 (p .0)) (column (now (block .entry)) 7 (p .0)) ⌝ }
 {
     let i = p.0;
@@ -68,7 +68,7 @@ pub fn same_point(a: Point, b: Point) -> bool
 
 // Stores a point as that of the dart at place p.
 pub fn put_point(block: &mut [u64], p: Place, point: Point)
-    requires { ⌜ (p .0 < room) × (length (now block) ≡ words) × FinitePoint point ⌝ }
+    requires { ⌜ (words-for (p .0 + 1) ≤ length (now block)) × FinitePoint point ⌝ }
     ensures { λ _. ⌜ now (block .exit) ≡ with-point (now (block .entry)) (p .0) (patterns point) ⌝ }
 {
     let i = p.0;

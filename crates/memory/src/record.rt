@@ -1,8 +1,8 @@
 // The records of a block's memory: 8 words for each dart, by place.
 ghost use mathlib.Core.Path.{_≡_};
-ghost use Prim.Native.Nat.{_+_, _*_, _<_};
+ghost use Prim.Native.Nat.{_+_, _*_, _≤_, _<_};
 ghost use lib.ListN.{length, set};
-ghost use Rattle.model.specs.Image.{room, words, column};
+ghost use Rattle.model.specs.Image.{words-for, column};
 ghost use Rattle.memory.specs.Record.{record-in, record-words, put};
 
 // The place of a dart in a block.
@@ -23,9 +23,30 @@ pub struct Record {
     pub z: u64,
 }
 
+impl Record {
+    // Words of a record, and the number of each.
+    pub const SIZE: usize = 8;
+
+    pub const SERIAL: usize = 0;
+
+    pub const NEXT: usize = 1;
+
+    pub const OPPOSITE: usize = 2;
+
+    pub const KIND: usize = 3;
+
+    pub const LINK: usize = 4;
+
+    pub const X: usize = 5;
+
+    pub const Y: usize = 6;
+
+    pub const Z: usize = 7;
+}
+
 // Word f of the dart at place p.
 pub fn field(block: &[u64], p: Place, f: usize) -> u64
-    requires { ⌜ (p .0 < room) × (f < 8) × (length (now block) ≡ words) ⌝ }
+    requires { ⌜ (words-for (p .0 + 1) ≤ length (now block)) × (f < 8) ⌝ }
     ensures { λ r. ⌜ r ≡ column (now (block .entry)) f (p .0) ⌝ }
 {
     let i = p.0;
@@ -34,7 +55,7 @@ pub fn field(block: &[u64], p: Place, f: usize) -> u64
 
 // Sets word f of the dart at place p.
 pub fn put_field(block: &mut [u64], p: Place, f: usize, v: u64)
-    requires { ⌜ (p .0 < room) × (f < 8) × (length (now block) ≡ words) ⌝ }
+    requires { ⌜ (words-for (p .0 + 1) ≤ length (now block)) × (f < 8) ⌝ }
     ensures { λ _. ⌜ now (block .exit) ≡ set (now (block .entry)) (8 + p .0 * 8 + f) v ⌝ }
 {
     let i = p.0;
@@ -43,7 +64,7 @@ pub fn put_field(block: &mut [u64], p: Place, f: usize, v: u64)
 
 // The record at place p.
 pub fn record_at(block: &[u64], p: Place) -> Record
-    requires { ⌜ (p .0 < room) × (length (now block) ≡ words) ⌝ }
+    requires { ⌜ words-for (p .0 + 1) ≤ length (now block) ⌝ }
     ensures { λ r. ⌜ r ≡ record-in (now (block .entry)) (p .0) ⌝ }
 {
     let i = p.0;
@@ -62,7 +83,7 @@ pub fn record_at(block: &[u64], p: Place) -> Record
 
 // Stores a record at place p.
 pub fn put_record(block: &mut [u64], p: Place, r: Record)
-    requires { ⌜ (p .0 < room) × (length (now block) ≡ words) ⌝ }
+    requires { ⌜ words-for (p .0 + 1) ≤ length (now block) ⌝ }
     ensures { λ _. ⌜ now (block .exit) ≡ put (now (block .entry)) (p .0) (record-words r) ⌝ }
 {
     let i = p.0;

@@ -9,7 +9,7 @@ use Rattle.model.specs.Lists.{all, any, keep, mem, distinct, ascending, 
 use Rattle.model.specs.Values.{Label, free, sewn, critical, Dart, Block, Limits, code, same-point, finite, no-point, is-critical-with, label-of, with-other}
 use Rattle.model.specs.Cells.{cycle, volume, vertices, vertex-number, start-of, dart-at, held, next-in, opposite-in, previous-in, third-at, labels, least-label, labelled}
 use Rattle.model.specs.Messages.{FaceDart, Part2, Part3, Part4, Transfer, Update, size-all, Message, a-transfer, an-update, no-message}
-use Rattle.model.specs.Departure.{pairs-once, Placed, placed, Link, relink, label-links}
+use Rattle.model.specs.Links.{pairs-once, Placed, placed, Link, relink, label-links, sew-both}
 
 -- THE DARTS OF A TRANSFER
 -- a dart with the serial after it in its face, and the vertices of both
@@ -58,9 +58,6 @@ unfoldable pub face-from : Transfer → ℕ → List ℕ
 face-from t i = face-or (find (λ p. p .at) i (placed-faces t))
 
 -- THE BLOCK WITH THE VOLUME
-abbrev pub sew-both : List (ℕ × ℕ) → List Link
-sew-both ps = concat-map (λ p. record { dart = p .0; third = sewn (p .1) } ∷ record { dart = p .1; third = sewn (p .0) } ∷ []) ps
-
 -- "part 2 faces become sewn, their labels go": the face that it meets goes against next
 unfoldable pub part2-links : List Dart → Transfer → Part2 → List Link
 part2-links ds t m = sew-both (zip (face-from t (m .index)) (cycle (previous-in ds) (labelled (m .label) ds .serial)))

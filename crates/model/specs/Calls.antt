@@ -8,10 +8,10 @@ use Prim.Native.Nat.{ℕ, _*_, _/_}
 use lib.Dec.{leb, eqb}
 use lib.ListN.{length, getD, take, drop}
 use Rattle.model.specs.Lists.{all, concat, tab, is-some, first-no, Check}
-use Rattle.model.specs.Values.{Point, Block, no-block, Limits}
+use Rattle.model.specs.Values.{last-block, Point, Block, no-block, Limits}
 use Rattle.model.specs.Layouts.{whole}
 use Rattle.model.specs.Sound.{block-checks, mesh-checks}
-use Rattle.model.specs.Image.{words, image, block-in, is-image, memory-checks, new-block}
+use Rattle.model.specs.Image.{words, words-of, image, block-in, is-image, memory-checks, new-block}
 use Rattle.model.specs.Messages.{file, message-in}
 use Rattle.model.specs.Departure.{departure-checks, messages, released}
 use Rattle.model.specs.Arrival.{receive-checks, received-from, redirect-checks, redirected-from}
@@ -57,8 +57,8 @@ asked qs before value after =
     cond (eqb n 0) granted (record { answer = refused n; lent = before })
 
 -- a call that stores a block
-unfoldable pub storing : List Check → List ℕ → Block → Result (Unit {0})
-storing qs m b = asked qs m tt (image b)
+unfoldable pub storing : Limits → List Check → List ℕ → Block → Result (Unit {0})
+storing lim qs m b = asked qs m tt (image (words-of lim) b)
 
 -- a call that adds the bytes written, whose last question is 15: "Output long enough?"; bytes past those written stay
 unfoldable pub writing : List Check → List ℕ → List ℕ → Result ℕ
@@ -66,8 +66,8 @@ writing qs out bytes = asked (qs ++ (15, leb (length bytes) (length out)) ∷ []
 
 -- ONE BLOCK
 -- 1, 9: "An empty block is made from its number alone, counter 0"
-unfoldable pub empty : ℕ → List ℕ → Result (Unit {0})
-empty n m = storing ((1, eqb (length m) words) ∷ (9, leb n 15) ∷ []) m (new-block n [])
+unfoldable pub empty : Limits → ℕ → List ℕ → Result (Unit {0})
+empty lim n m = storing lim ((1, eqb (length m) (words-of lim)) ∷ (9, leb n last-block) ∷ []) m (new-block n [])
 
 abbrev pub or-no-block : Option Block → Block
 or-no-block none = no-block
@@ -77,7 +77,7 @@ or-no-block (some b) = b
 unfoldable pub read-file : Limits → List ℕ → List ℕ → Result (Unit {0})
 read-file lim bytes m =
     let b = whole (file lim) bytes in
-    storing ((1, eqb (length m) words) ∷ (3, is-some b) ∷ block-checks (or-no-block b)) m (or-no-block b)
+    storing lim ((1, eqb (length m) (words-of lim)) ∷ (3, is-some b) ∷ block-checks (or-no-block b)) m (or-no-block b)
 
 -- 1, 2, 15
 unfoldable pub save-file : Limits → List ℕ → List ℕ → Result ℕ
@@ -91,16 +91,16 @@ send lim m j s outbox = writing (memory-checks lim m ++ departure-checks (lim .v
 -- 1, 2, 16 to 21: the paper's take
 unfoldable pub receive : Limits → List ℕ → List ℕ → Result (Unit {0})
 receive lim m message = let received = message-in message in
-    storing (memory-checks lim m ++ receive-checks lim (block-in m) received) m (received-from (block-in m) received)
+    storing lim (memory-checks lim m ++ receive-checks lim (block-in m) received) m (received-from (block-in m) received)
 
 -- 1, 2, 9 to 14: the paper's let go
 unfoldable pub release : Limits → List ℕ → ℕ → ℕ → Result (Unit {0})
-release lim m j s = storing (memory-checks lim m ++ departure-checks (lim .volume-darts) (block-in m) j s) m (released (block-in m) j s)
+release lim m j s = storing lim (memory-checks lim m ++ departure-checks (lim .volume-darts) (block-in m) j s) m (released (block-in m) j s)
 
 -- 1, 2, 16, 17, 22: the paper's tell
 unfoldable pub redirect : Limits → List ℕ → List ℕ → Result (Unit {0})
 redirect lim m message = let received = message-in message in
-    storing (memory-checks lim m ++ redirect-checks (block-in m) received) m (redirected-from (block-in m) received)
+    storing lim (memory-checks lim m ++ redirect-checks (block-in m) received) m (redirected-from (block-in m) received)
 
 -- A MESH is lent as the images of its blocks one after the other; its length alone says how many there are
 unfoldable pub memories : List ℕ → List (List ℕ)

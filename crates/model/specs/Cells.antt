@@ -6,16 +6,17 @@ use Prim.Native.Nat.{ℕ, zero, suc, _*_}
 use lib.Dec.{leb, eqb}
 use lib.ListN.{getD}
 use Rattle.model.specs.Lists.{all, keep, mem, find, collect, least, firsts, index-of}
-use Rattle.model.specs.Values.{Label, Third, Dart, or-no-dart, code, label-key, label-of}
+use Rattle.model.specs.Values.{room, Label, Third, Dart, or-no-dart, code, label-key, label-of}
 
 -- x, f x, f (f x) and so on, up to the one before `start` comes again, n at the most
 unfoldable pub around : (ℕ → ℕ) → ℕ → ℕ → ℕ → List ℕ
 around f start zero x = []
 around f start (suc n) x = let rest = around f start n (f x) in x ∷ cond (eqb (f x) start) [] rest
 
--- the cycle of f from x on; a block has at most 4,096 darts, so none is longer
+-- the cycle of f from x on. So many steps are enough where x and what f reaches stay within a block: with more of them the cycle is the
+-- same (laws, Faces.cycle-enough; of a sound block theory, EnoughSteps.face-steps, ring-steps; of the whole map agreement, EnoughSteps)
 unfoldable pub cycle : (ℕ → ℕ) → ℕ → List ℕ
-cycle f x = around f x 4096 x
+cycle f x = around f x room x
 
 -- what f and g reach from what is still to do
 unfoldable pub reach : (ℕ → ℕ) → (ℕ → ℕ) → ℕ → List ℕ → List ℕ → List ℕ
@@ -26,9 +27,11 @@ reach f g (suc n) seen (x ∷ todo) =
     let past = reach f g n seen todo in
     cond (mem x seen) past on
 
--- "A volume is what next and opposite reach"; each of at most 4,096 darts is met three times at the most
+-- "A volume is what next and opposite reach": the least set with s that is closed under both (laws, Volumes.volume-is). So many steps are
+-- enough, since each dart of a block is met three times at the most: with more of them the volume is the same (laws, Volumes.volume-enough;
+-- of a sound block theory, EnoughSteps.volume-steps; of the whole map agreement, EnoughSteps)
 unfoldable pub volume : (ℕ → ℕ) → (ℕ → ℕ) → ℕ → List ℕ
-volume nx op s = reach nx op (3 * 4096) [] (s ∷ [])
+volume nx op s = reach nx op (3 * room) [] (s ∷ [])
 
 -- "A ring is what d → next(opposite d) reaches; it is one vertex of one volume"
 unfoldable pub ring : (ℕ → ℕ) → (ℕ → ℕ) → ℕ → List ℕ

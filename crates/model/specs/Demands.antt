@@ -1,5 +1,43 @@
 -- START HERE: what is claimed. The three demands, and what the paper says beside them, about the definitions of the calls (Calls) and
--- of the two runs (Runs). Their proofs are in the crates theory, agreement, soundness and balancing. Assumes nothing.
+-- of the two runs (DividedRun, UndividedRun). Assumes nothing.
+--
+-- HOW TO READ THIS. Words in quotation marks are the dispatcher's or the paper's. Each claim is a type, and holds because a proof of it for
+-- the rack's limits is closed, with no hypothesis left over:
+--   Demand1                       agreement, Agreement.rack-demand1; of all that C lends: dmap, Keeps.door-keeps
+--   Demand2                       agreement, Agreement.rack-demand2
+--   Demand3, SameNumbers          agreement, Agreement.rack-agreement, rack-same-numbers
+--   LeavesSound, OutboxSuffices   soundness, Served.rack-leaves-sound, OutboxLength.rack-outbox-suffices
+--   MoveLowers                    balancing, Lowers.rack-move-lowers
+-- The code comes in by its contracts alone: for every input a call's answer, and what was lent to it, equal those of Calls. That a call ends
+-- is proved of every function.
+--
+-- What would fool a reader, and where to look:
+--   a `requires` that nobody meets        no public call has one. The hypotheses here: bytes are below 256; `Named`; `Enough` (65,536 bytes
+--                                         always are); `Sound`, which check-mesh answers for any memory, and which Trials computes of a mesh
+--   a definition that bends to the code   definitions cite no code: they are tests on lists, each beside its sentence of the paper. The
+--                                         starred figures are computed from them (figures), and so is demand 3 on three blocks (Trials);
+--                                         edits of a definition that must fail are in must-fail/
+--   refusing all, or one fixed answer     an answer is the first no of questions that are written out (Calls.asked), and 0 if there is none;
+--                                         in demand 3 the undivided run says which requests are refused
+--   steps that are too few                `cycle` and `volume` (Cells) take a fixed number of steps. With any more they give the same: in a
+--                                         sound block theory, EnoughSteps.face-steps, ring-steps, volume-steps; in the whole map agreement,
+--                                         EnoughSteps.start-enough, and after every request undivided-enough. A face is then all that next
+--                                         reaches (laws, Orbits.in-cycle, cycle-in), a volume the least set that is closed under next and
+--                                         opposite (laws, Volumes.volume-is). `cut` (DividedRun): theory, CutLaws.messages-back; five groups
+--                                         for a number (Layouts): theory, LayoutLaws.group-lawful
+--
+-- A ROUND, as Figures and Trials compute it: P (darts 1 to 6) and Q (7 to 12) are sewn 1-12, 2-11, 3-10 in block 0, whose counter is 0.
+-- P goes to block 1; `==` is sewn, `~` a label.
+--
+--     block 0                                         block 1
+--     [ P 1 == 12 Q ]  counter 0                      [ ]                  at first
+--     [ P 1 == 12 Q ]  -- transfer, 97 bytes -->      [ ]                  write (send): block 0 stays as it is
+--     [ P 1 == 12 Q ]                                 [ P 1 ~0.0.0 ]       take (receive): P's face is critical with block 0
+--     [ 0.0.0~ 12 Q ]  counter 1                      [ P 1 ~0.0.0 ]       let go (release): the face left behind has the same labels
+--
+-- The whole map is the same throughout: the third link of 1 is 12, sewn at first, by the label afterwards. Then Q goes too, in 99 bytes whose
+-- part 2 names 0.0.0: 1 and 12 are sewn again, in block 1, the label is gone, and block 0 is empty. Where P shared a face with a third
+-- block, an update would stand behind the transfer, and that block would be told (redirect), before or after let go.
 use mathlib.Core.Path.{_≡_}
 use mathlib.Core.Logic.{_≢_}
 use mathlib.Core.Bool.{true, _&&_}
@@ -10,18 +48,24 @@ use lib.ListN.{length, take, drop}
 use Rattle.model.specs.Lists.{all, mem, concat}
 use Rattle.model.specs.Values.{Block, Limits, Point}
 use Rattle.model.specs.Sound.{Sound, block-at}
-use Rattle.model.specs.Image.{words, image, is-image}
+use Rattle.model.specs.Image.{words, words-of, image, memory-of, block-in, is-image}
+use Rattle.model.specs.Layouts.{framed}
+use Rattle.model.specs.Messages.{Transfer, Update, transfer, update, a-transfer, an-update, message-in}
+use Rattle.model.specs.Departure.{transfer-of, updates-of, messages}
 use Rattle.model.specs.Balance.{Oracle, Move, move, positive-surplus}
 use Rattle.model.specs.Calls.{served, refused, number-of, Result, empty, read-file, save-file, send, receive, release, redirect, check-mesh, next-move, next-move-by-number}
-use Rattle.model.specs.Runs.{Request, memory-at, is-refused, finished, unfinished, Step, last-steps, sent-messages, Round, round, State, start, whole-map, holder, Undivided, undivided}
+use Rattle.model.specs.Runs.{Request, is-refused, finished, unfinished}
+use Rattle.model.specs.UndividedRun.{State, start, whole-map, holder, Undivided, undivided}
+use Rattle.model.specs.DividedRun.{memory-at, messages-in, Step, last-steps, sent-messages, Round, round}
 
--- DEMAND 1: "A refused call returns that number only and changes no byte that was lent to it"
+-- DEMAND 1: "A refused call returns that number only and changes no byte that was lent to it". What is lent by `&` stays because such a slice
+-- cannot be written, so it is not among what a call returns. Through its C names a call is also lent a count or four words: dmap, Door.DoorKeeps
 pub record Unchanged {A : Type 0} (lent : List ℕ) (r : Result A) : Type 0 where
   pub kept : (n : ℕ) → r .answer ≡ refused n → r .lent ≡ lent
   pub numbered : (n : ℕ) → r .answer ≡ refused n → n ≢ 0
 
 pub record Demand1 (lim : Limits) (lims : ℕ → Limits) : Type 0 where
-  pub empty-keeps : (n : ℕ) (m : List ℕ) → Unchanged m (empty n m)
+  pub empty-keeps : (n : ℕ) (m : List ℕ) → Unchanged m (empty lim n m)
   pub read-file-keeps : (file m : List ℕ) → Unchanged m (read-file lim file m)
   pub save-file-keeps : (m out : List ℕ) → Unchanged out (save-file lim m out)
   pub send-keeps : (m : List ℕ) (j s : ℕ) (outbox : List ℕ) → Unchanged outbox (send lim m j s outbox)
@@ -40,20 +84,42 @@ abbrev pub Leaves-image : Limits → Result (Unit {0}) → Type 0
 Leaves-image lim r = r .answer ≡ served tt → is-image lim (r .lent) ≡ true
 
 pub record LeavesSound (lim : Limits) : Type 0 where
-  pub empty-leaves : (n : ℕ) (m : List ℕ) → Leaves-image lim (empty n m)
+  pub empty-leaves : (n : ℕ) (m : List ℕ) → Leaves-image lim (empty lim n m)
   pub read-file-leaves : (file m : List ℕ) → Bytes file → Leaves-image lim (read-file lim file m)
   pub receive-leaves : (m message : List ℕ) → Bytes message → Leaves-image lim (receive lim m message)
   pub release-leaves : (m : List ℕ) (j s : ℕ) → Leaves-image lim (release lim m j s)
   pub redirect-leaves : (m message : List ℕ) → Bytes message → Leaves-image lim (redirect lim m message)
 
--- DEMAND 2
-pub record Demand2 (lim : Limits) : Type 0 where
+-- DEMAND 2: "Messages and block files have exactly the bytes, and blocks exactly the links, labels and points, that the published
+-- definition of distributed maps and the paper's layouts give". The layouts are Messages.file, transfer and update; links, labels and
+-- points are those of Departure and Arrival, which the calls store and write by definition.
+-- Of block files
+pub record FilesExact (lim : Limits) : Type 0 where
   -- "what is written reads back to the same block"
-  pub reads-back : (m out into : List ℕ) (n : ℕ) → length into ≡ words → save-file lim m out .answer ≡ served n
+  pub reads-back : (m out into : List ℕ) (n : ℕ) → length into ≡ words-of lim → save-file lim m out .answer ≡ served n
       → read-file lim (take n (save-file lim m out .lent)) into ≡ record { answer = served tt; lent = m }
   -- "every file that is read is written back byte for byte"
   pub writes-back : (file into out : List ℕ) → Bytes file → length file ≤ length out → read-file lim file into .answer ≡ served tt
       → save-file lim (read-file lim file into .lent) out ≡ record { answer = served (length file); lent = file ++ drop (length file) out }
+
+-- Of messages, for any memory, destination, serial and outbox where send is served: n bytes were written
+pub record MessagesExact (lim : Limits) : Type 0 where
+  -- "writes the transfer, then an update for each relative k"; "Bytes past the last message stay"
+  pub sent-bytes : (m : List ℕ) (j s : ℕ) (outbox : List ℕ) (n : ℕ) → send lim m j s outbox .answer ≡ served n
+      → send lim m j s outbox .lent ≡ concat (messages (block-in m) j s) ++ drop n outbox
+  -- "Its first number is the length of the rest": cut by these numbers, they are the messages, and there is nothing else
+  pub sent-messages-are : (m : List ℕ) (j s : ℕ) (outbox : List ℕ) (n : ℕ) → send lim m j s outbox .answer ≡ served n
+      → messages-in (take n (send lim m j s outbox .lent)) ≡ messages (block-in m) j s
+  -- "what is written reads back": read one by one they are the transfer and the updates, "by ascending k"
+  pub sent-reads-back : (m : List ℕ) (j s : ℕ) (outbox : List ℕ) (n : ℕ) → send lim m j s outbox .answer ≡ served n
+      → map message-in (messages-in (take n (send lim m j s outbox .lent))) ≡ a-transfer (transfer-of (block-in m) j s) ∷ map an-update (updates-of (block-in m) j s)
+  -- "exactly the bytes": whatever reads as a message "to the last byte" is that message's bytes, and no others
+  pub transfer-only : (bytes : List ℕ) (t : Transfer) → Bytes bytes → message-in bytes ≡ a-transfer t → bytes ≡ framed transfer t
+  pub update-only : (bytes : List ℕ) (u : Update) → Bytes bytes → message-in bytes ≡ an-update u → bytes ≡ framed update u
+
+pub record Demand2 (lim : Limits) : Type 0 where
+  pub of-files : FilesExact lim
+  pub of-messages : MessagesExact lim
 
 -- DEMAND 3
 -- What holds between the memories of the divided run and the state of the undivided run: the memories are the images of a sound mesh, whose
@@ -62,7 +128,7 @@ pub record Demand2 (lim : Limits) : Type 0 where
 -- no number is used again.
 pub record Matches (lims : ℕ → Limits) (ms : List (List ℕ)) (u : State) : Type 0 where
   pub mesh : List Block
-  pub images : ms ≡ map image mesh
+  pub images : ms ≡ map (memory-of lims) mesh
   pub sound : Sound lims mesh
   pub same-map : (x : ℕ) → whole-map mesh x ≡ u .links x
   pub same-cells : (x : ℕ) → mem x (u .darts) ≡ true → holder mesh x ≡ u .number x
@@ -97,21 +163,21 @@ Named k rs = all (λ r. ltb (r .from) k && ltb (r .to) k) rs ≡ true
 -- "Two runs agree on every list of requests to move a cell, refused ones included, started from any sound mesh"
 abbrev pub Demand3 : (ℕ → Limits) → Type 0
 Demand3 lims = (m : List Block) (rs : List Request) → Sound lims m → Named (length m) rs
-    → Matches lims (map image m) (start m) × After-every (Agree lims) lims (map image m) (start m) rs
+    → Matches lims (map (memory-of lims) m) (start m) × After-every (Agree lims) lims (map (memory-of lims) m) (start m) rs
 
 -- and by the same number; with limits that differ a number may differ too, so this stands apart
 abbrev pub SameNumbers : (ℕ → Limits) → Type 0
 SameNumbers lims = (m : List Block) (rs : List Request) → Sound lims m → Named (length m) rs
-    → After-every (λ d w. d .outcome ≡ w .outcome) lims (map image m) (start m) rs
+    → After-every (λ d w. d .outcome ≡ w .outcome) lims (map (memory-of lims) m) (start m) rs
 
 -- THE NEXT MOVE: "Each move carried out lowers the sum of positive surpluses by one"
 abbrev pub MoveLowers : (ℕ → Limits) → Type 0
 MoveLowers lims = (m : List Block) (o : Oracle) (scratch outbox : List ℕ) (t : Move) (order : List Step) → Sound lims m
-    → next-move lims (concat (map image m)) o scratch .answer ≡ served (move t)
+    → next-move lims (concat (map (image words) m)) o scratch .answer ≡ served (move t)
     → let r : Request = record { from = t .donor; to = t .recipient; serial = t .serial } in
-    Enough lims (map image m) r outbox → List·Permᴰ order (last-steps r (sent-messages lims (map image m) r outbox))
-    → (round lims (map image m) r outbox order .outcome ≡ finished)
-    × ((after : List Block) → round lims (map image m) r outbox order .memories ≡ map image after → suc (positive-surplus o after) ≡ positive-surplus o m)
+    Enough lims (map (memory-of lims) m) r outbox → List·Permᴰ order (last-steps r (sent-messages lims (map (memory-of lims) m) r outbox))
+    → (round lims (map (memory-of lims) m) r outbox order .outcome ≡ finished)
+    × ((after : List Block) → round lims (map (memory-of lims) m) r outbox order .memories ≡ map (memory-of lims) after → suc (positive-surplus o after) ≡ positive-surplus o m)
 
 -- THE OUTBOX: so many bytes are always enough
 abbrev pub outbox-bytes : ℕ

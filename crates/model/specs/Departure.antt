@@ -1,14 +1,15 @@
 -- A volume leaves a block: questions 9 to 14, the messages, and the block without it. Assumes nothing.
-use mathlib.Core.Bool.{Bool, true, false, cond, not, _&&_}
+use mathlib.Core.Bool.{Bool, false, cond, not, _&&_}
 use mathlib.Core.List.{List, [], _∷_, _++_, map}
 use mathlib.Core.Option.{Option, none, some}
-use Prim.Native.Nat.{ℕ, suc, _+_, _^_}
+use Prim.Native.Nat.{ℕ, suc, _+_}
 use lib.Dec.{leb, ltb, eqb}
 use lib.ListN.{length}
-use Rattle.model.specs.Lists.{all, any, keep, mem, find, collect, concat, concat-map, tab, Check}
-use Rattle.model.specs.Values.{Label, Third, free, sewn, critical, Dart, Block, code, with-third, is-critical-with, partner}
+use Rattle.model.specs.Lists.{all, keep, mem, collect, concat, concat-map, tab, Check}
+use Rattle.model.specs.Values.{blocks, last-block, number-bound, Label, Third, free, sewn, critical, Dart, Block, code, is-critical-with, partner}
 use Rattle.model.specs.Layouts.{framed}
-use Rattle.model.specs.Cells.{vertex, vertices, vertex-number, start-of, dart-at, held, next-in, opposite-in, third-at, volume-in, faces-in, labels-along, least-label}
+use Rattle.model.specs.Cells.{vertices, vertex-number, start-of, dart-at, held, next-in, opposite-in, third-at, volume-in, faces-in, labels-along, least-label}
+use Rattle.model.specs.Links.{pairs-once, vertex-pairs, Placed, placed, relink, label-faces}
 use Rattle.model.specs.Messages.{Part2, Part3, Part4, Transfer, Update, transfer, update}
 
 -- QUESTIONS 9 TO 14
@@ -27,38 +28,17 @@ is-sewn-out-of v (critical o l) = false
 unfoldable pub sewn-faces : List Dart → ℕ → List (List ℕ)
 sewn-faces ds s = keep (λ f. is-sewn-out-of (volume-in ds s) (third-at ds (start-of f))) (faces-in ds s)
 
--- 13: "Every ordered vertex pair once, ends different"
-abbrev pub same-pair : ℕ × ℕ → ℕ × ℕ → Bool
-same-pair p q = eqb (p .0) (q .0) && eqb (p .1) (q .1)
-
-unfoldable pub pairs-once : List (ℕ × ℕ) → Bool
-pairs-once [] = true
-pairs-once (p ∷ ps) = not (eqb (p .0) (p .1)) && not (any (same-pair p) ps) && pairs-once ps
-
--- the ordered vertex pairs of some darts; vertices are rings
-unfoldable pub vertex-pairs : (ℕ → ℕ) → (ℕ → ℕ) → List ℕ → List (ℕ × ℕ)
-vertex-pairs nx op v = map (λ x. (vertex nx op x, vertex nx op (nx x))) v
-
 -- of the volume of dart s, of at most `most` darts, that goes from block b to block j
 unfoldable pub departure-checks : ℕ → Block → ℕ → ℕ → List Check
 departure-checks most b j s =
     let ds = b .darts in
     let v = volume-in ds s in
-    (9, leb j 15 && not (eqb j (b .number))) ∷ (10, held ds s) ∷ (11, leb (length v) most)
+    (9, leb j last-block && not (eqb j (b .number))) ∷ (10, held ds s) ∷ (11, leb (length v) most)
     ∷ (12, all (λ x. not (is-sewn-into v (third-at ds x))) v)
     ∷ (13, pairs-once (vertex-pairs (next-in ds) (opposite-in ds) v))
-    ∷ (14, ltb (b .counter + length (sewn-faces ds s)) (2 ^ 32)) ∷ []
+    ∷ (14, ltb (b .counter + length (sewn-faces ds s)) number-bound) ∷ []
 
 -- THE TRANSFER
--- a face with the index of its start
-pub record Placed : Type 0 where
-  pub at : ℕ
-  pub face : List ℕ
-
-unfoldable pub placed : ℕ → List (List ℕ) → List Placed
-placed i [] = []
-placed i (f ∷ fs) = record { at = i; face = f } ∷ placed (i + length f) fs
-
 -- "Part 2 lists faces critical with j; part 3 the sewn faces; part 4 other critical faces", by the third link of the start
 abbrev pub part2-entry : ℕ → ℕ → Third → Option Part2
 part2-entry j i free = none
@@ -106,36 +86,13 @@ update-for b j k (f ∷ fs) = cond (eqb k j) none
 -- "an update for each relative k, by ascending k", labels "in the transfer's face order"
 unfoldable pub updates-of : Block → ℕ → ℕ → List Update
 updates-of b j s =
-    collect (λ k. update-for b j k (keep (λ f. is-critical-with k (third-at (b .darts) (start-of f))) (faces-in (b .darts) s))) (tab (λ k. k) 16)
+    collect (λ k. update-for b j k (keep (λ f. is-critical-with k (third-at (b .darts) (start-of f))) (faces-in (b .darts) s))) (tab (λ k. k) blocks)
 
 -- "the transfer, then an update for each relative"
 unfoldable pub messages : Block → ℕ → ℕ → List (List ℕ)
 messages b j s = framed transfer (transfer-of b j s) ∷ map (framed update) (updates-of b j s)
 
 -- THE BLOCK WITHOUT THE VOLUME
--- a new third link of a dart
-pub record Link : Type 0 where
-  pub dart : ℕ
-  pub third : Third
-
-abbrev pub third-or : Third → Option Link → Third
-third-or t none = t
-third-or t (some k) = k .third
-
-unfoldable pub relink : List Link → Dart → Dart
-relink ks d = with-third (third-or (d .third) (find (λ k. k .dart) (d .serial) ks)) d
-
--- "positions 0, 1, 2 and so on along next" from the start: darts of x become critical with another block
-unfoldable pub label-links : (ℕ → ℕ) → ℕ → ℕ → ℕ → ℕ → List ℕ → List Link
-label-links of other maker number pos [] = []
-label-links of other maker number pos (x ∷ xs) =
-    record { dart = of x; third = critical other (record { maker = maker; number = number; position = pos }) }
-    ∷ label-links of other maker number (suc pos) xs
-
-unfoldable pub label-faces : (ℕ → ℕ) → ℕ → ℕ → ℕ → List (List ℕ) → List Link
-label-faces of other maker number [] = []
-label-faces of other maker number (f ∷ fs) = label-links of other maker number 0 f ++ label-faces of other maker (suc number) fs
-
 -- let go "removes the volume, labels the faces left behind with other block j" ("the dart sewn to each takes the same label"),
 -- "and advances the counter by the part 3 count"
 unfoldable pub released : Block → ℕ → ℕ → Block

@@ -8,11 +8,13 @@ use Rattle.model.specs.Sound.{dart-in-range, ranges-right, coordinates-f
 use Rattle.model.specs.Image.{dart-words, image, third-in, is-image, memory-checks, new-block}
 use Rattle.model.specs.Layouts.{groups, read-groups, group-below, group, serial, group-counts, group-count, low-bytes, read-bytes, coordinate, _⊗_, _⊕_, as-type, such-that, at-most, exactly, put-all, get-all, times, counted, whole, framed, unframed}
 use Rattle.model.specs.Messages.{point, label, face-dart, part2, part3, size-all, size-at, part4, part1, transfer, update, message-in, critical-link, third-put, third, a-dart, file}
-use Rattle.model.specs.Departure.{sewn-faces, pairs-once, vertex-pairs, departure-checks, placed, part3-from, transfer-of, least-labels, update-for, updates-of, messages, relink, label-links, label-faces, released}
+use Rattle.model.specs.Departure.{sewn-faces, departure-checks, part3-from, transfer-of, least-labels, update-for, updates-of, messages, released}
+use Rattle.model.specs.Links.{pairs-once, vertex-pairs, placed, relink, label-links, label-faces}
 use Rattle.model.specs.Arrival.{sides-of, sides, reverses, opposite-of, new-dart, new-darts, placed-faces, face-from, part2-links, part3-links, part4-links, critical-links, transfer-links, received, serials-new, faces-ordered, pairs-right, one-volume, vertices-right, volume-right, indices-right, points-meet, part2-right, part2-apart, label-new, labels-new, parts-right, receive-checks, face-with, names-face, update-right, redirect-checks, update-links, redirected}
 use Rattle.model.specs.Balance.{lt-bits, le-bits, le-point, oracle-right, picks, picked, counts, mean, surpluses, positive-surplus, candidates, can-move, next-of, numbered-oracle}
 use Rattle.model.specs.Calls.{asked, storing, writing, empty, read-file, save-file, send, receive, release, redirect, memories, mesh-lent, whole-mesh-checks, check-mesh, next-move, next-move-by-number}
-use Rattle.model.specs.Runs.{called, done, run-steps, cut, messages-in, addressee, sent-messages, round, other-with, whole-map, holder, start, cell, inner-faces, request-checks, after-move, undivided}
+use Rattle.model.specs.UndividedRun.{other-with, whole-map, holder, start, cell, inner-faces, request-checks, after-move, undivided}
+use Rattle.model.specs.DividedRun.{called, done, run-steps, cut, messages-in, addressee, sent-messages, round}
 use Rattle.model.specs.Listing.{bytes, digits, decimal, third-text, dart-line, header-line, listing, listed}
 
 -- opens every definition

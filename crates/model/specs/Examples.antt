@@ -4,7 +4,7 @@ use mathlib.Core.Path.{_≡_, refl}
 use mathlib.Core.List.{[], _∷_, _++_}
 use lib.ListN.{take, replicate}
 use Rattle.model.specs.Values.{free, Block, rack}
-use Rattle.model.specs.Image.{image}
+use Rattle.model.specs.Image.{words, image}
 use Rattle.model.specs.Layouts.{coordinate}
 use Rattle.model.specs.Messages.{file}
 use Rattle.model.specs.Calls.{served, refused, empty, read-file, save-file}
@@ -13,11 +13,11 @@ use Rattle.model.specs.Everything.{everything}
 use Rattle.model.specs.Figures.{pillow, block}
 
 -- "An empty block is made from its number alone, counter 0"
-empty-five : empty 5 (replicate 32776 9) ≡ record { answer = served tt; lent = 5 ∷ replicate 32775 0 }
+empty-five : empty rack 5 (replicate words 9) ≡ record { answer = served tt; lent = 5 ∷ replicate 32775 0 }
 unfolding everything
 empty-five = refl
 
-empty-sixteen : empty 16 (replicate 32776 9) ≡ record { answer = refused 9; lent = replicate 32776 9 }
+empty-sixteen : empty rack 16 (replicate words 9) ≡ record { answer = refused 9; lent = replicate words 9 }
 unfolding everything
 empty-sixteen = refl
 
@@ -36,11 +36,11 @@ two = record {
 }
 
 -- demand 2 on that block: what is written reads back, and is written again
-written-back : read-file rack (take 59 (save-file rack (image two) (replicate 60 1) .lent)) (replicate 32776 9) ≡ record { answer = served tt; lent = image two }
+written-back : read-file rack (take 59 (save-file rack (image words two) (replicate 60 1) .lent)) (replicate words 9) ≡ record { answer = served tt; lent = image words two }
 unfolding two everything
 written-back = refl
 
-saved-again : save-file rack (image two) (replicate 60 1) ≡ record { answer = served 59; lent = file rack .put two ++ 1 ∷ [] }
+saved-again : save-file rack (image words two) (replicate 60 1) ≡ record { answer = served 59; lent = file rack .put two ++ 1 ∷ [] }
 unfolding two everything
 saved-again = refl
 

@@ -8,11 +8,12 @@ use lib.ListN.{length, getD, take, replicate}
 use Rattle.model.specs.Lists.{all, same-list}
 use Rattle.model.specs.Values.{Third, free, sewn, critical, Dart, no-point, Block, rack, all-rack}
 use Rattle.model.specs.Cells.{third-at}
-use Rattle.model.specs.Image.{image, block-in}
+use Rattle.model.specs.Image.{words, image, block-in}
 use Rattle.model.specs.Layouts.{group, group-count, framed}
 use Rattle.model.specs.Messages.{update}
 use Rattle.model.specs.Calls.{Answer, number-of, values-of, written-values, empty, read-file, save-file, send, receive}
-use Rattle.model.specs.Runs.{Request, Outcome, refused-by, finished, unfinished, Round, round, last-steps, sent-messages}
+use Rattle.model.specs.Runs.{Request, Outcome, refused-by, finished, unfinished}
+use Rattle.model.specs.DividedRun.{Round, round, last-steps, sent-messages}
 use Rattle.model.specs.Everything.{everything}
 
 -- THE CELLS
@@ -30,11 +31,11 @@ block n ds = record { number = n; counter = 0; darts = ds }
 
 p : List ℕ
 unfolding pillow block everything
-p = image (block 0 (pillow 0))
+p = image words (block 0 (pillow 0))
 
 tetrahedron : List ℕ
 unfolding dart block everything
-tetrahedron = image (block 0 (dart 1 2 4 free ∷ dart 2 3 7 free ∷ dart 3 1 10 free
+tetrahedron = image words (block 0 (dart 1 2 4 free ∷ dart 2 3 7 free ∷ dart 3 1 10 free
     ∷ dart 4 5 1 free ∷ dart 5 6 12 free ∷ dart 6 4 8 free
     ∷ dart 7 8 2 free ∷ dart 8 9 6 free ∷ dart 9 7 11 free
     ∷ dart 10 11 3 free ∷ dart 11 12 9 free ∷ dart 12 10 5 free ∷ []))
@@ -48,7 +49,7 @@ sewn-pillows = dart 1 2 6 (sewn 12) ∷ dart 2 3 5 (sewn 11) ∷ dart 3 1 4 (sew
 -- "block 0, counter 0", and an empty block 1
 pq : List (List ℕ)
 unfolding sewn-pillows block everything
-pq = image (block 0 sewn-pillows) ∷ empty 1 (replicate 32776 7) .lent ∷ []
+pq = image words (block 0 sewn-pillows) ∷ empty rack 1 (replicate words 7) .lent ∷ []
 
 -- ROUNDS
 unfoldable pub outbox : List ℕ

@@ -8,7 +8,7 @@ use lib.Dec.{leb, ltb, eqb}
 use lib.ListN.{length, getD}
 use lib.Ieee.{size}
 use Rattle.model.specs.Lists.{all}
-use Rattle.model.specs.Values.{serial-bound}
+use Rattle.model.specs.Values.{number-bound, serial-bound}
 
 -- what reading gives: a value and the bytes after it, or nothing
 abbrev pub Read : Type 0 → Type 0
@@ -54,7 +54,7 @@ group-below n bound = record {
 -- numbers are "below 2^32"
 unfoldable pub group : Layout ℕ
 unfolding group-below
-group = group-below 4 (2 ^ 32)
+group = group-below 4 number-bound
 
 -- serials have a bound of their own
 unfoldable pub serial : Layout ℕ

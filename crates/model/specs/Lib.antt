@@ -5,11 +5,14 @@ pub mod Sound
 pub mod Image
 pub mod Layouts
 pub mod Messages
+pub mod Links
 pub mod Departure
 pub mod Arrival
 pub mod Balance
 pub mod Calls
 pub mod Runs
+pub mod DividedRun
+pub mod UndividedRun
 pub mod Listing
 pub mod Demands
 pub mod Everything

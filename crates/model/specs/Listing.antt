@@ -8,7 +8,7 @@ use lib.Dec.{ltb}
 use lib.ListN.{length, replicate}
 use Rattle.model.specs.Lists.{concat-map}
 use Rattle.model.specs.Values.{Third, free, sewn, critical, Dart, Block, Limits}
-use Rattle.model.specs.Image.{words, block-in}
+use Rattle.model.specs.Image.{words-of, block-in}
 use Rattle.model.specs.Calls.{served, refused, Result, read-file}
 
 -- the bytes of a quoted text
@@ -46,4 +46,4 @@ abbrev pub listing-of : Result (Unit {0}) → List ℕ
 listing-of r = elim (r .answer) [ served u ↦ listing (block-in (r .lent)) | refused n ↦ bytes "refused " ++ decimal n ++ bytes "\n" ]
 
 unfoldable pub listed : Limits → List ℕ → List ℕ
-listed lim file = let read = read-file lim file (replicate words 0) in cond (ltb 65536 (length file)) (bytes "too long\n") (listing-of read)
+listed lim file = let read = read-file lim file (replicate (words-of lim) 0) in cond (ltb 65536 (length file)) (bytes "too long\n") (listing-of read)

@@ -3,7 +3,7 @@
 --   mem, distinct, ascending, least, sorted    of numbers
 --   tab f n           f 0, f 1, .., n values
 --   find key x        the first row of a table whose key is x
---   first-no          the number of the first check that fails, 0 if none does
+--   passed, first-no  whether all checks have a yes; the number of the first that has a no, 0 if none has
 use mathlib.Core.Bool.{Bool, true, false, cond, not, _&&_, _||_}
 use mathlib.Core.List.{List, [], _∷_, _++_}
 use mathlib.Core.Option.{Option, none, some}
@@ -122,6 +122,10 @@ sorted (x ∷ l) = insert (λ y. y) x (sorted l)
 -- CHECKS (the paper's questions at the door): a number and whether the answer is yes
 abbrev pub Check : Type 0
 Check = ℕ × Bool
+
+-- all of them have a yes
+abbrev pub passed : List Check → Bool
+passed qs = all (λ q. q .1) qs
 
 -- put in order, the first no gives its number; 0 if there is none
 unfoldable pub first-no : List Check → ℕ

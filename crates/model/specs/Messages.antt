@@ -6,7 +6,7 @@ use Prim.Native.Nat.{ℕ, zero, suc, _+_, _-_}
 use lib.Dec.{leb, ltb, eqb}
 use lib.ListN.{length}
 use Rattle.model.specs.Lists.{all, ascending}
-use Rattle.model.specs.Values.{Point, Label, Third, free, sewn, critical, Dart, Block, Limits}
+use Rattle.model.specs.Values.{last-block, last-position, message-darts, Point, Label, Third, free, sewn, critical, Dart, Block, Limits}
 use Rattle.model.specs.Cells.{serials}
 use Rattle.model.specs.Layouts.{Layout, Read, then, group, serial, coordinate, _⊗_, _⊕_, as-type, such-that, at-most, exactly, times, counted, unframed}
 
@@ -46,7 +46,7 @@ point = as-type (λ p. record { x = p .0; y = p .1 .0; z = p .1 .1 }) (λ p. (p 
 
 unfoldable pub label : Layout Label
 label = as-type (λ p. record { maker = p .0; number = p .1 .0; position = p .1 .1 }) (λ l. (l .maker, (l .number, l .position)))
-    (at-most 15 ⊕ group ⊕ at-most 4095)
+    (at-most last-block ⊕ group ⊕ at-most last-position)
 
 unfoldable pub face-dart : Layout FaceDart
 face-dart = as-type (λ p. record { vertex = p .0; serial = p .1 }) (λ c. (c .vertex, c .serial)) (group ⊕ serial)
@@ -70,7 +70,7 @@ size-at i (f ∷ fs) = cond (ltb i (length f)) (length f) (size-at (i - length f
 -- the labels run along next, so there are as many as the face has darts; "part 4 indices below the dart count"
 unfoldable pub part4 : List (List FaceDart) → Layout Part4
 part4 fs = as-type (λ p. record { index = p .0; other = p .1 .0; labels = p .1 .1 }) (λ k. (k .index, (k .other, k .labels)))
-    (such-that group (λ i. ltb i (size-all fs)) ⊗ (λ i. at-most 15 ⊕ times (size-at i fs) label))
+    (such-that group (λ i. ltb i (size-all fs)) ⊗ (λ i. at-most last-block ⊕ times (size-at i fs) label))
 
 -- "1, from, to, vertex count, points, face count; for each face its size, then vertex and serial of each dart"; "1 to 512 darts",
 -- whatever the limits of its reader
@@ -78,8 +78,8 @@ abbrev pub Part1 : Type 0
 Part1 = ℕ × (ℕ × (ℕ × (List Point × List (List FaceDart))))
 
 unfoldable pub part1 : Layout Part1
-part1 = exactly 1 ⊕ at-most 15 ⊕ at-most 15 ⊕ counted point
-    ⊕ such-that (counted (counted face-dart)) (λ fs. leb 1 (size-all fs) && leb (size-all fs) 512)
+part1 = exactly 1 ⊕ at-most last-block ⊕ at-most last-block ⊕ counted point
+    ⊕ such-that (counted (counted face-dart)) (λ fs. leb 1 (size-all fs) && leb (size-all fs) message-darts)
 
 unfoldable pub transfer : Layout Transfer
 transfer = as-type
@@ -97,7 +97,7 @@ pub record Update : Type 0 where
 unfoldable pub update : Layout Update
 update = as-type (λ p. record { from = p .1 .0; to = p .1 .1 .0; block = p .1 .1 .1 .0; labels = p .1 .1 .1 .1 })
     (λ u. (2, (u .from, (u .to, (u .block, u .labels)))))
-    (exactly 2 ⊕ at-most 15 ⊕ at-most 15 ⊕ at-most 15 ⊕ counted label)
+    (exactly 2 ⊕ at-most last-block ⊕ at-most last-block ⊕ at-most last-block ⊕ counted label)
 
 -- 16: what a slice of bytes is: one message of a kind, to the last byte, or none ("an unknown kind has none")
 pub data Message : Type 0 where
@@ -120,7 +120,7 @@ kind-of (sewn y) = 1
 kind-of (critical o l) = 2
 
 unfoldable pub critical-link : Layout (ℕ × Label)
-critical-link = at-most 15 ⊕ label
+critical-link = at-most last-block ⊕ label
 
 abbrev pub third-ok : Third → Bool
 third-ok free = true
@@ -151,5 +151,5 @@ a-dart = as-type
 -- "block, counter, dart count", then the darts; 3 asks too for "at most 4,096 darts, darts' own serials at least 1 and ascending"
 unfoldable pub file : Limits → Layout Block
 file lim = such-that (as-type (λ p. record { number = p .0; counter = p .1 .0; darts = p .1 .1 }) (λ b. (b .number, (b .counter, b .darts)))
-    (at-most 15 ⊕ group ⊕ counted a-dart))
+    (at-most last-block ⊕ group ⊕ counted a-dart))
     (λ b. leb (length (b .darts)) (lim .block-darts) && all (λ d. leb 1 (d .serial)) (b .darts) && ascending (serials (b .darts)))

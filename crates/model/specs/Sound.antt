@@ -6,8 +6,8 @@ use mathlib.Core.Path.{_≡_}
 use Prim.Native.Nat.{ℕ, suc, _≤_, _^_, min}
 use lib.Dec.{leb, ltb, eqb}
 use lib.ListN.{length, getD}
-use Rattle.model.specs.Lists.{all, any, keep, distinct, ascending, concat-map, Check}
-use Rattle.model.specs.Values.{Third, free, sewn, critical, Dart, Block, no-block, Limits, serial-bound, code, label-key, has-label, same-point, finite, is-free, is-sewn-to, is-critical-with}
+use Rattle.model.specs.Lists.{all, any, keep, distinct, ascending, concat-map, passed, Check}
+use Rattle.model.specs.Values.{room, message-darts, blocks, last-block, last-position, number-bound, Third, free, sewn, critical, Dart, Block, no-block, Limits, serial-bound, code, label-key, has-label, same-point, finite, is-free, is-sewn-to, is-critical-with}
 use Rattle.model.specs.Cells.{dart-at, held, next-in, opposite-in, third-at, previous-in, serials, labels, labelled}
 
 -- RANGES, what is left of 3 where bytes or memory are read: "block, other blocks and makers at most 15, positions at most 4,095, at
@@ -15,13 +15,13 @@ use Rattle.model.specs.Cells.{dart-at, held, next-in, opposite-in, third
 abbrev pub third-in-range : Third → Bool
 third-in-range free = true
 third-in-range (sewn y) = true
-third-in-range (critical o l) = leb o 15 && leb (l .maker) 15 && ltb (l .number) (2 ^ 32) && leb (l .position) 4095
+third-in-range (critical o l) = leb o last-block && leb (l .maker) last-block && ltb (l .number) number-bound && leb (l .position) last-position
 
 unfoldable pub dart-in-range : Dart → Bool
 dart-in-range d = leb 1 (d .serial) && ltb (d .serial) serial-bound && third-in-range (d .third)
 
 unfoldable pub ranges-right : Limits → Block → Bool
-ranges-right lim b = leb (b .number) 15 && ltb (b .counter) (2 ^ 32) && leb (length (b .darts)) (lim .block-darts)
+ranges-right lim b = leb (b .number) last-block && ltb (b .counter) number-bound && leb (length (b .darts)) (lim .block-darts)
     && all dart-in-range (b .darts) && ascending (serials (b .darts))
 
 -- 4
@@ -69,14 +69,14 @@ sewn-points ds d (critical o l) = true
 unfoldable pub points-agree : List Dart → Bool
 points-agree ds = all (λ d. same-point (d .point) (dart-at ds (next-in ds (d .opposite)) .point) && sewn-points ds d (d .third)) ds
 
--- "In a sound block all the above holds"
-unfoldable pub sound-block : Limits → Block → Bool
-sound-block lim b = ranges-right lim b && coordinates-finite (b .darts) && links-right (b .darts) && thirds-right (b .darts) && labels-right b && points-agree (b .darts)
-
 -- 4 to 8, in order
 unfoldable pub block-checks : Block → List Check
 block-checks b =
     (4, coordinates-finite (b .darts)) ∷ (5, links-right (b .darts)) ∷ (6, thirds-right (b .darts)) ∷ (7, labels-right b) ∷ (8, points-agree (b .darts)) ∷ []
+
+-- "In a sound block all the above holds"
+unfoldable pub sound-block : Limits → Block → Bool
+sound-block lim b = ranges-right lim b && passed (block-checks b)
 
 -- MESHES: blocks 0 to k−1 as a list
 unfoldable pub block-at : List Block → ℕ → Block
@@ -91,7 +91,7 @@ numbered-from i [] = true
 numbered-from i (b ∷ m) = eqb (b .number) i && numbered-from (suc i) m
 
 unfoldable pub blocks-right : List Block → Bool
-blocks-right m = leb 1 (length m) && leb (length m) 16 && numbered-from 0 m
+blocks-right m = leb 1 (length m) && leb (length m) blocks && numbered-from 0 m
 
 -- 24
 unfoldable pub serials-distinct : List Block → Bool
@@ -139,16 +139,15 @@ mesh-checks m = (23, blocks-right m) ∷ (24, serials-distinct m) ∷ (25, label
 
 -- "A sound mesh has blocks 0 to k−1, k from 1 to 16, all sound, serials distinct", and so on
 unfoldable pub sound-mesh : (ℕ → Limits) → List Block → Bool
-sound-mesh lims m = all (λ b. sound-block (lims (b .number)) b) m
-    && blocks-right m && serials-distinct m && labels-paired m && points-across m && makers-right m
+sound-mesh lims m = all (λ b. sound-block (lims (b .number)) b) m && passed (mesh-checks m)
 
 abbrev pub Sound : (ℕ → Limits) → List Block → Type 0
 Sound lims m = sound-mesh lims m ≡ true
 
--- LIMITS THAT FIT: memory has room for 4,096 darts and a message for 512. In the base all blocks send volumes of one size at most.
+-- LIMITS THAT FIT: none are wider than `widest`. In the base all blocks send volumes of one size at most.
 pub record Fit (lims : ℕ → Limits) : Type 0 where
-  pub block-fits : (b : ℕ) → lims b .block-darts ≤ 4096
-  pub volume-fits : (b : ℕ) → lims b .volume-darts ≤ 512
+  pub block-fits : (b : ℕ) → lims b .block-darts ≤ room
+  pub volume-fits : (b : ℕ) → lims b .volume-darts ≤ message-darts
   pub one-volume-limit : (b c : ℕ) → lims b .volume-darts ≡ lims c .volume-darts
 
 -- a volume that goes from block i to block j keeps to the limits of both

@@ -10,8 +10,9 @@ use Rattle.model.specs.Lists.{all, same-list, sorted}
 use Rattle.model.specs.Values.{Block, same-point, rack, all-rack}
 use Rattle.model.specs.Cells.{serials}
 use Rattle.model.specs.Sound.{sound-mesh, all-darts}
-use Rattle.model.specs.Image.{image, is-image, block-in}
-use Rattle.model.specs.Runs.{Request, Whole, whole-map, holder, State, start, undivided}
+use Rattle.model.specs.Image.{memory-of, is-image, block-in}
+use Rattle.model.specs.Runs.{Request}
+use Rattle.model.specs.UndividedRun.{Whole, whole-map, holder, State, start, undivided}
 use Rattle.model.specs.Everything.{everything}
 use Rattle.model.specs.Figures.{block, sewn-pillows, played, request, outcome-numbers}
 
@@ -59,6 +60,6 @@ requests =
     -- both are sewn in block 2; and P back, under a number of block 2
     ∷ request 2 0 1 ∷ []
 
-three-agree : agree (map image three) (start three) requests ≡ true
+three-agree : agree (map (memory-of all-rack) three) (start three) requests ≡ true
 unfolding three requests agree everything
 three-agree = refl

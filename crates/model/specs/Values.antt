@@ -37,6 +37,35 @@ pub record Block : Type 0 where
   pub counter : ℕ
   pub darts : List Dart
 
+-- NUMBERS BY THEIR MEANING
+-- "At most 4,096 darts" in any block; what links reach is looked for so far (Cells)
+abbrev pub room : ℕ
+room = 4096
+
+-- "1 to 512 darts (transfer)"
+abbrev pub message-darts : ℕ
+message-darts = 512
+
+-- "blocks 0 to k−1, k from 1 to 16"; "maker (block 0 to 15), number (32 bits), position (0 to 4,095)"; "a counter (0 to 2^32−1)"
+abbrev pub blocks : ℕ
+blocks = 16
+
+abbrev pub last-block : ℕ
+last-block = 15
+
+abbrev pub number-bound : ℕ
+number-bound = 2 ^ 32
+
+abbrev pub positions : ℕ
+positions = 4096
+
+abbrev pub last-position : ℕ
+last-position = 4095
+
+-- serials lie below this
+abbrev pub serial-bound : ℕ
+serial-bound = 2 ^ 32
+
 -- LIMITS: how many darts a block may have, and how many a volume that is sent
 pub record Limits : Type 0 where
   pub block-darts : ℕ
@@ -46,17 +75,17 @@ pub record Limits : Type 0 where
 abbrev pub rack : Limits
 rack = record { block-darts = 4096; volume-darts = 512 }
 
+-- no block's are wider
+abbrev pub widest : Limits
+widest = record { block-darts = room; volume-darts = message-darts }
+
 -- in a mesh and in a run the limits go by the block's number
 abbrev pub all-rack : ℕ → Limits
 all-rack b = rack
 
--- serials lie below this
-abbrev pub serial-bound : ℕ
-serial-bound = 2 ^ 32
-
 -- LABELS are compared by their code, which orders them "in that way": maker, number, position
 unfoldable pub code : Label → ℕ
-code l = (l .maker * 2 ^ 32 + l .number) * 4096 + l .position
+code l = (l .maker * number-bound + l .number) * positions + l .position
 
 -- one more than the code of a third link's label, 0 where it has none
 abbrev pub label-key : Third → ℕ

@@ -15,7 +15,8 @@ use Rattle.model.specs.Cells.{start-of}
 use Rattle.model.specs.Image.{column, dart-in}
 use Rattle.model.specs.Layouts.{Layout, group, such-that, at-most, times, counted, put-all, _⊗_, _⊕_, as-type}
 use Rattle.model.specs.Messages.{FaceDart, Part4, point, label, face-dart, part2, part3, part4}
-use Rattle.model.specs.Departure.{Placed, placed, part3-from}
+use Rattle.model.specs.Departure.{part3-from}
+use Rattle.model.specs.Links.{Placed, placed}
 use Rattle.laws.proofs.Tests.{by-cases}
 use Rattle.cells.specs.Places.{InOrder, sewn-out}
 use Rattle.cells.proofs.StartLaws.{placed-length}

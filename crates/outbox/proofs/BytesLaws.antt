@@ -9,7 +9,8 @@ use lib.ListN.{length, getD, length-append}
 use borrow.Author.Tests.{lt-ltb, le-ltb}
 use Rattle.model.specs.Layouts.{group}
 use Rattle.model.specs.Messages.{point, label, face-dart, part2, part3}
-use Rattle.model.specs.Image.{room, column, label-in}
+use Rattle.model.specs.Image.{column, label-in}
+use Rattle.model.specs.Values.{room}
 use Rattle.memory.specs.Point.{point-of, patterns, FinitePoint, FiniteAt}
 use Rattle.memory.specs.declared.point.Point.{Point}
 use Rattle.memory.proofs.Points.{point-finite, point-patterns}
@@ -61,8 +62,9 @@ face-length m numbers order s n = length-append (group .put n) (run (dart-put m 
 -- what is asked of all darts holds of the first ones
 pub listed-part : {m order : List ℕ} {darts : ℕ} → Listed m order darts → (n : ℕ) → n ≤ darts → Listed m order n
 listed-part l n h = record {
-  memory = l .memory;
-  order-size = l .order-size;
+  header = l .header;
+  held = λ k j. l .held k (omega arith);
+  order-size = omega (arith, l .order-size);
   few = omega (arith, l .few);
   below = λ k j. l .below k (omega arith);
   serial-small = λ k j. l .serial-small k (omega arith);
@@ -70,7 +72,7 @@ listed-part l n h = record {
 }
 
 pub vertexed-part : {numbers order : List ℕ} {darts : ℕ} → Vertexed numbers order darts → (n : ℕ) → n ≤ darts → Vertexed numbers order n
-vertexed-part v n h = record { numbers-size = v .numbers-size; number-small = λ k j. v .number-small k (omega arith) }
+vertexed-part v n h = record { numbers-size = λ k j. v .numbers-size k (omega arith); number-small = λ k j. v .number-small k (omega arith) }
 
 -- face f, where its end was read
 pub faces-is : (m numbers order starts : List ℕ) (darts count f e : ℕ) → e ≡ end-of starts count darts f
@@ -119,10 +121,10 @@ module _ (m marks : List ℕ) (c : ℕ) (order starts : List ℕ) (f : ℕ) wher
   part3-one n e h = rw (e, h)
 
 -- an entry of part 4
-pub beside-of : (m order : List ℕ) (s n o : ℕ) → o ≡ column m 3 (getD order s 0) → beside-put m order s n ≡ (group .put s ++ group .put (o / 4)) ++ run (label-put m order s) n
+pub beside-of : (m order : List ℕ) (s n o : ℕ) → o ≡ column m 3 (getD order s 0) / 4 → beside-put m order s n ≡ (group .put s ++ group .put o) ++ run (label-put m order s) n
 unfolding beside-put
 beside-of m order s n o e = rw e
 
-pub beside-length : (m order : List ℕ) (s n o : ℕ) → o ≡ column m 3 (getD order s 0)
-    → length (beside-put m order s n) ≡ length (group .put s ++ group .put (o / 4)) + length (run (label-put m order s) n)
-beside-length m order s n o e = ap length (beside-of m order s n o e) ∙ length-append (group .put s ++ group .put (o / 4)) (run (label-put m order s) n)
+pub beside-length : (m order : List ℕ) (s n o : ℕ) → o ≡ column m 3 (getD order s 0) / 4
+    → length (beside-put m order s n) ≡ length (group .put s ++ group .put o) + length (run (label-put m order s) n)
+beside-length m order s n o e = ap length (beside-of m order s n o e) ∙ length-append (group .put s ++ group .put o) (run (label-put m order s) n)

@@ -9,15 +9,15 @@ use lib.ListN.{length, getD, take, length-append}
 use lib.Seq.{getD-take, length-take-le}
 use borrow.Author.Tests.{leb-true, ltb-true}
 use Rattle.model.specs.Lists.{concat, mem}
-use Rattle.model.specs.Values.{Third, free, sewn, critical, Label, rack, serial-bound, finite, finite-bits}
+use Rattle.model.specs.Values.{Third, free, sewn, critical, Label, serial-bound, finite, finite-bits, room}
 use Rattle.model.specs.Sound.{third-in-range, dart-in-range, coordinates-finite}
-use Rattle.model.specs.Image.{room, column, dart-in, dart-words, kind-word, is-image}
+use Rattle.model.specs.Image.{count-in, column, dart-in, dart-words, kind-word, holds-block}
 use Rattle.laws.proofs.Tests.{and-left, and-right}
 use Rattle.laws.proofs.Members.{In, getD-in}
 use Rattle.laws.proofs.Tables.{all-tab}
 use Rattle.memory.specs.Point.{FiniteAt}
 use Rattle.cells.specs.Places.{Linked}
-use Rattle.cells.proofs.Sited.{Sited, count-in, parts, read, sited, word-is}
+use Rattle.cells.proofs.Sited.{Sited, parts, read, sited, word-is}
 use Rattle.cells.proofs.StartLaws.{face-at, start-place}
 use Rattle.cells.proofs.PairsNumbered.{number-below}
 use Rattle.cells.proofs.VolumeReady.{out-below, out-long, out-whole}
@@ -28,10 +28,10 @@ use Rattle.outbox.specs.Bytes.{Listed, Opened, Pointed, Started, Vertexe
 use Rattle.outbox.proofs.ByFaces.{end-after, end-within}
 
 -- WORDS OF A SOUND BLOCK
-module _ (m : List ℕ) (ok : is-image rack m ≡ true) (p : ℕ) (h : p < count-in m) where
+module _ (m : List ℕ) (ok : holds-block m ≡ true) (p : ℕ) (h : p < count-in m) where
   kind-small : column m 3 p < 64
   unfolding dart-words
-  kind-small = go (dart-in m p .third) (word-is rack m ok p 3 h (omega arith)) (read rack m ok p h .in-range)
+  kind-small = go (dart-in m p .third) (word-is m ok p 3 h (omega arith)) (read m ok p h .in-range)
     where
       go : (t : Third) → column m 3 p ≡ kind-word t → third-in-range t ≡ true → column m 3 p < 64
       go free k r = omega arith
@@ -50,7 +50,7 @@ module _ (m : List ℕ) (ok : is-image rack m ≡ true) (p : ℕ) (h : p < count
   finite-there : FiniteAt m p
   unfolding coordinates-finite finite
   finite-there =
-      let r = all-tab (λ d. finite (d .point)) (dart-in m) (count-in m) (parts rack m ok .finite) p h in
+      let r = all-tab (λ d. finite (d .point)) (dart-in m) (count-in m) (parts m ok .finite) p h in
       let two = and-left (finite-bits (column m 5 p) && finite-bits (column m 6 p)) _ r in
       record {
         on-x = and-left (finite-bits (column m 5 p)) _ two;
@@ -64,20 +64,10 @@ unfolding concat
 fewer-faces [] h = omega arith
 fewer-faces (f ∷ fs) h = omega (arith, length-append f (concat fs), h 0 (omega arith), fewer-faces fs (λ k l. h (suc k) (omega arith)))
 
--- starts that are places of a block are places of any memory
-pub opened-wide : {n : ℕ} {order starts : List ℕ} {count : ℕ} → Opened n order starts count → n ≤ room → Opened room order starts count
-opened-wide o h = record {
-  order-size = o .order-size;
-  starts-size = o .starts-size;
-  few = o .few;
-  index-small = o .index-small;
-  place-below = λ f l. omega (arith, o .place-below f l);
-}
-
 -- A SURVEYED VOLUME
-module _ (m : List ℕ) (ok : is-image rack m ≡ true) {c : Counts} {marks order starts numbers firsts : List ℕ} (s : Surveyed m c marks order starts numbers firsts) where
+module _ (m : List ℕ) (ok : holds-block m ≡ true) {c : Counts} {marks order starts numbers firsts : List ℕ} (s : Surveyed m c marks order starts numbers firsts) where
   pub linked : Linked m (count-in m)
-  linked = sited rack m ok .linked
+  linked = sited m ok .linked
 
   pub some-face : (k : ℕ) → k < c .faces → 0 < length (getD (faces-at m marks) k [])
   some-face k h = face-at (count-in m) (column m 1) marks (linked .few) (linked .next-within) (linked .next-apart) k (omega (arith, s .order .count-is)) .0
@@ -90,7 +80,8 @@ module _ (m : List ℕ) (ok : is-image rack m ≡ true) {c : Counts} {marks orde
 
   pub listed : Listed m order (c .darts)
   listed = record {
-    memory = linked .size;
+    header = omega (arith, linked .size);
+    held = λ k h. omega (arith, place-there k h, linked .size);
     order-size = s .order .out-size;
     few = s .few;
     below = λ k h. omega (arith, place-there k h, linked .few);
@@ -104,7 +95,7 @@ module _ (m : List ℕ) (ok : is-image rack m ≡ true) {c : Counts} {marks orde
 
   pub vertexed : Vertexed numbers order (c .darts)
   vertexed = record {
-    numbers-size = s .numbering .numbers-size;
+    numbers-size = λ k h. s .numbering .numbers-size (getD order k 0) (in-order k h);
     number-small = λ k h. let l = linked in
         let w = out-whole l (s .place-below) (s .volume-marked) (s .order) in
         omega (
@@ -129,7 +120,7 @@ module _ (m : List ℕ) (ok : is-image rack m ≡ true) {c : Counts} {marks orde
 
   pub opened : Opened (count-in m) order starts (c .faces)
   opened = record {
-    order-size = s .order .out-size;
+    order-size = λ f h. omega (arith, start-there f h .0, s .order .out-size);
     starts-size = s .order .starts-size;
     few = faces-few;
     index-small = λ f h. omega (arith, start-there f h .0, s .few);
@@ -144,7 +135,7 @@ module _ (m : List ℕ) (ok : is-image rack m ≡ true) {c : Counts} {marks orde
 
   pub pointed : Pointed m firsts (c .vertices)
   pointed = record {
-    memory = linked .size;
+    held = λ k h. omega (arith, first-there k h, linked .size);
     firsts-size = s .numbering .firsts-size;
     few = vertices-few;
     below = λ k h. omega (arith, first-there k h, linked .few);

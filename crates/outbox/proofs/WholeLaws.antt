@@ -6,13 +6,12 @@ use Prim.Native.Nat.{ℕ, _+_, _*_, _≤_, _<_, _^_}
 use native.Mathlib.Omega.{arith}
 use lib.ListN.{length, getD, length-append, length-map}
 use borrow.Author.Tests.{lt-ltb}
-use Rattle.model.specs.Values.{rack}
 use Rattle.model.specs.Lists.{keep}
 use Rattle.model.specs.Cells.{start-of}
 use Rattle.model.specs.Layouts.{groups, group-below, group, such-that, at-most, exactly, counted, framed, _⊗_, _⊕_, as-type}
 use Rattle.model.specs.Messages.{Transfer, point, face-dart, part1, part2, part3, part4, transfer}
-use Rattle.model.specs.Departure.{placed}
-use Rattle.model.specs.Image.{is-image}
+use Rattle.model.specs.Links.{placed}
+use Rattle.model.specs.Image.{holds-block}
 use Rattle.cells.specs.Places.{sewn-out}
 use Rattle.departure.specs.ByPlaces.{critical-with, critical-beside, part2-at, part4-at, transfer-at}
 use Rattle.departure.specs.Asked.{Surveyed, faces-at}
@@ -82,12 +81,12 @@ pub parts-of : (m : List ℕ) (j : ℕ) (c : Counts) (marks order starts : List 
 unfolding parts-bytes
 parts-of m j c marks order starts p q r = rw (p, q, r)
 
-module _ (m : List ℕ) (ok : is-image rack m ≡ true) (j : ℕ) {c : Counts} {marks order starts numbers firsts : List ℕ} (s : Surveyed m c marks order starts numbers firsts) where
+module _ (m : List ℕ) (ok : holds-block m ≡ true) (j : ℕ) {c : Counts} {marks order starts numbers firsts : List ℕ} (s : Surveyed m c marks order starts numbers firsts) where
   pub transfer-bytes : transfer .put (transfer-for m j c marks numbers firsts) ≡ first-bytes m j c order starts numbers firsts ++ parts-bytes m j c marks order starts
   unfolding transfer-at first-bytes parts-bytes
   transfer-bytes = let o = s .order in let f = some-face m ok s in
       layout-bytes (transfer-for m j c marks numbers firsts) ∙ each-part (group .put 1) (group .put (getD m 0 0)) (group .put j)
-      (points-run m firsts (c .vertices) (omega (arith, s .numbering .firsts-size, pointed m ok s .few)))
+      (points-run m firsts (c .vertices) (s .numbering .firsts-size))
       (faces-run m numbers o f) (part2-run m numbers o f j) (part3-run m numbers o f marks (getD m 1 0)) (part4-run m numbers o f _ j)
 
   -- entries of the parts
@@ -172,7 +171,7 @@ pub record Bounds (m : List ℕ) (j : ℕ) (c : Counts) (marks order starts numb
   pub three-bytes : length (run (part3-put m marks (getD m 1 0) order starts) (c .faces)) ≤ 5120
   pub four-bytes : length (run (part4-put m j order starts (c .darts) (c .faces)) (c .faces)) ≤ 3937280
 
-pub bounds : (m : List ℕ) (ok : is-image rack m ≡ true) (j : ℕ) {c : Counts} {marks order starts numbers firsts : List ℕ}
+pub bounds : (m : List ℕ) (ok : holds-block m ≡ true) (j : ℕ) {c : Counts} {marks order starts numbers firsts : List ℕ}
     → Surveyed m c marks order starts numbers firsts → Bounds m j c marks order starts numbers
 bounds m ok j {c} {marks} {order} {starts} {numbers} s = let few = started m ok s .few in
     record {

@@ -1,15 +1,14 @@
 -- The bytes of each entry of a transfer, by the arrays of a volume: `order` has its darts as places in message order, `starts` the
 -- index of each face's start. And what the functions that put them ask of the arrays. Assumes nothing.
-use mathlib.Core.Path.{_≡_}
 use mathlib.Core.Bool.{Bool, cond}
 use mathlib.Core.List.{List, [], _++_}
 use Prim.Native.Nat.{ℕ, _+_, _-_, _/_, _≤_, _<_, _^_}
 use lib.Dec.{ltb}
 use lib.ListN.{length, getD}
-use Rattle.model.specs.Values.{serial-bound}
+use Rattle.model.specs.Values.{serial-bound, room}
 use Rattle.model.specs.Layouts.{group}
 use Rattle.model.specs.Messages.{point, label, face-dart, part2, part3}
-use Rattle.model.specs.Image.{room, words, column, dart-in}
+use Rattle.model.specs.Image.{words-for, column, dart-in}
 use Rattle.memory.specs.Point.{FiniteAt}
 use Rattle.cells.specs.Places.{sewn-out}
 use Rattle.departure.specs.ByPlaces.{critical-with, critical-beside, label-at, dart-entry}
@@ -74,8 +73,9 @@ part4-put m j order starts darts count f = cond (in-part4 m j order starts f) (b
 -- WHAT IS ASKED OF THE ARRAYS
 -- the darts of the volume are places of the block
 pub record Listed (m order : List ℕ) (darts : ℕ) : Type 0 where
-  pub memory : length m ≡ words
-  pub order-size : length order ≡ room
+  pub header : 8 ≤ length m
+  pub held : (k : ℕ) → k < darts → words-for (getD order k 0 + 1) ≤ length m
+  pub order-size : darts ≤ length order
   pub few : darts ≤ 512
   pub below : (k : ℕ) → k < darts → getD order k 0 < room
   pub serial-small : (k : ℕ) → k < darts → column m 0 (getD order k 0) < serial-bound
@@ -83,12 +83,12 @@ pub record Listed (m order : List ℕ) (darts : ℕ) : Type 0 where
 
 -- their vertices have numbers
 pub record Vertexed (numbers order : List ℕ) (darts : ℕ) : Type 0 where
-  pub numbers-size : length numbers ≡ room
+  pub numbers-size : (k : ℕ) → k < darts → getD order k 0 < length numbers
   pub number-small : (k : ℕ) → k < darts → getD numbers (getD order k 0) 0 < room
 
 -- faces start and end within the order
 pub record Started (starts : List ℕ) (darts count : ℕ) : Type 0 where
-  pub starts-size : length starts ≡ room
+  pub starts-size : count ≤ length starts
   pub few : count ≤ 512
   pub below : (f : ℕ) → f < count → getD starts f 0 < darts
   pub ends-after : (f : ℕ) → f < count → getD starts f 0 < end-of starts count darts f
@@ -96,16 +96,16 @@ pub record Started (starts : List ℕ) (darts count : ℕ) : Type 0 where
 
 -- the starts alone, as indices of a message and as places below n
 pub record Opened (n : ℕ) (order starts : List ℕ) (count : ℕ) : Type 0 where
-  pub order-size : length order ≡ room
-  pub starts-size : length starts ≡ room
+  pub order-size : (f : ℕ) → f < count → getD starts f 0 < length order
+  pub starts-size : count ≤ length starts
   pub few : count ≤ 512
   pub index-small : (f : ℕ) → f < count → getD starts f 0 < 512
   pub place-below : (f : ℕ) → f < count → start-at order starts f < n
 
 -- the first darts of the vertices have finite points
 pub record Pointed (m firsts : List ℕ) (count : ℕ) : Type 0 where
-  pub memory : length m ≡ words
-  pub firsts-size : length firsts ≡ room
+  pub held : (k : ℕ) → k < count → words-for (getD firsts k 0 + 1) ≤ length m
+  pub firsts-size : count ≤ length firsts
   pub few : count ≤ 512
   pub below : (k : ℕ) → k < count → getD firsts k 0 < room
   pub finite : (k : ℕ) → k < count → FiniteAt m (getD firsts k 0)

@@ -2,18 +2,20 @@
 ghost use mathlib.Core.Path.{_≡_};
 ghost use Prim.Native.Nat.{_+_, _≤_, _<_, _^_};
 ghost use lib.ListN.{length, getD};
-ghost use Rattle.model.specs.Image.{room};
+ghost use Rattle.model.specs.Values.{room};
 ghost use Rattle.groups.specs.Slices.{Stored};
 ghost use Rattle.outbox.specs.Runs.{run};
 ghost use Rattle.outbox.specs.Bytes.{Listed, Pointed, Started, Vertexed, dart-put, end-of, face-put, faces-put, point-put};
 use crate::entry;
-use cells::walk;
 use memory::point;
+use memory::record;
+use memory::record::MessageIndex;
 use memory::record::Place;
+use memory::record::Record;
 
 // The index after face f: where the next face starts, or the number of darts.
 pub fn face_end(starts: &[usize], count: usize, darts: usize, f: usize) -> usize
-    requires { ⌜ (length (now starts) ≡ room) × (count ≤ room) × (f < count) ⌝ }
+    requires { ⌜ (count ≤ length (now starts)) × (count ≤ room) × (f < count) ⌝ }
     ensures { λ r. ⌜ r ≡ end-of (now (starts .entry)) count darts f ⌝ }
 {
     if f + 1 < count {
@@ -46,17 +48,24 @@ pub fn put_points(
 }
 
 // Of the `size` darts of a face from index `start` of the order on.
-fn darts_size(block: &[u64], numbers: &[usize], order: &[usize], start: usize, size: usize) -> usize
-    requires { ⌜ Listed (now block) (now order) (start + size) × Vertexed (now numbers) (now order) (start + size) ⌝ }
-    requires { ⌜ length (run (dart-put (now block) (now numbers) (now order) start) size) < 2 ^ 32 ⌝ }
-    ensures { λ r. ⌜ r ≡ length (run (dart-put (now (block .entry)) (now (numbers .entry)) (now (order .entry)) start) size) ⌝ }
+fn darts_size(
+    block: &[u64],
+    numbers: &[usize],
+    order: &[usize],
+    start: MessageIndex,
+    size: usize,
+) -> usize
+    requires { ⌜ Listed (now block) (now order) (start .0 + size) × Vertexed (now numbers) (now order) (start .0 + size) ⌝ }
+    requires { ⌜ length (run (dart-put (now block) (now numbers) (now order) (start .0)) size) < 2 ^ 32 ⌝ }
+    ensures { λ r. ⌜ r ≡ length (run (dart-put (now (block .entry)) (now (numbers .entry)) (now (order .entry)) (start .0)) size) ⌝ }
 {
     // The darts before k take `bytes`.
+    let first = start.0;
     let mut bytes = 0;
     let mut k = 0;
     while k < size {
-        let p = order[start + k];
-        bytes += entry::dart_size(numbers[p], walk::field(block, p, 0));
+        let p = order[first + k];
+        bytes += entry::dart_size(numbers[p], record::field(block, Place(p), Record::SERIAL));
         k += 1;
     }
     bytes
@@ -66,31 +75,43 @@ fn put_darts(
     block: &[u64],
     numbers: &[usize],
     order: &[usize],
-    start: usize,
+    start: MessageIndex,
     size: usize,
     out: &mut [u8],
     from: usize,
 ) -> usize
-    requires { ⌜ Listed (now block) (now order) (start + size) × Vertexed (now numbers) (now order) (start + size) ⌝ }
-    requires { ⌜ from + length (run (dart-put (now block) (now numbers) (now order) start) size) ≤ length (now out) ⌝ }
-    ensures { λ r. ⌜ Stored (now (out .entry)) from (run (dart-put (now (block .entry)) (now (numbers .entry)) (now (order .entry)) start) size) (now (out .exit)) r ⌝ }
+    requires { ⌜ Listed (now block) (now order) (start .0 + size) × Vertexed (now numbers) (now order) (start .0 + size) ⌝ }
+    requires { ⌜ from + length (run (dart-put (now block) (now numbers) (now order) (start .0)) size) ≤ length (now out) ⌝ }
+    ensures { λ r. ⌜ Stored (now (out .entry)) from (run (dart-put (now (block .entry)) (now (numbers .entry)) (now (order .entry)) (start .0)) size) (now (out .exit)) r ⌝ }
 {
     // The darts before k are put, up to `at`.
+    let first = start.0;
     let mut at = from;
     let mut k = 0;
     while k < size {
-        let p = order[start + k];
-        at = entry::put_dart(out, at, numbers[p], walk::field(block, p, 0));
+        let p = order[first + k];
+        at = entry::put_dart(
+            out,
+            at,
+            numbers[p],
+            record::field(block, Place(p), Record::SERIAL),
+        );
         k += 1;
     }
     at
 }
 
 // A face: its size, then its darts.
-fn face_size(block: &[u64], numbers: &[usize], order: &[usize], start: usize, size: usize) -> usize
-    requires { ⌜ Listed (now block) (now order) (start + size) × Vertexed (now numbers) (now order) (start + size) ⌝ }
-    requires { ⌜ length (face-put (now block) (now numbers) (now order) start size) < 2 ^ 32 ⌝ }
-    ensures { λ r. ⌜ r ≡ length (face-put (now (block .entry)) (now (numbers .entry)) (now (order .entry)) start size) ⌝ }
+fn face_size(
+    block: &[u64],
+    numbers: &[usize],
+    order: &[usize],
+    start: MessageIndex,
+    size: usize,
+) -> usize
+    requires { ⌜ Listed (now block) (now order) (start .0 + size) × Vertexed (now numbers) (now order) (start .0 + size) ⌝ }
+    requires { ⌜ length (face-put (now block) (now numbers) (now order) (start .0) size) < 2 ^ 32 ⌝ }
+    ensures { λ r. ⌜ r ≡ length (face-put (now (block .entry)) (now (numbers .entry)) (now (order .entry)) (start .0) size) ⌝ }
 {
     groups::group_count(size as u32) + darts_size(block, numbers, order, start, size)
 }
@@ -99,14 +120,14 @@ fn put_face(
     block: &[u64],
     numbers: &[usize],
     order: &[usize],
-    start: usize,
+    start: MessageIndex,
     size: usize,
     out: &mut [u8],
     at: usize,
 ) -> usize
-    requires { ⌜ Listed (now block) (now order) (start + size) × Vertexed (now numbers) (now order) (start + size) ⌝ }
-    requires { ⌜ at + length (face-put (now block) (now numbers) (now order) start size) ≤ length (now out) ⌝ }
-    ensures { λ r. ⌜ Stored (now (out .entry)) at (face-put (now (block .entry)) (now (numbers .entry)) (now (order .entry)) start size) (now (out .exit)) r ⌝ }
+    requires { ⌜ Listed (now block) (now order) (start .0 + size) × Vertexed (now numbers) (now order) (start .0 + size) ⌝ }
+    requires { ⌜ at + length (face-put (now block) (now numbers) (now order) (start .0) size) ≤ length (now out) ⌝ }
+    ensures { λ r. ⌜ Stored (now (out .entry)) at (face-put (now (block .entry)) (now (numbers .entry)) (now (order .entry)) (start .0) size) (now (out .exit)) r ⌝ }
 {
     let past = groups::put_group(out, at, size as u32);
     put_darts(block, numbers, order, start, size, out, past)
@@ -131,7 +152,7 @@ pub fn faces_size(
     while f < count {
         let start = starts[f];
         let end = face_end(starts, count, darts, f);
-        bytes += face_size(block, numbers, order, start, end - start);
+        bytes += face_size(block, numbers, order, MessageIndex(start), end - start);
         f += 1;
     }
     bytes
@@ -157,7 +178,15 @@ pub fn put_faces(
     while f < count {
         let start = starts[f];
         let end = face_end(starts, count, darts, f);
-        at = put_face(block, numbers, order, start, end - start, out, at);
+        at = put_face(
+            block,
+            numbers,
+            order,
+            MessageIndex(start),
+            end - start,
+            out,
+            at,
+        );
         f += 1;
     }
     at

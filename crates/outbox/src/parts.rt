@@ -2,7 +2,7 @@
 ghost use mathlib.Core.Path.{_≡_};
 ghost use Prim.Native.Nat.{_+_, _≤_, _<_, _^_};
 ghost use lib.ListN.{length};
-ghost use Rattle.model.specs.Image.{room, words};
+ghost use Rattle.model.specs.Image.{words-for, count-in};
 ghost use Rattle.groups.specs.Slices.{Stored};
 ghost use Rattle.cells.specs.Places.{Linked};
 ghost use Rattle.departure.specs.ByPlaces.{critical-with, critical-beside};
@@ -11,8 +11,11 @@ ghost use Rattle.outbox.specs.Bytes.{Listed, Opened, Started, beside-put
 use crate::entry;
 use crate::first;
 use cells::sewn;
-use cells::walk;
+use memory::kind;
+use memory::record;
 use memory::record::MessageIndex;
+use memory::record::Place;
+use memory::record::Record;
 
 // How many entries a part has, and how many bytes they take.
 pub struct Tally {
@@ -21,25 +24,25 @@ pub struct Tally {
 }
 
 // Whether the dart at place p is critical with block `to`.
-fn critical_with(block: &[u64], to: u64, p: usize) -> bool
-    requires { ⌜ (length (now block) ≡ words) × (p < room) × (to < 2 ^ 32) ⌝ }
-    ensures { λ r. ⌜ r ≡ critical-with (now (block .entry)) to p ⌝ }
+fn critical_with(block: &[u64], to: u64, p: Place) -> bool
+    requires { ⌜ (words-for (p .0 + 1) ≤ length (now block)) × (to ≤ 15) ⌝ }
+    ensures { λ r. ⌜ r ≡ critical-with (now (block .entry)) to (p .0) ⌝ }
 {
-    walk::field(block, p, 3) == 2 + 4 * to
+    record::field(block, p, Record::KIND) == kind::critical_with(to)
 }
 
 // Whether it is critical with another one.
-fn critical_beside(block: &[u64], to: u64, p: usize) -> bool
-    requires { ⌜ (length (now block) ≡ words) × (p < room) × (to < 2 ^ 32) ⌝ }
-    ensures { λ r. ⌜ r ≡ critical-beside (now (block .entry)) to p ⌝ }
+fn critical_beside(block: &[u64], to: u64, p: Place) -> bool
+    requires { ⌜ (words-for (p .0 + 1) ≤ length (now block)) × (to ≤ 15) ⌝ }
+    ensures { λ r. ⌜ r ≡ critical-beside (now (block .entry)) to (p .0) ⌝ }
 {
-    let kind = walk::field(block, p, 3);
-    (1 < kind) & (kind != 2 + 4 * to)
+    let word = record::field(block, p, Record::KIND);
+    (1 < word) & (word != kind::critical_with(to))
 }
 
 // Part 2.
 pub fn part2_tally(block: &[u64], to: u64, order: &[usize], starts: &[usize], count: usize) -> Tally
-    requires { ⌜ (length (now block) ≡ words) × Opened room (now order) (now starts) count × (to < 2 ^ 32) ⌝ }
+    requires { ⌜ (words-for (count-in (now block)) ≤ length (now block)) × Opened (count-in (now block)) (now order) (now starts) count × (to ≤ 15) ⌝ }
     requires { ⌜ length (run (part2-put (now block) to (now order) (now starts)) count) < 2 ^ 32 ⌝ }
     ensures { λ r. ⌜ (r .entries ≡ tally (in-part2 (now (block .entry)) to (now (order .entry)) (now (starts .entry))) count) × (r .bytes ≡ length (run (part2-put (now (block .entry)) to (now (order .entry)) (now (starts .entry))) count)) ⌝ }
 {
@@ -51,11 +54,14 @@ pub fn part2_tally(block: &[u64], to: u64, order: &[usize], starts: &[usize], co
         let i = starts[f];
         let p = order[i];
         f += 1;
-        if !critical_with(block, to, p) {
+        if !critical_with(block, to, Place(p)) {
             continue;
         }
         entries += 1;
-        bytes += entry::part2_size(walk::field(block, p, 4), MessageIndex(i));
+        bytes += entry::part2_size(
+            record::field(block, Place(p), Record::LINK),
+            MessageIndex(i),
+        );
     }
     Tally { entries, bytes }
 }
@@ -69,7 +75,7 @@ pub fn put_part2s(
     out: &mut [u8],
     from: usize,
 ) -> usize
-    requires { ⌜ (length (now block) ≡ words) × Opened room (now order) (now starts) count × (to < 2 ^ 32) ⌝ }
+    requires { ⌜ (words-for (count-in (now block)) ≤ length (now block)) × Opened (count-in (now block)) (now order) (now starts) count × (to ≤ 15) ⌝ }
     requires { ⌜ from + length (run (part2-put (now block) to (now order) (now starts)) count) ≤ length (now out) ⌝ }
     ensures { λ r. ⌜ Stored (now (out .entry)) from (run (part2-put (now (block .entry)) to (now (order .entry)) (now (starts .entry))) count) (now (out .exit)) r ⌝ }
 {
@@ -80,10 +86,15 @@ pub fn put_part2s(
         let i = starts[f];
         let p = order[i];
         f += 1;
-        if !critical_with(block, to, p) {
+        if !critical_with(block, to, Place(p)) {
             continue;
         }
-        at = entry::put_part2(out, at, walk::field(block, p, 4), MessageIndex(i));
+        at = entry::put_part2(
+            out,
+            at,
+            record::field(block, Place(p), Record::LINK),
+            MessageIndex(i),
+        );
     }
     at
 }
@@ -98,7 +109,7 @@ pub fn part3_size(
     starts: &[usize],
     count: usize,
 ) -> usize
-    requires { ⌜ Linked (now block) n × (length (now marks) ≡ room) × Opened n (now order) (now starts) count ⌝ }
+    requires { ⌜ Linked (now block) n × (n ≤ length (now marks)) × Opened n (now order) (now starts) count ⌝ }
     requires { ⌜ counter + tally (in-part3 (now block) (now marks) (now order) (now starts)) count < 2 ^ 32 ⌝ }
     requires { ⌜ length (run (part3-put (now block) (now marks) counter (now order) (now starts)) count) < 2 ^ 32 ⌝ }
     ensures { λ r. ⌜ r ≡ length (run (part3-put (now (block .entry)) (now (marks .entry)) counter (now (order .entry)) (now (starts .entry))) count) ⌝ }
@@ -111,7 +122,7 @@ pub fn part3_size(
         let i = starts[f];
         let p = order[i];
         f += 1;
-        if !sewn::sewn_away(block, n, marks, p) {
+        if !sewn::sewn_away(block, n, marks, Place(p)) {
             continue;
         }
         bytes += entry::part3_size(number, MessageIndex(i));
@@ -131,7 +142,7 @@ pub fn put_part3s(
     out: &mut [u8],
     from: usize,
 ) -> usize
-    requires { ⌜ Linked (now block) n × (length (now marks) ≡ room) × Opened n (now order) (now starts) count ⌝ }
+    requires { ⌜ Linked (now block) n × (n ≤ length (now marks)) × Opened n (now order) (now starts) count ⌝ }
     requires { ⌜ counter + tally (in-part3 (now block) (now marks) (now order) (now starts)) count < 2 ^ 32 ⌝ }
     requires { ⌜ from + length (run (part3-put (now block) (now marks) counter (now order) (now starts)) count) ≤ length (now out) ⌝ }
     ensures { λ r. ⌜ Stored (now (out .entry)) from (run (part3-put (now (block .entry)) (now (marks .entry)) counter (now (order .entry)) (now (starts .entry))) count) (now (out .exit)) r ⌝ }
@@ -144,7 +155,7 @@ pub fn put_part3s(
         let i = starts[f];
         let p = order[i];
         f += 1;
-        if !sewn::sewn_away(block, n, marks, p) {
+        if !sewn::sewn_away(block, n, marks, Place(p)) {
             continue;
         }
         at = entry::put_part3(out, at, number, MessageIndex(i));
@@ -154,17 +165,18 @@ pub fn put_part3s(
 }
 
 // The labels of the `size` darts of a face from index `start` of the order on.
-fn labels_size(block: &[u64], order: &[usize], start: usize, size: usize) -> usize
-    requires { ⌜ Listed (now block) (now order) (start + size) ⌝ }
-    requires { ⌜ length (run (label-put (now block) (now order) start) size) < 2 ^ 32 ⌝ }
-    ensures { λ r. ⌜ r ≡ length (run (label-put (now (block .entry)) (now (order .entry)) start) size) ⌝ }
+fn labels_size(block: &[u64], order: &[usize], start: MessageIndex, size: usize) -> usize
+    requires { ⌜ Listed (now block) (now order) (start .0 + size) ⌝ }
+    requires { ⌜ length (run (label-put (now block) (now order) (start .0)) size) < 2 ^ 32 ⌝ }
+    ensures { λ r. ⌜ r ≡ length (run (label-put (now (block .entry)) (now (order .entry)) (start .0)) size) ⌝ }
 {
     // The labels before k take `bytes`.
+    let first = start.0;
     let mut bytes = 0;
     let mut k = 0;
     while k < size {
-        let p = order[start + k];
-        bytes += groups::label_count(walk::field(block, p, 4));
+        let p = order[first + k];
+        bytes += groups::label_count(record::field(block, Place(p), Record::LINK));
         k += 1;
     }
     bytes
@@ -173,52 +185,55 @@ fn labels_size(block: &[u64], order: &[usize], start: usize, size: usize) -> usi
 fn put_labels(
     block: &[u64],
     order: &[usize],
-    start: usize,
+    start: MessageIndex,
     size: usize,
     out: &mut [u8],
     from: usize,
 ) -> usize
-    requires { ⌜ Listed (now block) (now order) (start + size) ⌝ }
-    requires { ⌜ from + length (run (label-put (now block) (now order) start) size) ≤ length (now out) ⌝ }
-    ensures { λ r. ⌜ Stored (now (out .entry)) from (run (label-put (now (block .entry)) (now (order .entry)) start) size) (now (out .exit)) r ⌝ }
+    requires { ⌜ Listed (now block) (now order) (start .0 + size) ⌝ }
+    requires { ⌜ from + length (run (label-put (now block) (now order) (start .0)) size) ≤ length (now out) ⌝ }
+    ensures { λ r. ⌜ Stored (now (out .entry)) from (run (label-put (now (block .entry)) (now (order .entry)) (start .0)) size) (now (out .exit)) r ⌝ }
 {
     // The labels before k are put, up to `at`.
+    let first = start.0;
     let mut at = from;
     let mut k = 0;
     while k < size {
-        let p = order[start + k];
-        at = groups::put_label(out, at, walk::field(block, p, 4));
+        let p = order[first + k];
+        at = groups::put_label(out, at, record::field(block, Place(p), Record::LINK));
         k += 1;
     }
     at
 }
 
 // A whole entry of part 4: index, other block and labels of a face.
-fn beside_size(block: &[u64], order: &[usize], start: usize, size: usize) -> usize
-    requires { ⌜ Listed (now block) (now order) (start + size) × (0 < size) ⌝ }
-    requires { ⌜ length (beside-put (now block) (now order) start size) < 2 ^ 32 ⌝ }
-    ensures { λ r. ⌜ r ≡ length (beside-put (now (block .entry)) (now (order .entry)) start size) ⌝ }
+fn beside_size(block: &[u64], order: &[usize], start: MessageIndex, size: usize) -> usize
+    requires { ⌜ Listed (now block) (now order) (start .0 + size) × (0 < size) ⌝ }
+    requires { ⌜ length (beside-put (now block) (now order) (start .0) size) < 2 ^ 32 ⌝ }
+    ensures { λ r. ⌜ r ≡ length (beside-put (now (block .entry)) (now (order .entry)) (start .0) size) ⌝ }
 {
-    let p = order[start];
-    let other = walk::field(block, p, 3) / 4;
-    entry::part4_size(MessageIndex(start), other) + labels_size(block, order, start, size)
+    let first = start.0;
+    let p = order[first];
+    let other = kind::other_of(record::field(block, Place(p), Record::KIND));
+    entry::part4_size(start, other) + labels_size(block, order, start, size)
 }
 
 fn put_beside(
     block: &[u64],
     order: &[usize],
-    start: usize,
+    start: MessageIndex,
     size: usize,
     out: &mut [u8],
     at: usize,
 ) -> usize
-    requires { ⌜ Listed (now block) (now order) (start + size) × (0 < size) ⌝ }
-    requires { ⌜ at + length (beside-put (now block) (now order) start size) ≤ length (now out) ⌝ }
-    ensures { λ r. ⌜ Stored (now (out .entry)) at (beside-put (now (block .entry)) (now (order .entry)) start size) (now (out .exit)) r ⌝ }
+    requires { ⌜ Listed (now block) (now order) (start .0 + size) × (0 < size) ⌝ }
+    requires { ⌜ at + length (beside-put (now block) (now order) (start .0) size) ≤ length (now out) ⌝ }
+    ensures { λ r. ⌜ Stored (now (out .entry)) at (beside-put (now (block .entry)) (now (order .entry)) (start .0) size) (now (out .exit)) r ⌝ }
 {
-    let p = order[start];
-    let other = walk::field(block, p, 3) / 4;
-    let past = entry::put_part4(out, at, MessageIndex(start), other);
+    let first = start.0;
+    let p = order[first];
+    let other = kind::other_of(record::field(block, Place(p), Record::KIND));
+    let past = entry::put_part4(out, at, start, other);
     put_labels(block, order, start, size, out, past)
 }
 
@@ -231,7 +246,7 @@ pub fn part4_tally(
     darts: usize,
     count: usize,
 ) -> Tally
-    requires { ⌜ Listed (now block) (now order) darts × Started (now starts) darts count × (to < 2 ^ 32) ⌝ }
+    requires { ⌜ Listed (now block) (now order) darts × Started (now starts) darts count × (to ≤ 15) ⌝ }
     requires { ⌜ length (run (part4-put (now block) to (now order) (now starts) darts count) count) < 2 ^ 32 ⌝ }
     ensures { λ r. ⌜ (r .entries ≡ tally (in-part4 (now (block .entry)) to (now (order .entry)) (now (starts .entry))) count) × (r .bytes ≡ length (run (part4-put (now (block .entry)) to (now (order .entry)) (now (starts .entry)) darts count) count)) ⌝ }
 {
@@ -244,11 +259,11 @@ pub fn part4_tally(
         let end = first::face_end(starts, count, darts, f);
         let p = order[start];
         f += 1;
-        if !critical_beside(block, to, p) {
+        if !critical_beside(block, to, Place(p)) {
             continue;
         }
         entries += 1;
-        bytes += beside_size(block, order, start, end - start);
+        bytes += beside_size(block, order, MessageIndex(start), end - start);
     }
     Tally { entries, bytes }
 }
@@ -263,7 +278,7 @@ pub fn put_part4s(
     out: &mut [u8],
     from: usize,
 ) -> usize
-    requires { ⌜ Listed (now block) (now order) darts × Started (now starts) darts count × (to < 2 ^ 32) ⌝ }
+    requires { ⌜ Listed (now block) (now order) darts × Started (now starts) darts count × (to ≤ 15) ⌝ }
     requires { ⌜ from + length (run (part4-put (now block) to (now order) (now starts) darts count) count) ≤ length (now out) ⌝ }
     ensures { λ r. ⌜ Stored (now (out .entry)) from (run (part4-put (now (block .entry)) to (now (order .entry)) (now (starts .entry)) darts count) count) (now (out .exit)) r ⌝ }
 {
@@ -275,10 +290,10 @@ pub fn put_part4s(
         let end = first::face_end(starts, count, darts, f);
         let p = order[start];
         f += 1;
-        if !critical_beside(block, to, p) {
+        if !critical_beside(block, to, Place(p)) {
             continue;
         }
-        at = put_beside(block, order, start, end - start, out, at);
+        at = put_beside(block, order, MessageIndex(start), end - start, out, at);
     }
     at
 }

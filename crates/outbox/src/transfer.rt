@@ -4,10 +4,9 @@ ghost use mathlib.Core.Bool.{true};
 ghost use mathlib.Core.List.{List};
 ghost use Prim.Native.Nat.{ℕ, _+_, _≤_, _<_, _^_};
 ghost use lib.ListN.{length, getD};
-ghost use Rattle.model.specs.Values.{rack};
 ghost use Rattle.model.specs.Layouts.{group, framed};
 ghost use Rattle.model.specs.Messages.{transfer};
-ghost use Rattle.model.specs.Image.{room, is-image};
+ghost use Rattle.model.specs.Image.{holds-block};
 ghost use Rattle.groups.specs.Slices.{Stored};
 ghost use Rattle.cells.specs.Places.{Linked};
 ghost use Rattle.departure.specs.Asked.{Surveyed};
@@ -44,7 +43,7 @@ pub fn transfer_sizes(
     numbers: &[usize],
     counts: Counts,
 ) -> Sizes
-    requires { ⌜ is-image rack (now block) ≡ true ⌝ }
+    requires { ⌜ holds-block (now block) ≡ true ⌝ }
     requires { ⌜ Outlined (now block) counts (now marks) (now order) (now starts) (now numbers) ⌝ }
     requires { ⌜ (to ≤ 15) × (getD (now block) 1 0 + counts .sewn < 2 ^ 32) ⌝ }
     ensures { λ r. ⌜ ((firsts : List ℕ) → Surveyed (now (block .entry)) counts (now (marks .entry)) (now (order .entry)) (now (starts .entry)) (now (numbers .entry)) firsts → Sized (transfer-for (now (block .entry)) to counts (now (marks .entry)) (now (numbers .entry)) firsts) r) ⌝ }
@@ -117,7 +116,7 @@ fn put_parts(
     at: usize,
 ) -> usize
     requires { ⌜ Listed (now block) (now order) (counts .darts) × Started (now starts) (counts .darts) (counts .faces) × (to ≤ 15) ⌝ }
-    requires { ⌜ Linked (now block) (getD (now block) 2 0) × (length (now marks) ≡ room) × Opened (getD (now block) 2 0) (now order) (now starts) (counts .faces) ⌝ }
+    requires { ⌜ Linked (now block) (getD (now block) 2 0) × (getD (now block) 2 0 ≤ length (now marks)) × Opened (getD (now block) 2 0) (now order) (now starts) (counts .faces) ⌝ }
     requires { ⌜ (sizes .part2 ≡ tally (in-part2 (now block) to (now order) (now starts)) (counts .faces)) × (counts .sewn ≡ tally (in-part3 (now block) (now marks) (now order) (now starts)) (counts .faces)) × (sizes .part4 ≡ tally (in-part4 (now block) to (now order) (now starts)) (counts .faces)) ⌝ }
     requires { ⌜ (getD (now block) 1 0 + counts .sewn < 2 ^ 32) × (at + length (parts-bytes (now block) to counts (now marks) (now order) (now starts)) ≤ length (now out)) ⌝ }
     ensures { λ r. ⌜ Stored (now (out .entry)) at (parts-bytes (now (block .entry)) to counts (now (marks .entry)) (now (order .entry)) (now (starts .entry))) (now (out .exit)) r ⌝ }
@@ -165,7 +164,7 @@ pub fn put_transfer(
     out: &mut [u8],
     at: usize,
 ) -> usize
-    requires { ⌜ is-image rack (now block) ≡ true ⌝ }
+    requires { ⌜ holds-block (now block) ≡ true ⌝ }
     requires { ⌜ Surveyed (now block) counts (now marks) (now order) (now starts) (now numbers) (now firsts) ⌝ }
     requires { ⌜ (to ≤ 15) × (getD (now block) 1 0 + counts .sewn < 2 ^ 32) ⌝ }
     requires { ⌜ Sized (transfer-for (now block) to counts (now marks) (now numbers) (now firsts)) sizes × (at + sizes .whole ≤ length (now out)) ⌝ }

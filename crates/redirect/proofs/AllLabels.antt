@@ -9,8 +9,8 @@ use lib.Dec.{ltb, eqb}
 use lib.ListN.{length, getD, take, drop, length-map}
 use borrow.Author.Tests.{eqb-true, lt-ltb, le-ltb, ltb-true, ltb-false}
 use Rattle.model.specs.Lists.{all, any, mem, distinct, ascending, insert, sorted, tab, index-of}
-use Rattle.model.specs.Values.{Label, code}
-use Rattle.model.specs.Image.{room, column}
+use Rattle.model.specs.Values.{Label, code, room}
+use Rattle.model.specs.Image.{column}
 use Rattle.model.specs.Layouts.{Layout, times, get-all}
 use Rattle.model.specs.Messages.{label}
 use Rattle.model.specs.Arrival.{names-face}
@@ -93,30 +93,28 @@ rewritten-by {m} {m′} {test} {other} {word} {n} e w =
 
 -- WHAT THE ARRAYS SAY
 module _ (m : List ℕ) (from : ℕ) {s read : List ℕ} {at count : ℕ} (codes : List ℕ) {fine : Bool} (few : count ≤ room) (told : CodesRead s at count read)
-    (order : (fine ≡ distinct (take count read)) × (take count codes ≡ sorted (take count read)) × (length codes ≡ room)) where
+    (order : (fine ≡ distinct (take count read)) × (take count codes ≡ sorted (take count read))) (long : count ≤ length codes) where
   codes-sorted : (ls : List Label) (past : ℕ) → Took (times count label) s at ls past → take count codes ≡ sorted (map code ls)
   codes-sorted ls past t = order .1 ∙ ap sorted (told .codes-are ls past t)
 
   -- a label twice
-  pub not-apart : fine ≡ false → {table : List ℕ} → length table ≡ room → AllNamed m s from at count table false
-  not-apart e size = record {
+  pub not-apart : fine ≡ false → {table : List ℕ} → AllNamed m s from at count table false
+  not-apart e = record {
     said = λ ls past t. sym (and-no (all (names-at m from) (map code ls)) (distinct (map code ls)) (ap distinct (sym (told .codes-are ls past t)) ∙ sym (order .0) ∙ e));
-    size = size;
     tells = λ r. absurd (true≢false (sym r));
   }
 
   pub apart-ready : fine ≡ true → Ready codes count
   apart-ready e = record {
     few = few;
-    size = order .2;
-    ascends = front-ascends codes count (let a = order .2 in omega arith) (ap ascending (order .1) ∙ ascending-distinct (take count read) ∙ sym (order .0) ∙ e);
+    size = long;
+    ascends = front-ascends codes count long (ap ascending (order .1) ∙ ascending-distinct (take count read) ∙ sym (order .0) ∙ e);
   }
 
   pub all-told : fine ≡ true → {table : List ℕ} {r : Bool} → EachNamed m from codes count table r → AllNamed m s from at count table r
   all-told e {table} {r} n = record {
     said = λ ls past t. n .said ∙ ap (all (names-at m from)) (codes-sorted ls past t) ∙ all-sorted (names-at m from) (map code ls)
         ∙ sym (and-yes (all (names-at m from) (map code ls)) (distinct (map code ls)) (ap distinct (sym (told .codes-are ls past t)) ∙ sym (order .0) ∙ e));
-    size = n .indexed .size;
     tells = λ _ ls past t p h. ap (λ (k : ℕ). ltb k count) (n .indexed .index-is p h) ∙ index-named m from (map code ls) (apart-ready e) (codes-sorted ls past t) p;
   }
     where
@@ -161,9 +159,9 @@ module _ {m : List ℕ} {n : ℕ} (l : Linked m n) (same : n ≡ getD m 2 0) whe
       in
       omega (arith, length-map (places n) (column m 4), length-tab (λ (q : ℕ). q) n)
 
-  pub too-many : (from : ℕ) {s : List ℕ} {at count past : ℕ} (ls : List Label) → Took (times count label) s at ls past → room < count
+  pub too-many : (from : ℕ) {s : List ℕ} {at count past : ℕ} (ls : List Label) → Took (times count label) s at ls past → n < count
       → (all (names-at m from) (map code ls) && distinct (map code ls)) ≡ false
   unfolding times
   too-many from {s} {at} {count} {past} ls t h = by-cases (all (names-at m from) (map code ls) && distinct (map code ls))
-      (λ e. let a = few-named from (map code ls) e in let b = l .few in absurd (omega (arith, length-map ls code, took-length label count (drop at s) ls (drop past s) (t .value))))
+      (λ e. let a = few-named from (map code ls) e in absurd (omega (arith, length-map ls code, took-length label count (drop at s) ls (drop past s) (t .value))))
       (λ e. e)

@@ -9,7 +9,7 @@ use lib.ListN.{length, getD}
 use borrow.Author.Tests.{eq-eqb, ne-eqb, not-true, not-false}
 use Rattle.model.specs.Lists.{all, distinct}
 use Rattle.model.specs.Values.{rack, code}
-use Rattle.model.specs.Image.{words, image, block-in, is-image, memory-checks}
+use Rattle.model.specs.Image.{words, image, block-in, holds-block, memory-checks}
 use Rattle.model.specs.Messages.{Transfer, Update, Message, a-transfer, an-update, no-message, message-in}
 use Rattle.model.specs.Arrival.{addressed, names-face, update-right, redirect-checks, redirected, redirected-from}
 use Rattle.model.specs.Calls.{Answer, served, refused, storing, redirect}
@@ -44,7 +44,7 @@ module _ (m s : List ℕ) where
   unfolding redirect storing memory-checks
   size-refused h = gives _ _ _ _ (ask-no refl (ne-eqb (length m) words h) refl)
 
-  pub image-refused : length m ≡ words → is-image rack m ≡ false → Gives (redirect rack m s) (refused 2) m
+  pub image-refused : length m ≡ words → holds-block m ≡ false → Gives (redirect rack m s) (refused 2) m
   unfolding redirect storing memory-checks
   image-refused len h = gives _ _ _ _ (ask-yes (eq-eqb (length m) words len) (ask-no refl h refl))
 
@@ -52,12 +52,9 @@ module _ (m s : List ℕ) where
   unfolding redirect redirect-by
   by-message r e g = rw e g
 
-module _ (m : List ℕ) (ok : is-image rack m ≡ true) where
-  size : length m ≡ words
-  size = sited rack m ok .linked .size
-
+module _ (m : List ℕ) (size : length m ≡ words) (ok : holds-block m ≡ true) where
   asked-by : (r : Message) {given : Answer (Unit {0})} {lent : List ℕ}
-      → Asks (redirect-checks (block-in m) r) m tt (image (redirected-from (block-in m) r)) given lent
+      → Asks (redirect-checks (block-in m) r) m tt (image words (redirected-from (block-in m) r)) given lent
       → Gives (redirect-by m r) given lent
   unfolding redirect-by storing memory-checks
   asked-by r a = gives _ _ _ _ (ask-yes (eq-eqb (length m) words size) (ask-yes ok a))
@@ -85,7 +82,7 @@ module _ (m : List ℕ) (ok : is-image rack m ≡ true) where
     right-no h e = asked-by (an-update u) (ask-yes h (ask-no refl e refl))
 
     all-yes : addressed (u .from) (u .to) (block-in m) ≡ true → update-right (block-in m) u ≡ true → {m′ : List ℕ}
-        → m′ ≡ image (redirected (block-in m) u) → Gives (redirect-by m (an-update u)) (served tt) m′
+        → m′ ≡ image words (redirected (block-in m) u) → Gives (redirect-by m (an-update u)) (served tt) m′
     unfolding redirect-checks
     all-yes h e q = asked-by (an-update u) (ask-yes h (ask-yes e (ask-end q)))
 
@@ -96,7 +93,7 @@ module _ (m : List ℕ) (ok : is-image rack m ≡ true) where
     right-is =
         ap
         (λ (b : Bool). (not (eqb (u .block) (u .from)) && not (eqb (u .block) (u .to))) && b && distinct (map code (u .labels)))
-        (names-all (sited rack m ok) (image-passed m ok) (u .from) (u .labels))
+        (names-all (sited m ok) (image-passed m ok) (u .from) (u .labels))
         ∙ together (not (eqb (u .block) (u .from)) && not (eqb (u .block) (u .to))) (all (names-at m (u .from)) (map code (u .labels))) (distinct (map code (u .labels)))
       where
         together : (a b c : Bool) → ((a && b) && c) ≡ (a && (b && c))
@@ -126,8 +123,8 @@ module _ (m : List ℕ) (ok : is-image rack m ≡ true) where
       labels-no : ((u : Update) → UpdateOutlined u s o → (all (names-at m (o .from)) (map code (u .labels)) && distinct (map code (u .labels))) ≡ false) → Redirects m s o (refused 22) m
       labels-no k = record { gives = λ u w. right-no u (said-yes (here-is u w) yes-here) (right-by u w ∙ and-no ends _ (k u w)) }
 
-      pub redirects-too-many : 4096 < o .count → Redirects m s o (refused 22) m
-      redirects-too-many h = labels-no (λ u w. too-many (sited rack m ok .linked) refl (o .from) (u .labels) (w .labels-in) h)
+      pub redirects-too-many : getD m 2 0 < o .count → Redirects m s o (refused 22) m
+      redirects-too-many h = labels-no (λ u w. too-many (sited m ok .linked) refl (o .from) (u .labels) (w .labels-in) h)
 
       module _ {table : List ℕ} {named : Bool} (n : AllNamed m s (o .from) (o .labels) (o .count) table named) where
         pub redirects-unnamed : not named ≡ true → Redirects m s o (refused 22) m
@@ -140,18 +137,23 @@ module _ (m : List ℕ) (ok : is-image rack m ≡ true) where
           where
             go : (u : Update) → UpdateOutlined u s o → Gives (redirect-by m (an-update u)) (served tt) m′
             go u w =
-                let site = sited rack m ok in
+                let site = sited m ok in
                 let said = sym (n .said (u .labels) (w .past) (w .labels-in)) ∙ not-false named k in
                 let names : all (names-face (darts-in m) (u .from)) (u .labels) ≡ true = names-all site (image-passed m ok) (u .from) (u .labels)
                 ∙ ap (λ (a : ℕ). all (names-at m a) (map code (u .labels))) (sym (w .from-is)) ∙ and-left (all (names-at m (o .from)) (map code (u .labels))) (distinct (map code (u .labels))) said in
                 let by-labels = rewritten-by (λ p h. n .tells (not-false named k) (u .labels) (w .past) (w .labels-in) p h) r in
                 all-yes u (said-yes (here-is u w) yes-here) (right-by u w ∙ and-intro (not-false ends e) said)
-                (memory-now site (image-passed m ok) u names (let a = w .block-is in let b = w .block-small in omega arith) (by-outline u w by-labels) (size))
+                (memory-now site (image-passed m ok) u names (let a = w .block-is in let b = w .block-small in omega arith) (by-outline u w by-labels) (site .linked .size)
+                ∙ ap (λ (k : ℕ). image k (redirected (block-in m) u)) size)
               where
                 by-outline : (u : Update) → UpdateOutlined u s o → Rewritten m m′ (named-at m (o .from) (map code (u .labels))) (2 + 4 * o .block) (getD m 2 0)
                     → Rewritten m m′ (named-at m (u .from) (map code (u .labels))) (2 + 4 * u .block) (getD m 2 0)
                 by-outline u w x = subst (λ (a : ℕ). Rewritten m m′ (named-at m a (map code (u .labels))) (2 + 4 * u .block) (getD m 2 0)) (w .from-is)
                     (subst (λ (a : ℕ). Rewritten m m′ (named-at m (o .from) (map code (u .labels))) (2 + 4 * a) (getD m 2 0)) (w .block-is) x)
+
+-- the new word, as the code has it
+pub rewritten-word : {m m′ : List ℕ} {test : ℕ → Bool} {word new n : ℕ} → word ≡ new → Rewritten m m′ test word n → Rewritten m m′ test new n
+rewritten-word {m} {m′} {test} {n = n} e = subst (λ (w : ℕ). Rewritten m m′ test w n) e
 
 -- what is told of an update can be followed
 pub follows : {s : List ℕ} {r : Received} {o : UpdateOutline} → r ≡ received.Update o → KindRead s r → Follows s o

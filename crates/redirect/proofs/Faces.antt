@@ -9,7 +9,7 @@ use borrow.Author.Tests.{eqb-true}
 use Rattle.model.specs.Lists.{least, distinct}
 use Rattle.model.specs.Values.{code}
 use Rattle.model.specs.Cells.{cycle, next-in, least-label}
-use Rattle.model.specs.Image.{column}
+use Rattle.model.specs.Image.{count-in, column}
 use Rattle.laws.proofs.Tests.{and-left}
 use Rattle.laws.proofs.Members.{In, in-map, map-in, map-map, map-cong, least-in, least-below, least-among}
 use Rattle.laws.proofs.Faces.{face-self, face-stays, face-sym, face-trans, along-face, face-distinct}
@@ -21,7 +21,7 @@ use Rattle.cells.proofs.Reached.{places, in-places, places-below, within-places
 use Rattle.cells.proofs.Paths.{round, apart-places, few-places}
 use Rattle.cells.proofs.StartLaws.{cycle-start}
 use Rattle.cells.proofs.FaceSerials.{cycle-carried}
-use Rattle.cells.proofs.Sited.{Sited, darts-in, count-in}
+use Rattle.cells.proofs.Sited.{Sited, darts-in}
 use Rattle.departure.specs.ByPlaces.{label-at}
 use Rattle.departure.proofs.LeavingFaces.{Face, labels-are}
 use Rattle.redirect.specs.ByPlaces.{face-code}

@@ -5,41 +5,35 @@ use mathlib.Core.List.{List}
 use Prim.Native.Nat.{ℕ, _≤_, _<_}
 use native.Mathlib.Omega.{arith}
 use lib.Dec.{eqb}
-use lib.ListN.{length, getD, set, take, replicate, length-set, length-replicate}
+use lib.ListN.{length, getD, set, take}
 use lib.Seq.{getD-set-same, getD-set-other}
 use borrow.Author.Tests.{eqb-true, eq-eqb}
 use Rattle.model.specs.Lists.{all, mem, tab, index-of}
-use Rattle.model.specs.Image.{room}
 use Rattle.laws.proofs.Tests.{by-cases, and-intro, and-left, and-right, same-truth}
-use Rattle.laws.proofs.Lists.{getD-zeros}
 use Rattle.laws.proofs.Tables.{tab-any, any-tab, index-place, index-held}
 use Rattle.columns.specs.Columns.{all-below}
 use Rattle.columns.proofs.Below.{all-tests}
-use Rattle.cells.specs.Places.{Painted}
+use Rattle.cells.specs.Places.{Clear, Painted}
 use Rattle.cells.proofs.Walks.{eq-or-ne}
 use Rattle.departure.specs.ByPlaces.{critical-with}
-use Rattle.redirect.specs.ByPlaces.{face-code, names-at, Ready, code-index, Indexed, HitsAre, all-hit, EachNamed}
+use Rattle.redirect.specs.ByPlaces.{face-code, names-at, Ready, code-index, Unset, Indexed, HitsAre, all-hit, EachNamed}
 use Rattle.redirect.proofs.ReadCodes.{front-tab}
-use Rattle.redirect.proofs.Indices.{same-everywhere}
 
 -- MARKS, beside a table of indices that is filled face by face
 pub record Hitting (index : ℕ → ℕ) (n : ℕ) (table hits : List ℕ) : Type 0 where
-  pub size : length hits ≡ 4097
   pub only : (k : ℕ) → getD hits k 0 ≡ 1 → (p : ℕ) × (p < n) × (index p ≡ k)
   pub marked : (p : ℕ) → p < n → getD table p 0 < 4097 → getD hits (getD table p 0) 0 ≡ 1
 
-pub hitting-start : (index : ℕ → ℕ) {n : ℕ} {table hits : List ℕ} → n ≤ room → table ≡ replicate room 4097 → hits ≡ replicate 4097 0 → Hitting index n table hits
-hitting-start index {n} {table} {hits} few t e = record {
-  size = ap length e ∙ length-replicate {A = ℕ} 4097 0;
-  only = λ k h. let z : getD hits k 0 ≡ 0 = ap (λ (l : List ℕ). getD l k 0) e ∙ getD-zeros 4097 k in absurd (omega arith);
-  marked = λ p h l. let z : getD table p 0 ≡ 4097 = ap (λ (u : List ℕ). getD u p 0) t ∙ same-everywhere room 4097 p (omega arith) in absurd (omega arith);
+pub hitting-start : (index : ℕ → ℕ) {n : ℕ} {table hits : List ℕ} → Unset n table → Clear hits → Hitting index n table hits
+hitting-start index {n} {table} {hits} unset clear = record {
+  only = λ k h. absurd (omega (arith, clear k));
+  marked = λ p h l. absurd (omega (arith, unset p h));
 }
 
 -- a face gets its index, which is marked
-pub hitting-face : {index : ℕ → ℕ} {n p k : ℕ} {f table table′ hits : List ℕ} → Hitting index n table hits → p < n → k ≡ index p → k < 4097
+pub hitting-face : {index : ℕ → ℕ} {n p k : ℕ} {f table table′ hits : List ℕ} → Hitting index n table hits → p < n → k ≡ index p → k < length hits
     → Painted k f table table′ → Hitting index n table′ (set hits k 1)
 hitting-face {index} {n} {p} {k} {f} {table} {table′} {hits} w below e h d = record {
-  size = simp length-set (w .size);
   only = λ j t. eq-or-ne j k (λ s. (p, below, sym e ∙ sym s)) (λ s. w .only j (sym (getD-set-other hits k j 1 0 s) ∙ t));
   marked = λ q l less. by-cases (mem q f)
       (λ i. at-k (d .value q ∙ rw i))
@@ -48,11 +42,10 @@ hitting-face {index} {n} {p} {k} {f} {table} {table′} {hits} w below e h d = r
 }
   where
     at-k : {j : ℕ} → j ≡ k → getD (set hits k 1) j 0 ≡ 1
-    at-k s = ap (λ (i : ℕ). getD (set hits k 1) i 0) s ∙ getD-set-same hits k 1 0 (omega (arith, w .size, h))
+    at-k s = ap (λ (i : ℕ). getD (set hits k 1) i 0) s ∙ getD-set-same hits k 1 0 h
 
 pub hitting-end : {index : ℕ → ℕ} {n : ℕ} {table hits : List ℕ} → Indexed index n table → Hitting index n table hits → HitsAre index n hits
 hitting-end {index} {n} {table} {hits} d w = record {
-  size = w .size;
   only = w .only;
   marked = λ p h l. ap (λ (j : ℕ). getD hits j 0) (sym (d .index-is p h)) ∙ w .marked p h (omega (arith, d .index-is p h, l));
 }

@@ -9,9 +9,8 @@ use lib.Dec.{eqb}
 use lib.ListN.{length, getD, replicate, length-replicate}
 use borrow.Author.Tests.{eq-eqb, ne-eqb}
 use Rattle.model.specs.Lists.{mem, tab, index-of}
-use Rattle.model.specs.Values.{rack}
 use Rattle.model.specs.Cells.{cycle}
-use Rattle.model.specs.Image.{room, column, is-image}
+use Rattle.model.specs.Image.{column, holds-block}
 use Rattle.laws.proofs.Tests.{by-cases}
 use Rattle.laws.proofs.Members.{In, in-eq}
 use Rattle.laws.proofs.Tables.{length-tab}
@@ -20,7 +19,7 @@ use Rattle.cells.specs.Places.{Linked, Painted}
 use Rattle.cells.proofs.Walks.{eq-or-ne}
 use Rattle.cells.proofs.Sited.{sited}
 use Rattle.departure.specs.ByPlaces.{critical-with}
-use Rattle.redirect.specs.ByPlaces.{face-code, code-index, Indexed}
+use Rattle.redirect.specs.ByPlaces.{face-code, code-index, Unset, Indexed}
 use Rattle.redirect.proofs.Faces.{self-in, one-code, one-kind}
 
 -- THE INDEX OF A DART'S CODE
@@ -42,17 +41,17 @@ module _ (m : List ℕ) (from : ℕ) (codes : List ℕ) (c p : ℕ) where
   index-there read same face e = rw (eq-eqb (column m 3 p) (2 + 4 * from) (sym read ∙ same)) (e ∙ ap (λ (y : ℕ). index-of y (tab (λ j. getD codes j 0) c)) face)
 
 -- is that of its whole face
-pub index-along : (m : List ℕ) (ok : is-image rack m ≡ true) (from : ℕ) (codes : List ℕ) (c x y : ℕ) → x < getD m 2 0
+pub index-along : (m : List ℕ) (ok : holds-block m ≡ true) (from : ℕ) (codes : List ℕ) (c x y : ℕ) → x < getD m 2 0
     → In y (cycle (column m 1) x) → code-index m from codes c y ≡ code-index m from codes c x
 unfolding code-index
 index-along m ok from codes c x y h i =
-    let site = sited rack m ok in
+    let site = sited m ok in
     ap (λ (k : ℕ). cond (eqb k (2 + 4 * from)) (index-of (face-code m y) (tab (λ j. getD codes j 0) c)) 4097) (one-kind site (image-passed m ok) x y h i)
     ∙ ap (λ (a : ℕ). cond (critical-with m from x) (index-of a (tab (λ j. getD codes j 0) c)) 4097) (one-code (site .linked) x y h i)
 
 -- BY PLACE: where a dart's place is not passed yet, it may have no index yet
 pub record Indexing (index : ℕ → ℕ) (n p : ℕ) (t : List ℕ) : Type 0 where
-  pub size : length t ≡ room
+  pub size : n ≤ length t
   pub p-le : p ≤ n
   pub each : (q : ℕ) → q < n → (getD t q 0 ≡ index q) ⊎ ((p ≤ q) × (getD t q 0 ≡ 4097))
 
@@ -61,11 +60,14 @@ same-everywhere zero v q h = absurd (omega arith)
 same-everywhere (suc k) v zero h = refl
 same-everywhere (suc k) v (suc q) h = same-everywhere k v q (omega arith)
 
-pub indexing-start : (index : ℕ → ℕ) {n : ℕ} {t : List ℕ} → n ≤ room → t ≡ replicate room 4097 → Indexing index n 0 t
-indexing-start index {n} {t} few e = record {
-  size = ap length e ∙ length-replicate {A = ℕ} room 4097;
+pub values-long : (n k v : ℕ) {l : List ℕ} → l ≡ replicate k v → n ≤ k → n ≤ length l
+values-long n k v e h = omega (arith, ap length e, length-replicate {A = ℕ} k v)
+
+pub indexing-start : (index : ℕ → ℕ) {n : ℕ} {t : List ℕ} → n ≤ length t → Unset n t → Indexing index n 0 t
+indexing-start index {n} {t} long unset = record {
+  size = long;
   p-le = omega arith;
-  each = λ q h. inr (omega arith, ap (λ (u : List ℕ). getD u q 0) e ∙ same-everywhere room 4097 q (omega arith));
+  each = λ q h. inr (omega arith, unset q h);
 }
 
 above : {p q : ℕ} → (p ≡ q → ⊥) → p ≤ q → p + 1 ≤ q
@@ -91,7 +93,7 @@ module _ {index : ℕ → ℕ} {n p : ℕ} {t : List ℕ} (w : Indexing index n 
   pub indexing-face : {f t′ : List ℕ} {v : ℕ} → v ≡ index p → In p f → ((q : ℕ) → In q f → index q ≡ index p) → Painted v f t t′ → Indexing index n (p + 1) t′
   indexing-face {f} {t′} {v} e self along d =
       record {
-        size = d .size ∙ w .size;
+        size = omega (arith, d .size, w .size);
         p-le = omega arith;
         each = λ q k. by-cases (mem q f) (λ i. inl (d .value q ∙ rw i (e ∙ sym (along q i)))) (λ i. go q i (w .each q k));
       }
@@ -101,16 +103,16 @@ module _ {index : ℕ → ℕ} {n p : ℕ} {t : List ℕ} (w : Indexing index n 
       go q i (inr a) = inr (above (λ s. true≢false (sym (in-eq q p f (sym s) self) ∙ i)) (a .0), d .value q ∙ rw i (a .1))
 
 pub indexing-end : {index : ℕ → ℕ} {n p : ℕ} {t : List ℕ} → Indexing index n p t → n ≤ p → Indexed index n t
-indexing-end {index} {n} {p} {t} w h = record { size = w .size; index-is = λ q k. go q k (w .each q k) }
+indexing-end {index} {n} {p} {t} w h = record { index-is = λ q k. go q k (w .each q k) }
   where
     go : (q : ℕ) → q < n → (getD t q 0 ≡ index q) ⊎ ((p ≤ q) × (getD t q 0 ≡ 4097)) → getD t q 0 ≡ index q
     go q k (inl e) = e
     go q k (inr e) = absurd (omega (arith, e .0))
 
 -- IN A SOUND BLOCK'S MEMORY
-module _ (m : List ℕ) (ok : is-image rack m ≡ true) {n : ℕ} (same : n ≡ getD m 2 0) where
+module _ (m : List ℕ) (ok : holds-block m ≡ true) {n : ℕ} (same : n ≡ getD m 2 0) where
   pub linked-by : Linked m n
-  linked-by = subst (Linked m) (sym same) (sited rack m ok .linked)
+  linked-by = subst (Linked m) (sym same) (sited m ok .linked)
 
   pub indexing-whole : (from : ℕ) (codes : List ℕ) (c : ℕ) {p v : ℕ} {t t′ : List ℕ} → Indexing (code-index m from codes c) n p t → p < n
       → v ≡ code-index m from codes c p → Painted v (cycle (column m 1) p) t t′

@@ -10,7 +10,7 @@ use borrow.Author.Tests.{eqb-true, eqb-false, eq-eqb}
 use Rattle.model.specs.Lists.{mem, find, tab}
 use Rattle.model.specs.Values.{Label, Dart, no-dart, or-no-dart, code, label-key, is-critical-with}
 use Rattle.model.specs.Cells.{cycle, next-in, least-label, labelled}
-use Rattle.model.specs.Image.{column, third-in, dart-in}
+use Rattle.model.specs.Image.{count-in, column, third-in, dart-in}
 use Rattle.model.specs.Arrival.{face-with, names-face}
 use Rattle.laws.proofs.Tests.{by-cases, and-intro, and-left, and-right, same-truth}
 use Rattle.laws.proofs.Members.{In, in-eq}
@@ -21,7 +21,7 @@ use Rattle.columns.proofs.Thirds.{third-free, third-sewn, third-critical}
 use Rattle.columns.proofs.Question.{Passed}
 use Rattle.cells.proofs.Serials.{mem-map, serials-apart}
 use Rattle.cells.proofs.FaceSerials.{cycle-carried}
-use Rattle.cells.proofs.Sited.{Sited, darts-in, count-in}
+use Rattle.cells.proofs.Sited.{Sited, darts-in}
 use Rattle.departure.specs.ByPlaces.{critical-with}
 use Rattle.departure.proofs.LeavingFaces.{labels-apart, critical-is}
 use Rattle.redirect.specs.ByPlaces.{face-code, names-at}

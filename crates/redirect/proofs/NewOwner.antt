@@ -11,8 +11,8 @@ use borrow.Author.Tests.{eqb-true, lt-ltb, le-ltb}
 use Rattle.model.specs.Lists.{all, any, mem, find, tab, concat-map}
 use Rattle.model.specs.Values.{Label, Third, Dart, code, with-other, with-third}
 use Rattle.model.specs.Cells.{third-at}
-use Rattle.model.specs.Image.{words, image, column, third-in, dart-in, block-in}
-use Rattle.model.specs.Departure.{Link, third-or, relink}
+use Rattle.model.specs.Image.{count-in, words-for, image, column, third-in, dart-in, block-in}
+use Rattle.model.specs.Links.{Link, third-or, relink}
 use Rattle.model.specs.Messages.{Update}
 use Rattle.model.specs.Arrival.{face-with, names-face, update-links, redirected}
 use Rattle.laws.proofs.Tests.{by-cases, and-left, and-right}
@@ -25,7 +25,7 @@ use Rattle.columns.proofs.Question.{Passed}
 use Rattle.columns.proofs.Links.{places}
 use Rattle.columns.proofs.ThirdLinks.{sewn-places}
 use Rattle.cells.proofs.Walks.{eq-or-ne}
-use Rattle.cells.proofs.Sited.{Sited, darts-in, count-in}
+use Rattle.cells.proofs.Sited.{Sited, darts-in}
 use Rattle.departure.specs.ByPlaces.{critical-with}
 use Rattle.redirect.specs.ByPlaces.{face-code, named-at, Rewritten}
 use Rattle.redirect.proofs.Names.{face-has}
@@ -185,18 +185,18 @@ module _ {m m′ : List ℕ} (site : Sited m) (ok : Passed m) (u : Update) (righ
       above (suc p) h = let e = col 0 p (omega arith) (λ z. omega arith) in let f = col 0 (suc p) (omega arith) (λ z. omega arith) in let a = ok .range .above (suc p) h in omega arith
 
   -- and the memory is the image of the block that the model gives
-  pub memory-now : length m ≡ words → m′ ≡ image (redirected (block-in m) u)
-  memory-now len =
+  pub memory-now : words-for (count-in m) ≤ length m → m′ ≡ image (length m) (redirected (block-in m) u)
+  memory-now long =
       let n = w .head 2 (omega arith) in
       let g = places m (count-in m) (ok .links) in
       let s = sewn-places m (count-in m) (ok .thirds) in
-      sym (image-back m′ ranged-now (w .size ∙ len)
+      sym (image-back m′ ranged-now (omega (arith, w .size, n))
       (record {
         next-lt = λ p h. (let e = col 1 p (omega arith) (λ z. omega arith) in let a = g .next-lt p (omega arith) in omega arith);
         opposite-lt = λ p h. (let e = col 2 p (omega arith) (λ z. omega arith) in let a = g .opposite-lt p (omega arith) in omega arith);
       })
       (λ p h k. sewn-now p (omega arith) k n s))
-      ∙ ap image block-now
+      ∙ ap (λ (k : ℕ). image k (block-in m′)) (w .size) ∙ ap (image (length m)) block-now
     where
       sewn-now : (p : ℕ) → p < count-in m → column m′ 3 p ≡ 1 → getD m′ 2 0 ≡ getD m 2 0 → SewnPlaces m (count-in m) → column m′ 4 p < getD m′ 2 0
       sewn-now p h k n s = by-cases (test p)

@@ -13,7 +13,7 @@ use Rattle.laws.proofs.Members.{map-append}
 use Rattle.laws.proofs.Tables.{ascending-tab, index-place, index-none}
 use Rattle.model.specs.Lists.{ascending, sorted, tab, index-of}
 use Rattle.model.specs.Values.{Label, code}
-use Rattle.model.specs.Image.{room, label-in}
+use Rattle.model.specs.Image.{label-in}
 use Rattle.model.specs.Layouts.{times}
 use Rattle.model.specs.Messages.{label}
 use Rattle.theory.proofs.ImageLaws.{tab-list}
@@ -29,19 +29,19 @@ use Rattle.redirect.specs.ByPlaces.{CodesRead}
 
 -- READ ONE BY ONE
 pub record Reading (s : List ℕ) (at count : ℕ) (codes : List ℕ) (i p : ℕ) : Type 0 where
-  pub size : length codes ≡ room
+  pub size : count ≤ length codes
   pub i-le : i ≤ count
   pub items : List Label
   pub so-far : SoFar label s at p items
   pub read : length items ≡ i
   pub codes-are : take i codes ≡ map code items
 
-pub reading-start : {s : List ℕ} (at count : ℕ) (codes : List ℕ) → at ≤ length s → length codes ≡ room → Reading s at count codes 0 at
+pub reading-start : {s : List ℕ} (at count : ℕ) (codes : List ℕ) → at ≤ length s → count ≤ length codes → Reading s at count codes 0 at
 reading-start at count codes h e = record { size = e; i-le = omega arith; items = []; so-far = so-far-start label at h; read = refl; codes-are = refl }
 
 module _ {s : List ℕ} {at count : ℕ} {codes : List ℕ} {i p : ℕ} (w : Reading s at count codes i p) where
-  pub reading-more : {a q : ℕ} → i < count → count ≤ room → Value a q ≡ read-at label-code s p → Reading s at count (set codes i a) (i + 1) q
-  reading-more {a} {q} h few e = record {
+  pub reading-more : {a q : ℕ} → i < count → Value a q ≡ read-at label-code s p → Reading s at count (set codes i a) (i + 1) q
+  reading-more {a} {q} h e = record {
     size = simp length-set (w .size);
     i-le = omega arith;
     items = w .items ++ label-in a ∷ [];
@@ -55,7 +55,6 @@ module _ {s : List ℕ} {at count : ℕ} {codes : List ℕ} {i p : ℕ} (w : Rea
   pub reading-bad : i < count → Bad ≡ read-at label-code s p → CodesRead s at count codes
   unfolding times
   reading-bad h e = record {
-    size = w .size;
     codes-are = λ ls past t. absurd (Option·none-ne-some _ (sym (so-far-stop label count (w .so-far) (let n = w .read in omega arith) (no-label s p e)) ∙ t .value));
   }
 
@@ -64,7 +63,7 @@ module _ {s : List ℕ} {at count : ℕ} {codes : List ℕ} {i p : ℕ} (w : Rea
   reading-end h =
       let all-read : i ≡ count = (let n = w .i-le in omega arith) in
       let t = so-far-end label count (w .so-far) (w .read ∙ all-read) in
-      record { size = w .size; codes-are = λ ls past u. ap (λ (k : ℕ). take k codes) (sym all-read) ∙ w .codes-are ∙ ap (map code) (same-value (sym (t .value) ∙ u .value)) }
+      record { codes-are = λ ls past u. ap (λ (k : ℕ). take k codes) (sym all-read) ∙ w .codes-are ∙ ap (map code) (same-value (sym (t .value) ∙ u .value)) }
 
 -- IN ORDER
 sorted-length : (l : List ℕ) → length (sorted l) ≡ length l

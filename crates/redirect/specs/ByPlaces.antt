@@ -9,9 +9,9 @@ use lib.Dec.{ltb, eqb}
 use lib.ListN.{length, getD, take}
 use Rattle.laws.specs.Order.{Ascending}
 use Rattle.model.specs.Lists.{all, any, mem, distinct, least, tab, index-of}
-use Rattle.model.specs.Values.{Label, code}
+use Rattle.model.specs.Values.{Label, code, room}
 use Rattle.model.specs.Cells.{cycle}
-use Rattle.model.specs.Image.{room, column}
+use Rattle.model.specs.Image.{column}
 use Rattle.model.specs.Layouts.{times}
 use Rattle.model.specs.Messages.{label}
 use Rattle.columns.specs.Columns.{all-below}
@@ -34,27 +34,28 @@ named-at m from codes q = critical-with m from q && mem (face-code m q) codes
 -- LABELS
 -- the codes of the labels that stand from a place on
 pub record CodesRead (s : List ℕ) (at count : ℕ) (codes : List ℕ) : Type 0 where
-  pub size : length codes ≡ room
   pub codes-are : (ls : List Label) (past : ℕ) → Took (times count label) s at ls past → take count codes ≡ map code ls
 
 -- the first c codes ascend, to be searched
 pub record Ready (codes : List ℕ) (c : ℕ) : Type 0 where
   pub few : c ≤ room
-  pub size : length codes ≡ room
+  pub size : c ≤ length codes
   pub ascends : Ascending c (λ k. getD codes k 0)
 
 -- the index of the code of the face of the dart at place p, where that face is critical with block `from`; 4,097 elsewhere
 unfoldable pub code-index : List ℕ → ℕ → List ℕ → ℕ → ℕ → ℕ
 code-index m from codes c p = cond (critical-with m from p) (index-of (face-code m p) (tab (λ k. getD codes k 0) c)) 4097
 
+-- a table in which no place below n has an index yet
+abbrev pub Unset : ℕ → List ℕ → Type 0
+Unset n table = (q : ℕ) → q < n → getD table q 0 ≡ 4097
+
 -- a table of these, by place
 pub record Indexed (index : ℕ → ℕ) (n : ℕ) (table : List ℕ) : Type 0 where
-  pub size : length table ≡ room
   pub index-is : (q : ℕ) → q < n → getD table q 0 ≡ index q
 
 -- the indices of the faces that have one, at the places below n, are marked, and no other
 pub record HitsAre (index : ℕ → ℕ) (n : ℕ) (hits : List ℕ) : Type 0 where
-  pub size : length hits ≡ 4097
   pub only : (k : ℕ) → getD hits k 0 ≡ 1 → (p : ℕ) × (p < n) × (index p ≡ k)
   pub marked : (p : ℕ) → p < n → index p < 4097 → getD hits (index p) 0 ≡ 1
 
@@ -70,7 +71,6 @@ pub record EachNamed (m : List ℕ) (from : ℕ) (codes : List ℕ) (c : ℕ) (t
 -- labels that differ and each name a face; the table tells the darts of these faces
 pub record AllNamed (m s : List ℕ) (from at count : ℕ) (table : List ℕ) (r : Bool) : Type 0 where
   pub said : (ls : List Label) (past : ℕ) → Took (times count label) s at ls past → r ≡ (all (names-at m from) (map code ls) && distinct (map code ls))
-  pub size : length table ≡ room
   pub tells : r ≡ true → (ls : List Label) (past : ℕ) → Took (times count label) s at ls past → (p : ℕ) → p < getD m 2 0 → ltb (getD table p 0) count ≡ named-at m from (map code ls) p
 
 -- MEMORY whose darts that pass a test, of the first n, have another kind word

@@ -31,7 +31,7 @@ pub record Follows (s : List ℕ) (o : UpdateOutline) : Type 0 where
 
 -- the call on a message that was read
 unfoldable pub redirect-by : List ℕ → Message → Result (Unit {0})
-redirect-by m received = storing (memory-checks rack m ++ redirect-checks (block-in m) received) m (redirected-from (block-in m) received)
+redirect-by m received = storing rack (memory-checks rack m ++ redirect-checks (block-in m) received) m (redirected-from (block-in m) received)
 
 -- the call on the update that an outline tells
 pub record Redirects (m s : List ℕ) (o : UpdateOutline) (given : Answer (Unit {0})) (lent : List ℕ) : Type 0 where

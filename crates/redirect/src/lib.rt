@@ -5,36 +5,41 @@ mod named; // named.rt: the faces that they name
 
 ghost use mathlib.Core.Path.{_≡_};
 ghost use mathlib.Core.Bool.{true, not, _&&_};
-ghost use Prim.Native.Nat.{_≤_};
+ghost use Prim.Native.Nat.{_≤_, _<_};
 ghost use lib.Dec.{eqb};
-ghost use lib.ListN.{length, getD, replicate};
-ghost use Rattle.model.specs.Values.{rack};
-ghost use Rattle.model.specs.Image.{room, words, block-in, is-image};
+ghost use lib.ListN.{length, getD};
+ghost use Rattle.model.specs.Values.{rack, room};
+ghost use Rattle.model.specs.Image.{words, count-in, block-in, holds-block};
 ghost use Rattle.model.specs.Arrival.{addressed};
 ghost use Rattle.model.specs.Calls.{redirect as told};
 ghost use Rattle.answers.specs.Answers.{answer-of, Gives};
-ghost use Rattle.redirect.specs.ByPlaces.{Ready, EachNamed, AllNamed};
+ghost use Rattle.cells.specs.Places.{Clear};
+ghost use Rattle.redirect.specs.ByPlaces.{Ready, Unset, EachNamed, AllNamed};
 ghost use Rattle.redirect.specs.Told.{KindRead, Follows, Redirects};
 use answers::Answer;
 use answers::Refusal;
 use inbox::message::Update;
 use inbox::received::Received;
 use memory::header::Header;
+use memory::kind;
 
 // 16: the message that a slice is.
-fn received(s: &[u8]) -> Received
+fn received(
+    s: &[u8],
+    vertex: &mut [u64],
+    serial: &mut [u64],
+    starts: &mut [usize],
+    sizes: &mut [usize],
+) -> Received
+    requires { ⌜ (length (now vertex) ≡ 512) × (length (now serial) ≡ 512) × (length (now starts) ≡ 512) × (length (now sizes) ≡ 512) ⌝ }
     ensures { λ r. ⌜ KindRead (now (s .entry)) r ⌝ }
 {
-    let mut vertex = [0u64; 512];
-    let mut serial = [0u64; 512];
-    let mut starts = [0usize; 512];
-    let mut sizes = [0usize; 512];
-    inbox::received::message_in(s, &mut vertex, &mut serial, &mut starts, &mut sizes)
+    inbox::received::message_in(s, vertex, serial, starts, sizes)
 }
 
 // 17: addressed here, from elsewhere.
 fn for_here(block: &[u64], from: u64, to: u64) -> bool
-    requires { ⌜ length (now block) ≡ words ⌝ }
+    requires { ⌜ 8 ≤ length (now block) ⌝ }
     ensures { λ r. ⌜ r ≡ addressed from to (block-in (now (block .entry))) ⌝ }
 {
     (to == block[0]) & (from != block[0])
@@ -56,13 +61,14 @@ fn each_named(
     codes: &[u64],
     c: usize,
     table: &mut [u16],
+    hits: &mut [u8],
 ) -> bool
-    requires { ⌜ (is-image rack (now block) ≡ true) × (n ≡ getD (now block) 2 0) × (from ≤ 15) × Ready (now codes) c × (now table ≡ replicate room 4097) ⌝ }
+    requires { ⌜ (holds-block (now block) ≡ true) × (n ≡ getD (now block) 2 0) × (from ≤ 15) × Ready (now codes) c ⌝ }
+    requires { ⌜ (n ≤ length (now table)) × Unset n (now table) × (c < length (now hits)) × Clear (now hits) ⌝ }
     ensures { λ r. ⌜ EachNamed (now (block .entry)) from (now (codes .entry)) c (now (table .exit)) r ⌝ }
 {
-    let mut hits = [0u8; 4097];
-    named::index_faces(block, n, from, codes, c, table, &mut hits);
-    named::all_hit(&hits, c)
+    named::index_faces(block, n, from, codes, c, table, hits);
+    named::all_hit(hits, c)
 }
 
 // 22: whether the labels differ, and each is the least of a face critical with block `from`. The darts of these faces have a number below
@@ -75,23 +81,35 @@ fn all_named(
     at: usize,
     count: usize,
     table: &mut [u16],
+    codes: &mut [u64],
+    scratch: &mut [u64],
+    hits: &mut [u8],
 ) -> bool
-    requires { ⌜ (is-image rack (now block) ≡ true) × (n ≡ getD (now block) 2 0) × (from ≤ 15) × (at ≤ length (now s)) × (count ≤ room) ⌝ }
-    requires { ⌜ now table ≡ replicate room 4097 ⌝ }
+    requires { ⌜ (holds-block (now block) ≡ true) × (n ≡ getD (now block) 2 0) × (from ≤ 15) × (at ≤ length (now s)) × (count ≤ room) ⌝ }
+    requires { ⌜ (n ≤ length (now table)) × Unset n (now table) × (count < length (now hits)) × Clear (now hits) ⌝ }
+    requires { ⌜ (count ≤ length (now codes)) × (count ≤ length (now scratch)) ⌝ }
     ensures { λ r. ⌜ AllNamed (now (block .entry)) (now (s .entry)) from at count (now (table .exit)) r ⌝ }
 {
-    let mut codes = [0u64; 4096];
-    codes::read_codes(s, at, count, &mut codes);
-    let mut scratch = [0u64; 4096];
-    if !codes::order(&mut codes, &mut scratch, count) {
+    codes::read_codes(s, at, count, codes);
+    if !codes::order(codes, scratch, count) {
         return false;
     }
-    each_named(block, n, from, &codes, count, table)
+    each_named(block, n, from, codes, count, table, hits)
 }
 
 // 17 and 22 of an update, then its faces get the new block.
-fn redirect_update(block: &mut [u64], s: &[u8], u: Update) -> Answer
-    requires { ⌜ (is-image rack (now block) ≡ true) × Follows (now s) u ⌝ }
+fn redirect_update(
+    block: &mut [u64],
+    s: &[u8],
+    u: Update,
+    table: &mut [u16],
+    codes: &mut [u64],
+    scratch: &mut [u64],
+    hits: &mut [u8],
+) -> Answer
+    requires { ⌜ (length (now block) ≡ words) × (holds-block (now block) ≡ true) × Follows (now s) u ⌝ }
+    requires { ⌜ (count-in (now block) ≤ length (now table)) × Unset (count-in (now block)) (now table) × (count-in (now block) < length (now hits)) × Clear (now hits) ⌝ }
+    requires { ⌜ (count-in (now block) ≤ length (now codes)) × (count-in (now block) ≤ length (now scratch)) ⌝ }
     ensures { λ r. ⌜ Redirects (now (block .entry)) (now (s .entry)) u (answer-of r) (now (block .exit)) ⌝ }
 {
     let from = u.from;
@@ -101,17 +119,29 @@ fn redirect_update(block: &mut [u64], s: &[u8], u: Update) -> Answer
     if !neither(u.block, from, u.to) {
         return Answer::Refused(Refusal::UpdateWrong);
     }
-    // Each label names a face of its own.
-    if 4096 < u.count {
+    // Each label names a face of its own, so there are no more labels than darts.
+    let darts = block[2];
+    if darts < u.count {
         return Answer::Refused(Refusal::UpdateWrong);
     }
-    let n = block[2] as usize;
+    let n = darts as usize;
     let count = u.count as usize;
-    let mut table = [4097u16; 4096];
-    if !all_named(block, n, from, s, u.labels, count, &mut table) {
+    if !all_named(
+        block,
+        n,
+        from,
+        s,
+        u.labels,
+        count,
+        table,
+        codes,
+        scratch,
+        hits,
+    ) {
         return Answer::Refused(Refusal::UpdateWrong);
     }
-    named::rewrite(block, n, 2 + 4 * u.block, &table, count);
+    let word = kind::critical_with(u.block);
+    named::rewrite(block, n, word, table, count);
     Answer::Served
 }
 
@@ -127,9 +157,25 @@ pub fn redirect(block: &mut [u64], message: &[u8]) -> Answer
     if !sound::is_sound(block) {
         return Answer::Refused(Refusal::NotAnImage);
     }
-    match received(message) {
+    let mut vertex = [0u64; 512];
+    let mut serial = [0u64; 512];
+    let mut starts = [0usize; 512];
+    let mut sizes = [0usize; 512];
+    let mut table = [4097u16; 4096];
+    let mut codes = [0u64; 4096];
+    let mut scratch = [0u64; 4096];
+    let mut hits = [0u8; 4097];
+    match received(message, &mut vertex, &mut serial, &mut starts, &mut sizes) {
         Received::Transfer(f, t) => Answer::Refused(Refusal::NotForHere),
-        Received::Update(u) => redirect_update(block, message, u),
+        Received::Update(u) => redirect_update(
+            block,
+            message,
+            u,
+            &mut table,
+            &mut codes,
+            &mut scratch,
+            &mut hits,
+        ),
         Received::Nothing => Answer::Refused(Refusal::MessageLayout),
     }
 }

@@ -3,14 +3,17 @@ ghost use mathlib.Core.Path.{_≡_};
 ghost use mathlib.Core.Bool.{true};
 ghost use Prim.Native.Nat.{ℕ, _≤_, _<_};
 ghost use lib.Dec.{ltb};
-ghost use lib.ListN.{length, getD, replicate};
-ghost use Rattle.model.specs.Values.{rack};
-ghost use Rattle.model.specs.Image.{room, words, is-image};
-ghost use Rattle.redirect.specs.ByPlaces.{code-index, Ready, Indexed, HitsAre, all-hit, Rewritten};
+ghost use lib.ListN.{length, getD};
+ghost use Rattle.model.specs.Values.{room};
+ghost use Rattle.model.specs.Image.{words-for, holds-block};
+ghost use Rattle.cells.specs.Places.{Clear};
+ghost use Rattle.redirect.specs.ByPlaces.{code-index, Ready, Unset, Indexed, HitsAre, all-hit, Rewritten};
 use crate::codes;
 use crate::least;
+use memory::kind;
 use memory::record;
 use memory::record::Place;
+use memory::record::Record;
 
 // The index among the first c codes of the least label of each dart's face, by place; c where it is none of them. Where the face is not
 // critical with block `from`, and at a place that is not passed yet, it is 4,097. Marks each index that a face has.
@@ -23,14 +26,15 @@ pub fn index_faces(
     table: &mut [u16],
     hits: &mut [u8],
 )
-    requires { ⌜ (is-image rack (now block) ≡ true) × (n ≡ getD (now block) 2 0) × (from ≤ 15) × Ready (now codes) c × (now table ≡ replicate room 4097) × (now hits ≡ replicate 4097 0) ⌝ }
+    requires { ⌜ (holds-block (now block) ≡ true) × (n ≡ getD (now block) 2 0) × (from ≤ 15) × Ready (now codes) c ⌝ }
+    requires { ⌜ (n ≤ length (now table)) × Unset n (now table) × (c < length (now hits)) × Clear (now hits) ⌝ }
     ensures { λ _. ⌜ Indexed (code-index (now (block .entry)) from (now (codes .entry)) c) n (now (table .exit)) × HitsAre (code-index (now (block .entry)) from (now (codes .entry)) c) n (now (hits .exit)) ⌝ }
 {
-    let kind = 2 + 4 * from;
+    let word = kind::critical_with(from);
     // The places below p have their index, and so has each place whose face has a dart below p.
     let mut p = 0;
     while p < n {
-        if record::field(block, Place(p), 3) != kind {
+        if record::field(block, Place(p), Record::KIND) != word {
             p += 1;
             continue;
         }
@@ -38,9 +42,9 @@ pub fn index_faces(
             p += 1;
             continue;
         }
-        let code = least::face_code(block, n, p);
+        let code = least::face_code(block, n, Place(p));
         let k = codes::index_of(codes, c, code);
-        least::paint_face(block, n, p, k as u16, table);
+        least::paint_face(block, n, Place(p), k as u16, table);
         hits[k] = 1;
         p += 1;
     }
@@ -69,7 +73,7 @@ fn wide(x: u16) -> usize
 
 // Sets the kind word of the darts whose index is below c.
 pub fn rewrite(block: &mut [u64], n: usize, word: u64, table: &[u16], c: usize)
-    requires { ⌜ (n ≤ room) × (length (now block) ≡ words) × (length (now table) ≡ room) ⌝ }
+    requires { ⌜ (n ≤ room) × (words-for n ≤ length (now block)) × (n ≤ length (now table)) ⌝ }
     ensures { λ _. ⌜ Rewritten (now (block .entry)) (now (block .exit)) (λ p. ltb (getD (now (table .entry)) p 0) c) word n ⌝ }
 {
     // The words at the places below p are set.
@@ -79,7 +83,7 @@ pub fn rewrite(block: &mut [u64], n: usize, word: u64, table: &[u16], c: usize)
             p += 1;
             continue;
         }
-        record::put_field(block, Place(p), 3, word);
+        record::put_field(block, Place(p), Record::KIND, word);
         p += 1;
     }
 }

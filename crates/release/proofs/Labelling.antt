@@ -5,15 +5,15 @@ use mathlib.Core.List.{List, [], _∷_}
 use Prim.Native.Nat.{ℕ, suc, _+_, _*_, _-_, _%_, _≤_, _<_}
 use native.Mathlib.Omega.{arith}
 use native.Mathlib.Numerals.{add-one}
-use lib.Dec.{leb}
+use lib.Dec.{eqb, leb}
 use lib.ListN.{length, getD, set, drop, length-set, length-map, drop-of-length-le}
 use lib.Seq.{getD-set-other, drop-cons}
-use borrow.Author.Tests.{ne-eqb}
+use borrow.Author.Tests.{eqb-true, eqb-false, ne-eqb}
 use Rattle.model.specs.Lists.{all, keep}
-use Rattle.model.specs.Values.{Label, critical, code}
+use Rattle.model.specs.Values.{Label, critical, code, room}
 use Rattle.model.specs.Cells.{cycle, faces, start-of}
 use Rattle.model.specs.Image.{kind-word, link-word, column}
-use Rattle.model.specs.Departure.{Link, label-links, label-faces}
+use Rattle.model.specs.Links.{Link, label-links, label-faces}
 use Rattle.laws.proofs.Maps.{map-at}
 use Rattle.laws.proofs.Members.{In, in-here, in-there, keep-in, getD-in}
 use Rattle.laws.proofs.Orbits.{path}
@@ -23,7 +23,7 @@ use Rattle.cells.specs.Places.{InOrder, marked, sewn-out}
 use Rattle.cells.proofs.Reached.{places, in-places, places-below, within-places}
 use Rattle.cells.proofs.Paths.{Round, round, Going, going-start, going-next, going-end, apart-places, few-places}
 use Rattle.cells.proofs.FaceLaws.{marked-in}
-use Rattle.cells.proofs.StartLaws.{cycle-start, start-place}
+use Rattle.cells.proofs.StartLaws.{cycle-start, in-order-few, start-place}
 use Rattle.departure.specs.Asked.{faces-at}
 use Rattle.removal.specs.LetGo.{with-link, with-links, sewn-at, left-behind}
 use Rattle.removal.proofs.PutLinks.{links-append}
@@ -63,9 +63,8 @@ same-link {m} {marks} {x} a k out = record {
 -- what labelling asks still holds
 pub sewing-stays : {m marks x : List ℕ} {n : ℕ} → Sewing m marks n → Same m marks x → Sewing x marks n
 sewing-stays {m} {marks} {x} {n} w a = record {
-  size = a .size ∙ w .size;
+  size = omega (arith, a .size, w .size);
   few = w .few;
-  marks-size = w .marks-size;
   number-small = omega (arith, w .number-small, a .header 0 (omega arith));
   next-within = λ p h. omega (arith, a .next p, w .next-within p h);
   next-apart = λ p q h k e. w .next-apart p q h k (sym (a .next p) ∙ e ∙ a .next q);
@@ -248,6 +247,12 @@ unfolding label-faces with-links
 facing-end {m} {marks} {j} {x} {number} {f} a h =
     ap (λ (l : List (List ℕ)). with-links x (label-faces (column m 4) j (getD m 0 0) number (keep (λ g. sewn-out m marks (start-of g)) l))) (sym (drop-of-length-le (faces-at m marks) h)) ∙ a .rest
 
+-- WHAT IS IN ORDER is few
+pub order-few : {m marks out starts : List ℕ} {darts count : ℕ} → Sewing m marks (getD m 2 0) → InOrder (faces-at m marks) out starts darts count → (darts ≤ room) × (count ≤ room)
+order-few {m} {marks} w o =
+    let r = in-order-few (getD m 2 0) (column m 1) marks (w .few) (w .next-within) (w .next-apart) o in
+    (omega (arith, r .0, w .few), omega (arith, r .1, w .few))
+
 -- WHERE FACE f STARTS in the arrays
 pub record Starting (m marks order starts : List ℕ) (n darts f : ℕ) : Type 0 where
   pub index-lt : getD starts f 0 < darts
@@ -285,10 +290,16 @@ module _ {m marks order starts : List ℕ} {darts count j : ℕ} {x : List ℕ} 
   kind-here : {k : ℕ} → k ≡ column x 3 at → k ≡ column m 3 at
   kind-here e = e ∙ a .same .inside at 3 (omega arith) (here .inside)
 
-  pub face-skip : {k : ℕ} → k ≡ column x 3 at → (k ≡ 1 → ⊥) → Facing m marks j x number (f + 1)
-  face-skip e ne = facing-skip a less (ap (sewn-out m marks) (here .start-is) ∙ test-no w at (here .below) (here .inside) (λ z. ne (kind-here e ∙ z)))
+  pub face-skip : {k : ℕ} → k ≡ column x 3 at → eqb (k % 4) 1 ≡ false → Facing m marks j x number (f + 1)
+  face-skip {k} e none = facing-skip a less (ap (sewn-out m marks) (here .start-is) ∙ test-no w at (here .below) (here .inside) other)
+    where
+      other : column m 3 at ≡ 1 → ⊥
+      other z = let one : k % 4 ≡ 1 = omega (arith, kind-here e, z) in eqb-false (k % 4) 1 none one
 
-  module _ {k : ℕ} (e : k ≡ column x 3 at) (one : k ≡ 1) where
+  module _ {k : ℕ} (e : k ≡ column x 3 at) (some : eqb (k % 4) 1 ≡ true) where
+    pub one : k ≡ 1
+    one = kind-here e ∙ w .kinds at (here .below) (here .inside) (ap (λ (z : ℕ). z % 4) (sym (kind-here e)) ∙ eqb-true (k % 4) 1 some)
+
     sewn-here : sewn-out m marks (start-of (getD (faces-at m marks) f [])) ≡ true
     sewn-here = ap (sewn-out m marks) (here .start-is) ∙ test-yes w at (here .below) (here .inside) (sym (kind-here e) ∙ one)
 

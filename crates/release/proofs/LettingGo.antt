@@ -1,13 +1,13 @@
 -- What the questions leave labelling and taking out with, and the call's answers. Assumes nothing.
-use mathlib.Core.Path.{_≡_, refl, sym, _∙_, subst}
+use mathlib.Core.Path.{_≡_, refl, sym, _∙_, subst, ap}
 use mathlib.Core.Bool.{Bool, true, not}
 use mathlib.Core.List.{List, [], _++_}
 use Prim.Native.Nat.{ℕ, _+_, _*_, _-_, _<_, _^_}
 use native.Mathlib.Omega.{arith}
 use lib.ListN.{length, getD, drop, replicate}
 use borrow.Author.Tests.{eq-eqb, ne-eqb}
-use Rattle.model.specs.Values.{rack}
-use Rattle.model.specs.Image.{room, words, image, block-in, is-image, memory-checks}
+use Rattle.model.specs.Values.{Limits, rack}
+use Rattle.model.specs.Image.{words, words-for, words-of, image, is-image, block-in, holds-block, memory-checks}
 use Rattle.model.specs.Departure.{departure-checks, released}
 use Rattle.model.specs.Calls.{Answer, served, refused, storing, release}
 use Rattle.answers.specs.Answers.{Gives, answered}
@@ -24,9 +24,9 @@ use Rattle.removal.proofs.CutFaces.{kind-one, sewn, away}
 use Rattle.removal.proofs.ReleasedImage.{none-within, sewn-after, rest-after, released-image}
 use Rattle.release.specs.Asks.{Sewing, Bounded}
 
-module _ (m : List ℕ) (ok : is-image rack m ≡ true) (j d : ℕ) {c : Counts} {marks out starts numbers firsts : List ℕ} (w : Departs m j d c marks out starts numbers firsts) where
+module _ (m : List ℕ) (ok : holds-block m ≡ true) (j d : ℕ) {most : ℕ} {c : Counts} {marks out starts numbers firsts : List ℕ} (w : Departs most m j d c marks out starts numbers firsts) where
   abbrev site : Sited m
-  site = sited rack m ok
+  site = sited m ok
 
   abbrev pass : Passed m
   pass = image-passed m ok
@@ -42,7 +42,6 @@ module _ (m : List ℕ) (ok : is-image rack m ≡ true) (j d : ℕ) {c : Counts}
   sewing = record {
     size = site .linked .size;
     few = site .linked .few;
-    marks-size = w .survey .volume-marked .size;
     number-small = pass .range .number-small;
     next-within = site .linked .next-within;
     next-apart = site .linked .next-apart;
@@ -64,9 +63,12 @@ module _ (m : List ℕ) (ok : is-image rack m ≡ true) (j d : ℕ) {c : Counts}
   count-same : getD labelled 2 0 ≡ n
   count-same = header-stays m (left-behind m marks j) 2 (omega arith)
 
+  pub count-left : {x : List ℕ} → x ≡ labelled → getD x 2 0 ≡ n
+  count-left e = ap (λ (x : List ℕ). getD x 2 0) e ∙ count-same
+
   bounded-first : Bounded labelled n
   bounded-first = record {
-    size = length-links m (left-behind m marks j) ∙ site .linked .size;
+    size = omega (arith, length-links m (left-behind m marks j), site .linked .size);
     few = site .linked .few;
     next-lt = λ q h. omega (arith, column-stays m (left-behind m marks j) q 1 (omega arith) (λ e. omega arith) (λ e. omega arith), site .linked .next-within q h);
     opposite-lt = λ q h. omega (arith, column-stays m (left-behind m marks j) q 2 (omega arith) (λ e. omega arith) (λ e. omega arith), site .linked .opposite-within q h);
@@ -76,9 +78,9 @@ module _ (m : List ℕ) (ok : is-image rack m ≡ true) (j d : ℕ) {c : Counts}
   pub bounded : {x : List ℕ} → x ≡ labelled → Bounded x (getD x 2 0)
   bounded e = subst (λ (x : List ℕ). Bounded x (getD x 2 0)) (sym e) (subst (Bounded labelled) (sym count-same) bounded-first)
 
-  pub rest-zero : {x : List ℕ} → x ≡ labelled → drop (8 + getD x 2 0 * 8) x ≡ replicate ((room - getD x 2 0) * 8) 0
-  rest-zero e = subst (λ (x : List ℕ). drop (8 + getD x 2 0 * 8) x ≡ replicate ((room - getD x 2 0) * 8) 0) (sym e)
-      (subst (λ (k : ℕ). drop (8 + k * 8) labelled ≡ replicate ((room - k) * 8) 0) (sym count-same)
+  pub rest-zero : {x : List ℕ} → x ≡ labelled → drop (8 + getD x 2 0 * 8) x ≡ replicate (length x - words-for (getD x 2 0)) 0
+  rest-zero e = subst (λ (x : List ℕ). drop (8 + getD x 2 0 * 8) x ≡ replicate (length x - words-for (getD x 2 0)) 0) (sym e)
+      (subst (λ (k : ℕ). drop (8 + k * 8) labelled ≡ replicate (length labelled - words-for k) 0) (sym count-same)
       (rest-after site pass p (w .survey .place-below) (w .survey .volume-marked) (none-within m ok j d w) j))
 
   pub all-gone : {x y : List ℕ} → x ≡ labelled → y ≡ without x marks (getD m 1 0 + c .sewn) → y ≡ released-at m marks j
@@ -92,21 +94,28 @@ module _ (m : List ℕ) (j s : ℕ) where
   size-refused h = gives _ _ _ _ (ask-no refl (ne-eqb (length m) words h) refl)
 
   module _ (size : length m ≡ words) where
-    pub image-refused : {r : Bool} → r ≡ is-image rack m → not r ≡ true → Gives (release rack m j s) (refused 2) m
+    pub image-refused : {r : Bool} → r ≡ holds-block m → not r ≡ true → Gives (release rack m j s) (refused 2) m
     unfolding release storing memory-checks
     image-refused e h = gives _ _ _ _ (ask-yes (eq-eqb (length m) words size) (ask-no refl (said-no e h) refl))
 
-  module _ (ok : is-image rack m ≡ true) where
+  -- limits by another name
+  pub by-limits : {lim lim′ : Limits} {given : Answer (Unit {0})} {lent : List ℕ} → lim ≡ lim′ → Gives (release lim m j s) given lent → Gives (release lim′ m j s) given lent
+  by-limits {given = given} {lent = lent} e = subst (λ (l : Limits). Gives (release l m j s) given lent) e
+
+  -- by any limits
+  module _ (lim : Limits) (size : length m ≡ words-of lim) (ok : is-image lim m ≡ true) where
     -- 1 and 2 before
     block-given : {given : Answer (Unit {0})} {lent : List ℕ}
-        → Asks (departure-checks 512 (block-in m) j s ++ []) m tt (image (released (block-in m) j s)) given lent
-        → Gives (release rack m j s) given lent
+        → Asks (departure-checks (lim .volume-darts) (block-in m) j s ++ []) m tt (image (words-of lim) (released (block-in m) j s)) given lent
+        → Gives (release lim m j s) given lent
     unfolding release storing memory-checks departure-checks
-    block-given a = gives _ _ _ _ (ask-yes (eq-eqb (length m) words (sited rack m ok .linked .size)) (ask-yes ok a))
+    block-given a = gives _ _ _ _ (ask-yes (eq-eqb (length m) (words-of lim) size) (ask-yes ok a))
 
-    pub volume-refused : {q : ℕ} → refused q ≡ answered (departure-checks 512 (block-in m) j s) → Gives (release rack m j s) (refused q) m
-    volume-refused e = block-given (ask-first (departure-checks 512 (block-in m) j s) [] e refl)
+    pub volume-refused : {q : ℕ} → refused q ≡ answered (departure-checks (lim .volume-darts) (block-in m) j s) → Gives (release lim m j s) (refused q) m
+    volume-refused e = block-given (ask-first (departure-checks (lim .volume-darts) (block-in m) j s) [] e refl)
 
-    pub volume-released : {c : Counts} {marks out starts numbers firsts y : List ℕ} → Departs m j s c marks out starts numbers firsts
-        → y ≡ released-at m marks j → Gives (release rack m j s) (served tt) y
-    volume-released w e = block-given (ask-all (departure-checks 512 (block-in m) j s) [] (unfold departure-checks in refl) (w .asked) (ask-end (e ∙ sym (released-image m ok j s w))))
+    pub volume-released : {c : Counts} {marks out starts numbers firsts y : List ℕ} → holds-block m ≡ true → Departs (lim .volume-darts) m j s c marks out starts numbers firsts
+        → y ≡ released-at m marks j → Gives (release lim m j s) (served tt) y
+    volume-released sound w e =
+        block-given (ask-all (departure-checks (lim .volume-darts) (block-in m) j s) [] (unfold departure-checks in refl) (w .asked)
+        (ask-end (e ∙ sym (released-image m sound j s w) ∙ ap (λ (k : ℕ). image k (released (block-in m) j s)) size)))

@@ -7,7 +7,8 @@ use native.Mathlib.Omega.{arith}
 use lib.ListN.{length, getD, set, take, drop, replicate, length-set, length-append, length-take, length-drop, replicate-append-replicate}
 use lib.Seq.{getD-set-same, getD-set-other, getD-drop, take-at, drop-at, drop-drop, length-take-le}
 use Rattle.model.specs.Lists.{concat}
-use Rattle.model.specs.Image.{room, words, column}
+use Rattle.model.specs.Image.{words-for, column}
+use Rattle.model.specs.Values.{room}
 use Rattle.laws.proofs.Tests.{eq-or-ne, last-or-below}
 use Rattle.laws.proofs.Members.{map-append}
 use Rattle.laws.proofs.Lists.{concat-snoc}
@@ -17,12 +18,12 @@ use Rattle.memory.proofs.Records.{length-put}
 use Rattle.removal.specs.LetGo.{unmarked, rank, moved-link, moved-words, records, without}
 use Rattle.removal.proofs.Ranks.{unmarked-one, unmarked-none, rank-one, rank-none, rank-le}
 use Rattle.removal.proofs.ReleasedImage.{link-sewn, link-other}
-use Rattle.release.specs.Asks.{Tabled, Bounded, Moved}
+use Rattle.release.specs.Asks.{Tabled, Entered, Bounded, Moved}
 
 -- WHERE EACH PLACE GOES: of the places below p, `kept` are not marked
 pub record Ranking (marks : List ℕ) (n : ℕ) (table : List ℕ) (kept p : ℕ) : Type 0 where
   pub p-le : p ≤ n
-  pub len : length table ≡ room
+  pub len : n ≤ length table
   pub count : kept ≡ rank marks p
   pub below : (k : ℕ) → k < p → getD table k 0 ≡ rank marks k
 
@@ -30,7 +31,7 @@ rank-start : (marks : List ℕ) → rank marks 0 ≡ 0
 unfolding rank unmarked
 rank-start marks = refl
 
-pub ranking-start : (marks : List ℕ) (n : ℕ) (table : List ℕ) → length table ≡ room → Ranking marks n table 0 0
+pub ranking-start : (marks : List ℕ) (n : ℕ) (table : List ℕ) → n ≤ length table → Ranking marks n table 0 0
 ranking-start marks n table h = record { p-le = omega arith; len = h; count = sym (rank-start marks); below = λ k l. absurd (omega arith) }
 
 module _ {marks : List ℕ} {n : ℕ} {table : List ℕ} {kept p : ℕ} (w : Ranking marks n table kept p) (h : p < n) (few : n ≤ room) where
@@ -46,10 +47,10 @@ module _ {marks : List ℕ} {n : ℕ} {table : List ℕ} {kept p : ℕ} (w : Ran
   pub ranking-none : getD marks p 0 ≡ 1 → {t : List ℕ} {k : ℕ} → t ≡ set table p kept → k ≡ kept → Ranking marks n t k (p + 1)
   ranking-none z e f = rw (e, f) (record { p-le = omega arith; len = simp length-set (w .len); count = w .count ∙ sym (rank-none p marks z); below = table-more })
 
-pub ranking-end : {marks : List ℕ} {n : ℕ} {table : List ℕ} {kept p : ℕ} → Ranking marks n table kept p → n ≤ p → (kept ≡ rank marks n) × Tabled (rank marks) n table × (length table ≡ room)
+pub ranking-end : {marks : List ℕ} {n : ℕ} {table : List ℕ} {kept p : ℕ} → Ranking marks n table kept p → n ≤ p → (kept ≡ rank marks n) × Tabled (rank marks) n table
 ranking-end {marks} {n} {table} {kept} {p} w h =
     let e : p ≡ n = omega (arith, w .p-le) in
-    (w .count ∙ ap (rank marks) e, λ k l. w .below k (omega arith), w .len)
+    (w .count ∙ ap (rank marks) e, λ k l. w .below k (omega arith))
 
 -- ONE RECORD
 pub length-moved : (t : ℕ → ℕ) (m : List ℕ) (p : ℕ) → length (moved-words t m p) ≡ 8
@@ -160,12 +161,15 @@ moved-end {i = i} {n = n} v h k = let e : n ≡ i = omega arith in rw e v
 
 -- the record that the code moves, by the table
 module _ {m marks x : List ℕ} {n i w : ℕ} (b : Bounded m n) (table : List ℕ) (tabled : Tabled (rank marks) n table) (v : Moved (moved-words (rank marks) m) m marks i x w) (h : i < n) where
-  pub links-fit : (column x 1 i < room) × (column x 2 i < room) × (column x 3 i ≡ 1 → column x 4 i < room)
-  links-fit = (
-    omega (arith, same-column x m i 1 (v .after), b .next-lt i h, b .few),
-    omega (arith, same-column x m i 2 (v .after), b .opposite-lt i h, b .few),
-    λ e. omega (arith, same-column x m i 4 (v .after), b .sewn-lt i h (sym (same-column x m i 3 (v .after)) ∙ e), b .few),
+  pub links-fit : n ≤ length table → Entered table (column x 1 i) × Entered table (column x 2 i) × (column x 3 i ≡ 1 → Entered table (column x 4 i))
+  links-fit long = (
+    entered (omega (arith, same-column x m i 1 (v .after), b .next-lt i h)),
+    entered (omega (arith, same-column x m i 2 (v .after), b .opposite-lt i h)),
+    λ e. entered (omega (arith, same-column x m i 4 (v .after), b .sewn-lt i h (sym (same-column x m i 3 (v .after)) ∙ e))),
   )
+    where
+      entered : {p : ℕ} → p < n → Entered table p
+      entered less = (omega (arith, less, b .few), omega (arith, less, long))
 
   pub one-move : moved-words (λ p. getD table p 0) x i ≡ moved-words (rank marks) m i
   one-move = words-after (λ p. getD table p 0) x m i (v .after)
@@ -180,13 +184,13 @@ part-cleared b a e h k q =
     rw (q, size, drop-drop (e - a) a b, end)
 
 -- THE WHOLE MEMORY AFTERWARDS
-pub all-removed : (m marks : List ℕ) {x y z : List ℕ} {w counter : ℕ} → length m ≡ words → getD m 2 0 ≤ room → drop (8 + getD m 2 0 * 8) m ≡ replicate ((room - getD m 2 0) * 8) 0
+pub all-removed : (m marks : List ℕ) {x y z : List ℕ} {w counter : ℕ} → words-for (getD m 2 0) ≤ length m → drop (8 + getD m 2 0 * 8) m ≡ replicate (length m - words-for (getD m 2 0)) 0
     → Moved (moved-words (rank marks) m) m marks (getD m 2 0) x w → y ≡ take (8 + w * 8) x ++ (replicate ((8 + getD m 2 0 * 8) - (8 + w * 8)) 0 ++ drop (8 + getD m 2 0 * 8) x)
     → z ≡ (getD m 0 0 ∷ counter ∷ w ∷ 0 ∷ 0 ∷ 0 ∷ 0 ∷ 0 ∷ []) ++ drop 8 y → z ≡ without m marks counter
 unfolding without
-all-removed m marks {x} {y} {z} {w} {counter} size few zeros v e f =
+all-removed m marks {x} {y} {z} {w} {counter} size zeros v e f =
     f ∙ ap (λ (l : List ℕ). (getD m 0 0 ∷ counter ∷ w ∷ 0 ∷ 0 ∷ 0 ∷ 0 ∷ 0 ∷ []) ++ l) rest
-    ∙ ap (λ (k : ℕ). (getD m 0 0 ∷ counter ∷ k ∷ 0 ∷ 0 ∷ 0 ∷ 0 ∷ 0 ∷ []) ++ (records (moved-words (rank marks) m) marks (getD m 2 0) ++ replicate ((room - k) * 8) 0)) (v .count)
+    ∙ ap (λ (k : ℕ). (getD m 0 0 ∷ counter ∷ k ∷ 0 ∷ 0 ∷ 0 ∷ 0 ∷ 0 ∷ []) ++ (records (moved-words (rank marks) m) marks (getD m 2 0) ++ replicate (length m - words-for k) 0)) (v .count)
   where
     n : ℕ
     n = getD m 2 0
@@ -194,16 +198,16 @@ all-removed m marks {x} {y} {z} {w} {counter} size few zeros v e f =
     rows : List ℕ
     rows = records (moved-words (rank marks) m) marks n
 
-    sum : (8 + n * 8) - (8 + w * 8) + (room - n) * 8 ≡ (room - w) * 8
+    sum : (8 + n * 8) - (8 + w * 8) + (length m - words-for n) ≡ length m - words-for w
     sum = omega (arith, v .count, rank-le n marks)
 
-    tail : replicate ((8 + n * 8) - (8 + w * 8)) 0 ++ drop (8 + n * 8) x ≡ replicate ((room - w) * 8) 0
+    tail : replicate ((8 + n * 8) - (8 + w * 8)) 0 ++ drop (8 + n * 8) x ≡ replicate (length m - words-for w) 0
     tail =
         ap (λ (l : List ℕ). replicate ((8 + n * 8) - (8 + w * 8)) 0 ++ l) (v .after ∙ zeros)
-        ∙ replicate-append-replicate {A = ℕ} ((8 + n * 8) - (8 + w * 8)) ((room - n) * 8) 0 ∙ ap (λ (k : ℕ). replicate k 0) sum
+        ∙ replicate-append-replicate {A = ℕ} ((8 + n * 8) - (8 + w * 8)) (length m - words-for n) 0 ∙ ap (λ (k : ℕ). replicate k 0) sum
 
-    whole : y ≡ take 8 m ++ (rows ++ replicate ((room - w) * 8) 0)
-    whole = e ∙ ap (λ (l : List ℕ). take (8 + w * 8) x ++ l) tail ∙ ap (λ (l : List ℕ). l ++ replicate ((room - w) * 8) 0) (v .front) ∙ append-assoc (take 8 m) rows (replicate ((room - w) * 8) 0)
+    whole : y ≡ take 8 m ++ (rows ++ replicate (length m - words-for w) 0)
+    whole = e ∙ ap (λ (l : List ℕ). take (8 + w * 8) x ++ l) tail ∙ ap (λ (l : List ℕ). l ++ replicate (length m - words-for w) 0) (v .front) ∙ append-assoc (take 8 m) rows (replicate (length m - words-for w) 0)
 
-    rest : drop 8 y ≡ rows ++ replicate ((room - w) * 8) 0
-    rest = ap (drop 8) whole ∙ drop-at (take 8 m) (rows ++ replicate ((room - w) * 8) 0) 8 (length-take-le 8 m (omega arith))
+    rest : drop 8 y ≡ rows ++ replicate (length m - words-for w) 0
+    rest = ap (drop 8) whole ∙ drop-at (take 8 m) (rows ++ replicate (length m - words-for w) 0) 8 (length-take-le 8 m (omega arith))

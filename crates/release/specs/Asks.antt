@@ -3,7 +3,8 @@ use mathlib.Core.Path.{_≡_}
 use mathlib.Core.List.{List, _++_}
 use Prim.Native.Nat.{ℕ, _+_, _*_, _%_, _≤_, _<_}
 use lib.ListN.{length, getD, take, drop}
-use Rattle.model.specs.Image.{room, words, column}
+use Rattle.model.specs.Image.{words-for, column}
+use Rattle.model.specs.Values.{room}
 use Rattle.cells.specs.Places.{Within, Apart, Closed}
 use Rattle.departure.specs.Asked.{Departs}
 use Rattle.departure.specs.declared.Counts.{Counts}
@@ -11,17 +12,17 @@ use Rattle.removal.specs.LetGo.{rank, records}
 
 -- the marked volume may go to block j, whichever of its darts was asked for
 pub record MayGo (m : List ℕ) (j : ℕ) (c : Counts) (marks order starts : List ℕ) : Type 0 where
+  pub most : ℕ
   pub serial : ℕ
   pub numbers : List ℕ
   pub firsts : List ℕ
-  pub departs : Departs m j serial c marks order starts numbers firsts
+  pub departs : Departs most m j serial c marks order starts numbers firsts
 
 -- LABELLING
 -- what it asks of the first n darts: a marked face is sewn as a whole, to darts that are not marked
 pub record Sewing (m marks : List ℕ) (n : ℕ) : Type 0 where
-  pub size : length m ≡ words
+  pub size : words-for n ≤ length m
   pub few : n ≤ room
-  pub marks-size : length marks ≡ room
   pub number-small : getD m 0 0 < 16
   pub next-within : Within n (column m 1)
   pub next-apart : Apart n (column m 1)
@@ -42,9 +43,13 @@ pub record Same (m marks x : List ℕ) : Type 0 where
 abbrev pub Tabled : (ℕ → ℕ) → ℕ → List ℕ → Type 0
 Tabled f n t = (p : ℕ) → p < n → getD t p 0 ≡ f p
 
+-- it has an entry for place p
+abbrev pub Entered : List ℕ → ℕ → Type 0
+Entered t p = (p < room) × (p < length t)
+
 -- links that lead to places below n
 pub record Bounded (m : List ℕ) (n : ℕ) : Type 0 where
-  pub size : length m ≡ words
+  pub size : words-for n ≤ length m
   pub few : n ≤ room
   pub next-lt : (p : ℕ) → p < n → column m 1 p < n
   pub opposite-lt : (p : ℕ) → p < n → column m 2 p < n

@@ -1,11 +1,14 @@
 // Release, the paper's let go: a volume is taken out of a block, and the faces that it leaves behind are labelled.
 ghost use mathlib.Core.Path.{_≡_};
 ghost use mathlib.Core.Bool.{true};
-ghost use lib.ListN.{length, replicate};
+ghost use Prim.Native.Nat.{_≤_};
+ghost use lib.ListN.{length};
 ghost use Rattle.model.specs.Values.{rack};
-ghost use Rattle.model.specs.Image.{room, is-image};
+ghost use Rattle.model.specs.Image.{words-of, count-in, is-image, holds-block};
 ghost use Rattle.model.specs.Calls as calls;
 ghost use Rattle.answers.specs.Answers.{answer-of, Gives};
+ghost use Rattle.memory.specs.Header.{limits-of};
+ghost use Rattle.cells.specs.Places.{Clear};
 ghost use Rattle.removal.specs.LetGo.{released-at};
 ghost use Rattle.release.specs.Asks.{MayGo};
 
@@ -17,8 +20,9 @@ use answers::Refusal;
 use departure::Counts;
 use departure::Leaving;
 use memory::header::Header;
+use memory::header::Limits;
 
-// The marked volume goes to block `to`.
+// The marked volume goes to block `to`. The table may hold anything.
 fn let_go(
     block: &mut [u64],
     to: u64,
@@ -26,21 +30,24 @@ fn let_go(
     order: &[usize],
     starts: &[usize],
     counts: Counts,
+    table: &mut [usize],
 )
-    requires { ⌜ is-image rack (now block) ≡ true ⌝ }
+    requires { ⌜ holds-block (now block) ≡ true ⌝ }
     requires { ⌜ MayGo (now block) to counts (now marks) (now order) (now starts) ⌝ }
+    requires { ⌜ count-in (now block) ≤ length (now table) ⌝ }
     ensures { λ _. ⌜ now (block .exit) ≡ released-at (now (block .entry)) (now (marks .entry)) to ⌝ }
 {
     let counter = block[1] + counts.sewn as u64;
     let darts = counts.darts;
     let faces = counts.faces;
     label::label_faces(block, marks, order, starts, darts, faces, to);
-    remove::remove(block, marks, counter);
+    remove::remove(block, marks, counter, table);
 }
 
-// 9 to 14, and release on a yes to each.
+// 9 to 14, and release on a yes to each. A volume that may leave needs the numbers of its vertices no more.
 fn release_asked(
     block: &mut [u64],
+    limits: Limits,
     to: u64,
     serial: u64,
     marks: &mut [u8],
@@ -51,13 +58,15 @@ fn release_asked(
     firsts: &mut [usize],
     stamps: &mut [usize],
 ) -> Answer
-    requires { ⌜ is-image rack (now block) ≡ true ⌝ }
-    requires { ⌜ (now marks ≡ replicate room 0) × (length (now order) ≡ room) × (length (now starts) ≡ room) × (now seen ≡ replicate room 0) ⌝ }
-    requires { ⌜ (length (now numbers) ≡ room) × (length (now firsts) ≡ room) × (length (now stamps) ≡ 512) ⌝ }
-    ensures { λ r. ⌜ Gives (calls.release rack (now (block .entry)) to serial) (answer-of r) (now (block .exit)) ⌝ }
+    requires { ⌜ (length (now block) ≡ words-of (limits-of limits)) × (is-image (limits-of limits) (now block) ≡ true) × (holds-block (now block) ≡ true) × (limits .volume ≤ 512) ⌝ }
+    requires { ⌜ (count-in (now block) ≤ length (now marks)) × Clear (now marks) × (count-in (now block) ≤ length (now seen)) × Clear (now seen) ⌝ }
+    requires { ⌜ (count-in (now block) ≤ length (now order)) × (count-in (now block) ≤ length (now starts)) × (count-in (now block) ≤ length (now numbers)) ⌝ }
+    requires { ⌜ (count-in (now block) ≤ length (now firsts)) × (limits .volume ≤ length (now stamps)) ⌝ }
+    ensures { λ r. ⌜ Gives (calls.release (limits-of limits) (now (block .entry)) to serial) (answer-of r) (now (block .exit)) ⌝ }
 {
     match departure::leaves(
         block,
+        limits,
         to,
         serial,
         marks,
@@ -70,7 +79,7 @@ fn release_asked(
     ) {
         Leaving::Refused(r) => Answer::Refused(r),
         Leaving::Volume(counts) => {
-            let_go(block, to, marks, order, starts, counts);
+            let_go(block, to, marks, order, starts, counts, numbers);
             Answer::Served
         }
     }
@@ -96,6 +105,7 @@ pub fn release(block: &mut [u64], to: u64, serial: u64) -> Answer
     let mut stamps = [0usize; 512];
     release_asked(
         block,
+        Limits::rack(),
         to,
         serial,
         &mut marks,

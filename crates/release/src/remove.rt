@@ -3,20 +3,22 @@ ghost use mathlib.Core.Path.{_≡_};
 ghost use mathlib.Core.List.{_++_};
 ghost use Prim.Native.Nat.{_+_, _*_, _-_, _≤_, _<_, _^_};
 ghost use lib.ListN.{length, getD, take, drop, replicate};
-ghost use Rattle.model.specs.Image.{room, words, column};
+ghost use Rattle.model.specs.Image.{words-for, count-in, column};
+ghost use Rattle.model.specs.Values.{room};
 ghost use Rattle.memory.specs.Record.{put};
 ghost use Rattle.removal.specs.LetGo.{rank, moved-link, moved-words, without};
-ghost use Rattle.release.specs.Asks.{Tabled, Bounded, Moved};
+ghost use Rattle.release.specs.Asks.{Tabled, Entered, Bounded, Moved};
 use memory::header;
 use memory::header::Header;
+use memory::kind;
 use memory::record;
 use memory::record::Place;
 use memory::record::Record;
 
 // Where each of the first n places goes. Returns how many stay.
 fn ranks(marks: &[u8], n: usize, table: &mut [usize]) -> usize
-    requires { ⌜ (n ≤ room) × (length (now marks) ≡ room) × (length (now table) ≡ room) ⌝ }
-    ensures { λ r. ⌜ (r ≡ rank (now (marks .entry)) n) × Tabled (rank (now (marks .entry))) n (now (table .exit)) × (length (now (table .exit)) ≡ room) ⌝ }
+    requires { ⌜ (n ≤ room) × (n ≤ length (now marks)) × (n ≤ length (now table)) ⌝ }
+    ensures { λ r. ⌜ (r ≡ rank (now (marks .entry)) n) × Tabled (rank (now (marks .entry))) n (now (table .exit)) ⌝ }
 {
     // Of the places below p, `kept` are not marked.
     let mut kept = 0;
@@ -32,33 +34,34 @@ fn ranks(marks: &[u8], n: usize, table: &mut [usize]) -> usize
 }
 
 // Where a place goes.
-fn moved(table: &[usize], p: u64) -> u64
-    requires { ⌜ (length (now table) ≡ room) × (p < room) ⌝ }
-    ensures { λ r. ⌜ r ≡ getD (now (table .entry)) p 0 ⌝ }
+fn moved(table: &[usize], p: Place) -> Place
+    requires { ⌜ Entered (now table) (p .0) ⌝ }
+    ensures { λ r. ⌜ r .0 ≡ getD (now (table .entry)) (p .0) 0 ⌝ }
 {
-    table[p as usize] as u64
+    let i = p.0;
+    Place(table[i])
 }
 
 // The link word: where the place of a sewn dart goes.
 fn moved_link(table: &[usize], kind: u64, link: u64) -> u64
-    requires { ⌜ (length (now table) ≡ room) × (kind ≡ 1 → link < room) ⌝ }
+    requires { ⌜ (kind ≡ 1 → Entered (now table) link) ⌝ }
     ensures { λ r. ⌜ r ≡ moved-link (λ p. getD (now (table .entry)) p 0) kind link ⌝ }
 {
-    if kind == 1 {
-        return moved(table, link);
+    if kind == kind::SEWN {
+        return moved(table, Place(link as usize)).0 as u64;
     }
     link
 }
 
 // Moves the record at place `from` to place `at`, with its links by the table.
-fn move_record(block: &mut [u64], from: usize, at: usize, table: &[usize])
-    requires { ⌜ (length (now block) ≡ words) × (length (now table) ≡ room) × (from < room) × (at ≤ from) ⌝ }
-    requires { ⌜ (column (now block) 1 from < room) × (column (now block) 2 from < room) × (column (now block) 3 from ≡ 1 → column (now block) 4 from < room) ⌝ }
-    ensures { λ _. ⌜ now (block .exit) ≡ put (now (block .entry)) at (moved-words (λ p. getD (now (table .entry)) p 0) (now (block .entry)) from) ⌝ }
+fn move_record(block: &mut [u64], from: Place, at: Place, table: &[usize])
+    requires { ⌜ (words-for (from .0 + 1) ≤ length (now block)) × (at .0 ≤ from .0) ⌝ }
+    requires { ⌜ Entered (now table) (column (now block) 1 (from .0)) × Entered (now table) (column (now block) 2 (from .0)) × (column (now block) 3 (from .0) ≡ 1 → Entered (now table) (column (now block) 4 (from .0))) ⌝ }
+    ensures { λ _. ⌜ now (block .exit) ≡ put (now (block .entry)) (at .0) (moved-words (λ p. getD (now (table .entry)) p 0) (now (block .entry)) (from .0)) ⌝ }
 {
-    let r = record::record_at(block, Place(from));
-    let next = moved(table, r.next);
-    let opposite = moved(table, r.opposite);
+    let r = record::record_at(block, from);
+    let next = moved(table, Place(r.next as usize)).0 as u64;
+    let opposite = moved(table, Place(r.opposite as usize)).0 as u64;
     let link = moved_link(table, r.kind, r.link);
     let there = Record {
         serial: r.serial,
@@ -70,12 +73,12 @@ fn move_record(block: &mut [u64], from: usize, at: usize, table: &[usize])
         y: r.y,
         z: r.z,
     };
-    record::put_record(block, Place(at), there);
+    record::put_record(block, at, there);
 }
 
 // Moves the records that are not marked to the front. Returns how many there are.
 fn compact(block: &mut [u64], n: usize, marks: &[u8], table: &[usize]) -> usize
-    requires { ⌜ Bounded (now block) n × (length (now marks) ≡ room) × (length (now table) ≡ room) × Tabled (rank (now marks)) n (now table) ⌝ }
+    requires { ⌜ Bounded (now block) n × (n ≤ length (now marks)) × (n ≤ length (now table)) × Tabled (rank (now marks)) n (now table) ⌝ }
     ensures { λ r. ⌜ Moved (moved-words (rank (now (marks .entry))) (now (block .entry))) (now (block .entry)) (now (marks .entry)) n (now (block .exit)) r ⌝ }
 {
     // The records of the unmarked places below i stand in front, w of them.
@@ -83,7 +86,7 @@ fn compact(block: &mut [u64], n: usize, marks: &[u8], table: &[usize]) -> usize
     let mut i = 0;
     while i < n {
         if marks[i] != 1 {
-            move_record(block, i, w, table);
+            move_record(block, Place(i), Place(w), table);
             w += 1;
         }
         i += 1;
@@ -99,17 +102,16 @@ fn clear_part(block: &mut [u64], a: usize, e: usize)
     header::clear(&mut block[a..e]);
 }
 
-// Takes the marked records out, with a new counter; what is left over is zero.
-pub fn remove(block: &mut [u64], marks: &[u8], counter: u64)
-    requires { ⌜ Bounded (now block) (getD (now block) 2 0) × (length (now marks) ≡ room) ⌝ }
-    requires { ⌜ drop (8 + getD (now block) 2 0 * 8) (now block) ≡ replicate ((room - getD (now block) 2 0) * 8) 0 ⌝ }
+// Takes the marked records out, with a new counter; what is left over is zero. The table may hold anything.
+pub fn remove(block: &mut [u64], marks: &[u8], counter: u64, table: &mut [usize])
+    requires { ⌜ Bounded (now block) (count-in (now block)) × (count-in (now block) ≤ length (now marks)) × (count-in (now block) ≤ length (now table)) ⌝ }
+    requires { ⌜ drop (8 + getD (now block) 2 0 * 8) (now block) ≡ replicate (length (now block) - words-for (getD (now block) 2 0)) 0 ⌝ }
     ensures { λ _. ⌜ now (block .exit) ≡ without (now (block .entry)) (now (marks .entry)) counter ⌝ }
 {
     let number = block[0];
     let n = block[2] as usize;
-    let mut table = [0usize; 4096];
-    ranks(marks, n, &mut table);
-    let kept = compact(block, n, marks, &table);
+    ranks(marks, n, table);
+    let kept = compact(block, n, marks, table);
     clear_part(block, 8 + kept * 8, 8 + n * 8);
     let after = Header {
         number,

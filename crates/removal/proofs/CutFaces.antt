@@ -9,7 +9,7 @@ use lib.ListN.{length, getD}
 use borrow.Author.Tests.{eqb-true, eqb-false, eq-eqb, ne-eqb, not-true}
 use Rattle.model.specs.Lists.{any, mem, concat, distinct, ascending}
 use Rattle.model.specs.Cells.{cycle, start-of}
-use Rattle.model.specs.Image.{column}
+use Rattle.model.specs.Image.{count-in, column}
 use Rattle.laws.proofs.Tests.{by-cases, and-intro, and-left, and-right}
 use Rattle.laws.proofs.Members.{In, in-here, in-there, in-eq, any-in, map-in, keep-le, keep-ascending, distinct-map}
 use Rattle.laws.proofs.Orbits.{in-cycle}
@@ -26,7 +26,7 @@ use Rattle.cells.proofs.Paths.{round, apart-places, few-places}
 use Rattle.cells.proofs.StartLaws.{cycle-start}
 use Rattle.cells.proofs.FaceLaws.{marked-in, in-marked}
 use Rattle.cells.proofs.FaceSerials.{closed-next, closed-opposite}
-use Rattle.cells.proofs.Sited.{Sited, count-in}
+use Rattle.cells.proofs.Sited.{Sited}
 use Rattle.removal.specs.LetGo.{sewn-at}
 
 -- a kind word whose rest is 1

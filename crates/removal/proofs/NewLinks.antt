@@ -8,7 +8,7 @@ use lib.Dec.{eqb}
 use borrow.Author.Tests.{eqb-true, eqb-false, eq-eqb, ne-eqb}
 use Rattle.model.specs.Lists.{mem, concat, find}
 use Rattle.model.specs.Values.{Label, critical}
-use Rattle.model.specs.Departure.{Link, label-links, label-faces}
+use Rattle.model.specs.Links.{Link, label-links, label-faces}
 use Rattle.laws.proofs.Tests.{by-cases}
 use Rattle.laws.proofs.Members.{In, in-here, in-there, in-append-left, in-append-right, map-append, Each, each-append}
 

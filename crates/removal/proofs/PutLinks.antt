@@ -11,7 +11,7 @@ use lib.Seq.{getD-set-other}
 use borrow.Author.Tests.{eqb-true, eqb-false, not-true}
 use Rattle.model.specs.Lists.{mem, distinct, find}
 use Rattle.model.specs.Image.{kind-word, link-word, column}
-use Rattle.model.specs.Departure.{Link}
+use Rattle.model.specs.Links.{Link}
 use Rattle.laws.proofs.Tests.{by-cases, and-left, and-right}
 use Rattle.laws.proofs.Members.{Each}
 use Rattle.memory.proofs.Records.{set-here, set-there}

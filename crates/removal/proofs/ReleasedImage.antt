@@ -10,10 +10,11 @@ use lib.ListN.{length, getD, drop, replicate, length-map, length-drop, length-re
 use lib.Seq.{ext-getD, getD-drop}
 use borrow.Author.Tests.{eq-eqb, ne-eqb, not-true}
 use Rattle.model.specs.Lists.{any, keep, mem, concat, find, index-of}
-use Rattle.model.specs.Values.{Label, Third, critical, Dart, rack, code, partner}
+use Rattle.model.specs.Values.{Label, Third, critical, Dart, code, partner}
 use Rattle.model.specs.Cells.{serials, third-at, volume-in}
-use Rattle.model.specs.Image.{room, image, column, block-in, dart-in, dart-words, third-in, kind-word, link-word, is-image}
-use Rattle.model.specs.Departure.{Link, third-or, relink, label-faces, sewn-faces, departure-checks, released}
+use Rattle.model.specs.Image.{words-for, count-in, image, column, block-in, dart-in, dart-words, third-in, kind-word, link-word, holds-block}
+use Rattle.model.specs.Departure.{sewn-faces, departure-checks, released}
+use Rattle.model.specs.Links.{Link, third-or, relink, label-faces}
 use Rattle.answers.specs.Answers.{answered}
 use Rattle.laws.proofs.Tests.{yes-first}
 use Rattle.laws.proofs.Lists.{getD-zeros}
@@ -28,7 +29,7 @@ use Rattle.cells.proofs.Reached.{places, places-below}
 use Rattle.cells.proofs.Serials.{serials-apart}
 use Rattle.cells.proofs.SewnLaws.{mark-is, question-12}
 use Rattle.cells.proofs.StartLaws.{sewn-faces-serials}
-use Rattle.cells.proofs.Sited.{Sited, darts-in, count-in, sited}
+use Rattle.cells.proofs.Sited.{Sited, darts-in, sited}
 use Rattle.departure.specs.Asked.{Departs}
 use Rattle.departure.specs.declared.Counts.{Counts}
 use Rattle.removal.specs.LetGo.{with-links, sewn-at, left-behind, unmarked, rank, moved-link, moved-words, records, without, released-at}
@@ -53,8 +54,8 @@ link-moved s t ss k a (kind-sewn e) h = ap (link-word ss) (third-sewn s k a e) �
 link-moved s t ss k a (kind-critical e f g) h = ap (link-word ss) (third-critical s k a e) ∙ code-in a ∙ link-other t k a (λ q. omega arith)
 
 -- an image by its parts
-abbrev parts : ℕ → ℕ → ℕ → List ℕ → List ℕ
-parts number counter count rows = (number ∷ counter ∷ count ∷ 0 ∷ 0 ∷ 0 ∷ 0 ∷ 0 ∷ []) ++ (rows ++ replicate ((room - count) * 8) 0)
+abbrev parts : ℕ → ℕ → ℕ → ℕ → List ℕ → List ℕ
+parts size number counter count rows = (number ∷ counter ∷ count ∷ 0 ∷ 0 ∷ 0 ∷ 0 ∷ 0 ∷ []) ++ (rows ++ replicate (size - words-for count) 0)
 
 module _ {m : List ℕ} (site : Sited m) (pass : Passed m) (p : ℕ) (h : p < count-in m) {marks : List ℕ}
     (mk : Marked (volume-of m p) marks) (apart : any (sewn-in m marks) (marked (count-in m) marks) ≡ false) (j : ℕ) where
@@ -112,7 +113,7 @@ module _ {m : List ℕ} (site : Sited m) (pass : Passed m) (p : ℕ) (h : p < co
   new-third : (q : ℕ) → q < n → (l : Link) → find (λ k. k .dart) q new ≡ some l → NewThird q l
   new-third q k l e =
       let c = each-found (λ k. k .dart) (Critical (column m 4) j (getD m 0 0)) q new l new-critical e in
-      let w = named m new q l (rw named-are (left-distinct site pass p h mk apart)) e (omega (arith, site .linked .few, site .linked .size)) in
+      let w = named m new q l (rw named-are (left-distinct site pass p h mk apart)) e (omega (arith, site .linked .size)) in
       record { label = c .0; third-is = c .1; kind-is = w .0 ∙ ap kind-word (c .1); link-is = w .1 ∙ ap (link-word []) (c .1) }
 
   -- a dart sewn to a marked one has a new link
@@ -145,11 +146,11 @@ module _ {m : List ℕ} (site : Sited m) (pass : Passed m) (p : ℕ) (h : p < co
       go [] e = tt
       go (k ∷ ks) e = let low = e .0 in ((λ q. omega arith, λ q. omega arith), go ks (e .1))
 
-  pub rest-after : drop (8 + n * 8) x ≡ replicate ((room - n) * 8) 0
+  pub rest-after : drop (8 + n * 8) x ≡ replicate (length x - words-for n) 0
   rest-after =
-      let size : length (drop (8 + n * 8) x) ≡ (room - n) * 8 = omega (arith, length-drop (8 + n * 8) x, length-links m new, site .linked .size) in
-      ext-getD 0 (drop (8 + n * 8) x) (replicate ((room - n) * 8) 0) (size ∙ sym (length-replicate {A = ℕ} ((room - n) * 8) 0))
-      (λ i u. getD-drop (8 + n * 8) x i 0 ∙ word-after (8 + n * 8 + i) (omega arith) ∙ sym (getD-zeros ((room - n) * 8) i))
+      let size : length (drop (8 + n * 8) x) ≡ length x - words-for n = omega (arith, length-drop (8 + n * 8) x) in
+      ext-getD 0 (drop (8 + n * 8) x) (replicate (length x - words-for n) 0) (size ∙ sym (length-replicate {A = ℕ} (length x - words-for n) 0))
+      (λ i u. getD-drop (8 + n * 8) x i 0 ∙ word-after (8 + n * 8 + i) (omega arith) ∙ sym (getD-zeros (length x - words-for n) i))
 
   -- THE DARTS THAT STAY
   abbrev after : List Dart
@@ -244,29 +245,30 @@ module _ {m : List ℕ} (site : Sited m) (pass : Passed m) (p : ℕ) (h : p < co
   counter-is : length (sewn-faces ds (s p)) ≡ length (sewn-at m marks)
   counter-is = ap length (sym (sewn-faces-serials site p h mk)) ∙ length-map (sewn-at m marks) (map s)
 
-  pub image-left : image (released (block-in m) j (s p)) ≡ released-at m marks j
+  pub image-left : image (length m) (released (block-in m) j (s p)) ≡ released-at m marks j
   unfolding image released released-at without
   image-left =
       let number : getD m 0 0 ≡ getD x 0 0 = sym (header-stays m new 0 (omega arith)) in
       let count : n ≡ getD x 2 0 = sym (header-stays m new 2 (omega arith)) in
-      λ i. parts (number i) (getD m 1 0 + counter-is i) ((count-after ∙ ap (rank marks) count) i) ((rows ∙ ap (records (moved-words (rank marks) x) marks) count) i)
+      let size : length m ≡ length x = sym (length-links m new) in
+      λ i. parts (size i) (number i) (getD m 1 0 + counter-is i) ((count-after ∙ ap (rank marks) count) i) ((rows ∙ ap (records (moved-words (rank marks) x) marks) count) i)
 
 -- WHAT A SURVEY GIVES
-module _ (m : List ℕ) (ok : is-image rack m ≡ true) (j d : ℕ) {c : Counts} {marks out starts numbers firsts : List ℕ} (w : Departs m j d c marks out starts numbers firsts) where
+module _ (m : List ℕ) (ok : holds-block m ≡ true) (j d : ℕ) {most : ℕ} {c : Counts} {marks out starts numbers firsts : List ℕ} (w : Departs most m j d c marks out starts numbers firsts) where
   -- 12 was answered yes
   pub none-within : any (sewn-in m marks) (marked (count-in m) marks) ≡ false
   unfolding departure-checks answered
   none-within =
-      let e = served-value (departure-checks 512 (block-in m) j d) [] tt [] tt (sym (w .asked)) .0 in
+      let e = served-value (departure-checks most (block-in m) j d) [] tt [] tt (sym (w .asked)) .0 in
       let q9 = yes-first 9 _ _ (λ z. omega arith) e in
       let q10 = yes-first 10 _ _ (λ z. omega arith) (q9 .1) in
       let q11 = yes-first 11 _ _ (λ z. omega arith) (q10 .1) in
       let q12 = yes-first 12 _ _ (λ z. omega arith) (q11 .1) in
       not-true (any (sewn-in m marks) (marked (count-in m) marks))
-      (sym (question-12 (sited rack m ok) (w .survey .place) (w .survey .place-below) (w .survey .volume-marked))
+      (sym (question-12 (sited m ok) (w .survey .place) (w .survey .place-below) (w .survey .volume-marked))
       ∙ rw (w .serial-is) (q12 .0))
 
   -- THE LAW OF RELEASE
-  pub released-image : image (released (block-in m) j d) ≡ released-at m marks j
-  released-image = ap (λ (y : ℕ). image (released (block-in m) j y)) (sym (w .serial-is))
-      ∙ image-left (sited rack m ok) (image-passed m ok) (w .survey .place) (w .survey .place-below) (w .survey .volume-marked) none-within j
+  pub released-image : image (length m) (released (block-in m) j d) ≡ released-at m marks j
+  released-image = ap (λ (y : ℕ). image (length m) (released (block-in m) j y)) (sym (w .serial-is))
+      ∙ image-left (sited m ok) (image-passed m ok) (w .survey .place) (w .survey .place-below) (w .survey .volume-marked) none-within j

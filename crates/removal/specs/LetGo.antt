@@ -7,8 +7,8 @@ use lib.Dec.{eqb}
 use lib.ListN.{length, getD, set, replicate}
 use Rattle.model.specs.Lists.{keep, concat, tab}
 use Rattle.model.specs.Cells.{start-of}
-use Rattle.model.specs.Image.{room, kind-word, link-word, column}
-use Rattle.model.specs.Departure.{Link, label-faces}
+use Rattle.model.specs.Image.{words-for, kind-word, link-word, column}
+use Rattle.model.specs.Links.{Link, label-faces}
 use Rattle.cells.specs.Places.{sewn-out}
 use Rattle.departure.specs.Asked.{faces-at}
 
@@ -55,7 +55,7 @@ records g marks n = concat (map g (unmarked n marks))
 -- memory without the marked records, with another counter
 unfoldable pub without : List ℕ → List ℕ → ℕ → List ℕ
 without m marks counter = (getD m 0 0 ∷ counter ∷ rank marks (getD m 2 0) ∷ 0 ∷ 0 ∷ 0 ∷ 0 ∷ 0 ∷ [])
-    ++ (records (moved-words (rank marks) m) marks (getD m 2 0) ++ replicate ((room - rank marks (getD m 2 0)) * 8) 0)
+    ++ (records (moved-words (rank marks) m) marks (getD m 2 0) ++ replicate (length m - words-for (rank marks (getD m 2 0))) 0)
 
 -- THE MEMORY AFTERWARDS, when the marked volume goes to block j
 unfoldable pub released-at : List ℕ → List ℕ → ℕ → List ℕ

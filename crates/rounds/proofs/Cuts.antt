@@ -8,7 +8,7 @@ use native.Mathlib.Omega.{arith}
 use lib.ListN.{length, getD, take, drop, length-drop, length-take, drop-of-length-le}
 use lib.Seq.{length-take-le, take-nil, drop-nil, take-all, take-length, drop-length, drop-drop}
 use Rattle.model.specs.Layouts.{Layout, Read, group, _⊕_}
-use Rattle.model.specs.Runs.{message-length, cut, messages-in, to-number, addressee}
+use Rattle.model.specs.DividedRun.{message-length, cut, messages-in, to-number, addressee}
 use Rattle.laws.proofs.Tests.{lt-or-ge}
 use Rattle.laws.proofs.Lists.{rest-whole}
 use Rattle.groups.proofs.Ends.{group-ends}

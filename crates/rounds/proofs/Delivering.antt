@@ -13,7 +13,7 @@ use Rattle.model.specs.Image.{block-in, memory-checks}
 use Rattle.model.specs.Departure.{departure-checks, messages}
 use Rattle.model.specs.Calls.{Answer, Result, served, refused, number-of, memories, send, writing}
 use Rattle.model.specs.Runs as runs
-use Rattle.model.specs.Runs.{Round, Step, Done, done, called, stored, run-steps, receiving, releasing, redirect-step, messages-in, send-step, sent-messages, round, written, memory-at}
+use Rattle.model.specs.DividedRun.{Round, Step, Done, done, called, stored, run-steps, receiving, releasing, redirect-step, messages-in, send-step, sent-messages, round, written, memory-at}
 use Rattle.laws.proofs.Lists.{rest-whole}
 use Rattle.theory.proofs.CallLaws.{with-fifteen, writing-serves, writing-refuses}
 use Rattle.answers.specs.Answers.{Gives, question, answer-of, written-of}

@@ -8,7 +8,7 @@ use lib.Dec.{eqb}
 use lib.ListN.{length, drop, length-drop}
 use lib.Seq.{drop-length}
 use Rattle.model.specs.Calls.{memories}
-use Rattle.model.specs.Runs.{Step, done, stored, run-steps, messages-in, addressee, redirecting, redirect-step}
+use Rattle.model.specs.DividedRun.{Step, done, stored, run-steps, messages-in, addressee, redirecting, redirect-step}
 use Rattle.rounds.specs.Post.{first-in}
 use Rattle.rounds.specs.Played.{on-rack, at-block, Stepped, Ran}
 use Rattle.rounds.proofs.Cuts.{first-then, nothing-in, behind-first, first-fits}

@@ -6,7 +6,7 @@ use lib.ListN.{length, getD, set, take, drop}
 use borrow.Rule.Slice.PartMut.{putMid}
 use Rattle.model.specs.Values.{rack}
 use Rattle.model.specs.Calls.{Result, Answer, refused, number-of, memories, release, redirect, receive}
-use Rattle.model.specs.Runs.{Call, Done, done, called, releasing, redirecting, receiving}
+use Rattle.model.specs.DividedRun.{Call, Done, done, called, releasing, redirecting, receiving}
 use Rattle.answers.specs.Answers.{Gives}
 use Rattle.mesh.proofs.Parts.{part-is}
 use Rattle.rounds.specs.Played.{on-rack, at-block, Stepped}

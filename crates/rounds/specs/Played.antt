@@ -9,7 +9,8 @@ use Rattle.model.specs.Values.{Limits, rack}
 use Rattle.model.specs.Image.{words}
 use Rattle.model.specs.Calls.{memories, send}
 use Rattle.model.specs.Runs as runs
-use Rattle.model.specs.Runs.{Call, Step, Request, Round, done, stored, run-steps, messages-in, receive-step, last-steps, sent-messages, round, memory-at}
+use Rattle.model.specs.Runs.{Request}
+use Rattle.model.specs.DividedRun.{Call, Step, Round, done, stored, run-steps, messages-in, receive-step, last-steps, sent-messages, round, memory-at}
 use Rattle.answers.specs.Answers.{question}
 use Rattle.rounds.specs.declared.Outcome.{Outcome}
 use Rattle.rounds.specs.declared.Outcome.the-variants as outcome

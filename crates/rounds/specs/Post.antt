@@ -3,7 +3,7 @@ use mathlib.Core.List.{List}
 use Prim.Native.Nat.{ℕ}
 use lib.ListN.{take, drop}
 use Rattle.model.specs.Layouts.{group}
-use Rattle.model.specs.Runs.{message-length}
+use Rattle.model.specs.DividedRun.{message-length}
 
 abbrev pub first-in : List ℕ → List ℕ
 first-in bytes = take (message-length bytes (group .get bytes)) bytes

@@ -7,7 +7,8 @@ use Rattle.model.specs.Lists.{tab}
 use Rattle.model.specs.Values.{rack}
 use Rattle.model.specs.Calls.{memories, send}
 use Rattle.model.specs.Runs as runs
-use Rattle.model.specs.Runs.{Request, memory-at}
+use Rattle.model.specs.Runs.{Request}
+use Rattle.model.specs.DividedRun.{memory-at}
 use Rattle.rounds.specs.Played.{left-over, asks-for, round-in-order}
 
 -- three numbers for each request: from, to, serial

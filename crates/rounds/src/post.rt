@@ -1,7 +1,7 @@
 // Messages that stand one after the other: how long the first one is, and to whom it goes.
 ghost use mathlib.Core.Path.{_≡_};
 ghost use lib.ListN.{length};
-ghost use Rattle.model.specs.Runs.{addressee as to-block};
+ghost use Rattle.model.specs.DividedRun.{addressee as to-block};
 ghost use Rattle.rounds.specs.Post.{first-in};
 use groups::Read;
 

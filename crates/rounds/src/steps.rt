@@ -3,7 +3,7 @@ ghost use mathlib.Core.Path.{_≡_};
 ghost use mathlib.Core.List.{[], _∷_, map};
 ghost use Prim.Native.Nat.{_<_};
 ghost use Rattle.model.specs.Calls.{number-of};
-ghost use Rattle.model.specs.Runs.{receiving, releasing, redirecting, redirect-step, messages-in};
+ghost use Rattle.model.specs.DividedRun.{receiving, releasing, redirecting, redirect-step, messages-in};
 ghost use Rattle.answers.specs.Answers.{answer-of};
 ghost use Rattle.mesh.specs.Parts.{blocks};
 ghost use Rattle.rounds.specs.Played.{Stepped, Ran, at-block};

@@ -9,11 +9,11 @@ use lib.ListN.{length, take, drop, length-append}
 use lib.Seq.{sets-eq}
 use borrow.Author.Tests.{eq-eqb, ne-eqb, le-leb, lt-leb}
 use borrow.Rule.Slice.PartMut.{putMid}
-use Rattle.model.specs.Values.{rack}
+use Rattle.model.specs.Values.{Limits, rack}
 use Rattle.model.specs.Lists.{concat}
 use Rattle.model.specs.Layouts.{framed}
 use Rattle.model.specs.Messages.{Transfer, Update, transfer, update}
-use Rattle.model.specs.Image.{words, block-in, is-image, memory-checks}
+use Rattle.model.specs.Image.{words, words-of, is-image, block-in, holds-block, memory-checks}
 use Rattle.model.specs.Departure.{departure-checks, messages, transfer-of, updates-of}
 use Rattle.model.specs.Calls.{Answer, served, refused, writing, send}
 use Rattle.answers.specs.Answers.{Gives, answered}
@@ -48,7 +48,7 @@ pub messages-of : (m : List ℕ) (j : ℕ) (c : Counts) (marks numbers firsts : 
 unfolding messages-at
 messages-of m j c marks numbers firsts = refl
 
-pub messages-length : (m : List ℕ) → is-image rack m ≡ true → (j : ℕ) → j ≤ 15 → {c : Counts} {marks order starts numbers firsts : List ℕ} → Surveyed m c marks order starts numbers firsts
+pub messages-length : (m : List ℕ) → holds-block m ≡ true → (j : ℕ) → j ≤ 15 → {c : Counts} {marks order starts numbers firsts : List ℕ} → Surveyed m c marks order starts numbers firsts
     → {z : Sizes} → Sized (transfer-for m j c marks numbers firsts) z → {n : ℕ} → n ≡ length (run (told-put m j order starts (c .darts) (c .faces)) 16)
     → z .whole + n ≡ length (messages-at m j c marks numbers firsts)
 messages-length m ok j h {c} {marks} {order} {starts} {numbers} {firsts} s {z} w {n} e = omega (
@@ -64,12 +64,12 @@ all-messages : (t : Transfer) (us : List Update) → concat (framed transfer t �
 unfolding concat
 all-messages t us = refl
 
-pub sent-bytes : (m : List ℕ) → is-image rack m ≡ true → (j s : ℕ) {c : Counts} {marks order starts numbers firsts : List ℕ} → Departs m j s c marks order starts numbers firsts
+pub sent-bytes : (m : List ℕ) → holds-block m ≡ true → (j s : ℕ) {most : ℕ} {c : Counts} {marks order starts numbers firsts : List ℕ} → Departs most m j s c marks order starts numbers firsts
     → concat (messages (block-in m) j s) ≡ messages-at m j c marks numbers firsts
 unfolding messages messages-at
 sent-bytes m ok j s {c} {marks} {order} {starts} {numbers} {firsts} d =
     let v = d .survey in
-    let site = sited rack m ok in
+    let site = sited m ok in
     let passed = image-passed m ok in
     let t : transfer-of (block-in m) j s ≡ transfer-for m j c marks numbers firsts =
     ap (transfer-of (block-in m) j) (sym (d .serial-is)) ∙ transfer-law site passed (v .place) (v .place-below) (v .volume-marked) (v .order) (v .numbering) j in
@@ -98,19 +98,24 @@ pub refused-size : (m out : List ℕ) (j s : ℕ) → (length m ≡ words → �
 unfolding send writing memory-checks
 refused-size m out j s h = gives _ _ _ _ (ask-no refl (ne-eqb (length m) words h) refl)
 
-pub refused-image : (m out : List ℕ) (j s : ℕ) → length m ≡ words → is-image rack m ≡ false → Gives (send rack m j s out) (refused 2) out
+pub refused-image : (m out : List ℕ) (j s : ℕ) → length m ≡ words → holds-block m ≡ false → Gives (send rack m j s out) (refused 2) out
 unfolding send writing memory-checks
 refused-image m out j s h e = gives _ _ _ _ (ask-yes (eq-eqb (length m) words h) (ask-no refl e refl))
 
-module _ (m out : List ℕ) (j s : ℕ) (ok : is-image rack m ≡ true) where
-  pub refused-leaving : {n : ℕ} → refused n ≡ answered (departure-checks 512 (block-in m) j s) → Gives (send rack m j s out) (refused n) out
+-- limits by another name
+pub by-limits : (m out : List ℕ) (j s : ℕ) {lim lim′ : Limits} {given : Answer ℕ} {after : List ℕ} → lim ≡ lim′ → Gives (send lim m j s out) given after → Gives (send lim′ m j s out) given after
+by-limits m out j s {given = given} {after = after} e = subst (λ (l : Limits). Gives (send l m j s out) given after) e
+
+-- by any limits
+module _ (m out : List ℕ) (j s : ℕ) (lim : Limits) (size : length m ≡ words-of lim) (ok : is-image lim m ≡ true) where
+  pub refused-leaving : {n : ℕ} → refused n ≡ answered (departure-checks (lim .volume-darts) (block-in m) j s) → Gives (send lim m j s out) (refused n) out
   unfolding send writing memory-checks
-  refused-leaving h = gives _ _ _ _ (ask-yes (eq-eqb (length m) words (sited rack m ok .linked .size)) (ask-yes ok (ask-first (departure-checks 512 (block-in m) j s) _ h refl)))
+  refused-leaving h = gives _ _ _ _ (ask-yes (eq-eqb (length m) (words-of lim) size) (ask-yes ok (ask-first (departure-checks (lim .volume-darts) (block-in m) j s) _ h refl)))
 
   -- what question 15 gives, the call gives
-  pub sent : {c : Counts} {marks order starts numbers firsts : List ℕ} → Departs m j s c marks order starts numbers firsts → {given : Answer ℕ} {after : List ℕ}
-      → Gives (writing [] out (messages-at m j c marks numbers firsts)) given after → Gives (send rack m j s out) given after
+  pub sent : holds-block m ≡ true → {c : Counts} {marks order starts numbers firsts : List ℕ} → Departs (lim .volume-darts) m j s c marks order starts numbers firsts
+      → {given : Answer ℕ} {after : List ℕ} → Gives (writing [] out (messages-at m j c marks numbers firsts)) given after → Gives (send lim m j s out) given after
   unfolding send writing memory-checks departure-checks
-  sent d {given} {after} g =
-      let w = subst (λ (b : List ℕ). Gives (writing [] out b) given after) (sym (sent-bytes m ok j s d)) g in
-      gives _ _ _ _ (ask-yes (eq-eqb (length m) words (sited rack m ok .linked .size)) (ask-yes ok (ask-all (departure-checks 512 (block-in m) j s) _ refl (d .asked) (record { result = w }))))
+  sent sound d {given} {after} g =
+      let w = subst (λ (b : List ℕ). Gives (writing [] out b) given after) (sym (sent-bytes m sound j s d)) g in
+      gives _ _ _ _ (ask-yes (eq-eqb (length m) (words-of lim) size) (ask-yes ok (ask-all (departure-checks (lim .volume-darts) (block-in m) j s) _ refl (d .asked) (record { result = w }))))

@@ -8,6 +8,7 @@ ghost use Rattle.answers.specs.Answers.{Gives, written-of};
 use answers::Refusal;
 use answers::Written;
 use memory::header::Header;
+use memory::header::Limits;
 
 // Sends the volume of the dart with this serial to another block. 1: is the memory of a block's size? 2: is it a sound block's
 // image? 9 to 14: may the volume leave? 15: is the outbox long enough? Bytes past the messages stay; a refused call leaves the outbox.
@@ -31,6 +32,7 @@ pub fn send(block: &[u64], to: u64, serial: u64, outbox: &mut [u8]) -> Written
     let mut bytes = [0usize; 16];
     volume::send_volume(
         block,
+        Limits::rack(),
         to,
         serial,
         &mut marks,

@@ -4,8 +4,7 @@ ghost use mathlib.Core.Bool.{true};
 ghost use mathlib.Core.List.{[]};
 ghost use Prim.Native.Nat.{_+_, _≤_, _<_, _^_};
 ghost use lib.ListN.{length, getD, replicate};
-ghost use Rattle.model.specs.Values.{rack};
-ghost use Rattle.model.specs.Image.{is-image};
+ghost use Rattle.model.specs.Image.{holds-block};
 ghost use Rattle.model.specs.Calls.{writing};
 ghost use Rattle.answers.specs.Answers.{Gives, written-of};
 ghost use Rattle.groups.specs.Slices.{Stored};
@@ -36,7 +35,7 @@ fn put_both(
     bytes: &[usize],
     outbox: &mut [u8],
 ) -> usize
-    requires { ⌜ is-image rack (now block) ≡ true ⌝ }
+    requires { ⌜ holds-block (now block) ≡ true ⌝ }
     requires { ⌜ Surveyed (now block) counts (now marks) (now order) (now starts) (now numbers) (now firsts) ⌝ }
     requires { ⌜ (to ≤ 15) × (getD (now block) 1 0 + counts .sewn < 2 ^ 32) ⌝ }
     requires { ⌜ Sized (transfer-for (now block) to counts (now marks) (now numbers) (now firsts)) sizes × Shares (now block) (now order) (now starts) (counts .darts) (counts .faces) (counts .faces) (now labels) (now bytes) ⌝ }
@@ -74,7 +73,7 @@ pub fn put_messages(
     bytes: &mut [usize],
     outbox: &mut [u8],
 ) -> Written
-    requires { ⌜ is-image rack (now block) ≡ true ⌝ }
+    requires { ⌜ holds-block (now block) ≡ true ⌝ }
     requires { ⌜ Surveyed (now block) counts (now marks) (now order) (now starts) (now numbers) (now firsts) ⌝ }
     requires { ⌜ (to ≤ 15) × (getD (now block) 1 0 + counts .sewn < 2 ^ 32) ⌝ }
     requires { ⌜ (now labels ≡ replicate 16 0) × (now bytes ≡ replicate 16 0) ⌝ }

@@ -9,12 +9,11 @@ use lib.Dec.{leb, ltb, eqb}
 use lib.ListN.{length, getD}
 use borrow.Author.Tests.{eqb-true, leb-true, le-leb, ltb-true, lt-ltb}
 use Rattle.model.specs.Lists.{distinct}
-use Rattle.model.specs.Values.{rack}
+use Rattle.model.specs.Values.{widest, room}
 use Rattle.model.specs.Sound.{coordinates-finite, links-right, thirds-right, points-agree}
-use Rattle.model.specs.Image.{room, words, block-in, is-image, dart-in}
+use Rattle.model.specs.Image.{words-for, block-in, holds-block}
 use Rattle.laws.proofs.Tests.{by-cases, lt-or-ge, and-left, and-right, same-truth}
-use Rattle.laws.proofs.Tables.{length-tab}
-use Rattle.theory.proofs.ImageLaws.{image-is, image-length}
+use Rattle.theory.proofs.ImageLaws.{count-fits}
 use Rattle.columns.specs.Columns.{all-below, count, header-test, third-test, point-test, far-test, codes, Ranged, Places, SewnPlaces, Finite, Links, Darts}
 use Rattle.columns.proofs.Below.{below-at, at-below}
 use Rattle.columns.proofs.Held.{darts}
@@ -111,31 +110,29 @@ all-passed m h z d f differ =
     }
 
 -- A NO
-no-image : (m : List ℕ) → (Passed m → ⊥) → false ≡ is-image rack m
-no-image m h = by-cases (is-image rack m) (λ e. absurd (h (image-passed m e))) (λ e. sym e)
+no-image : (m : List ℕ) → (Passed m → ⊥) → false ≡ holds-block m
+no-image m h = by-cases (holds-block m) (λ e. absurd (h (image-passed m e))) (λ e. sym e)
 
 module _ (m : List ℕ) where
-  pub other-length : (length m ≡ words → ⊥) → false ≡ is-image rack m
-  other-length h = by-cases (is-image rack m)
-      (λ e. absurd (h (ap length (sym (image-is rack m e .0)) ∙ image-length (block-in m) (rw (length-tab (dart-in m) (count m)) (image-passed m e .range .few)))))
-      (λ e. sym e)
+  pub too-short : length m < words-for (count m) → false ≡ holds-block m
+  too-short h = by-cases (holds-block m) (λ e. absurd (omega (arith, count-fits widest m e))) (λ e. sym e)
 
-  pub no-header : {r : Bool} → r ≡ header-test m → r ≡ false → false ≡ is-image rack m
+  pub no-header : {r : Bool} → r ≡ header-test m → r ≡ false → false ≡ holds-block m
   no-header er e = no-image m (λ a. false≢true (sym e ∙ er ∙ header-yes m (a .range)))
 
-  pub no-zeros : {r : Bool} → (r ≡ true) ↔ ZerosFrom m (8 + count m * 8) → r ≡ false → false ≡ is-image rack m
+  pub no-zeros : {r : Bool} → (r ≡ true) ↔ ZerosFrom m (8 + count m * 8) → r ≡ false → false ≡ holds-block m
   no-zeros z e = no-image m (λ a. false≢true (sym e ∙ z .1 (λ i l u. a .range .rest i l)))
 
-  pub no-darts : {r : Bool} → (r ≡ true) ↔ Darts m (count m) → r ≡ false → false ≡ is-image rack m
+  pub no-darts : {r : Bool} → (r ≡ true) ↔ Darts m (count m) → r ≡ false → false ≡ holds-block m
   no-darts d e = no-image m (λ a. false≢true (sym e ∙ d .1 (record { each = λ p h. dart-yes m (count m) p (dart-from m a p h); apart = a .apart })))
 
-  pub no-far : {r : Bool} → r ≡ all-below (far-test m) (count m) → r ≡ false → false ≡ is-image rack m
+  pub no-far : {r : Bool} → r ≡ all-below (far-test m) (count m) → r ≡ false → false ≡ holds-block m
   no-far er e = no-image m (λ a. false≢true (sym e ∙ er ∙ at-below (far-test m) (count m) (λ p h. far-yes m p (far-from m (count m) p (a .links p h) (a .thirds p h) (a .points p h)))))
 
   -- THE LAST: labels
-  pub labels-last : length m ≡ words → {h z d f r : Bool} → h ≡ header-test m → h ≡ true → (z ≡ true) ↔ ZerosFrom m (8 + count m * 8) → z ≡ true → (d ≡ true) ↔ Darts m (count m) → d ≡ true
-      → f ≡ all-below (far-test m) (count m) → f ≡ true → r ≡ distinct (codes m (count m)) → r ≡ is-image rack m
-  labels-last len eh yh ez yz ed yd ef yf er = er ∙ same-truth (distinct (codes m (count m))) (is-image rack m)
+  pub labels-last : words-for (count m) ≤ length m → {h z d f r : Bool} → h ≡ header-test m → h ≡ true → (z ≡ true) ↔ ZerosFrom m (8 + count m * 8) → z ≡ true → (d ≡ true) ↔ Darts m (count m) → d ≡ true
+      → f ≡ all-below (far-test m) (count m) → f ≡ true → r ≡ distinct (codes m (count m)) → r ≡ holds-block m
+  labels-last len eh yh ez yz ed yd ef yf er = er ∙ same-truth (distinct (codes m (count m))) (holds-block m)
       (λ e. passed-image m len (all-passed m (header-says m (sym eh ∙ yh)) (ez .0 yz) (ed .0 yd) (sym ef ∙ yf) e))
       (λ e. image-passed m e .differ)
 

@@ -1,9 +1,9 @@
 // The tests of the dart at place p among n: a few words are read, and nothing is kept.
 ghost use mathlib.Core.Path.{_≡_};
-ghost use Prim.Native.Nat.{_≤_, _<_};
+ghost use Prim.Native.Nat.{_+_, _≤_, _<_};
 ghost use lib.ListN.{length};
-ghost use Rattle.model.specs.Values.{finite};
-ghost use Rattle.model.specs.Image.{room, words, column, dart-in};
+ghost use Rattle.model.specs.Values.{finite, room};
+ghost use Rattle.model.specs.Image.{words-for, column, dart-in};
 ghost use Rattle.memory.specs.Point.{FiniteAt};
 ghost use Rattle.columns.specs.Columns.{Places, SewnPlaces, Finite, Darts, place-test, critical-test, kind-test, label-test, link-test, sewn-test, third-test, same-at, point-test, far-test};
 use memory::label;
@@ -13,7 +13,7 @@ use memory::record::Place;
 
 // 4: a finite point.
 pub fn finite_at(block: &[u64], p: usize) -> bool
-    requires { ⌜ (p < room) × (length (now block) ≡ words) ⌝ }
+    requires { ⌜ (p < room) × (words-for (p + 1) ≤ length (now block)) ⌝ }
     ensures { λ r. ⌜ r ≡ finite (dart-in (now (block .entry)) p .point) ⌝ }
 {
     let x = point::finite_word(record::field(block, Place(p), 5));
@@ -24,7 +24,7 @@ pub fn finite_at(block: &[u64], p: usize) -> bool
 
 // 5: next and opposite held; opposite another dart, and back again.
 pub fn link_at(block: &[u64], n: usize, p: usize) -> bool
-    requires { ⌜ (p < n) × (n ≤ room) × (length (now block) ≡ words) ⌝ }
+    requires { ⌜ (p < n) × (n ≤ room) × (words-for n ≤ length (now block)) ⌝ }
     ensures { λ r. ⌜ r ≡ link-test (now (block .entry)) n p ⌝ }
 {
     let a = record::field(block, Place(p), 1);
@@ -38,7 +38,7 @@ pub fn link_at(block: &[u64], n: usize, p: usize) -> bool
 
 // 6: sewn to the dart at l and back, and next to the one at z, along.
 fn sewn_at(block: &[u64], p: usize, l: usize, z: usize) -> bool
-    requires { ⌜ (l < room) × (z < room) × (length (now block) ≡ words) ⌝ }
+    requires { ⌜ (words-for (l + 1) ≤ length (now block)) × (words-for (z + 1) ≤ length (now block)) × (l < room) ⌝ }
     ensures { λ r. ⌜ r ≡ sewn-test (now (block .entry)) p l z ⌝ }
 {
     let k = record::field(block, Place(l), 3);
@@ -49,7 +49,7 @@ fn sewn_at(block: &[u64], p: usize, l: usize, z: usize) -> bool
 
 // 6: the kind of the next dart; where it is sewn, sewn right.
 pub fn third_at(block: &[u64], n: usize, p: usize) -> bool
-    requires { ⌜ (p < n) × (n ≤ room) × (length (now block) ≡ words) × (column (now block) 1 p < n) ⌝ }
+    requires { ⌜ (p < n) × (n ≤ room) × (words-for n ≤ length (now block)) × (column (now block) 1 p < n) ⌝ }
     ensures { λ r. ⌜ r ≡ third-test (now (block .entry)) n p ⌝ }
 {
     let a = record::field(block, Place(p), 1) as usize;
@@ -80,7 +80,7 @@ pub fn label_right(me: u64, counter: u64, k: u64, a: u64) -> bool
 
 // 8: the points at p and v are one.
 fn same_at(block: &[u64], p: usize, v: usize) -> bool
-    requires { ⌜ (p < room) × (v < room) × (length (now block) ≡ words) × FiniteAt (now block) p × FiniteAt (now block) v ⌝ }
+    requires { ⌜ (words-for (p + 1) ≤ length (now block)) × (words-for (v + 1) ≤ length (now block)) × (p < room) × FiniteAt (now block) p × FiniteAt (now block) v ⌝ }
     ensures { λ r. ⌜ r ≡ same-at (now (block .entry)) p v ⌝ }
 {
     let here = point::point_at(block, Place(p));
@@ -90,7 +90,7 @@ fn same_at(block: &[u64], p: usize, v: usize) -> bool
 
 // 8: the points of the dart, of next of opposite, and of next of the dart that it is sewn to.
 pub fn points_at(block: &[u64], n: usize, p: usize) -> bool
-    requires { ⌜ (p < n) × (n ≤ room) × (length (now block) ≡ words) × Places (now block) n × SewnPlaces (now block) n × Finite (now block) n ⌝ }
+    requires { ⌜ (p < n) × (n ≤ room) × (words-for n ≤ length (now block)) × Places (now block) n × SewnPlaces (now block) n × Finite (now block) n ⌝ }
     ensures { λ r. ⌜ r ≡ point-test (now (block .entry)) p ⌝ }
 {
     let b = record::field(block, Place(p), 2) as usize;
@@ -109,7 +109,7 @@ pub fn points_at(block: &[u64], n: usize, p: usize) -> bool
 
 // 2, by itself: serial above the last one, point finite, next and opposite held.
 pub fn place_at(block: &[u64], n: usize, p: usize, last: u64) -> bool
-    requires { ⌜ (p < n) × (n ≤ room) × (length (now block) ≡ words) ⌝ }
+    requires { ⌜ (p < n) × (n ≤ room) × (words-for n ≤ length (now block)) ⌝ }
     ensures { λ r. ⌜ r ≡ place-test (now (block .entry)) n last p ⌝ }
 {
     let s = record::field(block, Place(p), 0);
@@ -144,7 +144,7 @@ pub fn kind_right(me: u64, counter: u64, n: usize, k: u64, a: u64) -> bool
 
 // 2, with the darts that it links to.
 pub fn far_at(block: &[u64], n: usize, p: usize) -> bool
-    requires { ⌜ (p < n) × (n ≤ room) × (length (now block) ≡ words) × Darts (now block) n ⌝ }
+    requires { ⌜ (p < n) × (n ≤ room) × (words-for n ≤ length (now block)) × Darts (now block) n ⌝ }
     ensures { λ r. ⌜ r ≡ far-test (now (block .entry)) p ⌝ }
 {
     let a = record::field(block, Place(p), 1) as usize;

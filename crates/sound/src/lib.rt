@@ -7,15 +7,16 @@ ghost use mathlib.Core.Bool.{true};
 ghost use mathlib.Core.Logic.{_↔_};
 ghost use Prim.Native.Nat.{ℕ, _≤_, _<_};
 ghost use lib.ListN.{length, getD, replicate, take};
-ghost use Rattle.model.specs.Values.{rack};
-ghost use Rattle.model.specs.Image.{room, words, is-image};
+ghost use Rattle.model.specs.Values.{room};
+ghost use Rattle.model.specs.Image.{words-for, holds-block};
 ghost use Rattle.columns.specs.Columns.{all-below, codes, header-test, far-test, Darts};
+use memory::header::Header;
 use memory::record;
 use memory::record::Place;
 
 // Number, counter and dart count in range, five zeros.
 fn header_right(block: &[u64]) -> bool
-    requires { ⌜ length (now block) ≡ words ⌝ }
+    requires { ⌜ 8 ≤ length (now block) ⌝ }
     ensures { λ r. ⌜ r ≡ header-test (now (block .entry)) ⌝ }
 {
     (block[0] < 16)
@@ -45,7 +46,7 @@ fn zeros(block: &[u64], a: usize) -> bool
 
 // Whether each dart by itself is right, and no two have the same next.
 fn darts_right(block: &[u64], n: usize, seen: &mut [u8; 4096]) -> bool
-    requires { ⌜ (n ≤ room) × (length (now block) ≡ words) × (now seen ≡ replicate 4096 0) ⌝ }
+    requires { ⌜ (n ≤ room) × (words-for n ≤ length (now block)) × (now seen ≡ replicate 4096 0) ⌝ }
     ensures { λ r. ⌜ (r ≡ true) ↔ Darts (now (block .entry)) n ⌝ }
 {
     let me = block[0];
@@ -81,7 +82,7 @@ struct Far {
 
 // Looks at each dart and at those that it links to, and keeps the labels of the critical ones in order.
 fn far_right(block: &[u64], n: usize, keys: &mut [u64; 4096]) -> Far
-    requires { ⌜ (n ≤ room) × (length (now block) ≡ words) × Darts (now block) n × (length (now keys) ≡ 4096) ⌝ }
+    requires { ⌜ (n ≤ room) × (words-for n ≤ length (now block)) × Darts (now block) n × (length (now keys) ≡ 4096) ⌝ }
     ensures right { λ r. ⌜ r .right ≡ all-below (far-test (now (block .entry))) n ⌝ }
     ensures labels { λ r. ⌜ (r .right ≡ true → (r .critical ≤ n) × (take (r .critical) (now (keys .exit)) ≡ codes (now (block .entry)) n)) × (length (now (keys .exit)) ≡ 4096) ⌝ }
 {
@@ -106,15 +107,18 @@ fn far_right(block: &[u64], n: usize, keys: &mut [u64; 4096]) -> Far
 
 // 2: is the memory a sound block's image?
 pub fn is_sound(block: &[u64]) -> bool
-    ensures { λ r. ⌜ r ≡ is-image rack (now (block .entry)) ⌝ }
+    ensures { λ r. ⌜ r ≡ holds-block (now (block .entry)) ⌝ }
 {
-    if block.len() != 32776 {
+    if block.len() < Header::SIZE {
         return false;
     }
     if !header_right(block) {
         return false;
     }
     let n = block[2] as usize;
+    if block.len() < 8 + n * 8 {
+        return false;
+    }
     if !zeros(block, 8 + n * 8) {
         return false;
     }

@@ -2,11 +2,12 @@
 ghost use mathlib.Core.Path.{_≡_};
 ghost use mathlib.Core.Bool.{true};
 ghost use mathlib.Core.Logic.{_↔_};
-ghost use Prim.Native.Nat.{_≤_, _<_};
+ghost use Prim.Native.Nat.{_+_, _≤_, _<_};
 ghost use lib.ListN.{length, take, replicate};
 ghost use Rattle.model.specs.Lists.{distinct};
 ghost use Rattle.model.specs.Sound.{coordinates-finite, links-right as right-links, thirds-right as right-thirds, labels-right as right-labels, points-agree as agreeing-points};
-ghost use Rattle.model.specs.Image.{room, words, block-in};
+ghost use Rattle.model.specs.Image.{words-for, block-in};
+ghost use Rattle.model.specs.Values.{room};
 ghost use Rattle.columns.specs.Columns.{all-below, count, own-test, codes, Ranged, Links};
 ghost use Rattle.sound.specs.Kept.{Kept};
 use crate::dart;
@@ -15,7 +16,7 @@ use memory::record::Place;
 
 // The label of the dart at place i, if it is critical, goes after the first c keys. Returns how many there are then.
 pub fn put_label(block: &[u64], i: usize, keys: &mut [u64; 4096], c: usize) -> usize
-    requires { ⌜ (i < room) × (length (now block) ≡ words) × (length (now keys) ≡ 4096) × (c < 4096) ⌝ }
+    requires { ⌜ (i < room) × (words-for (i + 1) ≤ length (now block)) × (length (now keys) ≡ 4096) × (c < 4096) ⌝ }
     ensures { λ r. ⌜ Kept (now (block .entry)) i (now (keys .entry)) c (now (keys .exit)) r ⌝ }
 {
     let k = record::field(block, Place(i), 3);
@@ -28,7 +29,7 @@ pub fn put_label(block: &[u64], i: usize, keys: &mut [u64; 4096], c: usize) -> u
 
 // The labels of the critical darts, in order; how many there are.
 fn gather(block: &[u64], n: usize, keys: &mut [u64; 4096]) -> usize
-    requires { ⌜ (n ≤ room) × (length (now block) ≡ words) × (length (now keys) ≡ 4096) ⌝ }
+    requires { ⌜ (n ≤ room) × (words-for n ≤ length (now block)) × (length (now keys) ≡ 4096) ⌝ }
     ensures { λ r. ⌜ (r ≤ n) × (length (now (keys .exit)) ≡ 4096) × (take r (now (keys .exit)) ≡ codes (now (block .entry)) n) ⌝ }
 {
     // The first c keys are the labels of the darts below i.
@@ -68,7 +69,7 @@ pub fn apart(keys: &mut [u64], c: usize) -> bool
 
 // 7: whether no label stands twice.
 fn labels_differ(block: &[u64], n: usize) -> bool
-    requires { ⌜ (n ≤ room) × (length (now block) ≡ words) ⌝ }
+    requires { ⌜ (n ≤ room) × (words-for n ≤ length (now block)) ⌝ }
     ensures { λ r. ⌜ r ≡ distinct (codes (now (block .entry)) n) ⌝ }
 {
     let mut keys = [0u64; 4096];
@@ -78,7 +79,7 @@ fn labels_differ(block: &[u64], n: usize) -> bool
 
 // 4: are the coordinates finite?
 pub fn coordinates_finite(block: &[u64]) -> bool
-    requires { ⌜ (length (now block) ≡ words) × (count (now block) ≤ room) ⌝ }
+    requires { ⌜ (words-for (count (now block)) ≤ length (now block)) × (count (now block) ≤ room) ⌝ }
     ensures { λ r. ⌜ r ≡ coordinates-finite (block-in (now (block .entry)) .darts) ⌝ }
 {
     let n = block[2] as usize;
@@ -95,7 +96,7 @@ pub fn coordinates_finite(block: &[u64]) -> bool
 
 // The test of links, with a mark for each next.
 fn links_pass(block: &[u64], n: usize, seen: &mut [u8; 4096]) -> bool
-    requires { ⌜ (n ≤ room) × (length (now block) ≡ words) × (now seen ≡ replicate 4096 0) ⌝ }
+    requires { ⌜ (n ≤ room) × (words-for n ≤ length (now block)) × (now seen ≡ replicate 4096 0) ⌝ }
     ensures { λ r. ⌜ (r ≡ true) ↔ Links (now (block .entry)) n ⌝ }
 {
     // The links below i are right, and the nexts, marked in `seen`, differ.
@@ -116,7 +117,7 @@ fn links_pass(block: &[u64], n: usize, seen: &mut [u8; 4096]) -> bool
 
 // 5: are next and opposite right?
 pub fn links_right(block: &[u64]) -> bool
-    requires { ⌜ (length (now block) ≡ words) × Ranged (now block) ⌝ }
+    requires { ⌜ (words-for (count (now block)) ≤ length (now block)) × Ranged (now block) ⌝ }
     ensures { λ r. ⌜ r ≡ right-links (block-in (now (block .entry)) .darts) ⌝ }
 {
     let n = block[2] as usize;
@@ -126,7 +127,7 @@ pub fn links_right(block: &[u64]) -> bool
 
 // 6: are the third links right, and each face of one kind?
 pub fn thirds_right(block: &[u64]) -> bool
-    requires { ⌜ (length (now block) ≡ words) × Ranged (now block) × (right-links (block-in (now block) .darts) ≡ true) ⌝ }
+    requires { ⌜ (words-for (count (now block)) ≤ length (now block)) × Ranged (now block) × (right-links (block-in (now block) .darts) ≡ true) ⌝ }
     ensures { λ r. ⌜ r ≡ right-thirds (block-in (now (block .entry)) .darts) ⌝ }
 {
     let n = block[2] as usize;
@@ -143,7 +144,7 @@ pub fn thirds_right(block: &[u64]) -> bool
 
 // The test of labels one by one.
 fn own_labels(block: &[u64], n: usize) -> bool
-    requires { ⌜ (n ≤ room) × (length (now block) ≡ words) ⌝ }
+    requires { ⌜ (n ≤ room) × (words-for n ≤ length (now block)) ⌝ }
     ensures { λ r. ⌜ r ≡ all-below (own-test (now (block .entry))) n ⌝ }
 {
     let me = block[0];
@@ -163,7 +164,7 @@ fn own_labels(block: &[u64], n: usize) -> bool
 
 // 7: are labels, other blocks and the counter right?
 pub fn labels_right(block: &[u64]) -> bool
-    requires { ⌜ (length (now block) ≡ words) × Ranged (now block) ⌝ }
+    requires { ⌜ (words-for (count (now block)) ≤ length (now block)) × Ranged (now block) ⌝ }
     ensures { λ r. ⌜ r ≡ right-labels (block-in (now (block .entry))) ⌝ }
 {
     let n = block[2] as usize;
@@ -175,7 +176,7 @@ pub fn labels_right(block: &[u64]) -> bool
 
 // 8: do the points agree?
 pub fn points_agree(block: &[u64]) -> bool
-    requires { ⌜ (length (now block) ≡ words) × Ranged (now block) × (coordinates-finite (block-in (now block) .darts) ≡ true) × (right-links (block-in (now block) .darts) ≡ true) × (right-thirds (block-in (now block) .darts) ≡ true) ⌝ }
+    requires { ⌜ (words-for (count (now block)) ≤ length (now block)) × Ranged (now block) × (coordinates-finite (block-in (now block) .darts) ≡ true) × (right-links (block-in (now block) .darts) ≡ true) × (right-thirds (block-in (now block) .darts) ≡ true) ⌝ }
     ensures { λ r. ⌜ r ≡ agreeing-points (block-in (now (block .entry)) .darts) ⌝ }
 {
     let n = block[2] as usize;

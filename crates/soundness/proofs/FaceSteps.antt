@@ -13,8 +13,7 @@ use borrow.Author.Tests.{eqb-true, eqb-false, ltb-true, ltb-false}
 use Rattle.model.specs.Lists.{zip, mem, distinct, find}
 use Rattle.model.specs.Values.{Point, Label, Third, free, sewn, critical, code, label-key, is-free}
 use Rattle.model.specs.Sound.{third-in-range, label-right}
-use Rattle.model.specs.Departure.{Link, third-or}
-use Rattle.model.specs.Arrival.{sew-both}
+use Rattle.model.specs.Links.{Link, third-or, sew-both}
 use Rattle.laws.proofs.Members.{In, distinct-not}
 use Rattle.laws.proofs.Orbits.{iter, iter-out, path, in-path}
 use Rattle.laws.proofs.Tests.{by-cases, and-right}

@@ -14,8 +14,8 @@ use Rattle.model.specs.Values.{Point, Label, Third, free, sewn, critical, Dart,
 use Rattle.model.specs.Cells.{around, cycle, dart-at, next-in, opposite-in, previous-in, third-at, serials, labelled}
 use Rattle.model.specs.Sound.{third-in-range, label-right, sound-block}
 use Rattle.model.specs.Messages.{FaceDart, Part2, Transfer}
-use Rattle.model.specs.Departure.{Link, third-or}
-use Rattle.model.specs.Arrival.{Side, sides-of, sides, new-darts, face-serials, face-from, sew-both, part2-links, points-meet, part2-right, insert-all}
+use Rattle.model.specs.Links.{Link, third-or, sew-both}
+use Rattle.model.specs.Arrival.{Side, sides-of, sides, new-darts, face-serials, face-from, part2-links, points-meet, part2-right, insert-all}
 use Rattle.laws.proofs.Faces.{face-self, face-trans, face-sym, face-distinct}
 use Rattle.laws.proofs.Members.{In, in-eq, in-append-left, in-append-right, distinct-left, distinct-right, distinct-apart}
 use Rattle.laws.proofs.Orbits.{iter, path, in-path, iter-stays, around-path, in-cycle, path-length}

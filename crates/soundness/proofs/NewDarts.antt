@@ -11,7 +11,7 @@ use Rattle.model.specs.Lists.{all, any, keep, zip, distinct}
 use Rattle.model.specs.Values.{Point, free, Dart, no-point, finite-bits, finite, serial-bound}
 use Rattle.model.specs.Cells.{dart-at, next-in, opposite-in, third-at, serials}
 use Rattle.model.specs.Messages.{FaceDart, Transfer}
-use Rattle.model.specs.Departure.{same-pair, pairs-once}
+use Rattle.model.specs.Links.{same-pair, pairs-once}
 use Rattle.model.specs.Arrival.{Side, sides-of, sides, reverses, first-serial, opposite-of, new-dart, new-darts, face-serials, pairs-right}
 use Rattle.laws.proofs.Members.{In, in-eq, map-map}
 use Rattle.laws.proofs.Orbits.{iter, path}

@@ -12,7 +12,7 @@ use Rattle.model.specs.Values.{Label, Third, critical, Dart, Block, Limits, cod
 use Rattle.model.specs.Cells.{next-in, third-at, serials, labels}
 use Rattle.model.specs.Sound.{third-in-range, label-right, labels-right, sound-block}
 use Rattle.model.specs.Messages.{Part2, Part3, Part4, Transfer, transfer, a-transfer}
-use Rattle.model.specs.Departure.{Link, relink, label-links}
+use Rattle.model.specs.Links.{Link, relink, label-links}
 use Rattle.model.specs.Arrival.{new-darts, face-from, part2-links, part3-links, part4-links, critical-links, transfer-links, insert-all, received, part2-apart, label-new, labels-new, receive-checks}
 use Rattle.laws.proofs.Members.{In, in-append-left, in-append-right, distinct-append, distinct-right}
 use Rattle.laws.proofs.Tests.{and-intro, and-left, and-right, not-equal}

@@ -5,23 +5,23 @@ use mathlib.Core.Bool.{Bool, true, false, true≢false, cond, not, _&&_, _||_}
 use mathlib.Core.List.{List, [], _∷_, _++_, map}
 use mathlib.Core.Option.{Option, none, some}
 use Prim.Native.Nat.{ℕ, suc, _≤_}
-use native.Mathlib.Omega.{arith}
 use lib.Dec.{leb, ltb, eqb}
-use lib.ListN.{length, length-map}
+use lib.ListN.{length}
 use borrow.Author.Tests.{eqb-true, eqb-false, eq-eqb, le-leb, not-true}
-use Rattle.model.specs.Lists.{all, any, keep, mem, concat-map, find}
+use Rattle.model.specs.Lists.{all, any, mem, concat-map, find}
 use Rattle.model.specs.Values.{Label, Third, free, sewn, critical, Dart, Block, Limits, serial-bound, no-dart, or-no-dart, code, label-key, is-free, is-critical-with, with-other}
-use Rattle.model.specs.Cells.{cycle, serials, dart-at, next-in, third-at, previous-in, least-label, labelled}
+use Rattle.model.specs.Cells.{cycle, serials, dart-at, next-in, third-at, least-label, labelled}
 use Rattle.model.specs.Sound.{third-in-range, dart-in-range, sound-block}
 use Rattle.model.specs.Messages.{Update}
-use Rattle.model.specs.Departure.{Link, third-or, relink}
+use Rattle.model.specs.Links.{Link, third-or, relink}
 use Rattle.model.specs.Arrival.{face-with, names-face, update-right, update-links, redirected}
 use Rattle.laws.proofs.Faces.{face, face-trans, face-sym}
 use Rattle.laws.proofs.Members.{In, keep-true}
 use Rattle.laws.proofs.Orbits.{in-cycle, cycle-closed}
 use Rattle.laws.proofs.Tests.{by-cases, and-intro, and-left, and-right, same-truth}
 use Rattle.theory.proofs.BlockLaws.{found-in}
-use Rattle.soundness.proofs.Pointwise.{CriticalRight, Right, right-of, links-of, right-sound}
+use Rattle.theory.proofs.Leaving.{next-one, few}
+use Rattle.soundness.proofs.Pointwise.{CriticalRight, Right, right-of, right-sound}
 use Rattle.soundness.proofs.Rethird.{left, T, Stays, Fits, third-left, next-left, right-left}
 
 -- ANOTHER BLOCK on a third link, or not
@@ -107,21 +107,21 @@ module _ (lim : Limits) (b : Block) (fits : lim .block-darts ≤ 4096) (sound : 
   abbrev R : Right lim (b .number) (b .counter) ds
   R = right-of lim b sound
 
-  pub next-one : (x y : ℕ) → In x v → In y v → next-in ds x ≡ next-in ds y → x ≡ y
-  next-one x y hx hy e = let L = links-of lim b sound in sym (L .previous-next x hx) ∙ ap (previous-in ds) e ∙ L .previous-next y hy
-
-  pub few : length v ≤ 4096
-  few = omega (arith, length-map ds (λ d. d .serial), R .few-darts)
-
   -- x is on a face exactly if next x is
   pub face-next : (e x : ℕ) → In e v → In x v → mem (next-in ds x) (cycle (next-in ds) e) ≡ mem x (cycle (next-in ds) e)
   unfolding cycle
   face-next e x he hx = same-truth _ _
-      (λ k. face-trans (next-in ds) v (R .next-held) next-one few e (next-in ds x) x he k (face-sym (next-in ds) v (R .next-held) next-one few x (next-in ds x) hx on))
-      (λ k. cycle-closed (next-in ds) v (R .next-held) next-one 4096 e x few he k)
+      (λ k. face-trans (next-in ds) v (R .next-held) one small e (next-in ds x) x he k (face-sym (next-in ds) v (R .next-held) one small x (next-in ds x) hx on))
+      (λ k. cycle-closed (next-in ds) v (R .next-held) one 4096 e x small he k)
     where
-      on : In (next-in ds x) (face (next-in ds) v (R .next-held) next-one few x)
-      on = in-cycle (next-in ds) v (R .next-held) next-one 4096 x 1 few hx
+      one : (x y : ℕ) → In x v → In y v → next-in ds x ≡ next-in ds y → x ≡ y
+      one = next-one lim b fits sound
+
+      small : length v ≤ 4096
+      small = few lim b fits sound
+
+      on : In (next-in ds x) (face (next-in ds) v (R .next-held) one small x)
+      on = in-cycle (next-in ds) v (R .next-held) one 4096 x 1 small hx
 
   -- a label that is critical with some block is held
   pub labelled-held : (o : ℕ) (l : Label) → is-critical-with o (labelled l ds .third) ≡ true → In (labelled l ds .serial) v

@@ -8,24 +8,25 @@ use Prim.Native.Nat.{ℕ, _+_, _^_, _<_, _≤_}
 use native.Mathlib.Omega.{arith}
 use lib.Dec.{leb, ltb, eqb}
 use lib.ListN.{length}
-use borrow.Author.Tests.{eqb-false, eq-eqb, le-leb, lt-ltb, leb-true, ltb-true, not-true}
+use borrow.Author.Tests.{eq-eqb, le-leb, lt-ltb, leb-true, ltb-true, not-true}
 use Rattle.model.specs.Lists.{keep, concat, mem, distinct, find, ascending, first-no}
 use Rattle.model.specs.Values.{Label, Third, free, sewn, critical, Dart, Block, Limits, serial-bound, code, is-free, is-critical-with, partner}
-use Rattle.model.specs.Cells.{around, cycle, volume, faces, start-of, serials, dart-at, next-in, opposite-in, third-at, volume-in, faces-in}
+use Rattle.model.specs.Cells.{around, cycle, faces, start-of, serials, dart-at, next-in, opposite-in, third-at, volume-in, faces-in}
 use Rattle.model.specs.Sound.{third-in-range, dart-in-range, sound-block}
 use Rattle.model.specs.Image.{label-in}
-use Rattle.model.specs.Departure.{is-sewn-out-of, sewn-faces, departure-checks, Link, third-or, relink, label-faces, released}
+use Rattle.model.specs.Departure.{is-sewn-out-of, sewn-faces, departure-checks, released}
+use Rattle.model.specs.Links.{Link, third-or, relink, label-faces}
 use Rattle.laws.proofs.Faces.{face, face-sym, along-face}
 use Rattle.laws.proofs.KeptFaces.{kept-distinct, kept-few, kept-in, in-kept}
-use Rattle.laws.proofs.Members.{In, in-keep, keep-in, keep-le, keep-ascending, in-eq}
+use Rattle.laws.proofs.Members.{In, in-eq}
 use Rattle.laws.proofs.Orbits.{in-cycle}
-use Rattle.laws.proofs.Tests.{by-cases, and-intro, and-left, and-right, yes-first}
-use Rattle.laws.proofs.Volumes.{Volume, volume-is}
+use Rattle.laws.proofs.Tests.{by-cases, and-intro, and-left, and-right}
 use Rattle.theory.proofs.ImageLaws.{label-back}
+use Rattle.theory.proofs.Leaving as leaving
+use Rattle.theory.proofs.Leaving.{next-one, few}
 use Rattle.agreement.proofs.Links.{Gives, relink-gives, faces-agree, faces-reach}
 use Rattle.agreement.proofs.NewLabels.{fresh-of, fresh-maker, fresh-low, fresh-high, fresh-position, fresh-one}
 use Rattle.soundness.proofs.Pointwise.{CriticalRight, Right, right-of, right-sound, serial-held, by-third}
-use Rattle.soundness.proofs.RedirectSound.{next-one, few}
 use Rattle.soundness.proofs.Rethird.{left, T, Stays, in-stays, Fits, third-left, next-left, right-left}
 
 -- A THIRD LINK that is cut where it led to the darts m, and stays elsewhere
@@ -106,59 +107,27 @@ module _ (lim : Limits) (b : Block) (fits : lim .block-darts ≤ 4096) (sound : 
   abbrev fs : List (List ℕ)
   fs = sewn-faces ds s
 
-  -- THE QUESTIONS
-  pub record Asked : Type 0 where
-    pub small : j ≤ 15
-    pub elsewhere : j ≢ n
-    pub here : In s all-serials
-    pub few-moved : length v ≤ lim .volume-darts
-    pub counter : c + length fs < 2 ^ 32
-
-  pub asked : Asked
-  unfolding departure-checks
-  asked =
-      let q9 = yes-first 9 (leb j 15 && not (eqb j n)) _ (λ z. omega arith) asks in
-      let q10 = yes-first 10 (mem s all-serials) _ (λ z. omega arith) (q9 .1) in
-      let q11 = yes-first 11 (leb (length v) (lim .volume-darts)) _ (λ z. omega arith) (q10 .1) in
-      let q12 = yes-first 12 _ _ (λ z. omega arith) (q11 .1) in
-      let q13 = yes-first 13 _ _ (λ z. omega arith) (q12 .1) in
-      let q14 = yes-first 14 (ltb (c + length fs) (2 ^ 32)) _ (λ z. omega arith) (q13 .1) in
-      record {
-        small = leb-true j 15 (and-left (leb j 15) _ (q9 .0));
-        elsewhere = eqb-false j n (not-true (eqb j n) (and-right (leb j 15) _ (q9 .0)));
-        here = q10 .0;
-        few-moved = leb-true (length v) (lim .volume-darts) (q11 .0);
-        counter = ltb-true (c + length fs) (2 ^ 32) (q14 .0);
-      }
-
   -- THE VOLUME
-  reached : Volume (next-in ds) (opposite-in ds) s (volume (next-in ds) (opposite-in ds) s)
-  reached = volume-is (next-in ds) (opposite-in ds) all-serials (R .next-held) (R .opposite-held) (few lim b fits sound) s (asked .here)
+  asked : leaving.Asked lim b fits sound j s asks
+  asked = leaving.asked lim b fits sound j s asks
 
   in-block : (x : ℕ) → In x v → In x all-serials
-  unfolding volume-in
-  in-block x h = keep-in (λ y. mem y (volume (next-in ds) (opposite-in ds) s)) all-serials x h .0
+  in-block = leaving.in-block lim b fits sound j s asks
 
-  pub closed-next : (x : ℕ) → In x v → In (next-in ds x) v
-  unfolding volume-in
-  closed-next x h = let a = keep-in (λ y. mem y (volume (next-in ds) (opposite-in ds) s)) all-serials x h in
-      in-keep (λ y. mem y (volume (next-in ds) (opposite-in ds) s)) (next-in ds x) all-serials (R .next-held x (a .0)) (reached .closed-f x (a .1))
+  closed-next : (x : ℕ) → In x v → In (next-in ds x) v
+  closed-next = leaving.closed-next lim b fits sound j s asks
 
   closed-opposite : (x : ℕ) → In x v → In (opposite-in ds x) v
-  unfolding volume-in
-  closed-opposite x h = let a = keep-in (λ y. mem y (volume (next-in ds) (opposite-in ds) s)) all-serials x h in
-      in-keep (λ y. mem y (volume (next-in ds) (opposite-in ds) s)) (opposite-in ds x) all-serials (R .opposite-held x (a .0)) (reached .closed-g x (a .1))
+  closed-opposite = leaving.closed-opposite lim b fits sound j s asks
 
-  pub in-order : ascending v ≡ true
-  unfolding volume-in
-  in-order = keep-ascending (λ y. mem y (volume (next-in ds) (opposite-in ds) s)) all-serials (R .in-order)
+  in-order : ascending v ≡ true
+  in-order = leaving.in-order lim b fits sound j s asks
 
-  pub v-few : length v ≤ 4096
-  unfolding volume-in
-  v-few = omega (arith, keep-le (λ y. mem y (volume (next-in ds) (opposite-in ds) s)) all-serials, few lim b fits sound)
+  v-few : length v ≤ 4096
+  v-few = leaving.v-few lim b fits sound j s asks
 
-  pub v-one : (x y : ℕ) → In x v → In y v → next-in ds x ≡ next-in ds y → x ≡ y
-  v-one x y hx hy e = next-one lim b fits sound x y (in-block x hx) (in-block y hy) e
+  v-one : (x y : ℕ) → In x v → In y v → next-in ds x ≡ next-in ds y → x ≡ y
+  v-one = leaving.v-one lim b fits sound j s asks
 
   next-back : (x : ℕ) → In x all-serials → In (next-in ds x) v → In x v
   next-back x h k =

@@ -11,7 +11,7 @@ use Rattle.model.specs.Lists.{find}
 use Rattle.model.specs.Values.{Third, Dart, Block, Limits, or-no-dart}
 use Rattle.model.specs.Cells.{dart-at, next-in, opposite-in, third-at, serials}
 use Rattle.model.specs.Sound.{sound-block}
-use Rattle.model.specs.Departure.{Link, third-or, relink}
+use Rattle.model.specs.Links.{Link, third-or, relink}
 use Rattle.laws.proofs.Members.{In, map-map}
 use Rattle.laws.proofs.Tests.{by-cases, find-map}
 use Rattle.theory.proofs.BlockLaws.{held-found}

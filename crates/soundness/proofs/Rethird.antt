@@ -11,7 +11,7 @@ use Rattle.model.specs.Lists.{keep, find, ascending}
 use Rattle.model.specs.Values.{Label, Third, free, sewn, critical, Dart, Limits, serial-bound, code, finite, or-no-dart, with-third}
 use Rattle.model.specs.Cells.{serials, dart-at, next-in, opposite-in, third-at}
 use Rattle.model.specs.Sound.{third-in-range, dart-in-range}
-use Rattle.model.specs.Departure.{Link, third-or, relink}
+use Rattle.model.specs.Links.{Link, third-or, relink}
 use Rattle.laws.proofs.Members.{In, in-keep, keep-in, keep-le, keep-map, keep-ascending, map-map}
 use Rattle.laws.proofs.Tests.{and-intro, and-left, find-map, find-keep}
 use Rattle.theory.proofs.BlockLaws.{held-found}

@@ -12,7 +12,7 @@ use borrow.Author.Tests.{ltb-true, lt-ltb, le-ltb}
 use Rattle.model.specs.Lists.{all, concat, concat-map, distinct, find}
 use Rattle.model.specs.Cells.{start-of}
 use Rattle.model.specs.Messages.{FaceDart, Transfer, size-all, size-at}
-use Rattle.model.specs.Departure.{Placed, placed}
+use Rattle.model.specs.Links.{Placed, placed}
 use Rattle.model.specs.Arrival.{Side, sides-of, sides, face-serials, placed-faces, face-or, face-from, faces-ordered}
 use Rattle.laws.proofs.Members.{In, in-append-left, in-append-right, distinct-left, distinct-right, distinct-apart, map-append, Each}
 use Rattle.laws.proofs.Tests.{and-left}

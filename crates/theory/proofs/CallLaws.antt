@@ -4,7 +4,7 @@ use mathlib.Core.Logic.{_≢_}
 use mathlib.Core.Bool.{true}
 use mathlib.Core.List.{List, [], _∷_, _++_, append-assoc}
 use mathlib.Core.Option.{Option, none, some}
-use Prim.Native.Nat.{ℕ, _≤_}
+use Prim.Native.Nat.{ℕ}
 use native.Mathlib.Omega.{arith}
 use lib.Dec.{leb, eqb}
 use lib.ListN.{length, drop}
@@ -12,15 +12,15 @@ use borrow.Author.Tests.{eqb-true, eqb-false, eq-eqb, ne-eqb}
 use Rattle.model.specs.Lists.{concat, Check, first-no}
 use Rattle.model.specs.Values.{Block, Limits}
 use Rattle.model.specs.Sound.{sound-block}
-use Rattle.model.specs.Image.{room, words, image, is-image, memory-checks}
+use Rattle.model.specs.Image.{words-of, image, block-in, is-image, memory-checks}
 use Rattle.model.specs.Messages.{message-in, file}
 use Rattle.model.specs.Departure.{departure-checks, messages, released}
 use Rattle.model.specs.Arrival.{receive-checks, received-from, redirect-checks, redirected-from}
 use Rattle.model.specs.Balance.{Oracle, numbered-oracle}
 use Rattle.model.specs.Calls.{Answer, served, refused, number-of, asked, storing, writing, empty, read-file, save-file, send, receive, release, redirect, check-mesh, next-move, next-move-of, next-move-by-number}
 use Rattle.model.specs.Demands.{Unchanged, Demand1}
-use Rattle.laws.proofs.Tests.{by-cases, yes-then}
-use Rattle.theory.proofs.ImageLaws.{parts-of, ranges-of, block-back, is-image-of, image-length}
+use Rattle.laws.proofs.Tests.{by-cases, yes-then, yes-first}
+use Rattle.theory.proofs.ImageLaws.{parts-of, ranges-of, block-back, image-is, is-image-of, image-length}
 
 -- ANSWERS
 module _ {A : Type 0} (qs : List Check) (before : List ℕ) (value : A) (after : List ℕ) where
@@ -63,13 +63,14 @@ served-value qs before value after v e = by-cases (eqb (first-no qs) 0)
     (λ t. absurd (never-served (first-no qs) v (rw t at e)))
 
 -- calls that store a block, and calls that write bytes
-pub storing-serves : (qs : List Check) (m : List ℕ) (b : Block) → first-no qs ≡ 0 → storing qs m b ≡ record { answer = served tt; lent = image b }
-unfolding storing
-storing-serves qs m b e = served-gives qs m tt (image b) e
+module _ (lim : Limits) (qs : List Check) (m : List ℕ) (b : Block) where
+  pub storing-serves : first-no qs ≡ 0 → storing lim qs m b ≡ record { answer = served tt; lent = image (words-of lim) b }
+  unfolding storing
+  storing-serves e = served-gives qs m tt (image (words-of lim) b) e
 
-pub storing-refuses : (qs : List Check) (m : List ℕ) (b : Block) → first-no qs ≢ 0 → storing qs m b ≡ record { answer = refused (first-no qs); lent = m }
-unfolding storing
-storing-refuses qs m b e = refused-gives qs m tt (image b) e
+  pub storing-refuses : first-no qs ≢ 0 → storing lim qs m b ≡ record { answer = refused (first-no qs); lent = m }
+  unfolding storing
+  storing-refuses e = refused-gives qs m tt (image (words-of lim) b) e
 
 abbrev pub with-fifteen : List Check → List ℕ → List ℕ → List Check
 with-fifteen qs out bytes = qs ++ (15, leb (length bytes) (length out)) ∷ []
@@ -105,39 +106,50 @@ demand1 lim lims = record {
   numbered-keeps = λ m n axis low high scratch. numbered-unchanged lims m (numbered-oracle n axis low high) scratch;
 }
 
--- THE MEMORY OF A SOUND BLOCK: 1 and 2 are answered yes
-module _ (lim : Limits) (fits : lim .block-darts ≤ room) (b : Block) (s : sound-block lim b ≡ true) where
-  pub sound-length : length (image b) ≡ words
-  sound-length = let few = ranges-of lim b (parts-of lim b s .ranges) .few-darts in image-length b (omega arith)
+-- ANY MEMORY of which 1 and 2 are answered yes: what is read from it is a sound block
+pub after-memory : (lim : Limits) (m : List ℕ) (qs : List Check) → first-no (memory-checks lim m ++ qs) ≡ 0 → (sound-block lim (block-in m) ≡ true) × (first-no qs ≡ 0)
+unfolding memory-checks
+after-memory lim m qs e =
+    let q1 = yes-first 1 (eqb (length m) (words-of lim)) _ (λ z. omega arith) e in
+    let q2 = yes-first 2 (is-image lim m) _ (λ z. omega arith) (q1 .1) in
+    (image-is lim m (q2 .0) .1, q2 .1)
 
-  pub memory-yes : (qs : List Check) → first-no (memory-checks lim (image b) ++ qs) ≡ first-no qs
+-- THE MEMORY OF A SOUND BLOCK: 1 and 2 are answered yes
+module _ (lim : Limits) (b : Block) (s : sound-block lim b ≡ true) where
+  abbrev memory : List ℕ
+  memory = image (words-of lim) b
+
+  pub sound-length : length memory ≡ words-of lim
+  sound-length = let few = ranges-of lim b (parts-of lim b s .ranges) .few-darts in image-length (words-of lim) b (omega arith)
+
+  pub memory-yes : (qs : List Check) → first-no (memory-checks lim memory ++ qs) ≡ first-no qs
   unfolding memory-checks
-  memory-yes qs = yes-then 1 (eqb (length (image b)) words) _ (eq-eqb (length (image b)) words sound-length) ∙ yes-then 2 (is-image lim (image b)) qs (is-image-of lim b fits s)
+  memory-yes qs = yes-then 1 (eqb (length memory) (words-of lim)) _ (eq-eqb (length memory) (words-of lim) sound-length) ∙ yes-then 2 (is-image lim memory) qs (is-image-of lim (words-of lim) b (omega arith) s)
 
   -- so each call asks the block's own questions and stores or writes what is the block's own
-  asked-same : {A : Type 0} (qs : List Check) (before : List ℕ) (value : A) (after : List ℕ) → asked (memory-checks lim (image b) ++ qs) before value after ≡ asked qs before value after
+  asked-same : {A : Type 0} (qs : List Check) (before : List ℕ) (value : A) (after : List ℕ) → asked (memory-checks lim memory ++ qs) before value after ≡ asked qs before value after
   unfolding asked
   asked-same qs before value after = rw (memory-yes qs)
 
-  pub save-file-is : (out : List ℕ) → save-file lim (image b) out ≡ writing [] out (file lim .put b)
+  pub save-file-is : (out : List ℕ) → save-file lim memory out ≡ writing [] out (file lim .put b)
   unfolding save-file writing
-  save-file-is out = rw (block-back lim b s) (asked-same _ out _ _)
+  save-file-is out = rw (block-back lim (words-of lim) b s) (asked-same _ out _ _)
 
-  pub send-is : (j x : ℕ) (outbox : List ℕ) → send lim (image b) j x outbox ≡ writing (departure-checks (lim .volume-darts) b j x) outbox (concat (messages b j x))
+  pub send-is : (j x : ℕ) (outbox : List ℕ) → send lim memory j x outbox ≡ writing (departure-checks (lim .volume-darts) b j x) outbox (concat (messages b j x))
   unfolding send writing
   send-is j x outbox = rw (
-    block-back lim b s,
-    append-assoc (memory-checks lim (image b)) (departure-checks (lim .volume-darts) b j x) ((15, leb (length (concat (messages b j x))) (length outbox)) ∷ []),
+    block-back lim (words-of lim) b s,
+    append-assoc (memory-checks lim memory) (departure-checks (lim .volume-darts) b j x) ((15, leb (length (concat (messages b j x))) (length outbox)) ∷ []),
   ) (asked-same _ outbox _ _)
 
-  pub receive-is : (message : List ℕ) → receive lim (image b) message ≡ storing (receive-checks lim b (message-in message)) (image b) (received-from b (message-in message))
+  pub receive-is : (message : List ℕ) → receive lim memory message ≡ storing lim (receive-checks lim b (message-in message)) memory (received-from b (message-in message))
   unfolding receive storing
-  receive-is message = rw (block-back lim b s) (asked-same _ (image b) tt _)
+  receive-is message = rw (block-back lim (words-of lim) b s) (asked-same _ memory tt _)
 
-  pub release-is : (j x : ℕ) → release lim (image b) j x ≡ storing (departure-checks (lim .volume-darts) b j x) (image b) (released b j x)
+  pub release-is : (j x : ℕ) → release lim memory j x ≡ storing lim (departure-checks (lim .volume-darts) b j x) memory (released b j x)
   unfolding release storing
-  release-is j x = rw (block-back lim b s) (asked-same _ (image b) tt _)
+  release-is j x = rw (block-back lim (words-of lim) b s) (asked-same _ memory tt _)
 
-  pub redirect-is : (message : List ℕ) → redirect lim (image b) message ≡ storing (redirect-checks b (message-in message)) (image b) (redirected-from b (message-in message))
+  pub redirect-is : (message : List ℕ) → redirect lim memory message ≡ storing lim (redirect-checks b (message-in message)) memory (redirected-from b (message-in message))
   unfolding redirect storing
-  redirect-is message = rw (block-back lim b s) (asked-same _ (image b) tt _)
+  redirect-is message = rw (block-back lim (words-of lim) b s) (asked-same _ memory tt _)

@@ -11,10 +11,9 @@ use lib.ListN.{length, take, drop, length-append}
 use lib.Seq.{take-at, drop-at}
 use Rattle.model.specs.Lists.{concat}
 use Rattle.model.specs.Layouts.{Layout, groups, group-below, group, framed}
-use Rattle.model.specs.Runs.{message-length, cut, messages-in}
+use Rattle.model.specs.DividedRun.{message-length, cut, messages-in}
 use Rattle.laws.proofs.Members.{Each}
 use Rattle.laws.proofs.Tests.{by-cases}
-use Rattle.theory.proofs.DemandTwo.{reads}
 use Rattle.theory.proofs.LayoutLaws.{group-lawful}
 
 -- a number, then as many bytes

@@ -1,4 +1,4 @@
--- Demand 2: what is written reads back to the same block, and every file that is read is written back byte for byte.
+-- Demand 2 of files: what is written reads back to the same block, and every file that is read is written back byte for byte.
 -- Assumes nothing.
 use mathlib.Core.Path.{_≡_, refl, sym, _∙_, ap}
 use mathlib.Core.Bool.{true, true≢false, _&&_}
@@ -9,16 +9,16 @@ use native.Mathlib.Omega.{arith}
 use lib.Dec.{leb, ltb, eqb}
 use lib.ListN.{length, take, drop}
 use lib.Seq.{take-append-seam}
-use borrow.Author.Tests.{eq-eqb, leb-true, le-leb, lt-ltb}
+use borrow.Author.Tests.{eqb-true, eq-eqb, leb-true, le-leb, lt-ltb}
 use Rattle.model.specs.Lists.{all, is-some, first-no}
-use Rattle.model.specs.Values.{Point, Label, Third, free, sewn, critical, Dart, Block, Limits, serial-bound, finite, finite-bits}
+use Rattle.model.specs.Values.{Point, Label, Third, free, sewn, critical, Dart, Block, Limits, serial-bound, finite, finite-bits, room}
 use Rattle.model.specs.Cells.{dart-at, held}
 use Rattle.model.specs.Sound.{third-in-range, dart-in-range, ranges-right, coordinates-finite, link-right, links-right, third-right, thirds-right, labels-right, points-agree, sound-block, block-checks}
-use Rattle.model.specs.Image.{room, words, image, block-in, is-image, memory-checks}
+use Rattle.model.specs.Image.{words-of, image, block-in, is-image, memory-checks}
 use Rattle.model.specs.Layouts.{group, group-below, serial, coordinate, _⊗_, _⊕_, as-type, such-that, at-most, times, counted, whole}
 use Rattle.model.specs.Messages.{kind-of, critical-link, label, point, third-ok, third, a-dart, file}
 use Rattle.model.specs.Calls.{served, Result, storing, writing, or-no-block, read-file, save-file}
-use Rattle.model.specs.Demands.{Bytes, Demand2}
+use Rattle.model.specs.Demands.{Bytes, FilesExact}
 use Rattle.laws.proofs.Tests.{and-left, and-right, and-intro, yes-then, yes-first, no-more}
 use Rattle.theory.proofs.LayoutLaws.{whole-back, whole-only}
 use Rattle.theory.proofs.FileLaws.{file-lawful}
@@ -39,7 +39,7 @@ unfolding at-most such-that group group-below
 small-ok n most h e = let k = leb-true n most e in and-intro (lt-ltb n (2 ^ 32) (omega arith)) e
 
 -- a third link as the file has it
-critical-ok : (o : ℕ) (l : Label) → third-in-range (critical o l) ≡ true → critical-link .ok (o, l) ≡ true
+pub critical-ok : (o : ℕ) (l : Label) → third-in-range (critical o l) ≡ true → critical-link .ok (o, l) ≡ true
 unfolding critical-link label as-type _⊕_ _⊗_ group group-below
 critical-ok o l k =
     let two = leb o 15 && leb (l .maker) 15 in
@@ -180,31 +180,32 @@ parts-checked lim b p = yes-then 4 _ _ (p .finite) ∙ yes-then 5 _ _ (p .links)
 -- BOTH WAYS
 module _ (lim : Limits) (fits : lim .block-darts ≤ room) where
   -- a file of a sound block is read into any memory of the right size
-  pub reads : (b : Block) (into : List ℕ) → sound-block lim b ≡ true → length into ≡ words → read-file lim (file lim .put b) into ≡ record { answer = served tt; lent = image b }
+  pub reads : (b : Block) (into : List ℕ) → sound-block lim b ≡ true → length into ≡ words-of lim → read-file lim (file lim .put b) into ≡ record { answer = served tt; lent = image (words-of lim) b }
   unfolding read-file storing
   reads b into s l =
       rw (whole-back (file lim) (file-lawful lim) b (file-ok lim b fits s))
-      (served-gives _ into tt (image b) (yes-then 1 _ _ (eq-eqb (length into) words l) ∙ yes-then 3 _ _ refl ∙ parts-checked lim b (parts-of lim b s)))
+      (served-gives _ into tt (image (words-of lim) b) (yes-then 1 _ _ (eq-eqb (length into) (words-of lim) l) ∙ yes-then 3 _ _ refl ∙ parts-checked lim b (parts-of lim b s)))
 
   -- "what is written reads back to the same block"
-  back : (m out into : List ℕ) (n : ℕ) → length into ≡ words → save-file lim m out .answer ≡ served n
+  back : (m out into : List ℕ) (n : ℕ) → length into ≡ words-of lim → save-file lim m out .answer ≡ served n
       → read-file lim (take n (save-file lim m out .lent)) into ≡ record { answer = served tt; lent = m }
   unfolding save-file writing memory-checks
   back m out into n l e =
       let bytes = file lim .put (block-in m) in
       let v = served-value _ out (length bytes) (bytes ++ drop (length bytes) out) n e in
-      let q1 = yes-first 1 (eqb (length m) words) _ (λ z. omega arith) (v .0) in
+      let q1 = yes-first 1 (eqb (length m) (words-of lim)) _ (λ z. omega arith) (v .0) in
       let q2 = yes-first 2 (is-image lim m) _ (λ z. omega arith) (q1 .1) in
       let i = image-is lim m (q2 .0) in
+      let long = eqb-true (length m) (words-of lim) (q1 .0) in
       rw (← v .1, served-gives _ out (length bytes) (bytes ++ drop (length bytes) out) (v .0), take-append-seam bytes (drop (length bytes) out))
-      (reads (block-in m) into (i .1) l ∙ ap (λ (w : List ℕ). record { answer = served tt; lent = w }) (i .0))
+      (reads (block-in m) into (i .1) l ∙ ap (λ (w : List ℕ). record { answer = served tt; lent = w }) (ap (λ (n : ℕ). image n (block-in m)) (sym long) ∙ i .0))
 
   -- what is read is a sound block, and the file is its own
   pub record ReadAs (bytes into : List ℕ) : Type 0 where
     pub block : Block
     pub sound : sound-block lim block ≡ true
     pub put : bytes ≡ file lim .put block
-    pub stored : read-file lim bytes into .lent ≡ image block
+    pub stored : read-file lim bytes into .lent ≡ image (words-of lim) block
 
   some-block : (o : Option Block) → is-some o ≡ true → o ≡ some (or-no-block o)
   some-block none e = absurd (true≢false (sym e))
@@ -215,15 +216,15 @@ module _ (lim : Limits) (fits : lim .block-darts ≤ room) where
   read-as bytes into h e =
       let o = whole (file lim) bytes in
       let b = or-no-block o in
-      let v = served-value _ into tt (image b) tt e in
-      let q1 = yes-first 1 (eqb (length into) words) _ (λ z. omega arith) (v .0) in
+      let v = served-value _ into tt (image (words-of lim) b) tt e in
+      let q1 = yes-first 1 (eqb (length into) (words-of lim)) _ (λ z. omega arith) (v .0) in
       let q3 = yes-first 3 (is-some o) _ (λ z. omega arith) (q1 .1) in
       let w = whole-only (file lim) (file-lawful lim) bytes b h (some-block o (q3 .0)) in
       record {
         block = b;
         sound = parts-sound lim b (checked-parts lim b (ok-ranges lim b (w .1)) (q3 .1));
         put = w .0;
-        stored = ap (λ (r : Result (Unit {0})). r .lent) (served-gives _ into tt (image b) (v .0));
+        stored = ap (λ (r : Result (Unit {0})). r .lent) (served-gives _ into tt (image (words-of lim) b) (v .0));
       }
 
   saved-whole : (bytes out : List ℕ) → length bytes ≤ length out → writing [] out bytes ≡ record { answer = served (length bytes); lent = bytes ++ drop (length bytes) out }
@@ -235,8 +236,8 @@ module _ (lim : Limits) (fits : lim .block-darts ≤ room) where
       → save-file lim (read-file lim bytes into .lent) out ≡ record { answer = served (length bytes); lent = bytes ++ drop (length bytes) out }
   forth bytes into out h l e =
       let r = read-as bytes into h e in
-      ap (λ (m : List ℕ). save-file lim m out) (r .stored) ∙ save-file-is lim fits (r .block) (r .sound) out
+      ap (λ (m : List ℕ). save-file lim m out) (r .stored) ∙ save-file-is lim (r .block) (r .sound) out
       ∙ ap (writing [] out) (sym (r .put)) ∙ saved-whole bytes out l
 
-  pub demand2 : Demand2 lim
-  demand2 = record { reads-back = back; writes-back = forth }
+  pub files-exact : FilesExact lim
+  files-exact = record { reads-back = back; writes-back = forth }

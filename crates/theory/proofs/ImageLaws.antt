@@ -9,13 +9,13 @@ use native.Mathlib.Nat.{not-suc-le-zero, zero-mul, zero-add, add-assoc}
 use lib.Dec.{leb, ltb, eqb}
 use lib.ListN.{length, getD, replicate, length-append, length-replicate, length-map, List·getD-append}
 use lib.Seq.{getD-append-add}
-use borrow.Author.Tests.{eqb-true, ne-eqb, leb-true, ltb-true, le-leb}
+use borrow.Author.Tests.{eqb-true, ne-eqb, leb-true, ltb-true, le-leb, lt-ltb}
 use Rattle.model.specs.Lists.{all, any, mem, tab, ascending, concat, index-of, same-list}
 use Rattle.model.specs.Values.{Label, Third, free, sewn, critical, Dart, no-dart, Block, Limits, serial-bound, code}
 use Rattle.model.specs.Cells.{serials, held}
-use Rattle.model.specs.Sound.{third-in-range, dart-in-range, ranges-right, links-right, link-right, thirds-right, third-right, coordinates-finite, labels-right, points-agree, sound-block}
-use Rattle.model.specs.Image.{room, words, kind-word, link-word, dart-words, image, column, label-in, third-in, dart-in, block-in, is-image}
-use Rattle.laws.proofs.Tests.{by-cases, and-left, and-right, all-at, same-list-is, same-list-self}
+use Rattle.model.specs.Sound.{third-in-range, dart-in-range, ranges-right, links-right, link-right, thirds-right, third-right, coordinates-finite, labels-right, points-agree, block-checks, sound-block}
+use Rattle.model.specs.Image.{words-for, words-of, count-in, kind-word, link-word, dart-words, image, column, label-in, third-in, dart-in, block-in, is-image}
+use Rattle.laws.proofs.Tests.{by-cases, and-left, and-right, and-intro, all-at, same-list-is, same-list-self}
 
 -- LABELS AND PLACES
 pub label-back : (l : Label) → l .number < 2 ^ 32 → l .position ≤ 4095 → label-in (code l) ≡ l
@@ -67,13 +67,13 @@ in-rows ss (d ∷ es) rest (suc p) f h k =
     (in-rows ss es rest p f (omega arith) k)
 
 -- field f of the dart at place p
-pub column-is : (b : Block) (p f : ℕ) → p < length (b .darts) → f < 8 → column (image b) f p ≡ getD (dart-words (serials (b .darts)) (getD (b .darts) p no-dart)) f 0
+pub column-is : (size : ℕ) (b : Block) (p f : ℕ) → p < length (b .darts) → f < 8 → column (image size b) f p ≡ getD (dart-words (serials (b .darts)) (getD (b .darts) p no-dart)) f 0
 unfolding image
-column-is b p f h k =
+column-is size b p f h k =
     let head : List ℕ = b .number ∷ b .counter ∷ length (b .darts) ∷ 0 ∷ 0 ∷ 0 ∷ 0 ∷ 0 ∷ [] in
-    let rows : List ℕ = concat (map (dart-words (serials (b .darts))) (b .darts)) ++ replicate ((room - length (b .darts)) * 8) 0 in
+    let rows : List ℕ = concat (map (dart-words (serials (b .darts))) (b .darts)) ++ replicate (size - words-for (length (b .darts))) 0 in
     ap (λ (i : ℕ). getD (head ++ rows) i 0) (add-assoc 8 (p * 8) f) ∙ getD-append-add head rows (p * 8 + f) 0
-    ∙ in-rows (serials (b .darts)) (b .darts) (replicate ((room - length (b .darts)) * 8) 0) p f h k
+    ∙ in-rows (serials (b .darts)) (b .darts) (replicate (size - words-for (length (b .darts))) 0) p f h k
 
 -- READING BACK
 -- what has to be held
@@ -88,17 +88,17 @@ pub record Readable (ds : List Dart) (d : Dart) : Type 0 where
   pub third-held : links-held ds (d .third) ≡ true
   pub in-range : third-in-range (d .third) ≡ true
 
-module _ (b : Block) where
-  pub serial-back : (x : ℕ) → held (b .darts) x ≡ true → column (image b) 0 (index-of x (serials (b .darts))) ≡ x
+module _ (size : ℕ) (b : Block) where
+  pub serial-back : (x : ℕ) → held (b .darts) x ≡ true → column (image size b) 0 (index-of x (serials (b .darts))) ≡ x
   serial-back x h =
       let r = place-back x (serials (b .darts)) h in
       let small : index-of x (serials (b .darts)) < length (b .darts) = omega (arith, r .1, length-map (b .darts) (λ (d : Dart). d .serial)) in
-      column-is b (index-of x (serials (b .darts))) 0 small (omega arith)
+      column-is size b (index-of x (serials (b .darts))) 0 small (omega arith)
       ∙ first-word (serials (b .darts)) (getD (b .darts) (index-of x (serials (b .darts))) no-dart)
       ∙ sym (getD-serial (b .darts) (index-of x (serials (b .darts)))) ∙ r .0
 
   pub third-back : (t : Third) → links-held (b .darts) t ≡ true → third-in-range t ≡ true
-      → third-in (column (image b) 0) (kind-word t) (link-word (serials (b .darts)) t) ≡ t
+      → third-in (column (image size b) 0) (kind-word t) (link-word (serials (b .darts)) t) ≡ t
   unfolding third-in
   third-back free h r = refl
   third-back (sewn y) h r = rw (serial-back y h)
@@ -114,25 +114,25 @@ module _ (b : Block) where
         label-back l (ltb-true (l .number) (2 ^ 32) number) (leb-true (l .position) 4095 position),
       )
 
-  dart-back : (p : ℕ) → p < length (b .darts) → Readable (b .darts) (getD (b .darts) p no-dart) → dart-in (image b) p ≡ getD (b .darts) p no-dart
+  dart-back : (p : ℕ) → p < length (b .darts) → Readable (b .darts) (getD (b .darts) p no-dart) → dart-in (image size b) p ≡ getD (b .darts) p no-dart
   unfolding dart-words
   dart-back p h r = rw (
-    column-is b p 0 h (omega arith),
-    column-is b p 1 h (omega arith),
-    column-is b p 2 h (omega arith),
-    column-is b p 3 h (omega arith),
-    column-is b p 4 h (omega arith),
-    column-is b p 5 h (omega arith),
-    column-is b p 6 h (omega arith),
-    column-is b p 7 h (omega arith),
+    column-is size b p 0 h (omega arith),
+    column-is size b p 1 h (omega arith),
+    column-is size b p 2 h (omega arith),
+    column-is size b p 3 h (omega arith),
+    column-is size b p 4 h (omega arith),
+    column-is size b p 5 h (omega arith),
+    column-is size b p 6 h (omega arith),
+    column-is size b p 7 h (omega arith),
     serial-back (getD (b .darts) p no-dart .next) (r .next-held),
     serial-back (getD (b .darts) p no-dart .opposite) (r .opposite-held),
     third-back (getD (b .darts) p no-dart .third) (r .third-held) (r .in-range),
   )
 
-  pub read-back : ((p : ℕ) → p < length (b .darts) → Readable (b .darts) (getD (b .darts) p no-dart)) → block-in (image b) ≡ b
+  pub read-back : ((p : ℕ) → p < length (b .darts) → Readable (b .darts) (getD (b .darts) p no-dart)) → block-in (image size b) ≡ b
   unfolding image
-  read-back r = rw (tab-list no-dart (b .darts) (dart-in (image b)) (λ p h. dart-back p h (r p h)))
+  read-back r = rw (tab-list no-dart (b .darts) (dart-in (image size b)) (λ p h. dart-back p h (r p h)))
 
 -- A SOUND BLOCK is read back
 pub readable-dart : (ds : List Dart) (d : Dart) → link-right ds d ≡ true → third-right ds d (d .third) ≡ true → dart-in-range d ≡ true → Readable ds d
@@ -165,27 +165,24 @@ pub record Parts (lim : Limits) (b : Block) : Type 0 where
   pub points : points-agree (b .darts) ≡ true
 
 pub parts-of : (lim : Limits) (b : Block) → sound-block lim b ≡ true → Parts lim b
-unfolding sound-block
+unfolding sound-block block-checks
 parts-of lim b s =
-    let q4 = ranges-right lim b && coordinates-finite (b .darts) in
-    let q5 = q4 && links-right (b .darts) in
-    let q6 = q5 && thirds-right (b .darts) in
-    let q7 = q6 && labels-right b in
-    let s7 = and-left q7 (points-agree (b .darts)) s in
-    let s6 = and-left q6 (labels-right b) s7 in
-    let s5 = and-left q5 (thirds-right (b .darts)) s6 in
-    let s4 = and-left q4 (links-right (b .darts)) s5 in
+    let s4 = and-right (ranges-right lim b) _ s in
+    let s5 = and-right (coordinates-finite (b .darts)) _ s4 in
+    let s6 = and-right (links-right (b .darts)) _ s5 in
+    let s7 = and-right (thirds-right (b .darts)) _ s6 in
+    let s8 = and-right (labels-right b) _ s7 in
     record {
-      ranges = and-left (ranges-right lim b) _ s4;
-      finite = and-right (ranges-right lim b) _ s4;
-      links = and-right q4 _ s5;
-      thirds = and-right q5 _ s6;
-      labels = and-right q6 _ s7;
-      points = and-right q7 _ s;
+      ranges = and-left (ranges-right lim b) _ s;
+      finite = and-left (coordinates-finite (b .darts)) _ s4;
+      links = and-left (links-right (b .darts)) _ s5;
+      thirds = and-left (thirds-right (b .darts)) _ s6;
+      labels = and-left (labels-right b) _ s7;
+      points = and-left (points-agree (b .darts)) _ s8;
     }
 
 pub parts-sound : (lim : Limits) (b : Block) → Parts lim b → sound-block lim b ≡ true
-unfolding sound-block
+unfolding sound-block block-checks
 parts-sound lim b p = rw (p .ranges, p .finite, p .links, p .thirds, p .labels, p .points)
 
 -- what is in range, one by one
@@ -214,32 +211,32 @@ ranges-of lim b r =
       in-order = and-right q4 _ r;
     }
 
-pub block-back : (lim : Limits) (b : Block) → sound-block lim b ≡ true → block-in (image b) ≡ b
+pub block-back : (lim : Limits) (size : ℕ) (b : Block) → sound-block lim b ≡ true → block-in (image size b) ≡ b
 unfolding links-right thirds-right
-block-back lim b s =
+block-back lim size b s =
     let q = parts-of lim b s in
     let each = ranges-of lim b (q .ranges) .each-dart in
-    read-back b (λ p h. readable-dart (b .darts) (getD (b .darts) p no-dart) (all-at (link-right (b .darts)) no-dart (b .darts) p (q .links) h)
+    read-back size b (λ p h. readable-dart (b .darts) (getD (b .darts) p no-dart) (all-at (link-right (b .darts)) no-dart (b .darts) p (q .links) h)
     (all-at (λ d. third-right (b .darts) d (d .third)) no-dart (b .darts) p (q .thirds) h) (all-at dart-in-range no-dart (b .darts) p each h))
 
 -- an image determines its block
-pub image-injective : (lim : Limits) (b c : Block) → sound-block lim b ≡ true → sound-block lim c ≡ true → image b ≡ image c → b ≡ c
-image-injective lim b c s t e = sym (block-back lim b s) ∙ ap block-in e ∙ block-back lim c t
+pub image-injective : (lim : Limits) (size : ℕ) (b c : Block) → sound-block lim b ≡ true → sound-block lim c ≡ true → image size b ≡ image size c → b ≡ c
+image-injective lim size b c s t e = sym (block-back lim size b s) ∙ ap block-in e ∙ block-back lim size c t
 
 -- MEMORY THAT PASSES QUESTION 2
-pub image-is : (lim : Limits) (m : List ℕ) → is-image lim m ≡ true → (image (block-in m) ≡ m) × (sound-block lim (block-in m) ≡ true)
+pub image-is : (lim : Limits) (m : List ℕ) → is-image lim m ≡ true → (image (length m) (block-in m) ≡ m) × (sound-block lim (block-in m) ≡ true)
 unfolding is-image
 image-is lim m e =
-    let two = leb (getD m 2 0) room && same-list (image (block-in m)) m in
-    (same-list-is (image (block-in m)) m (and-right (leb (getD m 2 0) room) _ (and-left two _ e)), and-right two _ e)
+    let fits = leb (words-for (count-in m)) (length m) in
+    let two = fits && same-list (image (length m) (block-in m)) m in
+    (same-list-is (image (length m) (block-in m)) m (and-right fits _ (and-left two _ e)), and-right two _ e)
 
-count-small : (lim : Limits) (b : Block) → lim .block-darts ≤ room → ranges-right lim b ≡ true → leb (getD (image b) 2 0) room ≡ true
-unfolding image
-count-small lim b fits r = let few = ranges-of lim b r .few-darts in le-leb (length (b .darts)) room (omega arith)
-
-pub is-image-of : (lim : Limits) (b : Block) → lim .block-darts ≤ room → sound-block lim b ≡ true → is-image lim (image b) ≡ true
+-- its darts fit
+pub count-fits : (lim : Limits) (m : List ℕ) → is-image lim m ≡ true → words-for (count-in m) ≤ length m
 unfolding is-image
-is-image-of lim b fits s = rw (block-back lim b s, count-small lim b fits (parts-of lim b s .ranges), same-list-self (image b)) s
+count-fits lim m e =
+    let fits = leb (words-for (count-in m)) (length m) in
+    leb-true (words-for (count-in m)) (length m) (and-left fits _ (and-left (fits && same-list (image (length m) (block-in m)) m) _ e))
 
 -- THE LENGTH OF AN IMAGE
 rows-length : (ss : List ℕ) (es : List Dart) → length (concat (map (dart-words ss) es)) ≡ length es * 8
@@ -247,6 +244,50 @@ unfolding concat dart-words
 rows-length ss [] = refl
 rows-length ss (d ∷ es) = let ih = rows-length ss es in omega arith
 
-pub image-length : (b : Block) → length (b .darts) ≤ room → length (image b) ≡ words
+pub image-length : (size : ℕ) (b : Block) → words-for (length (b .darts)) ≤ size → length (image size b) ≡ size
 unfolding image
-image-length b h = simp (length-append, length-replicate, rows-length) (omega arith)
+image-length size b h = simp (length-append, length-replicate, rows-length) (omega arith)
+
+image-count : (size : ℕ) (b : Block) → count-in (image size b) ≡ length (b .darts)
+unfolding image
+image-count size b = refl
+
+-- memory is an image where it is that of the block that is read from it
+pub is-image-by : (lim : Limits) (m : List ℕ) → words-for (count-in m) ≤ length m → image (length m) (block-in m) ≡ m → sound-block lim (block-in m) ≡ true → is-image lim m ≡ true
+unfolding is-image
+is-image-by lim m fits same s =
+    and-intro (and-intro (le-leb (words-for (count-in m)) (length m) fits) (ap (λ (l : List ℕ). same-list l m) same ∙ same-list-self m)) s
+
+pub is-image-of : (lim : Limits) (size : ℕ) (b : Block) → words-of lim ≤ size → sound-block lim b ≡ true → is-image lim (image size b) ≡ true
+is-image-of lim size b fits s =
+    let few = ranges-of lim b (parts-of lim b s .ranges) .few-darts in
+    let long = image-length size b (omega arith) in
+    let back = block-back lim size b s in
+    is-image-by lim (image size b) (omega (arith, image-count size b, long, few)) (ap (λ (n : ℕ). image n (block-in (image size b))) long ∙ ap (image size) back)
+    (ap (sound-block lim) back ∙ s)
+
+-- wider limits
+pub sound-wider : (lim wide : Limits) (b : Block) → lim .block-darts ≤ wide .block-darts → sound-block lim b ≡ true → sound-block wide b ≡ true
+unfolding ranges-right
+sound-wider lim wide b h s =
+    let q = parts-of lim b s in
+    let r = ranges-of lim b (q .ranges) in
+    parts-sound wide b (record {
+      ranges = rw (
+        le-leb (b .number) 15 (r .number-small),
+        lt-ltb (b .counter) (2 ^ 32) (r .counter-small),
+        le-leb (length (b .darts)) (wide .block-darts) (omega (arith, r .few-darts)),
+        r .each-dart,
+        r .in-order,
+      );
+      finite = q .finite;
+      links = q .links;
+      thirds = q .thirds;
+      labels = q .labels;
+      points = q .points;
+    })
+
+pub is-image-wider : (lim wide : Limits) (m : List ℕ) → lim .block-darts ≤ wide .block-darts → is-image lim m ≡ true → is-image wide m ≡ true
+unfolding is-image
+is-image-wider lim wide m h e = let fits = leb (words-for (count-in m)) (length m) && same-list (image (length m) (block-in m)) m in
+    and-intro (and-left fits _ e) (sound-wider lim wide (block-in m) h (and-right fits _ e))

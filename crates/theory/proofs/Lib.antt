@@ -9,3 +9,10 @@ pub mod CallLaws
 pub mod DemandTwo
 pub mod MeshLaws
 pub mod CutLaws
+pub mod Written
+pub mod FaceIndices
+pub mod Leaving
+pub mod EnoughSteps
+pub mod SentLengths
+pub mod SentMessages
+pub mod MessagesExact

@@ -8,10 +8,10 @@ use native.Mathlib.Omega.{arith}
 use lib.Dec.{eqb}
 use lib.ListN.{length, getD, length-append, length-map, List·getD-map}
 use borrow.Author.Tests.{lt-ltb}
-use Rattle.model.specs.Values.{Label, rack}
+use Rattle.model.specs.Values.{Label}
 use Rattle.model.specs.Lists.{keep, collect, concat, least, more, tab}
 use Rattle.model.specs.Cells.{start-of}
-use Rattle.model.specs.Image.{column, label-in, is-image}
+use Rattle.model.specs.Image.{column, label-in, holds-block}
 use Rattle.model.specs.Layouts.{group, such-that, at-most, exactly, times, counted, put-all, framed, _⊗_, _⊕_, as-type}
 use Rattle.model.specs.Messages.{Update, label, update}
 use Rattle.laws.proofs.Tests.{by-cases}
@@ -133,6 +133,6 @@ module _ (m : List ℕ) {fs : List (List ℕ)} {order starts : List ℕ} {darts 
       ∙ run-cong (λ k. message-of (update-at m j k (shared k))) _ 16 (λ k h. told-is k j x (omega arith) z (shared k) (count-is k) (labels-are k))
 
 -- OF A SURVEYED VOLUME
-pub updates-bytes : (m : List ℕ) → is-image rack m ≡ true → (j : ℕ) → j ≤ 15 → {c : Counts} {marks order starts numbers firsts : List ℕ} → Surveyed m c marks order starts numbers firsts
+pub updates-bytes : (m : List ℕ) → holds-block m ≡ true → (j : ℕ) → j ≤ 15 → {c : Counts} {marks order starts numbers firsts : List ℕ} → Surveyed m c marks order starts numbers firsts
     → concat (map (framed update) (updates-at m j (faces-at m marks))) ≡ run (told-put m j order starts (c .darts) (c .faces)) 16
 updates-bytes m ok j z s = updates-run m (s .order) (some-face m ok s) j (ranges-in m ok .number-small) z

@@ -91,7 +91,8 @@ module _ {m order starts : List ℕ} {darts count f : ℕ} {labels bytes : List 
   pub shares-end : f ≤ count → count ≤ f → Shares m order starts darts count count labels bytes
   shares-end a b = let e : count ≡ f = omega arith in subst (λ (x : ℕ). Shares m order starts darts count x labels bytes) (sym e) s
 
--- arrays that are these
-pub shares-all : {m order starts : List ℕ} {darts count f : ℕ} {labels bytes labels' bytes' : List ℕ} → Shares m order starts darts count f labels bytes
-    → labels' ≡ labels → bytes' ≡ bytes → Shares m order starts darts count f labels' bytes'
-shares-all s p q = rw (p, q) s
+-- as the code counts it, at r
+pub shares-all : (labels bytes : List ℕ) (size : ℕ) {m order starts : List ℕ} {darts count f r k : ℕ} {labels' bytes' : List ℕ}
+    → Shares m order starts darts count f (set labels k (getD labels k 0 + 1)) (set bytes k (getD bytes k 0 + size)) → r ≡ k
+    → labels' ≡ set labels r (getD labels r 0 + 1) → bytes' ≡ set bytes r (getD bytes r 0 + size) → Shares m order starts darts count f labels' bytes'
+shares-all labels bytes size s e p q = rw (p, q, e) s

@@ -5,10 +5,9 @@ ghost use mathlib.Core.List.{List, map};
 ghost use Prim.Native.Nat.{ℕ, _≤_, _<_, _^_};
 ghost use lib.ListN.{length, getD, replicate};
 ghost use Rattle.model.specs.Lists.{concat};
-ghost use Rattle.model.specs.Values.{rack};
 ghost use Rattle.model.specs.Layouts.{framed};
 ghost use Rattle.model.specs.Messages.{update};
-ghost use Rattle.model.specs.Image.{is-image};
+ghost use Rattle.model.specs.Image.{holds-block};
 ghost use Rattle.groups.specs.Slices.{Stored};
 ghost use Rattle.departure.specs.ByPlaces.{updates-at};
 ghost use Rattle.departure.specs.Asked.{Surveyed, faces-at};
@@ -71,7 +70,7 @@ pub fn put_updates(
     bytes: &[usize],
     out: &mut [u8],
 ) -> usize
-    requires { ⌜ (is-image rack (now block) ≡ true) × (to ≤ 15) ⌝ }
+    requires { ⌜ (holds-block (now block) ≡ true) × (to ≤ 15) ⌝ }
     requires { ⌜ Listed (now block) (now order) (counts .darts) × Started (now starts) (counts .darts) (counts .faces) ⌝ }
     requires { ⌜ Shares (now block) (now order) (now starts) (counts .darts) (counts .faces) (counts .faces) (now labels) (now bytes) ⌝ }
     requires { ⌜ length (run (told-put (now block) to (now order) (now starts) (counts .darts) (counts .faces)) 16) ≤ length (now out) ⌝ }

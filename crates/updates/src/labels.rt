@@ -6,7 +6,11 @@ ghost use Rattle.groups.specs.Slices.{Stored};
 ghost use Rattle.outbox.specs.Runs.{run};
 ghost use Rattle.outbox.specs.Bytes.{Listed, Started};
 ghost use Rattle.updates.specs.ByBlocks.{Shares, least-code, least-put};
-use cells::walk;
+use memory::kind;
+use memory::record;
+use memory::record::MessageIndex;
+use memory::record::Place;
+use memory::record::Record;
 use outbox::first;
 
 fn lesser(a: u64, b: u64) -> u64
@@ -19,16 +23,18 @@ fn lesser(a: u64, b: u64) -> u64
 }
 
 // The least label, as a code, of the `size` darts of a face from index `start` of the order on.
-fn least_code(block: &[u64], order: &[usize], start: usize, size: usize) -> u64
-    requires { ⌜ Listed (now block) (now order) (start + size) × (0 < size) ⌝ }
-    ensures { λ r. ⌜ r ≡ least-code (now (block .entry)) (now (order .entry)) start size ⌝ }
+fn least_code(block: &[u64], order: &[usize], start: MessageIndex, size: usize) -> u64
+    requires { ⌜ Listed (now block) (now order) (start .0 + size) × (0 < size) ⌝ }
+    ensures { λ r. ⌜ r ≡ least-code (now (block .entry)) (now (order .entry)) (start .0) size ⌝ }
 {
     // The least of the darts before k.
-    let mut least = walk::field(block, order[start], 4);
+    let first = start.0;
+    let place = order[first];
+    let mut least = record::field(block, Place(place), Record::LINK);
     let mut k = 1;
     while k < size {
-        let p = order[start + k];
-        least = lesser(least, walk::field(block, p, 4));
+        let p = order[first + k];
+        least = lesser(least, record::field(block, Place(p), Record::LINK));
         k += 1;
     }
     least
@@ -66,13 +72,14 @@ pub fn count_labels(
         let start = starts[f];
         let end = first::face_end(starts, count, darts, f);
         let p = order[start];
-        let kind = walk::field(block, p, 3);
+        let word = record::field(block, Place(p), Record::KIND);
         f += 1;
-        if kind % 4 != 2 {
+        if !kind::is_critical(word) {
             continue;
         }
-        let size = groups::label_count(least_code(block, order, start, end - start));
-        add_face(labels, bytes, (kind / 4) as usize, size);
+        let code = least_code(block, order, MessageIndex(start), end - start);
+        let size = groups::label_count(code);
+        add_face(labels, bytes, kind::other_of(word) as usize, size);
     }
 }
 
@@ -87,7 +94,7 @@ pub fn put_leasts(
     out: &mut [u8],
     from: usize,
 ) -> usize
-    requires { ⌜ Listed (now block) (now order) darts × Started (now starts) darts count × (k < 2 ^ 32) ⌝ }
+    requires { ⌜ Listed (now block) (now order) darts × Started (now starts) darts count × (k ≤ 15) ⌝ }
     requires { ⌜ from + length (run (least-put (now block) k (now order) (now starts) darts count) count) ≤ length (now out) ⌝ }
     ensures { λ r. ⌜ Stored (now (out .entry)) from (run (least-put (now (block .entry)) k (now (order .entry)) (now (starts .entry)) darts count) count) (now (out .exit)) r ⌝ }
 {
@@ -99,10 +106,11 @@ pub fn put_leasts(
         let end = first::face_end(starts, count, darts, f);
         let p = order[start];
         f += 1;
-        if walk::field(block, p, 3) != 2 + 4 * k {
+        if record::field(block, Place(p), Record::KIND) != kind::critical_with(k) {
             continue;
         }
-        at = groups::put_label(out, at, least_code(block, order, start, end - start));
+        let code = least_code(block, order, MessageIndex(start), end - start);
+        at = groups::put_label(out, at, code);
     }
     at
 }

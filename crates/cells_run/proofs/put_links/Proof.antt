@@ -3,7 +3,8 @@
 use mathlib.Core.Path.{_≡_}
 use Prim.Native.Nat.{_-_, _≤_}
 use lib.ListN.{length}
-use Rattle.model.specs.Image.{room, words}
+use Rattle.model.specs.Image.{words}
+use Rattle.model.specs.Values.{room}
 use borrow.Author.Needs.{needs}
 use Rattle.cells_run.proofs.put_links.Statement.{statement}
 use Rattle.cells_run.proofs.put_links.Tie as tie

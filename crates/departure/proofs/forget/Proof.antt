@@ -1,5 +1,4 @@
 -- `departure::forget` meets its contract: every mark is in the list. Assumes nothing.
-use mathlib.Core.Path.{sym, _∙_}
 use Rattle.cells.proofs.Resets.{unmarked}
 use borrow.Author.Needs.{needs}
 use Rattle.departure.proofs.forget.Statement.{statement}
@@ -8,12 +7,12 @@ use Rattle.departure.proofs.forget.Tie as tie
 unmark-requires : tie.Need-unmark-requires
 unmark-requires c κs =
     let start : tie.Start = search in
-    (start .pre .0, start .pre .1, start .pre .3 .size, start .pre .2)
+    (start .pre .0, start .pre .1, λ k h. start .pre .2 k h .0)
 
 unmark-requires-2 : tie.Need-unmark-requires-2
 unmark-requires-2 c κs =
     let start : tie.Start = search in
-    (start .pre .0, start .pre .1, start .pre .4 .size, start .pre .2)
+    (start .pre .0, start .pre .1, λ k h. start .pre .2 k h .1)
 
 same-length : tie.Need-same-length
 same-length c = search needs

@@ -1,18 +1,14 @@
 -- `departure::leaves` meets its contract: each call gets what it asks from those before it, and each answer is that of the first question
 -- that is answered no; a volume that is refused is marked nowhere. Assumes nothing.
 use mathlib.Core.Path.{sym, _∙_, ap}
-use Prim.Native.Nat.{ℕ}
-use lib.ListN.{length, getD, length-replicate}
+use lib.ListN.{length, getD}
 use lib.Seq.{length-take-le}
-use Rattle.model.specs.Image.{room}
-use Rattle.model.specs.Values.{rack}
 use Rattle.cells.proofs.Sited.{sited}
 use Rattle.cells.proofs.Reached.{volume-linked}
 use Rattle.cells.proofs.Resets.{unmarked, listed-marked, listed-some}
 use Rattle.cells.proofs.SewnLaws.{marked-places}
 use Rattle.cells.proofs.FaceSerials.{closed-next}
-use Rattle.cells.proofs.StartLaws.{in-order-few}
-use Rattle.cells.proofs.VolumeReady.{out-long, out-below, out-marked, ends-ready}
+use Rattle.cells.proofs.VolumeReady.{out-few, out-long, out-below, out-marked, ends-ready}
 use Rattle.departure.proofs.FirstNo.{first-9, first-10, below, first-11, first-12, darts-few, first-13, first-14, departs, ranges-in, sewn-few}
 use native.Mathlib.Omega.{arith}
 use borrow.Author.Needs.{needs}
@@ -22,27 +18,28 @@ use Rattle.departure.proofs.leaves.Tie as tie
 destination-right-requires : tie.Need-destination-right-requires
 destination-right-requires c κs =
     let start : tie.Start = search in
-    sited rack (start .args .block .now) (start .pre .0) .linked .size
+    omega (arith, sited (start .args .block .now) (start .pre .0 .0) .linked .size)
 
 returns : tie.Need-returns
 returns c =
     let destination-right-ensures = (let p : tie.After-destination-right = search in p .destination-right .ensures) in
     let start : tie.Start = search in
     let m = start .args .block .now in
-    let ok = start .pre .0 in
-    (first-9 m ok (start .args .to) (start .args .serial) destination-right-ensures (c .if1 .taken), (start .pre .1 .0 .0, start .pre .1 .0 .3))
+    let ok = start .pre .0 .0 in
+    let most = start .args .limits .volume in
+    (first-9 most m ok (start .args .to) (start .args .serial) destination-right-ensures (c .if1 .taken), (start .pre .1 .0 .1, start .pre .1 .0 .3))
 
 shared-slice-read-n : tie.Need-shared-slice-read-n
 shared-slice-read-n c =
     let start : tie.Start = search in
-    omega (arith, sited rack (start .args .block .now) (start .pre .0) .linked .size)
+    omega (arith, sited (start .args .block .now) (start .pre .0 .0) .linked .size)
 
 place-of-requires : tie.Need-place-of-requires
 place-of-requires c κs =
     let start : tie.Start = search in
     let m = start .args .block .now in
-    let ok = start .pre .0 in
-    (sited rack m ok .linked .few, sited rack m ok .linked .size, sited rack m ok .ascends)
+    let ok = start .pre .0 .0 in
+    (sited m ok .linked .size, sited m ok .ascends)
 
 enum-known-place : tie.Need-enum-known-place
 enum-known-place c = search needs
@@ -59,8 +56,9 @@ returns-2 c =
     let to = start .args .to in
     let serial = start .args .serial in
     let m = start .args .block .now in
-    let ok = start .pre .0 in
-    (first-10 m ok to serial destination-right-ensures if1-left place-of-ensures (c .enum-told .given .1), (start .pre .1 .0 .0, start .pre .1 .0 .3))
+    let ok = start .pre .0 .0 in
+    let most = start .args .limits .volume in
+    (first-10 most m ok to serial destination-right-ensures if1-left place-of-ensures (c .enum-told .given .1), (start .pre .1 .0 .1, start .pre .1 .0 .3))
 
 volume-requires : tie.Need-volume-requires
 volume-requires c κs =
@@ -70,10 +68,11 @@ volume-requires c κs =
     let place-given = (let p : tie.After-place = search in p .place .given) in
     let start : tie.Start = search in
     let m = start .args .block .now in
-    let ok = start .pre .0 in
-    let linked = sited rack m ok .linked in
-    let low = below m ok (start .args .to) (start .args .serial) destination-right-ensures if1-left place-of-ensures (place-given .1) in
-    (linked, low, start .pre .1 .0 .1, start .pre .1 .0 .0)
+    let ok = start .pre .0 .0 in
+    let most = start .args .limits .volume in
+    let linked = sited m ok .linked in
+    let low = below most m ok (start .args .to) (start .args .serial) destination-right-ensures if1-left place-of-ensures (place-given .1) in
+    (linked, low, start .pre .1 .1 .0 .0, start .pre .1 .0 .0, start .pre .1 .0 .1)
 
 unmark-requires : tie.Need-unmark-requires
 unmark-requires c κs =
@@ -81,10 +80,10 @@ unmark-requires c κs =
     let c : tie.After-volume = search in
     let start : tie.Start = search in
     let m = start .args .block .now in
-    let ok = start .pre .0 in
-    let linked = sited rack m ok .linked in
+    let ok = start .pre .0 .0 in
+    let linked = sited m ok .linked in
     let listed = volume-ensures .1 .1 in
-    (listed .few, omega (arith, listed .few, listed .size), volume-ensures .0 .size, λ k h. omega (arith, listed .below k h, linked .few))
+    (omega (arith, listed .few, linked .few), omega (arith, listed .few, listed .size), λ k h. omega (arith, listed .below k h, start .pre .1 .0 .0))
 
 same-length : tie.Need-same-length
 same-length c = search needs
@@ -106,9 +105,10 @@ returns-3 c =
     let to = start .args .to in
     let serial = start .args .serial in
     let m = start .args .block .now in
-    let ok = start .pre .0 in
+    let ok = start .pre .0 .0 in
+    let most = start .args .limits .volume in
     let mk = volume-ensures .0 in (
-      first-11 m ok to serial destination-right-ensures if1-left place-of-ensures (place-given .1) mk (volume-ensures .1 .0)
+      first-11 most m ok to serial destination-right-ensures if1-left place-of-ensures (place-given .1) mk (volume-ensures .1 .0)
           if2-taken,
       (unmarked mk (volume-ensures .1 .1 .has) unmark-ensures, start .pre .1 .0 .3),
     )
@@ -124,13 +124,14 @@ message-order-requires c κs =
     let to = start .args .to in
     let serial = start .args .serial in
     let m = start .args .block .now in
-    let ok = start .pre .0 in
-    let linked = sited rack m ok .linked in
-    let low = below m ok to serial destination-right-ensures if1-left place-of-ensures (place-given .1) in
+    let ok = start .pre .0 .0 in
+    let most = start .args .limits .volume in
+    let linked = sited m ok .linked in
+    let low = below most m ok to serial destination-right-ensures if1-left place-of-ensures (place-given .1) in
     let mk = volume-ensures .0 in
     let listed = volume-ensures .1 .1 in (
-      (linked, mk .size, closed-next linked low mk, volume-ensures .1 .0 ∙ sym (ap length (marked-places mk (getD m 2 0)))),
-      (listed-some _ listed (volume-linked linked low .here), listed-marked mk listed, start .pre .1 .0 .2, start .pre .1 .0 .3),
+      (linked, omega (arith, start .pre .1 .0 .0), closed-next linked low mk, volume-ensures .1 .0 ∙ sym (ap length (marked-places mk (getD m 2 0)))),
+      (listed-some _ listed (volume-linked linked low .here), listed-marked mk listed, start .pre .1 .1 .0 .1, start .pre .1 .0 .2, start .pre .1 .0 .3),
     )
 
 sewn-within-requires : tie.Need-sewn-within-requires
@@ -144,17 +145,20 @@ sewn-within-requires c κs =
     let destination-right-ensures = (let p : tie.After-destination-right = search in p .destination-right .ensures) in
     let start : tie.Start = search in
     let m = start .args .block .now in
-    let ok = start .pre .0 in
-    let linked = sited rack m ok .linked in
-    let low = below m ok (start .args .to) (start .args .serial) destination-right-ensures if1-left place-of-ensures (place-given .1) in
+    let ok = start .pre .0 .0 in
+    let most = start .args .limits .volume in
+    let linked = sited m ok .linked in
+    let low = below most m ok (start .args .to) (start .args .serial) destination-right-ensures if1-left place-of-ensures (place-given .1) in
     let mk = volume-ensures .0 in
     let o = message-order-ensures .0 in
-    ((linked, mk .size), (in-order-few o .0, out-long linked low mk o, out-below linked low mk o))
+    ((linked, omega (arith, start .pre .1 .0 .0)), (omega (arith, out-few linked low mk o, linked .few), out-long linked low mk o, out-below linked low mk o))
 
 forget-requires : tie.Need-forget-requires
 forget-requires c κs =
+    let message-order-kept = (let p : tie.After-message-order = search in p .message-order .kept) in
     let message-order-ensures = (let p : tie.After-message-order = search in p .message-order .ensures) in
     let c : tie.After-message-order = search in
+    let volume-kept = (let p : tie.After-volume = search in p .volume .kept) in
     let volume-ensures = (let p : tie.After-volume = search in p .volume .ensures) in
     let place-given = (let p : tie.After-place = search in p .place .given) in
     let place-of-ensures = (let p : tie.After-place-of = search in p .place-of .ensures) in
@@ -165,14 +169,18 @@ forget-requires c κs =
     let to = start .args .to in
     let serial = start .args .serial in
     let m = start .args .block .now in
-    let ok = start .pre .0 in
-    let linked = sited rack m ok .linked in
-    let low = below m ok to serial destination-right-ensures if1-left place-of-ensures (place-given .1) in
+    let ok = start .pre .0 .0 in
+    let most = start .args .limits .volume in
+    let linked = sited m ok .linked in
+    let low = below most m ok to serial destination-right-ensures if1-left place-of-ensures (place-given .1) in
     let mk = volume-ensures .0 in
     let o = message-order-ensures .0 in (
-      in-order-few o .0,
+      omega (arith, out-few linked low mk o, linked .few),
       out-long linked low mk o,
-      (λ k h. omega (arith, out-below linked low mk o k h, linked .few)),
+      (λ k h. (
+        omega (arith, out-below linked low mk o k h, volume-kept, start .pre .1 .0 .0),
+        omega (arith, out-below linked low mk o k h, message-order-kept, start .pre .1 .0 .2),
+      )),
       out-marked linked low mk o,
       message-order-ensures .1,
     )
@@ -207,9 +215,10 @@ returns-4 c =
     let to = start .args .to in
     let serial = start .args .serial in
     let m = start .args .block .now in
-    let ok = start .pre .0 in
+    let ok = start .pre .0 .0 in
+    let most = start .args .limits .volume in
     let mk = volume-ensures .0 in (
-      first-12 m ok to serial destination-right-ensures if1-left place-of-ensures (place-given .1) mk (volume-ensures .1 .0)
+      first-12 most m ok to serial destination-right-ensures if1-left place-of-ensures (place-given .1) mk (volume-ensures .1 .0)
           (omega (arith, if2-left)) (message-order-ensures .0) sewn-within-ensures if3-taken,
       forget-ensures,
     )
@@ -226,12 +235,15 @@ number-vertices-requires c κs =
     let c : tie.After-destination-right = search in
     let start : tie.Start = search in
     let m = start .args .block .now in
-    let ok = start .pre .0 in
-    let linked = sited rack m ok .linked in
-    let low = below m ok (start .args .to) (start .args .serial) destination-right-ensures if1-left place-of-ensures (place-given .1) in
+    let ok = start .pre .0 .0 in
+    let most = start .args .limits .volume in
+    let linked = sited m ok .linked in
+    let low = below most m ok (start .args .to) (start .args .serial) destination-right-ensures if1-left place-of-ensures (place-given .1) in
     let mk = volume-ensures .0 in
-    let o = message-order-ensures .0 in
-    ((linked, in-order-few o .0, out-long linked low mk o, out-below linked low mk o), (start .pre .1 .1 .0, start .pre .1 .1 .1))
+    let o = message-order-ensures .0 in (
+      (linked, omega (arith, out-few linked low mk o, linked .few), out-long linked low mk o, out-below linked low mk o),
+      (start .pre .1 .1 .0 .2, omega (arith, out-few linked low mk o, start .pre .1 .1 .1 .0)),
+    )
 
 pairs-once-requires : tie.Need-pairs-once-requires
 pairs-once-requires c κs =
@@ -252,9 +264,10 @@ pairs-once-requires c κs =
     let to = start .args .to in
     let serial = start .args .serial in
     let m = start .args .block .now in
-    let ok = start .pre .0 in
-    let linked = sited rack m ok .linked in
-    let low = below m ok to serial destination-right-ensures if1-left place-of-ensures (place-given .1) in
+    let ok = start .pre .0 .0 in
+    let most = start .args .limits .volume in
+    let linked = sited m ok .linked in
+    let low = below most m ok to serial destination-right-ensures if1-left place-of-ensures (place-given .1) in
     let mk = volume-ensures .0 in
     let o = message-order-ensures .0 in (
       linked,
@@ -263,16 +276,18 @@ pairs-once-requires c κs =
         arith,
         number-vertices-ensures .count-le,
         length-take-le (message-order-result .darts) (message-order-last .1 .1 .1 .1 .0) (out-long linked low mk o),
-        darts-few m ok to serial destination-right-ensures if1-left place-of-ensures (place-given .1) mk (volume-ensures .1 .0)
+        darts-few most m ok to serial destination-right-ensures if1-left place-of-ensures (place-given .1) mk (volume-ensures .1 .0)
             (omega (arith, if2-left)) (message-order-ensures .0) sewn-within-ensures,
-        start .pre .1 .1 .2,
+        start .pre .1 .1 .1 .1,
       ),
     )
 
 forget-requires-2 : tie.Need-forget-requires-2
 forget-requires-2 c κs =
     let c : tie.After-sewn-within-arg2 = search in
+    let message-order-kept = (let p : tie.After-message-order = search in p .message-order .kept) in
     let message-order-ensures = (let p : tie.After-message-order = search in p .message-order .ensures) in
+    let volume-kept = (let p : tie.After-volume = search in p .volume .kept) in
     let volume-ensures = (let p : tie.After-volume = search in p .volume .ensures) in
     let c : tie.After-volume = search in
     let place-given = (let p : tie.After-place = search in p .place .given) in
@@ -283,35 +298,37 @@ forget-requires-2 c κs =
     let to = start .args .to in
     let serial = start .args .serial in
     let m = start .args .block .now in
-    let ok = start .pre .0 in
-    let linked = sited rack m ok .linked in
-    let low = below m ok to serial destination-right-ensures if1-left place-of-ensures (place-given .1) in
+    let ok = start .pre .0 .0 in
+    let most = start .args .limits .volume in
+    let linked = sited m ok .linked in
+    let low = below most m ok to serial destination-right-ensures if1-left place-of-ensures (place-given .1) in
     let mk = volume-ensures .0 in
     let o = message-order-ensures .0 in (
-      in-order-few o .0,
+      omega (arith, out-few linked low mk o, linked .few),
       out-long linked low mk o,
-      (λ k h. omega (arith, out-below linked low mk o k h, linked .few)),
+      (λ k h. (
+        omega (arith, out-below linked low mk o k h, volume-kept, start .pre .1 .0 .0),
+        omega (arith, out-below linked low mk o k h, message-order-kept, start .pre .1 .0 .2),
+      )),
       out-marked linked low mk o,
       message-order-ensures .1,
     )
 
 same-length-7 : tie.Need-same-length-7
 same-length-7 c =
-    let forget2-ensures = (let p : tie.After-forget2 = search in p .forget2 .ensures) in
-    let c : tie.After-forget2 = search in
-    let c : tie.After-sewn-within-arg2 = search in
-    let c : tie.After-known-told = search in
-    let start : tie.Start = search in
-    ap length (forget2-ensures .0 ∙ sym (start .pre .1 .0 .0))
+    let forget2-kept = (let p : tie.After-forget2 = search in p .forget2 .kept) in
+    let c : tie.After-number-vertices = search in
+    let c : tie.Else3 = search in
+    let volume-kept = (let p : tie.After-volume = search in p .volume .kept) in
+    omega (arith, forget2-kept, volume-kept)
 
 same-length-8 : tie.Need-same-length-8
 same-length-8 c =
-    let c : tie.After-number-vertices-arg2 = search in
-    let message-order-ensures = (let p : tie.After-message-order = search in p .message-order .ensures) in
-    let c : tie.After-message-order = search in
-    let c : tie.After-slice-known6 = search in
-    let start : tie.Start = search in
-    message-order-ensures .0 .out-size ∙ sym (start .pre .1 .0 .1)
+    let c : tie.After-number-vertices = search in
+    let c : tie.Else3 = search in
+    let message-order-kept = (let p : tie.After-message-order = search in p .message-order .kept) in
+    let volume-kept = (let p : tie.After-volume = search in p .volume .kept) in
+    omega (arith, message-order-kept, volume-kept)
 
 same-length-9 : tie.Need-same-length-9
 same-length-9 c = search needs
@@ -350,9 +367,10 @@ returns-5 c =
     let to = start .args .to in
     let serial = start .args .serial in
     let m = start .args .block .now in
-    let ok = start .pre .0 in
+    let ok = start .pre .0 .0 in
+    let most = start .args .limits .volume in
     let mk = volume-ensures .0 in (
-      first-13 m ok to serial destination-right-ensures if1-left place-of-ensures (place-given .1) mk (volume-ensures .1 .0)
+      first-13 most m ok to serial destination-right-ensures if1-left place-of-ensures (place-given .1) mk (volume-ensures .1 .0)
           (omega (arith, if2-left)) (message-order-ensures .0) sewn-within-ensures if3-left number-vertices-ensures pairs-once-ensures
           if4-taken,
       forget2-ensures,
@@ -366,8 +384,8 @@ count-sewn-requires c κs =
     let c : tie.After-volume = search in
     let start : tie.Start = search in
     let m = start .args .block .now in
-    let ok = start .pre .0 in
-    (sited rack m ok .linked, volume-ensures .0 .size, message-order-ensures .0)
+    let ok = start .pre .0 .0 in
+    (sited m ok .linked, omega (arith, start .pre .1 .0 .0), message-order-ensures .0)
 
 counter-fits-requires : tie.Need-counter-fits-requires
 counter-fits-requires c κs =
@@ -378,14 +396,16 @@ counter-fits-requires c κs =
     let c : tie.After-slice-known6 = search in
     let start : tie.Start = search in
     let m = start .args .block .now in
-    let ok = start .pre .0 in
-    (sited rack m ok .linked .size, ranges-in m ok .counter-small, sewn-few _ (message-order-ensures .0) count-sewn-ensures)
+    let ok = start .pre .0 .0 in
+    (omega (arith, sited m ok .linked .size), ranges-in m ok .counter-small, sewn-few _ _ (sited m ok .linked) (message-order-ensures .0) count-sewn-ensures)
 
 forget-requires-3 : tie.Need-forget-requires-3
 forget-requires-3 c κs =
     let c : tie.After-number-vertices = search in
+    let message-order-kept = (let p : tie.After-message-order = search in p .message-order .kept) in
     let message-order-ensures = (let p : tie.After-message-order = search in p .message-order .ensures) in
     let c : tie.After-message-order = search in
+    let volume-kept = (let p : tie.After-volume = search in p .volume .kept) in
     let volume-ensures = (let p : tie.After-volume = search in p .volume .ensures) in
     let place-given = (let p : tie.After-place = search in p .place .given) in
     let place-of-ensures = (let p : tie.After-place-of = search in p .place-of .ensures) in
@@ -396,53 +416,52 @@ forget-requires-3 c κs =
     let to = start .args .to in
     let serial = start .args .serial in
     let m = start .args .block .now in
-    let ok = start .pre .0 in
-    let linked = sited rack m ok .linked in
-    let low = below m ok to serial destination-right-ensures if1-left place-of-ensures (place-given .1) in
+    let ok = start .pre .0 .0 in
+    let most = start .args .limits .volume in
+    let linked = sited m ok .linked in
+    let low = below most m ok to serial destination-right-ensures if1-left place-of-ensures (place-given .1) in
     let mk = volume-ensures .0 in
     let o = message-order-ensures .0 in (
-      in-order-few o .0,
+      omega (arith, out-few linked low mk o, linked .few),
       out-long linked low mk o,
-      (λ k h. omega (arith, out-below linked low mk o k h, linked .few)),
+      (λ k h. (
+        omega (arith, out-below linked low mk o k h, volume-kept, start .pre .1 .0 .0),
+        omega (arith, out-below linked low mk o k h, message-order-kept, start .pre .1 .0 .2),
+      )),
       out-marked linked low mk o,
       message-order-ensures .1,
     )
 
 same-length-14 : tie.Need-same-length-14
 same-length-14 c =
-    let forget3-ensures = (let p : tie.After-forget3 = search in p .forget3 .ensures) in
-    let c : tie.After-forget3 = search in
+    let forget3-kept = (let p : tie.After-forget3 = search in p .forget3 .kept) in
     let c : tie.After-number-vertices = search in
-    let c : tie.After-marks = search in
-    let start : tie.Start = search in
-    ap length (forget3-ensures .0 ∙ sym (start .pre .1 .0 .0))
+    let c : tie.Else3 = search in
+    let volume-kept = (let p : tie.After-volume = search in p .volume .kept) in
+    omega (arith, forget3-kept, volume-kept)
 
 same-length-15 : tie.Need-same-length-15
 same-length-15 c =
-    let c : tie.After-slice-known17 = search in
-    let message-order-ensures = (let p : tie.After-message-order = search in p .message-order .ensures) in
-    let c : tie.After-message-order = search in
-    let c : tie.After-slice-known6 = search in
-    let start : tie.Start = search in
-    message-order-ensures .0 .out-size ∙ sym (start .pre .1 .0 .1)
+    let c : tie.After-number-vertices = search in
+    let c : tie.Else3 = search in
+    let message-order-kept = (let p : tie.After-message-order = search in p .message-order .kept) in
+    let volume-kept = (let p : tie.After-volume = search in p .volume .kept) in
+    omega (arith, message-order-kept, volume-kept)
 
 same-length-16 : tie.Need-same-length-16
 same-length-16 c =
-    let c : tie.After-slice-known17 = search in
-    let message-order-ensures = (let p : tie.After-message-order = search in p .message-order .ensures) in
-    let c : tie.After-message-order = search in
-    let c : tie.After-slice-known6 = search in
-    let start : tie.Start = search in
-    message-order-ensures .0 .starts-size ∙ sym (start .pre .1 .0 .2)
+    let c : tie.After-number-vertices = search in
+    let c : tie.Else3 = search in
+    let message-order-kept = (let p : tie.After-message-order = search in p .message-order .kept) in
+    omega (arith, message-order-kept)
 
 same-length-17 : tie.Need-same-length-17
 same-length-17 c =
-    let forget3-ensures = (let p : tie.After-forget3 = search in p .forget3 .ensures) in
-    let c : tie.After-forget3 = search in
+    let forget3-kept = (let p : tie.After-forget3 = search in p .forget3 .kept) in
     let c : tie.After-number-vertices = search in
-    let c : tie.After-marks = search in
-    let start : tie.Start = search in
-    ap length (forget3-ensures .1 ∙ sym (start .pre .1 .0 .3))
+    let c : tie.Else3 = search in
+    let message-order-kept = (let p : tie.After-message-order = search in p .message-order .kept) in
+    omega (arith, forget3-kept, message-order-kept)
 
 same-length-18 : tie.Need-same-length-18
 same-length-18 c = search needs
@@ -478,9 +497,10 @@ returns-6 c =
     let to = start .args .to in
     let serial = start .args .serial in
     let m = start .args .block .now in
-    let ok = start .pre .0 in
+    let ok = start .pre .0 .0 in
+    let most = start .args .limits .volume in
     let mk = volume-ensures .0 in (
-      first-14 m ok to serial destination-right-ensures if1-left place-of-ensures (place-given .1) mk (volume-ensures .1 .0)
+      first-14 most m ok to serial destination-right-ensures if1-left place-of-ensures (place-given .1) mk (volume-ensures .1 .0)
           (omega (arith, if2-left)) (message-order-ensures .0) sewn-within-ensures if3-left number-vertices-ensures pairs-once-ensures
           if4-left count-sewn-ensures counter-fits-ensures if5-taken,
       forget3-ensures,
@@ -488,20 +508,18 @@ returns-6 c =
 
 same-length-21 : tie.Need-same-length-21
 same-length-21 c =
+    let c : tie.After-number-vertices = search in
     let c : tie.Else3 = search in
-    let volume-ensures = (let p : tie.After-volume = search in p .volume .ensures) in
-    let c : tie.After-volume = search in
-    let start : tie.Start = search in
-    volume-ensures .0 .size ∙ sym (ap length (start .pre .1 .0 .0) ∙ length-replicate {A = ℕ} room 0)
+    let volume-kept = (let p : tie.After-volume = search in p .volume .kept) in
+    omega (arith, volume-kept)
 
 same-length-22 : tie.Need-same-length-22
 same-length-22 c =
+    let c : tie.After-number-vertices = search in
     let c : tie.Else3 = search in
-    let message-order-ensures = (let p : tie.After-message-order = search in p .message-order .ensures) in
-    let c : tie.After-message-order = search in
-    let c : tie.After-slice-known6 = search in
-    let start : tie.Start = search in
-    message-order-ensures .0 .out-size ∙ sym (start .pre .1 .0 .1)
+    let message-order-kept = (let p : tie.After-message-order = search in p .message-order .kept) in
+    let volume-kept = (let p : tie.After-volume = search in p .volume .kept) in
+    omega (arith, message-order-kept, volume-kept)
 
 same-length-23 : tie.Need-same-length-23
 same-length-23 c = search needs
@@ -532,6 +550,7 @@ returns-7 c =
     let message-order-ensures = (let p : tie.After-message-order = search in p .message-order .ensures) in
     let if2-left = (let p : tie.Else2 = search in p .if2 .left) in
     let c : tie.Else2 = search in
+    let volume-kept = (let p : tie.After-volume = search in p .volume .kept) in
     let volume-ensures = (let p : tie.After-volume = search in p .volume .ensures) in
     let place-given = (let p : tie.After-place = search in p .place .given) in
     let place-of-ensures = (let p : tie.After-place-of = search in p .place-of .ensures) in
@@ -542,11 +561,12 @@ returns-7 c =
     let to = start .args .to in
     let serial = start .args .serial in
     let m = start .args .block .now in
-    let ok = start .pre .0 in
+    let ok = start .pre .0 .0 in
+    let most = start .args .limits .volume in
     let mk = volume-ensures .0 in (
-      departs m ok to serial destination-right-ensures if1-left place-of-ensures (place-given .1) mk (volume-ensures .1 .0)
+      departs most m ok to serial destination-right-ensures if1-left place-of-ensures (place-given .1) mk (volume-ensures .1 .0)
           (omega (arith, if2-left)) (message-order-ensures .0) sewn-within-ensures if3-left number-vertices-ensures pairs-once-ensures
-          if4-left count-sewn-ensures counter-fits-ensures if5-left,
+          if4-left count-sewn-ensures counter-fits-ensures (start .pre .0 .1) (omega (arith, volume-kept, start .pre .1 .0 .0)) if5-left,
       tt,
     )
 

@@ -5,20 +5,20 @@ use borrow.Author.Needs.{needs}
 use Rattle.redirect.proofs.received.Statement.{statement}
 use Rattle.redirect.proofs.received.Tie as tie
 
-slice-aggregate-message-in : tie.Need-slice-aggregate-message-in
-slice-aggregate-message-in c = search needs
-
-slice-aggregate-message-in-2 : tie.Need-slice-aggregate-message-in-2
-slice-aggregate-message-in-2 c = search needs
-
-slice-aggregate-message-in-3 : tie.Need-slice-aggregate-message-in-3
-slice-aggregate-message-in-3 c = search needs
-
-slice-aggregate-message-in-4 : tie.Need-slice-aggregate-message-in-4
-slice-aggregate-message-in-4 c = search needs
-
 message-in-requires : tie.Need-message-in-requires
 message-in-requires c κs = search needs
+
+same-length : tie.Need-same-length
+same-length c = search needs
+
+same-length-2 : tie.Need-same-length-2
+same-length-2 c = search needs
+
+same-length-3 : tie.Need-same-length-3
+same-length-3 c = search needs
+
+same-length-4 : tie.Need-same-length-4
+same-length-4 c = search needs
 
 returns : tie.Need-returns
 returns c =
@@ -29,9 +29,9 @@ pub received-spec : {M : Type 1} → statement M
 received-spec =
     tie.close
     (tie.spec
-    slice-aggregate-message-in
-    slice-aggregate-message-in-2
-    slice-aggregate-message-in-3
-    slice-aggregate-message-in-4
     message-in-requires
+    same-length
+    same-length-2
+    same-length-3
+    same-length-4
     returns)

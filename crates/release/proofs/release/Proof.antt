@@ -1,10 +1,12 @@
 -- `release::release` meets its contract: each answer is that of the first question that is answered no. Assumes nothing.
-use Prim.Native.Nat.{ℕ}
-use mathlib.Core.Path.{refl}
-use lib.ListN.{length-replicate}
-use Rattle.model.specs.Image.{room}
+use mathlib.Core.Path.{refl, sym, ap, _∙_}
+use native.Mathlib.Omega.{arith}
+use Rattle.model.specs.Values.{Limits, room}
+use Rattle.model.specs.Image.{words-of, is-image}
+use Rattle.cells.proofs.Sited.{sited}
+use Rattle.cells.proofs.Resets.{zeros-clear, zeros-long}
 use Rattle.answers.proofs.Questions.{said-yes}
-use Rattle.release.proofs.LettingGo.{size-refused, image-refused}
+use Rattle.release.proofs.LettingGo.{size-refused, image-refused, by-limits}
 use borrow.Author.Needs.{needs}
 use Rattle.release.proofs.release.Statement.{statement}
 use Rattle.release.proofs.release.Tie as tie
@@ -26,6 +28,9 @@ returns-2 c =
     let if1-left = (let p : tie.Else1 = search in p .if1 .left) in
     let is-sound-ensures = (let p : tie.After-is-sound = search in p .is-sound .ensures) in
     image-refused _ (start .args .to) (start .args .serial) if1-left is-sound-ensures (c .if2 .taken)
+
+rack-requires : tie.Need-rack-requires
+rack-requires c κs = search needs
 
 slice-aggregate-release-asked : tie.Need-slice-aggregate-release-asked
 slice-aggregate-release-asked c = search needs
@@ -51,11 +56,26 @@ slice-aggregate-release-asked-7 c = search needs
 release-asked-requires : tie.Need-release-asked-requires
 release-asked-requires c κs =
     let is-sound-ensures = (let p : tie.After-is-sound = search in p .is-sound .ensures) in
-    let if2-left = (let p : tie.Else2 = search in p .if2 .left) in (
-      said-yes is-sound-ensures if2-left,
+    let if1-left = (let p : tie.Else1 = search in p .if1 .left) in
+    let if2-left = (let p : tie.Else2 = search in p .if2 .left) in
+    let rack-ensures = (let p : tie.After-rack = search in p .rack .ensures) in
+    let start : tie.Start = search in
+    let block = start .args .block .now in
+    let sound = said-yes is-sound-ensures if2-left in
+    let few = sited block sound .linked .few in
+    let volume = ap (λ (l : Limits). l .volume-darts) rack-ensures in (
       (
-        (refl, length-replicate {A = ℕ} room 0, length-replicate {A = ℕ} room 0, refl),
-        (refl, length-replicate {A = ℕ} room 0, refl),
+        if1-left ∙ ap words-of (sym rack-ensures),
+        ap (λ (l : Limits). is-image l block) rack-ensures ∙ sound,
+        sound,
+        omega (arith, volume),
+      ),
+      (
+        (zeros-long _ room refl few, zeros-clear room refl, zeros-long _ room refl few, zeros-clear room refl),
+        (
+          (zeros-long _ room refl few, zeros-long _ room refl few, zeros-long _ room refl few),
+          (zeros-long _ room refl few, zeros-long _ 512 refl (omega (arith, volume))),
+        ),
       ),
     )
 
@@ -63,7 +83,11 @@ same-length-2 : tie.Need-same-length-2
 same-length-2 c = search needs
 
 returns-3 : tie.Need-returns-3
-returns-3 c = search needs
+returns-3 c =
+    let rack-ensures = (let p : tie.After-rack = search in p .rack .ensures) in
+    let release-asked-ensures = (let p : tie.After-release-asked = search in p .release-asked .ensures) in
+    let start : tie.Start = search in
+    by-limits (start .args .block .now) (start .args .to) (start .args .serial) rack-ensures release-asked-ensures
 
 pub release-spec : {M : Type 1} → statement M
 release-spec =
@@ -73,6 +97,7 @@ release-spec =
     is-sound-requires
     same-length
     returns-2
+    rack-requires
     slice-aggregate-release-asked
     slice-aggregate-release-asked-2
     slice-aggregate-release-asked-3

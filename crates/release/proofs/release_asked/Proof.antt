@@ -1,12 +1,16 @@
 -- `release::release_asked` meets its contract: the answer of questions 9 to 14, or the memory afterwards. Assumes nothing.
+use Rattle.memory.specs.Header.{limits-of}
 use Rattle.departure.proofs.Told.{departs-told, refused-told}
 use Rattle.release.proofs.LettingGo.{volume-refused, volume-released}
+use native.Mathlib.Omega.{arith}
 use borrow.Author.Needs.{needs}
 use Rattle.release.proofs.release_asked.Statement.{statement}
 use Rattle.release.proofs.release_asked.Tie as tie
 
 leaves-requires : tie.Need-leaves-requires
-leaves-requires c κs = search needs
+leaves-requires c κs =
+    let start : tie.Start = search in
+    ((start .pre .0 .2, start .pre .0 .3), (start .pre .1 .0, (start .pre .1 .1 .0, start .pre .1 .1 .1)))
 
 enum-known-r : tie.Need-enum-known-r
 enum-known-r c = search needs
@@ -18,18 +22,24 @@ let-go-requires : tie.Need-let-go-requires
 let-go-requires c κs =
     let counts-given = (let p : tie.After-counts = search in p .counts .given) in
     let leaves-ensures = (let p : tie.After-leaves = search in p .leaves .ensures) in
+    let leaves-kept = (let p : tie.After-leaves = search in p .leaves .kept) in
     let c : tie.After-leaves = search in
     let start : tie.Start = search in
     let serial' = start .args .serial in
     let block = start .args .block .now in
+    let most = start .args .limits .volume in
     let to = start .args .to in (
-      start .pre .0,
-      record {
-        serial = serial';
-        numbers = _;
-        firsts = _;
-        departs = departs-told block to serial' _ _ _ _ _ (leaves-ensures .0) (counts-given .1);
-      },
+      start .pre .0 .2,
+      (
+        record {
+          most = most;
+          serial = serial';
+          numbers = _;
+          firsts = _;
+          departs = departs-told most block to serial' _ _ _ _ _ (leaves-ensures .0) (counts-given .1);
+        },
+        omega (arith, leaves-kept, start .pre .1 .1 .0 .2),
+      ),
     )
 
 same-length : tie.Need-same-length
@@ -63,9 +73,10 @@ returns c =
     let c : tie.After-leaves = search in
     let start : tie.Start = search in
     let block = start .args .block .now in
+    let most = start .args .limits .volume in
     let to = start .args .to in
     let serial = start .args .serial in
-    volume-refused block to serial (start .pre .0) (refused-told block to serial _ _ _ _ _ (leaves-ensures .0) (r-given .1))
+    volume-refused block to serial (limits-of (start .args .limits)) (start .pre .0 .0) (start .pre .0 .1) (refused-told most block to serial _ _ _ _ _ (leaves-ensures .0) (r-given .1))
 
 same-length-9 : tie.Need-same-length-9
 same-length-9 c = search needs
@@ -100,9 +111,11 @@ returns-2 c =
     let c : tie.After-leaves = search in
     let start : tie.Start = search in
     let block = start .args .block .now in
+    let most = start .args .limits .volume in
     let to = start .args .to in
     let serial = start .args .serial in
-    volume-released block to serial (start .pre .0) (departs-told block to serial _ _ _ _ _ (leaves-ensures .0) (counts-given .1)) let-go-ensures
+    volume-released block to serial (limits-of (start .args .limits)) (start .pre .0 .0) (start .pre .0 .1) (start .pre .0 .2)
+    (departs-told most block to serial _ _ _ _ _ (leaves-ensures .0) (counts-given .1)) let-go-ensures
 
 pub release-asked-spec : {M : Type 1} → statement M
 release-asked-spec =

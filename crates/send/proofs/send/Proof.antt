@@ -1,6 +1,12 @@
 -- `send::send` meets its contract: each answer is that of the first question that is answered no. Assumes nothing.
+use mathlib.Core.Path.{refl, sym, ap, _∙_}
+use native.Mathlib.Omega.{arith}
+use Rattle.model.specs.Values.{Limits, room}
+use Rattle.model.specs.Image.{words-of, is-image}
 use Rattle.answers.proofs.Questions.{said-no, said-yes}
-use Rattle.send.proofs.SentLaws.{refused-size, refused-image}
+use Rattle.cells.proofs.Sited.{sited}
+use Rattle.cells.proofs.Resets.{zeros-clear, zeros-long}
+use Rattle.send.proofs.SentLaws.{refused-size, refused-image, by-limits}
 use borrow.Author.Needs.{needs}
 use Rattle.send.proofs.send.Statement.{statement}
 use Rattle.send.proofs.send.Tie as tie
@@ -17,6 +23,9 @@ returns-2 c =
     let if1-left = (let p : tie.Else1 = search in p .if1 .left) in
     let is-sound-ensures = (let p : tie.After-is-sound = search in p .is-sound .ensures) in
     refused-image _ _ _ _ if1-left (said-no is-sound-ensures (c .if2 .taken))
+
+rack-requires : tie.Need-rack-requires
+rack-requires c κs = search needs
 
 slice-aggregate-send-volume : tie.Need-slice-aggregate-send-volume
 slice-aggregate-send-volume c = search needs
@@ -48,8 +57,29 @@ slice-aggregate-send-volume-9 c = search needs
 send-volume-requires : tie.Need-send-volume-requires
 send-volume-requires c κs =
     let is-sound-ensures = (let p : tie.After-is-sound = search in p .is-sound .ensures) in
+    let if1-left = (let p : tie.Else1 = search in p .if1 .left) in
     let if2-left = (let p : tie.Else2 = search in p .if2 .left) in
-    (said-yes is-sound-ensures if2-left, (search needs, (search needs, search needs)))
+    let rack-ensures = (let p : tie.After-rack = search in p .rack .ensures) in
+    let c : tie.After-rack = search in
+    let start : tie.Start = search in
+    let block = start .args .block .now in
+    let sound = said-yes is-sound-ensures if2-left in
+    let few = sited block sound .linked .few in
+    let volume = ap (λ (l : Limits). l .volume-darts) rack-ensures in (
+      (
+        if1-left ∙ ap words-of (sym rack-ensures),
+        ap (λ (l : Limits). is-image l block) rack-ensures ∙ sound,
+        sound,
+        omega (arith, volume),
+      ),
+      (
+        (zeros-long _ room refl few, zeros-clear room refl, zeros-long _ room refl few, zeros-clear room refl),
+        (
+          (zeros-long _ room refl few, zeros-long _ room refl few, zeros-long _ room refl few),
+          ((zeros-long _ room refl few, zeros-long _ 512 refl (omega (arith, volume))), (refl, refl)),
+        ),
+      ),
+    )
 
 same-length : tie.Need-same-length
 same-length c = search needs
@@ -57,7 +87,10 @@ same-length c = search needs
 returns-3 : tie.Need-returns-3
 returns-3 c =
     let send-volume-ensures = (let p : tie.After-send-volume = search in p .send-volume .ensures) in
-    send-volume-ensures
+    let rack-ensures = (let p : tie.After-rack = search in p .rack .ensures) in
+    let c : tie.After-rack = search in
+    let start : tie.Start = search in
+    by-limits (start .args .block .now) (start .args .outbox .now) (start .args .to) (start .args .serial) rack-ensures send-volume-ensures
 
 pub send-spec : {M : Type 1} → statement M
 send-spec =
@@ -66,6 +99,7 @@ send-spec =
     returns
     is-sound-requires
     returns-2
+    rack-requires
     slice-aggregate-send-volume
     slice-aggregate-send-volume-2
     slice-aggregate-send-volume-3

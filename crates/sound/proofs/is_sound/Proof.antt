@@ -5,7 +5,7 @@ use Prim.Native.Nat.{ℕ}
 use lib.ListN.{length-replicate}
 use borrow.Author.Tests.{not-true, not-false}
 use Rattle.model.specs.Lists.{distinct}
-use Rattle.sound.proofs.Whole.{other-length, header-few, no-header, no-zeros, no-darts, no-far, labels-last}
+use Rattle.sound.proofs.Whole.{too-short, header-few, no-header, no-zeros, no-darts, no-far, labels-last}
 use native.Mathlib.Omega.{arith}
 use borrow.Author.Needs.{needs}
 use Rattle.sound.proofs.is_sound.Statement.{statement}
@@ -13,11 +13,10 @@ use Rattle.sound.proofs.is_sound.Tie as tie
 
 returns : tie.Need-returns
 returns c =
-    other-length _ (c .if1 .taken)
+    too-short _ (omega arith)
 
 header-right-requires : tie.Need-header-right-requires
-header-right-requires c κs =
-    c .if1 .left
+header-right-requires c κs = search needs
 
 returns-2 : tie.Need-returns-2
 returns-2 c =
@@ -27,55 +26,66 @@ returns-2 c =
 shared-slice-read-n : tie.Need-shared-slice-read-n
 shared-slice-read-n c = search needs
 
-mul-zeros : tie.Need-mul-zeros
-mul-zeros c =
+mul-if3 : tie.Need-mul-if3
+mul-if3 c =
     let header-right-ensures = (let p : tie.After-header-right = search in p .header-right .ensures) in
     let if2-left = (let p : tie.Else2 = search in p .if2 .left) in
     omega (arith, header-few _ header-right-ensures (not-false _ if2-left))
+
+add-if3 : tie.Need-add-if3
+add-if3 c =
+    let header-right-ensures = (let p : tie.After-header-right = search in p .header-right .ensures) in
+    let if2-left = (let p : tie.Else2 = search in p .if2 .left) in
+    omega (arith, header-few _ header-right-ensures (not-false _ if2-left))
+
+returns-3 : tie.Need-returns-3
+returns-3 c = too-short _ (omega arith)
+
+mul-zeros : tie.Need-mul-zeros
+mul-zeros c =
+    let if3-left = (let p : tie.Else3 = search in p .if3 .left) in
+    omega (arith, if3-left)
 
 add-zeros : tie.Need-add-zeros
 add-zeros c =
-    let header-right-ensures = (let p : tie.After-header-right = search in p .header-right .ensures) in
-    let if2-left = (let p : tie.Else2 = search in p .if2 .left) in
-    omega (arith, header-few _ header-right-ensures (not-false _ if2-left))
+    let if3-left = (let p : tie.Else3 = search in p .if3 .left) in
+    omega (arith, if3-left)
 
 zeros-requires : tie.Need-zeros-requires
 zeros-requires c κs =
-    let if1-left = (let p : tie.Else1 = search in p .if1 .left) in
-    let header-right-ensures = (let p : tie.After-header-right = search in p .header-right .ensures) in
-    let if2-left = (let p : tie.Else2 = search in p .if2 .left) in
-    omega (arith, header-few _ header-right-ensures (not-false _ if2-left), if1-left)
-
-returns-3 : tie.Need-returns-3
-returns-3 c =
-    let zeros-ensures = (let p : tie.After-zeros = search in p .zeros .ensures) in
-    no-zeros _ zeros-ensures (not-true _ (c .if3 .taken))
-
-darts-right-requires : tie.Need-darts-right-requires
-darts-right-requires c κs =
-    let if1-left = (let p : tie.Else1 = search in p .if1 .left) in
-    let header-right-ensures = (let p : tie.After-header-right = search in p .header-right .ensures) in
-    let if2-left = (let p : tie.Else2 = search in p .if2 .left) in
-    (header-few _ header-right-ensures (not-false _ if2-left), if1-left, refl)
+    let if3-left = (let p : tie.Else3 = search in p .if3 .left) in
+    omega (arith, if3-left)
 
 returns-4 : tie.Need-returns-4
 returns-4 c =
-    let darts-right-ensures = (let p : tie.After-darts-right = search in p .darts-right .ensures) in
-    no-darts _ darts-right-ensures (not-true _ (c .if4 .taken))
+    let zeros-ensures = (let p : tie.After-zeros = search in p .zeros .ensures) in
+    no-zeros _ zeros-ensures (not-true _ (c .if4 .taken))
 
-far-right-requires : tie.Need-far-right-requires
-far-right-requires c κs =
-    let if1-left = (let p : tie.Else1 = search in p .if1 .left) in
+darts-right-requires : tie.Need-darts-right-requires
+darts-right-requires c κs =
+    let if3-left = (let p : tie.Else3 = search in p .if3 .left) in
     let header-right-ensures = (let p : tie.After-header-right = search in p .header-right .ensures) in
     let if2-left = (let p : tie.Else2 = search in p .if2 .left) in
-    let darts-right-ensures = (let p : tie.After-darts-right = search in p .darts-right .ensures) in
-    let if4-left = (let p : tie.Else4 = search in p .if4 .left) in
-    (header-few _ header-right-ensures (not-false _ if2-left), if1-left, darts-right-ensures .0 (not-false _ if4-left), length-replicate {A = ℕ} 4096 0)
+    (header-few _ header-right-ensures (not-false _ if2-left), omega (arith, if3-left), refl)
 
 returns-5 : tie.Need-returns-5
 returns-5 c =
+    let darts-right-ensures = (let p : tie.After-darts-right = search in p .darts-right .ensures) in
+    no-darts _ darts-right-ensures (not-true _ (c .if5 .taken))
+
+far-right-requires : tie.Need-far-right-requires
+far-right-requires c κs =
+    let if3-left = (let p : tie.Else3 = search in p .if3 .left) in
+    let header-right-ensures = (let p : tie.After-header-right = search in p .header-right .ensures) in
+    let if2-left = (let p : tie.Else2 = search in p .if2 .left) in
+    let darts-right-ensures = (let p : tie.After-darts-right = search in p .darts-right .ensures) in
+    let if5-left = (let p : tie.Else5 = search in p .if5 .left) in
+    (header-few _ header-right-ensures (not-false _ if2-left), omega (arith, if3-left), darts-right-ensures .0 (not-false _ if5-left), length-replicate {A = ℕ} 4096 0)
+
+returns-6 : tie.Need-returns-6
+returns-6 c =
     let far-right-ensures = (let p : tie.After-far-right = search in p .far-right .ensures) in
-    no-far _ (far-right-ensures .0) (not-true _ (c .if5 .taken))
+    no-far _ (far-right-ensures .0) (not-true _ (c .if6 .taken))
 
 slice-aggregate-apart : tie.Need-slice-aggregate-apart
 slice-aggregate-apart c = search needs
@@ -85,25 +95,25 @@ apart-requires c κs =
     let header-right-ensures = (let p : tie.After-header-right = search in p .header-right .ensures) in
     let if2-left = (let p : tie.Else2 = search in p .if2 .left) in
     let far-right-ensures = (let p : tie.After-far-right = search in p .far-right .ensures) in
-    let if5-left = (let p : tie.Else5 = search in p .if5 .left) in
+    let if6-left = (let p : tie.Else6 = search in p .if6 .left) in
     let k = far-right-ensures .1 in
-    (omega (arith, k .0 (not-false _ if5-left) .0, header-few _ header-right-ensures (not-false _ if2-left)), k .1)
+    (omega (arith, k .0 (not-false _ if6-left) .0, header-few _ header-right-ensures (not-false _ if2-left)), k .1)
 
-returns-6 : tie.Need-returns-6
-returns-6 c =
-    let if1-left = (let p : tie.Else1 = search in p .if1 .left) in
+returns-7 : tie.Need-returns-7
+returns-7 c =
+    let if3-left = (let p : tie.Else3 = search in p .if3 .left) in
     let header-right-ensures = (let p : tie.After-header-right = search in p .header-right .ensures) in
     let if2-left = (let p : tie.Else2 = search in p .if2 .left) in
     let zeros-ensures = (let p : tie.After-zeros = search in p .zeros .ensures) in
-    let if3-left = (let p : tie.Else3 = search in p .if3 .left) in
-    let darts-right-ensures = (let p : tie.After-darts-right = search in p .darts-right .ensures) in
     let if4-left = (let p : tie.Else4 = search in p .if4 .left) in
-    let far-right-ensures = (let p : tie.After-far-right = search in p .far-right .ensures) in
+    let darts-right-ensures = (let p : tie.After-darts-right = search in p .darts-right .ensures) in
     let if5-left = (let p : tie.Else5 = search in p .if5 .left) in
+    let far-right-ensures = (let p : tie.After-far-right = search in p .far-right .ensures) in
+    let if6-left = (let p : tie.Else6 = search in p .if6 .left) in
     let apart-ensures = (let p : tie.After-apart = search in p .apart .ensures) in
-    labels-last _ if1-left header-right-ensures (not-false _ if2-left) zeros-ensures (not-false _ if3-left) darts-right-ensures
-    (not-false _ if4-left) (far-right-ensures .0) (not-false _ if5-left)
-    (apart-ensures ∙ ap distinct (far-right-ensures .1 .0 (not-false _ if5-left) .1))
+    labels-last _ (omega (arith, if3-left)) header-right-ensures (not-false _ if2-left) zeros-ensures (not-false _ if4-left) darts-right-ensures
+    (not-false _ if5-left) (far-right-ensures .0) (not-false _ if6-left)
+    (apart-ensures ∙ ap distinct (far-right-ensures .1 .0 (not-false _ if6-left) .1))
 
 pub is-sound-spec : {M : Type 1} → statement M
 is-sound-spec =
@@ -113,14 +123,17 @@ is-sound-spec =
     header-right-requires
     returns-2
     shared-slice-read-n
+    mul-if3
+    add-if3
+    returns-3
     mul-zeros
     add-zeros
     zeros-requires
-    returns-3
-    darts-right-requires
     returns-4
-    far-right-requires
+    darts-right-requires
     returns-5
+    far-right-requires
+    returns-6
     slice-aggregate-apart
     apart-requires
-    returns-6)
+    returns-7)

@@ -7,7 +7,7 @@ use Prim.Native.Nat.{ℕ, _-_, _≤_, _<_}
 use lib.ListN.{length, getD, length-replicate}
 use borrow.Author.Tests.{not-true, not-false}
 use Rattle.model.specs.Lists.{distinct}
-use Rattle.model.specs.Image.{room, column}
+use Rattle.model.specs.Image.{column}
 use Rattle.cells.specs.Places.{ends-of}
 use Rattle.cells.proofs.PairLaws.{clear-stamps, ends-all, ends-not, true-more}
 use native.Mathlib.Omega.{arith}
@@ -45,10 +45,12 @@ ends-differ-requires c κs =
         start .pre .0,
         start .pre .1 .first-below _ loop-test-taken,
         omega (arith, loop-test-taken, loop-inv .1),
-        start .pre .1 .numbers-size,
         omega (arith, loop-inv .1, start .pre .1 .count-few),
       ),
-      (λ q k. rw (loop-inv .1) (start .pre .1 .end-below _ loop-test-taken q k), loop-inv .2),
+      (
+        λ q k. (start .pre .1 .end-there _ loop-test-taken q k, rw (loop-inv .1) (start .pre .1 .end-below _ loop-test-taken q k)),
+        loop-inv .2,
+      ),
     )
 
 same-length : tie.Need-same-length Inv-loop μ-loop

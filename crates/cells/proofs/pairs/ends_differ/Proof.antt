@@ -5,7 +5,7 @@ use Prim.Native.Nat.{ℕ, _-_, _<_}
 use lib.ListN.{length, getD, length-set}
 use borrow.Author.Tests.{not-true, not-false}
 use Rattle.model.specs.Cells.{cycle, ring}
-use Rattle.model.specs.Image.{room, column}
+use Rattle.model.specs.Image.{column}
 use Rattle.cells.proofs.Paths.{round, going-start, going-next}
 use Rattle.cells.proofs.RingLaws.{step-within, step-apart}
 use Rattle.cells.proofs.PairLaws.{Ending, going-in, stamped-first, stamped-next, stamped-size, ending-more, ending-twice, ending-all}
@@ -15,13 +15,13 @@ use Rattle.cells.proofs.pairs.ends_differ.Statement.{statement}
 use Rattle.cells.proofs.pairs.ends_differ.Tie as tie
 
 abbrev Inv-loop : tie.InvT-loop
-Inv-loop block n start a numbers stamps₀ colour steps₀ p₀ stamps steps p =
-    Ending n (column block 1) (λ d. column block 1 (column block 2 d)) numbers (length stamps₀) start a
-    (length (cycle (λ d. column block 1 (column block 2 d)) start)) steps p stamps
+Inv-loop block n a numbers stamps₀ colour first steps₀ p₀ stamps steps p =
+    Ending n (column block 1) (λ d. column block 1 (column block 2 d)) numbers (length stamps₀) first a
+    (length (cycle (λ d. column block 1 (column block 2 d)) first)) steps p stamps
 
 abbrev μ-loop : tie.MeasureT-loop
-μ-loop block n start a numbers stamps₀ colour steps₀ p₀ stamps steps p =
-    length (cycle (λ d. column block 1 (column block 2 d)) start) - steps
+μ-loop block n a numbers stamps₀ colour first steps₀ p₀ stamps steps p =
+    length (cycle (λ d. column block 1 (column block 2 d)) first) - steps
 
 add-colour : tie.Need-add-colour Inv-loop μ-loop
 add-colour c = search needs
@@ -48,7 +48,7 @@ loop-holds c =
 field-requires : tie.Need-field-requires Inv-loop μ-loop
 field-requires c κs =
     let start : tie.Start Inv-loop μ-loop = search in
-    (omega (arith, c .loop .inv .going .below, start .pre .0 .0 .few), omega arith, start .pre .0 .0 .size)
+    (omega (arith, c .loop .inv .going .below, start .pre .0 .0 .size), omega arith)
 
 mul-b : tie.Need-mul-b Inv-loop μ-loop
 mul-b c =
@@ -57,11 +57,15 @@ mul-b c =
     omega (arith, c .field .ensures, start .pre .0 .0 .next-within _ (loop-inv .going .below), start .pre .0 .0 .few)
 
 shared-slice-read-b : tie.Need-shared-slice-read-b Inv-loop μ-loop
+unfolding ring
 shared-slice-read-b c =
     let start : tie.Start Inv-loop μ-loop = search in
     let loop-inv = (let p : tie.At-loop Inv-loop μ-loop = search in p .loop .inv) in
     let field-ensures = (let p : tie.After-field Inv-loop μ-loop = search in p .field .ensures) in
-    omega (arith, field-ensures, start .pre .0 .0 .next-within _ (loop-inv .going .below), start .pre .0 .0 .few, start .pre .0 .3)
+    let l = start .pre .0 .0 in
+    let w = step-within _ _ _ (l .few) (l .next-within) (l .next-apart) (l .opposite-within) (l .opposite-apart) in
+    let r = round (l .few) w (step-apart _ _ _ (l .few) (l .next-within) (l .next-apart) (l .opposite-within) (l .opposite-apart)) _ (start .pre .0 .1) in
+    omega (arith, field-ensures, start .pre .1 .0 _ (going-in r (loop-inv .going)) .0)
 
 stamp-requires-2 : tie.Need-stamp-requires-2 Inv-loop μ-loop
 unfolding ring
@@ -75,13 +79,13 @@ stamp-requires-2 c κs =
     let l = start .pre .0 .0 in
     let w = step-within _ _ _ (l .few) (l .next-within) (l .next-apart) (l .opposite-within) (l .opposite-apart) in
     let r = round (l .few) w (step-apart _ _ _ (l .few) (l .next-within) (l .next-apart) (l .opposite-within) (l .opposite-apart)) _ (start .pre .0 .1) in (
-      omega (arith, loop-inv .stamped .size, ap length (stamp-ensures .1) ∙ length-set stamps _ _, start .pre .0 .4),
+      omega (arith, loop-inv .stamped .size, ap length (stamp-ensures .1) ∙ length-set stamps _ _, start .pre .0 .3),
       omega (
         arith,
         loop-inv .stamped .size,
         ap length (stamp-ensures .1) ∙ length-set stamps _ _,
         ap (λ (z : ℕ). getD numbers z 0) field-ensures,
-        start .pre .1 .0 _ (going-in r (loop-inv .going)),
+        start .pre .1 .0 _ (going-in r (loop-inv .going)) .1,
       ),
     )
 
@@ -110,7 +114,7 @@ returns c =
     let r = round (l .few) w (step-apart _ _ _ (l .few) (l .next-within) (l .next-apart) (l .opposite-within) (l .opposite-apart)) _ (start .pre .0 .1) in
     let e = ap (λ (z : ℕ). getD numbers z 0) field-ensures in
     let small : getD numbers field-result 0 < length (stamp-last .0) =
-    omega (arith, e, ap length (stamp-ensures .1) ∙ length-set stamps _ _, start .pre .1 .0 _ (going-in r (loop-inv .going)))
+    omega (arith, e, ap length (stamp-ensures .1) ∙ length-set stamps _ _, start .pre .1 .0 _ (going-in r (loop-inv .going)) .1)
     in
     let s = stamped-next (loop-inv .stamped) small (stamp2-ensures .1) in (
       ending-twice w r loop-inv e small (sym (stamp2-ensures .0) ∙ not-true _ (c .if1 .taken)),
@@ -124,7 +128,7 @@ add-steps c =
     let l = start .pre .0 .0 in
     let w = step-within _ _ _ (l .few) (l .next-within) (l .next-apart) (l .opposite-within) (l .opposite-apart) in
     let a = step-apart _ _ _ (l .few) (l .next-within) (l .next-apart) (l .opposite-within) (l .opposite-apart) in
-    omega (arith, loop-inv .going .less, round (l .few) w a (start .args .start) (start .pre .0 .1) .few)
+    omega (arith, loop-inv .going .less, round (l .few) w a (start .args .start .0) (start .pre .0 .1) .few)
 
 ring-step-requires : tie.Need-ring-step-requires Inv-loop μ-loop
 ring-step-requires c κs =
@@ -159,7 +163,7 @@ returns-2 c =
     let r = round (l .few) w (step-apart _ _ _ (l .few) (l .next-within) (l .next-apart) (l .opposite-within) (l .opposite-apart)) _ (start .pre .0 .1) in
     let e = ap (λ (z : ℕ). getD numbers z 0) field-ensures in
     let small : getD numbers field-result 0 < length (stamp-last .0) =
-    omega (arith, e, ap length (stamp-ensures .1) ∙ length-set stamps _ _, start .pre .1 .0 _ (going-in r (loop-inv .going)))
+    omega (arith, e, ap length (stamp-ensures .1) ∙ length-set stamps _ _, start .pre .1 .0 _ (going-in r (loop-inv .going)) .1)
     in
     let s = stamped-next (loop-inv .stamped) small (stamp2-ensures .1) in (
       ending-all w r loop-inv e small (sym (stamp2-ensures .0) ∙ not-false _ if1-left) ring-step-ensures (c .if2 .taken),
@@ -188,7 +192,7 @@ loop-again c =
     let r = round (l .few) w (step-apart _ _ _ (l .few) (l .next-within) (l .next-apart) (l .opposite-within) (l .opposite-apart)) _ (start .pre .0 .1) in
     let e = ap (λ (z : ℕ). getD numbers z 0) field-ensures in
     let small : getD numbers field-result 0 < length (stamp-last .0) =
-    omega (arith, e, ap length (stamp-ensures .1) ∙ length-set stamps _ _, start .pre .1 .0 _ (going-in r (loop-inv .going)))
+    omega (arith, e, ap length (stamp-ensures .1) ∙ length-set stamps _ _, start .pre .1 .0 _ (going-in r (loop-inv .going)) .1)
     in
     ending-more w r loop-inv e small (sym (stamp2-ensures .0) ∙ not-false _ if1-left) (stamp2-ensures .1)
     (going-next w r (loop-inv .going) ring-step-ensures (c .if2 .left))

@@ -33,7 +33,7 @@ slice-write-marks c =
     let start : tie.Start Inv-loop μ-loop = search in
     let loop-inv = (let p : tie.At-loop Inv-loop μ-loop = search in p .loop .inv) in
     let loop-test-taken = (let p : tie.In-loop Inv-loop μ-loop = search in p .loop-test .taken) in
-    omega (arith, start .pre .3 _ loop-test-taken, loop-inv .1 .size, start .pre .2)
+    omega (arith, start .pre .2 _ loop-test-taken, loop-inv .1 .size)
 
 add-i : tie.Need-add-i Inv-loop μ-loop
 add-i c = search needs
@@ -50,7 +50,7 @@ loop-again c =
     let loop-test-taken = (let p : tie.In-loop Inv-loop μ-loop = search in p .loop-test .taken) in (
       omega (arith, loop-test-taken),
       paint-listed order loop-i (loop-inv .1) (omega (arith, loop-test-taken, start .pre .1))
-          (omega (arith, start .pre .3 _ loop-test-taken, start .pre .2)),
+          (start .pre .2 _ loop-test-taken),
     )
 
 same-length : tie.Need-same-length Inv-loop μ-loop

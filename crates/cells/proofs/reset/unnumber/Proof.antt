@@ -2,7 +2,7 @@
 -- The measure is what is left of the list. Assumes nothing.
 use Prim.Native.Nat.{_-_, _≤_}
 use lib.ListN.{take}
-use Rattle.model.specs.Image.{room}
+use Rattle.model.specs.Values.{room}
 use Rattle.cells.specs.Places.{Painted}
 use Rattle.cells.proofs.Paths.{paint-none}
 use Rattle.cells.proofs.Resets.{paint-listed, painted-all}
@@ -33,14 +33,14 @@ mul-numbers-2 : tie.Need-mul-numbers-2 Inv-loop μ-loop
 mul-numbers-2 c =
     let start : tie.Start Inv-loop μ-loop = search in
     let loop-test-taken = (let p : tie.In-loop Inv-loop μ-loop = search in p .loop-test .taken) in
-    omega (arith, start .pre .3 _ loop-test-taken)
+    omega (arith, start .pre .2 _ loop-test-taken .0)
 
 slice-write-numbers : tie.Need-slice-write-numbers Inv-loop μ-loop
 slice-write-numbers c =
     let start : tie.Start Inv-loop μ-loop = search in
     let loop-inv = (let p : tie.At-loop Inv-loop μ-loop = search in p .loop .inv) in
     let loop-test-taken = (let p : tie.In-loop Inv-loop μ-loop = search in p .loop-test .taken) in
-    omega (arith, start .pre .3 _ loop-test-taken, loop-inv .1 .size, start .pre .2)
+    omega (arith, start .pre .2 _ loop-test-taken .1, loop-inv .1 .size)
 
 add-i : tie.Need-add-i Inv-loop μ-loop
 add-i c = search needs
@@ -57,7 +57,7 @@ loop-again c =
     let loop-test-taken = (let p : tie.In-loop Inv-loop μ-loop = search in p .loop-test .taken) in (
       omega (arith, loop-test-taken),
       paint-listed order loop-i (loop-inv .1) (omega (arith, loop-test-taken, start .pre .1))
-          (omega (arith, start .pre .3 _ loop-test-taken, start .pre .2)),
+          (start .pre .2 _ loop-test-taken .1),
     )
 
 same-length : tie.Need-same-length Inv-loop μ-loop

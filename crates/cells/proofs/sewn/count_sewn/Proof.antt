@@ -28,17 +28,23 @@ loop-holds c =
 mul-i : tie.Need-mul-i Inv-loop μ-loop
 mul-i c =
     let start : tie.Start Inv-loop μ-loop = search in
-    omega (arith, c .loop-test .taken, in-order-few (start .pre .2) .1)
+    let l = start .pre .0 in
+    let few = in-order-few _ (column (start .args .block .now) 1) (start .args .marks .now) (l .few) (l .next-within) (l .next-apart) (start .pre .2) in
+    omega (arith, c .loop-test .taken, few .1)
 
 shared-slice-read-i : tie.Need-shared-slice-read-i Inv-loop μ-loop
 shared-slice-read-i c =
     let start : tie.Start Inv-loop μ-loop = search in
+    let l = start .pre .0 in
+    let few = in-order-few _ (column (start .args .block .now) 1) (start .args .marks .now) (l .few) (l .next-within) (l .next-apart) (start .pre .2) in
     let loop-test-taken = (let p : tie.In-loop Inv-loop μ-loop = search in p .loop-test .taken) in
-    omega (arith, loop-test-taken, in-order-few (start .pre .2) .1, start .pre .2 .starts-size)
+    omega (arith, loop-test-taken, few .1, start .pre .2 .starts-size)
 
 mul-p : tie.Need-mul-p Inv-loop μ-loop
 mul-p c =
     let start : tie.Start Inv-loop μ-loop = search in
+    let l = start .pre .0 in
+    let few = in-order-few _ (column (start .args .block .now) 1) (start .args .marks .now) (l .few) (l .next-within) (l .next-apart) (start .pre .2) in
     let block = start .args .block .now in
     let marks = start .args .marks .now in
     let loop-f = (let p : tie.At-loop Inv-loop μ-loop = search in p .loop .f) in
@@ -47,12 +53,14 @@ mul-p c =
       arith,
       start-place _ (column block 1) marks (start .pre .0 .few) (start .pre .0 .next-within) (start .pre .0 .next-apart)
           (start .pre .2) loop-f loop-test-taken .0,
-      in-order-few (start .pre .2) .0,
+      few .0,
     )
 
 shared-slice-read-p : tie.Need-shared-slice-read-p Inv-loop μ-loop
 shared-slice-read-p c =
     let start : tie.Start Inv-loop μ-loop = search in
+    let l = start .pre .0 in
+    let few = in-order-few _ (column (start .args .block .now) 1) (start .args .marks .now) (l .few) (l .next-within) (l .next-apart) (start .pre .2) in
     let block = start .args .block .now in
     let marks = start .args .marks .now in
     let loop-f = (let p : tie.At-loop Inv-loop μ-loop = search in p .loop .f) in
@@ -61,15 +69,17 @@ shared-slice-read-p c =
       arith,
       start-place _ (column block 1) marks (start .pre .0 .few) (start .pre .0 .next-within) (start .pre .0 .next-apart)
           (start .pre .2) loop-f loop-test-taken .0,
-      in-order-few (start .pre .2) .0,
+      few .0,
       start .pre .2 .out-size,
     )
 
 add-f : tie.Need-add-f Inv-loop μ-loop
 add-f c =
     let start : tie.Start Inv-loop μ-loop = search in
+    let l = start .pre .0 in
+    let few = in-order-few _ (column (start .args .block .now) 1) (start .args .marks .now) (l .few) (l .next-within) (l .next-apart) (start .pre .2) in
     let loop-test-taken = (let p : tie.In-loop Inv-loop μ-loop = search in p .loop-test .taken) in
-    omega (arith, loop-test-taken, in-order-few (start .pre .2) .1)
+    omega (arith, loop-test-taken, few .1)
 
 sewn-away-requires : tie.Need-sewn-away-requires Inv-loop μ-loop
 sewn-away-requires c κs =
@@ -111,9 +121,11 @@ loop-again c =
 add-sewn : tie.Need-add-sewn Inv-loop μ-loop
 add-sewn c =
     let start : tie.Start Inv-loop μ-loop = search in
+    let l = start .pre .0 in
+    let few = in-order-few _ (column (start .args .block .now) 1) (start .args .marks .now) (l .few) (l .next-within) (l .next-apart) (start .pre .2) in
     let loop-inv = (let p : tie.At-loop Inv-loop μ-loop = search in p .loop .inv) in
     let loop-test-taken = (let p : tie.In-loop Inv-loop μ-loop = search in p .loop-test .taken) in
-    omega (arith, loop-inv .1, loop-test-taken, in-order-few (start .pre .2) .1)
+    omega (arith, loop-inv .1, loop-test-taken, few .1)
 
 loop-less-2 : tie.Need-loop-less-2 Inv-loop μ-loop
 loop-less-2 c = omega arith

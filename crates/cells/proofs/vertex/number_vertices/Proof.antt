@@ -1,5 +1,4 @@
 -- `cells::vertex::number_vertices` meets its contract: the numbers of its darts are taken away first. Assumes nothing.
-use mathlib.Core.Path.{_∙_}
 use Rattle.cells.proofs.Resets.{painted-in}
 use native.Mathlib.Omega.{arith}
 use borrow.Author.Needs.{needs}
@@ -9,13 +8,17 @@ use Rattle.cells.proofs.vertex.number_vertices.Tie as tie
 unnumber-requires : tie.Need-unnumber-requires
 unnumber-requires c κs =
     let start : tie.Start = search in
-    (start .pre .0 .1, start .pre .0 .2, start .pre .1 .0, λ k h. omega (arith, start .pre .0 .3 k h, start .pre .0 .0 .few))
+    let below = start .pre .0 .3 in (
+      start .pre .0 .1,
+      start .pre .0 .2,
+      λ k h. (omega (arith, below k h, start .pre .0 .0 .few), omega (arith, below k h, start .pre .1 .0)),
+    )
 
 number-all-requires : tie.Need-number-all-requires
 number-all-requires c κs =
     let start : tie.Start = search in
     let unnumber-ensures = (let p : tie.After-unnumber = search in p .unnumber .ensures) in
-    (start .pre .0, (unnumber-ensures .size ∙ start .pre .1 .0, painted-in unnumber-ensures, start .pre .1 .1))
+    (start .pre .0, (omega (arith, unnumber-ensures .size, start .pre .1 .0), painted-in unnumber-ensures, start .pre .1 .1))
 
 same-length : tie.Need-same-length
 same-length c = search needs

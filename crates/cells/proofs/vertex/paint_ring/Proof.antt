@@ -13,13 +13,13 @@ use Rattle.cells.proofs.vertex.paint_ring.Statement.{statement}
 use Rattle.cells.proofs.vertex.paint_ring.Tie as tie
 
 abbrev Inv-loop : tie.InvT-loop
-Inv-loop block n start number numbers₀ steps₀ p₀ numbers steps p =
-    Going n (λ d. column block 1 (column block 2 d)) start (length (cycle (λ d. column block 1 (column block 2 d)) start)) steps p
-    × Painted number (path (λ d. column block 1 (column block 2 d)) steps start) numbers₀ numbers
+Inv-loop block n number numbers₀ first steps₀ p₀ numbers steps p =
+    Going n (λ d. column block 1 (column block 2 d)) first (length (cycle (λ d. column block 1 (column block 2 d)) first)) steps p
+    × Painted number (path (λ d. column block 1 (column block 2 d)) steps first) numbers₀ numbers
 
 abbrev μ-loop : tie.MeasureT-loop
-μ-loop block n start number numbers₀ steps₀ p₀ numbers steps p =
-    length (cycle (λ d. column block 1 (column block 2 d)) start) - steps
+μ-loop block n number numbers₀ first steps₀ p₀ numbers steps p =
+    length (cycle (λ d. column block 1 (column block 2 d)) first) - steps
 
 loop-holds : tie.Need-loop-holds Inv-loop μ-loop
 loop-holds c =
@@ -44,7 +44,7 @@ add-steps c =
     let l = start .pre .0 in
     let w = step-within _ _ _ (l .few) (l .next-within) (l .next-apart) (l .opposite-within) (l .opposite-apart) in
     let a = step-apart _ _ _ (l .few) (l .next-within) (l .next-apart) (l .opposite-within) (l .opposite-apart) in
-    omega (arith, c .loop .inv .0 .less, round (l .few) w a (start .args .start) (start .pre .1) .few)
+    omega (arith, c .loop .inv .0 .less, round (l .few) w a (start .args .start .0) (start .pre .1) .few)
 
 ring-step-requires : tie.Need-ring-step-requires Inv-loop μ-loop
 ring-step-requires c κs =
@@ -66,7 +66,7 @@ returns c =
     let w = step-within _ _ _ (l .few) (l .next-within) (l .next-apart) (l .opposite-within) (l .opposite-apart) in
     paint-last w
     (round (l .few) w (step-apart _ _ _ (l .few) (l .next-within) (l .next-apart) (l .opposite-within) (l .opposite-apart)) _
-    (start .pre .1)) (loop-inv .0) (loop-inv .1) (omega (arith, loop-inv .0 .below, l .few, start .pre .2)) ring-step-ensures
+    (start .pre .1)) (loop-inv .0) (loop-inv .1) (omega (arith, loop-inv .0 .below, start .pre .2)) ring-step-ensures
     (c .if1 .taken)
 
 loop-less : tie.Need-loop-less Inv-loop μ-loop
@@ -81,7 +81,7 @@ loop-again c =
     let w = step-within _ _ _ (l .few) (l .next-within) (l .next-apart) (l .opposite-within) (l .opposite-apart) in
     let r = round (l .few) w (step-apart _ _ _ (l .few) (l .next-within) (l .next-apart) (l .opposite-within) (l .opposite-apart)) _ (start .pre .1) in (
       going-next w r (loop-inv .0) ring-step-ensures (c .if1 .left),
-      paint-next w r (loop-inv .0) (loop-inv .1) (omega (arith, loop-inv .0 .below, l .few, start .pre .2)),
+      paint-next w r (loop-inv .0) (loop-inv .1) (omega (arith, loop-inv .0 .below, start .pre .2)),
     )
 
 pub paint-ring-spec : {M : Type 1} → statement M

@@ -12,7 +12,7 @@ field-requires c κs = search needs
 field-requires-2 : tie.Need-field-requires-2
 field-requires-2 c κs =
     let start : tie.Start = search in
-    (omega (arith, c .field .ensures, start .pre .0 .opposite-within _ (start .pre .1), start .pre .0 .few), omega arith, start .pre .0 .size)
+    (omega (arith, c .field .ensures, start .pre .0 .opposite-within _ (start .pre .1), start .pre .0 .size), omega arith)
 
 returns : tie.Need-returns
 returns c =

@@ -43,8 +43,8 @@ loop-again c =
     let turn : tie.At-loop Inv-loop μ-loop = search in
     let test : tie.In-loop Inv-loop μ-loop = search in
     ⊎-elim
-    (λ w. rw (w .1) (halving-up (start .pre .2) (turn .loop .inv) (test .loop-test .taken) field-ensures (omega (arith, w .0 .taken))))
-    (λ w. rw (w .1) (halving-down (start .pre .2) (turn .loop .inv) (test .loop-test .taken) field-ensures (omega (arith, w .0 .left))))
+    (λ w. rw (w .1) (halving-up (start .pre .1) (turn .loop .inv) (test .loop-test .taken) field-ensures (omega (arith, w .0 .taken))))
+    (λ w. rw (w .1) (halving-down (start .pre .1) (turn .loop .inv) (test .loop-test .taken) field-ensures (omega (arith, w .0 .left))))
     (c .if2 .came)
 
 field-requires-2 : tie.Need-field-requires-2 Inv-loop μ-loop
@@ -53,7 +53,7 @@ field-requires-2 c κs = search needs
 returns-2 : tie.Need-returns-2 Inv-loop μ-loop
 returns-2 c =
     let start : tie.Start Inv-loop μ-loop = search in
-    place-found _ _ _ _ (start .pre .2) (omega arith) (cc)
+    place-found _ _ _ _ (start .pre .1) (omega arith) (cc)
 
 returns-3 : tie.Need-returns-3 Inv-loop μ-loop
 returns-3 c =

@@ -18,7 +18,7 @@ point-of-requires c κs =
     let field-ensures = (let p : tie.After-field = search in p .field .ensures) in
     let field2-ensures = (let p : tie.After-field2 = search in p .field2 .ensures) in
     let start : tie.Start = search in
-    (rw field-ensures (start .pre .2 .on-x), rw field2-ensures (start .pre .2 .on-y), rw (c .field3 .ensures) (start .pre .2 .on-z))
+    (rw field-ensures (start .pre .1 .on-x), rw field2-ensures (start .pre .1 .on-y), rw (c .field3 .ensures) (start .pre .1 .on-z))
 
 returns : tie.Need-returns
 returns c =

@@ -12,11 +12,11 @@ use Rattle.outbox.proofs.first.darts_size.Statement.{statement}
 use Rattle.outbox.proofs.first.darts_size.Tie as tie
 
 abbrev Inv-loop : tie.InvT-loop
-Inv-loop block numbers order start size bytes₀ k₀ bytes k =
-    Counting (dart-put block numbers order start) size k bytes
+Inv-loop block numbers order size first bytes₀ k₀ bytes k =
+    Counting (dart-put block numbers order first) size k bytes
 
 abbrev μ-loop : tie.MeasureT-loop
-μ-loop block numbers order start size bytes₀ k₀ bytes k =
+μ-loop block numbers order size first bytes₀ k₀ bytes k =
     size - k
 
 loop-holds : tie.Need-loop-holds Inv-loop μ-loop
@@ -38,30 +38,30 @@ mul-dart-size c =
     let start : tie.Start Inv-loop μ-loop = search in
     let loop-k = (let p : tie.At-loop Inv-loop μ-loop = search in p .loop .k) in
     let loop-test-taken = (let p : tie.In-loop Inv-loop μ-loop = search in p .loop-test .taken) in
-    omega (arith, start .pre .0 .0 .below (start .args .start + loop-k) (omega (arith, loop-test-taken)))
+    omega (arith, start .pre .0 .0 .below (start .args .start .0 + loop-k) (omega (arith, loop-test-taken)))
 
 shared-slice-read-dart-size : tie.Need-shared-slice-read-dart-size Inv-loop μ-loop
 shared-slice-read-dart-size c =
     let start : tie.Start Inv-loop μ-loop = search in
     let loop-k = (let p : tie.At-loop Inv-loop μ-loop = search in p .loop .k) in
     let loop-test-taken = (let p : tie.In-loop Inv-loop μ-loop = search in p .loop-test .taken) in
-    omega (arith, start .pre .0 .0 .below (start .args .start + loop-k) (omega (arith, loop-test-taken)), start .pre .0 .1 .numbers-size)
+    omega (arith, start .pre .0 .1 .numbers-size (start .args .start .0 + loop-k) (omega (arith, loop-test-taken)))
 
 field-requires : tie.Need-field-requires Inv-loop μ-loop
 field-requires c κs =
     let start : tie.Start Inv-loop μ-loop = search in
     let loop-k = (let p : tie.At-loop Inv-loop μ-loop = search in p .loop .k) in
     let loop-test-taken = (let p : tie.In-loop Inv-loop μ-loop = search in p .loop-test .taken) in
-    (start .pre .0 .0 .below (start .args .start + loop-k) (omega (arith, loop-test-taken)), omega arith, start .pre .0 .0 .memory)
+    (start .pre .0 .0 .held (start .args .start .0 + loop-k) (omega (arith, loop-test-taken)), omega arith)
 
 dart-size-requires : tie.Need-dart-size-requires Inv-loop μ-loop
 dart-size-requires c κs =
     let start : tie.Start Inv-loop μ-loop = search in
-    let start' = start .args .start in
+    let first = start .args .start .0 in
     let loop-k = (let p : tie.At-loop Inv-loop μ-loop = search in p .loop .k) in
     let loop-test-taken = (let p : tie.In-loop Inv-loop μ-loop = search in p .loop-test .taken) in (
-      omega (arith, start .pre .0 .1 .number-small (start' + loop-k) (omega (arith, loop-test-taken))),
-      omega (arith, start .pre .0 .0 .serial-small (start' + loop-k) (omega (arith, loop-test-taken)), c .field .ensures),
+      omega (arith, start .pre .0 .1 .number-small (first + loop-k) (omega (arith, loop-test-taken))),
+      omega (arith, start .pre .0 .0 .serial-small (first + loop-k) (omega (arith, loop-test-taken)), c .field .ensures),
     )
 
 add-bytes : tie.Need-add-bytes Inv-loop μ-loop
@@ -70,7 +70,7 @@ add-bytes c =
     let block = start .args .block .now in
     let numbers = start .args .numbers .now in
     let order = start .args .order .now in
-    let start' = start .args .start in
+    let first = start .args .start .0 in
     let loop-inv = (let p : tie.At-loop Inv-loop μ-loop = search in p .loop .inv) in
     let loop-k = (let p : tie.At-loop Inv-loop μ-loop = search in p .loop .k) in
     let loop-test-taken = (let p : tie.In-loop Inv-loop μ-loop = search in p .loop-test .taken) in
@@ -79,7 +79,7 @@ add-bytes c =
     omega (
       arith,
       c .dart-size .ensures,
-      ap length (dart-is block numbers order start' loop-k field-result field-ensures),
+      ap length (dart-is block numbers order first loop-k field-result field-ensures),
       counting-small loop-inv loop-test-taken,
     )
 
@@ -95,13 +95,13 @@ loop-again c =
     let block = start .args .block .now in
     let numbers = start .args .numbers .now in
     let order = start .args .order .now in
-    let start' = start .args .start in
+    let first = start .args .start .0 in
     let loop-inv = (let p : tie.At-loop Inv-loop μ-loop = search in p .loop .inv) in
     let loop-k = (let p : tie.At-loop Inv-loop μ-loop = search in p .loop .k) in
     let loop-test-taken = (let p : tie.In-loop Inv-loop μ-loop = search in p .loop-test .taken) in
     let field-ensures = (let p : tie.After-field Inv-loop μ-loop = search in p .field .ensures) in
     let field-result = (let p : tie.After-field Inv-loop μ-loop = search in p .field .result) in
-    counting-step loop-inv loop-test-taken (c .dart-size .ensures ∙ sym (ap length (dart-is block numbers order start' loop-k field-result field-ensures)))
+    counting-step loop-inv loop-test-taken (c .dart-size .ensures ∙ sym (ap length (dart-is block numbers order first loop-k field-result field-ensures)))
 
 returns : tie.Need-returns Inv-loop μ-loop
 returns c =

@@ -18,9 +18,9 @@ darts-size-requires c κs =
     let block = start .args .block .now in
     let numbers = start .args .numbers .now in
     let order = start .args .order .now in
-    let start' = start .args .start in
+    let first = start .args .start .0 in
     let size = start .args .size in
-    (start .pre .0, omega (arith, start .pre .1, face-length block numbers order start' size))
+    (start .pre .0, omega (arith, start .pre .1, face-length block numbers order first size))
 
 add-result : tie.Need-add-result
 add-result c =
@@ -28,7 +28,7 @@ add-result c =
     let block = start .args .block .now in
     let numbers = start .args .numbers .now in
     let order = start .args .order .now in
-    let start' = start .args .start in
+    let first = start .args .start .0 in
     let size = start .args .size in
     let group-count-ensures = (let p : tie.After-group-count = search in p .group-count .ensures) in
     omega (
@@ -36,7 +36,7 @@ add-result c =
       group-count-ensures,
       c .darts-size .ensures,
       start .pre .1,
-      face-length block numbers order start' size,
+      face-length block numbers order first size,
       group-length size (omega (arith, start .pre .0 .0 .few)),
     )
 
@@ -46,14 +46,14 @@ returns c =
     let block = start .args .block .now in
     let numbers = start .args .numbers .now in
     let order = start .args .order .now in
-    let start' = start .args .start in
+    let first = start .args .start .0 in
     let size = start .args .size in
     let group-count-ensures = (let p : tie.After-group-count = search in p .group-count .ensures) in
     omega (
       arith,
       group-count-ensures,
       c .darts-size .ensures,
-      face-length block numbers order start' size,
+      face-length block numbers order first size,
       group-length size (omega (arith, start .pre .0 .0 .few)),
     )
 

@@ -13,11 +13,11 @@ use Rattle.outbox.proofs.first.put_darts.Statement.{statement}
 use Rattle.outbox.proofs.first.put_darts.Tie as tie
 
 abbrev Inv-loop : tie.InvT-loop
-Inv-loop block numbers order start size out₀ from at₀ k₀ out at k =
-    Running (dart-put block numbers order start) size out₀ from k out at
+Inv-loop block numbers order size out₀ from first at₀ k₀ out at k =
+    Running (dart-put block numbers order first) size out₀ from k out at
 
 abbrev μ-loop : tie.MeasureT-loop
-μ-loop block numbers order start size out₀ from at₀ k₀ out at k =
+μ-loop block numbers order size out₀ from first at₀ k₀ out at k =
     size - k
 
 loop-holds : tie.Need-loop-holds Inv-loop μ-loop
@@ -39,37 +39,37 @@ mul-put-dart c =
     let start : tie.Start Inv-loop μ-loop = search in
     let loop-k = (let p : tie.At-loop Inv-loop μ-loop = search in p .loop .k) in
     let loop-test-taken = (let p : tie.In-loop Inv-loop μ-loop = search in p .loop-test .taken) in
-    omega (arith, start .pre .0 .0 .below (start .args .start + loop-k) (omega (arith, loop-test-taken)))
+    omega (arith, start .pre .0 .0 .below (start .args .start .0 + loop-k) (omega (arith, loop-test-taken)))
 
 shared-slice-read-put-dart : tie.Need-shared-slice-read-put-dart Inv-loop μ-loop
 shared-slice-read-put-dart c =
     let start : tie.Start Inv-loop μ-loop = search in
     let loop-k = (let p : tie.At-loop Inv-loop μ-loop = search in p .loop .k) in
     let loop-test-taken = (let p : tie.In-loop Inv-loop μ-loop = search in p .loop-test .taken) in
-    omega (arith, start .pre .0 .0 .below (start .args .start + loop-k) (omega (arith, loop-test-taken)), start .pre .0 .1 .numbers-size)
+    omega (arith, start .pre .0 .1 .numbers-size (start .args .start .0 + loop-k) (omega (arith, loop-test-taken)))
 
 field-requires : tie.Need-field-requires Inv-loop μ-loop
 field-requires c κs =
     let start : tie.Start Inv-loop μ-loop = search in
     let loop-k = (let p : tie.At-loop Inv-loop μ-loop = search in p .loop .k) in
     let loop-test-taken = (let p : tie.In-loop Inv-loop μ-loop = search in p .loop-test .taken) in
-    (start .pre .0 .0 .below (start .args .start + loop-k) (omega (arith, loop-test-taken)), omega arith, start .pre .0 .0 .memory)
+    (start .pre .0 .0 .held (start .args .start .0 + loop-k) (omega (arith, loop-test-taken)), omega arith)
 
 put-dart-requires : tie.Need-put-dart-requires Inv-loop μ-loop
 put-dart-requires c κs =
     let start : tie.Start Inv-loop μ-loop = search in
-    let start' = start .args .start in
+    let first = start .args .start .0 in
     let block = start .args .block .now in
     let numbers = start .args .numbers .now in
     let order = start .args .order .now in
     let loop-inv = (let p : tie.At-loop Inv-loop μ-loop = search in p .loop .inv) in
     let loop-k = (let p : tie.At-loop Inv-loop μ-loop = search in p .loop .k) in
     let loop-test-taken = (let p : tie.In-loop Inv-loop μ-loop = search in p .loop-test .taken) in (
-      omega (arith, start .pre .0 .1 .number-small (start' + loop-k) (omega (arith, loop-test-taken))),
-      omega (arith, start .pre .0 .0 .serial-small (start' + loop-k) (omega (arith, loop-test-taken)), c .field .ensures),
+      omega (arith, start .pre .0 .1 .number-small (first + loop-k) (omega (arith, loop-test-taken))),
+      omega (arith, start .pre .0 .0 .serial-small (first + loop-k) (omega (arith, loop-test-taken)), c .field .ensures),
       omega (
         arith,
-        ap length (dart-is block numbers order start' loop-k (c .field .result) (c .field .ensures)),
+        ap length (dart-is block numbers order first loop-k (c .field .result) (c .field .ensures)),
         running-space loop-inv loop-test-taken,
       ),
     )
@@ -86,14 +86,14 @@ loop-again c =
     let block = start .args .block .now in
     let numbers = start .args .numbers .now in
     let order = start .args .order .now in
-    let start' = start .args .start in
+    let first = start .args .start .0 in
     let loop-inv = (let p : tie.At-loop Inv-loop μ-loop = search in p .loop .inv) in
     let loop-k = (let p : tie.At-loop Inv-loop μ-loop = search in p .loop .k) in
     let loop-test-taken = (let p : tie.In-loop Inv-loop μ-loop = search in p .loop-test .taken) in
     let field-ensures = (let p : tie.After-field Inv-loop μ-loop = search in p .field .ensures) in
     let field-result = (let p : tie.After-field Inv-loop μ-loop = search in p .field .result) in
     let put-dart-ensures = (let p : tie.After-put-dart Inv-loop μ-loop = search in p .put-dart .ensures) in
-    running-step loop-inv loop-test-taken (stored-as (dart-is block numbers order start' loop-k field-result field-ensures) put-dart-ensures)
+    running-step loop-inv loop-test-taken (stored-as (dart-is block numbers order first loop-k field-result field-ensures) put-dart-ensures)
 
 same-length : tie.Need-same-length Inv-loop μ-loop
 same-length c =

@@ -16,9 +16,9 @@ put-group-requires c κs =
     let block = start .args .block .now in
     let numbers = start .args .numbers .now in
     let order = start .args .order .now in
-    let start' = start .args .start in
+    let first = start .args .start .0 in
     let size = start .args .size in
-    omega (arith, start .pre .1, face-length block numbers order start' size)
+    omega (arith, start .pre .1, face-length block numbers order first size)
 
 put-darts-requires : tie.Need-put-darts-requires
 put-darts-requires c κs =
@@ -26,10 +26,10 @@ put-darts-requires c κs =
     let block = start .args .block .now in
     let numbers = start .args .numbers .now in
     let order = start .args .order .now in
-    let start' = start .args .start in
+    let first = start .args .start .0 in
     let size = start .args .size in
     let put-group-ensures = (let p : tie.After-put-group = search in p .put-group .ensures) in
-    (start .pre .0, room-after put-group-ensures _ (omega (arith, start .pre .1, face-length block numbers order start' size)))
+    (start .pre .0, room-after put-group-ensures _ (omega (arith, start .pre .1, face-length block numbers order first size)))
 
 same-length : tie.Need-same-length
 same-length c = search needs
@@ -40,11 +40,11 @@ returns c =
     let block = start .args .block .now in
     let numbers = start .args .numbers .now in
     let order = start .args .order .now in
-    let start' = start .args .start in
+    let first = start .args .start .0 in
     let size = start .args .size in
     let put-group-ensures = (let p : tie.After-put-group = search in p .put-group .ensures) in
     let put-darts-ensures = (let p : tie.After-put-darts = search in p .put-darts .ensures) in
-    stored-as (face-of block numbers order start' size) (stored-then put-group-ensures put-darts-ensures)
+    stored-as (face-of block numbers order first size) (stored-then put-group-ensures put-darts-ensures)
 
 pub put-face-spec : {M : Type 1} → statement M
 put-face-spec =

@@ -34,7 +34,7 @@ point-at-requires c κs =
     let start : tie.Start Inv-loop μ-loop = search in
     let loop-k = (let p : tie.At-loop Inv-loop μ-loop = search in p .loop .k) in
     let loop-test-taken = (let p : tie.In-loop Inv-loop μ-loop = search in p .loop-test .taken) in
-    (start .pre .0 .below loop-k loop-test-taken, start .pre .0 .memory, start .pre .0 .finite loop-k loop-test-taken)
+    (start .pre .0 .held loop-k loop-test-taken, start .pre .0 .finite loop-k loop-test-taken)
 
 put-point-requires : tie.Need-put-point-requires Inv-loop μ-loop
 put-point-requires c κs =

@@ -12,11 +12,11 @@ use Rattle.outbox.proofs.parts.labels_size.Statement.{statement}
 use Rattle.outbox.proofs.parts.labels_size.Tie as tie
 
 abbrev Inv-loop : tie.InvT-loop
-Inv-loop block order start size bytes₀ k₀ bytes k =
-    Counting (label-put block order start) size k bytes
+Inv-loop block order size first bytes₀ k₀ bytes k =
+    Counting (label-put block order first) size k bytes
 
 abbrev μ-loop : tie.MeasureT-loop
-μ-loop block order start size bytes₀ k₀ bytes k =
+μ-loop block order size first bytes₀ k₀ bytes k =
     size - k
 
 loop-holds : tie.Need-loop-holds Inv-loop μ-loop
@@ -38,7 +38,7 @@ field-requires c κs =
     let start : tie.Start Inv-loop μ-loop = search in
     let loop-k = (let p : tie.At-loop Inv-loop μ-loop = search in p .loop .k) in
     let loop-test-taken = (let p : tie.In-loop Inv-loop μ-loop = search in p .loop-test .taken) in
-    (start .pre .0 .below (start .args .start + loop-k) (omega (arith, loop-test-taken)), omega arith, start .pre .0 .memory)
+    (start .pre .0 .held (start .args .start .0 + loop-k) (omega (arith, loop-test-taken)), omega arith)
 
 label-count-requires : tie.Need-label-count-requires Inv-loop μ-loop
 label-count-requires c κs = search needs
@@ -48,13 +48,13 @@ add-bytes c =
     let start : tie.Start Inv-loop μ-loop = search in
     let block = start .args .block .now in
     let order = start .args .order .now in
-    let start' = start .args .start in
+    let first = start .args .start .0 in
     let loop-inv = (let p : tie.At-loop Inv-loop μ-loop = search in p .loop .inv) in
     let loop-k = (let p : tie.At-loop Inv-loop μ-loop = search in p .loop .k) in
     let loop-test-taken = (let p : tie.In-loop Inv-loop μ-loop = search in p .loop-test .taken) in
     let field-ensures = (let p : tie.After-field Inv-loop μ-loop = search in p .field .ensures) in
     let field-result = (let p : tie.After-field Inv-loop μ-loop = search in p .field .result) in
-    omega (arith, c .label-count .ensures, ap length (label-is block order start' loop-k field-result field-ensures), counting-small loop-inv loop-test-taken)
+    omega (arith, c .label-count .ensures, ap length (label-is block order first loop-k field-result field-ensures), counting-small loop-inv loop-test-taken)
 
 add-k : tie.Need-add-k Inv-loop μ-loop
 add-k c = search needs
@@ -67,13 +67,13 @@ loop-again c =
     let start : tie.Start Inv-loop μ-loop = search in
     let block = start .args .block .now in
     let order = start .args .order .now in
-    let start' = start .args .start in
+    let first = start .args .start .0 in
     let loop-inv = (let p : tie.At-loop Inv-loop μ-loop = search in p .loop .inv) in
     let loop-k = (let p : tie.At-loop Inv-loop μ-loop = search in p .loop .k) in
     let loop-test-taken = (let p : tie.In-loop Inv-loop μ-loop = search in p .loop-test .taken) in
     let field-ensures = (let p : tie.After-field Inv-loop μ-loop = search in p .field .ensures) in
     let field-result = (let p : tie.After-field Inv-loop μ-loop = search in p .field .result) in
-    counting-step loop-inv loop-test-taken (c .label-count .ensures ∙ sym (ap length (label-is block order start' loop-k field-result field-ensures)))
+    counting-step loop-inv loop-test-taken (c .label-count .ensures ∙ sym (ap length (label-is block order first loop-k field-result field-ensures)))
 
 returns : tie.Need-returns Inv-loop μ-loop
 returns c =

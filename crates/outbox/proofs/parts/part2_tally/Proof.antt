@@ -43,7 +43,7 @@ shared-slice-read-p c =
     let start : tie.Start Inv-loop μ-loop = search in
     let loop-f = (let p : tie.At-loop Inv-loop μ-loop = search in p .loop .f) in
     let loop-test-taken = (let p : tie.In-loop Inv-loop μ-loop = search in p .loop-test .taken) in
-    omega (arith, start .pre .0 .1 .index-small loop-f loop-test-taken, start .pre .0 .1 .order-size)
+    omega (arith, start .pre .0 .1 .order-size loop-f loop-test-taken)
 
 add-f : tie.Need-add-f Inv-loop μ-loop
 add-f c = omega arith
@@ -53,7 +53,7 @@ critical-with-requires c κs =
     let start : tie.Start Inv-loop μ-loop = search in
     let loop-f = (let p : tie.At-loop Inv-loop μ-loop = search in p .loop .f) in
     let loop-test-taken = (let p : tie.In-loop Inv-loop μ-loop = search in p .loop-test .taken) in
-    (start .pre .0 .0, start .pre .0 .1 .place-below loop-f loop-test-taken, start .pre .0 .2)
+    (omega (arith, start .pre .0 .0, start .pre .0 .1 .place-below loop-f loop-test-taken), start .pre .0 .2)
 
 loop-less : tie.Need-loop-less Inv-loop μ-loop
 loop-less c = omega arith
@@ -91,7 +91,7 @@ field-requires c κs =
     let start : tie.Start Inv-loop μ-loop = search in
     let loop-f = (let p : tie.At-loop Inv-loop μ-loop = search in p .loop .f) in
     let loop-test-taken = (let p : tie.In-loop Inv-loop μ-loop = search in p .loop-test .taken) in
-    (start .pre .0 .1 .place-below loop-f loop-test-taken, omega arith, start .pre .0 .0)
+    (omega (arith, start .pre .0 .1 .place-below loop-f loop-test-taken, start .pre .0 .0), omega arith)
 
 part2-size-requires : tie.Need-part2-size-requires Inv-loop μ-loop
 part2-size-requires c κs =

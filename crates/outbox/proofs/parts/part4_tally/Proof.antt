@@ -60,7 +60,7 @@ critical-beside-requires c κs =
     let starts = start .args .starts .now in
     let loop-f = (let p : tie.At-loop Inv-loop μ-loop = search in p .loop .f) in
     let loop-test-taken = (let p : tie.In-loop Inv-loop μ-loop = search in p .loop-test .taken) in
-    (start .pre .0 .0 .memory, start .pre .0 .0 .below (getD starts loop-f 0) (start .pre .0 .1 .below loop-f loop-test-taken), start .pre .0 .2)
+    (start .pre .0 .0 .held (getD starts loop-f 0) (start .pre .0 .1 .below loop-f loop-test-taken), start .pre .0 .2)
 
 loop-less : tie.Need-loop-less Inv-loop μ-loop
 loop-less c = omega arith

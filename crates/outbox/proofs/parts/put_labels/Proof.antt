@@ -13,11 +13,11 @@ use Rattle.outbox.proofs.parts.put_labels.Statement.{statement}
 use Rattle.outbox.proofs.parts.put_labels.Tie as tie
 
 abbrev Inv-loop : tie.InvT-loop
-Inv-loop block order start size out₀ from at₀ k₀ out at k =
-    Running (label-put block order start) size out₀ from k out at
+Inv-loop block order size out₀ from first at₀ k₀ out at k =
+    Running (label-put block order first) size out₀ from k out at
 
 abbrev μ-loop : tie.MeasureT-loop
-μ-loop block order start size out₀ from at₀ k₀ out at k =
+μ-loop block order size out₀ from first at₀ k₀ out at k =
     size - k
 
 loop-holds : tie.Need-loop-holds Inv-loop μ-loop
@@ -39,18 +39,18 @@ field-requires c κs =
     let start : tie.Start Inv-loop μ-loop = search in
     let loop-k = (let p : tie.At-loop Inv-loop μ-loop = search in p .loop .k) in
     let loop-test-taken = (let p : tie.In-loop Inv-loop μ-loop = search in p .loop-test .taken) in
-    (start .pre .0 .below (start .args .start + loop-k) (omega (arith, loop-test-taken)), omega arith, start .pre .0 .memory)
+    (start .pre .0 .held (start .args .start .0 + loop-k) (omega (arith, loop-test-taken)), omega arith)
 
 put-label-requires : tie.Need-put-label-requires Inv-loop μ-loop
 put-label-requires c κs =
     let start : tie.Start Inv-loop μ-loop = search in
     let block = start .args .block .now in
     let order = start .args .order .now in
-    let start' = start .args .start in
+    let first = start .args .start .0 in
     let loop-inv = (let p : tie.At-loop Inv-loop μ-loop = search in p .loop .inv) in
     let loop-k = (let p : tie.At-loop Inv-loop μ-loop = search in p .loop .k) in
     let loop-test-taken = (let p : tie.In-loop Inv-loop μ-loop = search in p .loop-test .taken) in
-    omega (arith, ap length (label-is block order start' loop-k (c .field .result) (c .field .ensures)), running-space loop-inv loop-test-taken)
+    omega (arith, ap length (label-is block order first loop-k (c .field .result) (c .field .ensures)), running-space loop-inv loop-test-taken)
 
 add-k : tie.Need-add-k Inv-loop μ-loop
 add-k c = search needs
@@ -63,14 +63,14 @@ loop-again c =
     let start : tie.Start Inv-loop μ-loop = search in
     let block = start .args .block .now in
     let order = start .args .order .now in
-    let start' = start .args .start in
+    let first = start .args .start .0 in
     let loop-inv = (let p : tie.At-loop Inv-loop μ-loop = search in p .loop .inv) in
     let loop-k = (let p : tie.At-loop Inv-loop μ-loop = search in p .loop .k) in
     let loop-test-taken = (let p : tie.In-loop Inv-loop μ-loop = search in p .loop-test .taken) in
     let field-ensures = (let p : tie.After-field Inv-loop μ-loop = search in p .field .ensures) in
     let field-result = (let p : tie.After-field Inv-loop μ-loop = search in p .field .result) in
     let put-label-ensures = (let p : tie.After-put-label Inv-loop μ-loop = search in p .put-label .ensures) in
-    running-step loop-inv loop-test-taken (stored-as (label-is block order start' loop-k field-result field-ensures) put-label-ensures)
+    running-step loop-inv loop-test-taken (stored-as (label-is block order first loop-k field-result field-ensures) put-label-ensures)
 
 same-length : tie.Need-same-length Inv-loop μ-loop
 same-length c =

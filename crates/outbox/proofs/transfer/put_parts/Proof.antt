@@ -7,7 +7,6 @@ use Rattle.groups.proofs.Writing.{stored-then, stored-length}
 use Rattle.outbox.specs.Bytes.{in-part2, in-part3, in-part4}
 use Rattle.outbox.proofs.EntryLaws.{stored-as}
 use Rattle.outbox.proofs.Running.{tally-le}
-use Rattle.outbox.proofs.Ready.{opened-wide}
 use Rattle.outbox.proofs.WholeLaws.{parts-length, parts-of}
 use native.Mathlib.Omega.{arith}
 use Rattle.outbox.proofs.transfer.put_parts.Statement.{statement}
@@ -56,7 +55,7 @@ put-part2s-requires c κs =
     let starts = start .args .starts .now in
     let m = start .args .block .now in
     let len = parts-length m to counts marks order starts in (
-      (start .pre .0 .0 .memory, opened-wide (start .pre .1 .0 .2) (start .pre .1 .0 .0 .few), omega (arith, start .pre .0 .2)),
+      (start .pre .1 .0 .0 .size, start .pre .1 .0 .2, omega (arith, start .pre .0 .2)),
       omega (
         arith,
         start .pre .1 .1 .1 .1,
@@ -105,7 +104,9 @@ put-group-requires-2 c κs =
     )
 
 shared-slice-read-put-part3s : tie.Need-shared-slice-read-put-part3s
-shared-slice-read-put-part3s c = omega arith
+shared-slice-read-put-part3s c =
+    let start : tie.Start = search in
+    omega (arith, start .pre .0 .0 .header)
 
 put-part3s-requires : tie.Need-put-part3s-requires
 put-part3s-requires c κs =

@@ -57,7 +57,7 @@ put-parts-requires c κs =
     let z = start .pre .1 .1 .1 .0 in (
       (listed m ok sv, started m ok sv, start .pre .1 .1 .0 .0),
       (
-        (linked m ok sv, sv .volume-marked .size, opened m ok sv),
+        (linked m ok sv, sv .marks-size, opened m ok sv),
         (
           (z .part2-is ∙ part2-entries m ok j sv, sewn-tally m ok j sv, z .part4-is ∙ part4-entries m ok j sv),
           (

@@ -4,7 +4,7 @@ use mathlib.Core.Path.{ap}
 use Prim.Native.Nat.{ℕ}
 use lib.ListN.{length}
 use Rattle.model.specs.Layouts.{group}
-use Rattle.outbox.proofs.Ready.{linked, listed, opened, opened-wide, started, vertexed}
+use Rattle.outbox.proofs.Ready.{linked, listed, opened, started, vertexed}
 use Rattle.outbox.proofs.WholeLaws.{bounds, rest-length, sewn-tally, sized}
 use native.Mathlib.Omega.{arith}
 use Rattle.outbox.proofs.transfer.transfer_sizes.Statement.{statement}
@@ -16,7 +16,7 @@ shared-slice-read-n c =
     let m = start .args .block .now in
     let ok = start .pre .0 in
     let sv = start .pre .1 .0 .1 in
-    omega (arith, listed m ok sv .memory)
+    omega (arith, linked m ok sv .size)
 
 faces-size-requires : tie.Need-faces-size-requires
 faces-size-requires c κs =
@@ -34,7 +34,7 @@ part2-tally-requires c κs =
     let ok = start .pre .0 in
     let sv = start .pre .1 .0 .1 in
     let b = bounds m ok (start .args .to) sv in
-    ((listed m ok sv .memory, opened-wide (opened m ok sv) (linked m ok sv .few), omega (arith, start .pre .1 .1 .0)), omega (arith, b .two-bytes))
+    ((linked m ok sv .size, opened m ok sv, omega (arith, start .pre .1 .1 .0)), omega (arith, b .two-bytes))
 
 shared-slice-read-part3-size : tie.Need-shared-slice-read-part3-size
 shared-slice-read-part3-size c =
@@ -42,7 +42,7 @@ shared-slice-read-part3-size c =
     let m = start .args .block .now in
     let ok = start .pre .0 in
     let sv = start .pre .1 .0 .1 in
-    omega (arith, listed m ok sv .memory)
+    omega (arith, linked m ok sv .size)
 
 part3-size-requires : tie.Need-part3-size-requires
 part3-size-requires c κs =
@@ -52,7 +52,7 @@ part3-size-requires c κs =
     let ok = start .pre .0 in
     let sv = start .pre .1 .0 .1 in
     let b = bounds m ok to sv in
-    ((linked m ok sv, sv .volume-marked .size, opened m ok sv), (omega (arith, start .pre .1 .1 .1, sewn-tally m ok to sv), omega (arith, b .three-bytes)))
+    ((linked m ok sv, sv .marks-size, opened m ok sv), (omega (arith, start .pre .1 .1 .1, sewn-tally m ok to sv), omega (arith, b .three-bytes)))
 
 part4-tally-requires : tie.Need-part4-tally-requires
 part4-tally-requires c κs =

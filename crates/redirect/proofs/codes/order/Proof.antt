@@ -39,7 +39,7 @@ returns : tie.Need-returns
 returns c =
     let start : tie.Start = search in
     let distinct-ensures = (let p : tie.After-distinct = search in p .distinct .ensures) in
-    (distinct-ensures .0, sorted-front (start .args .codes .now) (start .args .c) (omega (arith, start .pre)) (distinct-ensures .1), search needs)
+    (distinct-ensures .0, sorted-front (start .args .codes .now) (start .args .c) (omega (arith, start .pre)) (distinct-ensures .1))
 
 pub order-spec : {M : Type 1} → statement M
 order-spec =

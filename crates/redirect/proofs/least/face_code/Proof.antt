@@ -12,17 +12,17 @@ use Rattle.redirect.proofs.least.face_code.Statement.{statement}
 use Rattle.redirect.proofs.least.face_code.Tie as tie
 
 abbrev Inv-loop : tie.InvT-loop
-Inv-loop block n start least₀ steps₀ p₀ least steps p =
-    Going n (column block 1) start (length (cycle (column block 1) start)) steps p × Lowest (column block 1) (column block 4) start steps least
+Inv-loop block n first least₀ steps₀ p₀ least steps p =
+    Going n (column block 1) first (length (cycle (column block 1) first)) steps p × Lowest (column block 1) (column block 4) first steps least
 
 abbrev μ-loop : tie.MeasureT-loop
-μ-loop block n start least₀ steps₀ p₀ least steps p =
-    length (cycle (column block 1) start) - steps
+μ-loop block n first least₀ steps₀ p₀ least steps p =
+    length (cycle (column block 1) first) - steps
 
 field-requires : tie.Need-field-requires Inv-loop μ-loop
 field-requires c κs =
     let start : tie.Start Inv-loop μ-loop = search in
-    (omega (arith, start .pre .1, start .pre .0 .few), omega arith, start .pre .0 .size)
+    (omega (arith, start .pre .1, start .pre .0 .size), omega arith)
 
 loop-holds : tie.Need-loop-holds Inv-loop μ-loop
 loop-holds c =
@@ -33,7 +33,7 @@ loop-holds c =
 field-requires-2 : tie.Need-field-requires-2 Inv-loop μ-loop
 field-requires-2 c κs =
     let start : tie.Start Inv-loop μ-loop = search in
-    (omega (arith, c .loop .inv .0 .below, start .pre .0 .few), omega arith, start .pre .0 .size)
+    (omega (arith, c .loop .inv .0 .below, start .pre .0 .size), omega arith)
 
 lesser-requires : tie.Need-lesser-requires Inv-loop μ-loop
 lesser-requires c κs = search needs
@@ -43,13 +43,13 @@ add-steps c =
     let start : tie.Start Inv-loop μ-loop = search in
     let loop-inv = (let p : tie.At-loop Inv-loop μ-loop = search in p .loop .inv) in
     let l = start .pre .0 in
-    omega (arith, loop-inv .0 .less, round (l .few) (l .next-within) (l .next-apart) (start .args .start) (start .pre .1) .few)
+    omega (arith, loop-inv .0 .less, round (l .few) (l .next-within) (l .next-apart) (start .args .start .0) (start .pre .1) .few)
 
 field-requires-3 : tie.Need-field-requires-3 Inv-loop μ-loop
 field-requires-3 c κs =
     let start : tie.Start Inv-loop μ-loop = search in
     let loop-inv = (let p : tie.At-loop Inv-loop μ-loop = search in p .loop .inv) in
-    (omega (arith, loop-inv .0 .below, start .pre .0 .few), omega arith, start .pre .0 .size)
+    (omega (arith, loop-inv .0 .below, start .pre .0 .size), omega arith)
 
 returns : tie.Need-returns Inv-loop μ-loop
 returns c =

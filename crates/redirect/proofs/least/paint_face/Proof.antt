@@ -12,12 +12,12 @@ use Rattle.redirect.proofs.least.paint_face.Statement.{statement}
 use Rattle.redirect.proofs.least.paint_face.Tie as tie
 
 abbrev Inv-loop : tie.InvT-loop
-Inv-loop block n start number table₀ steps₀ p₀ table steps p =
-    Going n (column block 1) start (length (cycle (column block 1) start)) steps p × Painted number (path (column block 1) steps start) table₀ table
+Inv-loop block n number table₀ first steps₀ p₀ table steps p =
+    Going n (column block 1) first (length (cycle (column block 1) first)) steps p × Painted number (path (column block 1) steps first) table₀ table
 
 abbrev μ-loop : tie.MeasureT-loop
-μ-loop block n start number table₀ steps₀ p₀ table steps p =
-    length (cycle (column block 1) start) - steps
+μ-loop block n number table₀ first steps₀ p₀ table steps p =
+    length (cycle (column block 1) first) - steps
 
 loop-holds : tie.Need-loop-holds Inv-loop μ-loop
 loop-holds c =
@@ -35,12 +35,12 @@ add-steps : tie.Need-add-steps Inv-loop μ-loop
 add-steps c =
     let start : tie.Start Inv-loop μ-loop = search in
     let l = start .pre .0 in
-    omega (arith, c .loop .inv .0 .less, round (l .few) (l .next-within) (l .next-apart) (start .args .start) (start .pre .1) .few)
+    omega (arith, c .loop .inv .0 .less, round (l .few) (l .next-within) (l .next-apart) (start .args .start .0) (start .pre .1) .few)
 
 field-requires : tie.Need-field-requires Inv-loop μ-loop
 field-requires c κs =
     let start : tie.Start Inv-loop μ-loop = search in
-    (omega (arith, c .loop .inv .0 .below, start .pre .0 .few), omega arith, start .pre .0 .size)
+    (omega (arith, c .loop .inv .0 .below, start .pre .0 .size), omega arith)
 
 same-length : tie.Need-same-length Inv-loop μ-loop
 same-length c =

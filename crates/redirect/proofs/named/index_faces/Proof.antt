@@ -1,9 +1,8 @@
 -- `redirect::named::index_faces` meets its contract. The loop's invariant: faces with a dart below p have their index, which is marked.
 -- The measure is what is left of the places. Assumes nothing.
-use mathlib.Core.Path.{_∙_, sym, ap}
-use Prim.Native.Nat.{ℕ, _-_}
-use lib.ListN.{length, length-replicate}
-use Rattle.model.specs.Image.{room}
+use mathlib.Core.Path.{_≡_, refl, _∙_, sym}
+use Prim.Native.Nat.{_-_}
+use lib.ListN.{length, length-set}
 use Rattle.redirect.specs.ByPlaces.{code-index}
 use Rattle.redirect.proofs.Indices.{Indexing, indexing-start, indexing-skip, indexing-away, indexing-whole, indexing-end, index-few, index-away, index-there, linked-by}
 use Rattle.redirect.proofs.Hits.{Hitting, hitting-start, hitting-face, hitting-end}
@@ -13,30 +12,27 @@ use Rattle.redirect.proofs.named.index_faces.Statement.{statement}
 use Rattle.redirect.proofs.named.index_faces.Tie as tie
 
 abbrev Inv-loop : tie.InvT-loop
-Inv-loop block n from codes c table₀ hits₀ kind p₀ table hits p =
+Inv-loop block n from codes c table₀ hits₀ word p₀ table hits p =
     Indexing (code-index block from codes c) n p table × Hitting (code-index block from codes c) n table hits
+    × (length table ≡ length table₀) × (length hits ≡ length hits₀)
 
 abbrev μ-loop : tie.MeasureT-loop
-μ-loop block n from codes c table₀ hits₀ kind p₀ table hits p =
+μ-loop block n from codes c table₀ hits₀ word p₀ table hits p =
     n - p
 
-mul-kind : tie.Need-mul-kind Inv-loop μ-loop
-mul-kind c = omega arith
-
-add-kind : tie.Need-add-kind Inv-loop μ-loop
-add-kind c = omega arith
+critical-with-requires : tie.Need-critical-with-requires Inv-loop μ-loop
+critical-with-requires c κs = omega arith
 
 loop-holds : tie.Need-loop-holds Inv-loop μ-loop
 loop-holds c =
     let start : tie.Start Inv-loop μ-loop = search in
-    let few = linked-by (start .args .block .now) (start .pre .0) (start .pre .1) .few in
-    (indexing-start _ few (start .pre .4), hitting-start _ few (start .pre .4) (start .pre .5))
+    (indexing-start _ (start .pre .1 .0) (start .pre .1 .1), hitting-start _ (start .pre .1 .1) (start .pre .1 .3), refl, refl)
 
 field-requires : tie.Need-field-requires Inv-loop μ-loop
 field-requires c κs =
     let start : tie.Start Inv-loop μ-loop = search in
-    let l = linked-by (start .args .block .now) (start .pre .0) (start .pre .1) in
-    (omega (arith, c .loop-test .taken, l .few), omega arith, l .size)
+    let l = linked-by (start .args .block .now) (start .pre .0 .0) (start .pre .0 .1) in
+    (omega (arith, c .loop-test .taken, l .size), omega arith)
 
 add-p : tie.Need-add-p Inv-loop μ-loop
 add-p c = search needs
@@ -55,20 +51,21 @@ loop-again c =
     let loop-p = (let p : tie.At-loop Inv-loop μ-loop = search in p .loop .p) in
     let loop-test-taken = (let p : tie.In-loop Inv-loop μ-loop = search in p .loop-test .taken) in
     let field-ensures = (let p : tie.After-field Inv-loop μ-loop = search in p .field .ensures) in
-    (indexing-away (loop-inv .0) loop-test-taken (index-away block from codes c' loop-p field-ensures (c .if1 .taken)), loop-inv .1)
+    let critical-with-ensures = (let p : tie.After-critical-with Inv-loop μ-loop = search in p .critical-with .ensures) in
+    (indexing-away (loop-inv .0) loop-test-taken (index-away block from codes c' loop-p field-ensures (λ i. c .if1 .taken (i ∙ sym critical-with-ensures))), loop-inv .1, loop-inv .2, loop-inv .3)
 
 mul-if2 : tie.Need-mul-if2 Inv-loop μ-loop
 mul-if2 c =
     let start : tie.Start Inv-loop μ-loop = search in
     let loop-test-taken = (let p : tie.In-loop Inv-loop μ-loop = search in p .loop-test .taken) in
-    omega (arith, loop-test-taken, linked-by (start .args .block .now) (start .pre .0) (start .pre .1) .few)
+    omega (arith, loop-test-taken, linked-by (start .args .block .now) (start .pre .0 .0) (start .pre .0 .1) .few)
 
 slice-read-if2 : tie.Need-slice-read-if2 Inv-loop μ-loop
 slice-read-if2 c =
     let start : tie.Start Inv-loop μ-loop = search in
     let loop-inv = (let p : tie.At-loop Inv-loop μ-loop = search in p .loop .inv) in
     let loop-test-taken = (let p : tie.In-loop Inv-loop μ-loop = search in p .loop-test .taken) in
-    omega (arith, loop-test-taken, linked-by (start .args .block .now) (start .pre .0) (start .pre .1) .few, loop-inv .0 .size)
+    omega (arith, loop-test-taken, loop-inv .0 .size)
 
 add-p-2 : tie.Need-add-p-2 Inv-loop μ-loop
 add-p-2 c = search needs
@@ -80,31 +77,31 @@ loop-again-2 : tie.Need-loop-again-2 Inv-loop μ-loop
 loop-again-2 c =
     let loop-inv = (let p : tie.At-loop Inv-loop μ-loop = search in p .loop .inv) in
     let loop-test-taken = (let p : tie.In-loop Inv-loop μ-loop = search in p .loop-test .taken) in
-    (indexing-skip (loop-inv .0) loop-test-taken (c .if2 .taken), loop-inv .1)
+    (indexing-skip (loop-inv .0) loop-test-taken (c .if2 .taken), loop-inv .1, loop-inv .2, loop-inv .3)
 
 face-code-requires : tie.Need-face-code-requires Inv-loop μ-loop
 face-code-requires c κs =
     let start : tie.Start Inv-loop μ-loop = search in
     let loop-test-taken = (let p : tie.In-loop Inv-loop μ-loop = search in p .loop-test .taken) in
-    (linked-by (start .args .block .now) (start .pre .0) (start .pre .1), loop-test-taken)
+    (linked-by (start .args .block .now) (start .pre .0 .0) (start .pre .0 .1), loop-test-taken)
 
 index-of-requires : tie.Need-index-of-requires Inv-loop μ-loop
 index-of-requires c κs =
     let start : tie.Start Inv-loop μ-loop = search in
-    (start .pre .3 .few, start .pre .3 .size, start .pre .3 .ascends)
+    (start .pre .0 .3 .few, start .pre .0 .3 .size, start .pre .0 .3 .ascends)
 
 cast-paint-face : tie.Need-cast-paint-face Inv-loop μ-loop
 cast-paint-face c =
     let start : tie.Start Inv-loop μ-loop = search in
     let face-code-result = (let p : tie.After-face-code Inv-loop μ-loop = search in p .face-code .result) in
-    omega (arith, index-few (start .args .codes .now) (start .args .c) face-code-result (c .index-of .ensures), start .pre .3 .few)
+    omega (arith, index-few (start .args .codes .now) (start .args .c) face-code-result (c .index-of .ensures), start .pre .0 .3 .few)
 
 paint-face-requires : tie.Need-paint-face-requires Inv-loop μ-loop
 paint-face-requires c κs =
     let start : tie.Start Inv-loop μ-loop = search in
     let loop-inv = (let p : tie.At-loop Inv-loop μ-loop = search in p .loop .inv) in
     let loop-test-taken = (let p : tie.In-loop Inv-loop μ-loop = search in p .loop-test .taken) in
-    (linked-by (start .args .block .now) (start .pre .0) (start .pre .1), loop-test-taken, loop-inv .0 .size)
+    (linked-by (start .args .block .now) (start .pre .0 .0) (start .pre .0 .1), loop-test-taken, loop-inv .0 .size)
 
 slice-write-hits : tie.Need-slice-write-hits Inv-loop μ-loop
 slice-write-hits c =
@@ -112,7 +109,7 @@ slice-write-hits c =
     let loop-inv = (let p : tie.At-loop Inv-loop μ-loop = search in p .loop .inv) in
     let face-code-result = (let p : tie.After-face-code Inv-loop μ-loop = search in p .face-code .result) in
     let index-of-ensures = (let p : tie.After-index-of Inv-loop μ-loop = search in p .index-of .ensures) in
-    omega (arith, index-few (start .args .codes .now) (start .args .c) face-code-result index-of-ensures, start .pre .3 .few, loop-inv .1 .size)
+    omega (arith, index-few (start .args .codes .now) (start .args .c) face-code-result index-of-ensures, loop-inv .3, start .pre .1 .2)
 
 add-p-3 : tie.Need-add-p-3 Inv-loop μ-loop
 add-p-3 c = search needs
@@ -131,28 +128,29 @@ loop-again-3 c =
     let loop-p = (let p : tie.At-loop Inv-loop μ-loop = search in p .loop .p) in
     let loop-test-taken = (let p : tie.In-loop Inv-loop μ-loop = search in p .loop-test .taken) in
     let field-ensures = (let p : tie.After-field Inv-loop μ-loop = search in p .field .ensures) in
+    let critical-with-ensures = (let p : tie.After-critical-with Inv-loop μ-loop = search in p .critical-with .ensures) in
     let if1-left = (let p : tie.Else1 Inv-loop μ-loop = search in p .if1 .left) in
     let face-code-ensures = (let p : tie.After-face-code Inv-loop μ-loop = search in p .face-code .ensures) in
     let face-code-result = (let p : tie.After-face-code Inv-loop μ-loop = search in p .face-code .result) in
     let index-of-ensures = (let p : tie.After-index-of Inv-loop μ-loop = search in p .index-of .ensures) in
     let paint-face-ensures = (let p : tie.After-paint-face Inv-loop μ-loop = search in p .paint-face .ensures) in
-    let there = index-there block from codes c' loop-p field-ensures if1-left face-code-ensures index-of-ensures in
+    let there = index-there block from codes c' loop-p field-ensures (if1-left ∙ critical-with-ensures) face-code-ensures index-of-ensures in
     let few = index-few codes c' face-code-result index-of-ensures in (
-      indexing-whole block (start .pre .0) (start .pre .1) from codes c' (loop-inv .0) loop-test-taken there paint-face-ensures,
-      hitting-face (loop-inv .1) loop-test-taken there (omega (arith, few, start .pre .3 .few)) paint-face-ensures,
+      indexing-whole block (start .pre .0 .0) (start .pre .0 .1) from codes c' (loop-inv .0) loop-test-taken there paint-face-ensures,
+      hitting-face (loop-inv .1) loop-test-taken there (omega (arith, few, loop-inv .3, start .pre .1 .2)) paint-face-ensures,
+      paint-face-ensures .size ∙ loop-inv .2,
+      simp length-set (loop-inv .3),
     )
 
 same-length : tie.Need-same-length Inv-loop μ-loop
 same-length c =
-    let start : tie.Start Inv-loop μ-loop = search in
     let loop-inv = (let p : tie.At-loop Inv-loop μ-loop = search in p .loop .inv) in
-    loop-inv .0 .size ∙ sym (ap length (start .pre .4) ∙ length-replicate {A = ℕ} room 4097)
+    loop-inv .2
 
 same-length-2 : tie.Need-same-length-2 Inv-loop μ-loop
 same-length-2 c =
-    let start : tie.Start Inv-loop μ-loop = search in
     let loop-inv = (let p : tie.At-loop Inv-loop μ-loop = search in p .loop .inv) in
-    loop-inv .1 .size ∙ sym (ap length (start .pre .5) ∙ length-replicate {A = ℕ} 4097 0)
+    loop-inv .3
 
 returns : tie.Need-returns Inv-loop μ-loop
 returns c =
@@ -166,8 +164,7 @@ index-faces-spec =
     (tie.spec
     Inv-loop
     μ-loop
-    mul-kind
-    add-kind
+    critical-with-requires
     loop-holds
     field-requires
     add-p

@@ -51,7 +51,7 @@ put-field-requires c κs =
     let start : tie.Start Inv-loop μ-loop = search in
     let loop-inv = (let p : tie.At-loop Inv-loop μ-loop = search in p .loop .inv) in
     let loop-test-taken = (let p : tie.In-loop Inv-loop μ-loop = search in p .loop-test .taken) in
-    (omega (arith, loop-test-taken, start .pre .0), omega arith, loop-inv .1 .size ∙ start .pre .1)
+    (omega (arith, loop-test-taken, loop-inv .1 .size, start .pre .1), omega arith)
 
 add-p-2 : tie.Need-add-p-2 Inv-loop μ-loop
 add-p-2 c = search needs

@@ -1,10 +1,11 @@
 -- `release::label::label_faces` meets its contract. The loop's invariant: the faces before f have labels.
 -- The measure is what is left of the faces. Assumes nothing.
-use mathlib.Core.Path.{_∙_}
+use mathlib.Core.Path.{sym, _∙_}
+use borrow.Author.Tests.{not-true, not-false}
 use Prim.Native.Nat.{_-_}
-use Rattle.cells.proofs.StartLaws.{in-order-few}
-use Rattle.release.proofs.Labelling.{Facing, facing-start, facing-end, sewing-stays, starting, face-skip, number-fits, face-one}
+use Rattle.release.proofs.Labelling.{Facing, facing-start, facing-end, sewing-stays, starting, face-skip, number-fits, face-one, one, order-few}
 use native.Mathlib.Omega.{arith}
+use borrow.Author.Needs.{needs}
 use Rattle.release.proofs.label.label_faces.Statement.{statement}
 use Rattle.release.proofs.label.label_faces.Tie as tie
 
@@ -30,44 +31,44 @@ loop-holds c =
 mul-i : tie.Need-mul-i Inv-loop μ-loop
 mul-i c =
     let start : tie.Start Inv-loop μ-loop = search in
-    omega (arith, c .loop-test .taken, in-order-few (start .pre .1) .1)
+    omega (arith, c .loop-test .taken, order-few (start .pre .0) (start .pre .1) .1)
 
 shared-slice-read-i : tie.Need-shared-slice-read-i Inv-loop μ-loop
 shared-slice-read-i c =
     let start : tie.Start Inv-loop μ-loop = search in
     let loop-test-taken = (let p : tie.In-loop Inv-loop μ-loop = search in p .loop-test .taken) in
-    omega (arith, loop-test-taken, in-order-few (start .pre .1) .1, start .pre .1 .starts-size)
+    omega (arith, loop-test-taken, order-few (start .pre .0) (start .pre .1) .1, start .pre .1 .starts-size)
 
 mul-p : tie.Need-mul-p Inv-loop μ-loop
 mul-p c =
     let start : tie.Start Inv-loop μ-loop = search in
     let loop-f = (let p : tie.At-loop Inv-loop μ-loop = search in p .loop .f) in
     let loop-test-taken = (let p : tie.In-loop Inv-loop μ-loop = search in p .loop-test .taken) in
-    omega (arith, starting (start .pre .0) (start .pre .1) loop-f loop-test-taken .index-lt, in-order-few (start .pre .1) .0)
+    omega (arith, starting (start .pre .0) (start .pre .1) loop-f loop-test-taken .index-lt, order-few (start .pre .0) (start .pre .1) .0)
 
 shared-slice-read-p : tie.Need-shared-slice-read-p Inv-loop μ-loop
 shared-slice-read-p c =
     let start : tie.Start Inv-loop μ-loop = search in
     let loop-f = (let p : tie.At-loop Inv-loop μ-loop = search in p .loop .f) in
     let loop-test-taken = (let p : tie.In-loop Inv-loop μ-loop = search in p .loop-test .taken) in
-    omega (arith, starting (start .pre .0) (start .pre .1) loop-f loop-test-taken .index-lt, in-order-few (start .pre .1) .0, start .pre .1 .out-size)
+    omega (arith, starting (start .pre .0) (start .pre .1) loop-f loop-test-taken .index-lt, order-few (start .pre .0) (start .pre .1) .0, start .pre .1 .out-size)
 
 add-f : tie.Need-add-f Inv-loop μ-loop
 add-f c =
     let start : tie.Start Inv-loop μ-loop = search in
     let loop-test-taken = (let p : tie.In-loop Inv-loop μ-loop = search in p .loop-test .taken) in
-    omega (arith, loop-test-taken, in-order-few (start .pre .1) .1)
+    omega (arith, loop-test-taken, order-few (start .pre .0) (start .pre .1) .1)
 
 field-requires : tie.Need-field-requires Inv-loop μ-loop
 field-requires c κs =
     let start : tie.Start Inv-loop μ-loop = search in
     let loop-f = (let p : tie.At-loop Inv-loop μ-loop = search in p .loop .f) in
     let loop-inv = (let p : tie.At-loop Inv-loop μ-loop = search in p .loop .inv) in
-    let loop-test-taken = (let p : tie.In-loop Inv-loop μ-loop = search in p .loop-test .taken) in (
-      omega (arith, starting (start .pre .0) (start .pre .1) loop-f loop-test-taken .below, start .pre .0 .few),
-      omega arith,
-      loop-inv .same .size ∙ start .pre .0 .size,
-    )
+    let loop-test-taken = (let p : tie.In-loop Inv-loop μ-loop = search in p .loop-test .taken) in
+    (omega (arith, starting (start .pre .0) (start .pre .1) loop-f loop-test-taken .below, loop-inv .same .size, start .pre .0 .size), omega arith)
+
+is-sewn-requires : tie.Need-is-sewn-requires Inv-loop μ-loop
+is-sewn-requires c κs = search needs
 
 loop-less : tie.Need-loop-less Inv-loop μ-loop
 loop-less c = omega arith
@@ -78,7 +79,8 @@ loop-again c =
     let loop-inv = (let p : tie.At-loop Inv-loop μ-loop = search in p .loop .inv) in
     let loop-test-taken = (let p : tie.In-loop Inv-loop μ-loop = search in p .loop-test .taken) in
     let field-ensures = (let p : tie.After-field Inv-loop μ-loop = search in p .field .ensures) in
-    face-skip (start .pre .0) (start .pre .1) loop-test-taken loop-inv field-ensures (c .if1 .taken)
+    let is-sewn-ensures = (let p : tie.After-is-sewn Inv-loop μ-loop = search in p .is-sewn .ensures) in
+    face-skip (start .pre .0) (start .pre .1) loop-test-taken loop-inv field-ensures (sym is-sewn-ensures ∙ not-true _ (c .if1 .taken))
 
 label-face-requires : tie.Need-label-face-requires Inv-loop μ-loop
 label-face-requires c κs =
@@ -87,14 +89,15 @@ label-face-requires c κs =
     let loop-inv = (let p : tie.At-loop Inv-loop μ-loop = search in p .loop .inv) in
     let loop-test-taken = (let p : tie.In-loop Inv-loop μ-loop = search in p .loop-test .taken) in
     let field-ensures = (let p : tie.After-field Inv-loop μ-loop = search in p .field .ensures) in
+    let is-sewn-ensures = (let p : tie.After-is-sewn Inv-loop μ-loop = search in p .is-sewn .ensures) in
     let if1-left = (let p : tie.Else1 Inv-loop μ-loop = search in p .if1 .left) in
     let s = starting (start .pre .0) (start .pre .1) loop-f loop-test-taken in (
       sewing-stays (start .pre .0) (loop-inv .same),
       s .below,
       s .inside,
-      omega (arith, field-ensures, if1-left),
+      sym field-ensures ∙ one (start .pre .0) (start .pre .1) loop-test-taken loop-inv field-ensures (sym is-sewn-ensures ∙ not-false _ if1-left),
       start .pre .2,
-      omega (arith, number-fits (start .pre .0) (start .pre .1) loop-test-taken loop-inv field-ensures if1-left, start .pre .3),
+      omega (arith, number-fits (start .pre .0) (start .pre .1) loop-test-taken loop-inv field-ensures (sym is-sewn-ensures ∙ not-false _ if1-left), start .pre .3),
     )
 
 add-number : tie.Need-add-number Inv-loop μ-loop
@@ -103,8 +106,9 @@ add-number c =
     let loop-inv = (let p : tie.At-loop Inv-loop μ-loop = search in p .loop .inv) in
     let loop-test-taken = (let p : tie.In-loop Inv-loop μ-loop = search in p .loop-test .taken) in
     let field-ensures = (let p : tie.After-field Inv-loop μ-loop = search in p .field .ensures) in
+    let is-sewn-ensures = (let p : tie.After-is-sewn Inv-loop μ-loop = search in p .is-sewn .ensures) in
     let if1-left = (let p : tie.Else1 Inv-loop μ-loop = search in p .if1 .left) in
-    omega (arith, number-fits (start .pre .0) (start .pre .1) loop-test-taken loop-inv field-ensures if1-left, start .pre .3)
+    omega (arith, number-fits (start .pre .0) (start .pre .1) loop-test-taken loop-inv field-ensures (sym is-sewn-ensures ∙ not-false _ if1-left), start .pre .3)
 
 loop-less-2 : tie.Need-loop-less-2 Inv-loop μ-loop
 loop-less-2 c = omega arith
@@ -115,9 +119,10 @@ loop-again-2 c =
     let loop-inv = (let p : tie.At-loop Inv-loop μ-loop = search in p .loop .inv) in
     let loop-test-taken = (let p : tie.In-loop Inv-loop μ-loop = search in p .loop-test .taken) in
     let field-ensures = (let p : tie.After-field Inv-loop μ-loop = search in p .field .ensures) in
+    let is-sewn-ensures = (let p : tie.After-is-sewn Inv-loop μ-loop = search in p .is-sewn .ensures) in
     let if1-left = (let p : tie.Else1 Inv-loop μ-loop = search in p .if1 .left) in
     let label-face-ensures = (let p : tie.After-label-face Inv-loop μ-loop = search in p .label-face .ensures) in
-    face-one (start .pre .0) (start .pre .1) loop-test-taken loop-inv field-ensures if1-left (label-face-ensures .0) (label-face-ensures .1)
+    face-one (start .pre .0) (start .pre .1) loop-test-taken loop-inv field-ensures (sym is-sewn-ensures ∙ not-false _ if1-left) (label-face-ensures .0) (label-face-ensures .1)
 
 same-length : tie.Need-same-length Inv-loop μ-loop
 same-length c =
@@ -145,6 +150,7 @@ label-faces-spec =
     shared-slice-read-p
     add-f
     field-requires
+    is-sewn-requires
     loop-less
     loop-again
     label-face-requires

@@ -1,8 +1,7 @@
 -- `release::remove::move_record` meets its contract: the record with its places moved is stored. Assumes nothing.
-use Prim.Native.Nat.{_<_}
 use mathlib.Core.Path.{_≡_, sym, subst}
 use lib.ListN.{getD}
-use Rattle.model.specs.Image.{room}
+use Rattle.release.specs.Asks.{Entered}
 use Rattle.memory.specs.declared.record.Record.{Record}
 use Rattle.release.proofs.Removing.{record-moved}
 use native.Mathlib.Omega.{arith}
@@ -13,29 +12,33 @@ use Rattle.release.proofs.remove.move_record.Tie as tie
 record-at-requires : tie.Need-record-at-requires
 record-at-requires c κs =
     let start : tie.Start = search in
-    (start .pre .0 .2, start .pre .0 .0)
+    start .pre .0 .0
 
 moved-requires : tie.Need-moved-requires
 moved-requires c κs =
     let start : tie.Start = search in
-    (start .pre .0 .1, subst (λ (r : Record). r .next < room) (sym (c .record-at .ensures)) (start .pre .1 .0))
+    let table = start .args .table .now in
+    let record-at-ensures = (let p : tie.After-record-at = search in p .record-at .ensures) in
+    subst (λ (r : Record). Entered table (r .next)) (sym record-at-ensures) (start .pre .1 .0)
 
 moved-requires-2 : tie.Need-moved-requires-2
 moved-requires-2 c κs =
     let start : tie.Start = search in
+    let table = start .args .table .now in
     let record-at-ensures = (let p : tie.After-record-at = search in p .record-at .ensures) in
-    (start .pre .0 .1, subst (λ (r : Record). r .opposite < room) (sym record-at-ensures) (start .pre .1 .1))
+    subst (λ (r : Record). Entered table (r .opposite)) (sym record-at-ensures) (start .pre .1 .1)
 
 moved-link-requires : tie.Need-moved-link-requires
 moved-link-requires c κs =
     let start : tie.Start = search in
+    let table = start .args .table .now in
     let record-at-ensures = (let p : tie.After-record-at = search in p .record-at .ensures) in
-    (start .pre .0 .1, subst (λ (r : Record). r .kind ≡ 1 → r .link < room) (sym record-at-ensures) (start .pre .1 .2))
+    subst (λ (r : Record). r .kind ≡ 1 → Entered table (r .link)) (sym record-at-ensures) (start .pre .1 .2)
 
 put-record-requires : tie.Need-put-record-requires
 put-record-requires c κs =
     let start : tie.Start = search in
-    (omega (arith, start .pre), start .pre .0 .0)
+    omega (arith, start .pre .0 .0, start .pre .0 .1)
 
 same-length : tie.Need-same-length
 same-length c = search needs
@@ -44,8 +47,8 @@ returns : tie.Need-returns
 returns c =
     let start : tie.Start = search in
     let block = start .args .block .now in
-    let from = start .args .from in
-    let at = start .args .at in
+    let from = start .args .from .0 in
+    let at = start .args .at .0 in
     let table = start .args .table .now in
     let record-at-ensures = (let p : tie.After-record-at = search in p .record-at .ensures) in
     let moved-ensures = (let p : tie.After-moved = search in p .moved .ensures) in

@@ -8,7 +8,7 @@ use Rattle.release.proofs.remove.moved_link.Tie as tie
 moved-requires : tie.Need-moved-requires
 moved-requires c κs =
     let start : tie.Start = search in
-    (start .pre .0, start .pre .1 (c .if1 .taken))
+    start .pre (c .if1 .taken)
 
 returns : tie.Need-returns
 returns c =

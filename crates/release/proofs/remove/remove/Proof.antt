@@ -13,14 +13,8 @@ slice-read-number c = search needs
 slice-read-n : tie.Need-slice-read-n
 slice-read-n c = search needs
 
-slice-aggregate-ranks : tie.Need-slice-aggregate-ranks
-slice-aggregate-ranks c = search needs
-
 ranks-requires : tie.Need-ranks-requires
 ranks-requires c κs = search needs
-
-slice-aggregate-compact : tie.Need-slice-aggregate-compact
-slice-aggregate-compact c = search needs
 
 compact-requires : tie.Need-compact-requires
 compact-requires c κs = search needs
@@ -57,6 +51,9 @@ write-requires c κs = search needs
 same-length : tie.Need-same-length
 same-length c = search needs
 
+same-length-2 : tie.Need-same-length-2
+same-length-2 c = search needs
+
 returns : tie.Need-returns
 returns c =
     let start : tie.Start = search in
@@ -65,7 +62,7 @@ returns c =
     let compact-ensures = (let p : tie.After-compact = search in p .compact .ensures) in
     let clear-part-ensures = (let p : tie.After-clear-part = search in p .clear-part .ensures) in
     let write-ensures = (let p : tie.After-write = search in p .write .ensures) in
-    all-removed block marks (start .pre .0 .0 .size) (start .pre .0 .0 .few) (start .pre .1) compact-ensures clear-part-ensures write-ensures
+    all-removed block marks (start .pre .0 .0 .size) (start .pre .1) compact-ensures clear-part-ensures write-ensures
 
 pub remove-spec : {M : Type 1} → statement M
 remove-spec =
@@ -73,9 +70,7 @@ remove-spec =
     (tie.spec
     slice-read-number
     slice-read-n
-    slice-aggregate-ranks
     ranks-requires
-    slice-aggregate-compact
     compact-requires
     mul-clear-part
     add-clear-part
@@ -84,4 +79,5 @@ remove-spec =
     clear-part-requires
     write-requires
     same-length
+    same-length-2
     returns)

@@ -1,6 +1,6 @@
 -- `rounds::steps::receive_at` meets its contract.
 -- Assumes nothing.
-use Rattle.model.specs.Runs.{receiving}
+use Rattle.model.specs.DividedRun.{receiving}
 use Rattle.receive.proofs.Answered.{size-refused}
 use Rattle.rounds.proofs.Stepping.{nowhere, receive-does}
 use native.Mathlib.Omega.{arith}

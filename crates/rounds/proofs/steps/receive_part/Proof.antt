@@ -1,7 +1,7 @@
 -- `rounds::steps::receive_part` meets its contract.
 -- Assumes nothing.
 use mathlib.Core.Path.{refl}
-use Rattle.model.specs.Runs.{receiving}
+use Rattle.model.specs.DividedRun.{receiving}
 use Rattle.rounds.proofs.Stepping.{stepped, receive-does}
 use borrow.Author.Needs.{needs}
 use Rattle.rounds.proofs.steps.receive_part.Statement.{statement}

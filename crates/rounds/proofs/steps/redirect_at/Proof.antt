@@ -1,6 +1,6 @@
 -- `rounds::steps::redirect_at` meets its contract.
 -- Assumes nothing.
-use Rattle.model.specs.Runs.{redirecting}
+use Rattle.model.specs.DividedRun.{redirecting}
 use Rattle.redirect.proofs.Answered.{size-refused}
 use Rattle.rounds.proofs.Stepping.{nowhere, redirect-does}
 use native.Mathlib.Omega.{arith}

@@ -1,7 +1,7 @@
 -- `rounds::steps::redirect_part` meets its contract.
 -- Assumes nothing.
 use mathlib.Core.Path.{refl}
-use Rattle.model.specs.Runs.{redirecting}
+use Rattle.model.specs.DividedRun.{redirecting}
 use Rattle.rounds.proofs.Stepping.{stepped, redirect-does}
 use borrow.Author.Needs.{needs}
 use Rattle.rounds.proofs.steps.redirect_part.Statement.{statement}

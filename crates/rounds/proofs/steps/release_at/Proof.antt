@@ -1,6 +1,6 @@
 -- `rounds::steps::release_at` meets its contract.
 -- Assumes nothing.
-use Rattle.model.specs.Runs.{releasing}
+use Rattle.model.specs.DividedRun.{releasing}
 use Rattle.release.proofs.LettingGo.{size-refused}
 use Rattle.rounds.proofs.Stepping.{nowhere, release-does}
 use native.Mathlib.Omega.{arith}

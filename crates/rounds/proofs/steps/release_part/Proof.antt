@@ -1,7 +1,7 @@
 -- `rounds::steps::release_part` meets its contract.
 -- Assumes nothing.
 use mathlib.Core.Path.{refl}
-use Rattle.model.specs.Runs.{releasing}
+use Rattle.model.specs.DividedRun.{releasing}
 use Rattle.rounds.proofs.Stepping.{stepped, release-does}
 use borrow.Author.Needs.{needs}
 use Rattle.rounds.proofs.steps.release_part.Statement.{statement}

@@ -21,19 +21,19 @@ field-requires-4 : tie.Need-field-requires-4
 field-requires-4 c κs =
     let start : tie.Start = search in
     let field2-ensures = (let p : tie.After-field2 = search in p .field2 .ensures) in
-    (omega (arith, opposite-lt _ _ (start .pre .3) (start .pre .0) field2-ensures), omega arith, search needs)
+    (omega (arith, opposite-lt _ _ (start .pre .3) (start .pre .0) field2-ensures), omega arith)
 
 field-requires-5 : tie.Need-field-requires-5
 field-requires-5 c κs =
     let start : tie.Start = search in
     let field-ensures = (let p : tie.After-field = search in p .field .ensures) in
-    (omega (arith, next-lt _ _ (start .pre .3) (start .pre .0) field-ensures), omega arith, search needs)
+    (omega (arith, next-lt _ _ (start .pre .3) (start .pre .0) field-ensures), omega arith)
 
 field-requires-6 : tie.Need-field-requires-6
 field-requires-6 c κs =
     let start : tie.Start = search in
     let field2-ensures = (let p : tie.After-field2 = search in p .field2 .ensures) in
-    (omega (arith, opposite-lt _ _ (start .pre .3) (start .pre .0) field2-ensures), omega arith, search needs)
+    (omega (arith, opposite-lt _ _ (start .pre .3) (start .pre .0) field2-ensures), omega arith)
 
 same-at-requires : tie.Need-same-at-requires
 same-at-requires c κs =
@@ -74,7 +74,7 @@ field-requires-8 : tie.Need-field-requires-8
 field-requires-8 c κs =
     let start : tie.Start = search in
     let field-ensures = (let p : tie.After-field = search in p .field .ensures) in
-    (omega (arith, next-lt _ _ (start .pre .3) (start .pre .0) field-ensures), omega arith, search needs)
+    (omega (arith, next-lt _ _ (start .pre .3) (start .pre .0) field-ensures), omega arith)
 
 field-requires-9 : tie.Need-field-requires-9
 field-requires-9 c κs =
@@ -82,7 +82,7 @@ field-requires-9 c κs =
     let field3-ensures = (let p : tie.After-field3 = search in p .field3 .ensures) in
     let if2-left = (let p : tie.Else2 = search in p .if2 .left) in
     let field7-ensures = (let p : tie.After-field7 = search in p .field7 .ensures) in
-    (omega (arith, sewn-lt _ _ (start .pre .3) (start .pre .0) field3-ensures if2-left field7-ensures), omega arith, search needs)
+    (omega (arith, sewn-lt _ _ (start .pre .3) (start .pre .0) field3-ensures if2-left field7-ensures), omega arith)
 
 sewn-at-requires : tie.Need-sewn-at-requires
 sewn-at-requires c κs =

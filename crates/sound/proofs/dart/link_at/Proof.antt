@@ -25,7 +25,7 @@ field-requires-3 c κs =
     let field-ensures = (let p : tie.After-field = search in p .field .ensures) in
     let field2-ensures = (let p : tie.After-field2 = search in p .field2 .ensures) in
     let within = both-lt (start .args .n) field-ensures field2-ensures (not-false _ (c .if1 .left)) in
-    (omega (arith, within .1), omega arith, search needs)
+    (omega (arith, within .1), omega arith)
 
 returns-2 : tie.Need-returns-2
 returns-2 c =

@@ -14,7 +14,7 @@ field-requires c κs = search needs
 field-requires-2 : tie.Need-field-requires-2
 field-requires-2 c κs =
     let start : tie.Start = search in
-    (omega (arith, opposite-place _ _ (start .pre .3) (start .pre .0) (c .field .ensures)), omega arith, search needs)
+    (omega (arith, opposite-place _ _ (start .pre .3) (start .pre .0) (c .field .ensures)), omega arith)
 
 same-at-requires : tie.Need-same-at-requires
 same-at-requires c κs =
@@ -52,7 +52,7 @@ field-requires-5 c κs =
     let field3-ensures = (let p : tie.After-field3 = search in p .field3 .ensures) in
     let if2-left = (let p : tie.Else2 = search in p .if2 .left) in
     let l = start .pre .4 _ (start .pre .0) (sym field3-ensures ∙ if2-left) in
-    (omega (arith, l, c .field4 .ensures), omega arith, search needs)
+    (omega (arith, l, c .field4 .ensures), omega arith)
 
 same-at-requires-2 : tie.Need-same-at-requires-2
 same-at-requires-2 c κs =

@@ -1,7 +1,8 @@
 -- `updates::labels::count_labels` meets its contract. The loop's invariant: the labels of the faces before f are counted.
 -- The measure is what is left of the faces. Assumes nothing.
 use mathlib.Core.Path.{ap, _∙_, sym}
-use Prim.Native.Nat.{_-_, _/_, _≤_, _<_}
+use Prim.Native.Nat.{_-_, _≤_, _<_}
+use borrow.Author.Tests.{eqb-true, eqb-false, not-true, not-false}
 use lib.ListN.{length, getD}
 use Rattle.model.specs.Image.{label-in}
 use Rattle.theory.proofs.LayoutLengths.{label-short}
@@ -57,10 +58,13 @@ field-requires c κs =
     let start : tie.Start Inv-loop μ-loop = search in
     let loop-f = (let p : tie.At-loop Inv-loop μ-loop = search in p .loop .f) in
     let loop-test-taken = (let p : tie.In-loop Inv-loop μ-loop = search in p .loop-test .taken) in
-    (start .pre .0 .0 .below (getD (start .args .starts .now) loop-f 0) (start .pre .0 .1 .below loop-f loop-test-taken), omega arith, start .pre .0 .0 .memory)
+    (start .pre .0 .0 .held (getD (start .args .starts .now) loop-f 0) (start .pre .0 .1 .below loop-f loop-test-taken), omega arith)
 
 add-f : tie.Need-add-f Inv-loop μ-loop
 add-f c = omega arith
+
+is-critical-requires : tie.Need-is-critical-requires Inv-loop μ-loop
+is-critical-requires c κs = search needs
 
 loop-less : tie.Need-loop-less Inv-loop μ-loop
 loop-less c = omega arith
@@ -70,7 +74,8 @@ loop-again c =
     let loop-inv = (let p : tie.At-loop Inv-loop μ-loop = search in p .loop .inv) in
     let loop-test-taken = (let p : tie.In-loop Inv-loop μ-loop = search in p .loop-test .taken) in
     let field-ensures = (let p : tie.After-field Inv-loop μ-loop = search in p .field .ensures) in
-    (omega (arith, loop-test-taken), shares-skip (loop-inv .1) field-ensures (c .if1 .taken))
+    let is-critical-ensures = (let p : tie.After-is-critical Inv-loop μ-loop = search in p .is-critical .ensures) in
+    (omega (arith, loop-test-taken), shares-skip (loop-inv .1) field-ensures (eqb-false _ 2 (sym is-critical-ensures ∙ not-true _ (c .if1 .taken))))
 
 sub-least-code : tie.Need-sub-least-code Inv-loop μ-loop
 sub-least-code c =
@@ -92,6 +97,9 @@ least-code-requires c κs =
 label-count-requires : tie.Need-label-count-requires Inv-loop μ-loop
 label-count-requires c κs = search needs
 
+other-of-requires : tie.Need-other-of-requires Inv-loop μ-loop
+other-of-requires c κs = search needs
+
 add-face-requires : tie.Need-add-face-requires Inv-loop μ-loop
 add-face-requires c κs =
     let start : tie.Start Inv-loop μ-loop = search in
@@ -100,12 +108,13 @@ add-face-requires c κs =
     let loop-inv = (let p : tie.At-loop Inv-loop μ-loop = search in p .loop .inv) in
     let loop-test-taken = (let p : tie.In-loop Inv-loop μ-loop = search in p .loop-test .taken) in
     let field-ensures = (let p : tie.After-field Inv-loop μ-loop = search in p .field .ensures) in
-    let field-result = (let p : tie.After-field Inv-loop μ-loop = search in p .field .result) in
+    let other-of-ensures = (let p : tie.After-other-of Inv-loop μ-loop = search in p .other-of .ensures) in
+    let other = (let p : tie.After-other-of Inv-loop μ-loop = search in p .other-of .result) in
     let least-code-result = (let p : tie.After-least-code Inv-loop μ-loop = search in p .least-code .result) in
     let label-count-ensures = (let p : tie.After-label-count Inv-loop μ-loop = search in p .label-count .ensures) in
     let few = shares-few (loop-inv .1) (omega (arith, loop-inv .0, start .pre .0 .1 .few)) in
     let small = start .pre .0 .0 .other-small (getD starts loop-f 0) (start .pre .0 .1 .below loop-f loop-test-taken) in
-    let k : field-result / 4 < 16 = omega (arith, field-ensures, small) in (
+    let k : other < 16 = omega (arith, other-of-ensures, field-ensures, small) in (
       (few .labels-size, few .bytes-size, k),
       (
         omega (arith, few .labels-few _ k),
@@ -123,6 +132,11 @@ loop-again-2 c =
     let loop-test-taken = (let p : tie.In-loop Inv-loop μ-loop = search in p .loop-test .taken) in
     let face-end-ensures = (let p : tie.After-face-end Inv-loop μ-loop = search in p .face-end .ensures) in
     let field-ensures = (let p : tie.After-field Inv-loop μ-loop = search in p .field .ensures) in
+    let is-critical-ensures = (let p : tie.After-is-critical Inv-loop μ-loop = search in p .is-critical .ensures) in
+    let other-of-ensures = (let p : tie.After-other-of Inv-loop μ-loop = search in p .other-of .ensures) in
+    let size = (let p : tie.After-label-count Inv-loop μ-loop = search in p .label-count .result) in
+    let labels = (let p : tie.At-loop Inv-loop μ-loop = search in p .loop .labels) in
+    let bytes = (let p : tie.At-loop Inv-loop μ-loop = search in p .loop .bytes) in
     let if1-left = (let p : tie.Else1 Inv-loop μ-loop = search in p .if1 .left) in
     let least-code-ensures = (let p : tie.After-least-code Inv-loop μ-loop = search in p .least-code .ensures) in
     let label-count-ensures = (let p : tie.After-label-count Inv-loop μ-loop = search in p .label-count .ensures) in
@@ -132,9 +146,9 @@ loop-again-2 c =
     let f = (let p : tie.At-loop Inv-loop μ-loop = search in p .loop .f) in
     let small = start .pre .0 .0 .other-small (getD starts f 0) (start .pre .0 .1 .below f loop-test-taken) in (
       omega (arith, loop-test-taken),
-      shares-all
-          (shares-step (loop-inv .1) field-ensures if1-left (omega (arith, field-ensures, small)) face-end-ensures least-code-ensures
-          label-count-ensures) (add-face-ensures .0) (add-face-ensures .1),
+      shares-all labels bytes size
+          (shares-step (loop-inv .1) field-ensures (eqb-true _ 2 (sym is-critical-ensures ∙ not-false _ if1-left)) (omega (arith, field-ensures, small))
+          face-end-ensures least-code-ensures label-count-ensures) other-of-ensures (add-face-ensures .0) (add-face-ensures .1),
     )
 
 same-length : tie.Need-same-length Inv-loop μ-loop
@@ -168,11 +182,13 @@ count-labels-spec =
     shared-slice-read-p
     field-requires
     add-f
+    is-critical-requires
     loop-less
     loop-again
     sub-least-code
     least-code-requires
     label-count-requires
+    other-of-requires
     add-face-requires
     loop-less-2
     loop-again-2

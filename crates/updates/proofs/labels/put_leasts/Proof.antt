@@ -1,6 +1,6 @@
 -- `updates::labels::put_leasts` meets its contract. The loop's invariant: the labels of the faces before f are put, and there is room
 -- for all. The measure is what is left of the faces. Assumes nothing.
-use mathlib.Core.Path.{ap}
+use mathlib.Core.Path.{ap, sym, _∙_}
 use Prim.Native.Nat.{_-_}
 use lib.ListN.{length, getD}
 use Rattle.outbox.proofs.EntryLaws.{stored-as}
@@ -59,13 +59,10 @@ field-requires c κs =
     let start : tie.Start Inv-loop μ-loop = search in
     let loop-f = (let p : tie.At-loop Inv-loop μ-loop = search in p .loop .f) in
     let loop-test-taken = (let p : tie.In-loop Inv-loop μ-loop = search in p .loop-test .taken) in
-    (start .pre .0 .0 .below (getD (start .args .starts .now) loop-f 0) (start .pre .0 .1 .below loop-f loop-test-taken), omega arith, start .pre .0 .0 .memory)
+    (start .pre .0 .0 .held (getD (start .args .starts .now) loop-f 0) (start .pre .0 .1 .below loop-f loop-test-taken), omega arith)
 
-mul-if1 : tie.Need-mul-if1 Inv-loop μ-loop
-mul-if1 c = omega arith
-
-add-if1 : tie.Need-add-if1 Inv-loop μ-loop
-add-if1 c = omega arith
+critical-with-requires : tie.Need-critical-with-requires Inv-loop μ-loop
+critical-with-requires c κs = omega arith
 
 loop-less : tie.Need-loop-less Inv-loop μ-loop
 loop-less c = omega arith
@@ -76,11 +73,12 @@ loop-again c =
     let loop-inv = (let p : tie.At-loop Inv-loop μ-loop = search in p .loop .inv) in
     let loop-test-taken = (let p : tie.In-loop Inv-loop μ-loop = search in p .loop-test .taken) in
     let field-ensures = (let p : tie.After-field Inv-loop μ-loop = search in p .field .ensures) in
+    let critical-with-ensures = (let p : tie.After-critical-with Inv-loop μ-loop = search in p .critical-with .ensures) in
     let a = start .args in
     let f = (let p : tie.At-loop Inv-loop μ-loop = search in p .loop .f) in
     running-skip loop-inv loop-test-taken
     (least-none (a .block .now) (a .k) (a .order .now) (a .starts .now) (a .darts) (a .count) f
-    (not-shared-by (a .block .now) (a .k) (a .order .now) (a .starts .now) (a .darts) (a .count) f field-ensures (c .if1 .taken)))
+    (not-shared-by (a .block .now) (a .k) (a .order .now) (a .starts .now) (a .darts) (a .count) f field-ensures (λ i. c .if1 .taken (i ∙ sym critical-with-ensures))))
 
 sub-least-code : tie.Need-sub-least-code Inv-loop μ-loop
 sub-least-code c =
@@ -106,13 +104,15 @@ put-label-requires c κs =
     let loop-test-taken = (let p : tie.In-loop Inv-loop μ-loop = search in p .loop-test .taken) in
     let face-end-ensures = (let p : tie.After-face-end Inv-loop μ-loop = search in p .face-end .ensures) in
     let field-ensures = (let p : tie.After-field Inv-loop μ-loop = search in p .field .ensures) in
+    let critical-with-ensures = (let p : tie.After-critical-with Inv-loop μ-loop = search in p .critical-with .ensures) in
     let if1-left = (let p : tie.Else1 Inv-loop μ-loop = search in p .if1 .left) in
+    let least-code-ensures = (let p : tie.After-least-code Inv-loop μ-loop = search in p .least-code .ensures) in
     let a = start .args in
     let f = (let p : tie.At-loop Inv-loop μ-loop = search in p .loop .f) in
     let one =
     least-one (a .block .now) (a .k) (a .order .now) (a .starts .now) (a .darts) (a .count) f _ _
-    (shared-by (a .block .now) (a .k) (a .order .now) (a .starts .now) (a .darts) (a .count) f field-ensures if1-left)
-    face-end-ensures (c .least-code .ensures)
+    (shared-by (a .block .now) (a .k) (a .order .now) (a .starts .now) (a .darts) (a .count) f field-ensures (if1-left ∙ critical-with-ensures))
+    face-end-ensures least-code-ensures
     in
     omega (arith, ap length one, running-space loop-inv loop-test-taken)
 
@@ -126,6 +126,7 @@ loop-again-2 c =
     let loop-test-taken = (let p : tie.In-loop Inv-loop μ-loop = search in p .loop-test .taken) in
     let face-end-ensures = (let p : tie.After-face-end Inv-loop μ-loop = search in p .face-end .ensures) in
     let field-ensures = (let p : tie.After-field Inv-loop μ-loop = search in p .field .ensures) in
+    let critical-with-ensures = (let p : tie.After-critical-with Inv-loop μ-loop = search in p .critical-with .ensures) in
     let if1-left = (let p : tie.Else1 Inv-loop μ-loop = search in p .if1 .left) in
     let least-code-ensures = (let p : tie.After-least-code Inv-loop μ-loop = search in p .least-code .ensures) in
     let put-label-ensures = (let p : tie.After-put-label Inv-loop μ-loop = search in p .put-label .ensures) in
@@ -133,7 +134,7 @@ loop-again-2 c =
     let f = (let p : tie.At-loop Inv-loop μ-loop = search in p .loop .f) in
     let one =
     least-one (a .block .now) (a .k) (a .order .now) (a .starts .now) (a .darts) (a .count) f _ _
-    (shared-by (a .block .now) (a .k) (a .order .now) (a .starts .now) (a .darts) (a .count) f field-ensures if1-left)
+    (shared-by (a .block .now) (a .k) (a .order .now) (a .starts .now) (a .darts) (a .count) f field-ensures (if1-left ∙ critical-with-ensures))
     face-end-ensures least-code-ensures
     in
     running-step loop-inv loop-test-taken (stored-as one put-label-ensures)
@@ -162,8 +163,7 @@ put-leasts-spec =
     shared-slice-read-p
     add-f
     field-requires
-    mul-if1
-    add-if1
+    critical-with-requires
     loop-less
     loop-again
     sub-least-code

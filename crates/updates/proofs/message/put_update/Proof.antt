@@ -21,7 +21,7 @@ put-head-requires c κs =
     (start .pre .1 .1 .0 .1) r
     in (
       (
-        omega (arith, start .pre .0 .0 .memory),
+        omega (arith, start .pre .0 .0 .header),
         start .pre .1 .0 .0,
         start .pre .1 .0 .1,
         start .pre .1 .0 .2,

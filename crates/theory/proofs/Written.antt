@@ -1,4 +1,4 @@
--- What send writes has a layout: each message is read back to the last byte. Assumes nothing.
+-- A message that has a layout is read back to the last byte, and it is known whom it is for. Assumes nothing.
 use mathlib.Core.Path.{_≡_, refl, _∙_, ap}
 use mathlib.Core.Bool.{true}
 use mathlib.Core.List.{List, _++_}
@@ -6,17 +6,16 @@ use mathlib.Core.Option.{none}
 use Prim.Native.Nat.{ℕ, _^_, _<_, _≤_}
 use native.Mathlib.Omega.{arith}
 use lib.ListN.{length}
-use borrow.Author.Tests.{eq-eqb, lt-ltb, le-leb}
+use borrow.Author.Tests.{eq-eqb, lt-ltb}
 use Rattle.model.specs.Lists.{all}
-use Rattle.model.specs.Values.{Label, serial-bound}
+use Rattle.model.specs.Values.{serial-bound}
 use Rattle.model.specs.Layouts.{Layout, group-below, group, serial, _⊗_, _⊕_, as-type, such-that, at-most, exactly, times, counted, at-end, whole, framed, unframed}
 use Rattle.model.specs.Messages.{Transfer, label, part1, transfer, Update, update, a-transfer, an-update, message-in}
-use Rattle.model.specs.Runs.{addressee}
+use Rattle.model.specs.DividedRun.{addressee}
 use Rattle.laws.proofs.Tests.{and-intro}
-use Rattle.theory.proofs.DemandTwo.{small-ok}
 use Rattle.theory.proofs.LayoutLaws.{group-lawful, framed-back}
 use Rattle.theory.proofs.LayoutLengths.{update-short}
 use Rattle.theory.proofs.MessageLaws.{transfer-lawful, update-lawful}
 
 -- WHAT HAS A LAYOUT
 pub counted-ok : {A : Type 0} (l : Layout A) (as' : List A) → length as' < 2 ^ 32 → all (l .ok) as' ≡ true → counted l .ok as' ≡ true
@@ -30,16 +29,6 @@ group-ok v h = lt-ltb v (2 ^ 32) h
 pub serial-ok : (v : ℕ) → v < serial-bound → serial .ok v ≡ true
 unfolding serial group-below
 serial-ok v h = lt-ltb v serial-bound h
-
--- the layout of a label, where a labelling goes by the same name
-abbrev pub label-layout : Layout Label
-label-layout = label
-
-pub label-ok : (l : Label) → l .maker ≤ 15 → l .number < 2 ^ 32 → l .position ≤ 4095 → label .ok l ≡ true
-unfolding label as-type _⊕_ _⊗_
-label-ok l a b c =
-    and-intro (small-ok (l .maker) 15 (omega arith) (le-leb (l .maker) 15 a))
-    (and-intro (group-ok (l .number) b) (small-ok (l .position) 4095 (omega arith) (le-leb (l .position) 4095 c)))
 
 -- A MESSAGE IS READ BACK
 pub transfer-back : (t : Transfer) → transfer .ok t ≡ true → length (transfer .put t) < 2 ^ 32 → message-in (framed transfer t) ≡ a-transfer t

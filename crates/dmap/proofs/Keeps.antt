@@ -1,0 +1,77 @@
+-- A refused call changes nothing that C lent: memory, output, scratch, the count behind `written`, the words of `answer`. Assumes nothing.
+use mathlib.Core.Path.{_≡_, refl, _∙_}
+use mathlib.Core.Logic.{_≢_}
+use mathlib.Core.List.{List}
+use Prim.Native.Nat.{ℕ}
+use native.Mathlib.Omega.{arith}
+use lib.Dec.{eqb}
+use lib.ListN.{length}
+use Rattle.model.specs.Values.{rack, all-rack}
+use Rattle.model.specs.Balance.{NextMove}
+use Rattle.model.specs.Calls.{Answer, served, refused, Result, number-of}
+use Rattle.model.specs.Demands.{Unchanged, Demand1}
+use Rattle.laws.proofs.Tests.{by-cases}
+use Rattle.theory.proofs.CallLaws.{demand1}
+use Rattle.dmap.specs.Door.{Numbered, Counted, written-over, four-first, moved-over, Moved, DoorKeeps}
+
+module _ {A : Type 0} (before : List ℕ) (result : Result A) (u : Unchanged before result) where
+  lent-kept : number-of (result .answer) ≢ 0 → result .lent ≡ before
+  lent-kept h = go (result .answer) refl h
+    where
+      go : (a : Answer A) → result .answer ≡ a → number-of a ≢ 0 → result .lent ≡ before
+      go (served v) e h = absurd (h refl)
+      go (refused n) e h = u .kept n e
+
+-- what stands behind `written`, and the words of `answer`
+count-kept : (before : ℕ) (a : Answer ℕ) → number-of a ≢ 0 → written-over before a ≡ before
+count-kept before (served v) h = absurd (h refl)
+count-kept before (refused n) h = refl
+
+words-kept : (before : List ℕ) (a : Answer NextMove) → number-of a ≢ 0 → moved-over before a ≡ before
+words-kept before (served v) h = absurd (h refl)
+words-kept before (refused n) h = refl
+
+-- by the three shapes that a C call has
+numbered-keeps : (before : List ℕ) (result : Result (Unit {0})) → Unchanged before result → (number : ℕ) (lent : List ℕ) → Numbered result number lent → number ≢ 0 → lent ≡ before
+numbered-keeps before result u number lent t h = t .left ∙ lent-kept before result u (λ e. h (t .number-is ∙ e))
+
+counted-keeps : (before : List ℕ) (result : Result ℕ) → Unchanged before result → (old number : ℕ) (lent : List ℕ) (written : ℕ)
+    → Counted result old number lent written → number ≢ 0 → (lent ≡ before) × (written ≡ old)
+counted-keeps before result u old number lent written t h =
+    let not-served : number-of (result .answer) ≢ 0 = λ e. h (t .told .number-is ∙ e) in
+    (t .left ∙ lent-kept before result u not-served, t .told .written-is ∙ count-kept old (result .answer) not-served)
+
+moved-keeps : (before : List ℕ) (result : Result NextMove) → Unchanged before result → (old : List ℕ) (number : ℕ) (lent words : List ℕ)
+    → Moved result old number lent words → number ≢ 0 → (lent ≡ before) × (words ≡ old)
+moved-keeps before result u old number lent words t h =
+    let not-served : number-of (result .answer) ≢ 0 = λ e. h (t .told .number-is ∙ e) in
+    (t .left ∙ lent-kept before result u not-served, t .told .words-are ∙ words-kept old (result .answer) not-served)
+
+-- 1 of the answer's size comes first, and leaves the scratch too
+four-unchanged : (words scratch : List ℕ) (result : Result NextMove) → Unchanged scratch result → Unchanged scratch (four-first words scratch result)
+unfolding four-first
+four-unchanged words scratch result u = by-cases (eqb (length words) 4)
+    (λ e. rw e u)
+    (λ e. rw e (record { kept = λ n h. refl; numbered = λ n h z. one-not-zero n h z }))
+  where
+    one-not-zero : (n : ℕ) → _≡_ {A = Answer NextMove} (refused 1) (refused n) → n ≢ 0
+    one-not-zero n h z = let q : 1 ≡ n = cc in absurd (one (q ∙ z))
+      where
+        one : _≡_ {A = ℕ} 1 0 → ⊥
+        one e = omega arith
+
+pub door-keeps : DoorKeeps
+door-keeps =
+    let d : Demand1 rack all-rack = demand1 rack all-rack in
+    record {
+      empty-keeps = λ n m. numbered-keeps m _ (d .empty-keeps n m);
+      read-file-keeps = λ file m. numbered-keeps m _ (d .read-file-keeps file m);
+      save-file-keeps = λ m out. counted-keeps out _ (d .save-file-keeps m out);
+      send-keeps = λ m j s outbox. counted-keeps outbox _ (d .send-keeps m j s outbox);
+      receive-keeps = λ m message. numbered-keeps m _ (d .receive-keeps m message);
+      release-keeps = λ m j s. numbered-keeps m _ (d .release-keeps m j s);
+      redirect-keeps = λ m message. numbered-keeps m _ (d .redirect-keeps m message);
+      check-mesh-keeps = λ mesh scratch. numbered-keeps scratch _ (d .check-mesh-keeps mesh scratch);
+      next-move-keeps = λ mesh n axis low high scratch before.
+          moved-keeps scratch _ (four-unchanged before scratch _ (d .numbered-keeps mesh n axis low high scratch)) before;
+    }
