@@ -6,13 +6,13 @@ use native.Mathlib.Omega.{arith}
 use lib.ListN.{getD}
 use Rattle.model.specs.Values.{Dart}
 use Rattle.model.specs.Cells.{dart-at}
-use Rattle.model.specs.Image.{column, dart-in}
+use Rattle.model.specs.Image.{count-in, column, dart-in}
 use Rattle.laws.specs.Order.{Ascending}
 use Rattle.laws.proofs.Tables.{dart-place, one-place}
 use Rattle.memory.specs.Record.{record-in}
 use Rattle.memory.specs.declared.record.Record.{Record}
 use Rattle.cells.specs.Places.{Linked}
-use Rattle.cells.proofs.Sited.{Sited, darts-in, count-in}
+use Rattle.cells.proofs.Sited.{Sited, darts-in}
 use Rattle.ranking.specs.Ranks.{value-at, index-at}
 use Rattle.arrival.specs.Sides.{next-index, pair-at, reverse-at}
 use Rattle.arrival.specs.Draft.{draft-record, Draft}

@@ -11,14 +11,14 @@ use borrow.Author.Tests.{eqb-true, eq-eqb}
 use Rattle.model.specs.Lists.{keep, mem, find, tab}
 use Rattle.model.specs.Values.{Point, Third, Dart, free, no-point, or-no-dart}
 use Rattle.model.specs.Cells.{dart-at, next-in, opposite-in}
-use Rattle.model.specs.Image.{column, dart-in, third-in}
+use Rattle.model.specs.Image.{count-in, column, dart-in, third-in}
 use Rattle.model.specs.Messages.{Transfer, size-all}
 use Rattle.model.specs.Arrival.{Side, sides, reverses, first-serial, opposite-of, new-dart, new-darts}
 use Rattle.laws.proofs.Tests.{by-cases}
 use Rattle.laws.proofs.Tables.{getD-tab, map-tab, find-none, mem-place, place-mem, dart-place}
 use Rattle.memory.specs.Record.{record-in}
 use Rattle.memory.specs.declared.record.Record.{Record}
-use Rattle.cells.proofs.Sited.{darts-in, count-in}
+use Rattle.cells.proofs.Sited.{darts-in}
 use Rattle.inbox.specs.Inbox.{FacesIn, word-in, point-in, points-in}
 use Rattle.ranking.specs.Ranks.{index-at}
 use Rattle.arrival.specs.Sides.{next-index, side-at, pair-at, reverse-at}

@@ -8,7 +8,7 @@ use lib.Dec.{eqb}
 use lib.ListN.{getD}
 use borrow.Author.Tests.{eqb-true, eq-eqb}
 use Rattle.model.specs.Lists.{all, any, mem, tab, distinct}
-use Rattle.model.specs.Departure.{same-pair, pairs-once}
+use Rattle.model.specs.Links.{same-pair, pairs-once}
 use Rattle.model.specs.Arrival.{Side, reverses, pairs-right}
 use Rattle.laws.proofs.Tests.{and-intro, and-left, and-right, same-truth}
 use Rattle.laws.proofs.Members.{Each, all-map}

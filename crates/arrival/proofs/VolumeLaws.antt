@@ -10,14 +10,14 @@ use lib.Seq.{getD-take, length-take-le, ext-getD}
 use borrow.Author.Tests.{eqb-true, eq-eqb}
 use Rattle.model.specs.Lists.{all, keep, mem, tab, same-list}
 use Rattle.model.specs.Cells.{volume, vertices, vertex-number, next-in, opposite-in}
-use Rattle.model.specs.Image.{column}
+use Rattle.model.specs.Image.{count-in, column}
 use Rattle.model.specs.Messages.{Transfer, size-all}
 use Rattle.model.specs.Arrival.{Side, sides, first-serial, new-darts, one-volume, vertices-right}
 use Rattle.laws.proofs.Tests.{by-cases, and-left, and-right, same-truth}
 use Rattle.laws.proofs.Members.{In, all-from, keep-less}
 use Rattle.laws.proofs.Tables.{length-tab, getD-tab, map-tab, tab-cong, tab-all, all-tab, mem-place, place-mem}
 use Rattle.cells.specs.Places.{Numbered, places-in, volume-of}
-use Rattle.cells.proofs.Sited.{darts-in, count-in}
+use Rattle.cells.proofs.Sited.{darts-in}
 use Rattle.cells.proofs.Reached.{volume-below}
 use Rattle.cells.proofs.Serials.{mem-map, serials-apart, volume-carried}
 use Rattle.cells.proofs.VertexSerials.{vertices-serials, number-serial}

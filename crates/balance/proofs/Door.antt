@@ -6,9 +6,9 @@ use Prim.Native.Nat.{ℕ}
 use native.Mathlib.Omega.{arith}
 use borrow.Author.Tests.{eqb-true}
 use Rattle.model.specs.Lists.{all}
-use Rattle.model.specs.Values.{rack, all-rack}
+use Rattle.model.specs.Values.{all-rack}
 use Rattle.model.specs.Sound.{blocks-right, mesh-checks}
-use Rattle.model.specs.Image.{block-in, is-image}
+use Rattle.model.specs.Image.{block-in, holds-block}
 use Rattle.model.specs.Calls.{served, memories, whole-mesh-checks}
 use Rattle.answers.specs.Answers.{answered}
 use Rattle.laws.proofs.Tests.{yes-first}
@@ -16,7 +16,7 @@ use Rattle.balance.proofs.Strikes.{none-refused}
 
 -- a mesh that passes the check has what `next_of` asks
 pub parts-passed : (m scratch : List ℕ) → served (tt {0}) ≡ answered (whole-mesh-checks all-rack m scratch)
-    → (all (λ b. is-image rack b) (memories m) ≡ true) × (blocks-right (map block-in (memories m)) ≡ true)
+    → (all (λ b. holds-block b) (memories m) ≡ true) × (blocks-right (map block-in (memories m)) ≡ true)
 unfolding whole-mesh-checks mesh-checks
 parts-passed m scratch h =
     let one = yes-first 1 _ _ (λ z. omega arith) (eqb-true _ _ (sym (none-refused (whole-mesh-checks all-rack m scratch) h))) in

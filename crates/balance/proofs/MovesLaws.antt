@@ -11,11 +11,11 @@ use lib.IntN.{ℤ, pos, negsuc, subℕ}
 use mathlib.Core.Logic.{inl}
 use borrow.Author.Tests.{le-leb, leb-true, ltb-true, eqb-true, not-true, not-false}
 use Rattle.model.specs.Lists.{all, any, keep, sum, tab, concat-map, first-no}
-use Rattle.model.specs.Values.{Block, no-block, rack, all-rack}
+use Rattle.model.specs.Values.{Block, no-block, all-rack}
 use Rattle.model.specs.Sound.{block-at, numbered-from, blocks-right}
 use Rattle.model.specs.Cells.{volume-in}
 use Rattle.model.specs.Departure.{departure-checks}
-use Rattle.model.specs.Image.{words, column, block-in, dart-in, is-image}
+use Rattle.model.specs.Image.{words, column, block-in, dart-in, holds-block}
 use Rattle.model.specs.Balance.{Oracle, Move, level, blocked, move, picked, counts, surpluses, is-above, is-below, can-move, candidates, blocks-with, first-or, next-of}
 use Rattle.model.specs.Calls.{served, memories}
 use Rattle.laws.proofs.Tests.{by-cases, and-left, and-right, same-truth}
@@ -81,7 +81,7 @@ module _ (o : Oracle) (mesh : List ℕ) (sp : SoundParts mesh) (d r : ℕ) (hd :
   mv s = record { donor = d; recipient = r; serial = s }
 
   few : getD c 2 0 ≤ 4096
-  few = sited rack c (sp .image r hr) .linked .few
+  few = sited c (sp .image r hr) .linked .few
 
   -- 9 to 14, and 21
   can-is : (s : ℕ) → can-move all-rack (mesh-in mesh) (mv s) ≡ (can-leave b s && leb (getD c 2 0 + length (volume-in (darts-in b) s)) 4096)
@@ -143,12 +143,12 @@ pub count-word : (mesh : List ℕ) (i : ℕ) → getD (part mesh i) 2 0 ≡ getD
 count-word mesh i = getD-take words (drop (i * words) mesh) 2 0 (omega arith) ∙ getD-drop (i * words) mesh 2 0
 
 pub count-few : {mesh : List ℕ} → SoundParts mesh → (i : ℕ) → i < blocks mesh → getD mesh (i * words + 2) 0 ≤ 4096
-count-few {mesh} sp i h = omega (arith, count-word mesh i, sited rack (part mesh i) (sp .image i h) .linked .few)
+count-few {mesh} sp i h = omega (arith, count-word mesh i, sited (part mesh i) (sp .image i h) .linked .few)
 
 pub leaving-ready : {mesh : List ℕ} → SoundParts mesh → (d r : ℕ) → d < blocks mesh → r < blocks mesh → (r ≡ d → ⊥) → {l : List ℕ} → l ≡ part mesh d
-    → (is-image rack l ≡ true) × (r ≤ 15) × (r ≡ getD l 0 0 → ⊥)
+    → (holds-block l ≡ true) × (r ≤ 15) × (r ≡ getD l 0 0 → ⊥)
 leaving-ready {mesh} sp d r hd hr apart {l} e =
-    (subst (λ (x : List ℕ). is-image rack x ≡ true) (sym e) (sp .image d hd), omega (arith, sp .few), λ q. apart (q ∙ ap (λ (x : List ℕ). getD x 0 0) e ∙ sp .number d hd))
+    (subst (λ (x : List ℕ). holds-block x ≡ true) (sym e) (sp .image d hd), omega (arith, sp .few), λ q. apart (q ∙ ap (λ (x : List ℕ). getD x 0 0) e ∙ sp .number d hd))
 
 pub between-there : (s : List ℕ) {l m s′ : List ℕ} {r : Candidate} {a b : ℕ} → l ≡ m → a ≡ b → r ≡ candidate-of (going (at s) l a) → Untried-in (at s) l s′
     → (r ≡ candidate-of (going (at s) m b)) × Untried-in (at s) m s′
@@ -156,11 +156,11 @@ between-there s {l} {m} {s′} {r} {a} {b} e f g u =
     (g ∙ ap (λ (x : List ℕ). candidate-of (going (at s) x a)) e ∙ ap (λ (x : ℕ). candidate-of (going (at s) m x)) f, subst (λ (x : List ℕ). Untried-in (at s) x s′) e u)
 
 -- counts are small
-picked-few : (o : Oracle) (m : List ℕ) → is-image rack m ≡ true → length (picked o (darts-in m)) ≤ 4096
+picked-few : (o : Oracle) (m : List ℕ) → holds-block m ≡ true → length (picked o (darts-in m)) ≤ 4096
 picked-few o m ok =
     few-of (ap length (picked-places o m ok) ∙ length-map kept (column m 0))
     (keep-le (λ p. ltb 0 (size-at o m p)) (places (getD m 2 0))) (length-tab (λ (p : ℕ). p) (getD m 2 0))
-    (sited rack m ok .linked .few)
+    (sited m ok .linked .few)
   where
     kept : List ℕ
     kept = keep (λ p. ltb 0 (size-at o m p)) (places (getD m 2 0))
@@ -340,7 +340,7 @@ right-says m e =
     (leb-true 1 (length m) (and-left (leb 1 (length m)) _ two), leb-true (length m) 16 (and-right (leb 1 (length m)) _ two), and-right (leb 1 (length m) && leb (length m) 16) _ e)
 
 -- what the questions 2 and 23 say of the parts
-pub sound-parts : (mesh : List ℕ) → all (λ b. is-image rack b) (memories mesh) ≡ true → blocks-right (map block-in (memories mesh)) ≡ true → SoundParts mesh
+pub sound-parts : (mesh : List ℕ) → all (λ b. holds-block b) (memories mesh) ≡ true → blocks-right (map block-in (memories mesh)) ≡ true → SoundParts mesh
 sound-parts mesh images right =
     let q = right-says (mesh-in mesh) (sym (ap blocks-right (mesh-tab mesh)) ∙ right) in
     let n = length-tab (λ i. block-in (part mesh i)) (blocks mesh) in

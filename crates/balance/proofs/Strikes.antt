@@ -11,7 +11,8 @@ use lib.ListN.{length, getD, set, length-set}
 use lib.Seq.{getD-set-same, getD-set-other}
 use borrow.Author.Tests.{ne-eqb, le-leb, lt-leb, lt-ltb}
 use Rattle.model.specs.Lists.{keep, tab, Check, first-no}
-use Rattle.model.specs.Image.{room, column, block-in}
+use Rattle.model.specs.Image.{column, block-in}
+use Rattle.model.specs.Values.{room}
 use Rattle.model.specs.Departure.{departure-checks}
 use Rattle.model.specs.Calls.{served, refused, Result, asked}
 use Rattle.answers.specs.Answers.{answered}

@@ -8,9 +8,9 @@ use lib.Dec.{leb, ltb, eqb}
 use lib.ListN.{length, getD, drop, replicate}
 use lib.IntN.{ℤ, pos}
 use Rattle.model.specs.Lists.{keep, tab, concat-map, first-no}
-use Rattle.model.specs.Values.{Block, rack, all-rack}
+use Rattle.model.specs.Values.{Block, all-rack, room}
 use Rattle.model.specs.Sound.{block-at}
-use Rattle.model.specs.Image.{room, column, block-in, is-image}
+use Rattle.model.specs.Image.{column, block-in, holds-block}
 use Rattle.model.specs.Departure.{departure-checks}
 use Rattle.model.specs.Balance.{Oracle, Move, NextMove, move, blocked, picked, counts, surpluses, is-above, is-below, can-move, blocks-with}
 use Rattle.mesh.specs.Parts.{blocks, part}
@@ -66,7 +66,7 @@ at sizes p = getD sizes p 0
 pub record SoundParts (mesh : List ℕ) : Type 0 where
   pub some : 1 ≤ blocks mesh
   pub few : blocks mesh ≤ 16
-  pub image : (i : ℕ) → i < blocks mesh → is-image rack (part mesh i) ≡ true
+  pub image : (i : ℕ) → i < blocks mesh → holds-block (part mesh i) ≡ true
   pub number : (i : ℕ) → i < blocks mesh → getD (part mesh i) 0 0 ≡ i
 
 -- the model's blocks

@@ -10,9 +10,9 @@ ghost use Prim.Native.Nat.{_-_, _<_};
 ghost use lib.ListN.{length, getD};
 ghost use lib.IntN.{pos};
 ghost use Rattle.model.specs.Lists.{all};
-ghost use Rattle.model.specs.Values.{rack, all-rack};
+ghost use Rattle.model.specs.Values.{all-rack, room};
 ghost use Rattle.model.specs.Sound.{blocks-right};
-ghost use Rattle.model.specs.Image.{room, block-in, is-image};
+ghost use Rattle.model.specs.Image.{block-in, holds-block};
 ghost use Rattle.model.specs.Calls.{memories, served};
 ghost use Rattle.model.specs.Balance.{blocked, first-or, is-above, next-of as model-next};
 ghost use Rattle.answers.specs.Answers.{move-of};
@@ -114,7 +114,7 @@ fn first_move(
 
 // The next move of a sound mesh by an oracle.
 pub fn next_of(mesh: &[u64], o: Oracle) -> NextMove
-    requires { ⌜ (all (λ b. is-image rack b) (memories (now mesh)) ≡ true) × (blocks-right (map block-in (memories (now mesh))) ≡ true) ⌝ }
+    requires { ⌜ (all (λ b. holds-block b) (memories (now mesh)) ≡ true) × (blocks-right (map block-in (memories (now mesh))) ≡ true) ⌝ }
     ensures { λ r. ⌜ move-of r ≡ served (model-next all-rack (oracle-of o) (map block-in (memories (now (mesh .entry))))) ⌝ }
 {
     let k = mesh.len() / Header::WORDS;

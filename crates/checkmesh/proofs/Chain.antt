@@ -9,7 +9,7 @@ use borrow.Author.Tests.{eqb-true}
 use Rattle.model.specs.Lists.{all, Check, first-no}
 use Rattle.model.specs.Values.{rack}
 use Rattle.model.specs.Sound.{blocks-right, serials-distinct, labels-paired, points-across, makers-right, mesh-checks}
-use Rattle.model.specs.Image.{block-in, is-image}
+use Rattle.model.specs.Image.{block-in, holds-block}
 use Rattle.model.specs.Calls.{Answer, served, refused, Result, asked, memories, mesh-lent, scratch-entries, whole-mesh-checks, check-mesh}
 use Rattle.laws.proofs.Tests.{yes-first}
 use Rattle.answers.specs.Answers.{Gives, answered}
@@ -44,16 +44,16 @@ module _ (m s : List ℕ) where
   unfolding whole-mesh-checks
   size-no e f = alone _ (ask-no refl (said-no e f) refl)
 
-  pub image-no : mesh-lent scratch-entries m s ≡ true → {r : Bool} → r ≡ all (λ b. is-image rack b) (memories m) → not r ≡ true → refused 2 ≡ answered checks
+  pub image-no : mesh-lent scratch-entries m s ≡ true → {r : Bool} → r ≡ all (λ b. holds-block b) (memories m) → not r ≡ true → refused 2 ≡ answered checks
   unfolding whole-mesh-checks
   image-no a e f = alone _ (ask-yes a (ask-no refl (said-no e f) refl))
 
-  pub numbers-no : mesh-lent scratch-entries m s ≡ true → all (λ b. is-image rack b) (memories m) ≡ true → {r : Bool}
+  pub numbers-no : mesh-lent scratch-entries m s ≡ true → all (λ b. holds-block b) (memories m) ≡ true → {r : Bool}
       → r ≡ blocks-right (map block-in (memories m)) → not r ≡ true → refused 23 ≡ answered checks
   unfolding whole-mesh-checks mesh-checks
   numbers-no a b e f = alone _ (ask-yes a (ask-yes b (ask-no refl (said-no e f) refl)))
 
-  pub serials-no : mesh-lent scratch-entries m s ≡ true → all (λ b. is-image rack b) (memories m) ≡ true
+  pub serials-no : mesh-lent scratch-entries m s ≡ true → all (λ b. holds-block b) (memories m) ≡ true
       → blocks-right (map block-in (memories m)) ≡ true → {r : Bool} → r ≡ serials-distinct (map block-in (memories m))
       → not r ≡ true
       → refused 24 ≡ answered checks
@@ -104,7 +104,7 @@ unfolding whole-mesh-checks mesh-checks
 right m s e =
     let bs = map block-in (memories m) in
     let q1 = yes-first 1 (mesh-lent scratch-entries m s) _ (λ z. omega arith) (none-no _ e) in
-    let q2 = yes-first 2 (all (λ b. is-image rack b) (memories m)) _ (λ z. omega arith) (q1 .1) in
+    let q2 = yes-first 2 (all (λ b. holds-block b) (memories m)) _ (λ z. omega arith) (q1 .1) in
     let q23 = yes-first 23 (blocks-right bs) _ (λ z. omega arith) (q2 .1) in
     let q24 = yes-first 24 (serials-distinct bs) _ (λ z. omega arith) (q23 .1) in
     let q25 = yes-first 25 (labels-paired bs) _ (λ z. omega arith) (q24 .1) in

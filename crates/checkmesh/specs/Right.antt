@@ -4,15 +4,14 @@ use mathlib.Core.Bool.{true}
 use mathlib.Core.List.{List, map}
 use Prim.Native.Nat.{ℕ}
 use Rattle.model.specs.Lists.{all}
-use Rattle.model.specs.Values.{rack}
 use Rattle.model.specs.Sound.{blocks-right, serials-distinct, labels-paired, points-across, makers-right}
-use Rattle.model.specs.Image.{block-in, is-image}
+use Rattle.model.specs.Image.{block-in, holds-block}
 use Rattle.model.specs.Calls.{memories, mesh-lent, scratch-entries}
 
 -- 1, 2, 23 and 24
 pub record Begun (m s : List ℕ) : Type 0 where
   pub lent : mesh-lent scratch-entries m s ≡ true
-  pub images : all (λ b. is-image rack b) (memories m) ≡ true
+  pub images : all (λ b. holds-block b) (memories m) ≡ true
   pub numbered : blocks-right (map block-in (memories m)) ≡ true
   pub serials : serials-distinct (map block-in (memories m)) ≡ true
 

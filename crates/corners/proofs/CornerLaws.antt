@@ -7,9 +7,9 @@ use native.Mathlib.Omega.{arith}
 use native.Mathlib.Numerals.{add-one}
 use lib.ListN.{length, getD, take, length-map}
 use lib.Seq.{take-suc, length-take-le}
-use Rattle.model.specs.Values.{Point as Patterns, rack}
+use Rattle.model.specs.Values.{Point as Patterns}
 use Rattle.model.specs.Cells.{faces, held}
-use Rattle.model.specs.Image.{column, dart-in, block-in, is-image}
+use Rattle.model.specs.Image.{column, dart-in, block-in, holds-block}
 use Rattle.model.specs.Messages.{Transfer}
 use Rattle.model.specs.Departure.{transfer-of}
 use Rattle.memory.specs.declared.point.Point.{Point}
@@ -41,22 +41,22 @@ unfolding sum-from
 sum-none f l = refl
 
 -- THE CORNERS of the cell of the dart at place p, from its darts in message order and its vertices
-pub cornered : (m : List ℕ) → is-image rack m ≡ true → (p : ℕ) → p < getD m 2 0 → {marks : List ℕ} → Marked (volume-of m p) marks
+pub cornered : (m : List ℕ) → holds-block m ≡ true → (p : ℕ) → p < getD m 2 0 → {marks : List ℕ} → Marked (volume-of m p) marks
     → {out starts : List ℕ} {darts count : ℕ} → InOrder (faces (column m 1) (marked (getD m 2 0) marks)) out starts darts count
     → {numbers firsts : List ℕ} {vs : ℕ} → Numbered (column m 1) (column m 2) (take darts out) numbers firsts vs → Cornered m p firsts vs
 unfolding transfer-of transfer-at corner-points
 cornered m ok p h mk {out} {starts} {darts} o nb =
-    let linked = sited rack m ok .linked in
+    let linked = sited m ok .linked in
     let ended = ends-ready linked h mk o nb in
     record {
       size = nb .firsts-size;
       few = ended .count-few;
       below = ended .first-below;
-      points = ap (λ (t : Transfer). t .points) (transfer-law (sited rack m ok) (image-passed m ok) p h mk o nb 0);
+      points = ap (λ (t : Transfer). t .points) (transfer-law (sited m ok) (image-passed m ok) p h mk o nb 0);
     }
 
 -- THE MEAN
-pub mean-there : (m : List ℕ) (s : ℕ) → is-image rack m ≡ true → held (block-in m .darts) s ≡ true → {p : ℕ} → column m 0 p ≡ s
+pub mean-there : (m : List ℕ) (s : ℕ) → holds-block m ≡ true → held (block-in m .darts) s ≡ true → {p : ℕ} → column m 0 p ≡ s
     → {firsts : List ℕ} {count : ℕ} → Cornered m p firsts count → {a r : Point} → a ≡ sum-of (map (λ q. dart-in m q .point) (take count firsts)) → r ≡ over-number a count
     → mean.Is r ≡ mean-in m s
 unfolding mean-in mean-of
@@ -68,10 +68,10 @@ mean-there m s ok there {p} here {firsts} {count} c {a} {r} e t =
     t ∙ ap (λ (x : Point). over-number x count) (e ∙ ap sum-of (sym ps)) ∙ ap (over-number (sum-of (corner-points (block-in m .darts) s))) (sym long) in
     rw (ok, there) (ap mean.Is q)
 
-pub mean-unsound : (m : List ℕ) (s : ℕ) → is-image rack m ≡ false → mean.Not ≡ mean-in m s
+pub mean-unsound : (m : List ℕ) (s : ℕ) → holds-block m ≡ false → mean.Not ≡ mean-in m s
 unfolding mean-in
 mean-unsound m s e = rw e
 
-pub mean-nowhere : (m : List ℕ) (s : ℕ) → is-image rack m ≡ true → held (block-in m .darts) s ≡ false → mean.Not ≡ mean-in m s
+pub mean-nowhere : (m : List ℕ) (s : ℕ) → holds-block m ≡ true → held (block-in m .darts) s ≡ false → mean.Not ≡ mean-in m s
 unfolding mean-in
 mean-nowhere m s ok e = rw (ok, e)

@@ -7,9 +7,9 @@ use lib.IntN.{pos}
 use lib.ListN.{length, getD, take}
 use lib.Ieee.{binary64, add, div, ofInt}
 use Rattle.model.specs.Lists.{concat}
-use Rattle.model.specs.Values.{Dart, Point as Patterns, rack}
+use Rattle.model.specs.Values.{Dart, Point as Patterns, room}
 use Rattle.model.specs.Cells.{dart-at, next-in, opposite-in, faces-in, vertices, held}
-use Rattle.model.specs.Image.{room, column, dart-in, block-in, is-image}
+use Rattle.model.specs.Image.{column, dart-in, block-in, holds-block}
 use Rattle.memory.specs.declared.point.Point.{Point}
 use Rattle.memory.specs.Point.{point-of}
 use Rattle.corners.specs.declared.Mean.{Mean}
@@ -38,7 +38,7 @@ mean-of ds s = over-number (sum-of (corner-points ds s)) (length (corner-points 
 
 -- THE ANSWER, if the memory is a sound block's image that holds the serial
 unfoldable pub mean-in : List ℕ → ℕ → Mean
-mean-in m s = cond (is-image rack m && held (block-in m .darts) s) (mean.Is (mean-of (block-in m .darts) s)) mean.Not
+mean-in m s = cond (holds-block m && held (block-in m .darts) s) (mean.Is (mean-of (block-in m .darts) s)) mean.Not
 
 -- BY PLACE: a dart of each corner of the cell of the dart at place p
 pub record Cornered (m : List ℕ) (p : ℕ) (firsts : List ℕ) (count : ℕ) : Type 0 where

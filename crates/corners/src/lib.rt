@@ -5,8 +5,8 @@ ghost use mathlib.Core.Bool.{true};
 ghost use mathlib.Core.List.{map};
 ghost use Prim.Native.Nat.{ℕ, _≤_, _<_};
 ghost use lib.ListN.{length, getD, take};
-ghost use Rattle.model.specs.Values.{rack};
-ghost use Rattle.model.specs.Image.{room, dart-in, is-image};
+ghost use Rattle.model.specs.Values.{room};
+ghost use Rattle.model.specs.Image.{dart-in, holds-block};
 ghost use Rattle.picking.specs.Picked.{Walkable};
 ghost use Rattle.corners.specs.Corners.{plus-point, over-number, sum-of, Cornered, mean-in};
 use memory::lookup;
@@ -68,7 +68,7 @@ fn sum_at(block: &[u64], places: &[usize], count: usize) -> Point
 
 // The corners of the cell of the dart at place p: `firsts` gets a dart of each. Returns how many there are.
 fn corners_at(block: &[u64], p: usize, firsts: &mut [usize]) -> usize
-    requires { ⌜ (is-image rack (now block) ≡ true) × (p < getD (now block) 2 0) × (length (now firsts) ≡ room) ⌝ }
+    requires { ⌜ (holds-block (now block) ≡ true) × (p < getD (now block) 2 0) × (length (now firsts) ≡ room) ⌝ }
     ensures { λ r. ⌜ Cornered (now (block .entry)) p (now (firsts .exit)) r ⌝ }
 {
     let n = block[2] as usize;

@@ -12,7 +12,7 @@ use borrow.Author.Tests.{eqb-true, ltb-true}
 use Rattle.model.specs.Lists.{all, mem, tab, find, concat-map}
 use Rattle.model.specs.Values.{Third, sewn}
 use Rattle.model.specs.Image.{column, third-in}
-use Rattle.model.specs.Departure.{Link}
+use Rattle.model.specs.Links.{Link}
 use Rattle.laws.proofs.Tests.{by-cases, lt-or-ge, and-left, and-right}
 use Rattle.laws.proofs.Tables.{find-none, mem-place, place-mem}
 use Rattle.columns.specs.Columns.{Kind, kind-sewn}

@@ -10,15 +10,14 @@ use lib.ListN.{length, getD, take, length-map}
 use lib.Seq.{getD-take, length-take-le}
 use borrow.Author.Tests.{eqb-true, ltb-true}
 use Rattle.model.specs.Lists.{all, distinct, tab}
-use Rattle.model.specs.Values.{rack}
 use Rattle.model.specs.Cells.{cycle}
-use Rattle.model.specs.Image.{column, block-in, is-image}
+use Rattle.model.specs.Image.{count-in, column, block-in, holds-block}
 use Rattle.model.specs.Messages.{Transfer}
 use Rattle.model.specs.Arrival.{indices-right, consecutive, part2-right, part2-apart, labels-new, parts-right, transfer-links}
 use Rattle.laws.proofs.Tests.{by-cases, and-left, and-right}
 use Rattle.laws.proofs.Orbits.{iter}
 use Rattle.laws.proofs.Tables.{all-tab}
-use Rattle.cells.proofs.Sited.{sited, darts-in, count-in}
+use Rattle.cells.proofs.Sited.{sited, darts-in}
 use Rattle.inbox.specs.declared.message.Front.{Front}
 use Rattle.inbox.specs.declared.message.Tail.{Tail}
 use Rattle.inbox.specs.Arrived.{TransferOutlined}
@@ -42,7 +41,7 @@ use Rattle.fitting.proofs.LabelLaws.{parts-split, codes-differ}
 use Rattle.fitting.proofs.Outlined.{told-of, full, vertices-below, arrives, points-finite}
 
 -- THE PLACES that part 2 meets, where every entry passes
-module _ {m d ranks z codes places indices kinds kinds′ links links′ : List ℕ} {from c : ℕ} {r : Bool} (ok : is-image rack m ≡ true) (located : Located m codes c (count-in m) places)
+module _ {m d ranks z codes places indices kinds kinds′ links links′ : List ℕ} {from c : ℕ} {r : Bool} (ok : holds-block m ≡ true) (located : Located m codes c (count-in m) places)
     (told : Part2Told m d ranks z places indices (count-in m) from c kinds kinds′ links links′ r) (yes : r ≡ true) where
   abbrev place : ℕ → ℕ
   place e = getD places e 0
@@ -59,7 +58,7 @@ module _ {m d ranks z codes places indices kinds kinds′ links links′ : List 
     where
       go : LocatedAt m (getD codes e 0) (count-in m) (getD places e 0) → (getD places e 0 < count-in m) × (1 < column m 3 (getD places e 0)) × (column m 4 (getD places e 0) ≡ getD codes e 0)
       go (inl f) = f
-      go (inr f) = absurd (let few = sited rack m ok .linked .few in let y = f .0 in let l = below e h in omega (arith, few, y, l))
+      go (inr f) = absurd (let few = sited m ok .linked .few in let y = f .0 in let l = below e h in omega (arith, few, y, l))
 
   size : (e : ℕ) → e < c → face-size z indices e ≡ length (cycle (column m 1) (place e))
   size e h = eqb-true (face-size z indices e) (length (cycle (column m 1) (place e)))
@@ -74,7 +73,7 @@ module _ {m d ranks z codes places indices kinds kinds′ links links′ : List 
     code-is = λ e h. there e h .2;
     size-is = size;
     met-is = λ e j h u.
-        ap (λ (n : ℕ). met-at (cycle (column m 1) (place e)) n j) (size e h) ∙ trails.met-is (sited rack m ok .linked) (below e h) j (let n = size e h in omega (arith, n, u))
+        ap (λ (n : ℕ). met-at (cycle (column m 1) (place e)) n j) (size e h) ∙ trails.met-is (sited m ok .linked) (below e h) j (let n = size e h in omega (arith, n, u))
         ∙ ap (λ (n : ℕ). iter (column m 1) (n - j) (place e)) (sym (size e h)) ∙ sym (steps-iter (column m 1) (face-size z indices e - j) (place e));
   }
 
@@ -83,7 +82,7 @@ last-no true true c e = e
 last-no true false c e = refl
 last-no false b c e = refl
 
-module _ {m s v x b z : List ℕ} {f : Front} {l : Tail} {ranks d : List ℕ} (ok : is-image rack m ≡ true) (new : NewVolume m s v x b z f l ranks d)
+module _ {m s v x b z : List ℕ} {f : Front} {l : Tail} {ranks d : List ℕ} (ok : holds-block m ≡ true) (new : NewVolume m s v x b z f l ranks d)
     {codes indices kinds links : List ℕ} {r : Bool} (first : CriticalRight m s b z (f .darts) (f .from) (f .to) l codes indices kinds links r) where
   abbrev halves : Transfer → Bool
   halves t = all (part2-right (darts-in m) t) (t .part2) && part2-apart (darts-in m) (t .part2)
@@ -186,7 +185,7 @@ module _ {m s v x b z : List ℕ} {f : Front} {l : Tail} {ranks d : List ℕ} (o
           let apart : part2-apart (darts-in m) (t .part2) ≡ true = and-right (all (part2-right (darts-in m) t) (t .part2)) _ (sym (second-is e t w) ∙ y) in
           brought m ok (a w) (told w) (indexed w) (told-of w .few) (omega (arith, indices-size, few w)) place2
           (met-once m ok (a w) (told w) (indexed w) (told-of w .few) (omega (arith, indices-size, few w)) place2 apart)
-          (drafted-apart m (sited rack m ok) (new .draft) (new .fresh) refl) (told w .words-right) (second .told e .kinds-are y) (second .told e .links-are y)
+          (drafted-apart m (sited m ok) (new .draft) (new .fresh) refl) (told w .words-right) (second .told e .kinds-are y) (second .told e .links-are y)
 
       pub parted : Parted m s v x b z f l kinds′ links′ q
       parted = record {

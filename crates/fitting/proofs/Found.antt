@@ -8,8 +8,7 @@ use lib.Dec.{eqb}
 use borrow.Author.Tests.{eq-eqb, ne-eqb}
 use Rattle.model.specs.Lists.{tab, find, zip, concat-map}
 use Rattle.model.specs.Values.{sewn}
-use Rattle.model.specs.Departure.{Link}
-use Rattle.model.specs.Arrival.{sew-both}
+use Rattle.model.specs.Links.{Link, sew-both}
 use Rattle.laws.proofs.Tests.{by-cases}
 
 -- the first of two that is there

@@ -9,7 +9,7 @@ use lib.ListN.{length}
 use borrow.Author.Tests.{not-true}
 use Rattle.model.specs.Lists.{mem, distinct, least, tab}
 use Rattle.model.specs.Cells.{cycle, labelled, next-in}
-use Rattle.model.specs.Image.{column}
+use Rattle.model.specs.Image.{count-in, column}
 use Rattle.model.specs.Messages.{Part2}
 use Rattle.model.specs.Arrival.{part2-apart}
 use Rattle.laws.proofs.Tests.{lt-or-ge, and-left, and-right}
@@ -20,7 +20,7 @@ use Rattle.laws.proofs.Tables.{map-tab, tab-cong, mem-place, one-place}
 use Rattle.ranking.proofs.RankLaws.{tab-distinct}
 use Rattle.cells.proofs.Reached.{places, in-places, places-below, within-places}
 use Rattle.cells.proofs.Paths.{apart-places, few-places}
-use Rattle.cells.proofs.Sited.{Sited, darts-in, count-in}
+use Rattle.cells.proofs.Sited.{Sited, darts-in}
 use Rattle.cells.proofs.FaceSerials.{cycle-carried}
 use Rattle.cells.proofs.VertexSerials.{least-map}
 

@@ -10,12 +10,12 @@ use lib.ListN.{length, getD, take, length-map}
 use lib.Seq.{getD-take, length-take-le}
 use borrow.Author.Tests.{not-true}
 use Rattle.model.specs.Lists.{all, ascending, distinct, tab, zip, concat-map}
-use Rattle.model.specs.Values.{rack, Dart, code, finite}
+use Rattle.model.specs.Values.{Dart, code, finite}
 use Rattle.model.specs.Cells.{cycle, held, labelled, previous-in}
-use Rattle.model.specs.Image.{column, dart-in, block-in, is-image}
+use Rattle.model.specs.Image.{column, dart-in, block-in, holds-block}
 use Rattle.model.specs.Messages.{Part2, Transfer}
-use Rattle.model.specs.Departure.{Link}
-use Rattle.model.specs.Arrival.{sew-both, face-from, part2-links, transfer-links, indices-right, part2-apart}
+use Rattle.model.specs.Links.{Link, sew-both}
+use Rattle.model.specs.Arrival.{face-from, part2-links, transfer-links, indices-right, part2-apart}
 use Rattle.laws.proofs.Tests.{and-left, and-right}
 use Rattle.laws.proofs.Maps.{map-at}
 use Rattle.laws.proofs.Members.{In, all-in, all-from, append-in}
@@ -77,10 +77,10 @@ drafted-apart m {x =
         (all finite (points-in s from′ n) && all (λ i. leb 1 (getD x i 0) && not (held (darts-in m) (getD x i 0))) (tab (λ i. i) k))
         (distinct (take k x)) (sym (new .is) ∙ e))
 
-module _ (m : List ℕ) (ok : is-image rack m ≡ true) where
+module _ (m : List ℕ) (ok : holds-block m ≡ true) where
   steps-below : (k y : ℕ) → y < getD m 2 0 → steps (column m 1) k y < getD m 2 0
   steps-below zero y h = h
-  steps-below (suc k) y h = steps-below k (column m 1 y) (sited rack m ok .linked .next-within y h)
+  steps-below (suc k) y h = steps-below k (column m 1 y) (sited m ok .linked .next-within y h)
 
   -- AN ENTRY whose label the dart at place y has, with a face of n darts from index i on
   pub part2-is : (t : Transfer) (x : List ℕ) (e : Part2) (i n y : ℕ) (w : ℕ → ℕ) → face-from t (e .index) ≡ tab (λ j. getD x (i + j) 0) n
@@ -110,7 +110,7 @@ both-start p l r a b = all-from p (l ++ r) (λ x h. ⊎-elim (λ (u : In x l). a
 abbrev no-entry : Part2
 no-entry = record { label = record { maker = 0; number = 0; position = 0 }; index = 0 }
 
-module _ (m : List ℕ) (ok : is-image rack m ≡ true) {t : Transfer} {v x b z s : List ℕ} {k from to : ℕ} {l : Tail} {codes indices kinds links : List ℕ} (a : Arrives t v x b z s k from to l)
+module _ (m : List ℕ) (ok : holds-block m ≡ true) {t : Transfer} {v x b z s : List ℕ} {k from to : ℕ} {l : Tail} {codes indices kinds links : List ℕ} (a : Arrives t v x b z s k from to l)
     (told : CriticalTold t x b z k l codes indices kinds links) (right : indices-right t ≡ true) (few : k ≤ 512) (room2 : l .count2 ≤ length indices) where
   abbrev entry : ℕ → Part2
   entry e = getD (t .part2) e no-entry
@@ -176,13 +176,13 @@ module _ (m : List ℕ) (ok : is-image rack m ≡ true) {t : Transfer} {v x b z 
     pub met-once : part2-apart (block-in m .darts) (t .part2) ≡ true → MetOnce z indices (l .count2) w
     met-once apart = record {
       once =
-          λ d i e j hd hi he hj q. apart-differ (sited rack m ok) (t .part2) entry (λ e. getD places e 0) (l .count2) entries-are
+          λ d i e j hd hi he hj q. apart-differ (sited m ok) (t .part2) entry (λ e. getD places e 0) (l .count2) entries-are
           (met .place-below) (λ e h. ap (λ (r : Dart). r .serial) (labelled-there e h)) apart d i e j
           hd (subst (λ (c : ℕ). i < c) (met .size-is d hd) hi) he (subst (λ (c : ℕ). j < c) (met .size-is e he) hj) (sym (met-there d i hd hi) ∙ q ∙ met-there e j he hj);
     }
 
     pub once-apart : MetOnce z indices (l .count2) w → part2-apart (block-in m .darts) (t .part2) ≡ true
-    once-apart r = differ-apart (sited rack m ok) (t .part2) entry (λ e. getD places e 0) (l .count2) entries-are (met .place-below) (λ e h. ap (λ (r : Dart). r .serial) (labelled-there e h))
+    once-apart r = differ-apart (sited m ok) (t .part2) entry (λ e. getD places e 0) (l .count2) entries-are (met .place-below) (λ e h. ap (λ (r : Dart). r .serial) (labelled-there e h))
         (λ d i e j hd hi he hj q. let ui = subst (λ (c : ℕ). i < c) (sym (met .size-is d hd)) hi in let uj = subst
         (λ (c : ℕ). j < c) (sym (met .size-is e he)) hj in r .once d i e j hd ui he uj
         (met-there d i hd ui ∙ q ∙ sym (met-there e j he uj)) .0)

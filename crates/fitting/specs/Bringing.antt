@@ -9,8 +9,7 @@ use lib.ListN.{length, getD}
 use Rattle.model.specs.Lists.{all, mem, tab}
 use Rattle.model.specs.Cells.{cycle}
 use Rattle.model.specs.Image.{column}
-use Rattle.model.specs.Departure.{Link}
-use Rattle.model.specs.Arrival.{sew-both}
+use Rattle.model.specs.Links.{Link, sew-both}
 use Rattle.columns.specs.Columns.{Kind}
 use Rattle.arrival.specs.Sides.{Segments}
 use Rattle.parts.specs.Faces.{Faced}

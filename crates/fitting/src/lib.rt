@@ -4,8 +4,7 @@ ghost use mathlib.Core.Bool.{true};
 ghost use mathlib.Core.List.{List};
 ghost use Prim.Native.Nat.{ℕ, _≤_, _<_, _^_};
 ghost use lib.ListN.{length, getD, replicate};
-ghost use Rattle.model.specs.Values.{rack};
-ghost use Rattle.model.specs.Image.{is-image};
+ghost use Rattle.model.specs.Image.{holds-block};
 ghost use Rattle.fitting.specs.Fitting.{CodesRanked, Part2Ready, Part2Done, NewVolume, Parted};
 use inbox::message::Front;
 use inbox::message::Tail;
@@ -77,7 +76,7 @@ pub fn parts_right(
     kinds: &mut [u64],
     links: &mut [u64],
 ) -> bool
-    requires { ⌜ (is-image rack (now block) ≡ true) × (length (now starts) ≡ 512) × (length (now sizes) ≡ 512) × (length (now ranks) ≡ 512) × (now kinds ≡ replicate 512 0) × (now links ≡ replicate 512 0) × (front .from ≤ 15) ⌝ }
+    requires { ⌜ (holds-block (now block) ≡ true) × (length (now starts) ≡ 512) × (length (now sizes) ≡ 512) × (length (now ranks) ≡ 512) × (now kinds ≡ replicate 512 0) × (now links ≡ replicate 512 0) × (front .from ≤ 15) ⌝ }
     requires { ⌜ ((v : List ℕ) × (x : List ℕ) × NewVolume (now block) (now message) v x (now starts) (now sizes) front tail (now ranks) (now draft)) ⌝ }
     ensures { λ r. ⌜ ((v x : List ℕ) → NewVolume (now (block .entry)) (now (message .entry)) v x (now (starts .entry)) (now (sizes .entry)) front tail (now (ranks .entry)) (now (draft .entry)) → Parted (now (block .entry)) (now (message .entry)) v x (now (starts .entry)) (now (sizes .entry)) front tail (now (kinds .exit)) (now (links .exit)) r) × (length (now (kinds .exit)) ≡ 512) × (length (now (links .exit)) ≡ 512) ⌝ }
 {

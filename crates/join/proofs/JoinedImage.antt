@@ -9,9 +9,9 @@ use lib.Dec.{eqb}
 use lib.ListN.{length, getD}
 use borrow.Author.Tests.{eqb-true, eq-eqb, ne-eqb}
 use Rattle.model.specs.Lists.{any, tab}
-use Rattle.model.specs.Values.{Dart}
-use Rattle.model.specs.Image.{room, words, image, column, dart-in, block-in}
-use Rattle.model.specs.Departure.{Link, relink}
+use Rattle.model.specs.Values.{Dart, room}
+use Rattle.model.specs.Image.{words, image, column, dart-in, block-in}
+use Rattle.model.specs.Links.{Link, relink}
 use Rattle.laws.proofs.Tests.{by-cases, and-intro, and-left, and-right, eq-or-ne}
 use Rattle.laws.proofs.Tables.{any-tab, tab-any, map-tab, tab-cong}
 use Rattle.columns.specs.Columns.{Kind, kind-sewn, Ranged, Places, before}

@@ -12,7 +12,8 @@ use lib.ListN.{length, getD, set, take, drop, length-set, length-take, take-appe
 use lib.Seq.{getD-set-same, getD-set-other, getD-take, drop-at, length-take-le, take-take, take-append-le}
 use borrow.Author.Tests.{eq-eqb, ne-eqb, lt-ltb, le-ltb, ltb-true, ltb-false}
 use Rattle.model.specs.Lists.{concat}
-use Rattle.model.specs.Image.{room, words, column}
+use Rattle.model.specs.Image.{words, column}
+use Rattle.model.specs.Values.{room}
 use Rattle.laws.specs.Order.{Ascending}
 use Rattle.laws.proofs.Tests.{lt-or-ge, eq-or-ne}
 use Rattle.laws.proofs.Maps.{tab-more}

@@ -8,9 +8,9 @@ use native.Mathlib.Omega.{arith}
 use lib.ListN.{length, getD, drop, replicate, length-drop, length-replicate}
 use lib.Seq.{ext-getD, getD-drop}
 use Rattle.model.specs.Lists.{concat, mem, distinct, tab, ascending, find, index-of}
-use Rattle.model.specs.Values.{Dart, Block, rack, no-dart}
+use Rattle.model.specs.Values.{Dart, Block, no-dart, room}
 use Rattle.model.specs.Cells.{serials}
-use Rattle.model.specs.Image.{room, image, column, block-in, dart-in, dart-words, is-image}
+use Rattle.model.specs.Image.{count-in, image, column, block-in, dart-in, dart-words, holds-block}
 use Rattle.model.specs.Arrival.{insert-all}
 use Rattle.laws.specs.Order.{Ascending}
 use Rattle.laws.proofs.Tests.{by-cases}
@@ -22,7 +22,7 @@ use Rattle.columns.specs.Columns.{Kind, kind-free}
 use Rattle.columns.proofs.Thirds.{kind-back}
 use Rattle.columns.proofs.Question.{image-passed}
 use Rattle.cells.specs.Places.{Linked}
-use Rattle.cells.proofs.Sited.{count-in, sited}
+use Rattle.cells.proofs.Sited.{sited}
 use Rattle.removal.specs.LetGo.{moved-words}
 use Rattle.removal.proofs.ReleasedImage.{link-moved}
 use Rattle.join.specs.Weave.{up, Between, weave, rows, woven-at}
@@ -42,10 +42,10 @@ words-moved m ss t p kind next opposite link =
     λ i. column m 0 p ∷ next i ∷ opposite i ∷ k i ∷ l i ∷ column m 5 p ∷ column m 6 p ∷ column m 7 p ∷ []
 
 -- a sound block and a draft of free darts, of other serials
-pub drafted : (m c : List ℕ) → is-image rack m ≡ true → Linked c (count-in c) → Ascending (count-in c) (column c 0) → ((q : ℕ) → q < count-in c → (column c 3 q ≡ 0) × (column c 4 q ≡ 0))
+pub drafted : (m c : List ℕ) → holds-block m ≡ true → Linked c (count-in c) → Ascending (count-in c) (column c 0) → ((q : ℕ) → q < count-in c → (column c 3 q ≡ 0) × (column c 4 q ≡ 0))
     → ((p q : ℕ) → p < count-in m → q < count-in c → column m 0 p ≡ column c 0 q → ⊥) → count-in m + count-in c ≤ room → Drafted m c (count-in m) (count-in c)
 drafted m c ok l up-c free differ fits =
-    let site = sited rack m ok in
+    let site = sited m ok in
     let b = site .linked in
     let range = image-passed m ok .range in
     record {

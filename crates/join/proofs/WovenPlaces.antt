@@ -12,7 +12,7 @@ use lib.ListN.{length, getD}
 use Rattle.model.specs.Lists.{distinct, tab}
 use Rattle.model.specs.Values.{Dart, critical, sewn, no-dart}
 use Rattle.model.specs.Cells.{serials, dart-at}
-use Rattle.model.specs.Image.{words, column, block-in, dart-in, dart-words, third-in, label-in}
+use Rattle.model.specs.Image.{count-in, words, column, block-in, dart-in, dart-words, third-in, label-in}
 use Rattle.model.specs.Arrival.{insert-all}
 use Rattle.laws.specs.Order.{Ascending}
 use Rattle.laws.proofs.Tests.{lt-or-ge}
@@ -22,7 +22,7 @@ use Rattle.theory.proofs.ImageLaws.{column-is, image-length}
 use Rattle.columns.specs.Columns.{Kind, kind-free, kind-sewn, kind-critical}
 use Rattle.columns.proofs.Thirds.{third-free, third-sewn, third-critical}
 use Rattle.cells.specs.Places.{Within, Apart, Linked}
-use Rattle.cells.proofs.Sited.{Sited, count-in, darts-in}
+use Rattle.cells.proofs.Sited.{Sited, darts-in}
 use Rattle.removal.specs.LetGo.{moved-words}
 use Rattle.removal.proofs.ReleasedImage.{link-sewn, link-other}
 use Rattle.removal.proofs.CutFaces.{kind-one}

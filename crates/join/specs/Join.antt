@@ -9,7 +9,7 @@ use lib.ListN.{getD}
 use Rattle.model.specs.Lists.{find}
 use Rattle.model.specs.Values.{sewn}
 use Rattle.model.specs.Image.{column, third-in}
-use Rattle.model.specs.Departure.{Link}
+use Rattle.model.specs.Links.{Link}
 use Rattle.columns.specs.Columns.{Kind}
 use Rattle.join.specs.Weave.{woven-at}
 use Rattle.join.specs.Woven.{Drafted, Stands}

@@ -7,7 +7,8 @@ use mathlib.Core.List.{List}
 use Prim.Native.Nat.{ℕ, _+_, _*_, _≤_, _<_}
 use lib.Dec.{eqb}
 use lib.ListN.{length, getD, set}
-use Rattle.model.specs.Image.{room, words, column}
+use Rattle.model.specs.Image.{words, column}
+use Rattle.model.specs.Values.{room}
 
 -- the place of the new dart with index i
 abbrev pub place-of : List ℕ → List ℕ → ℕ → ℕ

@@ -5,7 +5,7 @@ pub mod sewing; // sewing.rt: words 3 and 4 of the new darts, and of those they 
 ghost use mathlib.Core.Path.{_≡_};
 ghost use Prim.Native.Nat.{_≤_};
 ghost use lib.ListN.{length, getD};
-ghost use Rattle.model.specs.Image.{room};
+ghost use Rattle.model.specs.Values.{room};
 ghost use Rattle.join.specs.Join.{MayJoin, Joins};
 
 // `old` and `new` are lent for the places of the darts of both.

@@ -2,7 +2,8 @@
 ghost use mathlib.Core.Path.{_≡_};
 ghost use Prim.Native.Nat.{_<_};
 ghost use lib.ListN.{length, getD};
-ghost use Rattle.model.specs.Image.{room, words};
+ghost use Rattle.model.specs.Image.{words};
+ghost use Rattle.model.specs.Values.{room};
 ghost use Rattle.join.specs.Thirds.{with-third, sewn-at, Sewable, Sewn};
 use memory::record;
 use memory::record::MessageIndex;

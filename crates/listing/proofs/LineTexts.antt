@@ -10,8 +10,8 @@ use borrow.Author.Tests.{eq-eqb, ne-eqb}
 use Rattle.laws.proofs.Tests.{eq-or-ne}
 use Rattle.laws.proofs.Tables.{length-tab}
 use Rattle.model.specs.Lists.{tab, concat-map}
-use Rattle.model.specs.Values.{Third, rack}
-use Rattle.model.specs.Image.{column, label-in, third-in, dart-in, block-in, is-image}
+use Rattle.model.specs.Values.{Third}
+use Rattle.model.specs.Image.{column, label-in, third-in, dart-in, block-in, holds-block}
 use Rattle.model.specs.Listing.{bytes, decimal, third-text, dart-line, header-line, listing}
 use Rattle.groups.proofs.Writing.{stored-length}
 use Rattle.columns.proofs.Question.{image-passed}
@@ -169,7 +169,7 @@ module _ {m : List ℕ} {n : ℕ} (s : AllSmall m n) where
       let few = length-most (dart-text m) 60 i (λ p k. dart-short m p (s .each p (omega arith))) in
       omega (arith, w .stored .past, stored-length (w .stored))
 
-module _ (m : List ℕ) (e : is-image rack m ≡ true) where
+module _ (m : List ℕ) (e : holds-block m ≡ true) where
   pub block-short : length (decimal (getD m 0 0)) ≤ 2
   block-short = decimal-most 1 (getD m 0 0) (omega (arith, image-passed m e .range .number-small))
 
@@ -204,7 +204,7 @@ pub listing-parts : (m : List ℕ) → listing (block-in m) ≡ header-line (blo
 unfolding listing
 listing-parts m = refl
 
-pub listing-short : (m : List ℕ) → is-image rack m ≡ true → length (listing (block-in m)) ≤ 245800
+pub listing-short : (m : List ℕ) → holds-block m ≡ true → length (listing (block-in m)) ≤ 245800
 listing-short m e =
     let a = header-line (block-in m) in
     let b = concat-map dart-line (tab (dart-in m) (getD m 2 0)) in

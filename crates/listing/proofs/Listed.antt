@@ -5,8 +5,8 @@ use mathlib.Core.List.{List, _++_}
 use Prim.Native.Nat.{ℕ, _<_, _≤_}
 use lib.ListN.{length, replicate}
 use borrow.Author.Tests.{lt-ltb, le-ltb}
-use Rattle.model.specs.Values.{Limits}
-use Rattle.model.specs.Image.{room, words, block-in, is-image}
+use Rattle.model.specs.Values.{Limits, room}
+use Rattle.model.specs.Image.{words, block-in, is-image}
 use Rattle.model.specs.Calls.{served, refused, Result, read-file}
 use Rattle.model.specs.Demands.{Bytes}
 use Rattle.model.specs.Listing.{bytes, decimal, listing, listing-of, listed}

@@ -7,8 +7,7 @@ ghost use mathlib.Core.List.{_++_};
 ghost use mathlib.Core.Path.{_≡_};
 ghost use Prim.Native.Nat.{_≤_};
 ghost use lib.ListN.{length};
-ghost use Rattle.model.specs.Values.{rack};
-ghost use Rattle.model.specs.Image.{block-in, is-image};
+ghost use Rattle.model.specs.Image.{block-in, holds-block};
 ghost use Rattle.model.specs.Listing.{bytes, decimal, listing};
 ghost use Rattle.listing.specs.Printed.{Printed, listing-room, refusal-room};
 
@@ -17,7 +16,7 @@ pub const ROOM: usize = 262144;
 
 // The listing of a sound block.
 pub fn put_listing(block: &[u64], out: &mut [u8]) -> usize
-    requires { ⌜ (is-image rack (now block) ≡ true) × (listing-room ≤ length (now out)) ⌝ }
+    requires { ⌜ (holds-block (now block) ≡ true) × (listing-room ≤ length (now out)) ⌝ }
     ensures { λ r. ⌜ Printed (listing (block-in (now (block .entry)))) (now (out .entry)) (now (out .exit)) r ⌝ }
 {
     let past_header = lines::put_header(block, out);

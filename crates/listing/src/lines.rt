@@ -4,8 +4,7 @@ ghost use mathlib.Core.Path.{_≡_};
 ghost use Prim.Native.Nat.{_+_, _*_, _≤_};
 ghost use lib.ListN.{length};
 ghost use Rattle.model.specs.Lists.{tab, concat-map};
-ghost use Rattle.model.specs.Values.{rack};
-ghost use Rattle.model.specs.Image.{third-in, dart-in, block-in, is-image};
+ghost use Rattle.model.specs.Image.{third-in, dart-in, block-in, holds-block};
 ghost use Rattle.model.specs.Listing.{third-text, dart-line, header-line};
 ghost use Rattle.groups.specs.Slices.{Stored};
 ghost use Rattle.savefile.specs.Named.{ThirdSmall, Small, AllSmall};
@@ -65,7 +64,7 @@ pub fn put_darts(block: &[u64], n: usize, out: &mut [u8], at: usize) -> usize
 
 // The block's line, at the output's start.
 pub fn put_header(block: &[u64], out: &mut [u8]) -> usize
-    requires { ⌜ (is-image rack (now block) ≡ true) × (40 ≤ length (now out)) ⌝ }
+    requires { ⌜ (holds-block (now block) ≡ true) × (40 ≤ length (now out)) ⌝ }
     ensures { λ r. ⌜ Stored (now (out .entry)) 0 (header-line (block-in (now (block .entry)))) (now (out .exit)) r ⌝ }
 {
     let past_block = text::put_text(out, 0, b"block ");

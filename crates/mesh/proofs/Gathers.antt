@@ -15,10 +15,10 @@ use Rattle.laws.proofs.Maps.{tab-more}
 use Rattle.laws.proofs.Tables.{all-tab, length-tab}
 use Rattle.memory.proofs.Lookups.{serials-tab}
 use Rattle.model.specs.Lists.{all, tab, same-list, distinct}
-use Rattle.model.specs.Values.{Dart, Block, rack}
+use Rattle.model.specs.Values.{Dart, Block, room}
 use Rattle.model.specs.Cells.{serials}
 use Rattle.model.specs.Sound.{all-darts, blocks-right, serials-distinct}
-use Rattle.model.specs.Image.{room, words, column, image, block-in, is-image}
+use Rattle.model.specs.Image.{words, column, image, block-in, holds-block}
 use Rattle.model.specs.Calls.{memories, mesh-lent, scratch-entries}
 use Rattle.mesh.specs.Parts.{blocks, part, Roomy, serials-of, gathered, Put}
 use Rattle.mesh.proofs.Parts.{mesh-tab}
@@ -199,13 +199,13 @@ unfolding serials-distinct
 gathered-all m = ap distinct (gathered-is m (blocks m) ∙ ap (λ (l : List Block). serials (all-darts l)) (sym (mesh-tab m)))
 
 -- WHAT WAS ASKED before gives the room
-pub roomy : (m : List ℕ) → all (λ b. is-image rack b) (memories m) ≡ true → Roomy m
+pub roomy : (m : List ℕ) → all (λ b. holds-block b) (memories m) ≡ true → Roomy m
 unfolding memories is-image
 roomy m e i h =
     leb-true _ _
     (and-left (leb (getD (part m i) 2 0) room) _
     (and-left (leb (getD (part m i) 2 0) room && same-list (image (block-in (part m i))) (part m i)) _
-    (all-tab (λ b. is-image rack b) (part m) (length m / words) e i h)))
+    (all-tab (λ b. holds-block b) (part m) (length m / words) e i h)))
 
 few-tab : (g : ℕ → Block) (n : ℕ) → blocks-right (tab g n) ≡ true → n ≤ 16
 unfolding blocks-right

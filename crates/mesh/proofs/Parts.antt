@@ -11,9 +11,9 @@ use borrow.Author.Tests.{eqb-true, eq-eqb, ne-eqb, le-leb, lt-leb}
 use Rattle.laws.proofs.Tests.{and-intro, and-left, and-right, same-truth}
 use Rattle.laws.proofs.Tables.{length-tab, map-tab, getD-tab}
 use Rattle.model.specs.Lists.{all, tab}
-use Rattle.model.specs.Values.{Block, rack}
+use Rattle.model.specs.Values.{Block}
 use Rattle.model.specs.Sound.{numbered-from, blocks-right}
-use Rattle.model.specs.Image.{words, block-in, is-image}
+use Rattle.model.specs.Image.{words, block-in, holds-block}
 use Rattle.model.specs.Calls.{memories, mesh-lent, scratch-entries}
 use Rattle.columns.specs.Columns.{all-below}
 use Rattle.columns.proofs.Below.{below-at, at-below, below-none, below-step, all-is}
@@ -82,11 +82,11 @@ module _ (m s : List ℕ) where
 
 -- 2
 abbrev pub sound-test : List ℕ → ℕ → Bool
-sound-test m i = is-image rack (part m i)
+sound-test m i = holds-block (part m i)
 
-pub sound-is : (m : List ℕ) → all-below (sound-test m) (blocks m) ≡ all (λ b. is-image rack b) (memories m)
+pub sound-is : (m : List ℕ) → all-below (sound-test m) (blocks m) ≡ all (λ b. holds-block b) (memories m)
 unfolding memories
-sound-is m = all-is (λ b. is-image rack b) (part m) (length m / words)
+sound-is m = all-is (λ b. holds-block b) (part m) (length m / words)
 
 -- 23
 pub numbered-at : (g : ℕ → Block) (n i : ℕ) → numbered-from i (tab g n) ≡ true → (p : ℕ) → p < n → eqb (g p .number) (i + p) ≡ true

@@ -7,7 +7,8 @@ use lib.Dec.{eqb, ltb}
 use lib.ListN.{length, getD, take, drop}
 use Rattle.model.specs.Lists.{tab}
 use Rattle.columns.specs.Columns.{all-below}
-use Rattle.model.specs.Image.{room, words, column}
+use Rattle.model.specs.Image.{words, column}
+use Rattle.model.specs.Values.{room}
 
 -- how many blocks
 abbrev pub blocks : List ℕ → ℕ

@@ -8,9 +8,8 @@ ghost use lib.Dec.{eqb};
 ghost use lib.ListN.{length};
 ghost use mathlib.Core.List.{map};
 ghost use Rattle.model.specs.Lists.{all};
-ghost use Rattle.model.specs.Values.{rack};
 ghost use Rattle.model.specs.Sound.{blocks-right as right-blocks};
-ghost use Rattle.model.specs.Image.{block-in, is-image};
+ghost use Rattle.model.specs.Image.{block-in, holds-block};
 ghost use Rattle.model.specs.Calls.{memories, mesh-lent as lent, scratch-entries};
 ghost use Rattle.columns.specs.Columns.{all-below};
 ghost use Rattle.mesh.specs.Parts.{blocks, part, number-test};
@@ -46,7 +45,7 @@ pub fn mesh_lent(mesh: &[u64], scratch: &[u64]) -> bool
 // Whether block i is sound.
 fn sound_at(mesh: &[u64], i: usize) -> bool
     requires { ⌜ i < blocks (now mesh) ⌝ }
-    ensures { λ r. ⌜ r ≡ is-image rack (part (now (mesh .entry)) i) ⌝ }
+    ensures { λ r. ⌜ r ≡ holds-block (part (now (mesh .entry)) i) ⌝ }
 {
     let from = i * Header::WORDS;
     let to = from + Header::WORDS;
@@ -55,7 +54,7 @@ fn sound_at(mesh: &[u64], i: usize) -> bool
 
 // 2: is each part a sound block's image?
 pub fn all_sound(mesh: &[u64]) -> bool
-    ensures { λ r. ⌜ r ≡ all (λ b. is-image rack b) (memories (now (mesh .entry))) ⌝ }
+    ensures { λ r. ⌜ r ≡ all (λ b. holds-block b) (memories (now (mesh .entry))) ⌝ }
 {
     let k = mesh.len() / Header::WORDS;
     // The blocks below i are sound.

@@ -5,9 +5,9 @@ ghost use mathlib.Core.List.{map};
 ghost use Prim.Native.Nat.{_≤_, _<_};
 ghost use lib.ListN.{length, getD};
 ghost use Rattle.model.specs.Lists.{all};
-ghost use Rattle.model.specs.Values.{rack};
+ghost use Rattle.model.specs.Values.{room};
 ghost use Rattle.model.specs.Sound.{makers-right as right-makers};
-ghost use Rattle.model.specs.Image.{room, words, block-in, is-image};
+ghost use Rattle.model.specs.Image.{words, block-in, holds-block};
 ghost use Rattle.model.specs.Calls.{memories};
 ghost use Rattle.mesh.specs.Parts.{blocks, part, Roomy, made-test, made-block};
 use memory::header::Header;
@@ -59,7 +59,7 @@ fn made_part(mesh: &[u64], i: usize) -> bool
 
 // 27: of all blocks; asked after 2.
 pub fn makers_right(mesh: &[u64]) -> bool
-    requires { ⌜ all (λ b. is-image rack b) (memories (now mesh)) ≡ true ⌝ }
+    requires { ⌜ all (λ b. holds-block b) (memories (now mesh)) ≡ true ⌝ }
     ensures { λ r. ⌜ r ≡ right-makers (map block-in (memories (now (mesh .entry)))) ⌝ }
 {
     let k = mesh.len() / Header::WORDS;

@@ -6,9 +6,9 @@ ghost use Prim.Native.Nat.{_+_, _≤_, _<_};
 ghost use lib.Dec.{eqb};
 ghost use lib.ListN.{length, getD, take, replicate};
 ghost use Rattle.model.specs.Lists.{all, distinct};
-ghost use Rattle.model.specs.Values.{rack};
+ghost use Rattle.model.specs.Values.{room};
 ghost use Rattle.model.specs.Sound.{blocks-right, serials-distinct as distinct-serials};
-ghost use Rattle.model.specs.Image.{room, words, block-in, is-image};
+ghost use Rattle.model.specs.Image.{words, block-in, holds-block};
 ghost use Rattle.model.specs.Calls.{memories, mesh-lent, scratch-entries};
 ghost use Rattle.mesh.specs.Parts.{blocks, part, Roomy, serials-of, gathered, Put};
 use memory::header::Header;
@@ -87,7 +87,7 @@ pub fn clear(scratch: &mut [u64])
 
 // 24: whether no two darts of the mesh have one serial; asked after 1, 2 and 23.
 pub fn serials_distinct(mesh: &[u64], scratch: &mut [u64]) -> bool
-    requires { ⌜ (mesh-lent scratch-entries (now mesh) (now scratch) ≡ true) × (all (λ b. is-image rack b) (memories (now mesh)) ≡ true) × (blocks-right (map block-in (memories (now mesh))) ≡ true) ⌝ }
+    requires { ⌜ (mesh-lent scratch-entries (now mesh) (now scratch) ≡ true) × (all (λ b. holds-block b) (memories (now mesh)) ≡ true) × (blocks-right (map block-in (memories (now mesh))) ≡ true) ⌝ }
     ensures { λ r. ⌜ (r ≡ distinct-serials (map block-in (memories (now (mesh .entry))))) × (now (scratch .exit) ≡ now (scratch .entry)) ⌝ }
 {
     let c = gather(mesh, scratch);

@@ -9,10 +9,10 @@ use lib.Dec.{leb, eqb, ltb}
 use lib.ListN.{length, getD, List·getD-eq-default}
 use borrow.Author.Tests.{eqb-true, eqb-false, eq-eqb, lt-ltb, le-ltb, ltb-true, not-true}
 use Rattle.model.specs.Lists.{tab, find}
-use Rattle.model.specs.Values.{Third, critical, Dart, Block, no-dart, no-block, or-no-dart, rack, code, label-key, is-critical-with}
+use Rattle.model.specs.Values.{Third, critical, Dart, Block, no-dart, no-block, or-no-dart, code, label-key, is-critical-with}
 use Rattle.model.specs.Cells.{third-at, previous-in, labelled}
 use Rattle.model.specs.Sound.{block-at, blocks-right, numbered-from}
-use Rattle.model.specs.Image.{words, column, label-in, third-in, dart-in, block-in, is-image}
+use Rattle.model.specs.Image.{words, column, label-in, third-in, dart-in, block-in, holds-block}
 use Rattle.model.specs.Calls.{memories}
 use Rattle.laws.proofs.Tests.{by-cases, and-left, and-right}
 use Rattle.laws.proofs.Tables.{all-tab, length-tab, getD-tab}
@@ -172,7 +172,7 @@ module _ {m : List ℕ} (a : Asked m) where
 
   pub passed : (i : ℕ) → i < blocks m → Passed (part m i)
   unfolding memories
-  passed i h = image-passed (part m i) (all-tab (λ b. is-image rack b) (part m) (length m / words) (a .images) i h)
+  passed i h = image-passed (part m i) (all-tab (λ b. holds-block b) (part m) (length m / words) (a .images) i h)
 
   pub number-is : (i : ℕ) → i < blocks m → getD (part m i) 0 0 ≡ i
   number-is i h =

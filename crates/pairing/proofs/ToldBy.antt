@@ -8,8 +8,8 @@ use lib.Dec.{eqb}
 use lib.ListN.{length, getD, take, drop}
 use lib.Seq.{length-take-le, take-at}
 use Rattle.model.specs.Lists.{sorted}
-use Rattle.model.specs.Image.{room, words, column}
-use Rattle.model.specs.Values.{Point as Patterns, same-point}
+use Rattle.model.specs.Image.{words, column}
+use Rattle.model.specs.Values.{Point as Patterns, same-point, room}
 use Rattle.memory.specs.declared.point.Point.{Point}
 use Rattle.memory.specs.Point.{point-of, patterns, FinitePoint, FiniteAt}
 use Rattle.memory.proofs.Points.{point-finite, point-patterns}

@@ -6,9 +6,8 @@ use Prim.Native.Nat.{ℕ, _+_, _*_, _/_, _%_, _<_}
 use lib.Dec.{eqb}
 use lib.ListN.{length, getD}
 use Rattle.model.specs.Lists.{all}
-use Rattle.model.specs.Values.{rack}
 use Rattle.model.specs.Sound.{blocks-right}
-use Rattle.model.specs.Image.{column, block-in, is-image}
+use Rattle.model.specs.Image.{column, block-in, holds-block}
 use Rattle.model.specs.Calls.{memories}
 use Rattle.columns.specs.Columns.{count}
 use Rattle.memory.specs.declared.point.Point.{Point}
@@ -17,7 +16,7 @@ use Rattle.mesh.specs.Parts.{blocks, part}
 
 -- questions 2 and 23 were answered yes
 pub record Asked (m : List ℕ) : Type 0 where
-  pub images : all (λ b. is-image rack b) (memories m) ≡ true
+  pub images : all (λ b. holds-block b) (memories m) ≡ true
   pub numbered : blocks-right (map block-in (memories m)) ≡ true
 
 -- word f of dart g

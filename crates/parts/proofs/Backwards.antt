@@ -9,7 +9,7 @@ use lib.ListN.{length, length-map}
 use Rattle.model.specs.Lists.{tab}
 use Rattle.model.specs.Values.{rack}
 use Rattle.model.specs.Cells.{cycle, serials, next-in, previous-in}
-use Rattle.model.specs.Image.{column, dart-in, block-in, is-image}
+use Rattle.model.specs.Image.{count-in, column, dart-in, block-in, holds-block}
 use Rattle.laws.proofs.Tests.{lt-or-ge}
 use Rattle.laws.proofs.Members.{In, ascending-distinct}
 use Rattle.laws.proofs.Orbits.{iter, iter-add, path, iter-stays, around-path}
@@ -17,7 +17,7 @@ use Rattle.laws.proofs.Tables.{length-tab, map-tab, tab-cong, mem-place}
 use Rattle.theory.proofs.BlockLaws.{Links, links-from}
 use Rattle.theory.proofs.ImageLaws.{ranges-of}
 use Rattle.cells.proofs.FaceSerials.{cycle-carried}
-use Rattle.cells.proofs.Sited.{Sited, sited, parts, darts-in, count-in}
+use Rattle.cells.proofs.Sited.{Sited, sited, parts, darts-in}
 
 path-tab : (f : ℕ → ℕ) (n x : ℕ) → path f n x ≡ tab (λ j. iter f j x) n
 path-tab f zero x = refl
@@ -75,12 +75,12 @@ module _ (f g : ℕ → ℕ) (ds : List ℕ) (few : length ds ≤ 4096) (f-in : 
           ap (iter g j) (sym e ∙ ap (λ (k : ℕ). iter f k x) split ∙ iter-add f (c - j) j x) ∙ back j (iter f (c - j) x) (iter-stays f ds f-in f-one (c - j) x h)
 
 -- OF A BLOCK: the face met from the dart at place y
-module _ (m : List ℕ) (ok : is-image rack m ≡ true) where
+module _ (m : List ℕ) (ok : holds-block m ≡ true) where
   site : Sited m
-  site = sited rack m ok
+  site = sited m ok
 
   links : Links (darts-in m)
-  links = links-from (darts-in m) (ascending-distinct (serials (darts-in m)) (ranges-of rack (block-in m) (parts rack m ok .ranges) .in-order)) (parts rack m ok .links)
+  links = links-from (darts-in m) (ascending-distinct (serials (darts-in m)) (ranges-of rack (block-in m) (parts m ok .ranges) .in-order)) (parts m ok .links)
 
   serials-tab : serials (darts-in m) ≡ tab (column m 0) (count-in m)
   serials-tab = map-tab (λ d. d .serial) (dart-in m) (count-in m)

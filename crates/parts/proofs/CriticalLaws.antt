@@ -8,8 +8,7 @@ use lib.Dec.{eqb, leb}
 use lib.ListN.{length, getD, take, replicate}
 use borrow.Author.Tests.{leb-true}
 use Rattle.model.specs.Lists.{all, tab, concat-map}
-use Rattle.model.specs.Values.{rack}
-use Rattle.model.specs.Image.{column, block-in, is-image}
+use Rattle.model.specs.Image.{column, block-in, holds-block}
 use Rattle.model.specs.Messages.{FaceDart, Transfer, part2, part3}
 use Rattle.model.specs.Arrival.{indices-right, consecutive, labels-new, critical-links}
 use Rattle.laws.proofs.Lists.{getD-zeros}
@@ -89,7 +88,7 @@ module _ (m b : List ℕ) (from to : ℕ) (l : Tail) {s z : List ℕ} {k : ℕ} 
       pub put-small : {t : Transfer} {v x : List ℕ} → Arrives t v x b z s k from to l → (q : ℕ) → q < k → getD links″ q 0 < 2 ^ 48
       put-small {t} w = links-small w read2 read3 (read4 .3 (t .faces) (sized w)) (read4 .0) (read4 .1) (few4 l small) few (few3 l small) ok-indices from-small zero-kinds zero-links k3 k4 l3 l4
 
-      pub labels-tell : is-image rack m ≡ true → {r : Bool} → r ≡ labels-fit m (getD m 2 0) kinds″ links″ k → CriticalRight m s b z k from to l codes i2 kinds″ links″ r
+      pub labels-tell : holds-block m ≡ true → {r : Bool} → r ≡ labels-fit m (getD m 2 0) kinds″ links″ k → CriticalRight m s b z k from to l codes i2 kinds″ links″ r
       labels-tell image {r} e = record {
         answer =
             λ t v x w. e ∙ sym

@@ -13,7 +13,7 @@ use Rattle.model.specs.Lists.{all, mem, tab, find, zip, concat-map}
 use Rattle.model.specs.Values.{Label, Third, critical, code}
 use Rattle.model.specs.Image.{label-in, third-in}
 use Rattle.model.specs.Messages.{Part3, Part4, Transfer}
-use Rattle.model.specs.Departure.{Link, label-links}
+use Rattle.model.specs.Links.{Link, label-links}
 use Rattle.model.specs.Arrival.{face-from, part3-links, part4-links, critical-links}
 use Rattle.laws.proofs.Tests.{by-cases, and-left, and-right, eq-or-ne}
 use Rattle.laws.proofs.Maps.{map-at}

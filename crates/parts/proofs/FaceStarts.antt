@@ -10,7 +10,7 @@ use lib.ListN.{length, getD, replicate, length-map, length-replicate, getD-repli
 use borrow.Author.Tests.{eq-eqb, ne-eqb, lt-ltb, le-ltb}
 use Rattle.model.specs.Lists.{mem, concat, tab, find}
 use Rattle.model.specs.Messages.{FaceDart, Transfer, size-all}
-use Rattle.model.specs.Departure.{placed}
+use Rattle.model.specs.Links.{placed}
 use Rattle.model.specs.Arrival.{face-serials, placed-faces, face-or, face-from}
 use Rattle.laws.proofs.Tests.{lt-or-ge, eq-or-ne}
 use Rattle.laws.proofs.Tables.{tab-cong}

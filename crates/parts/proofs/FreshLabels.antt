@@ -14,7 +14,7 @@ use Rattle.model.specs.Values.{Label, critical, label-of, code}
 use Rattle.model.specs.Cells.{labels}
 use Rattle.model.specs.Image.{column, label-in, third-in, dart-in, block-in}
 use Rattle.model.specs.Messages.{Transfer}
-use Rattle.model.specs.Departure.{Link}
+use Rattle.model.specs.Links.{Link}
 use Rattle.model.specs.Arrival.{critical-links, label-new, labels-new}
 use Rattle.laws.proofs.Tests.{by-cases, and-left, and-right, and-intro, lt-or-ge, eq-or-ne, same-truth}
 use Rattle.laws.proofs.Members.{In, in-there, all-in, all-from, all-cong, all-map, map-append, map-map, map-cong, append-in, in-append-left, in-append-right, distinct-append, distinct-left, distinct-right, distinct-apart}

@@ -10,16 +10,16 @@ use lib.Dec.{eqb}
 use lib.ListN.{length}
 use borrow.Author.Tests.{eqb-true}
 use Rattle.model.specs.Lists.{all, tab, zip}
-use Rattle.model.specs.Values.{rack, Dart, same-point, is-critical-with}
+use Rattle.model.specs.Values.{Dart, same-point, is-critical-with}
 use Rattle.model.specs.Cells.{cycle, dart-at, labelled, previous-in}
-use Rattle.model.specs.Image.{column, dart-in, is-image}
+use Rattle.model.specs.Image.{count-in, column, dart-in, holds-block}
 use Rattle.model.specs.Messages.{Part2, Transfer}
 use Rattle.model.specs.Arrival.{new-darts, face-from, points-meet, part2-right}
 use Rattle.laws.proofs.Orbits.{iter}
 use Rattle.laws.proofs.Tables.{length-tab}
 use Rattle.arrival.proofs.PairLaws.{all-index, all-same}
 use Rattle.columns.proofs.Question.{image-passed}
-use Rattle.cells.proofs.Sited.{sited, dart-is, darts-in, count-in}
+use Rattle.cells.proofs.Sited.{sited, dart-is, darts-in}
 use Rattle.departure.proofs.LeavingFaces.{critical-is}
 use Rattle.parts.specs.Meets.{meet-at}
 use Rattle.parts.proofs.Backwards.{met-face}
@@ -28,15 +28,15 @@ pub zip-tab : (f g : ℕ → ℕ) (n : ℕ) → zip (tab f n) (tab g n) ≡ tab 
 zip-tab f g zero = refl
 zip-tab f g (suc n) = ap (λ (l : List (ℕ × ℕ)). (f 0, g 0) ∷ l) (zip-tab (λ j. f (suc j)) (λ j. g (suc j)) n)
 
-module _ (m d : List ℕ) (t : Transfer) (ok : is-image rack m ≡ true)
+module _ (m d : List ℕ) (t : Transfer) (ok : holds-block m ≡ true)
     (new-at : (p : ℕ) → p < count-in d → dart-at (new-darts t) (column d 0 p) ≡ dart-in d p)
     (new-next : (p : ℕ) → p < count-in d → column d 1 p < count-in d) where
   pub meet-is : (p w : ℕ) → p < count-in d → w < count-in m → points-meet (darts-in m) t (column d 0 p) (column m 0 w) ≡ meet-at m d p w
   unfolding points-meet
   meet-is p w hp hw =
       four (new-at p hp)
-      (ap (λ (e : Dart). dart-at (darts-in m) (e .next)) (dart-is rack m ok w hw)
-      ∙ dart-is rack m ok (column m 1 w) (sited rack m ok .linked .next-within w hw)) (dart-is rack m ok w hw)
+      (ap (λ (e : Dart). dart-at (darts-in m) (e .next)) (dart-is m ok w hw)
+      ∙ dart-is m ok (column m 1 w) (sited m ok .linked .next-within w hw)) (dart-is m ok w hw)
       (ap (λ (e : Dart). dart-at (new-darts t) (e .next)) (new-at p hp) ∙ new-at (column d 1 p) (new-next p hp))
     where
       four : {a b c e a′ b′ c′ e′ : Dart} → a ≡ a′ → b ≡ b′ → c ≡ c′ → e ≡ e′
@@ -46,7 +46,7 @@ module _ (m d : List ℕ) (t : Transfer) (ok : is-image rack m ≡ true)
 
   steps-below : (k y : ℕ) → y < count-in m → iter (column m 1) k y < count-in m
   steps-below zero y h = h
-  steps-below (suc k) y h = steps-below k (column m 1 y) (sited rack m ok .linked .next-within y h)
+  steps-below (suc k) y h = steps-below k (column m 1 y) (sited m ok .linked .next-within y h)
 
   -- an entry whose label the dart at place y has: its face of n darts, at places `at` of the draft
   pub part2-is : (e : Part2) (at : ℕ → ℕ) (n y : ℕ) → face-from t (e .index) ≡ tab (λ j. column d 0 (at j)) n

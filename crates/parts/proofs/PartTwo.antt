@@ -10,9 +10,9 @@ use lib.ListN.{length, getD, take}
 use lib.Seq.{getD-take}
 use borrow.Author.Tests.{eqb-true, ltb-true, lt-ltb}
 use Rattle.model.specs.Lists.{all, mem, distinct, least, tab, zip}
-use Rattle.model.specs.Values.{rack, Dart, code, no-dart, is-critical-with}
+use Rattle.model.specs.Values.{Dart, code, no-dart, is-critical-with}
 use Rattle.model.specs.Cells.{cycle, dart-at, labelled, next-in, previous-in}
-use Rattle.model.specs.Image.{column, dart-in, is-image}
+use Rattle.model.specs.Image.{count-in, column, dart-in, holds-block}
 use Rattle.model.specs.Messages.{Part2, Transfer, size-all}
 use Rattle.model.specs.Arrival.{new-darts, face-from, points-meet, part2-right, part2-apart}
 use Rattle.laws.proofs.Tests.{by-cases, lt-or-ge, and-intro, and-left, and-right, same-truth}
@@ -26,7 +26,7 @@ use Rattle.cells.proofs.Reached.{places, in-places, places-below, within-places
 use Rattle.cells.proofs.Paths.{apart-places, few-places}
 use Rattle.cells.proofs.VertexSerials.{least-map}
 use Rattle.cells.proofs.FaceSerials.{cycle-carried}
-use Rattle.cells.proofs.Sited.{Sited, sited, darts-in, count-in}
+use Rattle.cells.proofs.Sited.{Sited, sited, darts-in}
 use Rattle.inbox.specs.Inbox.{FacesIn, is-hollow, points-in}
 use Rattle.arrival.specs.Draft.{Draft}
 use Rattle.arrival.proofs.DraftLaws.{serial-of}
@@ -52,7 +52,7 @@ last false false g h r = refl
 module _ {v x b z keys ranks q s : List ℕ} {at k : ℕ} {d : List ℕ} (w : Draft v x b z keys ranks q s at k d)
     (t : Transfer) (inside : FacesIn (t .faces) v x b z) (full : is-hollow (t .faces) ≡ false) (darts : k ≡ size-all (t .faces))
     {p : ℕ} (points : t .points ≡ points-in s at p) (vertices : (i : ℕ) → i < k → getD v i 0 < p)
-    (m : List ℕ) (ok : is-image rack m ≡ true) where
+    (m : List ℕ) (ok : holds-block m ≡ true) where
   new-at : (i : ℕ) → i < count-in d → dart-at (new-darts t) (column d 0 i) ≡ dart-in d i
   new-at i h = same-darts w t inside darts points vertices (column d 0 i) ∙ dart-place (dart-in d) (count-in d) i (drafts.sited w .ascends) h
 
@@ -76,7 +76,7 @@ module _ {v x b z keys ranks q s : List ℕ} {at k : ℕ} {d : List ℕ} (w : Dr
       below j h = let r = w .ranked .rank-below (i + j) (omega (arith, fits, h)) in let c = w .drafted .count-is in omega (arith, r, c)
 
       met : (j : ℕ) → j < getD z i 0 → getD z i 0 ≡ length (cycle (column m 1) y) → iter (column m 1) (length (cycle (column m 1) y) - j) y ≡ met-at (cycle (column m 1) y) (getD z i 0) j
-      met j h same = sym (ap (λ (c : ℕ). met-at (cycle (column m 1) y) c j) same ∙ met-is (sited rack m ok .linked) hy j (omega (arith, h, same)))
+      met j h same = sym (ap (λ (c : ℕ). met-at (cycle (column m 1) y) c j) same ∙ met-is (sited m ok .linked) hy j (omega (arith, h, same)))
 
 -- no dart has its label
 pub entry-none : (ds : List Dart) (t : Transfer) (e : Part2) → labelled (e .label) ds ≡ no-dart → part2-right ds t e ≡ false
@@ -177,7 +177,7 @@ entry t e = getD (t .part2) e no-entry
 pub entries-tab : (t : Transfer) → t .part2 ≡ tab (entry t) (length (t .part2))
 entries-tab t = sym (tab-list no-entry (t .part2) (entry t) (λ p h. refl))
 
-module _ (m d ranks z codes places indices : List ℕ) (t : Transfer) (ok : is-image rack m ≡ true)
+module _ (m d ranks z codes places indices : List ℕ) (t : Transfer) (ok : holds-block m ≡ true)
     (codes-are : take (length (t .part2)) codes ≡ map code2 (t .part2)) (located : Located m codes (length (t .part2)) (count-in m) places)
     (each : (e y : ℕ) → e < length (t .part2) → y < count-in m → labelled (entry t e .label) (darts-in m) ≡ dart-in m y
     → part2-right (darts-in m) t (entry t e) ≡ entry-right m d ranks (t .from) y (getD indices e 0) (face-size z indices e)) where
@@ -205,13 +205,13 @@ module _ (m d ranks z codes places indices : List ℕ) (t : Transfer) (ok : is-i
       go (inl f) = inl (f .0, labelled-at (image-passed m ok) (entry t e .label) (getD places e 0) (f .0) (f .1) (f .2 ∙ code-of e h))
       go (inr f) =
           inr (
-            (let few = sited rack m ok .linked .few in let y = f .0 in omega (arith, few, y)),
+            (let few = sited m ok .linked .few in let y = f .0 in omega (arith, few, y)),
             entry-none (darts-in m) t (entry t e)
                 (labelled-none (image-passed m ok) (entry t e .label) (λ p l k q. f .1 p l k (q ∙ sym (code-of e h)))),
           )
 
   key-is : (e : ℕ) → Found e → key e ≡ column m 0 (least (cycle (column m 1) (getD places e 0)))
-  key-is e f = ap (λ (h : Dart). least (cycle (next-in (darts-in m)) (h .serial))) (f .1) ∙ least-serial (sited rack m ok) (getD places e 0) (f .0)
+  key-is e f = ap (λ (h : Dart). least (cycle (next-in (darts-in m)) (h .serial))) (f .1) ∙ least-serial (sited m ok) (getD places e 0) (f .0)
 
   pub parts-of : (e : ℕ) → passes e ≡ true
       → (ltb (getD places e 0) (count-in m) ≡ true) × (clear-of m places e (getD places e 0) ≡ true)
@@ -239,7 +239,7 @@ module _ (m d ranks z codes places indices : List ℕ) (t : Transfer) (ok : is-i
   two d e l h pd pe q =
       let f = passes-found d (omega arith) pd in
       let g = passes-found e h pe in
-      let site = sited rack m ok in
+      let site = sited m ok in
       let low = one-place (site .ascends) (low-below site (getD places d 0) (f .0)) (low-below site (getD places e 0) (g .0)) (sym (key-is d f) ∙ q ∙ key-is e g) in
       let clear : not (mem (getD places e 0) (cycle (column m 1) (getD places d 0))) ≡ true =
       all-tab (λ d. not (mem (getD places e 0) (cycle (column m 1) (getD places d 0)))) (λ d. d) e (parts-of e pe .1) d l
@@ -257,7 +257,7 @@ module _ (m d ranks z codes places indices : List ℕ) (t : Transfer) (ok : is-i
       clear d l g = by-cases (mem (getD places e 0) (cycle (column m 1) (getD places d 0)))
           (λ q. let f = right-found d (omega arith) (rights d (omega arith)) in absurd
           (apart d e l h
-          (key-is d f ∙ ap (column m 0) (same-least (sited rack m ok) (getD places d 0) (getD places e 0) (f .0) (g .0) q)
+          (key-is d f ∙ ap (column m 0) (same-least (sited m ok) (getD places d 0) (getD places e 0) (f .0) (g .0) q)
           ∙ sym (key-is e g))))
           (λ q. ap not q)
 

@@ -9,17 +9,18 @@ use lib.ListN.{length, getD, take}
 use lib.Seq.{getD-take}
 use borrow.Author.Tests.{eqb-true}
 use Rattle.model.specs.Lists.{all, tab, zip}
-use Rattle.model.specs.Values.{rack, Dart, Point, finite, finite-bits}
+use Rattle.model.specs.Values.{Dart, Point, finite, finite-bits}
 use Rattle.model.specs.Cells.{cycle, labelled, previous-in}
-use Rattle.model.specs.Image.{column, dart-in, is-image}
+use Rattle.model.specs.Image.{count-in, column, dart-in, holds-block}
 use Rattle.model.specs.Messages.{Transfer, size-all}
-use Rattle.model.specs.Arrival.{face-from, sew-both, part2-links, indices-right, part2-right, part2-apart}
+use Rattle.model.specs.Arrival.{face-from, part2-links, indices-right, part2-right, part2-apart}
+use Rattle.model.specs.Links.{sew-both}
 use Rattle.laws.proofs.Tests.{and-left, and-right}
 use Rattle.laws.proofs.Tables.{all-tab, getD-tab, tab-cong, map-tab}
 use Rattle.memory.specs.Point.{FiniteAt}
 use Rattle.memory.specs.declared.record.Record.{Record}
 use Rattle.columns.proofs.Question.{image-passed}
-use Rattle.cells.proofs.Sited.{sited, darts-in, count-in}
+use Rattle.cells.proofs.Sited.{sited, darts-in}
 use Rattle.inbox.specs.Inbox.{FacesIn, is-hollow, point-in, points-in}
 use Rattle.ranking.specs.Ranks.{index-at}
 use Rattle.arrival.specs.Draft.{Draft}
@@ -52,10 +53,10 @@ finite-words m i p e ex ey ez =
     }
 
 -- the met face by what each dart of a new face meets
-met-tab : (m : List ℕ) (ok : is-image rack m ≡ true) (y n : ℕ) → y < count-in m → n ≡ length (cycle (column m 1) y)
+met-tab : (m : List ℕ) (ok : holds-block m ≡ true) (y n : ℕ) → y < count-in m → n ≡ length (cycle (column m 1) y)
     → cycle (previous-in (darts-in m)) (column m 0 y) ≡ tab (λ j. column m 0 (met-at (cycle (column m 1) y) n j)) n
 met-tab m ok y n hy e =
-    met-face m ok y hy ∙ tab-cong _ _ (length (cycle (column m 1) y)) (λ j l. ap (column m 0) (sym (met-is (sited rack m ok .linked) hy j l)))
+    met-face m ok y hy ∙ tab-cong _ _ (length (cycle (column m 1) y)) (λ j l. ap (column m 0) (sym (met-is (sited m ok .linked) hy j l)))
     ∙ ap (λ (c : ℕ). tab (λ j. column m 0 (met-at (cycle (column m 1) y) c j)) c) (sym e)
 
 same-size : (m d ranks : List ℕ) (from y at n : ℕ) → entry-right m d ranks from y at n ≡ true → eqb n (length (cycle (column m 1) y)) ≡ true
@@ -67,7 +68,7 @@ zipped p q = rw (p, q) refl
 module _ {v x b z keys ranks q s : List ℕ} {at k : ℕ} {d : List ℕ} (w : Draft v x b z keys ranks q s at k d)
     (t : Transfer) (inside : FacesIn (t .faces) v x b z) (full : is-hollow (t .faces) ≡ false) (darts : k ≡ size-all (t .faces))
     {p : ℕ} (points : t .points ≡ points-in s at p) (vertices : (i : ℕ) → i < k → getD v i 0 < p)
-    (m : List ℕ) (ok : is-image rack m ≡ true) where
+    (m : List ℕ) (ok : holds-block m ≡ true) where
   new-finite : all finite (t .points) ≡ true → (i : ℕ) → i < k → FiniteAt d i
   unfolding points-in
   new-finite f i h =
@@ -78,7 +79,7 @@ module _ {v x b z keys ranks q s : List ℕ} {at k : ℕ} {d : List ℕ} (w : Dr
 
   pub meetable : all finite (t .points) ≡ true → length ranks ≡ 512 → Meetable m (count-in m) d k ranks
   meetable f n = record {
-    linked = sited rack m ok .linked;
+    linked = sited m ok .linked;
     finite = λ i h. finite-words m i _ (image-passed m ok .finite-points i h) refl refl refl;
     draft-size = w .drafted .size;
     few = w .few;

@@ -11,7 +11,8 @@ use lib.Seq.{getD-take, take-suc}
 use borrow.Author.Tests.{ltb-true, lt-ltb, le-ltb}
 use Rattle.model.specs.Lists.{all, mem, tab}
 use Rattle.model.specs.Cells.{cycle}
-use Rattle.model.specs.Image.{room, column}
+use Rattle.model.specs.Image.{column}
+use Rattle.model.specs.Values.{room}
 use Rattle.laws.proofs.Tests.{and-left}
 use Rattle.laws.proofs.Lists.{getD-zeros}
 use Rattle.cells.specs.Places.{Painted}

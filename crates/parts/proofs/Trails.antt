@@ -11,7 +11,8 @@ use lib.Seq.{getD-take, length-take-le}
 use borrow.Author.Tests.{eqb-true, eq-eqb, ne-eqb}
 use Rattle.model.specs.Lists.{all, tab}
 use Rattle.model.specs.Cells.{cycle}
-use Rattle.model.specs.Image.{room, words, column}
+use Rattle.model.specs.Image.{words, column}
+use Rattle.model.specs.Values.{room}
 use Rattle.memory.specs.Point.{FiniteAt}
 use Rattle.laws.proofs.Orbits.{iter, path}
 use Rattle.laws.proofs.Tests.{eq-or-ne, same-truth}

@@ -4,7 +4,7 @@ use Prim.Native.Nat.{ℕ, _+_}
 use lib.ListN.{getD}
 use Rattle.model.specs.Lists.{tab}
 use Rattle.model.specs.Image.{third-in}
-use Rattle.model.specs.Departure.{Link}
+use Rattle.model.specs.Links.{Link}
 
 -- the link of the dart with index q, where s has the serials of the block by place
 abbrev pub link-of : (ℕ → ℕ) → List ℕ → List ℕ → List ℕ → ℕ → Link

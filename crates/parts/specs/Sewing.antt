@@ -7,7 +7,8 @@ use lib.Dec.{ltb, eqb}
 use lib.ListN.{length, getD}
 use Rattle.model.specs.Lists.{all, mem, tab}
 use Rattle.model.specs.Cells.{cycle}
-use Rattle.model.specs.Image.{room, column}
+use Rattle.model.specs.Image.{column}
+use Rattle.model.specs.Values.{room}
 use Rattle.cells.specs.Places.{Painted}
 use Rattle.parts.specs.Faces.{Over, Spans, Faced}
 use Rattle.parts.specs.Meets.{Meetable, met-at, entry-right}

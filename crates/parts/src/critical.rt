@@ -4,8 +4,7 @@ ghost use mathlib.Core.Bool.{true};
 ghost use mathlib.Core.List.{List};
 ghost use Prim.Native.Nat.{ℕ, _≤_};
 ghost use lib.ListN.{length, replicate};
-ghost use Rattle.model.specs.Values.{rack};
-ghost use Rattle.model.specs.Image.{is-image};
+ghost use Rattle.model.specs.Image.{holds-block};
 ghost use Rattle.model.specs.Messages.{Transfer};
 ghost use Rattle.parts.specs.Critical.{few-entries, entries-fit, Arrives, CriticalRight};
 use crate::entries;
@@ -64,7 +63,7 @@ pub fn critical_right(
     kinds: &mut [u64],
     links: &mut [u64],
 ) -> bool
-    requires { ⌜ (is-image rack (now block) ≡ true) × (length (now starts) ≡ 512) × (length (now sizes) ≡ 512) × (length (now codes) ≡ 512) × (length (now indices) ≡ 512) × (now kinds ≡ replicate 512 0) × (now links ≡ replicate 512 0) × (1 ≤ k) × (k ≤ 512) × (from ≤ 15) ⌝ }
+    requires { ⌜ (holds-block (now block) ≡ true) × (length (now starts) ≡ 512) × (length (now sizes) ≡ 512) × (length (now codes) ≡ 512) × (length (now indices) ≡ 512) × (now kinds ≡ replicate 512 0) × (now links ≡ replicate 512 0) × (1 ≤ k) × (k ≤ 512) × (from ≤ 15) ⌝ }
     requires { ⌜ ((t : Transfer) × (v : List ℕ) × (x : List ℕ) × Arrives t v x (now starts) (now sizes) (now message) k from to tail) ⌝ }
     ensures { λ r. ⌜ CriticalRight (now (block .entry)) (now (message .entry)) (now (starts .entry)) (now (sizes .entry)) k from to tail (now (codes .exit)) (now (indices .exit)) (now (kinds .exit)) (now (links .exit)) r × (length (now (codes .exit)) ≡ 512) × (length (now (indices .exit)) ≡ 512) × (length (now (kinds .exit)) ≡ 512) × (length (now (links .exit)) ≡ 512) ⌝ }
 {

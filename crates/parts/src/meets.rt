@@ -5,7 +5,7 @@ ghost use mathlib.Core.Bool.{_&&_};
 ghost use lib.Dec.{ltb, eqb};
 ghost use lib.ListN.{length, getD, replicate, take};
 ghost use Rattle.model.specs.Lists.{all, tab};
-ghost use Rattle.model.specs.Image.{room};
+ghost use Rattle.model.specs.Values.{room};
 ghost use Rattle.cells.specs.Places.{Linked, Painted};
 ghost use Rattle.parts.specs.Meets.{Walked, Meetable, Trailed, met-at, meets-at, EntryRight};
 ghost use Rattle.parts.specs.Faces.{Over};

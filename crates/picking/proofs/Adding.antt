@@ -10,7 +10,8 @@ use lib.ListN.{length, getD, set}
 use lib.Seq.{getD-set-same}
 use borrow.Author.Tests.{eqb-true}
 use Rattle.model.specs.Lists.{keep, mem, tab, sum}
-use Rattle.model.specs.Image.{room, column}
+use Rattle.model.specs.Image.{column}
+use Rattle.model.specs.Values.{room}
 use Rattle.laws.proofs.Tests.{by-cases, lt-or-ge}
 use Rattle.laws.proofs.Members.{In}
 use Rattle.laws.proofs.Volumes.{Volume}

@@ -11,9 +11,9 @@ use lib.ListN.{length, getD, set, replicate, length-append, length-map, length-r
 use lib.Seq.{getD-set-same, getD-set-other}
 use borrow.Author.Tests.{lt-ltb}
 use Rattle.model.specs.Lists.{keep, tab, sum}
-use Rattle.model.specs.Values.{rack, finite-bits, finite}
+use Rattle.model.specs.Values.{finite-bits, finite, room}
 use Rattle.model.specs.Balance.{Oracle, picked}
-use Rattle.model.specs.Image.{room, column, dart-in, block-in, is-image}
+use Rattle.model.specs.Image.{column, dart-in, block-in, holds-block}
 use Rattle.laws.proofs.Tests.{last-or-below, and-left, and-right}
 use Rattle.laws.proofs.Members.{keep-le, keep-cong}
 use Rattle.laws.proofs.Maps.{tab-more}
@@ -143,14 +143,14 @@ finite-words m p e =
       on-z = and-right (finite-bits (column m 5 p) && finite-bits (column m 6 p)) _ e;
     }
 
-pub walkable : (m : List ℕ) → is-image rack m ≡ true → Walkable m
-walkable m ok = record { linked = sited rack m ok .linked; finite-at = λ p h. finite-words m p (image-passed m ok .finite-points p h) }
+pub walkable : (m : List ℕ) → holds-block m ≡ true → Walkable m
+walkable m ok = record { linked = sited m ok .linked; finite-at = λ p h. finite-words m p (image-passed m ok .finite-points p h) }
 
 -- how many picked volumes by a table of sizes
-pub picked-count : (o : Oracle) (m s : List ℕ) → is-image rack m ≡ true → Sizes o m s → {c : ℕ} → c ≡ count-below (λ p. ltb 0 (getD s p 0)) (getD m 2 0)
+pub picked-count : (o : Oracle) (m s : List ℕ) → holds-block m ≡ true → Sizes o m s → {c : ℕ} → c ≡ count-below (λ p. ltb 0 (getD s p 0)) (getD m 2 0)
     → (c ≡ length (picked o (block-in m .darts))) × (c ≤ room)
 picked-count o m s ok z e = (
   e ∙ ap length (keep-cong (λ p. ltb 0 (getD s p 0)) (λ p. ltb 0 (size-at o m p)) (places (getD m 2 0)) (λ p k. ap (ltb 0) (z .entry p (places-below (getD m 2 0) p k))))
       ∙ sym (length-map (keep (λ p. ltb 0 (size-at o m p)) (places (getD m 2 0))) (column m 0)) ∙ ap length (sym (picked-places o m ok)),
-  omega (arith, count-few (λ p. ltb 0 (getD s p 0)) (getD m 2 0), sited rack m ok .linked .few),
+  omega (arith, count-few (λ p. ltb 0 (getD s p 0)) (getD m 2 0), sited m ok .linked .few),
 )

@@ -9,17 +9,17 @@ use lib.Dec.{leb, ltb}
 use lib.ListN.{length}
 use borrow.Author.Tests.{le-leb, leb-true, lt-ltb}
 use Rattle.model.specs.Lists.{all, keep}
-use Rattle.model.specs.Values.{Dart, rack}
+use Rattle.model.specs.Values.{Dart}
 use Rattle.model.specs.Cells.{dart-at, serials, volume-in, volume-starts}
 use Rattle.model.specs.Balance.{Oracle, picks, picked}
-use Rattle.model.specs.Image.{column, dart-in, is-image}
+use Rattle.model.specs.Image.{count-in, column, dart-in, holds-block}
 use Rattle.laws.specs.Order.{Ascending}
 use Rattle.laws.proofs.Tests.{by-cases, lt-or-ge, same-truth}
 use Rattle.laws.proofs.Members.{In, all-map, all-cong, map-map, map-cong, keep-map, keep-twice, keep-cong}
 use Rattle.laws.proofs.Tables.{map-tab}
 use Rattle.cells.specs.Places.{volume-of}
 use Rattle.cells.proofs.Reached.{places, places-below, volume-linked, in-places-in, places-in-in}
-use Rattle.cells.proofs.Sited.{Sited, sited, darts-in, count-in, dart-is}
+use Rattle.cells.proofs.Sited.{Sited, sited, darts-in, dart-is}
 use Rattle.cells.proofs.Serials.{volume-serials, volume-size}
 use Rattle.picking.specs.Picked.{volume-at, is-start, is-picked, size-at}
 
@@ -32,12 +32,12 @@ order-kept {n} {s} a p q hp hq = same-truth (leb (s p) (s q)) (leb p q)
     at-same : p ≡ q → s p ≤ s q
     at-same e = rw e (omega arith)
 
-module _ (o : Oracle) (m : List ℕ) (ok : is-image rack m ≡ true) where
+module _ (o : Oracle) (m : List ℕ) (ok : holds-block m ≡ true) where
   abbrev n : ℕ
   n = count-in m
 
   site : Sited m
-  site = sited rack m ok
+  site = sited m ok
 
   abbrev s : ℕ → ℕ
   s = column m 0
@@ -50,7 +50,7 @@ module _ (o : Oracle) (m : List ℕ) (ok : is-image rack m ≡ true) where
   points-are p h = ap (map (λ x. dart-at (darts-in m) x .point)) (sym (volume-serials site p h))
       ∙ map-map s (λ x. dart-at (darts-in m) x .point) (volume-at m p)
       ∙ map-cong (λ q. dart-at (darts-in m) (s q) .point) (λ q. dart-in m q .point) (volume-at m p)
-      (λ q k. ap (λ (d : Dart). d .point) (dart-is rack m ok q (places-in-in n (volume-of m p) q k .0)))
+      (λ q k. ap (λ (d : Dart). d .point) (dart-is m ok q (places-in-in n (volume-of m p) q k .0)))
 
   serials-by-place : serials (darts-in m) ≡ map s (places n)
   serials-by-place = map-tab (λ d. d .serial) (dart-in m) n ∙ sym (map-tab s (λ p. p) n)

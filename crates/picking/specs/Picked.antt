@@ -7,7 +7,8 @@ use lib.Dec.{leb}
 use lib.ListN.{length, getD, take}
 use Rattle.model.specs.Lists.{all, distinct, mem, sum}
 use Rattle.model.specs.Balance.{Oracle, picks}
-use Rattle.model.specs.Image.{room, column, dart-in}
+use Rattle.model.specs.Image.{column, dart-in}
+use Rattle.model.specs.Values.{room}
 use Rattle.oracle.specs.Oracle.{holds}
 use Rattle.memory.specs.Point.{FiniteAt}
 use Rattle.cells.specs.Places.{Linked, Closed, places-in, volume-of}

@@ -5,8 +5,8 @@ ghost use Prim.Native.Nat.{ℕ, _≤_, _<_};
 ghost use lib.Dec.{ltb};
 ghost use lib.ListN.{length, getD, replicate};
 ghost use Rattle.model.specs.Lists.{keep, tab};
-ghost use Rattle.model.specs.Values.{rack};
-ghost use Rattle.model.specs.Image.{room, words, column, block-in, is-image};
+ghost use Rattle.model.specs.Values.{room};
+ghost use Rattle.model.specs.Image.{words, column, block-in, holds-block};
 ghost use Rattle.model.specs.Balance.{picked as model-picked};
 ghost use Rattle.oracle.specs.Oracle.{oracle-of};
 ghost use Rattle.cells.specs.Places.{Linked, Visited, volume-of};
@@ -147,7 +147,7 @@ fn measure_all(block: &[u64], o: Oracle, sizes: &mut [usize], order: &mut [usize
 
 // The sizes of a block's picked volumes, each at the least place of the volume.
 pub fn sizes_of(block: &[u64], o: Oracle, sizes: &mut [usize])
-    requires { ⌜ (is-image rack (now block) ≡ true) × (length (now sizes) ≡ room) ⌝ }
+    requires { ⌜ (holds-block (now block) ≡ true) × (length (now sizes) ≡ room) ⌝ }
     ensures { λ _. ⌜ Sizes (oracle-of o) (now (block .entry)) (now (sizes .exit)) ⌝ }
 {
     let mut order = [0usize; Header::DARTS];
@@ -176,7 +176,7 @@ pub fn count_of(sizes: &[usize], n: usize) -> usize
 
 // How many volumes of a block are picked.
 pub fn count(block: &[u64], o: Oracle) -> usize
-    requires { ⌜ is-image rack (now block) ≡ true ⌝ }
+    requires { ⌜ holds-block (now block) ≡ true ⌝ }
     ensures { λ r. ⌜ (r ≡ length (model-picked (oracle-of o) (block-in (now (block .entry)) .darts))) × (r ≤ room) ⌝ }
 {
     let mut sizes = [0usize; Header::DARTS];

@@ -14,12 +14,12 @@ use Rattle.laws.proofs.Tests.{and-intro}
 use Rattle.laws.proofs.Maps.{map-at}
 use Rattle.laws.proofs.Tables.{ascending-tab}
 use Rattle.model.specs.Lists.{tab, concat, ascending, is-some}
-use Rattle.model.specs.Values.{Third, free, sewn, critical, Dart, no-dart, Block, rack}
+use Rattle.model.specs.Values.{Third, free, sewn, critical, Dart, no-dart, Block, rack, room}
 use Rattle.model.specs.Cells.{serials}
 use Rattle.model.specs.Sound.{ranges-right}
 use Rattle.model.specs.Layouts.{whole}
 use Rattle.model.specs.Messages.{file}
-use Rattle.model.specs.Image.{room, words, kind-word, link-word, dart-words, image, column}
+use Rattle.model.specs.Image.{words, kind-word, link-word, dart-words, image, column}
 use Rattle.model.specs.Demands.{Bytes}
 use Rattle.theory.proofs.LayoutLaws.{whole-only}
 use Rattle.theory.proofs.FileLaws.{file-lawful}

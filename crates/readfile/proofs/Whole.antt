@@ -13,11 +13,11 @@ use Rattle.laws.proofs.Tests.{by-cases, and-intro, and-left, and-right, same-tr
 use Rattle.laws.proofs.Members.{all-map}
 use Rattle.laws.proofs.Lists.{drop-zeros}
 use Rattle.model.specs.Lists.{all, ascending, concat}
-use Rattle.model.specs.Values.{Dart, Block, rack}
+use Rattle.model.specs.Values.{Dart, Block, rack, room}
 use Rattle.model.specs.Cells.{serials}
 use Rattle.model.specs.Layouts.{Layout, Read, then, when, group, _⊗_, _⊕_, as-type, such-that, at-most, get-all, times, counted, ended, at-end, whole}
 use Rattle.model.specs.Messages.{a-dart, file}
-use Rattle.model.specs.Image.{room, words}
+use Rattle.model.specs.Image.{words}
 use Rattle.memory.specs.Header.{header-words}
 use Rattle.groups.proofs.Ends.{Ends, Reads, then-some, when-some, same-rest}
 use Rattle.groups.proofs.Labels.{same-value}

@@ -5,8 +5,8 @@ use mathlib.Core.List.{List, [], _∷_, _++_, map}
 use Prim.Native.Nat.{ℕ, _+_, _*_, _-_}
 use lib.ListN.{length, take, drop, replicate}
 use Rattle.model.specs.Lists.{concat}
-use Rattle.model.specs.Values.{Third, free, sewn, critical, Dart, Block, code}
-use Rattle.model.specs.Image.{room, kind-word}
+use Rattle.model.specs.Values.{Third, free, sewn, critical, Dart, Block, code, room}
+use Rattle.model.specs.Image.{kind-word}
 use Rattle.memory.specs.Record.{record-words}
 use Rattle.memory.specs.declared.record.Record.{Record}
 

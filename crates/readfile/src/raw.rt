@@ -2,7 +2,8 @@
 ghost use mathlib.Core.Path.{_≡_};
 ghost use Prim.Native.Nat.{_≤_, _<_};
 ghost use lib.ListN.{length, replicate};
-ghost use Rattle.model.specs.Image.{room, words};
+ghost use Rattle.model.specs.Image.{words};
+ghost use Rattle.model.specs.Values.{room};
 ghost use Rattle.readfile.specs.Parts.{DartStored, DartsStored, RawRead};
 use crate::dart;
 use crate::dart::Parsed;

@@ -9,7 +9,7 @@ use lib.ListN.{length, getD}
 use borrow.Author.Tests.{le-leb, lt-leb, lt-ltb, eq-eqb, ne-eqb}
 use Rattle.model.specs.Lists.{tab, Check, first-no}
 use Rattle.model.specs.Values.{rack, serial-bound}
-use Rattle.model.specs.Image.{words, image, dart-in, block-in, is-image, memory-checks}
+use Rattle.model.specs.Image.{words, image, dart-in, block-in, holds-block, memory-checks}
 use Rattle.model.specs.Messages.{Transfer, Message, a-transfer, an-update, no-message, message-in, size-all}
 use Rattle.model.specs.Arrival.{addressed, serials-new, volume-right, receive-checks, received, received-from}
 use Rattle.model.specs.Calls.{Answer, served, refused, storing, receive}
@@ -154,7 +154,7 @@ module _ (m s : List ℕ) where
   unfolding receive storing memory-checks
   size-refused h = gives _ _ _ _ (ask-no refl (ne-eqb (length m) words h) refl)
 
-  pub image-refused : length m ≡ words → is-image rack m ≡ false → Gives (receive rack m s) (refused 2) m
+  pub image-refused : length m ≡ words → holds-block m ≡ false → Gives (receive rack m s) (refused 2) m
   unfolding receive storing memory-checks
   image-refused len h = gives _ _ _ _ (ask-yes (eq-eqb (length m) words len) (ask-no refl h refl))
 
@@ -162,9 +162,9 @@ module _ (m s : List ℕ) where
   unfolding receive receive-by
   by-message r e g = rw e g
 
-module _ (m : List ℕ) (ok : is-image rack m ≡ true) where
+module _ (m : List ℕ) (ok : holds-block m ≡ true) where
   size : length m ≡ words
-  size = sited rack m ok .linked .size
+  size = sited m ok .linked .size
 
   asked-by : (r : Message) {given : Answer (Unit {0})} {lent : List ℕ}
       → Asks (receive-checks rack (block-in m) r) m tt (image (received-from (block-in m) r)) given lent

@@ -8,9 +8,9 @@ use lib.Dec.{leb}
 use lib.ListN.{length, getD}
 use borrow.Author.Tests.{not-true}
 use Rattle.model.specs.Lists.{all, mem, tab}
-use Rattle.model.specs.Values.{rack, finite}
+use Rattle.model.specs.Values.{finite, room}
 use Rattle.model.specs.Cells.{held}
-use Rattle.model.specs.Image.{room, column, block-in, is-image}
+use Rattle.model.specs.Image.{column, block-in, holds-block}
 use Rattle.model.specs.Messages.{Transfer, a-transfer, message-in, transfer}
 use Rattle.model.specs.Demands.{Bytes}
 use Rattle.model.specs.Arrival.{transfer-links}
@@ -35,7 +35,7 @@ use Rattle.answers.specs.declared.Answer.the-variants as answer
 use Rattle.receive.proofs.TakenImage.{indexed, weaves, taken-image}
 use Rattle.receive.proofs.Answered.{transfer-served, none-no}
 
-module _ {m s v x b z : List ℕ} {f : Front} {l : Tail} {keys ranks q c kinds links : List ℕ} (ok : is-image rack m ≡ true)
+module _ {m s v x b z : List ℕ} {f : Front} {l : Tail} {keys ranks q c kinds links : List ℕ} (ok : holds-block m ≡ true)
     (fit : f .darts ≤ length x) (h : AskedSaid m s v x b z f l keys ranks q c kinds links answer.Served)
     (t : Transfer) (e : message-in s ≡ a-transfer t) (w : TransferOutlined t s v x b z f l) where
   d : Draft v x b z keys ranks q s (f .points) (f .darts) c

@@ -6,10 +6,10 @@ use Prim.Native.Nat.{ℕ, _+_, _≤_, _<_}
 use native.Mathlib.Omega.{arith}
 use lib.ListN.{length, getD}
 use Rattle.model.specs.Lists.{first-no, distinct, tab}
-use Rattle.model.specs.Values.{Dart, Block, rack}
-use Rattle.model.specs.Image.{room, image, column, dart-in, block-in, is-image}
+use Rattle.model.specs.Values.{Dart, Block, rack, room}
+use Rattle.model.specs.Image.{count-in, image, column, dart-in, block-in, holds-block}
 use Rattle.model.specs.Messages.{Transfer, a-transfer, transfer}
-use Rattle.model.specs.Departure.{relink}
+use Rattle.model.specs.Links.{relink}
 use Rattle.model.specs.Arrival.{new-darts, insert-all, received, transfer-links, volume-right, receive-checks}
 use Rattle.laws.proofs.Members.{In}
 use Rattle.laws.proofs.Tables.{length-tab, map-tab, tab-cong, place-mem}
@@ -18,7 +18,7 @@ use Rattle.columns.specs.Columns.{Places}
 use Rattle.columns.proofs.Question.{image-passed}
 use Rattle.columns.proofs.Links.{places}
 use Rattle.columns.proofs.ThirdLinks.{sewn-places}
-use Rattle.cells.proofs.Sited.{count-in}
+
 use Rattle.memory.specs.declared.record.Record.{Record}
 use Rattle.soundness.proofs.Fits.{fits}
 use Rattle.soundness.proofs.Passed.{passed}
@@ -50,7 +50,7 @@ module _ {v x b z keys ranks q s : List ℕ} {from k : ℕ} {c : List ℕ} (d : 
   }
 
   -- beside a block that holds none of its serials
-  module _ (m : List ℕ) (ok : is-image rack m ≡ true) (absent : (p i : ℕ) → p < count-in m → i < k → column m 0 p ≡ getD x i 0 → ⊥) (fit : count-in m + k ≤ room) where
+  module _ (m : List ℕ) (ok : holds-block m ≡ true) (absent : (p i : ℕ) → p < count-in m → i < k → column m 0 p ≡ getD x i 0 → ⊥) (fit : count-in m + k ≤ room) where
     pub weaves : Drafted m c (count-in m) (count-in c)
     weaves = drafted m c ok (sited d .linked) (sited d .ascends)
         (λ p h. indexed .free p (omega (arith, h, d .drafted .count-is)))
@@ -96,8 +96,8 @@ module _ {v x b z keys ranks q s : List ℕ} {from k : ℕ} {c : List ℕ} (d : 
           (record { number = getD m 0 0; counter = getD m 1 0; darts = insert-all l (block-in m .darts) })) new-are
           ∙ woven-image weaves order order-once order-size order-low
 
-      woven-sound : is-image rack w ≡ true
-      woven-sound = subst (λ (l : List ℕ). is-image rack l ≡ true) woven-is (is-image-of rack (record { number = getD m 0 0; counter = getD m 1 0; darts = all-darts }) (omega arith)
+      woven-sound : holds-block w ≡ true
+      woven-sound = subst (λ (l : List ℕ). holds-block l ≡ true) woven-is (is-image-of rack (record { number = getD m 0 0; counter = getD m 1 0; darts = all-darts }) (omega arith)
           (unlinked-sound rack (block-in m) t (omega arith) (image-is rack m ok .1) (fits t fine) (passed rack (block-in m) t yes)))
 
       darts-woven : tab (dart-in w) (count-in m + count-in c) ≡ all-darts

@@ -5,8 +5,8 @@ use mathlib.Core.Bool.{true}
 use Prim.Native.Nat.{ℕ, _+_, _≤_}
 use lib.Dec.{leb}
 use lib.ListN.{length, getD}
-use Rattle.model.specs.Values.{rack}
-use Rattle.model.specs.Image.{room, block-in, memory-checks}
+use Rattle.model.specs.Values.{rack, room}
+use Rattle.model.specs.Image.{block-in, memory-checks}
 use Rattle.model.specs.Messages.{Transfer, Message, a-transfer, message-in, size-all}
 use Rattle.model.specs.Arrival.{addressed, transfer-links, serials-new, volume-right, parts-right, receive-checks, received-from}
 use Rattle.model.specs.Calls.{Answer, Result, refused, storing}

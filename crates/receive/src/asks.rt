@@ -3,8 +3,8 @@ ghost use mathlib.Core.Path.{_≡_};
 ghost use mathlib.Core.Bool.{true};
 ghost use Prim.Native.Nat.{_≤_};
 ghost use lib.ListN.{length, replicate};
-ghost use Rattle.model.specs.Values.{rack};
-ghost use Rattle.model.specs.Image.{room, words, is-image, block-in};
+ghost use Rattle.model.specs.Values.{room};
+ghost use Rattle.model.specs.Image.{words, holds-block, block-in};
 ghost use Rattle.model.specs.Messages.{Transfer, a-transfer, message-in};
 ghost use Rattle.model.specs.Arrival.{addressed};
 ghost use Rattle.inbox.specs.Inbox.{Sides};
@@ -43,7 +43,7 @@ pub fn questions(
     queue: &mut [usize],
     firsts: &mut [usize],
 ) -> Answer
-    requires { ⌜ (is-image rack (now block) ≡ true) × Sides (now vertex) (now serial) (now starts) (now sizes) × ((t : Transfer) × (message-in (now message) ≡ a-transfer t) × TransferOutlined t (now message) (now vertex) (now serial) (now starts) (now sizes) front tail) ⌝ }
+    requires { ⌜ (holds-block (now block) ≡ true) × Sides (now vertex) (now serial) (now starts) (now sizes) × ((t : Transfer) × (message-in (now message) ≡ a-transfer t) × TransferOutlined t (now message) (now vertex) (now serial) (now starts) (now sizes) front tail) ⌝ }
     requires { ⌜ (length (now keys) ≡ 512) × (length (now ranks) ≡ 512) × (length (now opposite) ≡ 512) × (length (now draft) ≡ words) × (now kinds ≡ replicate 512 0) × (now links ≡ replicate 512 0) × (length (now queue) ≡ room) × (length (now firsts) ≡ room) ⌝ }
     ensures { λ r. ⌜ AskedAll (now (block .entry)) (now (message .entry)) (now (vertex .entry)) (now (serial .entry)) (now (starts .entry)) (now (sizes .entry)) front tail (now (keys .exit)) (now (ranks .exit)) (now (opposite .exit)) (now (draft .exit)) (now (kinds .exit)) (now (links .exit)) r × (length (now (queue .exit)) ≡ room) × (length (now (firsts .exit)) ≡ room) ⌝ }
 {

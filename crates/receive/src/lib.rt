@@ -4,7 +4,7 @@ mod asks; // asks.rt: questions 17 to 21
 ghost use mathlib.Core.Path.{_≡_};
 ghost use mathlib.Core.Bool.{true};
 ghost use Rattle.model.specs.Values.{rack};
-ghost use Rattle.model.specs.Image.{is-image};
+ghost use Rattle.model.specs.Image.{holds-block};
 ghost use Rattle.model.specs.Messages.{Transfer, a-transfer, message-in};
 ghost use Rattle.model.specs.Calls.{receive as taken};
 ghost use Rattle.answers.specs.Answers.{answer-of, Gives};
@@ -29,7 +29,7 @@ fn take(
     starts: &[usize],
     sizes: &[usize],
 ) -> Answer
-    requires { ⌜ (is-image rack (now block) ≡ true) × Sides (now vertex) (now serial) (now starts) (now sizes) × ((t : Transfer) × (message-in (now message) ≡ a-transfer t) × TransferOutlined t (now message) (now vertex) (now serial) (now starts) (now sizes) front tail) ⌝ }
+    requires { ⌜ (holds-block (now block) ≡ true) × Sides (now vertex) (now serial) (now starts) (now sizes) × ((t : Transfer) × (message-in (now message) ≡ a-transfer t) × TransferOutlined t (now message) (now vertex) (now serial) (now starts) (now sizes) front tail) ⌝ }
     ensures { λ r. ⌜ Takes (now (block .entry)) (now (message .entry)) (now (vertex .entry)) (now (serial .entry)) (now (starts .entry)) (now (sizes .entry)) front tail (answer-of r) (now (block .exit)) ⌝ }
 {
     let mut keys = [0u64; Header::VOLUME];

@@ -6,8 +6,8 @@ use Prim.Native.Nat.{ℕ, _%_, _^_, _≤_, _<_}
 use native.Mathlib.Omega.{arith}
 use lib.ListN.{length, getD}
 use borrow.Author.Tests.{eq-eqb, ne-eqb}
-use Rattle.model.specs.Values.{rack, serial-bound}
-use Rattle.model.specs.Image.{room, words, column, dart-in, block-in, is-image}
+use Rattle.model.specs.Values.{rack, serial-bound, room}
+use Rattle.model.specs.Image.{words, column, dart-in, block-in, holds-block}
 use Rattle.laws.proofs.Tables.{length-tab}
 use Rattle.theory.proofs.ImageLaws.{image-is, image-length}
 use Rattle.columns.specs.Columns.{count, Kind, kind-free, kind-sewn, kind-critical, Ranged, Places, SewnPlaces, Finite}
@@ -68,7 +68,7 @@ module _ (m : List ℕ) (p : ℕ) where
         finite-here = finite-at m p (f p h);
       }
 
-module _ (m : List ℕ) (e : is-image rack m ≡ true) where
+module _ (m : List ℕ) (e : holds-block m ≡ true) where
   pub image-size : length m ≡ words
   image-size =
       let i = image-is rack m e .0 in

@@ -10,7 +10,7 @@ use borrow.Author.Tests.{eq-eqb, ne-eqb, le-leb, lt-leb}
 use Rattle.model.specs.Lists.{tab}
 use Rattle.model.specs.Values.{rack}
 use Rattle.model.specs.Layouts.{group, group-count, put-all}
-use Rattle.model.specs.Image.{words, dart-in, block-in, is-image, memory-checks}
+use Rattle.model.specs.Image.{words, dart-in, block-in, holds-block, memory-checks}
 use Rattle.model.specs.Messages.{a-dart, file}
 use Rattle.model.specs.Calls.{served, refused, writing, save-file}
 use Rattle.answers.specs.Answers.{Gives}
@@ -29,7 +29,7 @@ pub record FileCounted (m : List ℕ) (s t u n : ℕ) : Type 0 where
   pub same : s + (t + (u + n)) ≡ length (file rack .put (block-in m))
   pub few : s + (t + (u + n)) ≤ 245775
 
-pub file-counted : (m : List ℕ) → is-image rack m ≡ true → {a b c s t u n : ℕ} → a ≡ getD m 0 0 → s ≡ group-count a → b ≡ getD m 1 0 → t ≡ group-count b
+pub file-counted : (m : List ℕ) → holds-block m ≡ true → {a b c s t u n : ℕ} → a ≡ getD m 0 0 → s ≡ group-count a → b ≡ getD m 1 0 → t ≡ group-count b
     → c ≡ getD m 2 0 → u ≡ group-count c → n ≡ length (put-all a-dart (tab (dart-in m) (getD m 2 0))) → FileCounted m s t u n
 file-counted m e {a} {b} {c} {s} {t} {u} {n} ea es eb et ec eu en =
     let few = count-small m e in
@@ -50,11 +50,11 @@ pub refused-size : (m out : List ℕ) → (length m ≡ words → ⊥) → Gives
 unfolding save-file writing memory-checks
 refused-size m out h = gives _ _ _ _ (ask-no refl (ne-eqb (length m) words h) refl)
 
-pub refused-image : (m out : List ℕ) → length m ≡ words → is-image rack m ≡ false → Gives (save-file rack m out) (refused 2) out
+pub refused-image : (m out : List ℕ) → length m ≡ words → holds-block m ≡ false → Gives (save-file rack m out) (refused 2) out
 unfolding save-file writing memory-checks
 refused-image m out h e = gives _ _ _ _ (ask-yes (eq-eqb (length m) words h) (ask-no refl e refl))
 
-module _ (m out : List ℕ) (h : length m ≡ words) (e : is-image rack m ≡ true) {n : ℕ} (c : n ≡ length (file rack .put (block-in m))) where
+module _ (m out : List ℕ) (h : length m ≡ words) (e : holds-block m ≡ true) {n : ℕ} (c : n ≡ length (file rack .put (block-in m))) where
   pub refused-output : length out < n → Gives (save-file rack m out) (refused 15) out
   unfolding save-file writing memory-checks
   refused-output l =

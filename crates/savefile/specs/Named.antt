@@ -7,9 +7,9 @@ use mathlib.Core.List.{List, _++_}
 use Prim.Native.Nat.{ℕ, _/_, _%_, _^_, _<_, _≤_}
 use lib.Dec.{eqb}
 use lib.ListN.{length, getD}
-use Rattle.model.specs.Values.{serial-bound}
+use Rattle.model.specs.Values.{serial-bound, room}
 use Rattle.model.specs.Layouts.{group, serial, at-most, _⊗_}
-use Rattle.model.specs.Image.{room, words, column, third-in}
+use Rattle.model.specs.Image.{words, column, third-in}
 use Rattle.model.specs.Messages.{kind-of, third}
 use Rattle.memory.specs.Point.{FiniteAt}
 

@@ -5,7 +5,7 @@ ghost use lib.ListN.{length};
 ghost use Rattle.model.specs.Lists.{tab};
 ghost use Rattle.model.specs.Values.{rack};
 ghost use Rattle.model.specs.Layouts.{put-all};
-ghost use Rattle.model.specs.Image.{dart-in, block-in, is-image};
+ghost use Rattle.model.specs.Image.{dart-in, block-in, holds-block};
 ghost use Rattle.model.specs.Messages.{a-dart, file};
 ghost use Rattle.savefile.specs.Named.{ThirdSmall, third-bytes, Small, AllSmall};
 use crate::links;
@@ -57,7 +57,7 @@ fn count_darts(block: &[u64], n: usize) -> usize
 
 // Of the whole file.
 pub fn count_file(block: &[u64]) -> usize
-    requires { ⌜ is-image rack (now block) ≡ true ⌝ }
+    requires { ⌜ holds-block (now block) ≡ true ⌝ }
     ensures { λ r. ⌜ r ≡ length (file rack .put (block-in (now (block .entry)))) ⌝ }
 {
     let number = groups::group_count(links::narrow(block[0]));

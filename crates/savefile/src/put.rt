@@ -6,7 +6,7 @@ ghost use lib.ListN.{length};
 ghost use Rattle.model.specs.Lists.{tab};
 ghost use Rattle.model.specs.Values.{rack};
 ghost use Rattle.model.specs.Layouts.{put-all};
-ghost use Rattle.model.specs.Image.{dart-in, block-in, is-image};
+ghost use Rattle.model.specs.Image.{dart-in, block-in, holds-block};
 ghost use Rattle.model.specs.Messages.{point as point-layout, a-dart, file};
 ghost use Rattle.groups.specs.Slices.{Stored};
 ghost use Rattle.memory.specs.Point.{patterns, FinitePoint};
@@ -86,7 +86,7 @@ fn put_darts(block: &[u64], n: usize, out: &mut [u8], at: usize) -> usize
 
 // Block, counter, dart count.
 fn put_header(block: &[u64], out: &mut [u8]) -> usize
-    requires { ⌜ (is-image rack (now block) ≡ true) × (length (header-bytes (now block)) ≤ length (now out)) ⌝ }
+    requires { ⌜ (holds-block (now block) ≡ true) × (length (header-bytes (now block)) ≤ length (now out)) ⌝ }
     ensures { λ r. ⌜ Stored (now (out .entry)) 0 (header-bytes (now (block .entry))) (now (out .exit)) r ⌝ }
 {
     let past_number = groups::put_group(out, 0, links::narrow(block[0]));
@@ -96,7 +96,7 @@ fn put_header(block: &[u64], out: &mut [u8]) -> usize
 
 // The whole file, from the output's first byte.
 pub fn put_file(block: &[u64], out: &mut [u8]) -> usize
-    requires { ⌜ (is-image rack (now block) ≡ true) × (length (file rack .put (block-in (now block))) ≤ length (now out)) ⌝ }
+    requires { ⌜ (holds-block (now block) ≡ true) × (length (file rack .put (block-in (now block))) ≤ length (now out)) ⌝ }
     ensures { λ r. ⌜ Stored (now (out .entry)) 0 (file rack .put (block-in (now (block .entry)))) (now (out .exit)) r ⌝ }
 {
     let past_header = put_header(block, out);

@@ -12,7 +12,7 @@ use borrow.Author.Tests.{eqb-true, ne-eqb, le-leb, lt-leb, leb-true}
 use Rattle.model.specs.Lists.{Check, first-no}
 use Rattle.model.specs.Values.{rack}
 use Rattle.model.specs.Layouts.{group-count}
-use Rattle.model.specs.Image.{words, block-in, is-image, memory-checks}
+use Rattle.model.specs.Image.{words, block-in, holds-block, memory-checks}
 use Rattle.model.specs.Messages.{file}
 use Rattle.model.specs.Calls.{Answer, served, refused, asked, writing, save-file}
 use Rattle.laws.proofs.Tests.{by-cases, and-left, and-right, yes-first}
@@ -64,11 +64,11 @@ saved m b {out} {after} w g =
     let p : List ℕ = part m b in
     let bytes : List ℕ = file rack .put (block-in p) in
     let t : Bool = leb (length bytes) (length out) in
-    let qs : List Check = (1, eqb (length p) words) ∷ (2, is-image rack p) ∷ (15, t) ∷ [] in
+    let qs : List Check = (1, eqb (length p) words) ∷ (2, holds-block p) ∷ (15, t) ∷ [] in
     let whole : List ℕ = bytes ++ drop (length bytes) out in
     let put = settled (eqb (first-no qs) 0) (first-no qs) bytes out after w (g .answer ∙ answer-if qs out (length bytes) whole) (g .left ∙ lent-if qs out (length bytes) whole) in
-    let two : Bool = eqb (first-no ((1, eqb (length p) words) ∷ (2, is-image rack p) ∷ [])) 0 in
-    let same = fits-if two bytes out ∙ ap (λ (z : Bool). when z bytes) (sym (third-question (eqb (length p) words) (is-image rack p) t)) in
+    let two : Bool = eqb (first-no ((1, eqb (length p) words) ∷ (2, holds-block p) ∷ [])) 0 in
+    let same = fits-if two bytes out ∙ ap (λ (z : Bool). when z bytes) (sym (third-question (eqb (length p) words) (holds-block p) t)) in
     record { answer = put .0 ∙ ap made-of (sym same); left = put .1 ∙ ap (λ (x : Option (List ℕ)). left-by x out) (sym same) }
 
 -- past the last block there is none
@@ -84,8 +84,8 @@ pub file-short : (m : List ℕ) (b : ℕ) → savable m b ≡ true → length (f
 unfolding savable memory-checks file-of
 file-short m b e =
     let p : List ℕ = part m b in
-    let one = yes-first 1 (eqb (length p) words) ((2, is-image rack p) ∷ []) (λ z. omega arith) (eqb-true (first-no ((1, eqb (length p) words) ∷ (2, is-image rack p) ∷ [])) 0 e) in
-    let two = yes-first 2 (is-image rack p) [] (λ z. omega arith) (one .1) in
+    let one = yes-first 1 (eqb (length p) words) ((2, holds-block p) ∷ []) (λ z. omega arith) (eqb-true (first-no ((1, eqb (length p) words) ∷ (2, holds-block p) ∷ [])) 0 e) in
+    let two = yes-first 2 (holds-block p) [] (λ z. omega arith) (one .1) in
     let counted = file-counted p (two .0) refl refl refl refl refl refl refl in
     omega (arith, counted .same, counted .few)
 

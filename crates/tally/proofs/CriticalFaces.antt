@@ -8,9 +8,9 @@ use lib.Dec.{leb, eqb}
 use lib.ListN.{length, getD, replicate, length-map, getD-replicate}
 use borrow.Author.Tests.{eq-eqb, ne-eqb}
 use Rattle.model.specs.Lists.{all, keep}
-use Rattle.model.specs.Values.{Dart, rack}
+use Rattle.model.specs.Values.{Dart, room}
 use Rattle.model.specs.Cells.{cycle, faces, start-of, serials, next-in, third-at}
-use Rattle.model.specs.Image.{room, column, dart-in, third-in, block-in, is-image}
+use Rattle.model.specs.Image.{count-in, column, dart-in, third-in, block-in, holds-block}
 use Rattle.model.specs.Balance.{every, picked}
 use Rattle.laws.proofs.Members.{In, in-here, in-there, keep-in, keep-map, keep-each, Each, each-map}
 use Rattle.laws.proofs.Tables.{length-tab, map-tab}
@@ -20,7 +20,7 @@ use Rattle.columns.proofs.Question.{image-passed}
 use Rattle.cells.specs.Places.{Linked, Closed, InOrder, marked}
 use Rattle.cells.proofs.Reached.{places, places-below}
 use Rattle.cells.proofs.Paths.{round}
-use Rattle.cells.proofs.Sited.{Sited, darts-in, count-in, sited}
+use Rattle.cells.proofs.Sited.{Sited, darts-in, sited}
 use Rattle.cells.proofs.FaceSerials.{faces-carried}
 use Rattle.cells.proofs.StartLaws.{start-place, cycle-start}
 use Rattle.tally.specs.Tally.{is-critical, critical-faces, critical-at, tally-in, no-tally, tally-of}
@@ -72,9 +72,9 @@ pub start-map : (s : ℕ → ℕ) (f : List ℕ) → 0 < length f → start-of (
 start-map s [] h = absurd (omega arith)
 start-map s (x ∷ f) h = refl
 
-module _ (m : List ℕ) (ok : is-image rack m ≡ true) where
+module _ (m : List ℕ) (ok : holds-block m ≡ true) where
   abbrev site : Sited m
-  site = sited rack m ok
+  site = sited m ok
 
   abbrev ds : List Dart
   ds = darts-in m
@@ -118,6 +118,6 @@ module _ (m : List ℕ) (ok : is-image rack m ≡ true) where
       (λ i. record { darts = sym (length-tab (dart-in m) (count-in m)) i; volumes = ev i; pieces = ej i; critical = ec i; counter = getD m 1 0 })
       ∙ ap (λ (b : Bool). cond b (tally-in (block-in m)) no-tally) (sym ok)
 
-pub tally-unsound : (m : List ℕ) → is-image rack m ≡ false → no-tally ≡ tally-of m
+pub tally-unsound : (m : List ℕ) → holds-block m ≡ false → no-tally ≡ tally-of m
 unfolding tally-of
 tally-unsound m no-image = ap (λ (b : Bool). cond b (tally-in (block-in m)) no-tally) (sym no-image)

@@ -9,9 +9,9 @@ use lib.Dec.{leb, eqb}
 use lib.ListN.{length, getD, length-map}
 use borrow.Author.Tests.{eqb-true, eq-eqb, ne-eqb}
 use Rattle.model.specs.Lists.{all, keep, mem}
-use Rattle.model.specs.Values.{Dart, rack}
+use Rattle.model.specs.Values.{Dart}
 use Rattle.model.specs.Cells.{serials, third-at, volume-in, volume-starts}
-use Rattle.model.specs.Image.{column, dart-in, third-in, is-image}
+use Rattle.model.specs.Image.{count-in, column, dart-in, third-in, holds-block}
 use Rattle.laws.proofs.Tests.{by-cases, same-truth, and-left, and-right}
 use Rattle.laws.proofs.Members.{In, in-here, in-there, in-cons, all-map, all-cong, keep-map, keep-cong}
 use Rattle.laws.proofs.Tables.{length-tab, map-tab}
@@ -21,7 +21,7 @@ use Rattle.columns.proofs.ThirdLinks.{sewn-says}
 use Rattle.columns.proofs.Question.{image-passed}
 use Rattle.cells.specs.Places.{places-in, volume-of}
 use Rattle.cells.proofs.Reached.{places, in-places, places-below, volume-linked, places-in-in}
-use Rattle.cells.proofs.Sited.{Sited, sited, darts-in, count-in}
+use Rattle.cells.proofs.Sited.{Sited, sited, darts-in}
 use Rattle.cells.proofs.Serials.{mem-map, serials-apart, volume-serials}
 use Rattle.cells.proofs.FaceSerials.{same-order}
 use Rattle.picking.proofs.Symmetric.{volume-sym}
@@ -125,9 +125,9 @@ exactly-sewn (kind-free e f) h = omega arith
 exactly-sewn (kind-sewn e) h = e
 exactly-sewn (kind-critical e f g) h = omega arith
 
-pub joined : (m : List ℕ) → is-image rack m ≡ true → Joined m
+pub joined : (m : List ℕ) → holds-block m ≡ true → Joined m
 joined m ok = record {
-  linked = sited rack m ok .linked;
+  linked = sited m ok .linked;
   sewn-back = λ p h e.
       let w = image-passed m ok in
       let t = sewn-says m (getD m 2 0) p (w .thirds p h) (exactly-sewn (w .range .kinds p h) e) in
@@ -144,9 +144,9 @@ abbrev pub starts-in : Bool → List Dart → List ℕ
 starts-in true ds = piece-starts ds
 starts-in false ds = volume-starts ds
 
-module _ (m : List ℕ) (ok : is-image rack m ≡ true) where
+module _ (m : List ℕ) (ok : holds-block m ≡ true) where
   abbrev site : Sited m
-  site = sited rack m ok
+  site = sited m ok
 
   abbrev s : ℕ → ℕ
   s = column m 0

@@ -12,7 +12,8 @@ use lib.ListN.{length, getD, set, take, replicate, length-set, length-append, le
 use lib.Seq.{getD-set-same, getD-set-other, take-suc-set}
 use borrow.Author.Tests.{eqb-true, eqb-false, eq-eqb, ne-eqb, leb-true, le-leb}
 use Rattle.model.specs.Lists.{all, keep, mem, tab}
-use Rattle.model.specs.Image.{room, column}
+use Rattle.model.specs.Image.{column}
+use Rattle.model.specs.Values.{room}
 use Rattle.laws.proofs.Tests.{by-cases, lt-or-ge, same-truth}
 use Rattle.laws.proofs.Members.{In, pigeonhole, all-in, all-from, keep-le}
 use Rattle.laws.proofs.Maps.{tab-more}

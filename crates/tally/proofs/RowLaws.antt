@@ -8,9 +8,9 @@ use lib.Dec.{leb, eqb}
 use lib.ListN.{length, getD, take, drop, length-drop, length-map, take-append-drop}
 use lib.Seq.{ext-getD, getD-take, getD-drop, length-take-le, drop-drop}
 use Rattle.model.specs.Lists.{all, keep, mem, tab, concat-map}
-use Rattle.model.specs.Values.{Dart, rack, is-critical-with}
+use Rattle.model.specs.Values.{Dart, is-critical-with, room}
 use Rattle.model.specs.Cells.{cycle, faces, start-of, next-in, third-at, volume-in, faces-in, volume-starts}
-use Rattle.model.specs.Image.{room, column, third-in, is-image}
+use Rattle.model.specs.Image.{count-in, column, third-in, holds-block}
 use borrow.Author.Tests.{eqb-true, eq-eqb, ne-eqb, le-leb, lt-leb}
 use Rattle.laws.proofs.Tests.{by-cases, same-truth, and-intro, and-left, and-right}
 use Rattle.laws.proofs.Members.{In, in-here, in-there, getD-in, keep-in, keep-le, keep-cong, keep-twice, keep-map, map-map}
@@ -22,7 +22,7 @@ use Rattle.columns.proofs.Question.{image-passed}
 use Rattle.cells.specs.Places.{InOrder, places-in, volume-of}
 use Rattle.cells.proofs.Reached.{places, places-below, places-in-in}
 use Rattle.cells.proofs.Paths.{round}
-use Rattle.cells.proofs.Sited.{Sited, sited, darts-in, count-in}
+use Rattle.cells.proofs.Sited.{Sited, sited, darts-in}
 use Rattle.cells.proofs.Serials.{volume-serials, volume-size}
 use Rattle.cells.proofs.FaceSerials.{faces-carried}
 use Rattle.cells.proofs.StartLaws.{cycle-start, in-order-few}
@@ -108,9 +108,9 @@ map-same : (f : ℕ → ℕ) (l : List ℕ) → ((x : ℕ) → In x l → f x �
 map-same f [] h = refl
 map-same f (x ∷ l) h = rw (h x (in-here x l)) (ap (λ (t : List ℕ). x ∷ t) (map-same f l (λ y k. h y (in-there y x l k))))
 
-module _ (m : List ℕ) (ok : is-image rack m ≡ true) where
+module _ (m : List ℕ) (ok : holds-block m ≡ true) where
   abbrev site : Sited m
-  site = sited rack m ok
+  site = sited m ok
 
   abbrev n : ℕ
   n = count-in m
@@ -380,41 +380,41 @@ pub faces-counted : (m G : List ℕ) {T T′ T″ : List ℕ} → Counted (cell-
 faces-counted m G a b = record { len = b .len ∙ a .len; value = λ i. omega (arith, a .value i, b .value i) }
 
 -- the arrays of message order hold the starts
-pub started : (m : List ℕ) → is-image rack m ≡ true → {out starts : List ℕ} {darts count : ℕ} → InOrder (faces (column m 1) (places (count-in m))) out starts darts count → Started m out starts count
+pub started : (m : List ℕ) → holds-block m ≡ true → {out starts : List ℕ} {darts count : ℕ} → InOrder (faces (column m 1) (places (count-in m))) out starts darts count → Started m out starts count
 started m ok {out} {starts} {darts} {count} o = record {
   len-out = o .out-size;
   len-starts = o .starts-size;
   few = in-order-few o .1;
   count-is = o .count-is ∙ sym (length-map (faces (column m 1) (places (count-in m))) start-of);
-  index-below = λ k h. omega (arith, first-dart (sited rack m ok .linked) o k h .0, in-order-few o .0);
-  start-is = λ k h. first-dart (sited rack m ok .linked) o k h .1 ∙ sym (at k h);
-  start-below = λ k h. let r = first-dart (sited rack m ok .linked) o k h in omega (arith, at k h, r .1, r .2);
+  index-below = λ k h. omega (arith, first-dart (sited m ok .linked) o k h .0, in-order-few o .0);
+  start-is = λ k h. first-dart (sited m ok .linked) o k h .1 ∙ sym (at k h);
+  start-below = λ k h. let r = first-dart (sited m ok .linked) o k h in omega (arith, at k h, r .1, r .2);
 }
   where
     at : (k : ℕ) → k < count → getD (face-starts m) k 0 ≡ start-of (getD (faces (column m 1) (places (count-in m))) k [])
     at k h = map-at start-of [] 0 (faces (column m 1) (places (count-in m))) k (omega (arith, o .count-is))
 
 -- how many starts there are
-pub starts-few : (m : List ℕ) → is-image rack m ≡ true → length (face-starts m) ≤ room
+pub starts-few : (m : List ℕ) → holds-block m ≡ true → length (face-starts m) ≤ room
 starts-few m ok = omega (
   arith,
   ap length (starts-are m ok),
   keep-le (λ x. all (leb x) (cycle (column m 1) x)) (places (count-in m)),
   length-tab (λ (q : ℕ). q) (count-in m),
-  sited rack m ok .linked .few,
+  sited m ok .linked .few,
 )
 
 -- THE ANSWER and the rows
-pub told-unsound : (m rows : List ℕ) → is-image rack m ≡ false → (answer.Unsound ≡ cells-told m rows) × (rows ≡ rows-after m rows)
+pub told-unsound : (m rows : List ℕ) → holds-block m ≡ false → (answer.Unsound ≡ cells-told m rows) × (rows ≡ rows-after m rows)
 unfolding cells-told rows-after
 told-unsound m rows e = rw e (refl, refl)
 
-pub told-short : (m rows : List ℕ) → is-image rack m ≡ true → {count : ℕ} → count ≡ length (volume-starts (darts-in m)) → length rows < 19 * count
+pub told-short : (m rows : List ℕ) → holds-block m ≡ true → {count : ℕ} → count ≡ length (volume-starts (darts-in m)) → length rows < 19 * count
     → (answer.Short ≡ cells-told m rows) × (rows ≡ rows-after m rows)
 unfolding cells-told rows-after
 told-short m rows ok e h = rw (ok, lt-leb (row-words m) (length rows) (omega arith)) (refl, refl)
 
-pub told-cells : (m rows : List ℕ) → is-image rack m ≡ true → {count : ℕ} → count ≡ length (volume-starts (darts-in m)) → 19 * count ≤ length rows → {T : List ℕ} → T ≡ told-rows m rows
+pub told-cells : (m rows : List ℕ) → holds-block m ≡ true → {count : ℕ} → count ≡ length (volume-starts (darts-in m)) → 19 * count ≤ length rows → {T : List ℕ} → T ≡ told-rows m rows
     → (answer.Cells count ≡ cells-told m rows) × (T ≡ rows-after m rows)
 unfolding cells-told rows-after
 told-cells m rows ok e h t = rw (ok, le-leb (row-words m) (length rows) (omega arith)) (ap answer.Cells e, t)

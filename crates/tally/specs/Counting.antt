@@ -7,7 +7,8 @@ use lib.Dec.{eqb}
 use lib.ListN.{length, getD}
 use Rattle.model.specs.Lists.{keep, tab}
 use Rattle.model.specs.Cells.{faces, start-of}
-use Rattle.model.specs.Image.{room, column}
+use Rattle.model.specs.Image.{column}
+use Rattle.model.specs.Values.{room}
 use Rattle.tally.specs.Tally.{critical-at}
 
 -- before anything is counted: a cell's least serial at the start of its row, 0 elsewhere

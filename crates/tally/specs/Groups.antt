@@ -7,7 +7,8 @@ use Prim.Native.Nat.{ℕ, suc, _+_, _%_, _≤_, _<_}
 use lib.Dec.{leb, eqb}
 use lib.ListN.{length, getD, set, take}
 use Rattle.model.specs.Lists.{all, keep, mem, tab}
-use Rattle.model.specs.Image.{room, column}
+use Rattle.model.specs.Image.{column}
+use Rattle.model.specs.Values.{room}
 use Rattle.cells.specs.Places.{Linked, places-in}
 use Rattle.tally.specs.Pieces.{piece}
 

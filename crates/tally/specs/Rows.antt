@@ -5,9 +5,9 @@ use Prim.Native.Nat.{ℕ, zero, suc, _*_}
 use lib.Dec.{leb}
 use lib.ListN.{length, drop}
 use Rattle.model.specs.Lists.{keep, tab, concat-map}
-use Rattle.model.specs.Values.{Dart, is-critical-with, rack}
+use Rattle.model.specs.Values.{Dart, is-critical-with}
 use Rattle.model.specs.Cells.{start-of, third-at, volume-in, faces-in, volume-starts}
-use Rattle.model.specs.Image.{block-in, is-image}
+use Rattle.model.specs.Image.{block-in, holds-block}
 use Rattle.tally.specs.declared.rows.Told.{Told}
 use Rattle.tally.specs.declared.rows.Told.the-variants as answer
 
@@ -36,10 +36,10 @@ told-rows m rows = rows-of (block-in m .darts) ++ drop (row-words m) rows
 -- THE ANSWER: how many cells, if the memory is a sound block's image and there is room for their rows
 unfoldable pub cells-told : List ℕ → List ℕ → Told
 cells-told m rows =
-    cond (is-image rack m)
+    cond (holds-block m)
     (cond (leb (row-words m) (length rows)) (answer.Cells (length (volume-starts (block-in m .darts)))) answer.Short)
     answer.Unsound
 
 -- and the rows, untouched where nothing is told
 unfoldable pub rows-after : List ℕ → List ℕ → List ℕ
-rows-after m rows = cond (is-image rack m && leb (row-words m) (length rows)) (told-rows m rows) rows
+rows-after m rows = cond (holds-block m && leb (row-words m) (length rows)) (told-rows m rows) rows

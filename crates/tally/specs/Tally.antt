@@ -5,9 +5,9 @@ use Prim.Native.Nat.{ℕ, _%_}
 use lib.Dec.{eqb}
 use lib.ListN.{length}
 use Rattle.model.specs.Lists.{keep}
-use Rattle.model.specs.Values.{Third, free, sewn, critical, Dart, Block, rack}
+use Rattle.model.specs.Values.{Third, free, sewn, critical, Dart, Block}
 use Rattle.model.specs.Cells.{faces, start-of, serials, next-in, third-at}
-use Rattle.model.specs.Image.{column, block-in, is-image}
+use Rattle.model.specs.Image.{column, block-in, holds-block}
 use Rattle.model.specs.Balance.{every, picked}
 use Rattle.tally.specs.declared.counts.Tally.{Tally}
 use Rattle.tally.specs.Pieces.{piece-starts}
@@ -36,7 +36,7 @@ no-tally = record { darts = 0; volumes = 0; pieces = 0; critical = 0; counter = 
 
 -- of a block's memory; of any other memory all zero
 unfoldable pub tally-of : List ℕ → Tally
-tally-of m = cond (is-image rack m) (tally-in (block-in m)) no-tally
+tally-of m = cond (holds-block m) (tally-in (block-in m)) no-tally
 
 -- BY PLACE: the dart at place p is critical
 abbrev pub critical-at : List ℕ → ℕ → Bool

@@ -4,9 +4,9 @@ ghost use mathlib.Core.Bool.{true};
 ghost use Prim.Native.Nat.{_<_};
 ghost use lib.ListN.{length};
 ghost use Rattle.model.specs.Lists.{keep, tab};
-ghost use Rattle.model.specs.Values.{rack};
+ghost use Rattle.model.specs.Values.{room};
 ghost use Rattle.model.specs.Cells.{faces, start-of};
-ghost use Rattle.model.specs.Image.{room, words, column, block-in, is-image};
+ghost use Rattle.model.specs.Image.{words, column, block-in, holds-block};
 ghost use Rattle.cells.specs.Places.{InOrder, Linked};
 ghost use Rattle.tally.specs.Tally.{critical-at, critical-faces};
 use memory::record;
@@ -49,7 +49,7 @@ fn count_critical(
 
 // How many faces of a sound block are critical.
 pub fn critical_faces(block: &[u64]) -> usize
-    requires { ⌜ is-image rack (now block) ≡ true ⌝ }
+    requires { ⌜ holds-block (now block) ≡ true ⌝ }
     ensures { λ r. ⌜ r ≡ length (critical-faces (block-in (now (block .entry)) .darts)) ⌝ }
 {
     let n = block[2] as usize;

@@ -2,7 +2,8 @@
 ghost use mathlib.Core.Path.{_≡_};
 ghost use Prim.Native.Nat.{_≤_, _<_};
 ghost use lib.ListN.{length, getD, replicate};
-ghost use Rattle.model.specs.Image.{room, words};
+ghost use Rattle.model.specs.Image.{words};
+ghost use Rattle.model.specs.Values.{room};
 ghost use Rattle.cells.specs.Places.{Painted};
 ghost use Rattle.tally.specs.Groups.{third-link, group-of, Joined, Entered, Queued, LinksEntered, Shut, Grouped};
 use memory::record;

@@ -2,14 +2,13 @@
 ghost use mathlib.Core.Path.{_≡_};
 ghost use mathlib.Core.Bool.{true};
 ghost use lib.ListN.{length};
-ghost use Rattle.model.specs.Values.{rack};
-ghost use Rattle.model.specs.Image.{block-in, is-image};
+ghost use Rattle.model.specs.Image.{block-in, holds-block};
 ghost use Rattle.tally.specs.Pieces.{piece-starts};
 use crate::groups;
 
 // Into how many pieces the cells of a sound block fall.
 pub fn pieces(block: &[u64]) -> usize
-    requires { ⌜ is-image rack (now block) ≡ true ⌝ }
+    requires { ⌜ holds-block (now block) ≡ true ⌝ }
     ensures { λ r. ⌜ r ≡ length (piece-starts (block-in (now (block .entry)) .darts)) ⌝ }
 {
     let mut numbers = [0usize; 4096];

@@ -5,8 +5,8 @@ ghost use mathlib.Core.Bool.{true, false};
 ghost use Prim.Native.Nat.{ℕ, _+_, _*_, _/_, _≤_, _<_, _^_};
 ghost use lib.ListN.{length, getD, set};
 ghost use Rattle.model.specs.Lists.{keep, tab};
-ghost use Rattle.model.specs.Values.{rack};
-ghost use Rattle.model.specs.Image.{room, words, column, is-image};
+ghost use Rattle.model.specs.Values.{room};
+ghost use Rattle.model.specs.Image.{words, column, holds-block};
 ghost use Rattle.cells.specs.Places.{Linked};
 ghost use Rattle.tally.specs.Tally.{critical-at};
 ghost use Rattle.tally.specs.Groups.{Grouped};
@@ -154,7 +154,7 @@ fn count_critical(
 
 // Counts the faces of each cell of a sound block, and those that are critical.
 fn tell_faces(block: &[u64], numbers: &[usize], rows: &mut [u64])
-    requires { ⌜ (is-image rack (now block) ≡ true) × Countable (2 ^ 32 + room) (now block) (now numbers) (now rows) ⌝ }
+    requires { ⌜ (holds-block (now block) ≡ true) × Countable (2 ^ 32 + room) (now block) (now numbers) (now rows) ⌝ }
     ensures { λ _. ⌜ FacesCounted (now (block .entry)) (now (numbers .entry)) (now (rows .entry)) (now (rows .exit)) ⌝ }
 {
     let n = block[2] as usize;
@@ -179,7 +179,7 @@ fn tell_faces(block: &[u64], numbers: &[usize], rows: &mut [u64])
 
 // Tells the figures of the cells of a sound block, which have their numbers and least places.
 fn tell(block: &[u64], numbers: &[usize], firsts: &[usize], count: usize, rows: &mut [u64])
-    requires { ⌜ (is-image rack (now block) ≡ true) × Grouped false (now block) (now numbers) (now firsts) count ⌝ }
+    requires { ⌜ (holds-block (now block) ≡ true) × Grouped false (now block) (now numbers) (now firsts) count ⌝ }
     requires { ⌜ 19 * count ≤ length (now rows) ⌝ }
     ensures { λ _. ⌜ now (rows .exit) ≡ told-rows (now (block .entry)) (now (rows .entry)) ⌝ }
 {

@@ -8,7 +8,7 @@ use mir.Val.{toZ, ofZ}
 use mir.Syntax.{w32}
 use borrow.Author.Tests.{not-true, not-false}
 use Rattle.model.specs.Balance.{is-above}
-use Rattle.model.specs.Image.{room}
+use Rattle.model.specs.Values.{room}
 use Rattle.oracle.specs.Oracle.{oracle-of}
 use Rattle.mesh.specs.Parts.{blocks}
 use Rattle.balance.specs.Moves.{moves-from}

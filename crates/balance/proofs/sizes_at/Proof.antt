@@ -3,8 +3,7 @@ use Prim.Native.Nat.{ℕ}
 use mathlib.Core.Path.{_≡_, refl, sym, subst}
 use mathlib.Core.Bool.{true}
 use mathlib.Core.List.{List}
-use Rattle.model.specs.Values.{rack}
-use Rattle.model.specs.Image.{is-image}
+use Rattle.model.specs.Image.{holds-block}
 use Rattle.mesh.proofs.Parts.{part-is}
 use Rattle.balance.proofs.MovesLaws.{sizes-there}
 use borrow.Author.Needs.{needs}
@@ -34,7 +33,7 @@ sizes-of-requires c κs =
     let start : tie.Start = search in
     let mesh = start .args .mesh .now in
     let i = start .args .i in
-    (subst (λ (l : List ℕ). is-image rack l ≡ true) (sym (part-is mesh i _ refl)) (start .pre .0 .image i (start .pre .1)), start .pre .2)
+    (subst (λ (l : List ℕ). holds-block l ≡ true) (sym (part-is mesh i _ refl)) (start .pre .0 .image i (start .pre .1)), start .pre .2)
 
 same-length : tie.Need-same-length
 same-length c = search needs

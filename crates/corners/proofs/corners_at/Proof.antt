@@ -2,8 +2,7 @@
 use mathlib.Core.Path.{refl, sym, _∙_, ap}
 use Prim.Native.Nat.{ℕ}
 use lib.ListN.{length, getD, length-replicate}
-use Rattle.model.specs.Values.{rack}
-use Rattle.model.specs.Image.{room}
+use Rattle.model.specs.Values.{room}
 use Rattle.cells.proofs.Sited.{sited}
 use Rattle.cells.proofs.Reached.{volume-linked}
 use Rattle.cells.proofs.Resets.{listed-marked, listed-some}
@@ -20,7 +19,7 @@ use Rattle.corners.proofs.corners_at.Tie as tie
 shared-slice-read-n : tie.Need-shared-slice-read-n
 shared-slice-read-n c =
     let start : tie.Start = search in
-    omega (arith, sited rack (start .args .block .now) (start .pre .0) .linked .size)
+    omega (arith, sited (start .args .block .now) (start .pre .0) .linked .size)
 
 slice-aggregate-volume : tie.Need-slice-aggregate-volume
 slice-aggregate-volume c = search needs
@@ -31,7 +30,7 @@ slice-aggregate-volume-2 c = search needs
 volume-requires : tie.Need-volume-requires
 volume-requires c κs =
     let start : tie.Start = search in
-    let linked = sited rack (start .args .block .now) (start .pre .0) .linked in
+    let linked = sited (start .args .block .now) (start .pre .0) .linked in
     (linked, start .pre .1, length-replicate {A = ℕ} room 0, refl)
 
 slice-aggregate-message-order : tie.Need-slice-aggregate-message-order
@@ -51,7 +50,7 @@ message-order-requires c κs =
     let volume-ensures = (let p : tie.After-volume = search in p .volume .ensures) in
     let start : tie.Start = search in
     let m = start .args .block .now in
-    let linked = sited rack m (start .pre .0) .linked in
+    let linked = sited m (start .pre .0) .linked in
     let low = start .pre .1 in
     let mk = volume-ensures .0 in
     let listed = volume-ensures .1 .1 in (
@@ -71,7 +70,7 @@ number-vertices-requires c κs =
     let c : tie.After-message-order = search in
     let volume-ensures = (let p : tie.After-volume = search in p .volume .ensures) in
     let start : tie.Start = search in
-    let linked = sited rack (start .args .block .now) (start .pre .0) .linked in
+    let linked = sited (start .args .block .now) (start .pre .0) .linked in
     let low = start .pre .1 in
     let mk = volume-ensures .0 in
     let o = message-order-ensures .0 in

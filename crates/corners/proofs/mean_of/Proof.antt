@@ -2,8 +2,8 @@
 use mathlib.Core.Path.{sym, _∙_}
 use Prim.Native.Nat.{ℕ}
 use lib.ListN.{getD, length-replicate}
-use Rattle.model.specs.Values.{rack}
-use Rattle.model.specs.Image.{room, column}
+use Rattle.model.specs.Values.{room}
+use Rattle.model.specs.Image.{column}
 use Rattle.answers.proofs.Questions.{said-no, said-yes}
 use Rattle.memory.proofs.Lookups.{place-at, held-at, held-nothing}
 use Rattle.cells.proofs.Sited.{sited}
@@ -28,14 +28,14 @@ shared-slice-read-n c =
     let is-sound-ensures = (let p : tie.After-is-sound = search in p .is-sound .ensures) in
     let if1-left = (let p : tie.Else1 = search in p .if1 .left) in
     let start : tie.Start = search in
-    omega (arith, sited rack (start .args .block .now) (said-yes is-sound-ensures if1-left) .linked .size)
+    omega (arith, sited (start .args .block .now) (said-yes is-sound-ensures if1-left) .linked .size)
 
 place-of-requires : tie.Need-place-of-requires
 place-of-requires c κs =
     let is-sound-ensures = (let p : tie.After-is-sound = search in p .is-sound .ensures) in
     let if1-left = (let p : tie.Else1 = search in p .if1 .left) in
     let start : tie.Start = search in
-    let site = sited rack (start .args .block .now) (said-yes is-sound-ensures if1-left) in
+    let site = sited (start .args .block .now) (said-yes is-sound-ensures if1-left) in
     (site .linked .few, site .linked .size, site .ascends)
 
 enum-known-place : tie.Need-enum-known-place
@@ -99,7 +99,7 @@ returns-3 c =
     let ok = said-yes is-sound-ensures if1-left in
     let found = sym place-of-ensures ∙ place-given .1 in
     let here = place-at (column m 0) (getD m 2 0) serial found .1 in
-    mean-there m serial ok (held-at m serial (sited rack m ok .ascends) found) here corners-at-ensures sum-at-ensures over-ensures
+    mean-there m serial ok (held-at m serial (sited m ok .ascends) found) here corners-at-ensures sum-at-ensures over-ensures
 
 pub mean-of-spec : {M : Type 1} → statement M
 mean-of-spec =

@@ -1,8 +1,7 @@
 -- `mesh::sound_at` meets its contract.
 -- Assumes nothing.
 use mathlib.Core.Path.{_∙_, ap, refl}
-use Rattle.model.specs.Values.{rack}
-use Rattle.model.specs.Image.{is-image}
+use Rattle.model.specs.Image.{holds-block}
 use Rattle.mesh.proofs.Parts.{part-is}
 use borrow.Author.Needs.{needs}
 use Rattle.mesh.proofs.sound_at.Statement.{statement}
@@ -32,7 +31,7 @@ is-sound-requires c κs = search needs
 returns : tie.Need-returns
 returns c =
     let start : tie.Start = search in
-    c .is-sound .ensures ∙ ap (is-image rack) (part-is (start .args .mesh .now) (start .args .i) _ refl)
+    c .is-sound .ensures ∙ ap (holds-block) (part-is (start .args .mesh .now) (start .args .i) _ refl)
 
 pub sound-at-spec : {M : Type 1} → statement M
 sound-at-spec =

@@ -56,7 +56,7 @@ along-requires c κs =
     let loop-test-taken = (let p : tie.In-loop Inv-loop μ-loop = search in p .loop-test .taken) in
     let place-at-ensures = (let p : tie.After-place-at Inv-loop μ-loop = search in p .place-at .ensures) in
     let held = (loop-inv _ (start .pre .1) _ _ (start .pre .2) visit-ensures) .queue .queued _ loop-test-taken .0 in
-    (omega (arith, held, place-at-ensures, start .pre .0 .few), omega arith, start .pre .0 .size)
+    (omega (arith, held, place-at-ensures, start .pre .0 .size), omega arith)
 
 visit-requires-2 : tie.Need-visit-requires-2 Inv-loop μ-loop
 visit-requires-2 c κs =
@@ -79,7 +79,7 @@ along-requires-2 c κs =
     let loop-test-taken = (let p : tie.In-loop Inv-loop μ-loop = search in p .loop-test .taken) in
     let place-at-ensures = (let p : tie.After-place-at Inv-loop μ-loop = search in p .place-at .ensures) in
     let held = (loop-inv _ (start .pre .1) _ _ (start .pre .2) visit-ensures) .queue .queued _ loop-test-taken .0 in
-    (omega (arith, held, place-at-ensures, start .pre .0 .few), omega arith, start .pre .0 .size)
+    (omega (arith, held, place-at-ensures, start .pre .0 .size), omega arith)
 
 visit-requires-3 : tie.Need-visit-requires-3 Inv-loop μ-loop
 visit-requires-3 c κs =

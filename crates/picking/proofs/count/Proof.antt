@@ -1,5 +1,4 @@
 -- `picking::count` meets its contract. Assumes nothing.
-use Rattle.model.specs.Values.{rack}
 use Rattle.oracle.specs.Oracle.{oracle-of}
 use Rattle.cells.proofs.Sited.{sited}
 use Rattle.picking.proofs.Loops.{picked-count}
@@ -17,7 +16,7 @@ sizes-of-requires c κs = search needs
 shared-slice-read-n : tie.Need-shared-slice-read-n
 shared-slice-read-n c =
     let start : tie.Start = search in
-    omega (arith, sited rack (start .args .block .now) (start .pre) .linked .size)
+    omega (arith, sited (start .args .block .now) (start .pre) .linked .size)
 
 slice-aggregate-count-of : tie.Need-slice-aggregate-count-of
 slice-aggregate-count-of c = search needs
@@ -26,7 +25,7 @@ count-of-requires : tie.Need-count-of-requires
 count-of-requires c κs =
     let start : tie.Start = search in
     let sizes-of-ensures = (let p : tie.After-sizes-of = search in p .sizes-of .ensures) in
-    (sited rack (start .args .block .now) (start .pre) .linked .few, sizes-of-ensures .len)
+    (sited (start .args .block .now) (start .pre) .linked .few, sizes-of-ensures .len)
 
 returns : tie.Need-returns
 returns c =

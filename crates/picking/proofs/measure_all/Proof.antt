@@ -2,7 +2,7 @@
 use Prim.Native.Nat.{ℕ, _-_}
 use mathlib.Core.Path.{sym, _∙_, ap}
 use lib.ListN.{length, length-replicate}
-use Rattle.model.specs.Image.{room}
+use Rattle.model.specs.Values.{room}
 use Rattle.oracle.specs.Oracle.{oracle-of}
 use Rattle.picking.proofs.Loops.{Measuring, measuring-start, measuring-next, measured-all}
 use native.Mathlib.Omega.{arith}

@@ -1,7 +1,6 @@
 -- `tally::tally` meets its contract. Assumes nothing.
 use mathlib.Core.Path.{sym, _∙_}
 use borrow.Author.Tests.{not-true, not-false}
-use Rattle.model.specs.Values.{rack}
 use Rattle.cells.proofs.Sited.{sited}
 use Rattle.tally.proofs.CriticalFaces.{tally-sound, tally-unsound}
 use native.Mathlib.Omega.{arith}
@@ -40,14 +39,14 @@ shared-slice-read-t9 c =
     let start : tie.Start = search in
     let is-sound-known = (let p : tie.After-is-sound = search in p .is-sound) in
     let if1-known = (let p : tie.Else1 = search in p .if1) in
-    omega (arith, sited rack (start .args .block .now) (sym (is-sound-known .ensures) ∙ not-false _ (if1-known .left)) .linked .size)
+    omega (arith, sited (start .args .block .now) (sym (is-sound-known .ensures) ∙ not-false _ (if1-known .left)) .linked .size)
 
 shared-slice-read-t14 : tie.Need-shared-slice-read-t14
 shared-slice-read-t14 c =
     let start : tie.Start = search in
     let is-sound-known = (let p : tie.After-is-sound = search in p .is-sound) in
     let if1-known = (let p : tie.Else1 = search in p .if1) in
-    omega (arith, sited rack (start .args .block .now) (sym (is-sound-known .ensures) ∙ not-false _ (if1-known .left)) .linked .size)
+    omega (arith, sited (start .args .block .now) (sym (is-sound-known .ensures) ∙ not-false _ (if1-known .left)) .linked .size)
 
 returns-2 : tie.Need-returns-2
 returns-2 c =

@@ -3,7 +3,6 @@
 use Prim.Native.Nat.{ℕ, _-_}
 use mathlib.Core.Path.{_≡_, refl, sym, ap, _∙_}
 use lib.ListN.{length}
-use Rattle.model.specs.Values.{rack}
 use Rattle.cells.proofs.Sited.{sited}
 use Rattle.balance.specs.Moves.{Asking, can-leave, at}
 use Rattle.balance.specs.declared.leaving.Candidate.the-variants.{Volume}
@@ -24,7 +23,7 @@ abbrev μ-loop : tie.MeasureT-loop
 shared-slice-read-n : tie.Need-shared-slice-read-n Inv-loop μ-loop
 shared-slice-read-n c =
     let start : tie.Start Inv-loop μ-loop = search in
-    omega (arith, sited rack (start .args .block .now) (start .pre .0 .0) .linked .size)
+    omega (arith, sited (start .args .block .now) (start .pre .0 .0) .linked .size)
 
 loop-holds : tie.Need-loop-holds Inv-loop μ-loop
 loop-holds c =
@@ -34,19 +33,19 @@ loop-holds c =
 add-i : tie.Need-add-i Inv-loop μ-loop
 add-i c =
     let start : tie.Start Inv-loop μ-loop = search in
-    omega (arith, c .loop-test .taken, sited rack (start .args .block .now) (start .pre .0 .0) .linked .few)
+    omega (arith, c .loop-test .taken, sited (start .args .block .now) (start .pre .0 .0) .linked .few)
 
 mul-s : tie.Need-mul-s Inv-loop μ-loop
 mul-s c =
     let start : tie.Start Inv-loop μ-loop = search in
-    omega (arith, c .loop-test .taken, sited rack (start .args .block .now) (start .pre .0 .0) .linked .few)
+    omega (arith, c .loop-test .taken, sited (start .args .block .now) (start .pre .0 .0) .linked .few)
 
 slice-read-s : tie.Need-slice-read-s Inv-loop μ-loop
 slice-read-s c =
     let start : tie.Start Inv-loop μ-loop = search in
     let loop-inv = (let p : tie.At-loop Inv-loop μ-loop = search in p .loop .inv) in
     let loop-test-taken = (let p : tie.In-loop Inv-loop μ-loop = search in p .loop-test .taken) in
-    omega (arith, loop-test-taken, sited rack (start .args .block .now) (start .pre .0 .0) .linked .few, loop-inv .0 .untried .len)
+    omega (arith, loop-test-taken, sited (start .args .block .now) (start .pre .0 .0) .linked .few, loop-inv .0 .untried .len)
 
 loop-less : tie.Need-loop-less Inv-loop μ-loop
 loop-less c = omega arith
@@ -71,7 +70,7 @@ field-requires c κs =
     let start : tie.Start Inv-loop μ-loop = search in
     let block = start .args .block .now in
     let loop-test-taken = (let p : tie.In-loop Inv-loop μ-loop = search in p .loop-test .taken) in
-    (omega (arith, loop-test-taken, sited rack block (start .pre .0 .0) .linked .few), omega arith, sited rack block (start .pre .0 .0) .linked .size)
+    (omega (arith, loop-test-taken, sited block (start .pre .0 .0) .linked .size), omega arith)
 
 may-leave-requires : tie.Need-may-leave-requires Inv-loop μ-loop
 may-leave-requires c κs =
@@ -171,7 +170,7 @@ mul-sizes c =
     let c : tie.After-may-leave-arg2 Inv-loop μ-loop = search in
     let loop-test-taken = (let p : tie.In-loop Inv-loop μ-loop = search in p .loop-test .taken) in
     let start : tie.Start Inv-loop μ-loop = search in
-    omega (arith, loop-test-taken, sited rack (start .args .block .now) (start .pre .0 .0) .linked .few)
+    omega (arith, loop-test-taken, sited (start .args .block .now) (start .pre .0 .0) .linked .few)
 
 slice-write-sizes : tie.Need-slice-write-sizes Inv-loop μ-loop
 slice-write-sizes c =
@@ -179,7 +178,7 @@ slice-write-sizes c =
     let loop-test-taken = (let p : tie.In-loop Inv-loop μ-loop = search in p .loop-test .taken) in
     let loop-inv = (let p : tie.At-loop Inv-loop μ-loop = search in p .loop .inv) in
     let start : tie.Start Inv-loop μ-loop = search in
-    omega (arith, loop-test-taken, sited rack (start .args .block .now) (start .pre .0 .0) .linked .few, loop-inv .0 .untried .len)
+    omega (arith, loop-test-taken, sited (start .args .block .now) (start .pre .0 .0) .linked .few, loop-inv .0 .untried .len)
 
 loop-less-3 : tie.Need-loop-less-3 Inv-loop μ-loop
 loop-less-3 c = omega arith
@@ -192,7 +191,7 @@ loop-again-3 c =
     let loop-test-taken = (let c : tie.After-may-leave Inv-loop μ-loop = search in let p : tie.In-loop Inv-loop μ-loop = search in p .loop-test .taken) in
     let field-ensures = (let c : tie.After-may-leave Inv-loop μ-loop = search in let p : tie.After-field Inv-loop μ-loop = search in p .field .ensures) in
     let may-leave-ensures = (let p : tie.After-may-leave Inv-loop μ-loop = search in p .may-leave .ensures) in (
-      trying-strike (loop-inv .0) (sited rack block (start .pre .0 .0) .linked .few) loop-test-taken
+      trying-strike (loop-inv .0) (sited block (start .pre .0 .0) .linked .few) loop-test-taken
           (ap (can-leave block) (sym field-ensures) ∙ sym (may-leave-ensures .0) ∙ c .if3 .left),
       may-leave-ensures .1 (c .if3 .left),
     )

@@ -4,8 +4,7 @@ use mathlib.Core.Path.{_≡_, refl, sym, ap, subst, _∙_}
 use mathlib.Core.Bool.{true}
 use mathlib.Core.List.{List}
 use lib.ListN.{length}
-use Rattle.model.specs.Values.{rack}
-use Rattle.model.specs.Image.{block-in, is-image}
+use Rattle.model.specs.Image.{block-in, holds-block}
 use Rattle.model.specs.Balance.{picked}
 use Rattle.oracle.specs.Oracle.{oracle-of}
 use Rattle.mesh.proofs.Parts.{part-is}
@@ -37,7 +36,7 @@ count-requires c κs =
     let start : tie.Start = search in
     let mesh = start .args .mesh .now in
     let i = start .args .i in
-    subst (λ (l : List ℕ). is-image rack l ≡ true) (sym (part-is mesh i _ refl)) (start .pre .0 .image i (start .pre .1))
+    subst (λ (l : List ℕ). holds-block l ≡ true) (sym (part-is mesh i _ refl)) (start .pre .0 .image i (start .pre .1))
 
 cast-result : tie.Need-cast-result
 cast-result c = omega arith

@@ -3,7 +3,6 @@
 use mathlib.Core.Path.{refl, sym, _∙_, ap}
 use lib.ListN.{length}
 use borrow.Author.Tests.{not-true, not-false}
-use Rattle.model.specs.Values.{rack}
 use Rattle.cells.proofs.Sited.{sited}
 use Rattle.parts.proofs.CriticalLaws.{few2, few3, few4, many-no, entries-no, put-spans3, put-spans4, put-numbers, put-others, put-labels, put-small, labels-tell}
 use native.Mathlib.Omega.{arith}
@@ -246,7 +245,7 @@ shared-slice-read-n c =
     let c : tie.After-entries-fit = search in
     let c : tie.After-codes = search in
     let start : tie.Start = search in
-    let n = sited rack (start .args .block .now) (start .pre .0 .0) .linked .size in omega (arith, n)
+    let n = sited (start .args .block .now) (start .pre .0 .0) .linked .size in omega (arith, n)
 
 labels-fit-requires : tie.Need-labels-fit-requires
 labels-fit-requires c κs =
@@ -269,8 +268,8 @@ labels-fit-requires c κs =
     let to = start .args .to in
     let tail = start .args .tail in (
       (
-        sited rack block (start .pre .0 .0) .linked .size,
-        sited rack block (start .pre .0 .0) .linked .few,
+        sited block (start .pre .0 .0) .linked .size,
+        sited block (start .pre .0 .0) .linked .few,
         put-part4-ensures .0 .size,
         put-part4-ensures .1 .size,
         start .pre .0 .7,

@@ -3,7 +3,6 @@
 use mathlib.Core.Path.{refl}
 use mir.Facts.{fits-lt-pow}
 use borrow.Author.Tests.{not-false}
-use Rattle.model.specs.Values.{rack}
 use Rattle.cells.proofs.Sited.{sited}
 use Rattle.columns.proofs.Question.{image-passed}
 use Rattle.fitting.proofs.Outlined.{told-of}
@@ -17,7 +16,7 @@ use Rattle.receive.proofs.asks.questions.Tie as tie
 for-here-requires : tie.Need-for-here-requires
 for-here-requires c κs =
     let start : tie.Start = search in
-    (sited rack (start .args .block .now) (start .pre .0 .0)) .linked .size
+    (sited (start .args .block .now) (start .pre .0 .0)) .linked .size
 
 returns : tie.Need-returns
 returns c =
@@ -28,7 +27,7 @@ returns c =
 shared-slice-read-n : tie.Need-shared-slice-read-n
 shared-slice-read-n c =
     let start : tie.Start = search in
-    let l = (sited rack (start .args .block .now) (start .pre .0 .0)) .linked .size in omega (arith, l)
+    let l = (sited (start .args .block .now) (start .pre .0 .0)) .linked .size in omega (arith, l)
 
 new-serials-requires : tie.Need-new-serials-requires
 new-serials-requires c κs =
@@ -39,9 +38,9 @@ new-serials-requires c κs =
     let message = start .args .message .now in (
       (
         refl,
-        (sited rack block (start .pre .0 .0)) .linked .few,
-        (sited rack block (start .pre .0 .0)) .linked .size,
-        (sited rack block (start .pre .0 .0)) .ascends,
+        (sited block (start .pre .0 .0)) .linked .few,
+        (sited block (start .pre .0 .0)) .linked .size,
+        (sited block (start .pre .0 .0)) .ascends,
         λ p h. image-passed block (start .pre .0 .0) .range .serial-small p h,
       ),
       (
@@ -225,7 +224,7 @@ add-if5 c =
     let c : tie.After-volume-right-arg5 = search in
     let c : tie.After-slice-known3 = search in
     let start : tie.Start = search in
-    let l = (sited rack (start .args .block .now) (start .pre .0 .0)) .linked .few in let f = (told-of (start .pre .0 .2 .2)) .few in omega (arith, l, f)
+    let l = (sited (start .args .block .now) (start .pre .0 .0)) .linked .few in let f = (told-of (start .pre .0 .2 .2)) .few in omega (arith, l, f)
 
 same-length-17 : tie.Need-same-length-17
 same-length-17 c = search needs

@@ -2,8 +2,7 @@
 use mathlib.Core.Path.{refl, _∙_}
 use Prim.Native.Nat.{ℕ}
 use lib.ListN.{getD, length-replicate}
-use Rattle.model.specs.Values.{rack}
-use Rattle.model.specs.Image.{room}
+use Rattle.model.specs.Values.{room}
 use Rattle.cells.proofs.Sited.{sited}
 use Rattle.tally.proofs.CriticalFaces.{all-closed, all-count, order-all, critical-count}
 use native.Mathlib.Omega.{arith}
@@ -14,7 +13,7 @@ use Rattle.tally.proofs.critical.critical_faces.Tie as tie
 shared-slice-read-n : tie.Need-shared-slice-read-n
 shared-slice-read-n c =
     let start : tie.Start = search in
-    omega (arith, sited rack (start .args .block .now) (start .pre) .linked .size)
+    omega (arith, sited (start .args .block .now) (start .pre) .linked .size)
 
 slice-aggregate-scanned-order : tie.Need-slice-aggregate-scanned-order
 slice-aggregate-scanned-order c = search needs
@@ -33,7 +32,7 @@ scanned-order-requires c κs =
     let start : tie.Start = search in
     let m = start .args .block .now in
     let ok = start .pre in
-    let linked = sited rack m ok .linked in (
+    let linked = sited m ok .linked in (
       (linked, length-replicate {A = ℕ} room 1, all-closed linked, all-count (getD m 2 0) (linked .few)),
       ((omega arith, λ q h one. omega arith), (length-replicate {A = ℕ} room 0, length-replicate {A = ℕ} room 0, refl)),
     )
@@ -50,7 +49,7 @@ count-critical-requires c κs =
     let scanned-order-ensures = (let p : tie.After-scanned-order = search in p .scanned-order .ensures) in
     let m = start .args .block .now in
     let ok = start .pre in
-    let linked = sited rack m ok .linked in
+    let linked = sited m ok .linked in
     (linked, order-all m (getD m 2 0) (linked .few) (scanned-order-ensures .0))
 
 returns : tie.Need-returns

@@ -10,7 +10,7 @@ use Rattle.tally.proofs.groups.enter_links.Tie as tie
 field-requires : tie.Need-field-requires
 field-requires c κs =
     let start : tie.Start = search in
-    (omega (arith, start .pre .0 .linked .few), omega arith, start .pre .0 .linked .size)
+    (omega (arith, start .pre .0 .linked .size), omega arith)
 
 enter-requires : tie.Need-enter-requires
 enter-requires c κs =
@@ -25,7 +25,7 @@ enter-requires c κs =
 field-requires-2 : tie.Need-field-requires-2
 field-requires-2 c κs =
     let start : tie.Start = search in
-    (omega (arith, start .pre .0 .linked .few), omega arith, start .pre .0 .linked .size)
+    (omega (arith, start .pre .0 .linked .size), omega arith)
 
 enter-requires-2 : tie.Need-enter-requires-2
 enter-requires-2 c κs =

@@ -3,7 +3,7 @@
 use mathlib.Core.Path.{sym, ap, _∙_}
 use Prim.Native.Nat.{ℕ, _-_}
 use lib.ListN.{length, length-replicate}
-use Rattle.model.specs.Image.{room}
+use Rattle.model.specs.Values.{room}
 use Rattle.tally.proofs.Numbering.{Through, through-start, through-skip, through-new, through-all, count-few}
 use native.Mathlib.Omega.{arith}
 use Rattle.tally.proofs.groups.number.Statement.{statement}

@@ -3,7 +3,7 @@ use mathlib.Core.Path.{refl, _∙_}
 use mathlib.Core.Bool.{true}
 use Prim.Native.Nat.{ℕ}
 use lib.ListN.{length-replicate}
-use Rattle.model.specs.Image.{room}
+use Rattle.model.specs.Values.{room}
 use Rattle.tally.proofs.GroupLaws.{joined, group-count}
 use borrow.Author.Needs.{needs}
 use Rattle.tally.proofs.pieces.pieces.Statement.{statement}

@@ -3,8 +3,7 @@ use mathlib.Core.Path.{refl, sym, _∙_}
 use Prim.Native.Nat.{ℕ}
 use lib.ListN.{length-replicate}
 use borrow.Author.Tests.{not-true, not-false}
-use Rattle.model.specs.Values.{rack}
-use Rattle.model.specs.Image.{room}
+use Rattle.model.specs.Values.{room}
 use Rattle.cells.proofs.Sited.{sited}
 use Rattle.tally.proofs.GroupLaws.{joined}
 use Rattle.tally.proofs.RowLaws.{count-few, count-is, told-unsound, told-short, told-cells}
@@ -46,7 +45,7 @@ mul-if2 c =
     let number-known = (let p : tie.After-number = search in p .number) in
     let ok = sym (is-sound-known .ensures) ∙ not-false _ (if1-known .left) in
     let m = start .args .block .now in
-    omega (arith, count-few m ok (number-known .ensures), sited rack m ok .linked .few)
+    omega (arith, count-few m ok (number-known .ensures), sited m ok .linked .few)
 
 returns-2 : tie.Need-returns-2
 returns-2 c =

@@ -1,7 +1,7 @@
 -- `tally::rows::tell` meets its contract: the rows are started, then darts and faces are counted into them. Assumes nothing.
 use Prim.Native.Nat.{ℕ, _/_}
-use Rattle.model.specs.Values.{rack}
-use Rattle.cells.proofs.Sited.{sited, count-in}
+use Rattle.model.specs.Image.{count-in}
+use Rattle.cells.proofs.Sited.{sited}
 use Rattle.laws.proofs.Tables.{length-tab}
 use Rattle.tally.proofs.RowLaws.{count-few, first-below, countable-start, countable-after, countable-more, all-told}
 use native.Mathlib.Omega.{arith}
@@ -18,7 +18,7 @@ start-rows-requires c κs =
     let m = start .args .block .now in
     let ok = start .pre .0 .0 in
     let g = start .pre .0 .1 in
-    let linked = sited rack m ok .linked in
+    let linked = sited m ok .linked in
     let few = count-few m ok g in
     ((omega (arith, linked .few), g .len-f, linked .size, start .pre .1), λ i h. omega (arith, first-below m ok g (i / 19) (omega arith), linked .few))
 
@@ -28,7 +28,7 @@ count-darts-requires c κs =
     let start-rows-known = (let p : tie.After-start-rows = search in p .start-rows) in
     let m = start .args .block .now in
     let ok = start .pre .0 .0 in
-    (sited rack m ok .linked, countable-more (countable-start m ok (start .pre .0 .1) (start-rows-known .ensures) (start .pre .1)) (omega arith))
+    (sited m ok .linked, countable-more (countable-start m ok (start .pre .0 .1) (start-rows-known .ensures) (start .pre .1)) (omega arith))
 
 tell-faces-requires : tie.Need-tell-faces-requires
 tell-faces-requires c κs =
@@ -37,7 +37,7 @@ tell-faces-requires c κs =
     let count-darts-known = (let p : tie.After-count-darts = search in p .count-darts) in
     let m = start .args .block .now in
     let ok = start .pre .0 .0 in
-    let few = sited rack m ok .linked .few in
+    let few = sited m ok .linked .few in
     (ok, countable-after (countable-start m ok (start .pre .0 .1) (start-rows-known .ensures) (start .pre .1)) (count-darts-known .ensures) (omega (arith, length-tab (λ (q : ℕ). q) (count-in m))))
 
 same-length : tie.Need-same-length

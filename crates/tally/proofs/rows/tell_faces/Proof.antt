@@ -2,8 +2,7 @@
 use mathlib.Core.Path.{refl}
 use Prim.Native.Nat.{ℕ}
 use lib.ListN.{getD, length-replicate}
-use Rattle.model.specs.Values.{rack}
-use Rattle.model.specs.Image.{room}
+use Rattle.model.specs.Values.{room}
 use Rattle.cells.proofs.Sited.{sited}
 use Rattle.tally.proofs.CriticalFaces.{all-closed, all-count, order-all}
 use Rattle.tally.proofs.RowLaws.{countable-after, countable-more, faces-counted, started, starts-few, bordering}
@@ -15,7 +14,7 @@ use Rattle.tally.proofs.rows.tell_faces.Tie as tie
 shared-slice-read-n : tie.Need-shared-slice-read-n
 shared-slice-read-n c =
     let start : tie.Start = search in
-    omega (arith, sited rack (start .args .block .now) (start .pre .0) .linked .size)
+    omega (arith, sited (start .args .block .now) (start .pre .0) .linked .size)
 
 slice-aggregate-scanned-order : tie.Need-slice-aggregate-scanned-order
 slice-aggregate-scanned-order c = search needs
@@ -33,7 +32,7 @@ scanned-order-requires : tie.Need-scanned-order-requires
 scanned-order-requires c κs =
     let start : tie.Start = search in
     let m = start .args .block .now in
-    let linked = sited rack m (start .pre .0) .linked in (
+    let linked = sited m (start .pre .0) .linked in (
       (linked, length-replicate {A = ℕ} room 1, all-closed linked, all-count (getD m 2 0) (linked .few)),
       ((omega arith, λ q h one. omega arith), (length-replicate {A = ℕ} room 0, length-replicate {A = ℕ} room 0, refl)),
     )
@@ -50,7 +49,7 @@ count-faces-requires c κs =
     let scanned-order-known = (let p : tie.After-scanned-order = search in p .scanned-order) in
     let m = start .args .block .now in
     let ok = start .pre .0 in
-    let linked = sited rack m ok .linked in
+    let linked = sited m ok .linked in
     ((linked, countable-more (start .pre .1) (omega arith)), started m ok (order-all m (getD m 2 0) (linked .few) (scanned-order-known .ensures .0)))
 
 slice-aggregate-count-critical : tie.Need-slice-aggregate-count-critical
@@ -66,7 +65,7 @@ count-critical-requires c κs =
     let scanned-order-known = (let p : tie.After-scanned-order = search in p .scanned-order) in
     let m = start .args .block .now in
     let ok = start .pre .0 in
-    let linked = sited rack m ok .linked in
+    let linked = sited m ok .linked in
     let after = countable-after (start .pre .1) (count-faces-known .ensures) (starts-few m ok) in
     ((linked, countable-more after (omega arith)), (started m ok (order-all m (getD m 2 0) (linked .few) (scanned-order-known .ensures .0)), bordering m ok))
 
