@@ -14,7 +14,7 @@ around f start zero x = []
 around f start (suc n) x = let rest = around f start n (f x) in x ∷ cond (eqb (f x) start) [] rest
 
 -- the cycle of f from x on. So many steps are enough where x and what f reaches stay within a block: with more of them the cycle is the
--- same (laws, Faces.cycle-enough; of a sound block theory, EnoughSteps.face-steps, ring-steps; of the whole map agreement, EnoughSteps)
+-- same (laws, Faces.cycle-enough; then EnoughSteps: in theory of a sound block, in soundness of a message, in agreement of the whole map)
 unfoldable pub cycle : (ℕ → ℕ) → ℕ → List ℕ
 cycle f x = around f x room x
 
@@ -29,7 +29,7 @@ reach f g (suc n) seen (x ∷ todo) =
 
 -- "A volume is what next and opposite reach": the least set with s that is closed under both (laws, Volumes.volume-is). So many steps are
 -- enough, since each dart of a block is met three times at the most: with more of them the volume is the same (laws, Volumes.volume-enough;
--- of a sound block theory, EnoughSteps.volume-steps; of the whole map agreement, EnoughSteps)
+-- then EnoughSteps, as above)
 unfoldable pub volume : (ℕ → ℕ) → (ℕ → ℕ) → ℕ → List ℕ
 volume nx op s = reach nx op (3 * room) [] (s ∷ [])
 

@@ -20,7 +20,8 @@
 --   refusing all, or one fixed answer     an answer is the first no of questions that are written out (Calls.asked), and 0 if there is none;
 --                                         in demand 3 the undivided run says which requests are refused
 --   steps that are too few                `cycle` and `volume` (Cells) take a fixed number of steps. With any more they give the same: in a
---                                         sound block theory, EnoughSteps.face-steps, ring-steps, volume-steps; in the whole map agreement,
+--                                         sound block theory, EnoughSteps.face-steps, previous-steps, ring-steps, volume-steps; in a message
+--                                         soundness, EnoughSteps.ring-steps, volume-steps; in the whole map agreement,
 --                                         EnoughSteps.start-enough, and after every request undivided-enough. A face is then all that next
 --                                         reaches (laws, Orbits.in-cycle, cycle-in), a volume the least set that is closed under next and
 --                                         opposite (laws, Volumes.volume-is). `cut` (DividedRun): theory, CutLaws.messages-back; five groups

@@ -16,3 +16,4 @@ pub mod Linking
 pub mod ReceiveSound
 pub mod Served
 pub mod OutboxLength
+pub mod EnoughSteps

@@ -53,13 +53,13 @@ module _ (lim : Limits) (b : Block) (t : Transfer) where
   seventeen : addressed (t .from) (t .to) b ≡ true → (t .to ≡ b .number) × (t .from ≢ b .number)
   seventeen e = (eqb-true (t .to) (b .number) (and-left (eqb (t .to) (b .number)) _ e), eqb-false (t .from) (b .number) (not-true _ (and-right (eqb (t .to) (b .number)) _ e)))
 
-  record Eighteen : Type 0 where
-    points-finite : all finite (t .points) ≡ true
-    low : (a : Side) → Elem a (sides t) → 1 ≤ a .serial
-    absent : (x : ℕ) → In x (new-serials t) → mem x (serials (b .darts)) ≡ false
-    once : distinct (new-serials t) ≡ true
+  pub record Eighteen : Type 0 where
+    pub points-finite : all finite (t .points) ≡ true
+    pub low : (a : Side) → Elem a (sides t) → 1 ≤ a .serial
+    pub absent : (x : ℕ) → In x (new-serials t) → mem x (serials (b .darts)) ≡ false
+    pub once : distinct (new-serials t) ≡ true
 
-  eighteen : serials-new (b .darts) t ≡ true → Eighteen
+  pub eighteen : serials-new (b .darts) t ≡ true → Eighteen
   unfolding serials-new
   eighteen e =
       let two = all finite (t .points) && all (λ a. leb 1 (a .serial) && not (held (b .darts) (a .serial))) (sides t) in

@@ -5,7 +5,7 @@ use mathlib.Core.Bool.{true}
 use mathlib.Core.List.{List, [], _∷_}
 use Prim.Native.Nat.{ℕ, _*_, _≤_}
 use Rattle.model.specs.Values.{room, Dart, Block, Limits}
-use Rattle.model.specs.Cells.{around, cycle, reach, volume, ring, serials, next-in, opposite-in}
+use Rattle.model.specs.Cells.{around, cycle, reach, volume, ring, serials, next-in, opposite-in, previous-in}
 use Rattle.model.specs.Sound.{sound-block}
 use Rattle.laws.proofs.Faces.{cycle-enough}
 use Rattle.laws.proofs.Members.{In}
@@ -22,6 +22,10 @@ module _ (lim : Limits) (b : Block) (fits : lim .block-darts ≤ room) (sound : 
 
   pub face-steps : (n x : ℕ) → room ≤ n → In x (serials ds) → around (next-in ds) x n x ≡ cycle (next-in ds) x
   face-steps = cycle-enough (next-in ds) (serials ds) (L .next-in-block) (next-one lim b fits sound) (few lim b fits sound)
+
+  -- the other way round
+  pub previous-steps : (n x : ℕ) → room ≤ n → In x (serials ds) → around (previous-in ds) x n x ≡ cycle (previous-in ds) x
+  previous-steps = cycle-enough (previous-in ds) (serials ds) (L .previous-in-block) (λ x y h k e. sym (L .next-previous x h) ∙ ap (next-in ds) e ∙ L .next-previous y k) (few lim b fits sound)
 
   pub ring-steps : (n x : ℕ) → room ≤ n → In x (serials ds) → around (ring-step ds) x n x ≡ ring (next-in ds) (opposite-in ds) x
   unfolding ring
