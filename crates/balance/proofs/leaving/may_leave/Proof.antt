@@ -105,7 +105,7 @@ returns-2 c =
     let serial = start .args .serial in
     let a = start .pre .1 in
     let f = forgotten-told _ _ (leaves-ensures .1) (enum-told2-given .1) in (
-      leaves-no block to serial (start .pre .0 .1) (start .pre .0 .2) _ 
+      leaves-no block to serial (start .pre .0 .1) (start .pre .0 .2) _
           (refused-told _ block to serial _ _ _ _ _ (leaves-ensures .0) (enum-told2-given .1) ∙ by-rack block to serial rack-ensures),
       λ e. record {
         marks-size = search needs;
