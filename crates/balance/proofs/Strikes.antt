@@ -12,7 +12,7 @@ use lib.Seq.{getD-set-same, getD-set-other}
 use borrow.Author.Tests.{ne-eqb, le-leb, lt-leb, lt-ltb}
 use Rattle.model.specs.Lists.{keep, tab, Check, first-no}
 use Rattle.model.specs.Image.{column, block-in}
-use Rattle.model.specs.Values.{room}
+use Rattle.model.specs.Values.{Limits, rack, room}
 use Rattle.model.specs.Departure.{departure-checks}
 use Rattle.model.specs.Calls.{served, refused, Result, asked}
 use Rattle.answers.specs.Answers.{answered}
@@ -39,6 +39,10 @@ one-refused qs n h = go (eqb (first-no qs) 0) h
     go : (b : Bool) → refused n ≡ outcome b (first-no qs) .answer → false ≡ b
     go true q = let z : _≡_ {A = ℕ} 0 1 = cc in absurd (omega arith)
     go false q = refl
+
+-- the questions by the limits of the rack
+pub by-rack : (m : List ℕ) (j s : ℕ) {l : Limits} → l ≡ rack → answered (departure-checks (l .volume-darts) (block-in m) j s) ≡ answered (departure-checks 512 (block-in m) j s)
+by-rack m j s e = ap (λ (l : Limits). answered (departure-checks (l .volume-darts) (block-in m) j s)) e
 
 -- any other block will do
 pub leaves-any : (m : List ℕ) (j s : ℕ) → j ≤ 15 → (j ≡ getD m 0 0 → ⊥) → eqb (first-no (departure-checks 512 (block-in m) j s)) 0 ≡ can-leave m s

@@ -5,7 +5,7 @@ use mathlib.Core.List.{List, [], _∷_, map}
 use mathlib.Core.Logic.{_⊎_}
 use Prim.Native.Nat.{ℕ, _-_, _≤_, _<_}
 use lib.Dec.{leb, ltb, eqb}
-use lib.ListN.{length, getD, drop, replicate}
+use lib.ListN.{length, getD, drop}
 use lib.IntN.{ℤ, pos}
 use Rattle.model.specs.Lists.{keep, tab, concat-map, first-no}
 use Rattle.model.specs.Values.{Block, all-rack, room}
@@ -13,6 +13,7 @@ use Rattle.model.specs.Sound.{block-at}
 use Rattle.model.specs.Image.{column, block-in, holds-block}
 use Rattle.model.specs.Departure.{departure-checks}
 use Rattle.model.specs.Balance.{Oracle, Move, NextMove, move, blocked, picked, counts, surpluses, is-above, is-below, can-move, blocks-with}
+use Rattle.cells.specs.Places.{Clear}
 use Rattle.mesh.specs.Parts.{blocks, part}
 use Rattle.balance.specs.declared.Found.{Found}
 use Rattle.balance.specs.declared.Found.the-variants as found
@@ -25,10 +26,12 @@ can-leave m s = eqb (first-no (drop 1 (departure-checks 512 (block-in m) 0 s))) 
 
 -- the arrays that questions 9 to 14 are asked with: nothing is marked, and the others may hold anything
 pub record Asking (marks order starts seen numbers firsts stamps : List ℕ) : Type 0 where
-  pub unmarked : marks ≡ replicate room 0
+  pub marks-size : length marks ≡ room
+  pub unmarked : Clear marks
   pub order-size : length order ≡ room
   pub starts-size : length starts ≡ room
-  pub unseen : seen ≡ replicate room 0
+  pub seen-size : length seen ≡ room
+  pub unseen : Clear seen
   pub numbers-size : length numbers ≡ room
   pub firsts-size : length firsts ≡ room
   pub stamps-size : length stamps ≡ 512

@@ -8,6 +8,7 @@ ghost use Rattle.model.specs.Image.{holds-block};
 ghost use Rattle.balance.specs.Moves.{Asking, can-leave, Untried-in, going, candidate-of, at};
 use departure::Leaving;
 use memory::header::Header;
+use memory::header::Limits;
 use memory::record;
 use memory::record::Place;
 
@@ -38,6 +39,7 @@ fn may_leave(
 {
     match departure::leaves(
         block,
+        Limits::rack(),
         to,
         serial,
         marks,

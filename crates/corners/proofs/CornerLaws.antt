@@ -63,7 +63,7 @@ unfolding mean-in mean-of
 mean-there m s ok there {p} here {firsts} {count} c {a} {r} e t =
     let ps : corner-points (block-in m .darts) s ≡ map (λ q. dart-in m q .point) (take count firsts) = ap (corner-points (block-in m .darts)) (sym here) ∙ c .points in
     let long : length (corner-points (block-in m .darts) s) ≡ count =
-    ap length ps ∙ length-map (take count firsts) (λ q. dart-in m q .point) ∙ length-take-le count firsts (omega (arith, c .size, c .few)) in
+    ap length ps ∙ length-map (take count firsts) (λ q. dart-in m q .point) ∙ length-take-le count firsts (c .size) in
     let q : r ≡ over-number (sum-of (corner-points (block-in m .darts) s)) (length (corner-points (block-in m .darts) s)) =
     t ∙ ap (λ (x : Point). over-number x count) (e ∙ ap sum-of (sym ps)) ∙ ap (over-number (sum-of (corner-points (block-in m .darts) s))) (sym long) in
     rw (ok, there) (ap mean.Is q)

@@ -42,7 +42,7 @@ mean-in m s = cond (holds-block m && held (block-in m .darts) s) (mean.Is (mean-
 
 -- BY PLACE: a dart of each corner of the cell of the dart at place p
 pub record Cornered (m : List ℕ) (p : ℕ) (firsts : List ℕ) (count : ℕ) : Type 0 where
-  pub size : length firsts ≡ room
+  pub size : count ≤ length firsts
   pub few : count ≤ room
   pub below : (k : ℕ) → k < count → getD firsts k 0 < getD m 2 0
   pub points : corner-points (block-in m .darts) (column m 0 p) ≡ map (λ q. dart-in m q .point) (take count firsts)

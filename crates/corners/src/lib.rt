@@ -67,9 +67,9 @@ fn sum_at(block: &[u64], places: &[usize], count: usize) -> Point
 }
 
 // The corners of the cell of the dart at place p: `firsts` gets a dart of each. Returns how many there are.
-fn corners_at(block: &[u64], p: usize, firsts: &mut [usize]) -> usize
-    requires { ⌜ (holds-block (now block) ≡ true) × (p < getD (now block) 2 0) × (length (now firsts) ≡ room) ⌝ }
-    ensures { λ r. ⌜ Cornered (now (block .entry)) p (now (firsts .exit)) r ⌝ }
+fn corners_at(block: &[u64], p: Place, firsts: &mut [usize]) -> usize
+    requires { ⌜ (holds-block (now block) ≡ true) × (p .0 < getD (now block) 2 0) × (getD (now block) 2 0 ≤ length (now firsts)) ⌝ }
+    ensures { λ r. ⌜ Cornered (now (block .entry)) (p .0) (now (firsts .exit)) r ⌝ }
 {
     let n = block[2] as usize;
     let mut marks = [0u8; 4096];
@@ -103,7 +103,7 @@ pub fn mean_of(block: &[u64], serial: u64) -> Mean
         return Mean::Not;
     };
     let mut firsts = [0usize; 4096];
-    let count = corners_at(block, place.0, &mut firsts);
+    let count = corners_at(block, place, &mut firsts);
     let sum = sum_at(block, &firsts, count);
     Mean::Is(over(sum, count))
 }

@@ -8,7 +8,7 @@ use lib.Dec.{eqb}
 use lib.ListN.{length, getD, take, drop}
 use lib.Seq.{length-take-le, take-at}
 use Rattle.model.specs.Lists.{sorted}
-use Rattle.model.specs.Image.{words, column}
+use Rattle.model.specs.Image.{words-for, words, column}
 use Rattle.model.specs.Values.{Point as Patterns, same-point, room}
 use Rattle.memory.specs.declared.point.Point.{Point}
 use Rattle.memory.specs.Point.{point-of, patterns, FinitePoint, FiniteAt}
@@ -53,15 +53,14 @@ module _ {m : List ℕ} (a : Asked m) {g : ℕ} (h : Held m g) where
   finite-words : FiniteAt (part m (g / 4096)) (g % 4096)
   finite-words = finite-at (part m (g / 4096)) (g % 4096) (passed a (g / 4096) (h .block-lt) .finite-points (g % 4096) (h .place-lt))
 
-  pub point-ready : {b : List ℕ} → b ≡ part m (g / 4096) → (g % 4096 < room) × (length b ≡ words) × FiniteAt b (g % 4096)
+  pub point-ready : {b : List ℕ} → b ≡ part m (g / 4096) → (words-for (g % 4096 + 1) ≤ length b) × FiniteAt b (g % 4096)
   point-ready {b} is = (
-    less g,
-    ap length is ∙ part-length m (g / 4096) (h .block-lt),
+    within (ap length is ∙ part-length m (g / 4096) (h .block-lt)) g,
     subst (λ (x : List ℕ). FiniteAt x (g % 4096)) (sym is) finite-words,
   )
     where
-      less : (n : ℕ) → n % 4096 < 4096
-      less n = omega arith
+      within : {l : ℕ} → l ≡ words → (n : ℕ) → words-for (n % 4096 + 1) ≤ l
+      within e n = omega arith
 
   pub point-fine : {x : Point} → x ≡ point-by m g → FinitePoint x
   point-fine e = rw e (point-finite _ _ _ (finite-words .on-x) (finite-words .on-y) (finite-words .on-z))
@@ -92,15 +91,21 @@ code-fits b p {k} {a} s h e l f = subst (λ (x : ℕ). x < 281474976710656) (sym
 
 -- a block that is a part of a mesh
 module _ (m : List ℕ) (i : ℕ) {b : List ℕ} (is : b ≡ part m i) (a : Asked m) (held : i < blocks m) where
-  pub part-asked : (at n : ℕ) → at + 4096 ≤ n → (length b ≡ words) × (getD b 2 0 ≤ room) × Short b × (i < 16) × (at + 4096 ≤ n)
+  pub part-asked : (at n : ℕ) → at + 4096 ≤ n → (words-for (getD b 2 0) ≤ length b) × (getD b 2 0 ≤ room) × Short b × (i < 16) × (at + 4096 ≤ n)
   part-asked at n h = (
-    ap length is ∙ part-length m i held,
-    subst (λ (x : List ℕ). getD x 2 0 ≤ room) (sym is) (roomy a i held),
+    within (ap length is ∙ part-length m i held) few-here,
+    few-here,
     subst Short (sym is) (short a i held),
     small held (few a),
     h,
   )
     where
+      few-here : getD b 2 0 ≤ room
+      few-here = subst (λ (x : List ℕ). getD x 2 0 ≤ room) (sym is) (roomy a i held)
+
+      within : {l k : ℕ} → l ≡ words → k ≤ room → words-for k ≤ l
+      within e k = omega arith
+
       small : {n : ℕ} → i < n → n ≤ 16 → i < 16
       small u v = omega arith
 

@@ -16,7 +16,7 @@ use Rattle.laws.proofs.Tests.{by-cases, lt-or-ge}
 use Rattle.laws.proofs.Members.{In}
 use Rattle.laws.proofs.Volumes.{Volume}
 use Rattle.cells.specs.Places.{Within, Linked, Visited, bit, places-in, volume-of}
-use Rattle.cells.proofs.Walks.{Queue, Grown, eq-or-ne, last-or-below, queue-room, visit-queue}
+use Rattle.cells.proofs.Walks.{Queue, Grown, eq-or-ne, last-or-below, queue-room, visit-queue, visited-lengths}
 use Rattle.cells.proofs.Reached.{places, in-places, volume-linked, volume-below}
 use Rattle.picking.specs.Picked.{Marking, Added}
 use Rattle.picking.proofs.Symmetric.{volume-sym}
@@ -38,10 +38,11 @@ sum-more q (x ∷ l₀) (y ∷ l) (suc n) h len few low high =
     by-cases (q (h 0)) (λ e. let one : y ≡ x + 1 = rw e at first in rw e (omega arith)) (λ e. let none : y ≡ x + 0 = rw e at first in rw e (omega arith))
 
 -- MARKS AS A QUEUE of places below n
-pub as-queue : {n : ℕ} {f g : ℕ → ℕ} {m o : List ℕ} {t : ℕ} → Marking n f g m o t → Queue n (places n) m o t
-as-queue {n} {f} {g} {m} {o} k = record {
-  len-m = k .len-marks;
-  len-o = k .len-order;
+pub as-queue : {n : ℕ} {f g : ℕ → ℕ} {m o : List ℕ} {t : ℕ} → n ≤ room → Marking n f g m o t → Queue n (places n) m o t
+as-queue {n} {f} {g} {m} {o} few k = record {
+  len-m = omega (arith, k .len-marks);
+  len-o = omega (arith, k .len-order);
+  fits = k .fits;
   bits = k .bits;
   count = k .count;
   once = k .once;
@@ -50,7 +51,7 @@ as-queue {n} {f} {g} {m} {o} k = record {
 }
 
 -- what a visit puts into the queue is the place that it visits
-pushed : {n p t t′ : ℕ} {v m o m′ o′ : List ℕ} → Queue n v m o t → p < room → Visited p m o t m′ o′ t′ → (k : ℕ) → t ≤ k → k < t′ → getD o′ k 0 ≡ p
+pushed : {n p t t′ : ℕ} {v m o m′ o′ : List ℕ} → Queue n v m o t → p < n → Visited p m o t m′ o′ t′ → (k : ℕ) → t ≤ k → k < t′ → getD o′ k 0 ≡ p
 pushed {n} {p} {t} {t′} {v} {m} {o} {m′} {o′} q h x k a b = by-cases (eqb (getD m p 0) 0)
     (λ e. let z : getD m p 0 ≡ 0 = eqb-true _ _ e in
     let t-is : t′ ≡ t + 1 = rw e at (x .tail) in
@@ -62,6 +63,8 @@ pushed {n} {p} {t} {t′} {v} {m} {o} {m′} {o′} q h x k a b = by-cases (eqb 
 -- THE WALK from queue length t₀ and marks m₀ on: h places of the queue are done
 pub record Going (n : ℕ) (f g : ℕ → ℕ) (d : ℕ) (v m₀ : List ℕ) (t₀ : ℕ) (m o : List ℕ) (t h : ℕ) : Type 0 where
   pub queue : Queue n (places n) m o t
+  pub len-marks : length m ≡ room
+  pub len-order : length o ≡ room
   pub from-le : t₀ ≤ h
   pub h-le : h ≤ t
   pub old : (q : ℕ) → getD m₀ q 0 ≡ 1 → getD m q 0 ≡ 1
@@ -73,17 +76,19 @@ pub record Going (n : ℕ) (f g : ℕ → ℕ) (d : ℕ) (v m₀ : List ℕ) (t�
 module _ (n : ℕ) (f g : ℕ → ℕ) (d : ℕ) (v : List ℕ) (vol : Volume f g d v) (few : n ≤ room) {m₀ o₀ : List ℕ} {t₀ : ℕ} (mk : Marking n f g m₀ o₀ t₀) where
   pub going-start : {t : ℕ} {m o : List ℕ} → d < n → Visited d m₀ o₀ t₀ m o t → Going n f g d v m₀ t₀ m o t t₀
   going-start {t} {m} {o} dn x =
-      let q = as-queue mk in
-      let w = visit-queue q dn few (in-places n d dn) x in
+      let q = as-queue few mk in
+      let w = visit-queue q dn (in-places n d dn) x in
       record {
         queue = w .0;
+        len-marks = visited-lengths x .0 ∙ mk .len-marks;
+        len-order = visited-lengths x .1 ∙ mk .len-order;
         from-le = omega arith;
         h-le = w .1 .longer;
         old = w .1 .grows;
         first = λ k l. rw (w .1 .kept k l) (mk .queued k l .1);
         start = w .1 .new;
         done = λ k l. rw (w .1 .kept k l) (w .1 .grows _ (mk .closed-f _ (mk .queued k l .0) (mk .queued k l .1)), w .1 .grows _ (mk .closed-g _ (mk .queued k l .0) (mk .queued k l .1)));
-        new-in = λ k a b. rw (pushed q (omega arith) x k a b) (vol .here);
+        new-in = λ k a b. rw (pushed q dn x k a b) (vol .here);
       }
 
   module _ {m o : List ℕ} {t h : ℕ} (w : Going n f g d v m₀ t₀ m o t h) (wf : Within n f) (wg : Within n g) (ht : h < t) where
@@ -95,7 +100,7 @@ module _ (n : ℕ) (f g : ℕ → ℕ) (d : ℕ) (v : List ℕ) (vol : Volume f 
       a-below = rw ea (wf _ (at-h .0))
 
       one : Queue n (places n) m₁ o₁ t₁ × Grown a m o t m₁ o₁ t₁
-      one = visit-queue (w .queue) a-below few (in-places n a a-below) x
+      one = visit-queue (w .queue) a-below (in-places n a a-below) x
 
       pub going-mid : Queue n (places n) m₁ o₁ t₁
       going-mid = one .0
@@ -105,7 +110,7 @@ module _ (n : ℕ) (f g : ℕ → ℕ) (d : ℕ) (v : List ℕ) (vol : Volume f 
         b-below = rw eb (wg _ (at-h .0))
 
         two : Queue n (places n) m₂ o₂ t₂ × Grown b m₁ o₁ t₁ m₂ o₂ t₂
-        two = visit-queue (one .0) b-below few (in-places n b b-below) y
+        two = visit-queue (one .0) b-below (in-places n b b-below) y
 
         kept : (k : ℕ) → k < t → getD o₂ k 0 ≡ getD o k 0
         kept k l = two .1 .kept k (omega (arith, one .1 .longer)) ∙ one .1 .kept k l
@@ -117,14 +122,16 @@ module _ (n : ℕ) (f g : ℕ → ℕ) (d : ℕ) (v : List ℕ) (vol : Volume f 
         new k l r = ⊎-elim
             (λ before. rw (kept k before) (w .new-in k l before))
             (λ after. ⊎-elim
-            (λ mid. rw (two .1 .kept k mid, pushed (w .queue) (omega (arith, a-below)) x k after mid, ea) (vol .closed-f _ (at-h .1)))
-            (λ late. rw (pushed (one .0) (omega (arith, b-below)) y k late r, eb) (vol .closed-g _ (at-h .1)))
+            (λ mid. rw (two .1 .kept k mid, pushed (w .queue) a-below x k after mid, ea) (vol .closed-f _ (at-h .1)))
+            (λ late. rw (pushed (one .0) b-below y k late r, eb) (vol .closed-g _ (at-h .1)))
             (lt-or-ge k t₁))
             (lt-or-ge k t)
 
         pub going-step : Going n f g d v m₀ t₀ m₂ o₂ t₂ (h + 1)
         going-step = record {
           queue = two .0;
+          len-marks = visited-lengths y .0 ∙ visited-lengths x .0 ∙ w .len-marks;
+          len-order = visited-lengths y .1 ∙ visited-lengths x .1 ∙ w .len-order;
           from-le = omega (arith, w .from-le);
           h-le = omega (arith, one .1 .longer, two .1 .longer);
           old = λ q e. grows q (w .old q e);
@@ -144,8 +151,9 @@ module _ (n : ℕ) (f g : ℕ → ℕ) (d : ℕ) (v : List ℕ) (vol : Volume f 
 
     pub going-marks : Marking n f g m o t
     going-marks = record {
-      len-marks = w .queue .len-m;
-      len-order = w .queue .len-o;
+      len-marks = w .len-marks;
+      len-order = w .len-order;
+      fits = w .queue .fits;
       bits = w .queue .bits;
       count = w .queue .count;
       once = w .queue .once;
@@ -183,7 +191,7 @@ module _ (n : ℕ) (f g : ℕ → ℕ) (d : ℕ) (v : List ℕ) (vol : Volume f 
       size-is : t ≡ t₀ + length (places-in n v)
       unfolding places-in
       size-is =
-          let s = sum-more (λ p. mem p v) m₀ m n (λ p. p) (mk .len-marks ∙ sym (w .queue .len-m)) (omega (arith, w .queue .len-m))
+          let s = sum-more (λ p. mem p v) m₀ m n (λ p. p) (mk .len-marks ∙ sym (w .len-marks)) (w .queue .len-m)
           (λ p l. by-cases (mem p v)
           (λ e. rw e (omega (arith, reached p e, away p e)))
           (λ e. rw e (omega (arith, stays p e))))

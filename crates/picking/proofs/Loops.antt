@@ -96,6 +96,7 @@ no-marks : (n : ℕ) (f g : ℕ → ℕ) (marks order : List ℕ) → marks ≡ 
 no-marks n f g marks order e len = rw e (record {
   len-marks = length-replicate {A = ℕ} room 0;
   len-order = len;
+  fits = omega arith;
   bits = λ p. omega (arith, getD-zeros room p);
   count = sym (sum-zeros room);
   once = refl;

@@ -52,6 +52,7 @@ pub record Some (t : ℕ → Bool) (order : List ℕ) (from to : ℕ) (r : Bool)
 pub record Marking (n : ℕ) (f g : ℕ → ℕ) (marks order : List ℕ) (tail : ℕ) : Type 0 where
   pub len-marks : length marks ≡ room
   pub len-order : length order ≡ room
+  pub fits : tail ≤ n
   pub bits : (p : ℕ) → getD marks p 0 ≤ 1
   pub count : tail ≡ sum marks
   pub once : distinct (take tail order) ≡ true

@@ -1,12 +1,12 @@
 // The picked volumes of a block: one walk over all darts, volume by volume.
 ghost use mathlib.Core.Path.{_≡_};
 ghost use mathlib.Core.Bool.{true};
-ghost use Prim.Native.Nat.{ℕ, _≤_, _<_};
+ghost use Prim.Native.Nat.{ℕ, _+_, _≤_, _<_};
 ghost use lib.Dec.{ltb};
 ghost use lib.ListN.{length, getD, replicate};
 ghost use Rattle.model.specs.Lists.{keep, tab};
 ghost use Rattle.model.specs.Values.{room};
-ghost use Rattle.model.specs.Image.{words, column, block-in, holds-block};
+ghost use Rattle.model.specs.Image.{words-for, column, block-in, holds-block};
 ghost use Rattle.model.specs.Balance.{picked as model-picked};
 ghost use Rattle.oracle.specs.Oracle.{oracle-of};
 ghost use Rattle.cells.specs.Places.{Linked, Visited, volume-of};
@@ -27,7 +27,7 @@ fn place_at(order: &[usize], k: usize) -> Place
 
 // The place that word f of the dart at place p leads to.
 fn along(block: &[u64], p: Place, f: usize) -> Place
-    requires { ⌜ (p .0 < room) × (f < 8) × (length (now block) ≡ words) ⌝ }
+    requires { ⌜ (words-for (p .0 + 1) ≤ length (now block)) × (f < 8) ⌝ }
     ensures { λ r. ⌜ r .0 ≡ column (now (block .entry)) f (p .0) ⌝ }
 {
     Place(record::field(block, p, f) as usize)

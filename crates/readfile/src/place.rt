@@ -4,8 +4,7 @@ ghost use Prim.Native.Nat.{_≤_, _<_};
 ghost use lib.ListN.{length, getD};
 ghost use Rattle.laws.specs.Order.{Ascending};
 ghost use Rattle.model.specs.Lists.{tab, index-of};
-ghost use Rattle.model.specs.Image.{words, column};
-ghost use Rattle.model.specs.Values.{room};
+ghost use Rattle.model.specs.Image.{words-for, column};
 ghost use Rattle.memory.specs.Record.{put};
 ghost use Rattle.readfile.specs.Places.{place-link, place-words, resolved};
 use memory::lookup::Found;
@@ -20,7 +19,7 @@ fn guess(p: Place, own: u64, serial: u64) -> u64 {
 
 // The word of a link to a serial: its place among n darts, n where none has it. First where it stands if serials rise by one from place p on.
 fn place_near(block: &[u64], n: usize, p: Place, own: u64, serial: u64) -> u64
-    requires { ⌜ (n ≤ room) × (length (now block) ≡ words) × Ascending n (column (now block) 0) ⌝ }
+    requires { ⌜ (words-for n ≤ length (now block)) × Ascending n (column (now block) 0) ⌝ }
     ensures { λ r. ⌜ r ≡ index-of serial (tab (column (now (block .entry)) 0) n) ⌝ }
 {
     let g = guess(p, own, serial);
@@ -37,7 +36,7 @@ fn place_near(block: &[u64], n: usize, p: Place, own: u64, serial: u64) -> u64
 
 // The link word: the place of the dart that a sewn one is sewn to.
 fn link_place(block: &[u64], n: usize, p: Place, own: u64, kind: u64, link: u64) -> u64
-    requires { ⌜ (n ≤ room) × (length (now block) ≡ words) × Ascending n (column (now block) 0) ⌝ }
+    requires { ⌜ (words-for n ≤ length (now block)) × Ascending n (column (now block) 0) ⌝ }
     ensures { λ r. ⌜ r ≡ place-link (tab (column (now (block .entry)) 0) n) kind link ⌝ }
 {
     if kind == 1 {
@@ -48,7 +47,7 @@ fn link_place(block: &[u64], n: usize, p: Place, own: u64, kind: u64, link: u64)
 
 // Places for the serials of the dart at place p.
 fn resolve_dart(block: &mut [u64], n: usize, p: Place)
-    requires { ⌜ (p .0 < n) × (n ≤ room) × (length (now block) ≡ words) × Ascending n (column (now block) 0) ⌝ }
+    requires { ⌜ (p .0 < n) × (words-for n ≤ length (now block)) × Ascending n (column (now block) 0) ⌝ }
     ensures { λ _. ⌜ now (block .exit) ≡ put (now (block .entry)) (p .0) (place-words (tab (column (now (block .entry)) 0) n) (now (block .entry)) (p .0)) ⌝ }
 {
     let r = memory::record::record_at(block, p);
@@ -71,7 +70,7 @@ fn resolve_dart(block: &mut [u64], n: usize, p: Place)
 
 // Places for the serials of all darts.
 pub fn resolve(block: &mut [u64])
-    requires { ⌜ (length (now block) ≡ words) × (getD (now block) 2 0 ≤ room) × Ascending (getD (now block) 2 0) (column (now block) 0) ⌝ }
+    requires { ⌜ (words-for (getD (now block) 2 0) ≤ length (now block)) × Ascending (getD (now block) 2 0) (column (now block) 0) ⌝ }
     ensures { λ _. ⌜ now (block .exit) ≡ resolved (now (block .entry)) ⌝ }
 {
     let n = block[2] as usize;

@@ -1,9 +1,8 @@
 // The whole file read into memory, with serials where an image has places.
 ghost use mathlib.Core.Path.{_≡_};
-ghost use Prim.Native.Nat.{_≤_, _<_};
+ghost use Prim.Native.Nat.{_+_, _≤_};
 ghost use lib.ListN.{length, replicate};
-ghost use Rattle.model.specs.Image.{words};
-ghost use Rattle.model.specs.Values.{room};
+ghost use Rattle.model.specs.Image.{words-for, words};
 ghost use Rattle.readfile.specs.Parts.{DartStored, DartsStored, RawRead};
 use crate::dart;
 use crate::dart::Parsed;
@@ -19,7 +18,7 @@ pub enum End {
 
 // Reads a dart with a serial above the last one, and stores it at place p.
 fn store_dart(file: &[u8], at: usize, last: u64, block: &mut [u64], p: Place) -> Read
-    requires { ⌜ (p .0 < room) × (length (now block) ≡ words) ⌝ }
+    requires { ⌜ words-for (p .0 + 1) ≤ length (now block) ⌝ }
     ensures { λ r. ⌜ DartStored (now (file .entry)) at last (now (block .entry)) (p .0) (now (block .exit)) r ⌝ }
 {
     let Parsed::Dart(r, next) = dart::read_dart(file, at) else {
@@ -35,7 +34,7 @@ fn store_dart(file: &[u8], at: usize, last: u64, block: &mut [u64], p: Place) ->
 
 // Reads n darts in ascending serial, and stores them from the first place on.
 fn read_darts(file: &[u8], from: usize, n: usize, block: &mut [u64]) -> End
-    requires { ⌜ (from ≤ length (now file)) × (n ≤ room) × (length (now block) ≡ words) ⌝ }
+    requires { ⌜ (from ≤ length (now file)) × (words-for n ≤ length (now block)) ⌝ }
     ensures { λ r. ⌜ DartsStored (now (file .entry)) from n (now (block .entry)) (now (block .exit)) r ⌝ }
 {
     // The first i darts are stored, in ascending serial up to `last`; what is read at `at` goes on from them.

@@ -5,7 +5,7 @@ use mathlib.Core.List.{List, [], _∷_, map}
 use Prim.Native.Nat.{ℕ, _%_, _≤_, _<_}
 use native.Mathlib.Omega.{arith}
 use lib.Dec.{leb, eqb}
-use lib.ListN.{length, getD, replicate, length-map, getD-replicate}
+use lib.ListN.{length, getD, replicate, length-map, length-replicate, getD-replicate}
 use borrow.Author.Tests.{eq-eqb, ne-eqb}
 use Rattle.model.specs.Lists.{all, keep}
 use Rattle.model.specs.Values.{Dart, room}
@@ -22,7 +22,7 @@ use Rattle.cells.proofs.Reached.{places, places-below}
 use Rattle.cells.proofs.Paths.{round}
 use Rattle.cells.proofs.Sited.{Sited, darts-in, sited}
 use Rattle.cells.proofs.FaceSerials.{faces-carried}
-use Rattle.cells.proofs.StartLaws.{start-place, cycle-start}
+use Rattle.cells.proofs.StartLaws.{in-order-few, start-place, cycle-start}
 use Rattle.tally.specs.Tally.{is-critical, critical-faces, critical-at, tally-in, no-tally, tally-of}
 use Rattle.tally.specs.declared.counts.Tally.{Tally}
 use Rattle.tally.specs.Pieces.{piece-starts}
@@ -39,6 +39,9 @@ all-ones = replicate room 1
 mark-one : (p : ℕ) → p < room → getD all-ones p 0 ≡ 1
 mark-one p h = getD-replicate room p 1 0 h
 
+pub ones-long : {n : ℕ} → n ≤ room → n ≤ length all-ones
+ones-long h = omega (arith, length-replicate {A = ℕ} room 1)
+
 pub all-marked : (n : ℕ) → n ≤ room → marked n all-ones ≡ places n
 unfolding marked
 all-marked n few = keep-all (λ p. eqb (getD all-ones p 0) 1) (places n) (λ p k. eq-eqb (getD all-ones p 0) 1 (mark-one p (omega (arith, places-below n p k))))
@@ -53,6 +56,11 @@ all-closed {m} {n} l p h e = mark-one (column m 1 p) (omega (arith, l .next-with
 pub order-all : (m : List ℕ) (n : ℕ) {out starts : List ℕ} {darts count : ℕ} → n ≤ room → InOrder (faces (column m 1) (marked n all-ones)) out starts darts count
     → InOrder (faces (column m 1) (places n)) out starts darts count
 order-all m n {out} {starts} {darts} {count} few o = subst (λ (l : List ℕ). InOrder (faces (column m 1) l) out starts darts count) (all-marked n few) o
+
+-- it has no more darts or faces than there are places
+pub order-few : {m out starts : List ℕ} {n darts count : ℕ} → Linked m n → InOrder (faces (column m 1) (places n)) out starts darts count → (darts ≤ n) × (count ≤ n)
+order-few {m} {out} {starts} {n} {darts} {count} l o = in-order-few n (column m 1) all-ones (l .few) (l .next-within) (l .next-apart)
+    (subst (λ (ps : List ℕ). InOrder (faces (column m 1) ps) out starts darts count) (sym (all-marked n (l .few))) o)
 
 -- the first dart of face k, in the arrays
 pub first-dart : {m out starts : List ℕ} {n darts count : ℕ} → Linked m n → InOrder (faces (column m 1) (places n)) out starts darts count → (k : ℕ) → k < count

@@ -25,13 +25,13 @@ use Rattle.cells.proofs.Paths.{round}
 use Rattle.cells.proofs.Sited.{Sited, sited, darts-in}
 use Rattle.cells.proofs.Serials.{volume-serials, volume-size}
 use Rattle.cells.proofs.FaceSerials.{faces-carried}
-use Rattle.cells.proofs.StartLaws.{cycle-start, in-order-few}
+use Rattle.cells.proofs.StartLaws.{cycle-start}
 use Rattle.tally.specs.declared.rows.Told.the-variants as answer
 use Rattle.tally.specs.Tally.{critical-at}
 use Rattle.tally.specs.Groups.{is-first, firsts-below, Grouped}
 use Rattle.tally.specs.Rows.{critical-with, figure, rows-of, row-words, told-rows, cells-told, rows-after}
 use Rattle.tally.specs.Counting.{head-word, Headed, cell-word, critical-word, Countable, Counted, face-starts, Started, FacesCounted, Bordering}
-use Rattle.tally.proofs.CriticalFaces.{start-map, first-dart}
+use Rattle.tally.proofs.CriticalFaces.{order-few, start-map, first-dart}
 use Rattle.tally.proofs.CountLaws.{counted-le}
 use Rattle.tally.proofs.GroupLaws.{cell-mem, firsts-serials, group-count}
 
@@ -382,11 +382,11 @@ faces-counted m G a b = record { len = b .len ∙ a .len; value = λ i. omega (a
 -- the arrays of message order hold the starts
 pub started : (m : List ℕ) → holds-block m ≡ true → {out starts : List ℕ} {darts count : ℕ} → InOrder (faces (column m 1) (places (count-in m))) out starts darts count → Started m out starts count
 started m ok {out} {starts} {darts} {count} o = record {
-  len-out = o .out-size;
-  len-starts = o .starts-size;
-  few = in-order-few o .1;
+  starts-there = o .starts-size;
+  few = omega (arith, order-few (sited m ok .linked) o .1, sited m ok .linked .few);
   count-is = o .count-is ∙ sym (length-map (faces (column m 1) (places (count-in m))) start-of);
-  index-below = λ k h. omega (arith, first-dart (sited m ok .linked) o k h .0, in-order-few o .0);
+  index-below = λ k h. omega (arith, first-dart (sited m ok .linked) o k h .0, order-few (sited m ok .linked) o .0, sited m ok .linked .few);
+  index-there = λ k h. omega (arith, first-dart (sited m ok .linked) o k h .0, o .out-size);
   start-is = λ k h. first-dart (sited m ok .linked) o k h .1 ∙ sym (at k h);
   start-below = λ k h. let r = first-dart (sited m ok .linked) o k h in omega (arith, at k h, r .1, r .2);
 }

@@ -46,11 +46,11 @@ face-starts m = map start-of (faces (column m 1) (tab (λ p. p) (getD m 2 0)))
 
 -- these places in arrays: out has faces one after the other, starts where each starts
 pub record Started (m out starts : List ℕ) (count : ℕ) : Type 0 where
-  pub len-out : length out ≡ room
-  pub len-starts : length starts ≡ room
+  pub starts-there : count ≤ length starts
   pub few : count ≤ room
   pub count-is : count ≡ length (face-starts m)
   pub index-below : (k : ℕ) → k < count → getD starts k 0 < room
+  pub index-there : (k : ℕ) → k < count → getD starts k 0 < length out
   pub start-is : (k : ℕ) → k < count → getD out (getD starts k 0) 0 ≡ getD (face-starts m) k 0
   pub start-below : (k : ℕ) → k < count → getD (face-starts m) k 0 < getD m 2 0
 

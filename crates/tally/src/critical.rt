@@ -1,12 +1,11 @@
 // The critical faces of a sound block, counted by their first darts in message order.
 ghost use mathlib.Core.Path.{_≡_};
 ghost use mathlib.Core.Bool.{true};
-ghost use Prim.Native.Nat.{_<_};
+ghost use Prim.Native.Nat.{_+_, _≤_};
 ghost use lib.ListN.{length};
 ghost use Rattle.model.specs.Lists.{keep, tab};
-ghost use Rattle.model.specs.Values.{room};
 ghost use Rattle.model.specs.Cells.{faces, start-of};
-ghost use Rattle.model.specs.Image.{words, column, block-in, holds-block};
+ghost use Rattle.model.specs.Image.{words-for, column, block-in, holds-block};
 ghost use Rattle.cells.specs.Places.{InOrder, Linked};
 ghost use Rattle.tally.specs.Tally.{critical-at, critical-faces};
 use memory::record;
@@ -14,7 +13,7 @@ use memory::record::Place;
 
 // Whether the dart at place p is critical.
 pub fn is_critical(block: &[u64], p: usize) -> bool
-    requires { ⌜ (p < room) × (length (now block) ≡ words) ⌝ }
+    requires { ⌜ words-for (p + 1) ≤ length (now block) ⌝ }
     ensures { λ r. ⌜ r ≡ critical-at (now (block .entry)) p ⌝ }
 {
     record::field(block, Place(p), 3) % 4 == 2
@@ -61,7 +60,7 @@ pub fn critical_faces(block: &[u64]) -> usize
         block,
         n,
         n,
-        0,
+        Place(0),
         &marks,
         &mut out,
         &mut starts,

@@ -1,8 +1,8 @@
 // The darts of a block in groups: its cells; or its pieces, cells that are joined where a dart of one is sewn to a dart of another.
 ghost use mathlib.Core.Path.{_≡_};
-ghost use Prim.Native.Nat.{_≤_, _<_};
+ghost use Prim.Native.Nat.{_+_, _≤_, _<_};
 ghost use lib.ListN.{length, getD, replicate};
-ghost use Rattle.model.specs.Image.{words};
+ghost use Rattle.model.specs.Image.{words-for};
 ghost use Rattle.model.specs.Values.{room};
 ghost use Rattle.cells.specs.Places.{Painted};
 ghost use Rattle.tally.specs.Groups.{third-link, group-of, Joined, Entered, Queued, LinksEntered, Shut, Grouped};
@@ -11,7 +11,7 @@ use memory::record::Place;
 
 // Where the third link of the dart at place p leads, if third links count and the dart is sewn; else p.
 fn third_link(block: &[u64], third: bool, p: usize) -> usize
-    requires { ⌜ (p < room) × (length (now block) ≡ words) ⌝ }
+    requires { ⌜ words-for (p + 1) ≤ length (now block) ⌝ }
     ensures { λ r. ⌜ r ≡ third-link third (now (block .entry)) p ⌝ }
 {
     if third & (record::field(block, Place(p), 3) % 4 == 1) {

@@ -6,7 +6,7 @@ ghost use Prim.Native.Nat.{ℕ, _+_, _*_, _/_, _≤_, _<_, _^_};
 ghost use lib.ListN.{length, getD, set};
 ghost use Rattle.model.specs.Lists.{keep, tab};
 ghost use Rattle.model.specs.Values.{room};
-ghost use Rattle.model.specs.Image.{words, column, holds-block};
+ghost use Rattle.model.specs.Image.{words-for, column, holds-block};
 ghost use Rattle.cells.specs.Places.{Linked};
 ghost use Rattle.tally.specs.Tally.{critical-at};
 ghost use Rattle.tally.specs.Groups.{Grouped};
@@ -27,8 +27,7 @@ pub enum Told {
 
 // Word i of the rows before anything is counted: a cell's least serial at the start of its row, 0 elsewhere.
 fn first_word(block: &[u64], firsts: &[usize], i: usize) -> u64
-    requires { ⌜ (i < 19 * room) × (length (now firsts) ≡ room) × (length (now block) ≡ words)
-        × (getD (now firsts) (i / 19) 0 < room) ⌝ }
+    requires { ⌜ (i < 19 * room) × (length (now firsts) ≡ room) × (words-for (getD (now firsts) (i / 19) 0 + 1) ≤ length (now block)) ⌝ }
     ensures { λ r. ⌜ r ≡ head-word (now (block .entry)) (now (firsts .entry)) i ⌝ }
 {
     if i % 19 != 0 {
@@ -41,8 +40,8 @@ fn first_word(block: &[u64], firsts: &[usize], i: usize) -> u64
 
 // Starts the rows: the first `end` words.
 fn start_rows(block: &[u64], firsts: &[usize], end: usize, rows: &mut [u64])
-    requires { ⌜ (end ≤ 19 * room) × (length (now firsts) ≡ room) × (length (now block) ≡ words) × (end ≤ length (now rows)) ⌝ }
-    requires { ⌜ ((i : ℕ) → i < end → getD (now firsts) (i / 19) 0 < room) ⌝ }
+    requires { ⌜ (end ≤ 19 * room) × (length (now firsts) ≡ room) × (end ≤ length (now rows)) ⌝ }
+    requires { ⌜ ((i : ℕ) → i < end → words-for (getD (now firsts) (i / 19) 0 + 1) ≤ length (now block)) ⌝ }
     ensures { λ _. ⌜ Headed (now (block .entry)) (now (firsts .entry)) end (now (rows .entry)) (now (rows .exit)) ⌝ }
 {
     // The words before i are started.
@@ -88,7 +87,7 @@ fn count_darts(block: &[u64], numbers: &[usize], rows: &mut [u64])
 
 // The place that face f starts at.
 fn start_at(out: &[usize], starts: &[usize], f: usize) -> usize
-    requires { ⌜ (f < room) × (length (now starts) ≡ room) × (length (now out) ≡ room) × (getD (now starts) f 0 < room) ⌝ }
+    requires { ⌜ (f < room) × (f < length (now starts)) × (getD (now starts) f 0 < room) × (getD (now starts) f 0 < length (now out)) ⌝ }
     ensures { λ r. ⌜ r ≡ getD (now (out .entry)) (getD (now (starts .entry)) f 0) 0 ⌝ }
 {
     let i = starts[f];
@@ -120,7 +119,7 @@ fn count_faces(
 
 // The word of a row for the block that the dart at place p, which is critical, is critical with.
 fn border_word(block: &[u64], p: usize) -> usize
-    requires { ⌜ (p < room) × (length (now block) ≡ words) ⌝ }
+    requires { ⌜ words-for (p + 1) ≤ length (now block) ⌝ }
     ensures { λ r. ⌜ r ≡ 3 + column (now (block .entry)) 3 p / 4 ⌝ }
 {
     3 + (record::field(block, Place(p), 3) / 4) as usize
@@ -166,7 +165,7 @@ fn tell_faces(block: &[u64], numbers: &[usize], rows: &mut [u64])
         block,
         n,
         n,
-        0,
+        Place(0),
         &marks,
         &mut out,
         &mut starts,

@@ -5,11 +5,10 @@ use lib.ListN.{length, getD, length-replicate}
 use Rattle.model.specs.Values.{room}
 use Rattle.cells.proofs.Sited.{sited}
 use Rattle.cells.proofs.Reached.{volume-linked}
-use Rattle.cells.proofs.Resets.{listed-marked, listed-some}
+use Rattle.cells.proofs.Resets.{zeros-clear, zeros-long, listed-marked, listed-some}
 use Rattle.cells.proofs.SewnLaws.{marked-places}
 use Rattle.cells.proofs.FaceSerials.{closed-next}
-use Rattle.cells.proofs.StartLaws.{in-order-few}
-use Rattle.cells.proofs.VolumeReady.{out-long, out-below}
+use Rattle.cells.proofs.VolumeReady.{out-few, out-long, out-below}
 use Rattle.corners.proofs.CornerLaws.{cornered}
 use native.Mathlib.Omega.{arith}
 use borrow.Author.Needs.{needs}
@@ -31,7 +30,7 @@ volume-requires : tie.Need-volume-requires
 volume-requires c κs =
     let start : tie.Start = search in
     let linked = sited (start .args .block .now) (start .pre .0) .linked in
-    (linked, start .pre .1, length-replicate {A = ℕ} room 0, refl)
+    (linked, start .pre .1, zeros-long _ room refl (linked .few), zeros-long _ room refl (linked .few), zeros-clear room refl)
 
 slice-aggregate-message-order : tie.Need-slice-aggregate-message-order
 slice-aggregate-message-order c = search needs
@@ -54,8 +53,14 @@ message-order-requires c κs =
     let low = start .pre .1 in
     let mk = volume-ensures .0 in
     let listed = volume-ensures .1 .1 in (
-      (linked, mk .size, closed-next linked low mk, volume-ensures .1 .0 ∙ sym (ap length (marked-places mk (getD m 2 0)))),
-      (listed-some _ listed (volume-linked linked low .here), listed-marked mk listed, length-replicate {A = ℕ} room 0, refl),
+      (linked, omega (arith, linked .few, length-replicate {A = ℕ} room 0), closed-next linked low mk, volume-ensures .1 .0 ∙ sym (ap length (marked-places mk (getD m 2 0)))),
+      (
+        listed-some _ listed (volume-linked linked low .here),
+        listed-marked mk listed,
+        zeros-long _ room refl (linked .few),
+        zeros-long _ room refl (linked .few),
+        zeros-clear room refl,
+      ),
     )
 
 slice-aggregate-number-vertices : tie.Need-slice-aggregate-number-vertices
@@ -74,7 +79,10 @@ number-vertices-requires c κs =
     let low = start .pre .1 in
     let mk = volume-ensures .0 in
     let o = message-order-ensures .0 in
-    ((linked, in-order-few o .0, out-long linked low mk o, out-below linked low mk o), (length-replicate {A = ℕ} room 0, start .pre .2))
+    let few = out-few linked low mk o in (
+      (linked, omega (arith, few, linked .few), out-long linked low mk o, out-below linked low mk o),
+      (zeros-long _ room refl (linked .few), omega (arith, few, start .pre .2)),
+    )
 
 same-length : tie.Need-same-length
 same-length c = search needs
@@ -87,7 +95,7 @@ returns c =
     let c : tie.After-message-order = search in
     let volume-ensures = (let p : tie.After-volume = search in p .volume .ensures) in
     let start : tie.Start = search in
-    cornered (start .args .block .now) (start .pre .0) (start .args .p) (start .pre .1) (volume-ensures .0) (message-order-ensures .0) number-vertices-ensures
+    cornered (start .args .block .now) (start .pre .0) (start .args .p .0) (start .pre .1) (volume-ensures .0) (message-order-ensures .0) number-vertices-ensures
 
 pub corners-at-spec : {M : Type 1} → statement M
 corners-at-spec =

@@ -1,12 +1,12 @@
 -- `corners::mean_of` meets its contract. Assumes nothing.
-use mathlib.Core.Path.{sym, _∙_}
-use Prim.Native.Nat.{ℕ}
-use lib.ListN.{getD, length-replicate}
+use mathlib.Core.Path.{refl, sym, _∙_}
+use lib.ListN.{getD}
 use Rattle.model.specs.Values.{room}
 use Rattle.model.specs.Image.{column}
 use Rattle.answers.proofs.Questions.{said-no, said-yes}
 use Rattle.memory.proofs.Lookups.{place-at, held-at, held-nothing}
 use Rattle.cells.proofs.Sited.{sited}
+use Rattle.cells.proofs.Resets.{zeros-long}
 use Rattle.picking.proofs.Loops.{walkable}
 use Rattle.corners.proofs.CornerLaws.{mean-there, mean-unsound, mean-nowhere}
 use native.Mathlib.Omega.{arith}
@@ -36,7 +36,7 @@ place-of-requires c κs =
     let if1-left = (let p : tie.Else1 = search in p .if1 .left) in
     let start : tie.Start = search in
     let site = sited (start .args .block .now) (said-yes is-sound-ensures if1-left) in
-    (site .linked .few, site .linked .size, site .ascends)
+    (site .linked .size, site .ascends)
 
 enum-known-place : tie.Need-enum-known-place
 enum-known-place c = search needs
@@ -66,7 +66,8 @@ corners-at-requires c κs =
     let start : tie.Start = search in
     let m = start .args .block .now in
     let found = place-at (column m 0) (getD m 2 0) (start .args .serial) (sym place-of-ensures ∙ place-given .1) in
-    (said-yes is-sound-ensures if1-left, found .0, length-replicate {A = ℕ} room 0)
+    let sound = said-yes is-sound-ensures if1-left in
+    (sound, found .0, zeros-long _ room refl (sited m sound .linked .few))
 
 slice-aggregate-sum-at : tie.Need-slice-aggregate-sum-at
 slice-aggregate-sum-at c = search needs
@@ -78,8 +79,7 @@ sum-at-requires c κs =
     let if1-left = (let p : tie.Else1 = search in p .if1 .left) in
     let start : tie.Start = search in
     let m = start .args .block .now in
-    let few = corners-at-ensures .few in
-    (walkable m (said-yes is-sound-ensures if1-left), omega (arith, few, corners-at-ensures .size), few, corners-at-ensures .below)
+    (walkable m (said-yes is-sound-ensures if1-left), corners-at-ensures .size, corners-at-ensures .few, corners-at-ensures .below)
 
 over-requires : tie.Need-over-requires
 over-requires c κs = search needs

@@ -36,7 +36,7 @@ point-at-requires c κs =
     let start : tie.Start Inv-loop μ-loop = search in
     let loop-test-taken = (let p : tie.In-loop Inv-loop μ-loop = search in p .loop-test .taken) in
     let h = start .pre .3 _ loop-test-taken in
-    (omega (arith, h, start .pre .0 .linked .few), start .pre .0 .linked .size, start .pre .0 .finite-at _ h)
+    (omega (arith, h, start .pre .0 .linked .size), start .pre .0 .finite-at _ h)
 
 plus-requires : tie.Need-plus-requires Inv-loop μ-loop
 plus-requires c κs = search needs

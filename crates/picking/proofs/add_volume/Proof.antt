@@ -4,7 +4,7 @@ use mathlib.Core.List.{List}
 use mathlib.Core.Path.{sym, ap, _∙_}
 use Rattle.model.specs.Image.{column}
 use Rattle.cells.specs.Places.{Visited, volume-of}
-use Rattle.cells.proofs.Walks.{queue-le, queue-room}
+use Rattle.cells.proofs.Walks.{visited-lengths, queue-room}
 use Rattle.cells.proofs.Reached.{volume-linked, volume-below}
 use Rattle.picking.specs.Picked.{Marking}
 use Rattle.picking.proofs.Adding.{Going, as-queue, going-start, going-mid, going-step, going-marks, going-added, volume-away}
@@ -24,8 +24,10 @@ abbrev μ-loop : tie.MeasureT-loop
 visit-requires : tie.Need-visit-requires Inv-loop μ-loop
 visit-requires c κs =
     let start : tie.Start Inv-loop μ-loop = search in
-    let q = as-queue (start .pre .2) in
-    (q .len-m, q .len-o, omega (arith, start .pre .0 .few, start .pre .1), queue-le q, queue-room q _ (omega (arith, start .pre .0 .few, start .pre .1)))
+    let mk = start .pre .2 in
+    let few = start .pre .0 .few in
+    let q = as-queue few mk in
+    (mk .len-marks, mk .len-order, omega (arith, few, start .pre .1), omega (arith, few, mk .fits), λ z. omega (arith, few, queue-room q _ (start .pre .1) z))
 
 loop-holds : tie.Need-loop-holds Inv-loop μ-loop
 loop-holds c =
@@ -38,15 +40,15 @@ place-at-requires c κs =
     let visit-ensures = (let p : tie.After-visit Inv-loop μ-loop = search in p .visit .ensures) in
     let loop-inv = (let p : tie.At-loop Inv-loop μ-loop = search in p .loop .inv) in
     let loop-test-taken = (let p : tie.In-loop Inv-loop μ-loop = search in p .loop-test .taken) in
-    let q = (loop-inv _ (start .pre .1) _ _ (start .pre .2) visit-ensures) .queue in
-    (omega (arith, queue-le q, q .len-o, loop-test-taken), q .len-o)
+    let walk = loop-inv _ (start .pre .1) _ _ (start .pre .2) visit-ensures in
+    (omega (arith, walk .queue .len-o, walk .queue .fits, loop-test-taken), walk .len-order)
 
 add-head : tie.Need-add-head Inv-loop μ-loop
 add-head c =
     let start : tie.Start Inv-loop μ-loop = search in
     let visit-ensures = (let p : tie.After-visit Inv-loop μ-loop = search in p .visit .ensures) in
     let loop-inv = (let p : tie.At-loop Inv-loop μ-loop = search in p .loop .inv) in
-    omega (arith, queue-le ((loop-inv _ (start .pre .1) _ _ (start .pre .2) visit-ensures) .queue))
+    omega (arith, start .pre .0 .few, (loop-inv _ (start .pre .1) _ _ (start .pre .2) visit-ensures) .queue .fits)
 
 along-requires : tie.Need-along-requires Inv-loop μ-loop
 along-requires c κs =
@@ -67,9 +69,16 @@ visit-requires-2 c κs =
     let place-at-ensures = (let p : tie.After-place-at Inv-loop μ-loop = search in p .place-at .ensures) in
     let along-ensures = (let p : tie.After-along Inv-loop μ-loop = search in p .along .ensures) in
     let next-is = along-ensures ∙ ap (column (start .args .block .now) 1) place-at-ensures in
-    let q = (loop-inv _ (start .pre .1) _ _ (start .pre .2) visit-ensures) .queue in
-    let x = start .pre .0 .next-within _ (q .queued _ loop-test-taken .0) in
-    (q .len-m, q .len-o, omega (arith, x, next-is, start .pre .0 .few), queue-le q, queue-room q _ (omega (arith, x, next-is, start .pre .0 .few)))
+    let walk = loop-inv _ (start .pre .1) _ _ (start .pre .2) visit-ensures in
+    let q = walk .queue in
+    let few = start .pre .0 .few in
+    let x = start .pre .0 .next-within _ (q .queued _ loop-test-taken .0) in (
+      walk .len-marks,
+      walk .len-order,
+      omega (arith, x, next-is, few),
+      omega (arith, q .fits, few),
+      λ z. omega (arith, few, queue-room q _ (omega (arith, x, next-is)) z),
+    )
 
 along-requires-2 : tie.Need-along-requires-2 Inv-loop μ-loop
 along-requires-2 c κs =
@@ -100,12 +109,14 @@ visit-requires-3 c κs =
     (loop-inv _ (start .pre .1) _ _ (start .pre .2) visit-ensures) (start .pre .0 .next-within) (start .pre .0 .opposite-within) loop-test-taken
     next-is visit2-ensures
     in
-    let x = start .pre .0 .opposite-within _ ((loop-inv _ (start .pre .1) _ _ (start .pre .2) visit-ensures) .queue .queued _ loop-test-taken .0) in (
-      q .len-m,
-      q .len-o,
-      omega (arith, x, opposite-is, start .pre .0 .few),
-      queue-le q,
-      queue-room q _ (omega (arith, x, opposite-is, start .pre .0 .few)),
+    let walk = loop-inv _ (start .pre .1) _ _ (start .pre .2) visit-ensures in
+    let few = start .pre .0 .few in
+    let x = start .pre .0 .opposite-within _ (walk .queue .queued _ loop-test-taken .0) in (
+      visited-lengths visit2-ensures .0 ∙ walk .len-marks,
+      visited-lengths visit2-ensures .1 ∙ walk .len-order,
+      omega (arith, x, opposite-is, few),
+      omega (arith, q .fits, few),
+      λ z. omega (arith, few, queue-room q _ (omega (arith, x, opposite-is)) z),
     )
 
 loop-less : tie.Need-loop-less Inv-loop μ-loop
@@ -115,7 +126,7 @@ loop-less c =
     let c : tie.At-loop Inv-loop μ-loop = search in
     let visit-ensures = (let p : tie.After-visit Inv-loop μ-loop = search in p .visit .ensures) in
     let start : tie.Start Inv-loop μ-loop = search in
-    omega (arith, queue-le ((loop-inv _ (start .pre .1) _ _ (start .pre .2) visit-ensures) .queue), loop-test-taken)
+    omega (arith, start .pre .0 .few, (loop-inv _ (start .pre .1) _ _ (start .pre .2) visit-ensures) .queue .fits, loop-test-taken)
 
 loop-again : tie.Need-loop-again Inv-loop μ-loop
 loop-again c =
@@ -140,14 +151,14 @@ same-length c =
     let start : tie.Start Inv-loop μ-loop = search in
     let visit-ensures = (let p : tie.After-visit Inv-loop μ-loop = search in p .visit .ensures) in
     let loop-inv = (let p : tie.At-loop Inv-loop μ-loop = search in p .loop .inv) in
-    (loop-inv _ (start .pre .1) _ _ (start .pre .2) visit-ensures) .queue .len-o ∙ sym (start .pre .2 .len-order)
+    (loop-inv _ (start .pre .1) _ _ (start .pre .2) visit-ensures) .len-order ∙ sym (start .pre .2 .len-order)
 
 same-length-2 : tie.Need-same-length-2 Inv-loop μ-loop
 same-length-2 c =
     let start : tie.Start Inv-loop μ-loop = search in
     let visit-ensures = (let p : tie.After-visit Inv-loop μ-loop = search in p .visit .ensures) in
     let loop-inv = (let p : tie.At-loop Inv-loop μ-loop = search in p .loop .inv) in
-    (loop-inv _ (start .pre .1) _ _ (start .pre .2) visit-ensures) .queue .len-m ∙ sym (start .pre .2 .len-marks)
+    (loop-inv _ (start .pre .1) _ _ (start .pre .2) visit-ensures) .len-marks ∙ sym (start .pre .2 .len-marks)
 
 returns : tie.Need-returns Inv-loop μ-loop
 returns c =

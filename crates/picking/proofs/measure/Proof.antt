@@ -1,8 +1,6 @@
 -- `picking::measure` meets its contract. Assumes nothing.
 use mathlib.Core.Path.{sym, _∙_}
 use Rattle.oracle.specs.Oracle.{oracle-of}
-use Rattle.cells.proofs.Walks.{queue-le}
-use Rattle.picking.proofs.Adding.{as-queue}
 use Rattle.picking.proofs.Measuring.{measured-none, measured-first, measured-second, measured}
 use native.Mathlib.Omega.{arith}
 use Rattle.picking.proofs.measure.Statement.{statement}
@@ -30,7 +28,7 @@ some-requires c κs =
     let start : tie.Start = search in
     let add-volume-ensures = (let p : tie.After-add-volume = search in p .add-volume .ensures) in
     let mk = add-volume-ensures .0 in
-    (start .pre .0, queue-le (as-queue mk), mk .len-order, λ k l. mk .queued k l .0)
+    (start .pre .0, omega (arith, mk .fits, start .pre .0 .linked .few), mk .len-order, λ k l. mk .queued k l .0)
 
 same-length : tie.Need-same-length
 same-length c =
@@ -59,7 +57,7 @@ some-requires-2 c κs =
     let start : tie.Start = search in
     let add-volume-ensures = (let p : tie.After-add-volume = search in p .add-volume .ensures) in
     let mk = add-volume-ensures .0 in
-    (start .pre .0, queue-le (as-queue mk), mk .len-order, λ k l. mk .queued k l .0)
+    (start .pre .0, omega (arith, mk .fits, start .pre .0 .linked .few), mk .len-order, λ k l. mk .queued k l .0)
 
 same-length-3 : tie.Need-same-length-3
 same-length-3 c =

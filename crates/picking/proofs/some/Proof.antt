@@ -31,8 +31,7 @@ point-at-requires c κs =
     let loop-test-taken = (let p : tie.In-loop Inv-loop μ-loop = search in p .loop-test .taken) in
     let h = start .pre .3 _ loop-test-taken in
     let place-at-ensures = c .place-at .ensures in (
-      omega (arith, h, place-at-ensures, start .pre .0 .linked .few),
-      start .pre .0 .linked .size,
+      omega (arith, h, place-at-ensures, start .pre .0 .linked .size),
       subst (FiniteAt (start .args .block .now)) (sym place-at-ensures) (start .pre .0 .finite-at _ h),
     )
 

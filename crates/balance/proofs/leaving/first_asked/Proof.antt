@@ -93,7 +93,7 @@ same-length-2 c =
     let loop-inv = (let p : tie.At-loop Inv-loop μ-loop = search in p .loop .inv) in
     let c : tie.At-loop Inv-loop μ-loop = search in
     let start : tie.Start Inv-loop μ-loop = search in
-    marks-given ∙ ap length (loop-inv .1 .unmarked ∙ sym (start .pre .1 .unmarked))
+    marks-given ∙ loop-inv .1 .marks-size ∙ sym (start .pre .1 .marks-size)
 
 same-length-3 : tie.Need-same-length-3 Inv-loop μ-loop
 same-length-3 c =
@@ -120,7 +120,7 @@ same-length-5 c =
     let loop-inv = (let p : tie.At-loop Inv-loop μ-loop = search in p .loop .inv) in
     let c : tie.At-loop Inv-loop μ-loop = search in
     let start : tie.Start Inv-loop μ-loop = search in
-    seen-given ∙ ap length (loop-inv .1 .unseen ∙ sym (start .pre .1 .unseen))
+    seen-given ∙ loop-inv .1 .seen-size ∙ sym (start .pre .1 .seen-size)
 
 same-length-6 : tie.Need-same-length-6 Inv-loop μ-loop
 same-length-6 c =

@@ -1,16 +1,34 @@
 -- `balance::leaving::may_leave` meets its contract. Assumes nothing.
 use mathlib.Core.Bool.{true≢false}
+use mathlib.Core.Path.{ap, _∙_}
+use native.Mathlib.Omega.{arith}
+use Rattle.model.specs.Values.{Limits}
 use Rattle.departure.proofs.Told.{departs-told, refused-told, forgotten-told}
-use Rattle.balance.proofs.Strikes.{leaves-yes, leaves-no}
+use Rattle.cells.proofs.Sited.{sited}
+use Rattle.balance.proofs.Strikes.{by-rack, leaves-yes, leaves-no}
 use borrow.Author.Needs.{needs}
 use Rattle.balance.proofs.leaving.may_leave.Statement.{statement}
 use Rattle.balance.proofs.leaving.may_leave.Tie as tie
 
+rack-requires : tie.Need-rack-requires
+rack-requires c κs = search needs
+
 leaves-requires : tie.Need-leaves-requires
 leaves-requires c κs =
+    let rack-ensures = (let p : tie.After-rack = search in p .rack .ensures) in
     let start : tie.Start = search in
     let a = start .pre .1 in
-    (start .pre .0 .0, ((a .unmarked, a .order-size, a .starts-size, a .unseen), (a .numbers-size, a .firsts-size, a .stamps-size)))
+    let few = sited (start .args .block .now) (start .pre .0 .0) .linked .few in
+    let volume = ap (λ (l : Limits). l .volume-darts) rack-ensures in (
+      (start .pre .0 .0, omega (arith, volume)),
+      (
+        (omega (arith, few, a .marks-size), a .unmarked, omega (arith, few, a .seen-size), a .unseen),
+        (
+          (omega (arith, few, a .order-size), omega (arith, few, a .starts-size), omega (arith, few, a .numbers-size)),
+          (omega (arith, few, a .firsts-size), omega (arith, volume, a .stamps-size)),
+        ),
+      ),
+    )
 
 enum-told : tie.Need-enum-told
 enum-told c = search needs
@@ -43,13 +61,14 @@ returns : tie.Need-returns
 returns c =
     let enum-told-given = (let p : tie.After-enum-told = search in p .enum-told .given) in
     let leaves-ensures = (let p : tie.After-leaves = search in p .leaves .ensures) in
+    let rack-ensures = (let p : tie.After-rack = search in p .rack .ensures) in
     let c : tie.After-leaves = search in
     let start : tie.Start = search in
     let block = start .args .block .now in
     let to = start .args .to in
     let serial = start .args .serial in (
       leaves-yes block to serial (start .pre .0 .1) (start .pre .0 .2)
-          (departs-told block to serial _ _ _ _ _ (leaves-ensures .0) (enum-told-given .1) .asked),
+          (departs-told _ block to serial _ _ _ _ _ (leaves-ensures .0) (enum-told-given .1) .asked ∙ by-rack block to serial rack-ensures),
       λ e. absurd (true≢false e),
     )
 
@@ -78,6 +97,7 @@ returns-2 : tie.Need-returns-2
 returns-2 c =
     let enum-told2-given = (let p : tie.After-enum-told2 = search in p .enum-told2 .given) in
     let leaves-ensures = (let p : tie.After-leaves = search in p .leaves .ensures) in
+    let rack-ensures = (let p : tie.After-rack = search in p .rack .ensures) in
     let c : tie.After-leaves = search in
     let start : tie.Start = search in
     let block = start .args .block .now in
@@ -85,15 +105,26 @@ returns-2 c =
     let serial = start .args .serial in
     let a = start .pre .1 in
     let f = forgotten-told _ _ (leaves-ensures .1) (enum-told2-given .1) in (
-      leaves-no block to serial (start .pre .0 .1) (start .pre .0 .2) _ (refused-told block to serial _ _ _ _ _ (leaves-ensures .0) (enum-told2-given .1)),
-      λ e. record
-          { unmarked = f .0; order-size = search needs; starts-size = search needs; unseen = f .1; numbers-size = search needs; firsts-size = search needs; stamps-size = search needs },
+      leaves-no block to serial (start .pre .0 .1) (start .pre .0 .2) _
+          (refused-told _ block to serial _ _ _ _ _ (leaves-ensures .0) (enum-told2-given .1) ∙ by-rack block to serial rack-ensures),
+      λ e. record {
+        marks-size = search needs;
+        unmarked = f .0;
+        order-size = search needs;
+        starts-size = search needs;
+        seen-size = search needs;
+        unseen = f .1;
+        numbers-size = search needs;
+        firsts-size = search needs;
+        stamps-size = search needs;
+      },
     )
 
 pub may-leave-spec : {M : Type 1} → statement M
 may-leave-spec =
     tie.close
     (tie.spec
+    rack-requires
     leaves-requires
     enum-told
     enum-told-2

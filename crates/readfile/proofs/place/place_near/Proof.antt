@@ -17,7 +17,7 @@ returns : tie.Need-returns
 returns c =
     let start : tie.Start = search in
     let field-ensures = (let p : tie.After-field = search in p .field .ensures) in
-    place-is _ _ _ (start .pre .2) _ (omega arith) (sym field-ensures ∙ c .if2 .taken)
+    place-is _ _ _ (start .pre .1) _ (omega arith) (sym field-ensures ∙ c .if2 .taken)
 
 place-of-requires : tie.Need-place-of-requires
 place-of-requires c κs = search needs
@@ -33,7 +33,7 @@ returns-2 c =
     let start : tie.Start = search in
     let place-of-ensures = (let p : tie.After-place-of = search in p .place-of .ensures) in
     let q-given = (let p : tie.After-q = search in p .q .given) in
-    place-found _ _ _ (start .pre .2) place-of-ensures (q-given .1)
+    place-found _ _ _ (start .pre .1) place-of-ensures (q-given .1)
 
 returns-3 : tie.Need-returns-3
 returns-3 c =

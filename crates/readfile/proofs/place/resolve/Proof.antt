@@ -28,7 +28,7 @@ resolve-dart-requires c κs =
     let start : tie.Start Inv-loop μ-loop = search in
     let loop-inv = (let p : tie.At-loop Inv-loop μ-loop = search in p .loop .inv) in
     let loop-test-taken = (let p : tie.In-loop Inv-loop μ-loop = search in p .loop-test .taken) in
-    (loop-test-taken, start .pre .1, placing-length loop-inv (omega arith) ∙ start .pre .0, placing-ascends loop-inv (omega arith) (start .pre .2))
+    (loop-test-taken, omega (arith, placing-length loop-inv (omega arith), start .pre .0), placing-ascends loop-inv (omega arith) (start .pre .1))
 
 add-i : tie.Need-add-i Inv-loop μ-loop
 add-i c = search needs

@@ -25,7 +25,8 @@ store-dart-requires : tie.Need-store-dart-requires Inv-loop μ-loop
 store-dart-requires c κs =
     let start : tie.Start Inv-loop μ-loop = search in
     let loop-inv = (let p : tie.At-loop Inv-loop μ-loop = search in p .loop .inv) in
-    (omega arith, fill-length loop-inv (omega arith) ∙ start .pre .2)
+    let loop-test-taken = (let p : tie.In-loop Inv-loop μ-loop = search in p .loop-test .taken) in
+    omega (arith, loop-test-taken, fill-length loop-inv (omega arith), start .pre .1)
 
 enum-known-serial : tie.Need-enum-known-serial Inv-loop μ-loop
 enum-known-serial c = search needs

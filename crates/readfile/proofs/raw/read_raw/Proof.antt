@@ -78,7 +78,7 @@ read-darts-requires c κs =
     let start : tie.Start = search in
     let read-group2-ensures = (let p : tie.After-read-group2 = search in p .read-group2 .ensures) in
     let count-given = (let p : tie.After-count = search in p .count .given) in
-    (group-at (sym (count-given .1) ∙ read-group2-ensures) .within, omega arith, zeros-length words _ (start .pre))
+    (group-at (sym (count-given .1) ∙ read-group2-ensures) .within, omega (arith, zeros-length words _ (start .pre)))
 
 enum-known-past : tie.Need-enum-known-past
 enum-known-past c = search needs

@@ -7,9 +7,9 @@ use borrow.Author.Tests.{not-true, not-false}
 use Rattle.model.specs.Lists.{keep, tab}
 use Rattle.model.specs.Cells.{faces, start-of}
 use Rattle.model.specs.Image.{column}
-use Rattle.cells.proofs.StartLaws.{in-order-few, count-skip, count-one, count-all}
+use Rattle.cells.proofs.StartLaws.{count-skip, count-one, count-all}
 use Rattle.tally.specs.Tally.{critical-at}
-use Rattle.tally.proofs.CriticalFaces.{first-dart}
+use Rattle.tally.proofs.CriticalFaces.{order-few, first-dart}
 use native.Mathlib.Omega.{arith}
 use Rattle.tally.proofs.critical.count_critical.Statement.{statement}
 use Rattle.tally.proofs.critical.count_critical.Tie as tie
@@ -29,40 +29,40 @@ loop-holds c =
 mul-i : tie.Need-mul-i Inv-loop μ-loop
 mul-i c =
     let start : tie.Start Inv-loop μ-loop = search in
-    omega (arith, c .loop-test .taken, in-order-few (start .pre .1) .1)
+    omega (arith, c .loop-test .taken, order-few (start .pre .0) (start .pre .1) .1, start .pre .0 .few)
 
 shared-slice-read-i : tie.Need-shared-slice-read-i Inv-loop μ-loop
 shared-slice-read-i c =
     let start : tie.Start Inv-loop μ-loop = search in
     let loop-test-taken = (let p : tie.In-loop Inv-loop μ-loop = search in p .loop-test .taken) in
-    omega (arith, loop-test-taken, in-order-few (start .pre .1) .1, start .pre .1 .starts-size)
+    omega (arith, loop-test-taken, order-few (start .pre .0) (start .pre .1) .1, start .pre .0 .few, start .pre .1 .starts-size)
 
 mul-p : tie.Need-mul-p Inv-loop μ-loop
 mul-p c =
     let start : tie.Start Inv-loop μ-loop = search in
     let loop-f = (let p : tie.At-loop Inv-loop μ-loop = search in p .loop .f) in
     let loop-test-taken = (let p : tie.In-loop Inv-loop μ-loop = search in p .loop-test .taken) in
-    omega (arith, first-dart (start .pre .0) (start .pre .1) loop-f loop-test-taken .0, in-order-few (start .pre .1) .0)
+    omega (arith, first-dart (start .pre .0) (start .pre .1) loop-f loop-test-taken .0, order-few (start .pre .0) (start .pre .1) .0, start .pre .0 .few)
 
 shared-slice-read-p : tie.Need-shared-slice-read-p Inv-loop μ-loop
 shared-slice-read-p c =
     let start : tie.Start Inv-loop μ-loop = search in
     let loop-f = (let p : tie.At-loop Inv-loop μ-loop = search in p .loop .f) in
     let loop-test-taken = (let p : tie.In-loop Inv-loop μ-loop = search in p .loop-test .taken) in
-    omega (arith, first-dart (start .pre .0) (start .pre .1) loop-f loop-test-taken .0, in-order-few (start .pre .1) .0, start .pre .1 .out-size)
+    omega (arith, first-dart (start .pre .0) (start .pre .1) loop-f loop-test-taken .0, order-few (start .pre .0) (start .pre .1) .0, start .pre .0 .few, start .pre .1 .out-size)
 
 add-f : tie.Need-add-f Inv-loop μ-loop
 add-f c =
     let start : tie.Start Inv-loop μ-loop = search in
     let loop-test-taken = (let p : tie.In-loop Inv-loop μ-loop = search in p .loop-test .taken) in
-    omega (arith, loop-test-taken, in-order-few (start .pre .1) .1)
+    omega (arith, loop-test-taken, order-few (start .pre .0) (start .pre .1) .1, start .pre .0 .few)
 
 is-critical-requires : tie.Need-is-critical-requires Inv-loop μ-loop
 is-critical-requires c κs =
     let start : tie.Start Inv-loop μ-loop = search in
     let loop-f = (let p : tie.At-loop Inv-loop μ-loop = search in p .loop .f) in
     let loop-test-taken = (let p : tie.In-loop Inv-loop μ-loop = search in p .loop-test .taken) in
-    (omega (arith, first-dart (start .pre .0) (start .pre .1) loop-f loop-test-taken .2, start .pre .0 .few), start .pre .0 .size)
+    omega (arith, first-dart (start .pre .0) (start .pre .1) loop-f loop-test-taken .2, start .pre .0 .size)
 
 loop-less : tie.Need-loop-less Inv-loop μ-loop
 loop-less c =
@@ -90,7 +90,7 @@ add-critical c =
     let start : tie.Start Inv-loop μ-loop = search in
     let loop-inv = (let p : tie.At-loop Inv-loop μ-loop = search in p .loop .inv) in
     let loop-test-taken = (let p : tie.In-loop Inv-loop μ-loop = search in p .loop-test .taken) in
-    omega (arith, loop-inv .1, loop-test-taken, in-order-few (start .pre .1) .1)
+    omega (arith, loop-inv .1, loop-test-taken, order-few (start .pre .0) (start .pre .1) .1, start .pre .0 .few)
 
 loop-less-2 : tie.Need-loop-less-2 Inv-loop μ-loop
 loop-less-2 c =

@@ -1,10 +1,11 @@
 -- `tally::critical::critical_faces` meets its contract: with every place marked, message order has all faces of the block. Assumes nothing.
 use mathlib.Core.Path.{refl, _∙_}
 use Prim.Native.Nat.{ℕ}
-use lib.ListN.{getD, length-replicate}
+use lib.ListN.{getD}
 use Rattle.model.specs.Values.{room}
 use Rattle.cells.proofs.Sited.{sited}
-use Rattle.tally.proofs.CriticalFaces.{all-closed, all-count, order-all, critical-count}
+use Rattle.cells.proofs.Resets.{zeros-clear, zeros-long}
+use Rattle.tally.proofs.CriticalFaces.{ones-long, all-closed, all-count, order-all, critical-count}
 use native.Mathlib.Omega.{arith}
 use borrow.Author.Needs.{needs}
 use Rattle.tally.proofs.critical.critical_faces.Statement.{statement}
@@ -33,8 +34,11 @@ scanned-order-requires c κs =
     let m = start .args .block .now in
     let ok = start .pre in
     let linked = sited m ok .linked in (
-      (linked, length-replicate {A = ℕ} room 1, all-closed linked, all-count (getD m 2 0) (linked .few)),
-      ((omega arith, λ q h one. omega arith), (length-replicate {A = ℕ} room 0, length-replicate {A = ℕ} room 0, refl)),
+      (linked, ones-long (linked .few), all-closed linked, all-count (getD m 2 0) (linked .few)),
+      (
+        (omega arith, λ q h one. omega arith),
+        (zeros-long _ room refl (linked .few), zeros-long _ room refl (linked .few), zeros-long _ room refl (linked .few), zeros-clear room refl),
+      ),
     )
 
 slice-aggregate-count-critical : tie.Need-slice-aggregate-count-critical

@@ -44,7 +44,7 @@ enter-requires-2 c κs =
 third-link-requires : tie.Need-third-link-requires
 third-link-requires c κs =
     let start : tie.Start = search in
-    (omega (arith, start .pre .0 .linked .few), start .pre .0 .linked .size)
+    omega (arith, start .pre .1, start .pre .0 .linked .size)
 
 enter-requires-3 : tie.Need-enter-requires-3
 enter-requires-3 c κs =

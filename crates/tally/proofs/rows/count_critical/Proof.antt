@@ -26,7 +26,7 @@ start-at-requires : tie.Need-start-at-requires Inv-loop μ-loop
 start-at-requires c κs =
     let start : tie.Start Inv-loop μ-loop = search in
     let s = start .pre .1 .0 in
-    (omega (arith, s .few), s .len-starts, s .len-out, s .index-below _ (c .loop-test .taken))
+    (omega (arith, s .few), omega (arith, s .starts-there), s .index-below _ (c .loop-test .taken), s .index-there _ (c .loop-test .taken))
 
 add-f : tie.Need-add-f Inv-loop μ-loop
 add-f c =
@@ -40,7 +40,7 @@ is-critical-requires c κs =
     let loop-known = (let p : tie.At-loop Inv-loop μ-loop = search in p .loop) in
     let loop-test-known = (let p : tie.In-loop Inv-loop μ-loop = search in p .loop-test) in
     let below = face-below (start .pre .1 .0) (loop-known .inv) (loop-test-known .taken) (c .start-at .ensures) in
-    (omega (arith, start .pre .0 .0 .few), start .pre .0 .0 .size)
+    omega (arith, start .pre .0 .0 .size)
 
 loop-less : tie.Need-loop-less Inv-loop μ-loop
 loop-less c =
@@ -63,7 +63,7 @@ border-word-requires c κs =
     let loop-test-known = (let p : tie.In-loop Inv-loop μ-loop = search in p .loop-test) in
     let start-at-known = (let p : tie.After-start-at Inv-loop μ-loop = search in p .start-at) in
     let below = face-below (start .pre .1 .0) (loop-known .inv) (loop-test-known .taken) (start-at-known .ensures) in
-    (omega (arith, start .pre .0 .0 .few), start .pre .0 .0 .size)
+    omega (arith, start .pre .0 .0 .size)
 
 word-at-requires : tie.Need-word-at-requires Inv-loop μ-loop
 word-at-requires c κs =

@@ -24,7 +24,7 @@ loop-holds c =
 start-at-requires : tie.Need-start-at-requires Inv-loop μ-loop
 start-at-requires c κs =
     let start : tie.Start Inv-loop μ-loop = search in
-    (omega (arith, start .pre .1 .few), start .pre .1 .len-starts, start .pre .1 .len-out, start .pre .1 .index-below _ (c .loop-test .taken))
+    (omega (arith, start .pre .1 .few), omega (arith, start .pre .1 .starts-there), start .pre .1 .index-below _ (c .loop-test .taken), start .pre .1 .index-there _ (c .loop-test .taken))
 
 word-at-requires : tie.Need-word-at-requires Inv-loop μ-loop
 word-at-requires c κs =

@@ -1,10 +1,11 @@
 -- `tally::rows::tell_faces` meets its contract: message order of all places has every face, and each counts by its start. Assumes nothing.
 use mathlib.Core.Path.{refl}
 use Prim.Native.Nat.{ℕ}
-use lib.ListN.{getD, length-replicate}
+use lib.ListN.{getD}
 use Rattle.model.specs.Values.{room}
 use Rattle.cells.proofs.Sited.{sited}
-use Rattle.tally.proofs.CriticalFaces.{all-closed, all-count, order-all}
+use Rattle.cells.proofs.Resets.{zeros-clear, zeros-long}
+use Rattle.tally.proofs.CriticalFaces.{ones-long, all-closed, all-count, order-all}
 use Rattle.tally.proofs.RowLaws.{countable-after, countable-more, faces-counted, started, starts-few, bordering}
 use native.Mathlib.Omega.{arith}
 use borrow.Author.Needs.{needs}
@@ -33,8 +34,11 @@ scanned-order-requires c κs =
     let start : tie.Start = search in
     let m = start .args .block .now in
     let linked = sited m (start .pre .0) .linked in (
-      (linked, length-replicate {A = ℕ} room 1, all-closed linked, all-count (getD m 2 0) (linked .few)),
-      ((omega arith, λ q h one. omega arith), (length-replicate {A = ℕ} room 0, length-replicate {A = ℕ} room 0, refl)),
+      (linked, ones-long (linked .few), all-closed linked, all-count (getD m 2 0) (linked .few)),
+      (
+        (omega arith, λ q h one. omega arith),
+        (zeros-long _ room refl (linked .few), zeros-long _ room refl (linked .few), zeros-long _ room refl (linked .few), zeros-clear room refl),
+      ),
     )
 
 slice-aggregate-count-faces : tie.Need-slice-aggregate-count-faces
