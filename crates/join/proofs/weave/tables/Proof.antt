@@ -32,7 +32,10 @@ sub-t : tie.Need-sub-t Inv-loop μ-loop
 sub-t c = search needs
 
 last-is-old-requires : tie.Need-last-is-old-requires Inv-loop μ-loop
-last-is-old-requires c κs = search needs
+last-is-old-requires c κs =
+    let start : tie.Start Inv-loop μ-loop = search in
+    let loop-inv = (let p : tie.At-loop Inv-loop μ-loop = search in p .loop .inv) in
+    (omega (arith, loop-inv .i-le, start .pre .0 .block .size), omega (arith, loop-inv .j-le, start .pre .0 .draft .size))
 
 sub-p : tie.Need-sub-p Inv-loop μ-loop
 sub-p c =
