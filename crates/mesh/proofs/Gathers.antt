@@ -14,12 +14,13 @@ use Rattle.laws.proofs.Members.{map-append}
 use Rattle.laws.proofs.Maps.{tab-more}
 use Rattle.laws.proofs.Tables.{all-tab, length-tab}
 use Rattle.memory.proofs.Lookups.{serials-tab}
-use Rattle.model.specs.Lists.{all, tab, same-list, distinct}
+use Rattle.model.specs.Lists.{all, tab, distinct}
 use Rattle.model.specs.Values.{Dart, Block, room}
 use Rattle.model.specs.Cells.{serials}
 use Rattle.model.specs.Sound.{all-darts, blocks-right, serials-distinct}
-use Rattle.model.specs.Image.{words, column, image, block-in, holds-block}
+use Rattle.model.specs.Image.{words-for, words, count-in, column, block-in, holds-block}
 use Rattle.model.specs.Calls.{memories, mesh-lent, scratch-entries}
+use Rattle.columns.proofs.Question.{image-passed}
 use Rattle.mesh.specs.Parts.{blocks, part, Roomy, serials-of, gathered, Put}
 use Rattle.mesh.proofs.Parts.{mesh-tab}
 
@@ -75,18 +76,24 @@ module _ {block out₀ : List ℕ} {at : ℕ} {out : List ℕ} {i : ℕ} (w : Pu
 
 -- a block that is a part of a mesh
 module _ (m : List ℕ) (i : ℕ) {b : List ℕ} (is : b ≡ part m i) (held : i < blocks m) (roomy : Roomy m) where
-  pub part-small : (length b ≡ words) × (getD b 2 0 ≤ room)
-  part-small = (ap length is ∙ part-length m i held, subst (λ (x : List ℕ). getD x 2 0 ≤ room) (sym is) (roomy i held))
+  part-few : count-in b ≤ room
+  part-few = subst (λ (x : List ℕ). count-in x ≤ room) (sym is) (roomy i held)
 
-  pub part-asked : (at : ℕ) {n : ℕ} → at + room ≤ n → (length b ≡ words) × (getD b 2 0 ≤ room) × (at + getD b 2 0 ≤ n)
-  part-asked at {n} h = (part-small .0, part-small .1, fits (part-small .1) h)
+  pub part-small : words-for (count-in b) ≤ length b
+  part-small = within (ap length is ∙ part-length m i held) part-few
+    where
+      within : {k n : ℕ} → n ≡ words → k ≤ room → words-for k ≤ n
+      within e h = omega arith
+
+  pub part-asked : (at : ℕ) {n : ℕ} → at + room ≤ n → (words-for (count-in b) ≤ length b) × (at + count-in b ≤ n)
+  part-asked at {n} h = (part-small, fits part-few h)
     where
       fits : {k : ℕ} → k ≤ 4096 → at + 4096 ≤ n → at + k ≤ n
       fits a c = omega arith
 
   pub part-told : {at r : ℕ} {before after : List ℕ} → r ≡ at + getD b 2 0 → Put at (serials-of b) before after r
       → (r ≤ at + room) × Put at (serials-of (part m i)) before after r
-  part-told {at} {r} {before} {after} e p = (below (part-small .1) e, subst (λ (x : List ℕ). Put at (serials-of x) before after r) is p)
+  part-told {at} {r} {before} {after} e p = (below part-few e, subst (λ (x : List ℕ). Put at (serials-of x) before after r) is p)
     where
       below : {k : ℕ} → k ≤ 4096 → r ≡ at + k → r ≤ at + 4096
       below a c = omega arith
@@ -200,12 +207,8 @@ gathered-all m = ap distinct (gathered-is m (blocks m) ∙ ap (λ (l : List Bloc
 
 -- WHAT WAS ASKED before gives the room
 pub roomy : (m : List ℕ) → all (λ b. holds-block b) (memories m) ≡ true → Roomy m
-unfolding memories is-image
-roomy m e i h =
-    leb-true _ _
-    (and-left (leb (getD (part m i) 2 0) room) _
-    (and-left (leb (getD (part m i) 2 0) room && same-list (image (block-in (part m i))) (part m i)) _
-    (all-tab (λ b. holds-block b) (part m) (length m / words) e i h)))
+unfolding memories
+roomy m e i h = image-passed (part m i) (all-tab (λ b. holds-block b) (part m) (length m / words) e i h) .range .few
 
 few-tab : (g : ℕ → Block) (n : ℕ) → blocks-right (tab g n) ≡ true → n ≤ 16
 unfolding blocks-right

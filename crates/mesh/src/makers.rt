@@ -3,11 +3,10 @@ ghost use mathlib.Core.Path.{_≡_};
 ghost use mathlib.Core.Bool.{true};
 ghost use mathlib.Core.List.{map};
 ghost use Prim.Native.Nat.{_≤_, _<_};
-ghost use lib.ListN.{length, getD};
+ghost use lib.ListN.{length};
 ghost use Rattle.model.specs.Lists.{all};
-ghost use Rattle.model.specs.Values.{room};
 ghost use Rattle.model.specs.Sound.{makers-right as right-makers};
-ghost use Rattle.model.specs.Image.{words, block-in, holds-block};
+ghost use Rattle.model.specs.Image.{words-for, count-in, block-in, holds-block};
 ghost use Rattle.model.specs.Calls.{memories};
 ghost use Rattle.mesh.specs.Parts.{blocks, part, Roomy, made-test, made-block};
 use memory::header::Header;
@@ -30,7 +29,7 @@ fn made(mesh: &[u64], kind: u64, link: u64) -> bool
 
 // Of all darts of a block.
 fn made_darts(mesh: &[u64], block: &[u64]) -> bool
-    requires { ⌜ (length (now block) ≡ words) × (getD (now block) 2 0 ≤ room) ⌝ }
+    requires { ⌜ words-for (count-in (now block)) ≤ length (now block) ⌝ }
     ensures { λ r. ⌜ r ≡ made-block (now (mesh .entry)) (now (block .entry)) ⌝ }
 {
     let n = block[2] as usize;

@@ -4,11 +4,11 @@ ghost use mathlib.Core.Bool.{true};
 ghost use mathlib.Core.List.{map};
 ghost use Prim.Native.Nat.{_+_, _≤_, _<_};
 ghost use lib.Dec.{eqb};
-ghost use lib.ListN.{length, getD, take, replicate};
+ghost use lib.ListN.{length, take, replicate};
 ghost use Rattle.model.specs.Lists.{all, distinct};
 ghost use Rattle.model.specs.Values.{room};
 ghost use Rattle.model.specs.Sound.{blocks-right, serials-distinct as distinct-serials};
-ghost use Rattle.model.specs.Image.{words, block-in, holds-block};
+ghost use Rattle.model.specs.Image.{words-for, count-in, block-in, holds-block};
 ghost use Rattle.model.specs.Calls.{memories, mesh-lent, scratch-entries};
 ghost use Rattle.mesh.specs.Parts.{blocks, part, Roomy, serials-of, gathered, Put};
 use memory::header::Header;
@@ -17,8 +17,8 @@ use memory::record::Place;
 
 // Puts a block's serials from `at` on; where they end.
 fn put_serials(block: &[u64], out: &mut [u64], at: usize) -> usize
-    requires { ⌜ (length (now block) ≡ words) × (getD (now block) 2 0 ≤ room) × (at + getD (now block) 2 0 ≤ length (now out)) ⌝ }
-    ensures { λ r. ⌜ (r ≡ at + getD (now (block .entry)) 2 0) × Put at (serials-of (now (block .entry))) (now (out .entry)) (now (out .exit)) r ⌝ }
+    requires { ⌜ (words-for (count-in (now block)) ≤ length (now block)) × (at + count-in (now block) ≤ length (now out)) ⌝ }
+    ensures { λ r. ⌜ (r ≡ at + count-in (now (block .entry))) × Put at (serials-of (now (block .entry))) (now (out .entry)) (now (out .exit)) r ⌝ }
 {
     let n = block[2] as usize;
     // The serials of the darts below i are put.

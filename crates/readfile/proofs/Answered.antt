@@ -3,7 +3,8 @@ use mathlib.Core.Path.{_≡_, refl, sym, ap, _∙_}
 use mathlib.Core.Bool.{Bool, true, false, cond, not}
 use mathlib.Core.List.{List, [], _++_}
 use mathlib.Core.Option.{some}
-use Prim.Native.Nat.{ℕ}
+use Prim.Native.Nat.{ℕ, _≤_}
+use native.Mathlib.Omega.{arith}
 use lib.Dec.{eqb}
 use lib.ListN.{length}
 use borrow.Author.Tests.{eq-eqb, ne-eqb, not-true, not-false}
@@ -12,13 +13,13 @@ use Rattle.model.specs.Values.{Block, rack}
 use Rattle.model.specs.Sound.{ranges-right, block-checks}
 use Rattle.model.specs.Layouts.{whole}
 use Rattle.model.specs.Messages.{file}
-use Rattle.model.specs.Image.{words, image, block-in}
+use Rattle.model.specs.Image.{words-for, words, image, block-in}
 use Rattle.model.specs.Calls.{Answer, served, refused, Result, asked, storing, read-file}
 use Rattle.model.specs.Demands.{Bytes}
 use Rattle.theory.proofs.ImageLaws.{ranges-of, image-length}
 use Rattle.answers.specs.Answers.{Gives, answered}
 use Rattle.answers.proofs.Questions.{Asks, gives, ask-no, ask-yes, ask-end, ask-all, ask-first}
-use Rattle.columns.specs.Columns.{Ranged}
+use Rattle.columns.specs.Columns.{count, Ranged}
 use Rattle.columns.proofs.Built.{built}
 use Rattle.readfile.specs.Parts.{ImageRead}
 use Rattle.readfile.proofs.Imaged.{file-ranges, some-block}
@@ -47,20 +48,23 @@ module _ (s m : List ℕ) where
       in-range : ranges-right rack (held .0) ≡ true
       in-range = file-ranges s bytes (held .0) (held .1)
 
-      is-image : x ≡ image (held .0)
+      is-image : x ≡ image words (held .0)
       is-image = w .memory (held .0) (held .1)
 
       pub image-long : length x ≡ words
-      image-long = rw is-image (image-length (held .0) (ranges-of rack (held .0) in-range .few-darts))
+      image-long = rw is-image (image-length words (held .0) (omega (arith, ranges-of rack (held .0) in-range .few-darts)))
 
       pub image-ranged : Ranged x
-      image-ranged = rw is-image (built (held .0) in-range)
+      image-ranged = rw is-image (built words (held .0) in-range)
+
+      pub image-fits : words-for (count x) ≤ length x
+      image-fits = omega (arith, image-long, image-ranged .few)
 
       same : answered (block-checks (block-in x)) ≡ answered (block-checks (held .0))
-      same = ap (λ (y : List ℕ). answered (block-checks (block-in y))) is-image ∙ answered-first (block-checks (block-in (image (held .0)))) (block-checks (held .0)) (same-answers (held .0) in-range)
+      same = ap (λ (y : List ℕ). answered (block-checks (block-in y))) is-image ∙ answered-first (block-checks (block-in (image words (held .0)))) (block-checks (held .0)) (same-answers words (held .0) in-range)
 
       -- the questions before
-      read : {given : Answer (Unit {0})} {lent : List ℕ} → Asks (block-checks (held .0) ++ []) m tt (image (held .0)) given lent → Gives (read-file rack s m) given lent
+      read : {given : Answer (Unit {0})} {lent : List ℕ} → Asks (block-checks (held .0) ++ []) m tt (image words (held .0)) given lent → Gives (read-file rack s m) given lent
       unfolding read-file storing block-checks
       read a = rw (held .1) (gives _ _ _ _ (ask-yes (eq-eqb (length m) words size) (ask-yes refl a)))
 

@@ -19,7 +19,7 @@ use Rattle.model.specs.Cells.{serials}
 use Rattle.model.specs.Sound.{ranges-right}
 use Rattle.model.specs.Layouts.{whole}
 use Rattle.model.specs.Messages.{file}
-use Rattle.model.specs.Image.{words, kind-word, link-word, dart-words, image, column}
+use Rattle.model.specs.Image.{words-for, words, kind-word, link-word, dart-words, image, column}
 use Rattle.model.specs.Demands.{Bytes}
 use Rattle.theory.proofs.LayoutLaws.{whole-only}
 use Rattle.theory.proofs.FileLaws.{file-lawful}
@@ -44,7 +44,7 @@ module _ (b : Block) where
   head = b .number ∷ b .counter ∷ length (b .darts) ∷ 0 ∷ 0 ∷ 0 ∷ 0 ∷ 0 ∷ []
 
   abbrev zeros : List ℕ
-  zeros = replicate ((room - length (b .darts)) * 8) 0
+  zeros = replicate (words - words-for (length (b .darts))) 0
 
   eights : Eights (map raw-words (b .darts))
   eights = map-eights raw-words raw-8 (b .darts)
@@ -91,7 +91,7 @@ module _ (b : Block) where
       (drop-append-add head (concat (map raw-words ds) ++ zeros) (length rows * 8)
       ∙ drop-at (concat (map raw-words ds)) zeros (length rows * 8) (omega (arith, rows-length (map raw-words ds) eights, length-map ds raw-words)))
 
-  pub resolved-raw : resolved (raw b) ≡ image b
+  pub resolved-raw : resolved (raw b) ≡ image words b
   unfolding image
   resolved-raw =
       let rows : tab (place-words (serials-in (raw b)) (raw b)) (getD (raw b) 2 0) ≡ map (dart-words (serials ds)) ds =
@@ -108,7 +108,7 @@ module _ (b : Block) where
     length-append (concat (map raw-words ds)) zeros,
     rows-length (map raw-words ds) eights,
     length-map ds raw-words,
-    length-replicate {A = ℕ} ((room - length ds) * 8) 0,
+    length-replicate {A = ℕ} (words - words-for (length ds)) 0,
   )
 
   pub raw-ascends : ascending (serials (b .darts)) ≡ true → Ascending (getD (raw b) 2 0) (column (raw b) 0)

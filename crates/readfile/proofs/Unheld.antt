@@ -35,34 +35,34 @@ clip-held : (ds : List Dart) (x : ℕ) → held ds x ≡ true → clip ds x ≡ 
 unfolding clip
 clip-held ds x h = rw h refl
 
-module _ (b : Block) where
+module _ (size : ℕ) (b : Block) where
   abbrev ds : List Dart
   ds = b .darts
 
-  clipped-serial : (x : ℕ) → column (image b) 0 (index-of x (serials (b .darts))) ≡ clip (b .darts) x
+  clipped-serial : (x : ℕ) → column (image size b) 0 (index-of x (serials (b .darts))) ≡ clip (b .darts) x
   unfolding clip
   clipped-serial x = by-cases (held ds x)
-      (λ h. rw h (serial-back b x h))
+      (λ h. rw h (serial-back size b x h))
       (λ h. let past : index-of x (serials ds) ≡ length ds = index-absent x (serials ds) h ∙ length-map ds (λ (d : Dart). d .serial) in
-      rw (h, past) (image-rest b (8 + length ds * 8 + 0) (omega arith)))
+      rw (h, past) (image-rest size b (8 + length ds * 8 + 0) (omega arith)))
 
-  clipped-third : (t : Third) → third-in-range t ≡ true → third-in (column (image b) 0) (kind-word t) (link-word (serials (b .darts)) t) ≡ clip-third (b .darts) t
+  clipped-third : (t : Third) → third-in-range t ≡ true → third-in (column (image size b) 0) (kind-word t) (link-word (serials (b .darts)) t) ≡ clip-third (b .darts) t
   unfolding third-in
   clipped-third free r = refl
   clipped-third (sewn y) r = ap sewn (clipped-serial y)
-  clipped-third (critical o l) r = third-back b (critical o l) refl r
+  clipped-third (critical o l) r = third-back size b (critical o l) refl r
 
-  clipped-dart : (p : ℕ) → p < length (b .darts) → third-in-range (getD (b .darts) p no-dart .third) ≡ true → dart-in (image b) p ≡ clip-dart (b .darts) (getD (b .darts) p no-dart)
+  clipped-dart : (p : ℕ) → p < length (b .darts) → third-in-range (getD (b .darts) p no-dart .third) ≡ true → dart-in (image size b) p ≡ clip-dart (b .darts) (getD (b .darts) p no-dart)
   unfolding dart-words
   clipped-dart p h r = rw (
-    column-is b p 0 h (omega arith),
-    column-is b p 1 h (omega arith),
-    column-is b p 2 h (omega arith),
-    column-is b p 3 h (omega arith),
-    column-is b p 4 h (omega arith),
-    column-is b p 5 h (omega arith),
-    column-is b p 6 h (omega arith),
-    column-is b p 7 h (omega arith),
+    column-is size b p 0 h (omega arith),
+    column-is size b p 1 h (omega arith),
+    column-is size b p 2 h (omega arith),
+    column-is size b p 3 h (omega arith),
+    column-is size b p 4 h (omega arith),
+    column-is size b p 5 h (omega arith),
+    column-is size b p 6 h (omega arith),
+    column-is size b p 7 h (omega arith),
     clipped-serial (getD (b .darts) p no-dart .next),
     clipped-serial (getD (b .darts) p no-dart .opposite),
     clipped-third (getD (b .darts) p no-dart .third) r,
@@ -77,11 +77,11 @@ module _ (b : Block) where
   abbrev clipped : List Dart
   clipped = map (clip-dart (b .darts)) (b .darts)
 
-  read-clipped : ranges-right rack b ≡ true → block-in (image b) ≡ record { number = b .number; counter = b .counter; darts = clipped }
+  read-clipped : ranges-right rack b ≡ true → block-in (image size b) ≡ record { number = b .number; counter = b .counter; darts = clipped }
   unfolding image
   read-clipped r =
-      let darts : tab (dart-in (image b)) (length ds) ≡ clipped = ap (tab (dart-in (image b))) (sym (length-map ds (clip-dart ds)))
-      ∙ tab-list no-dart clipped (dart-in (image b)) (λ p h. let k : p < length ds = omega (arith, length-map ds (clip-dart ds)) in
+      let darts : tab (dart-in (image size b)) (length ds) ≡ clipped = ap (tab (dart-in (image size b))) (sym (length-map ds (clip-dart ds)))
+      ∙ tab-list no-dart clipped (dart-in (image size b)) (λ p h. let k : p < length ds = omega (arith, length-map ds (clip-dart ds)) in
       clipped-dart p k (in-range r p k) ∙ sym (map-at (clip-dart ds) no-dart no-dart ds p k)) in
       ap (λ (l : List Dart). record { number = b .number; counter = b .counter; darts = l }) darts
 
@@ -218,13 +218,13 @@ none-zero ds r = by-cases (held ds 0)
     positive : all (λ d. leb 1 (d .serial)) ds ≡ true
     positive = all-weaken dart-in-range (λ d. leb 1 (d .serial)) ds (λ d q. and-left (leb 1 (d .serial)) _ (and-left (leb 1 (d .serial) && ltb (d .serial) serial-bound) _ q)) r
 
-pub same-answers : (b : Block) → ranges-right rack b ≡ true → first-no (block-checks (block-in (image b))) ≡ first-no (block-checks b)
+pub same-answers : (size : ℕ) (b : Block) → ranges-right rack b ≡ true → first-no (block-checks (block-in (image size b))) ≡ first-no (block-checks b)
 unfolding block-checks
-same-answers b r =
+same-answers size b r =
     let ds = b .darts in
     let zero-free = none-zero ds (ranges-of rack b r .each-dart) in
     let back : Block = record { number = b .number; counter = b .counter; darts = map (clip-dart ds) ds } in
-    ap (λ (c : Block). first-no (block-checks c)) (read-clipped b r)
+    ap (λ (c : Block). first-no (block-checks c)) (read-clipped size b r)
     ∙ five-same (coordinates-finite ds) (links-right ds) (thirds-right ds) (labels-right b) (points-agree ds)
     (coordinates-finite (back .darts)) (links-right (back .darts)) (thirds-right (back .darts)) (labels-right back) (points-agree (back .darts))
     (clipped-finite ds) (clipped-links ds zero-free) (clipped-thirds ds zero-free)

@@ -17,7 +17,7 @@ use Rattle.model.specs.Values.{Dart, Block, rack, room}
 use Rattle.model.specs.Cells.{serials}
 use Rattle.model.specs.Layouts.{Layout, Read, then, when, group, _⊗_, _⊕_, as-type, such-that, at-most, get-all, times, counted, ended, at-end, whole}
 use Rattle.model.specs.Messages.{a-dart, file}
-use Rattle.model.specs.Image.{words}
+use Rattle.model.specs.Image.{words-for, words}
 use Rattle.memory.specs.Header.{header-words}
 use Rattle.groups.proofs.Ends.{Ends, Reads, then-some, when-some, same-rest}
 use Rattle.groups.proofs.Labels.{same-value}
@@ -207,8 +207,8 @@ unfolding behind raw
 stored-raw w m b ew em h =
     let l : length (take 8 m) ≡ 8 = length-take-le 8 m (omega (arith, zeros-length w m em)) in
     let rows = map raw-words (b .darts) in
-    let rest : drop (8 + length rows * 8) m ≡ replicate ((room - length (b .darts)) * 8) 0 =
-    ap (drop (8 + length rows * 8)) em ∙ drop-zeros (8 + length rows * 8) ((room - length (b .darts)) * 8) w (omega (arith, length-map (b .darts) raw-words)) in
+    let rest : drop (8 + length rows * 8) m ≡ replicate (words - words-for (length (b .darts))) 0 =
+    ap (drop (8 + length rows * 8)) em ∙ drop-zeros (8 + length rows * 8) (words - words-for (length (b .darts))) w (omega (arith, length-map (b .darts) raw-words)) in
     rw (drop-at (take 8 m) (concat rows ++ drop (8 + length rows * 8) m) 8 l, rest) refl
 
 pub raw-served : {s : List ℕ} {number a counter b n c : ℕ} (p : Reads (at-most 15) s 0 number a) (q : Reads group s a counter b) (r : Reads group s b n c)

@@ -11,7 +11,7 @@ use Rattle.model.specs.Values.{Point, Third, Dart, Block, rack}
 use Rattle.model.specs.Cells.{serials}
 use Rattle.model.specs.Layouts.{Layout, _⊗_, as-type, such-that, at-most, times, whole}
 use Rattle.model.specs.Messages.{kind-of, third, point, a-dart, file}
-use Rattle.model.specs.Image.{kind-word, image}
+use Rattle.model.specs.Image.{words, kind-word, image}
 use Rattle.memory.specs.Record.{put}
 use Rattle.groups.specs.declared.Read.{Read}
 use Rattle.groups.specs.declared.Read.the-variants as read
@@ -94,4 +94,4 @@ pub record RawRead (s after : List ℕ) (r : Bool) : Type 0 where
 
 pub record ImageRead (s after : List ℕ) (r : Bool) : Type 0 where
   pub answer : r ≡ is-some (whole (file rack) s)
-  pub memory : (b : Block) → whole (file rack) s ≡ some b → after ≡ image b
+  pub memory : (b : Block) → whole (file rack) s ≡ some b → after ≡ image words b

@@ -5,8 +5,8 @@ use mathlib.Core.List.{List, [], _∷_, _++_, map}
 use Prim.Native.Nat.{ℕ, _+_, _*_, _-_}
 use lib.ListN.{length, take, drop, replicate}
 use Rattle.model.specs.Lists.{concat}
-use Rattle.model.specs.Values.{Third, free, sewn, critical, Dart, Block, code, room}
-use Rattle.model.specs.Image.{kind-word}
+use Rattle.model.specs.Values.{Third, free, sewn, critical, Dart, Block, code}
+use Rattle.model.specs.Image.{words-for, words, kind-word}
 use Rattle.memory.specs.Record.{record-words}
 use Rattle.memory.specs.declared.record.Record.{Record}
 
@@ -33,7 +33,7 @@ raw-words d = record-words (raw-record d)
 
 unfoldable pub raw : Block → List ℕ
 raw b = (b .number ∷ b .counter ∷ length (b .darts) ∷ 0 ∷ 0 ∷ 0 ∷ 0 ∷ 0 ∷ [])
-    ++ (concat (map raw-words (b .darts)) ++ replicate ((room - length (b .darts)) * 8) 0)
+    ++ (concat (map raw-words (b .darts)) ++ replicate (words - words-for (length (b .darts))) 0)
 
 -- rows of eight words stored in memory, from the first place on
 unfoldable pub behind : List ℕ → List (List ℕ) → List ℕ

@@ -1,12 +1,13 @@
 // Reads a block from a file into its memory.
 ghost use mathlib.Core.Path.{_≡_};
+ghost use Prim.Native.Nat.{_≤_};
 ghost use lib.ListN.{length, replicate};
 ghost use Rattle.model.specs.Values.{rack};
 ghost use Rattle.model.specs.Sound.{block-checks};
-ghost use Rattle.model.specs.Image.{words, block-in};
+ghost use Rattle.model.specs.Image.{words-for, words, block-in};
 ghost use Rattle.model.specs.Calls.{read-file};
 ghost use Rattle.answers.specs.Answers.{answer-of, answered, Gives};
-ghost use Rattle.columns.specs.Columns.{Ranged};
+ghost use Rattle.columns.specs.Columns.{count, Ranged};
 ghost use Rattle.readfile.specs.Parts.{ImageRead};
 
 mod dart; // dart.rt: one dart of a file
@@ -31,7 +32,7 @@ fn read_image(file: &[u8], block: &mut [u64]) -> bool
 
 // 4 to 8 of an image.
 fn block_answer(block: &[u64]) -> Answer
-    requires { ⌜ (length (now block) ≡ words) × Ranged (now block) ⌝ }
+    requires { ⌜ (words-for (count (now block)) ≤ length (now block)) × Ranged (now block) ⌝ }
     ensures { λ r. ⌜ answer-of r ≡ answered (block-checks (block-in (now (block .entry)))) ⌝ }
 {
     if !sound::questions::coordinates_finite(block) {

@@ -1,15 +1,14 @@
 -- A sound block's image: each dart's words lead to places, and what they name is in range. Assumes nothing.
-use mathlib.Core.Path.{_≡_, sym, _∙_, ap}
+use mathlib.Core.Path.{_≡_}
 use mathlib.Core.Bool.{true}
 use mathlib.Core.List.{List}
 use Prim.Native.Nat.{ℕ, _%_, _^_, _≤_, _<_}
 use native.Mathlib.Omega.{arith}
 use lib.ListN.{length, getD}
 use borrow.Author.Tests.{eq-eqb, ne-eqb}
-use Rattle.model.specs.Values.{rack, serial-bound, room}
-use Rattle.model.specs.Image.{words, column, dart-in, block-in, holds-block}
-use Rattle.laws.proofs.Tables.{length-tab}
-use Rattle.theory.proofs.ImageLaws.{image-is, image-length}
+use Rattle.model.specs.Values.{widest, serial-bound, room}
+use Rattle.model.specs.Image.{words-for, column, holds-block}
+use Rattle.theory.proofs.ImageLaws.{count-fits}
 use Rattle.columns.specs.Columns.{count, Kind, kind-free, kind-sewn, kind-critical, Ranged, Places, SewnPlaces, Finite}
 use Rattle.columns.proofs.Links.{places}
 use Rattle.columns.proofs.ThirdLinks.{sewn-places}
@@ -49,14 +48,12 @@ module _ (m : List ℕ) (p : ℕ) where
   one-kind (kind-sewn e) h = e
   one-kind (kind-critical e o a) h = absurd (omega arith)
 
-  small-at : length m ≡ words → Ranged m → Places m (count m) → SewnPlaces m (count m) → Finite m (count m) → p < count m → Small m p
+  small-at : words-for (count m) ≤ length m → Ranged m → Places m (count m) → SewnPlaces m (count m) → Finite m (count m) → p < count m → Small m p
   small-at len w g s f h =
       let k = w .kinds p h in
-      let few = w .few in
       let a = g .next-lt p h in
       let b = g .opposite-lt p h in
       record {
-        size = len;
         here = omega arith;
         next-here = omega arith;
         opposite-here = omega arith;
@@ -69,17 +66,15 @@ module _ (m : List ℕ) (p : ℕ) where
       }
 
 module _ (m : List ℕ) (e : holds-block m ≡ true) where
-  pub image-size : length m ≡ words
-  image-size =
-      let i = image-is rack m e .0 in
-      let few = image-passed m e .range .few in
-      sym (ap length i) ∙ image-length (block-in m) (omega (arith, length-tab (dart-in m) (count m)))
+  -- its header is there
+  pub header-here : 8 ≤ length m
+  header-here = omega (arith, count-fits widest m e)
 
   pub image-small : AllSmall m (getD m 2 0)
   image-small =
       let q = image-passed m e in
       let n = count m in
-      record { few = q .range .few; each = λ p h. small-at m p image-size (q .range) (places m n (q .links)) (sewn-places m n (q .thirds)) (q .finite-points) h }
+      record { few = q .range .few; each = λ p h. small-at m p (count-fits widest m e) (q .range) (places m n (q .links)) (sewn-places m n (q .thirds)) (q .finite-points) h }
 
   -- the header's words
   pub number-small : getD m 0 0 < 2 ^ 32

@@ -4,12 +4,12 @@
 use mathlib.Core.Path.{_≡_}
 use mathlib.Core.Bool.{cond}
 use mathlib.Core.List.{List, _++_}
-use Prim.Native.Nat.{ℕ, _/_, _%_, _^_, _<_, _≤_}
+use Prim.Native.Nat.{ℕ, _+_, _/_, _%_, _^_, _<_, _≤_}
 use lib.Dec.{eqb}
 use lib.ListN.{length, getD}
 use Rattle.model.specs.Values.{serial-bound, room}
 use Rattle.model.specs.Layouts.{group, serial, at-most, _⊗_}
-use Rattle.model.specs.Image.{words, column, third-in}
+use Rattle.model.specs.Image.{words-for, column, third-in}
 use Rattle.model.specs.Messages.{kind-of, third}
 use Rattle.memory.specs.Point.{FiniteAt}
 
@@ -37,11 +37,10 @@ pub record ThirdSmall (k a : ℕ) : Type 0 where
   pub sewn-small : k % 4 ≡ 1 → a < serial-bound
 
 pub record Small (m : List ℕ) (p : ℕ) : Type 0 where
-  pub size : length m ≡ words
-  pub here : p < room
-  pub next-here : column m 1 p < room
-  pub opposite-here : column m 2 p < room
-  pub sewn-here : column m 3 p % 4 ≡ 1 → column m 4 p < room
+  pub here : words-for (p + 1) ≤ length m
+  pub next-here : words-for (column m 1 p + 1) ≤ length m
+  pub opposite-here : words-for (column m 2 p + 1) ≤ length m
+  pub sewn-here : column m 3 p % 4 ≡ 1 → words-for (column m 4 p + 1) ≤ length m
   pub serial-small : column m 0 p < serial-bound
   pub next-small : column m 0 (column m 1 p) < serial-bound
   pub opposite-small : column m 0 (column m 2 p) < serial-bound

@@ -1,16 +1,15 @@
 // What the links of the dart at a place name: memory has places, a file and a listing have serials.
 ghost use mathlib.Core.Path.{_≡_};
-ghost use Prim.Native.Nat.{_<_, _^_};
+ghost use Prim.Native.Nat.{_+_, _≤_, _<_, _^_};
 ghost use lib.ListN.{length};
-ghost use Rattle.model.specs.Image.{words, column};
-ghost use Rattle.model.specs.Values.{room};
+ghost use Rattle.model.specs.Image.{words-for, column};
 ghost use Rattle.savefile.specs.Named.{Small, third-named};
 use memory::record;
 use memory::record::Place;
 
 // The serial of the dart whose place is word f of the dart at place p.
 pub fn serial_along(block: &[u64], p: Place, f: usize) -> u64
-    requires { ⌜ (p .0 < room) × (f < 8) × (length (now block) ≡ words) × (column (now block) f (p .0) < room) ⌝ }
+    requires { ⌜ (words-for (p .0 + 1) ≤ length (now block)) × (f < 8) × (words-for (column (now block) f (p .0) + 1) ≤ length (now block)) ⌝ }
     ensures { λ r. ⌜ r ≡ column (now (block .entry)) 0 (column (now (block .entry)) f (p .0)) ⌝ }
 {
     let q = record::field(block, p, f) as usize;

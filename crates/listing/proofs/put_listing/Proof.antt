@@ -1,7 +1,7 @@
 -- `listing::put_listing` meets its contract: the block's line and the lines of the darts, one stored after the other.
 -- Assumes nothing.
 use Rattle.groups.proofs.Writing.{stored-then}
-use Rattle.savefile.proofs.Sizes.{image-size, image-small, count-small}
+use Rattle.savefile.proofs.Sizes.{header-here, image-small, count-small}
 use Rattle.listing.proofs.Copies.{stored-past, printed}
 use Rattle.listing.proofs.LineTexts.{header-short, listing-parts, listing-short}
 use native.Mathlib.Omega.{arith}
@@ -17,7 +17,7 @@ put-header-requires c κs =
 shared-slice-read-put-darts : tie.Need-shared-slice-read-put-darts
 shared-slice-read-put-darts c =
     let start : tie.Start = search in
-    omega (arith, image-size (start .args .block .now) (start .pre .0))
+    omega (arith, header-here (start .args .block .now) (start .pre .0))
 
 put-darts-requires : tie.Need-put-darts-requires
 put-darts-requires c κs =

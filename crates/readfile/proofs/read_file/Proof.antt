@@ -3,7 +3,7 @@
 use mathlib.Core.Path.{refl, sym, ap, _∙_}
 use Rattle.answers.specs.Answers.{answer-of}
 use Rattle.readfile.proofs.Imaged.{bytes-are}
-use Rattle.readfile.proofs.Answered.{size-refused, layout-refused, image-long, image-ranged, block-refused, block-served}
+use Rattle.readfile.proofs.Answered.{size-refused, layout-refused, image-long, image-fits, image-ranged, block-refused, block-served}
 use borrow.Author.Needs.{needs}
 use Rattle.readfile.proofs.read_file.Statement.{statement}
 use Rattle.readfile.proofs.read_file.Tie as tie
@@ -35,7 +35,7 @@ block-answer-requires c κs =
     let if1-left = (let p : tie.Else1 = search in p .if1 .left) in
     let read-image-ensures = (let p : tie.After-read-image = search in p .read-image .ensures) in
     let if2-left = (let p : tie.Else2 = search in p .if2 .left) in (
-      image-long _ (start .args .block .now) if1-left read-image-ensures if2-left (bytes-are (start .args .file .now) (λ i. shared-slice-known-given i .fits)),
+      image-fits _ (start .args .block .now) if1-left read-image-ensures if2-left (bytes-are (start .args .file .now) (λ i. shared-slice-known-given i .fits)),
       image-ranged _ (start .args .block .now) if1-left read-image-ensures if2-left (bytes-are (start .args .file .now) (λ i. shared-slice-known-given i .fits)),
     )
 

@@ -2,7 +2,7 @@
 -- Assumes nothing.
 use Rattle.model.specs.Listing.{bytes}
 use Rattle.groups.proofs.Writing.{stored-then}
-use Rattle.savefile.proofs.Sizes.{image-size, number-small, counter-small, count-small}
+use Rattle.savefile.proofs.Sizes.{header-here, number-small, counter-small, count-small}
 use Rattle.listing.proofs.Copies.{stored-past}
 use Rattle.listing.proofs.LineTexts.{block-short, count-short, counter-short, header-parts}
 use native.Mathlib.Omega.{arith}
@@ -19,7 +19,7 @@ put-text-requires c κs = search needs
 shared-slice-read-put-decimal : tie.Need-shared-slice-read-put-decimal
 shared-slice-read-put-decimal c =
     let start : tie.Start = search in
-    omega (arith, image-size (start .args .block .now) (start .pre .0))
+    omega (arith, header-here (start .args .block .now) (start .pre .0))
 
 put-decimal-requires : tie.Need-put-decimal-requires
 put-decimal-requires c κs =
@@ -43,7 +43,7 @@ put-text-requires-2 c κs =
 shared-slice-read-put-decimal-2 : tie.Need-shared-slice-read-put-decimal-2
 shared-slice-read-put-decimal-2 c =
     let start : tie.Start = search in
-    omega (arith, image-size (start .args .block .now) (start .pre .0))
+    omega (arith, header-here (start .args .block .now) (start .pre .0))
 
 put-decimal-requires-2 : tie.Need-put-decimal-requires-2
 put-decimal-requires-2 c κs =
@@ -76,7 +76,7 @@ shared-slice-read-put-number : tie.Need-shared-slice-read-put-number
 shared-slice-read-put-number c =
     let c : tie.After-put-decimal-arg = search in
     let start : tie.Start = search in
-    omega (arith, image-size (start .args .block .now) (start .pre .0))
+    omega (arith, header-here (start .args .block .now) (start .pre .0))
 
 put-number-requires : tie.Need-put-number-requires
 put-number-requires c κs =

@@ -45,7 +45,7 @@ loop-again c =
     let start : tie.Start Inv-loop μ-loop = search in
     let loop-inv = (let p : tie.At-loop Inv-loop μ-loop = search in p .loop .inv) in
     let loop-test-taken = (let p : tie.In-loop Inv-loop μ-loop = search in p .loop-test .taken) in
-    putting-more loop-inv loop-test-taken (start .pre .2) (c .field .ensures)
+    putting-more loop-inv loop-test-taken (start .pre .1) (c .field .ensures)
 
 add-result : tie.Need-add-result Inv-loop μ-loop
 add-result c = search needs

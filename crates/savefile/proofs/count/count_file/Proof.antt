@@ -1,6 +1,6 @@
 -- `savefile::count::count_file` meets its contract: the counts of header and darts.
 -- Assumes nothing.
-use Rattle.savefile.proofs.Sizes.{image-size, image-small, number-small, counter-small, count-small}
+use Rattle.savefile.proofs.Sizes.{header-here, image-small, number-small, counter-small, count-small}
 use Rattle.savefile.proofs.WholeFile.{FileCounted, file-counted}
 use native.Mathlib.Omega.{arith}
 use borrow.Author.Needs.{needs}
@@ -10,7 +10,7 @@ use Rattle.savefile.proofs.count.count_file.Tie as tie
 shared-slice-read-narrow : tie.Need-shared-slice-read-narrow
 shared-slice-read-narrow c =
     let start : tie.Start = search in
-    omega (arith, image-size (start .args .block .now) (start .pre))
+    omega (arith, header-here (start .args .block .now) (start .pre))
 
 narrow-requires : tie.Need-narrow-requires
 narrow-requires c κs =
@@ -23,7 +23,7 @@ group-count-requires c κs = search needs
 shared-slice-read-narrow-2 : tie.Need-shared-slice-read-narrow-2
 shared-slice-read-narrow-2 c =
     let start : tie.Start = search in
-    omega (arith, image-size (start .args .block .now) (start .pre))
+    omega (arith, header-here (start .args .block .now) (start .pre))
 
 narrow-requires-2 : tie.Need-narrow-requires-2
 narrow-requires-2 c κs =
@@ -36,7 +36,7 @@ group-count-requires-2 c κs = search needs
 shared-slice-read-narrow-3 : tie.Need-shared-slice-read-narrow-3
 shared-slice-read-narrow-3 c =
     let start : tie.Start = search in
-    omega (arith, image-size (start .args .block .now) (start .pre))
+    omega (arith, header-here (start .args .block .now) (start .pre))
 
 narrow-requires-3 : tie.Need-narrow-requires-3
 narrow-requires-3 c κs =
@@ -49,7 +49,7 @@ group-count-requires-3 c κs = search needs
 shared-slice-read-count-darts : tie.Need-shared-slice-read-count-darts
 shared-slice-read-count-darts c =
     let start : tie.Start = search in
-    omega (arith, image-size (start .args .block .now) (start .pre))
+    omega (arith, header-here (start .args .block .now) (start .pre))
 
 count-darts-requires : tie.Need-count-darts-requires
 count-darts-requires c κs =

@@ -15,7 +15,7 @@ serial-along-requires c κs =
     let start : tie.Start = search in
     let field-ensures = (let p : tie.After-field = search in p .field .ensures) in
     let h = start .pre .sewn-here (rw field-ensures at (c .if1 .taken)) in
-    (start .pre .here, omega arith, start .pre .size, h)
+    (start .pre .here, omega arith, h)
 
 returns : tie.Need-returns
 returns c =

@@ -2,7 +2,7 @@
 -- Assumes nothing.
 use Rattle.groups.proofs.Writing.{stored-then, stored-length}
 use Rattle.savefile.proofs.FileBytes.{file-put}
-use Rattle.savefile.proofs.Sizes.{image-size, image-small}
+use Rattle.savefile.proofs.Sizes.{header-here, image-small}
 use Rattle.savefile.proofs.WholeFile.{file-length}
 use native.Mathlib.Omega.{arith}
 use borrow.Author.Needs.{needs}
@@ -17,7 +17,7 @@ put-header-requires c κs =
 shared-slice-read-put-darts : tie.Need-shared-slice-read-put-darts
 shared-slice-read-put-darts c =
     let start : tie.Start = search in
-    omega (arith, image-size (start .args .block .now) (start .pre .0))
+    omega (arith, header-here (start .args .block .now) (start .pre .0))
 
 put-darts-requires : tie.Need-put-darts-requires
 put-darts-requires c κs =

@@ -3,7 +3,7 @@
 use Rattle.groups.proofs.Writing.{stored-then, stored-length}
 use Rattle.savefile.specs.Named.{header-bytes}
 use Rattle.savefile.proofs.FileBytes.{header-length}
-use Rattle.savefile.proofs.Sizes.{image-size, number-small, counter-small, count-small}
+use Rattle.savefile.proofs.Sizes.{header-here, number-small, counter-small, count-small}
 use native.Mathlib.Omega.{arith}
 use borrow.Author.Needs.{needs}
 use Rattle.savefile.proofs.put.put_header.Statement.{statement}
@@ -12,7 +12,7 @@ use Rattle.savefile.proofs.put.put_header.Tie as tie
 shared-slice-read-narrow : tie.Need-shared-slice-read-narrow
 shared-slice-read-narrow c =
     let start : tie.Start = search in
-    omega (arith, image-size (start .args .block .now) (start .pre .0))
+    omega (arith, header-here (start .args .block .now) (start .pre .0))
 
 narrow-requires : tie.Need-narrow-requires
 narrow-requires c κs =
@@ -27,7 +27,7 @@ put-group-requires c κs =
 shared-slice-read-narrow-2 : tie.Need-shared-slice-read-narrow-2
 shared-slice-read-narrow-2 c =
     let start : tie.Start = search in
-    omega (arith, image-size (start .args .block .now) (start .pre .0))
+    omega (arith, header-here (start .args .block .now) (start .pre .0))
 
 narrow-requires-2 : tie.Need-narrow-requires-2
 narrow-requires-2 c κs =
@@ -45,7 +45,7 @@ put-group-requires-2 c κs =
 shared-slice-read-narrow-3 : tie.Need-shared-slice-read-narrow-3
 shared-slice-read-narrow-3 c =
     let start : tie.Start = search in
-    omega (arith, image-size (start .args .block .now) (start .pre .0))
+    omega (arith, header-here (start .args .block .now) (start .pre .0))
 
 narrow-requires-3 : tie.Need-narrow-requires-3
 narrow-requires-3 c κs =
