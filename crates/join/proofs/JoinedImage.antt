@@ -77,7 +77,8 @@ module _ {m c w kinds links ranks old new x : List ℕ} {n k : ℕ} {ls : List L
       (λ j u d g. let b = at .new-lt (getD ranks j 0) (by .rank-below j u) in omega (arith, b, g, h))
       (λ j u d g. let b = at .old-lt (getD links j 0) (ln .link-below j u d) in omega (arith, b, g, h))
 
-  module _ (ranged : Ranged w) (size : words-for (n + k) ≤ length w) (count : getD w 2 0 ≡ n + k) (places : Places w (n + k)) (sewn-in : (t : ℕ) → t < n + k → column w 3 t ≡ 1 → column w 4 t < n + k) where
+  module _ (ranged : Ranged w) (size : words-for (n + k) ≤ length w) (count : getD w 2 0 ≡ n + k) (places : Places w (n + k))
+      (sewn-in : (t : ℕ) → t < n + k → column w 3 t ≡ 1 → column w 4 t < n + k) where
     count-now : getD y 2 0 ≡ n + k
     count-now = sew .head 2 (omega arith) ∙ count
 

@@ -49,7 +49,8 @@ module _ {v x b z keys ranks q s : List ℕ} {from k : ℕ} {c : List ℕ} (d : 
   }
 
   -- beside a block that holds none of its serials
-  module _ (m : List ℕ) (size : length m ≡ words) (ok : holds-block m ≡ true) (absent : (p i : ℕ) → p < count-in m → i < k → column m 0 p ≡ getD x i 0 → ⊥) (fit : count-in m + k ≤ room) where
+  module _ (m : List ℕ) (size : length m ≡ words) (ok : holds-block m ≡ true)
+      (absent : (p i : ℕ) → p < count-in m → i < k → column m 0 p ≡ getD x i 0 → ⊥) (fit : count-in m + k ≤ room) where
     pub weaves : Drafted m c (count-in m) (count-in c)
     weaves = drafted m c ok (sited d .linked) (sited d .ascends)
         (λ p h. indexed .free p (omega (arith, h, d .drafted .count-is)))
@@ -96,7 +97,8 @@ module _ {v x b z keys ranks q s : List ℕ} {from k : ℕ} {c : List ℕ} (d : 
           ∙ woven-image weaves order order-once order-size order-low
 
       woven-sound : holds-block w ≡ true
-      woven-sound = subst (λ (l : List ℕ). holds-block l ≡ true) woven-is (is-image-of rack (length m) (record { number = getD m 0 0; counter = getD m 1 0; darts = all-darts }) (omega (arith, size))
+      woven-sound = subst (λ (l : List ℕ). holds-block l ≡ true) woven-is
+          (is-image-of rack (length m) (record { number = getD m 0 0; counter = getD m 1 0; darts = all-darts }) (omega (arith, size))
           (unlinked-sound rack (block-in m) t (omega arith) (image-is rack m ok .1) (fits t fine) (passed rack (block-in m) t yes)))
 
       darts-woven : tab (dart-in w) (count-in m + count-in c) ≡ all-darts

@@ -1,7 +1,6 @@
 -- `join::weave::merge` meets its contract. The loop's invariant: what is left to weave, and what stands behind it, is the whole.
 -- The measure is what is left of both. Assumes nothing.
-use Prim.Native.Nat.{_+_, _-_}
-use mathlib.Core.Path.{_∙_}
+use Prim.Native.Nat.{_+_}
 use Rattle.join.proofs.Weaving.{Weaving, weaving-start, weaving-end, old-left, new-left, old-fits, new-fits, old-turn, new-turn}
 use native.Mathlib.Omega.{arith}
 use borrow.Author.Needs.{needs}

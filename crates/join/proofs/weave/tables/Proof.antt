@@ -1,6 +1,6 @@
 -- `join::weave::tables` meets its contract. The loop's invariant: the darts from i and j on have their places.
 -- The measure is what is left of both. Assumes nothing.
-use Prim.Native.Nat.{_+_, _-_}
+use Prim.Native.Nat.{_+_}
 use mathlib.Core.Path.{sym, _∙_}
 use Rattle.model.specs.Image.{column}
 use Rattle.join.proofs.Weaving.{Placing, placing-start, place-old, place-new, placing-end, last-yes, last-no}
