@@ -6,7 +6,7 @@ use Prim.Native.Nat.{ℕ, _+_, _*_, _-_, _≤_, _<_}
 use native.Mathlib.Omega.{arith}
 use lib.ListN.{length, getD, drop, set, length-set}
 use lib.Seq.{getD-set-same, getD-set-other}
-use Rattle.model.specs.Image.{words, column}
+use Rattle.model.specs.Image.{words-for, column}
 use Rattle.laws.proofs.Tests.{last-or-below}
 use Rattle.memory.specs.Record.{record-in, record-words, put}
 use Rattle.memory.specs.declared.record.Record.{Record}
@@ -26,7 +26,7 @@ use Rattle.arrival.specs.Draft.{draft-record, FiniteIn, Draftable, Draft
 -- the records below p are put
 pub record Drafting (f : ℕ → Record) (k : ℕ) (m : List ℕ) (p : ℕ) : Type 0 where
   pub le : p ≤ k
-  pub len : length m ≡ words
+  pub len : words-for k ≤ length m
   pub rows : (j : ℕ) → j < p → record-in m j ≡ f j
 
 record-path : (m n : List ℕ) (p q : ℕ) → ((c : ℕ) → c < 8 → column m c p ≡ column n c q) → record-in m p ≡ record-in n q
@@ -41,16 +41,16 @@ record-path m n p q e = λ i. record {
   z = e 7 (omega arith) i;
 }
 
-pub drafting-none : (f : ℕ → Record) (k : ℕ) {m : List ℕ} → length m ≡ words → Drafting f k m 0
+pub drafting-none : (f : ℕ → Record) (k : ℕ) {m : List ℕ} → words-for k ≤ length m → Drafting f k m 0
 drafting-none f k e = record { le = omega arith; len = e; rows = λ j h. absurd (omega (arith, h)) }
 
-module _ {f : ℕ → Record} {k : ℕ} {m : List ℕ} {p : ℕ} (w : Drafting f k m p) (few : k ≤ 512) (h : p < k) where
+module _ {f : ℕ → Record} {k : ℕ} {m : List ℕ} {p : ℕ} (w : Drafting f k m p) (h : p < k) where
   more : {r : Record} → r ≡ f p → Drafting f k (put m p (record-words r)) (p + 1)
   more {r} e =
-      let fit : 16 + p * 8 ≤ length m = omega (arith, w .len, h, few) in
+      let fit : 16 + p * 8 ≤ length m = omega (arith, w .len, h) in
       record {
         le = omega arith;
-        len = length-put m (record-words r) p fit refl ∙ w .len;
+        len = omega (arith, length-put m (record-words r) p fit refl, w .len);
         rows = λ j l. ⊎-elim
             (λ (t : j ≡ p). rw t (here fit ∙ e))
             (λ (t : j < p). record-path (put m p (record-words r)) m j j (λ c u. put-there m (record-words r) p fit refl j c u (λ q. omega (arith, t, q))) ∙ w .rows j t)
@@ -76,7 +76,7 @@ module _ {f : ℕ → Record} {k : ℕ} {m : List ℕ} {p : ℕ} (w : Drafting f
 
 pub drafting-all : {f : ℕ → Record} {k : ℕ} {m : List ℕ} {p : ℕ} {n : List ℕ} → Drafting f k m p → k ≤ p → n ≡ set m 2 k → Drafted f k n
 drafting-all {f} {k} {m} {p} w h g = rw g (record {
-  size = length-set m 2 k ∙ w .len;
+  size = omega (arith, length-set m 2 k, w .len);
   count-is = getD-set-same m 2 k 0 (omega (arith, w .len));
   rows = λ j l. record-path (set m 2 k) m j j (λ c u. getD-set-other m 2 (8 + j * 8 + c) k 0 (λ q. omega (arith, q))) ∙ w .rows j (omega (arith, l, h));
 })

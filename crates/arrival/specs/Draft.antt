@@ -10,7 +10,7 @@ use lib.ListN.{length, getD, take}
 use Rattle.model.specs.Lists.{all, mem, distinct, tab}
 use Rattle.model.specs.Values.{Dart, finite, finite-bits}
 use Rattle.model.specs.Cells.{held}
-use Rattle.model.specs.Image.{words, column, block-in}
+use Rattle.model.specs.Image.{words-for, column, block-in}
 use Rattle.model.specs.Messages.{Transfer, size-all}
 use Rattle.memory.specs.Record.{record-in}
 use Rattle.memory.specs.declared.record.Record.{Record}
@@ -69,7 +69,7 @@ pub record Draftable (v b z keys q s : List ℕ) (from k : ℕ) : Type 0 where
 
 -- a block's memory with k such records
 pub record Drafted (f : ℕ → Record) (k : ℕ) (m : List ℕ) : Type 0 where
-  pub size : length m ≡ words
+  pub size : words-for k ≤ length m
   pub count-is : getD m 2 0 ≡ k
   pub rows : (p : ℕ) → p < k → record-in m p ≡ f p
 

@@ -2,7 +2,7 @@
 ghost use mathlib.Core.Path.{_≡_};
 ghost use Prim.Native.Nat.{_+_, _≤_, _<_};
 ghost use lib.ListN.{length, set};
-ghost use Rattle.model.specs.Image.{words};
+ghost use Rattle.model.specs.Image.{words-for};
 ghost use Rattle.memory.specs.Point.{point-of};
 ghost use Rattle.inbox.specs.Inbox.{word-in};
 ghost use Rattle.ranking.specs.Ranks.{index-at};
@@ -87,7 +87,7 @@ fn record_of(
 }
 
 fn set_count(draft: &mut [u64], k: usize)
-    requires { ⌜ length (now draft) ≡ words ⌝ }
+    requires { ⌜ 8 ≤ length (now draft) ⌝ }
     ensures { λ _. ⌜ now (draft .exit) ≡ set (now (draft .entry)) 2 k ⌝ }
 {
     draft[2] = k as u64;
@@ -106,7 +106,7 @@ pub fn put_draft(
     opposite: &[usize],
     draft: &mut [u64],
 )
-    requires { ⌜ (length (now vertex) ≡ 512) × (length (now starts) ≡ 512) × (length (now sizes) ≡ 512) × (length (now keys) ≡ 512) × (length (now ranks) ≡ 512) × (length (now opposite) ≡ 512) × (length (now draft) ≡ words) ⌝ }
+    requires { ⌜ (length (now vertex) ≡ 512) × (length (now starts) ≡ 512) × (length (now sizes) ≡ 512) × (length (now keys) ≡ 512) × (length (now ranks) ≡ 512) × (length (now opposite) ≡ 512) × (words-for k ≤ length (now draft)) ⌝ }
     requires { ⌜ Draftable (now vertex) (now starts) (now sizes) (now keys) (now opposite) (now message) from k ⌝ }
     ensures { λ _. ⌜ Drafted (draft-record (now (vertex .entry)) (now (starts .entry)) (now (sizes .entry)) (now (keys .entry)) (now (ranks .entry)) (now (opposite .entry)) (now (message .entry)) from) k (now (draft .exit)) ⌝ }
 {

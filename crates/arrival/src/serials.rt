@@ -9,7 +9,7 @@ ghost use Rattle.laws.specs.Order.{Ascending};
 ghost use Rattle.model.specs.Lists.{all, tab};
 ghost use Rattle.model.specs.Values.{finite, serial-bound, room};
 ghost use Rattle.model.specs.Cells.{held};
-ghost use Rattle.model.specs.Image.{words, column, block-in};
+ghost use Rattle.model.specs.Image.{words-for, column, block-in};
 ghost use Rattle.inbox.specs.Inbox.{point-in, points-in};
 ghost use Rattle.arrival.specs.Draft.{GapTold, NewSerials};
 use crate::draft;
@@ -47,7 +47,7 @@ fn points_finite(message: &[u8], from: usize, count: usize) -> bool
 
 // The last of the first n places whose serial is at most this one, by halving without a branch; the first place where there is none.
 fn last_of(block: &[u64], n: usize, serial: u64) -> Place
-    requires { ⌜ (1 ≤ n) × (n ≤ room) × (length (now block) ≡ words) × Ascending n (column (now block) 0) × ((p : ℕ) → p < n → column (now block) 0 p < serial-bound) × (serial < serial-bound) ⌝ }
+    requires { ⌜ (1 ≤ n) × (n ≤ room) × (words-for n ≤ length (now block)) × Ascending n (column (now block) 0) × ((p : ℕ) → p < n → column (now block) 0 p < serial-bound) × (serial < serial-bound) ⌝ }
     ensures { λ r. ⌜ (r .0 < n) × ((p : ℕ) → p < n → column (now (block .entry)) 0 p ≡ serial → p ≡ r .0) ⌝ }
 {
     // A place with this serial is one of `left` places from `low` on.
@@ -64,7 +64,7 @@ fn last_of(block: &[u64], n: usize, serial: u64) -> Place
 
 // Whether a serial is above that at the place before `gap`, if there is one.
 fn is_past(block: &[u64], gap: usize, serial: u64) -> bool
-    requires { ⌜ (gap ≤ room) × (length (now block) ≡ words) ⌝ }
+    requires { ⌜ words-for gap ≤ length (now block) ⌝ }
     ensures { λ r. ⌜ (r ≡ true → 0 < gap → column (now (block .entry)) 0 (gap - 1) < serial) × (r ≡ false → 0 < gap) ⌝ }
 {
     if gap == 0 {
@@ -75,7 +75,7 @@ fn is_past(block: &[u64], gap: usize, serial: u64) -> bool
 
 // Whether a serial lies between those at the places before and from `gap` on.
 fn in_gap(block: &[u64], n: usize, gap: usize, serial: u64) -> bool
-    requires { ⌜ (n ≤ room) × (length (now block) ≡ words) × (gap ≤ n) × Ascending n (column (now block) 0) ⌝ }
+    requires { ⌜ (n ≤ room) × (words-for n ≤ length (now block)) × (gap ≤ n) × Ascending n (column (now block) 0) ⌝ }
     ensures { λ r. ⌜ (r ≡ true → (p : ℕ) → p < n → column (now (block .entry)) 0 p ≢ serial) × (r ≡ false → 1 ≤ n) ⌝ }
 {
     if !is_past(block, gap, serial) {
@@ -95,7 +95,7 @@ pub enum Gap {
 
 // The gap of a serial among the first n. `near`: a guess.
 fn gap_of(block: &[u64], n: usize, serial: u64, near: usize) -> Gap
-    requires { ⌜ (n ≡ getD (now block) 2 0) × (n ≤ room) × (length (now block) ≡ words) × Ascending n (column (now block) 0) × ((p : ℕ) → p < n → column (now block) 0 p < serial-bound) × (serial < serial-bound) × (near ≤ n) ⌝ }
+    requires { ⌜ (n ≡ getD (now block) 2 0) × (n ≤ room) × (words-for n ≤ length (now block)) × Ascending n (column (now block) 0) × ((p : ℕ) → p < n → column (now block) 0 p < serial-bound) × (serial < serial-bound) × (near ≤ n) ⌝ }
     ensures { λ r. ⌜ GapTold (now (block .entry)) n serial r ⌝ }
 {
     if serial == 0 {
@@ -119,7 +119,7 @@ fn gap_of(block: &[u64], n: usize, serial: u64, near: usize) -> Gap
 
 // Whether the first k are at least 1, and the block's n darts do not have them.
 fn all_new(block: &[u64], n: usize, serial: &[u64], k: usize) -> bool
-    requires { ⌜ (n ≡ getD (now block) 2 0) × (n ≤ room) × (length (now block) ≡ words) × Ascending n (column (now block) 0) × ((p : ℕ) → p < n → column (now block) 0 p < serial-bound) × (length (now serial) ≡ 512) × (k ≤ 512) × ((i : ℕ) → i < k → getD (now serial) i 0 < serial-bound) ⌝ }
+    requires { ⌜ (n ≡ getD (now block) 2 0) × (n ≤ room) × (words-for n ≤ length (now block)) × Ascending n (column (now block) 0) × ((p : ℕ) → p < n → column (now block) 0 p < serial-bound) × (length (now serial) ≡ 512) × (k ≤ 512) × ((i : ℕ) → i < k → getD (now serial) i 0 < serial-bound) ⌝ }
     ensures { λ r. ⌜ r ≡ all (λ i. leb 1 (getD (now (serial .entry)) i 0) && not (held (block-in (now (block .entry)) .darts) (getD (now (serial .entry)) i 0))) (tab (λ i. i) k) ⌝ }
 {
     // Those before i are; `near` is the gap of the last one.
@@ -147,7 +147,7 @@ pub fn new_serials(
     keys: &mut [u64],
     ranks: &mut [usize],
 ) -> bool
-    requires { ⌜ (n ≡ getD (now block) 2 0) × (n ≤ room) × (length (now block) ≡ words) × Ascending n (column (now block) 0) × ((p : ℕ) → p < n → column (now block) 0 p < serial-bound) ⌝ }
+    requires { ⌜ (n ≡ getD (now block) 2 0) × (n ≤ room) × (words-for n ≤ length (now block)) × Ascending n (column (now block) 0) × ((p : ℕ) → p < n → column (now block) 0 p < serial-bound) ⌝ }
     requires { ⌜ (length (now serial) ≡ 512) × (length (now keys) ≡ 512) × (length (now ranks) ≡ 512) × (1 ≤ k) × (k ≤ 512) × (from + 24 * count ≤ length (now message)) × ((i : ℕ) → i < k → getD (now serial) i 0 < serial-bound) ⌝ }
     ensures { λ r. ⌜ NewSerials (block-in (now (block .entry)) .darts) (now (message .entry)) from count (now (serial .entry)) k (now (keys .exit)) (now (ranks .exit)) r × (length (now (keys .exit)) ≡ 512) × (length (now (ranks .exit)) ≡ 512) ⌝ }
 {

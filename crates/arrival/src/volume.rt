@@ -6,7 +6,7 @@ ghost use lib.Dec.{eqb};
 ghost use lib.ListN.{length, getD};
 ghost use Rattle.model.specs.Lists.{all, tab};
 ghost use Rattle.model.specs.Values.{finite, room};
-ghost use Rattle.model.specs.Image.{words};
+ghost use Rattle.model.specs.Image.{words-for};
 ghost use Rattle.model.specs.Messages.{Transfer};
 ghost use Rattle.model.specs.Arrival.{volume-right};
 ghost use Rattle.cells.specs.Places.{Linked, places-in, volume-of};
@@ -18,6 +18,7 @@ use crate::order;
 use crate::pairs;
 use memory::header::Header;
 use memory::record::MessageIndex;
+use memory::record::Place;
 use place::DraftPlace;
 
 // Whether the k darts of a draft are the volume of the one at place `first`.
@@ -26,7 +27,7 @@ fn one_volume(draft: &[u64], k: usize, first: DraftPlace, queue: &mut [usize]) -
     ensures { λ r. ⌜ (r ≡ eqb (length (places-in k (volume-of (now (draft .entry)) (first .0)))) k) × (length (now (queue .exit)) ≡ room) ⌝ }
 {
     let mut marks = [0u8; Header::DARTS];
-    cells::walk::volume(draft, k, first.0, queue, &mut marks) == k
+    cells::walk::volume(draft, k, Place(first.0), queue, &mut marks) == k
 }
 
 // Whether each dart has the number of its vertex.
@@ -82,10 +83,10 @@ pub fn volume_right(
     queue: &mut [usize],
     firsts: &mut [usize],
 ) -> bool
-    requires { ⌜ (length (now vertex) ≡ 512) × (length (now serial) ≡ 512) × (length (now starts) ≡ 512) × (length (now sizes) ≡ 512) × (length (now keys) ≡ 512) × (length (now ranks) ≡ 512) × (length (now opposite) ≡ 512) × (length (now draft) ≡ words) × (length (now queue) ≡ room) × (length (now firsts) ≡ room) ⌝ }
+    requires { ⌜ (length (now vertex) ≡ 512) × (length (now serial) ≡ 512) × (length (now starts) ≡ 512) × (length (now sizes) ≡ 512) × (length (now keys) ≡ 512) × (length (now ranks) ≡ 512) × (length (now opposite) ≡ 512) × (words-for k ≤ length (now draft)) × (length (now queue) ≡ room) × (length (now firsts) ≡ room) ⌝ }
     requires { ⌜ Ranked (now serial) k (now keys) (now ranks) × (all finite (points-in (now message) from count) ≡ true) × ((t : Transfer) × Told t (now vertex) (now serial) (now starts) (now sizes) (now message) from count k hollow) ⌝ }
     ensures answer { λ r. ⌜ ((t : Transfer) → Told t (now (vertex .entry)) (now (serial .entry)) (now (starts .entry)) (now (sizes .entry)) (now (message .entry)) from count k hollow → r ≡ volume-right t) ⌝ }
-    ensures drafted { λ r. ⌜ (r ≡ true → Draft (now (vertex .entry)) (now (serial .entry)) (now (starts .entry)) (now (sizes .entry)) (now (keys .entry)) (now (ranks .entry)) (now (opposite .exit)) (now (message .entry)) from k (now (draft .exit))) × (length (now (opposite .exit)) ≡ 512) × (length (now (draft .exit)) ≡ words) × (length (now (queue .exit)) ≡ room) × (length (now (firsts .exit)) ≡ room) ⌝ }
+    ensures drafted { λ r. ⌜ (r ≡ true → Draft (now (vertex .entry)) (now (serial .entry)) (now (starts .entry)) (now (sizes .entry)) (now (keys .entry)) (now (ranks .entry)) (now (opposite .exit)) (now (message .entry)) from k (now (draft .exit))) × (length (now (opposite .exit)) ≡ 512) × (length (now (draft .exit)) ≡ length (now (draft .entry))) × (length (now (queue .exit)) ≡ room) × (length (now (firsts .exit)) ≡ room) ⌝ }
 {
     if hollow {
         return false;

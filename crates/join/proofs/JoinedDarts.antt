@@ -11,7 +11,7 @@ use lib.ListN.{getD}
 use borrow.Author.Tests.{eqb-true, eq-eqb, ne-eqb}
 use Rattle.model.specs.Lists.{any, find, tab}
 use Rattle.model.specs.Values.{Third, free, sewn, Dart, with-third, room}
-use Rattle.model.specs.Image.{words, column, third-in, dart-in}
+use Rattle.model.specs.Image.{column, third-in, dart-in}
 use Rattle.model.specs.Links.{Link, third-or, relink}
 use Rattle.laws.proofs.Tests.{by-cases, and-intro, and-left, and-right, eq-or-ne}
 use Rattle.laws.proofs.Tables.{any-tab, tab-any, one-place}

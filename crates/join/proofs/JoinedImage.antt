@@ -10,7 +10,7 @@ use lib.ListN.{length, getD}
 use borrow.Author.Tests.{eqb-true, eq-eqb, ne-eqb}
 use Rattle.model.specs.Lists.{any, tab}
 use Rattle.model.specs.Values.{Dart, room}
-use Rattle.model.specs.Image.{words, image, column, dart-in, block-in}
+use Rattle.model.specs.Image.{words-for, image, column, dart-in, block-in}
 use Rattle.model.specs.Links.{Link, relink}
 use Rattle.laws.proofs.Tests.{by-cases, and-intro, and-left, and-right, eq-or-ne}
 use Rattle.laws.proofs.Tables.{any-tab, tab-any, map-tab, tab-cong}
@@ -77,7 +77,8 @@ module _ {m c w kinds links ranks old new x : List ℕ} {n k : ℕ} {ls : List L
       (λ j u d g. let b = at .new-lt (getD ranks j 0) (by .rank-below j u) in omega (arith, b, g, h))
       (λ j u d g. let b = at .old-lt (getD links j 0) (ln .link-below j u d) in omega (arith, b, g, h))
 
-  module _ (ranged : Ranged w) (size : length w ≡ words) (count : getD w 2 0 ≡ n + k) (places : Places w (n + k)) (sewn-in : (t : ℕ) → t < n + k → column w 3 t ≡ 1 → column w 4 t < n + k) where
+  module _ (ranged : Ranged w) (size : words-for (n + k) ≤ length w) (count : getD w 2 0 ≡ n + k) (places : Places w (n + k))
+      (sewn-in : (t : ℕ) → t < n + k → column w 3 t ≡ 1 → column w 4 t < n + k) where
     count-now : getD y 2 0 ≡ n + k
     count-now = sew .head 2 (omega arith) ∙ count
 
@@ -124,8 +125,8 @@ module _ {m c w kinds links ranks old new x : List ℕ} {n k : ℕ} {ls : List L
             go p f e l b = ap (λ (j : ℕ). getD y j 0) e ∙ past p f b l ∙ ap (λ (j : ℕ). getD w j 0) (sym e) ∙ ranged .rest i (omega (arith, h, count))
 
     -- the memory is the image of the block that it holds
-    image-now : image (block-in y) ≡ y
-    image-now = image-back y ranged-now (sew .size ∙ size)
+    image-now : image (length y) (block-in y) ≡ y
+    image-now = image-back y ranged-now (omega (arith, sew .size, size, count-now))
         (record {
           next-lt =
               λ p h.
@@ -137,8 +138,8 @@ module _ {m c w kinds links ranks old new x : List ℕ} {n k : ℕ} {ls : List L
         (λ p h one. let b = sewn-now p (omega (arith, h, count-now)) one in omega (arith, b, count-now))
 
     -- which has the darts of before, each with the link that it gets
-    pub image-joined : (ds : List Dart) → tab (dart-in w) (n + k) ≡ ds → image (record { number = getD w 0 0; counter = getD w 1 0; darts = map (relink ls) ds }) ≡ y
-    image-joined ds e = sym (ap image block-now) ∙ image-now
+    pub image-joined : (ds : List Dart) → tab (dart-in w) (n + k) ≡ ds → image (length y) (record { number = getD w 0 0; counter = getD w 1 0; darts = map (relink ls) ds }) ≡ y
+    image-joined ds e = sym (ap (image (length y)) block-now) ∙ image-now
       where
         darts-now : tab (dart-in y) (getD y 2 0) ≡ map (relink ls) ds
         darts-now =

@@ -1,9 +1,10 @@
 -- New darts woven in and sewn have joined. Assumes nothing.
-use mathlib.Core.Path.{_≡_, refl, _∙_, ap, subst}
+use mathlib.Core.Path.{_≡_, refl, ap, subst}
 use mathlib.Core.List.{List}
-use Prim.Native.Nat.{ℕ, _≤_}
+use Prim.Native.Nat.{ℕ, _+_, _≤_}
+use native.Mathlib.Omega.{arith}
 use lib.ListN.{length}
-use Rattle.model.specs.Image.{words, column}
+use Rattle.model.specs.Image.{words-for, column}
 use Rattle.release.specs.Asks.{Tabled}
 use Rattle.join.specs.Weave.{up, woven-at}
 use Rattle.join.specs.Woven.{Stands}
@@ -23,5 +24,5 @@ module _ {m c : List ℕ} {n k : ℕ} {kinds links ranks : List ℕ} (w : MayJoi
   pub joins : {z y : List ℕ} → z ≡ woven-at m n c k → Sewn z kinds links ranks old new k y → Joins m c n k kinds links ranks y
   joins {z} {y} e s = record { old = old; new = new; stand = at; sewn = subst (λ (a : List ℕ). Sewn a kinds links ranks old new k y) e s }
 
-pub woven-size : {m c : List ℕ} {n k : ℕ} {kinds links ranks : List ℕ} → MayJoin m c n k kinds links ranks → {z : List ℕ} → z ≡ woven-at m n c k → length z ≡ words
-woven-size w e = ap length e ∙ size-is (w .drafted)
+pub woven-size : {m c : List ℕ} {n k : ℕ} {kinds links ranks : List ℕ} → MayJoin m c n k kinds links ranks → {z : List ℕ} → z ≡ woven-at m n c k → words-for (n + k) ≤ length z
+woven-size w e = omega (arith, ap length e, size-is (w .drafted), w .drafted .weaves .holds)

@@ -9,7 +9,7 @@ use lib.Dec.{eqb}
 use lib.ListN.{length, getD, set, length-set}
 use lib.Seq.{getD-set-same, getD-set-other}
 use borrow.Author.Tests.{eqb-true, eqb-false, eq-eqb, ne-eqb}
-use Rattle.model.specs.Image.{words, column}
+use Rattle.model.specs.Image.{words-for, column}
 use Rattle.laws.proofs.Tests.{by-cases, last-or-below}
 use Rattle.join.specs.Thirds.{place-of, with-third, sewn-at, Sewable, Sewn}
 
@@ -112,11 +112,11 @@ sewn-none w kinds links ranks old new = record {
 }
 
 module _ {w kinds links ranks old new : List ℕ} {n k i : ℕ} {m : List ℕ} (ok : Sewable n k kinds links ranks old new)
-    (size : length m ≡ words) (so-far : Sewn w kinds links ranks old new i m) (h : i < k) where
+    (size : words-for (n + k) ≤ length m) (so-far : Sewn w kinds links ranks old new i m) (h : i < k) where
   stepped : Step m (sewn-at m (getD kinds i 0) (getD links i 0) old (place-of ranks new i)) (getD kinds i 0) (getD links i 0) old (place-of ranks new i)
   stepped = step m (getD kinds i 0) (getD links i 0) old (place-of ranks new i)
-      (let a = ok .new-below i h in let f = ok .fits in omega (arith, a, f, size))
-      (λ e. let a = ok .old-below (getD links i 0) (ok .link-below i h e) in let f = ok .fits in omega (arith, a, f, size))
+      (let a = ok .new-below i h in omega (arith, a, size))
+      (λ e. let a = ok .old-below (getD links i 0) (ok .link-below i h e) in omega (arith, a, size))
       (λ e. ok .both-apart i (getD links i 0) h (ok .link-below i h e))
 
   next : List ℕ

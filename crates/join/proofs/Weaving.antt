@@ -12,7 +12,7 @@ use lib.ListN.{length, getD, set, take, drop, length-set, length-take, take-appe
 use lib.Seq.{getD-set-same, getD-set-other, getD-take, drop-at, length-take-le, take-take, take-append-le}
 use borrow.Author.Tests.{eq-eqb, ne-eqb, lt-ltb, le-ltb, ltb-true, ltb-false}
 use Rattle.model.specs.Lists.{concat}
-use Rattle.model.specs.Image.{words, column}
+use Rattle.model.specs.Image.{column}
 use Rattle.model.specs.Values.{room}
 use Rattle.laws.specs.Order.{Ascending}
 use Rattle.laws.proofs.Tests.{lt-or-ge, eq-or-ne}
@@ -240,7 +240,7 @@ module _ {m c : List ℕ} {n k : ℕ} (a : Weaves m c n k) {x : List ℕ} {i j :
   }
     where
       enough : 16 + (i + j - 1) * 8 ≤ length x
-      enough = omega (arith, w .i-le, w .j-le, w .size, a .block .size, a .fits)
+      enough = omega (arith, w .i-le, w .j-le, w .size, a .holds)
 
       shorter : take (8 + i′ * 8) x ≡ take (8 + i′ * 8) m
       shorter = sym (take-take (8 + i′ * 8) (8 + i * 8) x (omega arith)) ∙ ap (take (8 + i′ * 8)) (w .front) ∙ take-take (8 + i′ * 8) (8 + i * 8) m (omega arith)
@@ -310,7 +310,7 @@ weaving-end {m} {c} {n} {k} {x} {i} {j} w h =
     sym (take-append-drop 8 x) ∙ ap (λ (l : List ℕ). l ++ drop 8 x) a ∙ ap (λ (l : List ℕ). take 8 m ++ l) d
 
 -- THE WHOLE MEMORY AFTERWARDS
-pub all-woven : (m c : List ℕ) (n k : ℕ) {y z : List ℕ} → length m ≡ words → y ≡ take 8 m ++ (concat (rows m n c k n k) ++ drop (8 + (n + k) * 8) m)
+pub all-woven : (m c : List ℕ) (n k : ℕ) {y z : List ℕ} → 8 ≤ length m → y ≡ take 8 m ++ (concat (rows m n c k n k) ++ drop (8 + (n + k) * 8) m)
     → z ≡ (getD m 0 0 ∷ getD m 1 0 ∷ (n + k) ∷ 0 ∷ 0 ∷ 0 ∷ 0 ∷ 0 ∷ []) ++ drop 8 y → z ≡ woven-at m n c k
 unfolding woven-at
 all-woven m c n k size e f = f ∙ ap (λ (l : List ℕ). (getD m 0 0 ∷ getD m 1 0 ∷ (n + k) ∷ 0 ∷ 0 ∷ 0 ∷ 0 ∷ 0 ∷ []) ++ l)

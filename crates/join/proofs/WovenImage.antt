@@ -10,7 +10,7 @@ use lib.Seq.{ext-getD, getD-drop}
 use Rattle.model.specs.Lists.{concat, mem, distinct, tab, ascending, find, index-of}
 use Rattle.model.specs.Values.{Dart, Block, no-dart, room}
 use Rattle.model.specs.Cells.{serials}
-use Rattle.model.specs.Image.{count-in, image, column, block-in, dart-in, dart-words, holds-block}
+use Rattle.model.specs.Image.{words-for, count-in, image, column, block-in, dart-in, dart-words, holds-block}
 use Rattle.model.specs.Arrival.{insert-all}
 use Rattle.laws.specs.Order.{Ascending}
 use Rattle.laws.proofs.Tests.{by-cases}
@@ -43,8 +43,9 @@ words-moved m ss t p kind next opposite link =
 
 -- a sound block and a draft of free darts, of other serials
 pub drafted : (m c : List ℕ) → holds-block m ≡ true → Linked c (count-in c) → Ascending (count-in c) (column c 0) → ((q : ℕ) → q < count-in c → (column c 3 q ≡ 0) × (column c 4 q ≡ 0))
-    → ((p q : ℕ) → p < count-in m → q < count-in c → column m 0 p ≡ column c 0 q → ⊥) → count-in m + count-in c ≤ room → Drafted m c (count-in m) (count-in c)
-drafted m c ok l up-c free differ fits =
+    → ((p q : ℕ) → p < count-in m → q < count-in c → column m 0 p ≡ column c 0 q → ⊥) → count-in m + count-in c ≤ room
+    → words-for (count-in m + count-in c) ≤ length m → Drafted m c (count-in m) (count-in c)
+drafted m c ok l up-c free differ fits holds =
     let site = sited m ok in
     let b = site .linked in
     let range = image-passed m ok .range in
@@ -54,6 +55,7 @@ drafted m c ok l up-c free differ fits =
         draft = record { size = l .size; few = l .few; next-lt = l .next-within; opposite-lt = l .opposite-within; sewn-lt = λ p h e. l .sewn-within p h (omega arith) };
         keys = record { s-up = site .ascends; f-up = up-c; differ = differ };
         fits = fits;
+        holds = holds;
       };
       block-linked = b;
       draft-linked = l;
@@ -117,19 +119,19 @@ module _ {m c : List ℕ} {n k : ℕ} (a : Drafted m c n k) where
   all-words : map (dart-words (serials all-darts)) all-darts ≡ rows m n c k n k
   all-words = map-weave w (dart-words (serials all-darts)) (dart-in m) (dart-in c) (moved-words (up s f k) m) (moved-words (up f s n) c) old-words new-words
 
-  rest-zero : drop (8 + (n + k) * 8) m ≡ replicate ((room - (n + k)) * 8) 0
+  rest-zero : drop (8 + (n + k) * 8) m ≡ replicate (length m - words-for (n + k)) 0
   rest-zero =
-      let size : length (drop (8 + (n + k) * 8) m) ≡ (room - (n + k)) * 8 = omega (arith, length-drop (8 + (n + k) * 8) m, a .weaves .block .size, a .weaves .fits) in
-      ext-getD 0 (drop (8 + (n + k) * 8) m) (replicate ((room - (n + k)) * 8) 0) (size ∙ sym (length-replicate {A = ℕ} ((room - (n + k)) * 8) 0))
-      (λ i u. getD-drop (8 + (n + k) * 8) m i 0 ∙ a .rest (8 + (n + k) * 8 + i) (omega arith) ∙ sym (getD-zeros ((room - (n + k)) * 8) i))
+      let size : length (drop (8 + (n + k) * 8) m) ≡ length m - words-for (n + k) = omega (arith, length-drop (8 + (n + k) * 8) m, a .weaves .holds) in
+      ext-getD 0 (drop (8 + (n + k) * 8) m) (replicate (length m - words-for (n + k)) 0) (size ∙ sym (length-replicate {A = ℕ} (length m - words-for (n + k)) 0))
+      (λ i u. getD-drop (8 + (n + k) * 8) m i 0 ∙ a .rest (8 + (n + k) * 8 + i) (omega arith) ∙ sym (getD-zeros (length m - words-for (n + k)) i))
 
   -- THE BLOCK WITH BOTH
   abbrev pub both : Block
   both = record { number = getD m 0 0; counter = getD m 1 0; darts = all-darts }
 
-  pub image-both : image both ≡ woven-at m n c k
+  pub image-both : image (length m) both ≡ woven-at m n c k
   unfolding image woven-at
-  image-both = λ i. parts (getD m 0 0) (getD m 1 0) (darts-at .count i) (concat (all-words i)) ((ap (λ (x : ℕ). replicate ((room - x) * 8) 0) (darts-at .count) ∙ sym rest-zero) i)
+  image-both = λ i. parts (getD m 0 0) (getD m 1 0) (darts-at .count i) (concat (all-words i)) ((ap (λ (x : ℕ). replicate (length m - words-for x) 0) (darts-at .count) ∙ sym rest-zero) i)
 
   -- IN WHATEVER ORDER THE NEW ONES COME
   module _ (ps : List ℕ) (once : distinct ps ≡ true) (low : (q : ℕ) → In q ps → q < k) (there : (q : ℕ) → q < k → In q ps) where
@@ -170,6 +172,6 @@ module _ {m c : List ℕ} {n k : ℕ} (a : Drafted m c n k) where
 
 -- THE LAW: whatever order the new darts come in, the block is the same
 pub woven-image : {m c : List ℕ} → Drafted m c (count-in m) (count-in c) → (ps : List ℕ) → distinct ps ≡ true → length ps ≡ count-in c → ((q : ℕ) → In q ps → q < count-in c)
-    → image (record { number = getD m 0 0; counter = getD m 1 0; darts = insert-all (map (dart-in c) ps) (block-in m .darts) }) ≡ woven-at m (count-in m) c (count-in c)
+    → image (length m) (record { number = getD m 0 0; counter = getD m 1 0; darts = insert-all (map (dart-in c) ps) (block-in m .darts) }) ≡ woven-at m (count-in m) c (count-in c)
 woven-image {m} {c} a ps once size low =
-    ap (λ (l : List Dart). image (record { number = getD m 0 0; counter = getD m 1 0; darts = l })) (darts-both a ps once low (all-there (count-in c) ps once size low)) ∙ image-both a
+    ap (λ (l : List Dart). image (length m) (record { number = getD m 0 0; counter = getD m 1 0; darts = l })) (darts-both a ps once low (all-there (count-in c) ps once size low)) ∙ image-both a

@@ -12,7 +12,7 @@ use lib.ListN.{length, getD}
 use Rattle.model.specs.Lists.{distinct, tab}
 use Rattle.model.specs.Values.{Dart, critical, sewn, no-dart}
 use Rattle.model.specs.Cells.{serials, dart-at}
-use Rattle.model.specs.Image.{count-in, words, column, block-in, dart-in, dart-words, third-in, label-in}
+use Rattle.model.specs.Image.{count-in, column, block-in, dart-in, dart-words, third-in, label-in}
 use Rattle.model.specs.Arrival.{insert-all}
 use Rattle.laws.specs.Order.{Ascending}
 use Rattle.laws.proofs.Tests.{lt-or-ge}
@@ -88,7 +88,7 @@ module _ {m c : List ℕ} {n k : ℕ} (a : Drafted m c n k) where
 
   -- THE WORDS
   column-at : (t g : ℕ) → t < n + k → g < 8 → column x g t ≡ getD (dart-words (serials (all-darts a)) (getD (all-darts a) t no-dart)) g 0
-  column-at t g h b = ap (λ (l : List ℕ). column l g t) (sym (image-both a)) ∙ column-is (both a) t g (omega (arith, darts-at a .count)) b
+  column-at t g h b = ap (λ (l : List ℕ). column l g t) (sym (image-both a)) ∙ column-is (length m) (both a) t g (omega (arith, darts-at a .count)) b
 
   old-word : (p g : ℕ) → p < n → g < 8 → column x g (to-old p) ≡ getD (moved-words to-old m p) g 0
   old-word p g h b = column-at (to-old p) g (darts-at a .old-lt p h) b
@@ -162,8 +162,8 @@ module _ {m c : List ℕ} {n k : ℕ} (a : Drafted m c n k) where
   unfolding woven-at
   count-is = refl
 
-  pub size-is : length x ≡ words
-  size-is = ap length (sym (image-both a)) ∙ image-length (both a) (omega (arith, darts-at a .count, a .weaves .fits))
+  pub size-is : length x ≡ length m
+  size-is = ap length (sym (image-both a)) ∙ image-length (length m) (both a) (omega (arith, darts-at a .count, a .weaves .holds))
 
   -- THE LINKS of one kind, next or opposite, by their columns
   module _ (g : ℕ) (old-is : (p : ℕ) → p < n → column x g (to-old p) ≡ to-old (column m g p))
@@ -209,7 +209,7 @@ module _ {m c : List ℕ} {n k : ℕ} (a : Drafted m c n k) where
       let new-opposite : (q : ℕ) → q < k → column x 2 (to-new q) ≡ to-new (column c 2 q) = λ q h. new-record q h .opposite in
       record {
         few = a .weaves .fits;
-        size = size-is;
+        size = omega (arith, size-is, a .weaves .holds);
         next-within = link-within 1 old-next new-next (b .next-within) (d .next-within);
         next-apart = link-apart 1 old-next new-next (b .next-within) (d .next-within) (b .next-apart) (d .next-apart);
         opposite-within = link-within 2 old-opposite new-opposite (b .opposite-within) (d .opposite-within);

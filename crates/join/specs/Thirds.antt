@@ -7,7 +7,7 @@ use mathlib.Core.List.{List}
 use Prim.Native.Nat.{ℕ, _+_, _*_, _≤_, _<_}
 use lib.Dec.{eqb}
 use lib.ListN.{length, getD, set}
-use Rattle.model.specs.Image.{words, column}
+use Rattle.model.specs.Image.{column}
 use Rattle.model.specs.Values.{room}
 
 -- the place of the new dart with index i

@@ -4,9 +4,9 @@ use mathlib.Core.Bool.{Bool, true, false, cond}
 use mathlib.Core.List.{List, [], _∷_, _++_}
 use Prim.Native.Nat.{ℕ, zero, suc, _+_, _*_, _-_, _≤_, _<_}
 use lib.Dec.{eqb, ltb}
-use lib.ListN.{getD, drop}
+use lib.ListN.{length, getD, drop}
 use Rattle.model.specs.Lists.{concat, tab}
-use Rattle.model.specs.Image.{column}
+use Rattle.model.specs.Image.{words-for, column}
 use Rattle.model.specs.Values.{room}
 use Rattle.laws.specs.Order.{Ascending}
 use Rattle.memory.specs.declared.record.Record.{Record}
@@ -64,3 +64,4 @@ pub record Weaves (m c : List ℕ) (n k : ℕ) : Type 0 where
   pub draft : Bounded c k
   pub keys : Between (column m 0) n (column c 0) k
   pub fits : n + k ≤ room
+  pub holds : words-for (n + k) ≤ length m

@@ -1,8 +1,8 @@
 // New darts that a block's memory holds already are sewn to its darts, or labelled: words 3 and 4 of both.
 ghost use mathlib.Core.Path.{_≡_};
-ghost use Prim.Native.Nat.{_<_};
+ghost use Prim.Native.Nat.{_+_, _≤_, _<_};
 ghost use lib.ListN.{length, getD};
-ghost use Rattle.model.specs.Image.{words};
+ghost use Rattle.model.specs.Image.{words-for};
 ghost use Rattle.model.specs.Values.{room};
 ghost use Rattle.join.specs.Thirds.{with-third, sewn-at, Sewable, Sewn};
 use memory::record;
@@ -11,7 +11,7 @@ use memory::record::Place;
 
 // The kind word and the link word of the dart at place p.
 fn put_third(block: &mut [u64], p: Place, kind: u64, link: u64)
-    requires { ⌜ (p .0 < room) × (length (now block) ≡ words) ⌝ }
+    requires { ⌜ words-for (p .0 + 1) ≤ length (now block) ⌝ }
     ensures { λ _. ⌜ now (block .exit) ≡ with-third (now (block .entry)) (p .0) kind link ⌝ }
 {
     record::put_field(block, p, 3, kind);
@@ -20,7 +20,7 @@ fn put_third(block: &mut [u64], p: Place, kind: u64, link: u64)
 
 // A new dart at place p, and the dart that it is sewn to.
 fn sew_at(block: &mut [u64], kind: u64, link: u64, old: &[usize], p: Place)
-    requires { ⌜ (length (now block) ≡ words) × (length (now old) ≡ room) × (p .0 < room) × (kind ≡ 1 → link < room) × (kind ≡ 1 → getD (now old) link 0 < room) ⌝ }
+    requires { ⌜ (words-for (p .0 + 1) ≤ length (now block)) × (length (now old) ≡ room) × (kind ≡ 1 → link < room) × (kind ≡ 1 → words-for (getD (now old) link 0 + 1) ≤ length (now block)) ⌝ }
     ensures { λ _. ⌜ now (block .exit) ≡ sewn-at (now (block .entry)) kind link (now (old .entry)) (p .0) ⌝ }
 {
     if kind == 0 {
@@ -46,7 +46,7 @@ pub fn sew(
     old: &[usize],
     new: &[usize],
 )
-    requires { ⌜ (length (now block) ≡ words) × (length (now kinds) ≡ 512) × (length (now links) ≡ 512) × (length (now ranks) ≡ 512) × (length (now old) ≡ room) × (length (now new) ≡ room) × Sewable n k (now kinds) (now links) (now ranks) (now old) (now new) ⌝ }
+    requires { ⌜ (words-for (n + k) ≤ length (now block)) × (length (now kinds) ≡ 512) × (length (now links) ≡ 512) × (length (now ranks) ≡ 512) × (length (now old) ≡ room) × (length (now new) ≡ room) × Sewable n k (now kinds) (now links) (now ranks) (now old) (now new) ⌝ }
     ensures { λ _. ⌜ Sewn (now (block .entry)) (now (kinds .entry)) (now (links .entry)) (now (ranks .entry)) (now (old .entry)) (now (new .entry)) k (now (block .exit)) ⌝ }
 {
     // Those before i are.

@@ -4,7 +4,7 @@ ghost use mathlib.Core.List.{_++_};
 ghost use Prim.Native.Nat.{_+_, _*_, _≤_, _<_};
 ghost use lib.ListN.{length, getD, take, drop};
 ghost use Rattle.model.specs.Lists.{concat};
-ghost use Rattle.model.specs.Image.{words, column};
+ghost use Rattle.model.specs.Image.{words-for, column};
 ghost use Rattle.model.specs.Values.{room};
 ghost use Rattle.memory.specs.Record.{put};
 ghost use Rattle.removal.specs.LetGo.{moved-link};
@@ -18,7 +18,7 @@ use place::DraftPlace;
 
 // Whether the last, by serial, of the block's first i darts and the draft's first j is one of the block.
 fn last_is_old(block: &[u64], draft: &[u64], i: usize, j: usize) -> bool
-    requires { ⌜ (length (now block) ≡ words) × (length (now draft) ≡ words) × (i ≤ room) × (j ≤ room) ⌝ }
+    requires { ⌜ (words-for i ≤ length (now block)) × (words-for j ≤ length (now draft)) ⌝ }
     ensures { λ r. ⌜ r ≡ last-old (column (now (block .entry)) 0) (column (now (draft .entry)) 0) i j ⌝ }
 {
     if j == 0 {
@@ -66,7 +66,7 @@ fn moved_link(table: &[usize], kind: u64, link: u64) -> u64
 
 // Stores a record at place `at`, with its links by the table.
 fn put_moved(block: &mut [u64], at: Place, r: Record, table: &[usize])
-    requires { ⌜ (length (now block) ≡ words) × (length (now table) ≡ room) × (at .0 < room) × (r .next < room) × (r .opposite < room) × (r .kind ≡ 1 → r .link < room) ⌝ }
+    requires { ⌜ (words-for (at .0 + 1) ≤ length (now block)) × (length (now table) ≡ room) × (r .next < room) × (r .opposite < room) × (r .kind ≡ 1 → r .link < room) ⌝ }
     ensures { λ _. ⌜ now (block .exit) ≡ put (now (block .entry)) (at .0) (moved-record (λ p. getD (now (table .entry)) p 0) r) ⌝ }
 {
     let next = place::moved_at(table, Place(r.next as usize));

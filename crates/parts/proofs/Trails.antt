@@ -11,8 +11,7 @@ use lib.Seq.{getD-take, length-take-le}
 use borrow.Author.Tests.{eqb-true, eq-eqb, ne-eqb}
 use Rattle.model.specs.Lists.{all, tab}
 use Rattle.model.specs.Cells.{cycle}
-use Rattle.model.specs.Image.{words, column}
-use Rattle.model.specs.Values.{room}
+use Rattle.model.specs.Image.{words-for, column}
 use Rattle.memory.specs.Point.{FiniteAt}
 use Rattle.laws.proofs.Orbits.{iter, path}
 use Rattle.laws.proofs.Tests.{eq-or-ne, same-truth}
@@ -108,7 +107,7 @@ met-below {n} {size} {trail} j l t = ⊎-elim
 -- what meet_at asks
 abbrev Ready : List ℕ → List ℕ → ℕ → ℕ → Type 0
 Ready m d p w =
-    ((length m ≡ words) × (length d ≡ words) × (p < room) × (w < room) × (column d 1 p < room) × (column m 1 w < room))
+    ((words-for (p + 1) ≤ length d) × (words-for (w + 1) ≤ length m) × (words-for (column d 1 p + 1) ≤ length d) × (words-for (column m 1 w + 1) ≤ length m))
     × (FiniteAt d p × FiniteAt d (column d 1 p) × FiniteAt m w × FiniteAt m (column m 1 w))
 
 module _ {m d ranks : List ℕ} {n k : ℕ} (o : Meetable m n d k ranks) (at : ℕ) {size j : ℕ} {trail : List ℕ} (fits : at + size ≤ k) (l : j < size) (t : Trailed n size trail) where
@@ -118,16 +117,9 @@ module _ {m d ranks : List ℕ} {n k : ℕ} (o : Meetable m n d k ranks) (at : �
       let hw : w < n = let b = met-below j l t in omega (arith, e, b) in
       let np = o .new-within p hp in
       let nw = o .linked .next-within w hw in
-      let few = o .few in
-      let many = o .linked .few in (
-        (
-          o .linked .size,
-          o .draft-size,
-          omega (arith, hp, few),
-          omega (arith, hw, many),
-          omega (arith, np, few),
-          omega (arith, nw, many),
-        ),
+      let new = o .draft-size in
+      let old = o .linked .size in (
+        (omega (arith, hp, new), omega (arith, hw, old), omega (arith, np, new), omega (arith, nw, old)),
         (o .new-finite p hp, o .new-finite (column d 1 p) np, o .finite w hw, o .finite (column m 1 w) nw),
       )
 

@@ -8,7 +8,7 @@ use lib.ListN.{length, getD, take}
 use Rattle.model.specs.Lists.{all, tab}
 use Rattle.model.specs.Values.{same-point}
 use Rattle.model.specs.Cells.{cycle}
-use Rattle.model.specs.Image.{words, column, dart-in}
+use Rattle.model.specs.Image.{words-for, column, dart-in}
 use Rattle.memory.specs.Point.{FiniteAt}
 use Rattle.cells.specs.Places.{Within, Linked}
 
@@ -26,7 +26,7 @@ pub record Walked (m : List ℕ) (start size : ℕ) (trail : List ℕ) (r : Bool
 pub record Meetable (m : List ℕ) (n : ℕ) (d : List ℕ) (k : ℕ) (ranks : List ℕ) : Type 0 where
   pub linked : Linked m n
   pub finite : (p : ℕ) → p < n → FiniteAt m p
-  pub draft-size : length d ≡ words
+  pub draft-size : words-for k ≤ length d
   pub few : k ≤ 512
   pub new-within : Within k (column d 1)
   pub new-finite : (p : ℕ) → p < k → FiniteAt d p

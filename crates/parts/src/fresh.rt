@@ -2,11 +2,11 @@
 // counter.
 ghost use mathlib.Core.Path.{_≡_};
 ghost use mathlib.Core.Bool.{_&&_};
-ghost use Prim.Native.Nat.{ℕ, _≤_, _<_, _^_};
+ghost use Prim.Native.Nat.{ℕ, _+_, _≤_, _<_, _^_};
 ghost use lib.ListN.{length, getD};
 ghost use Rattle.laws.specs.Order.{Ascending};
 ghost use Rattle.model.specs.Lists.{all, tab};
-ghost use Rattle.model.specs.Image.{words};
+ghost use Rattle.model.specs.Image.{words-for};
 ghost use Rattle.model.specs.Values.{room};
 ghost use Rattle.ranking.specs.Ranks.{value-at};
 ghost use Rattle.parts.specs.Fresh.{own-right, own-at, fresh-value, ValuesPut, clear-at, labels-fit};
@@ -69,7 +69,7 @@ fn put_values(kinds: &[u64], links: &[u64], k: usize, values: &mut [u64])
 
 // Whether the dart at place p of the block has none of k values for a label.
 fn clear_at(block: &[u64], p: Place, keys: &[u64], k: usize) -> bool
-    requires { ⌜ (length (now block) ≡ words) × (p .0 < room) × (length (now keys) ≡ 512) × (k ≤ 512) × Ascending k (value-at (now keys)) ⌝ }
+    requires { ⌜ (words-for (p .0 + 1) ≤ length (now block)) × (length (now keys) ≡ 512) × (k ≤ 512) × Ascending k (value-at (now keys)) ⌝ }
     ensures { λ r. ⌜ r ≡ clear-at (now (block .entry)) (tab (value-at (now (keys .entry))) k) (p .0) ⌝ }
 {
     if record::field(block, p, 3) < 2 {
@@ -83,7 +83,7 @@ fn clear_at(block: &[u64], p: Place, keys: &[u64], k: usize) -> bool
 
 // Whether the first n darts have none.
 fn all_clear(block: &[u64], n: usize, keys: &[u64], k: usize) -> bool
-    requires { ⌜ (length (now block) ≡ words) × (n ≤ room) × (length (now keys) ≡ 512) × (k ≤ 512) × Ascending k (value-at (now keys)) ⌝ }
+    requires { ⌜ (words-for n ≤ length (now block)) × (n ≤ room) × (length (now keys) ≡ 512) × (k ≤ 512) × Ascending k (value-at (now keys)) ⌝ }
     ensures { λ r. ⌜ r ≡ all (clear-at (now (block .entry)) (tab (value-at (now (keys .entry))) k)) (tab (λ p. p) n) ⌝ }
 {
     // Those before p have none.
@@ -99,7 +99,7 @@ fn all_clear(block: &[u64], n: usize, keys: &[u64], k: usize) -> bool
 
 // 20, of the labels of parts 3 and 4, on a block of n darts.
 pub fn labels_fit(block: &[u64], n: usize, kinds: &[u64], links: &[u64], k: usize) -> bool
-    requires { ⌜ (length (now block) ≡ words) × (n ≤ room) × (length (now kinds) ≡ 512) × (length (now links) ≡ 512) × (1 ≤ k) × (k ≤ 512) ⌝ }
+    requires { ⌜ (words-for n ≤ length (now block)) × (n ≤ room) × (length (now kinds) ≡ 512) × (length (now links) ≡ 512) × (1 ≤ k) × (k ≤ 512) ⌝ }
     requires { ⌜ ((q : ℕ) → q < k → getD (now links) q 0 < 2 ^ 48) ⌝ }
     ensures { λ r. ⌜ r ≡ labels-fit (now (block .entry)) n (now (kinds .entry)) (now (links .entry)) k ⌝ }
 {

@@ -1,9 +1,9 @@
 // The places of the block where the labels of part 2 stand, by one pass over its darts.
 ghost use mathlib.Core.Path.{_≡_};
-ghost use Prim.Native.Nat.{ℕ, _≤_, _<_};
+ghost use Prim.Native.Nat.{ℕ, _+_, _≤_, _<_};
 ghost use lib.ListN.{length, replicate};
 ghost use Rattle.laws.specs.Order.{Ascending};
-ghost use Rattle.model.specs.Image.{words};
+ghost use Rattle.model.specs.Image.{words-for};
 ghost use Rattle.model.specs.Values.{room};
 ghost use Rattle.ranking.specs.Ranks.{value-at, index-at, Ranked};
 ghost use Rattle.parts.specs.Locate.{Noted, Located, none-there};
@@ -13,7 +13,7 @@ use ranking::Ranking;
 
 // Notes place p for the entry whose label the dart at p has.
 fn note(block: &[u64], p: Place, keys: &[u64], c: usize, places: &mut [usize])
-    requires { ⌜ (length (now block) ≡ words) × (p .0 < room) × (length (now keys) ≡ 512) × (c ≤ 512) × (length (now places) ≡ 512) × Ascending c (value-at (now keys)) × ((r : ℕ) → r < c → index-at (now keys) r < c) ⌝ }
+    requires { ⌜ (words-for (p .0 + 1) ≤ length (now block)) × (length (now keys) ≡ 512) × (c ≤ 512) × (length (now places) ≡ 512) × Ascending c (value-at (now keys)) × ((r : ℕ) → r < c → index-at (now keys) r < c) ⌝ }
     ensures { λ _. ⌜ Noted (now (block .entry)) (now (keys .entry)) c (p .0) (now (places .entry)) (now (places .exit)) ⌝ }
 {
     if record::field(block, p, 3) < 2 {
@@ -36,7 +36,7 @@ pub fn locate(
     ranks: &[usize],
     places: &mut [usize],
 )
-    requires { ⌜ (length (now block) ≡ words) × (n ≤ room) × (length (now keys) ≡ 512) × (c ≤ 512) × (now places ≡ replicate 512 none-there) × Ranked (now codes) c (now keys) (now ranks) ⌝ }
+    requires { ⌜ (words-for n ≤ length (now block)) × (n ≤ room) × (length (now keys) ≡ 512) × (c ≤ 512) × (now places ≡ replicate 512 none-there) × Ranked (now codes) c (now keys) (now ranks) ⌝ }
     ensures { λ _. ⌜ Located (now (block .entry)) (now (codes .entry)) c n (now (places .exit)) ⌝ }
 {
     // The darts before p are noted.

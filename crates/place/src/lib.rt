@@ -1,9 +1,8 @@
 // The three numbers of a dart that arrives, each of its own type, read from the arrays and memories that keep them as plain numbers.
 ghost use mathlib.Core.Path.{_≡_};
-ghost use Prim.Native.Nat.{_<_};
+ghost use Prim.Native.Nat.{_+_, _≤_, _<_};
 ghost use lib.ListN.{length, getD};
-ghost use Rattle.model.specs.Image.{words, column};
-ghost use Rattle.model.specs.Values.{room};
+ghost use Rattle.model.specs.Image.{words-for, column};
 ghost use Rattle.memory.specs.Record.{record-in};
 ghost use Rattle.memory.specs.Point.{point-of, FiniteAt};
 use memory::point;
@@ -81,7 +80,7 @@ pub fn place_at(places: &[usize], e: usize) -> Place
 
 // The place of the next dart in a block.
 pub fn next_of(block: &[u64], p: Place) -> Place
-    requires { ⌜ (p .0 < room) × (length (now block) ≡ words) ⌝ }
+    requires { ⌜ words-for (p .0 + 1) ≤ length (now block) ⌝ }
     ensures { λ r. ⌜ r .0 ≡ column (now (block .entry)) 1 (p .0) ⌝ }
 {
     Place(record::field(block, p, 1) as usize)
@@ -89,7 +88,7 @@ pub fn next_of(block: &[u64], p: Place) -> Place
 
 // The place of the next dart in a draft.
 pub fn draft_next(draft: &[u64], p: DraftPlace) -> DraftPlace
-    requires { ⌜ (p .0 < room) × (length (now draft) ≡ words) ⌝ }
+    requires { ⌜ words-for (p .0 + 1) ≤ length (now draft) ⌝ }
     ensures { λ r. ⌜ r .0 ≡ column (now (draft .entry)) 1 (p .0) ⌝ }
 {
     DraftPlace(record::field(draft, Place(p.0), 1) as usize)
@@ -97,7 +96,7 @@ pub fn draft_next(draft: &[u64], p: DraftPlace) -> DraftPlace
 
 // The serial of a dart of a draft.
 pub fn draft_serial(draft: &[u64], p: DraftPlace) -> u64
-    requires { ⌜ (p .0 < room) × (length (now draft) ≡ words) ⌝ }
+    requires { ⌜ words-for (p .0 + 1) ≤ length (now draft) ⌝ }
     ensures { λ r. ⌜ r ≡ column (now (draft .entry)) 0 (p .0) ⌝ }
 {
     record::field(draft, Place(p.0), 0)
@@ -105,7 +104,7 @@ pub fn draft_serial(draft: &[u64], p: DraftPlace) -> u64
 
 // The record of a dart of a draft.
 pub fn draft_record(draft: &[u64], p: DraftPlace) -> Record
-    requires { ⌜ (p .0 < room) × (length (now draft) ≡ words) ⌝ }
+    requires { ⌜ words-for (p .0 + 1) ≤ length (now draft) ⌝ }
     ensures { λ r. ⌜ r ≡ record-in (now (draft .entry)) (p .0) ⌝ }
 {
     record::record_at(draft, Place(p.0))
@@ -113,7 +112,7 @@ pub fn draft_record(draft: &[u64], p: DraftPlace) -> Record
 
 // The point of a dart of a draft.
 pub fn draft_point(draft: &[u64], p: DraftPlace) -> Point
-    requires { ⌜ (p .0 < room) × (length (now draft) ≡ words) × FiniteAt (now draft) (p .0) ⌝ }
+    requires { ⌜ (words-for (p .0 + 1) ≤ length (now draft)) × FiniteAt (now draft) (p .0) ⌝ }
     ensures { λ r. ⌜ r ≡ point-of (column (now (draft .entry)) 5 (p .0)) (column (now (draft .entry)) 6 (p .0)) (column (now (draft .entry)) 7 (p .0)) ⌝ }
 {
     point::point_at(draft, Place(p.0))

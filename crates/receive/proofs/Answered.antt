@@ -25,7 +25,6 @@ use Rattle.inbox.specs.declared.message.Update.{Update as UpdateOutline}
 use Rattle.inbox.specs.declared.received.Received.{Received}
 use Rattle.inbox.specs.declared.received.Received.the-variants as received
 use Rattle.inbox.specs.Arrived.{TransferOutlined, MessageSaid, MessageRead}
-use Rattle.cells.proofs.Sited.{sited}
 use Rattle.model.specs.Demands.{Bytes}
 use Rattle.soundness.proofs.Rows.{Elem}
 use Rattle.soundness.proofs.Fits.{fits}
@@ -162,12 +161,9 @@ module _ (m s : List ℕ) where
   unfolding receive receive-by
   by-message r e g = rw e g
 
-module _ (m : List ℕ) (ok : holds-block m ≡ true) where
-  size : length m ≡ words
-  size = sited m ok .linked .size
-
+module _ (m : List ℕ) (size : length m ≡ words) (ok : holds-block m ≡ true) where
   asked-by : (r : Message) {given : Answer (Unit {0})} {lent : List ℕ}
-      → Asks (receive-checks rack (block-in m) r) m tt (image (received-from (block-in m) r)) given lent
+      → Asks (receive-checks rack (block-in m) r) m tt (image words (received-from (block-in m) r)) given lent
       → Gives (receive-by m r) given lent
   unfolding receive-by storing memory-checks
   asked-by r a = gives _ _ _ _ (ask-yes (eq-eqb (length m) words size) (ask-yes ok a))
@@ -188,11 +184,11 @@ module _ (m : List ℕ) (ok : holds-block m ≡ true) where
   pub transfer-refused : (t : Transfer) {n : ℕ} → refused n ≡ answered (receive-checks rack (block-in m) (a-transfer t)) → Gives (receive-by m (a-transfer t)) (refused n) m
   transfer-refused t {n} e =
       asked-by (a-transfer t)
-      (subst (λ (qs : List Check). Asks qs m tt (image (received-from (block-in m) (a-transfer t))) (refused n) m)
+      (subst (λ (qs : List Check). Asks qs m tt (image words (received-from (block-in m) (a-transfer t))) (refused n) m)
       (append-nil (receive-checks rack (block-in m) (a-transfer t)))
       (ask-first (receive-checks rack (block-in m) (a-transfer t)) [] e refl))
 
-  pub transfer-served : (t : Transfer) {y : List ℕ} → AllYes m t → y ≡ image (received (block-in m) t) → Gives (receive-by m (a-transfer t)) (served tt) y
+  pub transfer-served : (t : Transfer) {y : List ℕ} → AllYes m t → y ≡ image words (received (block-in m) t) → Gives (receive-by m (a-transfer t)) (served tt) y
   unfolding receive-checks
   transfer-served t a q = asked-by (a-transfer t) (ask-yes (a .for-here) (ask-yes (a .serials) (ask-yes (a .volume) (ask-yes (a .parts) (ask-yes (a .fits) (ask-end q))))))
 

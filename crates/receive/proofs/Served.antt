@@ -10,7 +10,7 @@ use borrow.Author.Tests.{not-true}
 use Rattle.model.specs.Lists.{all, mem, tab}
 use Rattle.model.specs.Values.{finite, room}
 use Rattle.model.specs.Cells.{held}
-use Rattle.model.specs.Image.{column, block-in, holds-block}
+use Rattle.model.specs.Image.{words, column, block-in, holds-block}
 use Rattle.model.specs.Messages.{Transfer, a-transfer, message-in, transfer}
 use Rattle.model.specs.Demands.{Bytes}
 use Rattle.model.specs.Arrival.{transfer-links}
@@ -35,7 +35,7 @@ use Rattle.answers.specs.declared.Answer.the-variants as answer
 use Rattle.receive.proofs.TakenImage.{indexed, weaves, taken-image}
 use Rattle.receive.proofs.Answered.{transfer-served, none-no}
 
-module _ {m s v x b z : List ℕ} {f : Front} {l : Tail} {keys ranks q c kinds links : List ℕ} (ok : holds-block m ≡ true)
+module _ {m s v x b z : List ℕ} {f : Front} {l : Tail} {keys ranks q c kinds links : List ℕ} (size : length m ≡ words) (ok : holds-block m ≡ true)
     (fit : f .darts ≤ length x) (h : AskedSaid m s v x b z f l keys ranks q c kinds links answer.Served)
     (t : Transfer) (e : message-in s ≡ a-transfer t) (w : TransferOutlined t s v x b z f l) where
   d : Draft v x b z keys ranks q s (f .points) (f .darts) c
@@ -56,7 +56,7 @@ module _ {m s v x b z : List ℕ} {f : Front} {l : Tail} {keys ranks q c kinds l
   small = h .2
 
   abbrev weaving : Drafted m c (getD m 2 0) (getD c 2 0)
-  weaving = weaves d m ok absent small
+  weaving = weaves d m size ok absent small
 
   linked : Linking m (getD m 2 0) (getD c 2 0) x kinds links (transfer-links (block-in m .darts) t)
   linked = subst (λ (k : ℕ). Linking m (getD m 2 0) k x kinds links (transfer-links (block-in m .darts) t)) (sym (d .drafted .count-is)) (h .0 t e w .1)
@@ -74,5 +74,5 @@ module _ {m s v x b z : List ℕ} {f : Front} {l : Tail} {keys ranks q c kinds l
   few-new = omega (arith, d .few, d .drafted .count-is)
 
   pub served-image : Bytes s → {y : List ℕ} → Joins m c (getD m 2 0) (getD c 2 0) kinds links ranks y → Gives (receive-by m (a-transfer t)) (served tt) y
-  served-image bytes j = transfer-served m ok t (h .0 t e w .0)
-      (taken-image d m ok absent small (told-of w) (transfer-read s bytes t e) (none-no m t (h .0 t e w .0)) (h .0 t e w .0 .volume) linked j)
+  served-image bytes j = transfer-served m size ok t (h .0 t e w .0)
+      (taken-image d m size ok absent small (told-of w) (transfer-read s bytes t e) (none-no m t (h .0 t e w .0)) (h .0 t e w .0 .volume) linked j)

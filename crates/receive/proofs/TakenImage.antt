@@ -7,7 +7,7 @@ use native.Mathlib.Omega.{arith}
 use lib.ListN.{length, getD}
 use Rattle.model.specs.Lists.{first-no, distinct, tab}
 use Rattle.model.specs.Values.{Dart, Block, rack, room}
-use Rattle.model.specs.Image.{count-in, image, column, dart-in, block-in, holds-block}
+use Rattle.model.specs.Image.{words, count-in, image, column, dart-in, block-in, holds-block}
 use Rattle.model.specs.Messages.{Transfer, a-transfer, transfer}
 use Rattle.model.specs.Links.{relink}
 use Rattle.model.specs.Arrival.{new-darts, insert-all, received, transfer-links, volume-right, receive-checks}
@@ -18,7 +18,6 @@ use Rattle.columns.specs.Columns.{Places}
 use Rattle.columns.proofs.Question.{image-passed}
 use Rattle.columns.proofs.Links.{places}
 use Rattle.columns.proofs.ThirdLinks.{sewn-places}
-
 use Rattle.memory.specs.declared.record.Record.{Record}
 use Rattle.soundness.proofs.Fits.{fits}
 use Rattle.soundness.proofs.Passed.{passed}
@@ -50,13 +49,14 @@ module _ {v x b z keys ranks q s : List ℕ} {from k : ℕ} {c : List ℕ} (d : 
   }
 
   -- beside a block that holds none of its serials
-  module _ (m : List ℕ) (ok : holds-block m ≡ true) (absent : (p i : ℕ) → p < count-in m → i < k → column m 0 p ≡ getD x i 0 → ⊥) (fit : count-in m + k ≤ room) where
+  module _ (m : List ℕ) (size : length m ≡ words) (ok : holds-block m ≡ true)
+      (absent : (p i : ℕ) → p < count-in m → i < k → column m 0 p ≡ getD x i 0 → ⊥) (fit : count-in m + k ≤ room) where
     pub weaves : Drafted m c (count-in m) (count-in c)
     weaves = drafted m c ok (sited d .linked) (sited d .ascends)
         (λ p h. indexed .free p (omega (arith, h, d .drafted .count-is)))
         (λ p r hp hr e. let l : r < k = omega (arith, hr, d .drafted .count-is) in let i = indexed .index-of r l in absent p (i .0)
         hp (i .1) (e ∙ ap (column c 0) (sym (i .2)) ∙ serial-of d (i .0) (i .1)))
-        (omega (arith, fit, d .drafted .count-is))
+        (omega (arith, fit, d .drafted .count-is)) (omega (arith, fit, size, d .drafted .count-is))
 
     -- with the links that a transfer brings
     module _ {n : ℕ} {hollow : Bool} {t : Transfer} (told : Told t v x b z s from n k hollow) (fine : transfer .ok t ≡ true)
@@ -89,15 +89,16 @@ module _ {v x b z keys ranks q s : List ℕ} {from k : ℕ} {c : List ℕ} (d : 
       abbrev w : List ℕ
       w = woven-at m (count-in m) c (count-in c)
 
-      woven-is : image (record { number = getD m 0 0; counter = getD m 1 0; darts = all-darts }) ≡ w
+      woven-is : image (length m) (record { number = getD m 0 0; counter = getD m 1 0; darts = all-darts }) ≡ w
       woven-is =
           ap
-          (λ (l : List Dart). image
+          (λ (l : List Dart). image (length m)
           (record { number = getD m 0 0; counter = getD m 1 0; darts = insert-all l (block-in m .darts) })) new-are
           ∙ woven-image weaves order order-once order-size order-low
 
       woven-sound : holds-block w ≡ true
-      woven-sound = subst (λ (l : List ℕ). holds-block l ≡ true) woven-is (is-image-of rack (record { number = getD m 0 0; counter = getD m 1 0; darts = all-darts }) (omega arith)
+      woven-sound = subst (λ (l : List ℕ). holds-block l ≡ true) woven-is
+          (is-image-of rack (length m) (record { number = getD m 0 0; counter = getD m 1 0; darts = all-darts }) (omega (arith, size))
           (unlinked-sound rack (block-in m) t (omega arith) (image-is rack m ok .1) (fits t fine) (passed rack (block-in m) t yes)))
 
       darts-woven : tab (dart-in w) (count-in m + count-in c) ≡ all-darts
@@ -107,14 +108,15 @@ module _ {v x b z keys ranks q s : List ℕ} {from k : ℕ} {c : List ℕ} (d : 
           ∙ ap (λ (l : List Dart). insert-all l (block-in m .darts)) (sym new-are)
 
       pub taken-image : {kinds links y : List ℕ} → Linking m (count-in m) (count-in c) x kinds links (transfer-links (block-in m .darts) t)
-          → Joins m c (count-in m) (count-in c) kinds links ranks y → y ≡ image (received (block-in m) t)
+          → Joins m c (count-in m) (count-in c) kinds links ranks y → y ≡ image words (received (block-in m) t)
       taken-image {kinds} {links} {y} ln j =
           let p = image-passed w woven-sound in
           let count : getD w 2 0 ≡ count-in m + count-in c = count-is weaves in
-          sym (ap image (received-is (block-in m) t)
-          ∙ (λ i. image (record { number = sym (number-is weaves) i; counter = sym (counter-is weaves) i; darts = map (relink (transfer-links (block-in m .darts) t)) all-darts }))
+          let len : length y ≡ words = j .sewn .size ∙ size-is weaves ∙ size in
+          sym (ap (image words) (received-is (block-in m) t)
+          ∙ (λ i. image (sym len i) (record { number = sym (number-is weaves) i; counter = sym (counter-is weaves) i; darts = map (relink (transfer-links (block-in m .darts) t)) all-darts }))
           ∙ image-joined (weaves .weaves .fits) (omega (arith, d .few, d .drafted .count-is)) (j .stand) (subst (Indexed c x ranks) (sym (d .drafted .count-is)) indexed) ln (j .sewn)
-          (p .range) (size-is weaves) count (subst (Places w) count (places w (count-in w) (p .links)))
+          (p .range) (omega (arith, size-is weaves, weaves .weaves .holds)) count (subst (Places w) count (places w (count-in w) (p .links)))
           (λ a h one. subst (λ (e : ℕ). column w 4 a < e) count
           (sewn-places w (count-in w) (p .thirds) a (omega (arith, h, count)) one))
           all-darts darts-woven)

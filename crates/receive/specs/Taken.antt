@@ -21,7 +21,7 @@ use Rattle.answers.specs.declared.Answer.the-variants as answer
 
 -- the call on a message that was read
 unfoldable pub receive-by : List ℕ → Message → Result (Unit {0})
-receive-by m r = storing (memory-checks rack m ++ receive-checks rack (block-in m) r) m (received-from (block-in m) r)
+receive-by m r = storing rack (memory-checks rack m ++ receive-checks rack (block-in m) r) m (received-from (block-in m) r)
 
 -- the call on the transfer that an outline tells
 pub record Takes (m s v x b z : List ℕ) (f : Front) (l : Tail) (given : Answer (Unit {0})) (lent : List ℕ) : Type 0 where

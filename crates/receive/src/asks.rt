@@ -4,7 +4,7 @@ ghost use mathlib.Core.Bool.{true};
 ghost use Prim.Native.Nat.{_≤_};
 ghost use lib.ListN.{length, replicate};
 ghost use Rattle.model.specs.Values.{room};
-ghost use Rattle.model.specs.Image.{words, holds-block, block-in};
+ghost use Rattle.model.specs.Image.{words-for, holds-block, block-in};
 ghost use Rattle.model.specs.Messages.{Transfer, a-transfer, message-in};
 ghost use Rattle.model.specs.Arrival.{addressed};
 ghost use Rattle.inbox.specs.Inbox.{Sides};
@@ -18,7 +18,7 @@ use memory::header::Header;
 
 // 17: addressed here, from elsewhere.
 fn for_here(block: &[u64], from: u64, to: u64) -> bool
-    requires { ⌜ length (now block) ≡ words ⌝ }
+    requires { ⌜ 8 ≤ length (now block) ⌝ }
     ensures { λ r. ⌜ r ≡ addressed from to (block-in (now (block .entry))) ⌝ }
 {
     (to == block[0]) & (from != block[0])
@@ -44,7 +44,7 @@ pub fn questions(
     firsts: &mut [usize],
 ) -> Answer
     requires { ⌜ (holds-block (now block) ≡ true) × Sides (now vertex) (now serial) (now starts) (now sizes) × ((t : Transfer) × (message-in (now message) ≡ a-transfer t) × TransferOutlined t (now message) (now vertex) (now serial) (now starts) (now sizes) front tail) ⌝ }
-    requires { ⌜ (length (now keys) ≡ 512) × (length (now ranks) ≡ 512) × (length (now opposite) ≡ 512) × (length (now draft) ≡ words) × (now kinds ≡ replicate 512 0) × (now links ≡ replicate 512 0) × (length (now queue) ≡ room) × (length (now firsts) ≡ room) ⌝ }
+    requires { ⌜ (length (now keys) ≡ 512) × (length (now ranks) ≡ 512) × (length (now opposite) ≡ 512) × (words-for (front .darts) ≤ length (now draft)) × (now kinds ≡ replicate 512 0) × (now links ≡ replicate 512 0) × (length (now queue) ≡ room) × (length (now firsts) ≡ room) ⌝ }
     ensures { λ r. ⌜ AskedAll (now (block .entry)) (now (message .entry)) (now (vertex .entry)) (now (serial .entry)) (now (starts .entry)) (now (sizes .entry)) front tail (now (keys .exit)) (now (ranks .exit)) (now (opposite .exit)) (now (draft .exit)) (now (kinds .exit)) (now (links .exit)) r × (length (now (queue .exit)) ≡ room) × (length (now (firsts .exit)) ≡ room) ⌝ }
 {
     if !for_here(block, front.from, front.to) {

@@ -3,8 +3,9 @@ mod asks; // asks.rt: questions 17 to 21
 
 ghost use mathlib.Core.Path.{_≡_};
 ghost use mathlib.Core.Bool.{true};
+ghost use lib.ListN.{length};
 ghost use Rattle.model.specs.Values.{rack};
-ghost use Rattle.model.specs.Image.{holds-block};
+ghost use Rattle.model.specs.Image.{words, holds-block};
 ghost use Rattle.model.specs.Messages.{Transfer, a-transfer, message-in};
 ghost use Rattle.model.specs.Calls.{receive as taken};
 ghost use Rattle.answers.specs.Answers.{answer-of, Gives};
@@ -18,6 +19,9 @@ use inbox::message::Tail;
 use inbox::received::Received;
 use memory::header::Header;
 
+// Words of a draft: those of a header, 8 for each dart that a message may bring.
+const DRAFT: usize = 4104;
+
 // A transfer whose darts are in the arrays.
 fn take(
     block: &mut [u64],
@@ -29,13 +33,13 @@ fn take(
     starts: &[usize],
     sizes: &[usize],
 ) -> Answer
-    requires { ⌜ (holds-block (now block) ≡ true) × Sides (now vertex) (now serial) (now starts) (now sizes) × ((t : Transfer) × (message-in (now message) ≡ a-transfer t) × TransferOutlined t (now message) (now vertex) (now serial) (now starts) (now sizes) front tail) ⌝ }
+    requires { ⌜ (length (now block) ≡ words) × (holds-block (now block) ≡ true) × Sides (now vertex) (now serial) (now starts) (now sizes) × ((t : Transfer) × (message-in (now message) ≡ a-transfer t) × TransferOutlined t (now message) (now vertex) (now serial) (now starts) (now sizes) front tail) ⌝ }
     ensures { λ r. ⌜ Takes (now (block .entry)) (now (message .entry)) (now (vertex .entry)) (now (serial .entry)) (now (starts .entry)) (now (sizes .entry)) front tail (answer-of r) (now (block .exit)) ⌝ }
 {
     let mut keys = [0u64; Header::VOLUME];
     let mut ranks = [0usize; Header::VOLUME];
     let mut opposite = [0usize; Header::VOLUME];
-    let mut draft = [0u64; Header::WORDS];
+    let mut draft = [0u64; DRAFT];
     let mut kinds = [0u64; Header::VOLUME];
     let mut links = [0u64; Header::VOLUME];
     // The questions work in both; then they are for the places of all darts.

@@ -13,7 +13,7 @@ use Rattle.model.specs.Lists.{all, first-no, Check}
 use Rattle.model.specs.Image.{memory-checks}
 use Rattle.model.specs.Departure.{departure-checks}
 use Rattle.model.specs.Calls.{Result, memories, writing, send}
-use Rattle.model.specs.Runs as runs
+use Rattle.model.specs.DividedRun.{Round}
 use Rattle.model.specs.Runs.{Request}
 use Rattle.laws.proofs.Members.{map-append}
 use Rattle.laws.proofs.Tables.{length-tab, getD-tab}
@@ -140,9 +140,9 @@ module _ {m requests outcomes outbox : List ℕ} {i : ℕ} {m′ outcomes′ out
         listed = record {
           outcomes-are = ap (λ (l : List ℕ). set l i n) (w .listed .outcomes-are)
               ∙ over-more (map outcome-number (before .outcomes)) outcomes i n many (omega (arith, k, wide))
-              ∙ ap (λ (x : ℕ). over (map outcome-number (before .outcomes) ++ x ∷ []) outcomes) (p .number-is ∙ ap (λ (x : runs.Round). outcome-number (x .outcome)) q)
+              ∙ ap (λ (x : ℕ). over (map outcome-number (before .outcomes) ++ x ∷ []) outcomes) (p .number-is ∙ ap (λ (x : Round). outcome-number (x .outcome)) q)
               ∙ sym (ap (λ (l : List ℕ). over l outcomes) (ap (λ (d : Run). map outcome-number (d .outcomes)) e ∙ map-append outcome-number (before .outcomes) _));
-          memories-are = p .memories-are ∙ ap (λ (x : runs.Round). x .memories) q ∙ sym (ap (λ (d : Run). d .memories) e);
+          memories-are = p .memories-are ∙ ap (λ (x : Round). x .memories) q ∙ sym (ap (λ (d : Run). d .memories) e);
           size = p .size ∙ w .listed .size;
           left = p .left ∙ w .listed .left;
           outbox-is = p .outbox-is ∙ lent ∙ sym (ap (λ (d : Run). d .outbox) e);

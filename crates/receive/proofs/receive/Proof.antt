@@ -58,7 +58,8 @@ take-requires c κs =
     let if2-left = (let p : tie.Else2 = search in p .if2 .left) in
     let message-in-ensures = (let p : tie.After-message-in = search in p .message-in .ensures) in
     let f-given = (let p : tie.After-f = search in p .f .given) in
-    (said-yes is-sound-ensures if2-left, message-in-ensures .sides, outline-of (f-given .1) message-in-ensures)
+    let if1-left = (let p : tie.Else1 = search in p .if1 .left) in
+    (if1-left, said-yes is-sound-ensures if2-left, message-in-ensures .sides, outline-of (f-given .1) message-in-ensures)
 
 enum-known-u : tie.Need-enum-known-u
 enum-known-u c = search needs
@@ -85,7 +86,8 @@ returns-4 c =
     let if2-left = (let p : tie.Else2 = search in p .if2 .left) in
     let message-in-ensures = (let p : tie.After-message-in = search in p .message-in .ensures) in
     let u-given = (let p : tie.After-u = search in p .u .given) in
-    update-refused _ (said-yes is-sound-ensures if2-left) (u-given .1) message-in-ensures
+    let if1-left = (let p : tie.Else1 = search in p .if1 .left) in
+    update-refused _ if1-left (said-yes is-sound-ensures if2-left) (u-given .1) message-in-ensures
 
 same-length-4 : tie.Need-same-length-4
 same-length-4 c = search needs
@@ -95,7 +97,8 @@ returns-5 c =
     let is-sound-ensures = (let p : tie.After-is-sound = search in p .is-sound .ensures) in
     let if2-left = (let p : tie.Else2 = search in p .if2 .left) in
     let message-in-ensures = (let p : tie.After-message-in = search in p .message-in .ensures) in
-    layout-refused _ (said-yes is-sound-ensures if2-left) (c .enum-told .given .1) message-in-ensures
+    let if1-left = (let p : tie.Else1 = search in p .if1 .left) in
+    layout-refused _ if1-left (said-yes is-sound-ensures if2-left) (c .enum-told .given .1) message-in-ensures
 
 pub receive-spec : {M : Type 1} → statement M
 receive-spec =

@@ -1,6 +1,8 @@
 -- `receive::take` meets its contract.
 -- Assumes nothing.
+use mathlib.Core.Path.{refl}
 use mir.Facts.{fits-lt-pow}
+use Rattle.cells.proofs.Resets.{zeros-long}
 use Rattle.receive.proofs.Answered.{bytes-in, asked-no, asked-yes, transfer-refused}
 use Rattle.fitting.proofs.Outlined.{told-of}
 use Rattle.receive.proofs.Served.{may-join, few-new, served-image}
@@ -35,8 +37,10 @@ slice-aggregate-questions-8 c = search needs
 
 questions-requires : tie.Need-questions-requires
 questions-requires c κs =
-    let start : tie.Start = search in
-    ((start .pre .0, start .pre .1, start .pre .2), search needs)
+    let start : tie.Start = search in (
+      (start .pre .1, start .pre .2, start .pre .3),
+      (refl, refl, refl, zeros-long _ 4104 refl (omega (arith, told-of (start .pre .3 .2) .few)), refl, refl, refl, refl),
+    )
 
 enum-known-r : tie.Need-enum-known-r
 enum-known-r c = search needs
@@ -74,12 +78,12 @@ join-requires c κs =
         y .3,
         y .4,
         y .5,
-        may-join (start .pre .0)
-            (let l = start .pre .1 .serial-size in let f = told-of (start .pre .2 .2) .few in omega (arith, l, f)) y
-            (start .pre .2 .0) (start .pre .2 .1) (start .pre .2 .2),
-        few-new (start .pre .0)
-            (let l = start .pre .1 .serial-size in let f = told-of (start .pre .2 .2) .few in omega (arith, l, f)) y
-            (start .pre .2 .0) (start .pre .2 .1) (start .pre .2 .2),
+        may-join (start .pre .0) (start .pre .1)
+            (let l = start .pre .2 .serial-size in let f = told-of (start .pre .3 .2) .few in omega (arith, l, f)) y
+            (start .pre .3 .0) (start .pre .3 .1) (start .pre .3 .2),
+        few-new (start .pre .0) (start .pre .1)
+            (let l = start .pre .2 .serial-size in let f = told-of (start .pre .3 .2) .few in omega (arith, l, f)) y
+            (start .pre .3 .0) (start .pre .3 .1) (start .pre .3 .2),
       ),
     )
 
@@ -92,7 +96,7 @@ returns c =
     let questions-ensures = (let p : tie.After-questions = search in p .questions .ensures) in
     let c : tie.After-questions = search in
     let start : tie.Start = search in
-    record { gives = λ t e w. transfer-refused (start .args .block .now) (start .pre .0) t (asked-no (questions-ensures .0) (r-given .1) t e w) }
+    record { gives = λ t e w. transfer-refused (start .args .block .now) (start .pre .0) (start .pre .1) t (asked-no (questions-ensures .0) (r-given .1) t e w) }
 
 same-length-2 : tie.Need-same-length-2
 same-length-2 c = search needs
@@ -110,8 +114,8 @@ returns-2 c =
     let y = asked-yes (questions-ensures .0) (enum-told-given .1) in
     record {
       gives =
-          λ t e w. served-image (start .pre .0)
-          (let l = start .pre .1 .serial-size in let f = told-of w .few in omega (arith, l, f)) y t e w
+          λ t e w. served-image (start .pre .0) (start .pre .1)
+          (let l = start .pre .2 .serial-size in let f = told-of w .few in omega (arith, l, f)) y t e w
           (bytes-in message (λ i. fits-lt-pow (shared-slice-known-given i))) join-ensures;
     }
 

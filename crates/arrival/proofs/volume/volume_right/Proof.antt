@@ -1,6 +1,6 @@
 -- `arrival::volume::volume_right` meets its contract.
 -- Assumes nothing.
-use mathlib.Core.Path.{sym, _∙_}
+use mathlib.Core.Path.{refl, sym, _∙_}
 use mathlib.Core.Bool.{true≢false}
 use borrow.Author.Tests.{not-true, not-false}
 use Rattle.arrival.proofs.DraftLaws.{links}
@@ -13,7 +13,7 @@ use Rattle.arrival.proofs.volume.volume_right.Tie as tie
 returns : tie.Need-returns
 returns c =
     let start : tie.Start = search in
-    ((λ t w. hollow-no w (c .if1 .taken)), ((λ y. absurd (true≢false (sym y))), start .pre .0 .6, start .pre .0 .7, start .pre .0 .8, start .pre .0 .9))
+    ((λ t w. hollow-no w (c .if1 .taken)), ((λ y. absurd (true≢false (sym y))), start .pre .0 .6, refl, start .pre .0 .8, start .pre .0 .9))
 
 ordered-requires : tie.Need-ordered-requires
 ordered-requires c κs =
@@ -25,7 +25,7 @@ returns-2 c =
     let start : tie.Start = search in
     let ordered-ensures = (let p : tie.After-ordered = search in p .ordered .ensures) in (
       (λ t w. order-no w (sym ordered-ensures ∙ not-true _ (c .if2 .taken))),
-      ((λ y. absurd (true≢false (sym y))), start .pre .0 .6, start .pre .0 .7, start .pre .0 .8, start .pre .0 .9),
+      ((λ y. absurd (true≢false (sym y))), start .pre .0 .6, refl, start .pre .0 .8, start .pre .0 .9),
     )
 
 vertices-fit-requires : tie.Need-vertices-fit-requires
@@ -38,7 +38,7 @@ returns-3 c =
     let start : tie.Start = search in
     let vertices-fit-ensures = (let p : tie.After-vertices-fit = search in p .vertices-fit .ensures) in (
       (λ t w. fit-no w (sym vertices-fit-ensures ∙ not-true _ (c .if3 .taken))),
-      ((λ y. absurd (true≢false (sym y))), start .pre .0 .6, start .pre .0 .7, start .pre .0 .8, start .pre .0 .9),
+      ((λ y. absurd (true≢false (sym y))), start .pre .0 .6, refl, start .pre .0 .8, start .pre .0 .9),
     )
 
 paired-requires : tie.Need-paired-requires
@@ -67,7 +67,7 @@ returns-4 c =
     let if3-left = (let p : tie.Else3 = search in p .if3 .left) in
     let paired-ensures = (let p : tie.After-paired = search in p .paired .ensures) in (
       (λ t w. paired-no w (sym vertices-fit-ensures ∙ not-false _ if3-left) (paired-ensures .0) (not-true _ (c .if4 .taken))),
-      ((λ y. absurd (true≢false (sym y))), paired-ensures .1, start .pre .0 .7, start .pre .0 .8, start .pre .0 .9),
+      ((λ y. absurd (true≢false (sym y))), paired-ensures .1, refl, start .pre .0 .8, start .pre .0 .9),
     )
 
 put-draft-requires : tie.Need-put-draft-requires
@@ -128,6 +128,7 @@ returns-5 c =
     let if5-taken = (let p : tie.Then5 = search in p .if5 .taken) in
     let one-volume-ensures = (let p : tie.After-one-volume = search in p .one-volume .ensures) in
     let rank-at-ensures = (let p : tie.After-rank-at = search in p .rank-at .ensures) in
+    let put-draft-kept = (let p : tie.After-put-draft = search in p .put-draft .kept) in
     let put-draft-ensures = (let p : tie.After-put-draft = search in p .put-draft .ensures) in
     let if4-left = (let p : tie.Else4 = search in p .if4 .left) in
     let paired-ensures = (let p : tie.After-paired = search in p .paired .ensures) in
@@ -139,7 +140,7 @@ returns-5 c =
       (λ t w. volume-no w vertices-fit-yes
           (draft-of w vertices-fit-yes (start .pre .1 .0) (paired-ensures .0) (not-false _ if4-left) put-draft-ensures)
           rank-at-ensures (sym (one-volume-ensures .0) ∙ not-true _ if5-taken)),
-      ((λ y. absurd (true≢false (sym y))), paired-ensures .1, put-draft-ensures .size, one-volume-ensures .1, start .pre .0 .9),
+      ((λ y. absurd (true≢false (sym y))), paired-ensures .1, omega (arith, put-draft-kept), one-volume-ensures .1, start .pre .0 .9),
     )
 
 numbered-requires : tie.Need-numbered-requires
@@ -181,6 +182,7 @@ returns-6 c =
     let if5-left = (let p : tie.Else5 = search in p .if5 .left) in
     let one-volume-ensures = (let p : tie.After-one-volume = search in p .one-volume .ensures) in
     let rank-at-ensures = (let p : tie.After-rank-at = search in p .rank-at .ensures) in
+    let put-draft-kept = (let p : tie.After-put-draft = search in p .put-draft .kept) in
     let put-draft-ensures = (let p : tie.After-put-draft = search in p .put-draft .ensures) in
     let if4-left = (let p : tie.Else4 = search in p .if4 .left) in
     let c : tie.Else4 = search in
@@ -204,7 +206,7 @@ returns-6 c =
             (draft-of (start .pre .1 .2 .1) vertices-fit-yes (start .pre .1 .0) (paired-ensures .0) (not-false _ if4-left)
             put-draft-ensures)),
         paired-ensures .1,
-        put-draft-ensures .size,
+        omega (arith, put-draft-kept),
         numbered-ensures .1,
         numbered-ensures .2,
       ),

@@ -51,12 +51,11 @@ sew-at-requires c κs =
     let rank-at-ensures = (let p : tie.After-rank-at Inv-loop μ-loop = search in p .rank-at .ensures) in
     let new-at-ensures = (let p : tie.After-new-at Inv-loop μ-loop = search in p .new-at .ensures) in
     let there = new-at-ensures ∙ ap (λ (r : ℕ). getD (start .args .new .now) r 0) rank-at-ensures in (
-      loop-inv .0 .size ∙ start .pre .0,
+      (let a = start .pre .6 .new-below loop-i (omega arith) in omega (arith, a, there, loop-inv .0 .size, start .pre .0)),
       start .pre .4,
-      (let a = start .pre .6 .new-below loop-i (omega arith) in let f = start .pre .6 .fits in omega (arith, a, f, there)),
       (λ e. let a = start .pre .6 .link-below loop-i (omega arith) e in let f = start .pre .6 .fits in omega (arith, a, f)),
-      (λ e. let a = start .pre .6 .old-below _ (start .pre .6 .link-below loop-i (omega arith) e) in let f = start .pre .6 .fits in
-          omega (arith, a, f)),
+      (λ e. let a = start .pre .6 .old-below _ (start .pre .6 .link-below loop-i (omega arith) e) in
+          omega (arith, a, loop-inv .0 .size, start .pre .0)),
     )
 
 add-i : tie.Need-add-i Inv-loop μ-loop
@@ -72,7 +71,7 @@ loop-again c =
     let sew-at-ensures = (let p : tie.After-sew-at Inv-loop μ-loop = search in p .sew-at .ensures) in
     let rank-at-ensures = (let p : tie.After-rank-at Inv-loop μ-loop = search in p .rank-at .ensures) in
     let new-at-ensures = (let p : tie.After-new-at Inv-loop μ-loop = search in p .new-at .ensures) in
-    (sewn-more (start .pre .6) (loop-inv .0 .size ∙ start .pre .0) (loop-inv .0) (omega arith) rank-at-ensures new-at-ensures sew-at-ensures, omega arith)
+    (sewn-more (start .pre .6) (omega (arith, loop-inv .0 .size, start .pre .0)) (loop-inv .0) (omega arith) rank-at-ensures new-at-ensures sew-at-ensures, omega arith)
 
 same-length : tie.Need-same-length Inv-loop μ-loop
 same-length c = search needs

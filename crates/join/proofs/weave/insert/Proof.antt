@@ -1,6 +1,7 @@
 -- `join::weave::insert` meets its contract: the tables, the records merged, the header stored. Assumes nothing.
 use lib.ListN.{getD}
 use Rattle.join.proofs.Weaving.{all-woven}
+use native.Mathlib.Omega.{arith}
 use borrow.Author.Needs.{needs}
 use Rattle.join.proofs.weave.insert.Statement.{statement}
 use Rattle.join.proofs.weave.insert.Tie as tie
@@ -47,7 +48,7 @@ returns c =
     let start : tie.Start = search in
     let block = start .args .block .now in
     let draft = start .args .draft .now in (
-      all-woven block draft (getD block 2 0) (getD draft 2 0) (start .pre .0 .block .size) merge-ensures write-ensures,
+      all-woven block draft (getD block 2 0) (getD draft 2 0) (omega (arith, start .pre .0 .block .size)) merge-ensures write-ensures,
       ((tables-ensures .0, tables-ensures .1), (tables-ensures .2, tables-ensures .3)),
     )
 

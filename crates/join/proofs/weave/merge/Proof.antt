@@ -1,7 +1,6 @@
 -- `join::weave::merge` meets its contract. The loop's invariant: what is left to weave, and what stands behind it, is the whole.
 -- The measure is what is left of both. Assumes nothing.
-use Prim.Native.Nat.{_+_, _-_}
-use mathlib.Core.Path.{_∙_}
+use Prim.Native.Nat.{_+_}
 use Rattle.join.proofs.Weaving.{Weaving, weaving-start, weaving-end, old-left, new-left, old-fits, new-fits, old-turn, new-turn}
 use native.Mathlib.Omega.{arith}
 use borrow.Author.Needs.{needs}
@@ -33,10 +32,8 @@ last-is-old-requires : tie.Need-last-is-old-requires Inv-loop μ-loop
 last-is-old-requires c κs =
     let start : tie.Start Inv-loop μ-loop = search in
     let loop-inv = (let p : tie.At-loop Inv-loop μ-loop = search in p .loop .inv) in (
-      loop-inv .size ∙ start .pre .0 .0 .block .size,
-      start .pre .0 .0 .draft .size,
-      omega (arith, loop-inv .i-le, start .pre .0 .0 .block .few),
-      omega (arith, loop-inv .j-le, start .pre .0 .0 .draft .few),
+      omega (arith, loop-inv .i-le, loop-inv .size, start .pre .0 .0 .block .size),
+      omega (arith, loop-inv .j-le, start .pre .0 .0 .draft .size),
     )
 
 sub-p : tie.Need-sub-p Inv-loop μ-loop
@@ -53,15 +50,9 @@ record-at-requires c κs =
     let loop-inv = (let p : tie.At-loop Inv-loop μ-loop = search in p .loop .inv) in
     let loop-test-taken = (let p : tie.In-loop Inv-loop μ-loop = search in p .loop-test .taken) in
     let last-is-old-ensures = (let p : tie.After-last-is-old Inv-loop μ-loop = search in p .last-is-old .ensures) in
-    let if1-taken = (let p : tie.Then1 Inv-loop μ-loop = search in p .if1 .taken) in (
-      omega (
-        arith,
-        loop-inv .i-le,
-        start .pre .0 .0 .block .few,
-        old-left (start .pre .0 .0) loop-inv loop-test-taken last-is-old-ensures if1-taken,
-      ),
-      loop-inv .size ∙ start .pre .0 .0 .block .size,
-    )
+    let if1-taken = (let p : tie.Then1 Inv-loop μ-loop = search in p .if1 .taken) in
+    let some = old-left (start .pre .0 .0) loop-inv loop-test-taken last-is-old-ensures if1-taken in
+    omega (arith, loop-inv .i-le, loop-inv .size, start .pre .0 .0 .block .size, some)
 
 put-moved-requires : tie.Need-put-moved-requires Inv-loop μ-loop
 put-moved-requires c κs =
@@ -72,9 +63,8 @@ put-moved-requires c κs =
     let if1-taken = (let p : tie.Then1 Inv-loop μ-loop = search in p .if1 .taken) in
     let record-at-ensures = (let p : tie.After-record-at Inv-loop μ-loop = search in p .record-at .ensures) in
     let w = old-fits (start .pre .0 .0) loop-inv loop-test-taken last-is-old-ensures if1-taken record-at-ensures in (
-      loop-inv .size ∙ start .pre .0 .0 .block .size,
+      omega (arith, loop-test-taken, loop-inv .i-le, loop-inv .j-le, loop-inv .size, start .pre .0 .0 .holds),
       start .pre .0 .1,
-      omega (arith, loop-test-taken, loop-inv .i-le, loop-inv .j-le, start .pre .0 .0 .fits),
       w .next,
       w .opposite,
       w .link,
@@ -114,15 +104,9 @@ draft-record-requires c κs =
     let start : tie.Start Inv-loop μ-loop = search in
     let loop-inv = (let p : tie.At-loop Inv-loop μ-loop = search in p .loop .inv) in
     let loop-test-taken = (let p : tie.In-loop Inv-loop μ-loop = search in p .loop-test .taken) in
-    let last-is-old-ensures = (let p : tie.After-last-is-old Inv-loop μ-loop = search in p .last-is-old .ensures) in (
-      omega (
-        arith,
-        loop-inv .j-le,
-        start .pre .0 .0 .draft .few,
-        new-left (start .pre .0 .0) loop-inv loop-test-taken last-is-old-ensures (c .if1 .left),
-      ),
-      start .pre .0 .0 .draft .size,
-    )
+    let last-is-old-ensures = (let p : tie.After-last-is-old Inv-loop μ-loop = search in p .last-is-old .ensures) in
+    let some = new-left (start .pre .0 .0) loop-inv loop-test-taken last-is-old-ensures (c .if1 .left) in
+    omega (arith, loop-inv .j-le, start .pre .0 .0 .draft .size, some)
 
 put-moved-requires-2 : tie.Need-put-moved-requires-2 Inv-loop μ-loop
 put-moved-requires-2 c κs =
@@ -133,9 +117,8 @@ put-moved-requires-2 c κs =
     let if1-left = (let p : tie.Else1 Inv-loop μ-loop = search in p .if1 .left) in
     let draft-record-ensures = (let p : tie.After-draft-record Inv-loop μ-loop = search in p .draft-record .ensures) in
     let w = new-fits (start .pre .0 .0) loop-inv loop-test-taken last-is-old-ensures if1-left draft-record-ensures in (
-      loop-inv .size ∙ start .pre .0 .0 .block .size,
+      omega (arith, loop-test-taken, loop-inv .i-le, loop-inv .j-le, loop-inv .size, start .pre .0 .0 .holds),
       start .pre .0 .2,
-      omega (arith, loop-test-taken, loop-inv .i-le, loop-inv .j-le, start .pre .0 .0 .fits),
       w .next,
       w .opposite,
       w .link,

@@ -1,6 +1,6 @@
 -- `join::weave::tables` meets its contract. The loop's invariant: the darts from i and j on have their places.
 -- The measure is what is left of both. Assumes nothing.
-use Prim.Native.Nat.{_+_, _-_}
+use Prim.Native.Nat.{_+_}
 use mathlib.Core.Path.{sym, _∙_}
 use Rattle.model.specs.Image.{column}
 use Rattle.join.proofs.Weaving.{Placing, placing-start, place-old, place-new, placing-end, last-yes, last-no}
@@ -32,7 +32,10 @@ sub-t : tie.Need-sub-t Inv-loop μ-loop
 sub-t c = search needs
 
 last-is-old-requires : tie.Need-last-is-old-requires Inv-loop μ-loop
-last-is-old-requires c κs = search needs
+last-is-old-requires c κs =
+    let start : tie.Start Inv-loop μ-loop = search in
+    let loop-inv = (let p : tie.At-loop Inv-loop μ-loop = search in p .loop .inv) in
+    (omega (arith, loop-inv .i-le, start .pre .0 .block .size), omega (arith, loop-inv .j-le, start .pre .0 .draft .size))
 
 sub-p : tie.Need-sub-p Inv-loop μ-loop
 sub-p c =

@@ -27,7 +27,7 @@ loop-holds c =
 clear-at-requires : tie.Need-clear-at-requires Inv-loop μ-loop
 clear-at-requires c κs =
     let start : tie.Start Inv-loop μ-loop = search in
-    (start .pre .0, omega arith, start .pre .2, start .pre .3, start .pre .4)
+    (omega (arith, start .pre .0), start .pre .2, start .pre .3, start .pre .4)
 
 returns : tie.Need-returns Inv-loop μ-loop
 returns c =

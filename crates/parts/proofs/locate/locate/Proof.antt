@@ -27,7 +27,7 @@ note-requires : tie.Need-note-requires Inv-loop μ-loop
 note-requires c κs =
     let start : tie.Start Inv-loop μ-loop = search in
     let loop-inv = (let p : tie.At-loop Inv-loop μ-loop = search in p .loop .inv) in
-    (start .pre .0, omega arith, start .pre .2, start .pre .3, loop-inv .0 .size, start .pre .5 .ascends, start .pre .5 .index-below)
+    (omega (arith, start .pre .0), start .pre .2, start .pre .3, loop-inv .0 .size, start .pre .5 .ascends, start .pre .5 .index-below)
 
 add-p : tie.Need-add-p Inv-loop μ-loop
 add-p c = search needs

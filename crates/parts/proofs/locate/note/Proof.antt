@@ -20,7 +20,7 @@ returns c =
     let p' = start .args .p .0 in
     let places = start .args .places .now in
     let field-ensures = (let p : tie.After-field = search in p .field .ensures) in
-    noted-free block keys c' p' places (start .pre .4) (let e = field-ensures in omega arith)
+    noted-free block keys c' p' places (start .pre .3) (let e = field-ensures in omega arith)
 
 field-requires-2 : tie.Need-field-requires-2
 field-requires-2 c κs = search needs
@@ -44,7 +44,7 @@ returns-2 c =
     let places = start .args .places .now in
     let field2-ensures = (let p : tie.After-field2 = search in p .field2 .ensures) in
     let find-ensures = (let p : tie.After-find = search in p .find .ensures) in
-    noted-none block keys c' p' places (start .pre .4) (ap (rank-in (value-at keys) c') (sym field2-ensures) ∙ sym find-ensures ∙ c .enum-told .given .1)
+    noted-none block keys c' p' places (start .pre .3) (ap (rank-in (value-at keys) c') (sym field2-ensures) ∙ sym find-ensures ∙ c .enum-told .given .1)
 
 mul-e : tie.Need-mul-e
 mul-e c =
@@ -81,8 +81,8 @@ returns-3 c =
     let field2-ensures = (let p : tie.After-field2 = search in p .field2 .ensures) in
     let find-ensures = (let p : tie.After-find = search in p .find .ensures) in
     let r-given = (let p : tie.After-r = search in p .r .given) in
-    noted-found block keys c' p' places (start .pre .4) (let e = field-ensures in omega arith) (start .pre .5) (start .pre .3)
-    (start .pre .6) (ap (rank-in (value-at keys) c') (sym field2-ensures) ∙ sym find-ensures ∙ r-given .1)
+    noted-found block keys c' p' places (start .pre .3) (let e = field-ensures in omega arith) (start .pre .4) (start .pre .2)
+    (start .pre .5) (ap (rank-in (value-at keys) c') (sym field2-ensures) ∙ sym find-ensures ∙ r-given .1)
 
 pub note-spec : {M : Type 1} → statement M
 note-spec =

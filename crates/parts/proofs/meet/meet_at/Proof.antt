@@ -21,7 +21,7 @@ point-at-requires : tie.Need-point-at-requires
 point-at-requires c κs =
     let start : tie.Start = search in
     let next-of-ensures = (let p : tie.After-next-of = search in p .next-of .ensures) in
-    (omega (arith, next-of-ensures, start .pre .0 .5), start .pre .0 .0, subst (FiniteAt (start .args .block .now)) (sym next-of-ensures) (start .pre .1 .3))
+    (omega (arith, next-of-ensures, start .pre .0 .3), subst (FiniteAt (start .args .block .now)) (sym next-of-ensures) (start .pre .1 .3))
 
 same-point-requires : tie.Need-same-point-requires
 same-point-requires c κs =
@@ -41,7 +41,7 @@ draft-point-requires-2 : tie.Need-draft-point-requires-2
 draft-point-requires-2 c κs =
     let start : tie.Start = search in
     let draft-next-ensures = (let p : tie.After-draft-next = search in p .draft-next .ensures) in
-    (omega (arith, draft-next-ensures, start .pre .0 .4), start .pre .0 .1, subst (FiniteAt (start .args .draft .now)) (sym draft-next-ensures) (start .pre .1 .1))
+    (omega (arith, draft-next-ensures, start .pre .0 .2), subst (FiniteAt (start .args .draft .now)) (sym draft-next-ensures) (start .pre .1 .1))
 
 same-point-requires-2 : tie.Need-same-point-requires-2
 same-point-requires-2 c κs =

@@ -12,7 +12,7 @@ use Rattle.parts.proofs.meets.entry_right.Tie as tie
 field-requires : tie.Need-field-requires
 field-requires c κs =
     let start : tie.Start = search in
-    ((let f = start .pre .0 .linked .few in omega (arith, f)), omega arith)
+    (omega (arith, start .pre .0 .linked .size, start .pre .2), omega arith)
 
 mul-if1 : tie.Need-mul-if1
 mul-if1 c = search needs

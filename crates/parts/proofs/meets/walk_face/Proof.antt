@@ -42,7 +42,7 @@ next-of-requires : tie.Need-next-of-requires Inv-loop μ-loop
 next-of-requires c κs =
     let start : tie.Start Inv-loop μ-loop = search in
     let loop-inv = (let p : tie.At-loop Inv-loop μ-loop = search in p .loop .inv) in
-    (omega (arith, loop-inv .0 .below, start .pre .0 .few), start .pre .0 .size)
+    omega (arith, loop-inv .0 .below, start .pre .0 .size)
 
 same-length : tie.Need-same-length Inv-loop μ-loop
 same-length c =

@@ -16,7 +16,7 @@ use Rattle.receive.proofs.asks.questions.Tie as tie
 for-here-requires : tie.Need-for-here-requires
 for-here-requires c κs =
     let start : tie.Start = search in
-    (sited (start .args .block .now) (start .pre .0 .0)) .linked .size
+    omega (arith, (sited (start .args .block .now) (start .pre .0 .0)) .linked .size)
 
 returns : tie.Need-returns
 returns c =
