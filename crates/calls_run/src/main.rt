@@ -98,7 +98,7 @@ fn moved(m: NextMove) {
 fn move_by(line: &[u8], mesh: &[u64], points: &[u8], scratch: &mut [u64]) -> NextMove {
     let low = vectors::point(points, 0);
     let high = vectors::point(points, 24);
-    nextmove::next_move_by_number(
+    balance::nextmove::next_move_by_number(
         mesh,
         line::small(line, 3),
         line::small(line, 4),
