@@ -25,8 +25,8 @@ use Rattle.columns.proofs.Below.{below-at}
 use Rattle.cells.proofs.FaceLaws.{keep-append}
 use Rattle.cells.proofs.Reached.{places, places-below}
 use Rattle.cells.proofs.Sited.{sited, darts-in}
-use Rattle.picking.specs.Picked.{size-at, Sizes}
-use Rattle.picking.proofs.PickedPlaces.{picked-places, size-is}
+use Rattle.selection.specs.Picked.{size-at, Sizes}
+use Rattle.selection.proofs.PickedPlaces.{picked-places, size-is}
 use Rattle.mesh.specs.Parts.{blocks, part}
 use Rattle.mesh.proofs.Parts.{mesh-tab, sound-test, sound-is}
 use Rattle.balance.specs.Moves.{can-leave, fits, leaves-at, Untried-in, going, candidate-of, at}

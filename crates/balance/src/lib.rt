@@ -17,7 +17,7 @@ ghost use Rattle.model.specs.Calls.{memories, served};
 ghost use Rattle.model.specs.Balance.{blocked, first-or, is-above, next-of as model-next};
 ghost use Rattle.answers.specs.Answers.{move-of};
 ghost use Rattle.oracle.specs.Oracle.{oracle-of};
-ghost use Rattle.picking.specs.Picked.{Sizes};
+ghost use Rattle.selection.specs.Picked.{Sizes};
 ghost use Rattle.mesh.specs.Parts.{blocks, part};
 ghost use Rattle.balance.specs.Moves.{SoundParts, Surpluses, Untried-in, going, candidate-of, at, found-of, moves-from, all-moves};
 use crate::leaving::Candidate;
@@ -32,7 +32,7 @@ fn sizes_at(mesh: &[u64], i: usize, o: Oracle, sizes: &mut [usize])
 {
     let from = i * Header::WORDS;
     let to = from + Header::WORDS;
-    picking::sizes_of(&mesh[from..to], o, sizes)
+    selection::sizes_of(&mesh[from..to], o, sizes)
 }
 
 // The first volume that may go from block d to block `to`.

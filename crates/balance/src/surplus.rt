@@ -21,7 +21,7 @@ fn count_part(mesh: &[u64], i: usize, o: Oracle) -> u32
 {
     let from = i * Header::WORDS;
     let to = from + Header::WORDS;
-    picking::count(&mesh[from..to], o) as u32
+    selection::count(&mesh[from..to], o) as u32
 }
 
 // How many volumes of each block are picked.

@@ -1,8 +1,8 @@
 // The cells of a block, a line for each: least serial, darts, faces, critical faces by the other block, mean of the corners.
-use basin::say;
+use store::say;
 use corners::Mean;
 use corners::thousandths::Thousandths;
-use tally::rows::Told;
+use stats::rows::Told;
 
 // Word i; 0 past the end.
 fn word(words: &[u64], i: usize) -> u64 {
@@ -109,7 +109,7 @@ fn show_rows(block: &[u64], count: usize, rows: &[u64]) {
 
 // The cells of a block's memory, by way of lent rows.
 pub fn show(block: &[u64], rows: &mut [u64]) {
-    match tally::rows::cell_figures(block, rows) {
+    match stats::rows::cell_figures(block, rows) {
         Told::Cells(count) => {
             if count <= rows.len() / 19 {
                 let end = count * 19;

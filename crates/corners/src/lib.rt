@@ -7,7 +7,7 @@ ghost use Prim.Native.Nat.{ℕ, _≤_, _<_};
 ghost use lib.ListN.{length, getD, take};
 ghost use Rattle.model.specs.Values.{room};
 ghost use Rattle.model.specs.Image.{dart-in, holds-block};
-ghost use Rattle.picking.specs.Picked.{Walkable};
+ghost use Rattle.selection.specs.Picked.{Walkable};
 ghost use Rattle.corners.specs.Corners.{plus-point, over-number, sum-of, Cornered, mean-in};
 use memory::lookup;
 use memory::lookup::Found;

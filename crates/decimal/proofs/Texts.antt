@@ -10,10 +10,10 @@ use lib.ListN.{length, getD, take, drop}
 use borrow.Author.Tests.{lt-ltb, le-ltb, le-leb, lt-leb, ne-eqb}
 use Rattle.laws.proofs.Tests.{by-cases, lt-or-ge}
 use Rattle.laws.proofs.Lists.{drop-at-cons, drop-end, rest-whole}
-use Rattle.desk.specs.Words.{is-digit, number-in, leading}
-use Rattle.desk.specs.declared.words.Number.{Number}
-use Rattle.desk.specs.declared.words.Number.the-variants as number
-use Rattle.desk.proofs.Scans.{leading-on, leading-stop, leading-end, leading-start}
+use Rattle.commands.specs.Words.{is-digit, number-in, leading}
+use Rattle.commands.specs.declared.words.Number.{Number}
+use Rattle.commands.specs.declared.words.Number.the-variants as number
+use Rattle.commands.proofs.Scans.{leading-on, leading-stop, leading-end, leading-start}
 use Rattle.decimal.specs.declared.Decimal.{Decimal}
 use Rattle.decimal.specs.declared.Digits.{Digits}
 use Rattle.decimal.specs.declared.Power.{Power}

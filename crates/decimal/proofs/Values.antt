@@ -14,7 +14,7 @@ use lib.Ieee.Scale.{round-same}
 use borrow.Author.Tests.{lt-ltb, le-ltb, le-leb, lt-leb, ne-eqb, ltb-true, ltb-false}
 use Rattle.laws.proofs.Tests.{or-cases, and-false}
 use Rattle.laws.proofs.Lists.{rest-whole}
-use Rattle.desk.specs.Words.{is-digit, leading}
+use Rattle.commands.specs.Words.{is-digit, leading}
 use Rattle.decimal.specs.declared.Decimal.{Decimal}
 use Rattle.decimal.specs.declared.Decimal.the-variants as decimal
 use Rattle.decimal.specs.declared.Digits.{Digits}

@@ -7,9 +7,9 @@ use Prim.Native.Nat.{ℕ, zero, _+_, _*_, _-_, _^_}
 use lib.Dec.{leb, ltb, eqb}
 use lib.ListN.{length, drop}
 use lib.Ieee.{binary64, round}
-use Rattle.desk.specs.Words.{is-digit, number-in, leading}
-use Rattle.desk.specs.declared.words.Number.{Number}
-use Rattle.desk.specs.declared.words.Number.the-variants as number
+use Rattle.commands.specs.Words.{is-digit, number-in, leading}
+use Rattle.commands.specs.declared.words.Number.{Number}
+use Rattle.commands.specs.declared.words.Number.the-variants as number
 use Rattle.decimal.specs.declared.Decimal.{Decimal}
 use Rattle.decimal.specs.declared.Decimal.the-variants as decimal
 use Rattle.decimal.specs.declared.Digits.{Digits}

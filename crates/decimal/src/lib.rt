@@ -11,8 +11,8 @@ ghost use lib.Ieee.{binary64, neg, round};
 ghost use lib.Ieee.Exact.{HasValue};
 ghost use Rattle.decimal.specs.Decimal.{capped, digits-of, up-by, down-by, short-of, signed-of, exponent-of};
 ghost use Rattle.decimal.specs.Decimal.{nearest-to, scaled-by, fraction-of, behind-of, unsigned-of, decimal-of};
-use desk::words;
-use desk::words::Number;
+use commands::words;
+use commands::words::Number;
 
 // A text's float, or that it is no decimal that is read exactly.
 pub enum Decimal {

@@ -1,11 +1,11 @@
 // The words of a command, by their place, and its options, which begin with two minuses and may stand anywhere among them.
 ghost use Rattle.io.specs.Counts.{Counts};
-use basin::say;
+use store::say;
 use decimal::Decimal;
-use desk::command;
-use desk::command::OptionWord;
-use desk::words;
-use desk::words::Number;
+use commands::command;
+use commands::command::OptionWord;
+use commands::words;
+use commands::words::Number;
 use memory::point::Point;
 use oracle::Oracle;
 

@@ -1,7 +1,7 @@
 // What is told of a basin: a line for each block, and whether it is sound.
 use answers::Answer;
-use basin::say;
-use desk::names;
+use store::say;
+use commands::names;
 use oracle::Oracle;
 
 // Into how many pieces a block's volumes fall.
@@ -20,7 +20,7 @@ fn show_block(b: usize, block: &[u64]) {
     say::text(b"block ");
     say::number(b as u64);
     say::text(b": ");
-    let t = tally::tally(block);
+    let t = stats::tally(block);
     say::number(t.darts);
     say::text(b" darts, ");
     say::number(t.volumes);
@@ -151,7 +151,7 @@ pub fn is_sound(mesh: &[u64], scratch: &mut [u64]) -> bool {
 // How many volumes an oracle picks in a block.
 fn picked(block: &[u64], o: Oracle) -> u64 {
     if sound::is_sound(block) {
-        return picking::count(block, o) as u64;
+        return selection::count(block, o) as u64;
     }
     0
 }

@@ -1,5 +1,5 @@
 // The moves of a balance, as lines that can be played.
-use basin::say;
+use store::say;
 
 // Request i of a list.
 fn show_move(requests: &[u64], i: usize) {

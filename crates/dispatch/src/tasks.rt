@@ -4,13 +4,13 @@ use crate::inspect;
 use crate::moving;
 use crate::playing;
 use crate::status::Status;
-use basin::disk;
-use basin::lock;
-use basin::lock::Taken;
-use basin::reading;
-use basin::reading::Basin;
-use basin::say;
-use levelling::Balanced;
+use store::disk;
+use store::lock;
+use store::lock::Taken;
+use store::reading;
+use store::reading::Basin;
+use store::say;
+use rebalance::Balanced;
 use oracle::Oracle;
 
 // Plays so many requests; balances; adds empty blocks up to so many, and balances or does not.
@@ -148,7 +148,7 @@ fn balance_on(
     }
     say::text(b"# before:");
     inspect::show_picked(mesh, by);
-    let balanced = levelling::balance(mesh, by, scratch, outbox, moves);
+    let balanced = rebalance::balance(mesh, by, scratch, outbox, moves);
     end_balance(balanced, moves, by, grown, dry, mesh, room)
 }
 

@@ -25,7 +25,7 @@ pub use send::send;
 
 #[no_mangle]
 pub extern "C" fn dmap_empty(number: u64, block: &mut [u64]) -> u32
-    ensures { λ r. ⌜ Numbered (calls.empty number (now (block .entry))) r (now (block .exit)) ⌝ }
+    ensures { λ r. ⌜ Numbered (calls.empty rack number (now (block .entry))) r (now (block .exit)) ⌝ }
 {
     answers::answer_number(memory::header::empty(number, block))
 }

@@ -11,7 +11,7 @@ use borrow.Author.Tests.{lt-ltb, le-ltb, le-leb, lt-leb}
 use Rattle.model.specs.Lists.{tab}
 use Rattle.columns.specs.Columns.{all-below}
 use Rattle.mesh.specs.Parts.{blocks}
-use Rattle.desk.specs.declared.names.File.the-variants as files
+use Rattle.commands.specs.declared.names.File.the-variants as files
 use Rattle.saving.specs.declared.prepare.Made.the-variants as made
 use Rattle.saving.specs.Commit.{entry-of, commit-of}
 use Rattle.saving.specs.Prepare.{when, savable, file-of, all-savable, contents, fitting, left-by, made-of, Put, Entered}

@@ -21,7 +21,7 @@ use Rattle.answers.specs.declared.Written.the-variants as written
 use Rattle.answers.specs.Answers.{Gives, written-of, question}
 use Rattle.savefile.proofs.WholeFile.{file-counted}
 use Rattle.mesh.specs.Parts.{blocks, part}
-use Rattle.desk.specs.declared.names.File.the-variants as files
+use Rattle.commands.specs.declared.names.File.the-variants as files
 use Rattle.saving.specs.declared.prepare.Made.{Made}
 use Rattle.saving.specs.declared.prepare.Made.the-variants as made
 use Rattle.saving.specs.Prepare.{when, savable, file-of, contents, fitting, left-by, made-of, Put}

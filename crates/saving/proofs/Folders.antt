@@ -9,10 +9,10 @@ use native.Mathlib.Omega.{arith}
 use lib.ListN.{length, getD}
 use Rattle.laws.proofs.Members.{Each}
 use Rattle.laws.proofs.Tests.{lt-or-ge}
-use Rattle.desk.specs.declared.names.File.{File}
-use Rattle.desk.specs.declared.names.File.the-variants as file
-use Rattle.desk.specs.Names.{same-name, is-basins}
-use Rattle.desk.proofs.NameLaws.{one-file, names-tell}
+use Rattle.commands.specs.declared.names.File.{File}
+use Rattle.commands.specs.declared.names.File.the-variants as file
+use Rattle.commands.specs.Names.{same-name, is-basins}
+use Rattle.commands.proofs.NameLaws.{one-file, names-tell}
 use Rattle.saving.specs.declared.plan.Step.{Step}
 use Rattle.saving.specs.declared.plan.Step.the-variants as step
 use Rattle.saving.specs.Plan.{steps}

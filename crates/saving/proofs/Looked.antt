@@ -10,7 +10,7 @@ use native.Mathlib.Omega.{arith}
 use lib.Dec.{eqb, ltb}
 use borrow.Author.Tests.{lt-ltb, eq-eqb}
 use Rattle.laws.proofs.Tests.{and-intro, by-cases}
-use Rattle.desk.specs.declared.names.File.the-variants as file
+use Rattle.commands.specs.declared.names.File.the-variants as file
 use Rattle.saving.specs.declared.commit.Entry.{Entry}
 use Rattle.saving.specs.declared.look.Found.{Found}
 use Rattle.saving.specs.declared.look.Found.the-variants as found

@@ -14,8 +14,8 @@ use Rattle.model.specs.Lists.{tab, is-some}
 use Rattle.laws.proofs.Members.{Each, each-append}
 use Rattle.laws.proofs.Tables.{tab-more}
 use Rattle.laws.proofs.Tests.{by-cases, eq-or-ne}
-use Rattle.desk.specs.declared.names.File.{File}
-use Rattle.desk.specs.declared.names.File.the-variants as file
+use Rattle.commands.specs.declared.names.File.{File}
+use Rattle.commands.specs.declared.names.File.the-variants as file
 use Rattle.saving.specs.declared.plan.Step.{Step}
 use Rattle.saving.specs.declared.plan.Step.the-variants as step
 use Rattle.saving.specs.Plan.{steps, tidied, tidying, mend-stages}

@@ -12,7 +12,7 @@ use Rattle.laws.proofs.Tests.{and-left, and-right}
 use Rattle.columns.specs.Columns.{all-below}
 use Rattle.columns.proofs.Below.{below-at}
 use Rattle.mesh.specs.Parts.{blocks}
-use Rattle.desk.specs.declared.names.File.the-variants as file
+use Rattle.commands.specs.declared.names.File.the-variants as file
 use Rattle.saving.specs.Prepare.{savable, file-of, all-savable, contents}
 use Rattle.saving.specs.Folder.{Folder, saves, SaveKeeps}
 use Rattle.saving.proofs.Contents.{file-short}

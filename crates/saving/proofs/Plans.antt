@@ -7,7 +7,7 @@ use native.Mathlib.Omega.{arith}
 use lib.Dec.{ltb}
 use lib.ListN.{getD, List·getD-eq-default}
 use Rattle.model.specs.Lists.{tab}
-use Rattle.desk.specs.declared.names.File.the-variants as file
+use Rattle.commands.specs.declared.names.File.the-variants as file
 use Rattle.saving.specs.declared.plan.Step.{Step}
 use Rattle.saving.specs.declared.plan.Step.the-variants as step
 use Rattle.saving.specs.Plan.{steps, writing, committing, placing, ending, save-stages, save-step, tidied, tidying, mend-stages, mend-step, writing-step, placing-step}

@@ -5,10 +5,10 @@ use mathlib.Core.Option.{Option, none, some}
 use Prim.Native.Nat.{ℕ}
 use native.Mathlib.Omega.{arith}
 use lib.ListN.{length}
-use Rattle.desk.specs.declared.names.File.{File}
-use Rattle.desk.specs.declared.names.File.the-variants as files
-use Rattle.desk.specs.declared.names.Name.{Name}
-use Rattle.desk.specs.Names.{named, nameless}
+use Rattle.commands.specs.declared.names.File.{File}
+use Rattle.commands.specs.declared.names.File.the-variants as files
+use Rattle.commands.specs.declared.names.Name.{Name}
+use Rattle.commands.specs.Names.{named, nameless}
 use Rattle.saving.specs.declared.plan.Step.{Step}
 use Rattle.saving.specs.declared.plan.Step.the-variants as step
 use Rattle.saving.specs.declared.prepare.Made.{Made}

@@ -13,10 +13,10 @@ use borrow.Author.Tests.{lt-ltb, le-ltb, eq-eqb, ne-eqb}
 use Rattle.model.specs.Lists.{tab}
 use Rattle.laws.proofs.Members.{Each}
 use Rattle.laws.proofs.Tests.{lt-or-ge, eq-or-ne}
-use Rattle.desk.specs.declared.names.File.{File}
-use Rattle.desk.specs.declared.names.File.the-variants as file
-use Rattle.desk.specs.Names.{is-basins}
-use Rattle.desk.proofs.NameLaws.{one-file}
+use Rattle.commands.specs.declared.names.File.{File}
+use Rattle.commands.specs.declared.names.File.the-variants as file
+use Rattle.commands.specs.Names.{is-basins}
+use Rattle.commands.proofs.NameLaws.{one-file}
 use Rattle.saving.specs.declared.plan.Step.{Step}
 use Rattle.saving.specs.declared.plan.Step.the-variants as step
 use Rattle.saving.specs.Folder.{Folder, put, moved, does, blocks-of, first, seen, Alike}

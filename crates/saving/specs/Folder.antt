@@ -13,9 +13,9 @@ use Prim.Native.Nat.{ℕ, zero, suc, _+_, _^_, _≤_, _<_}
 use lib.Dec.{ltb}
 use lib.ListN.{length, getD}
 use Rattle.model.specs.Lists.{tab, is-some}
-use Rattle.desk.specs.declared.names.File.{File}
-use Rattle.desk.specs.declared.names.File.the-variants as file
-use Rattle.desk.specs.Names.{same-name}
+use Rattle.commands.specs.declared.names.File.{File}
+use Rattle.commands.specs.declared.names.File.the-variants as file
+use Rattle.commands.specs.Names.{same-name}
 use Rattle.saving.specs.declared.plan.Step.{Step}
 use Rattle.saving.specs.declared.plan.Step.the-variants as step
 use Rattle.saving.specs.declared.look.Found.{Found}

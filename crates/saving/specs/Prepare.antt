@@ -12,9 +12,9 @@ use Rattle.model.specs.Image.{block-in, memory-checks}
 use Rattle.model.specs.Messages.{file}
 use Rattle.columns.specs.Columns.{all-below}
 use Rattle.mesh.specs.Parts.{blocks, part}
-use Rattle.desk.specs.declared.names.File.{File}
-use Rattle.desk.specs.declared.names.File.the-variants as files
-use Rattle.desk.specs.Names.{named, nameless}
+use Rattle.commands.specs.declared.names.File.{File}
+use Rattle.commands.specs.declared.names.File.the-variants as files
+use Rattle.commands.specs.Names.{named, nameless}
 use Rattle.saving.specs.declared.plan.Step.{Step}
 use Rattle.saving.specs.declared.plan.Step.the-variants as step
 use Rattle.saving.specs.declared.prepare.Made.{Made}

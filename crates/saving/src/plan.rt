@@ -3,7 +3,7 @@ ghost use mathlib.Core.Path.{_≡_};
 ghost use mathlib.Core.Bool.{false};
 ghost use lib.ListN.{getD};
 ghost use Rattle.saving.specs.Plan.{save-step, writing-step, placing-step, mend-step, tidied};
-use desk::names::File;
+use commands::names::File;
 
 // Write a file; give it another name; take it away; have the disk keep the folder's names.
 pub enum Step {

@@ -8,9 +8,9 @@ use crate::commit;
 use crate::commit::Entry;
 use crate::plan::Step;
 use answers::Written;
-use desk::names;
-use desk::names::File;
-use desk::names::Name;
+use commands::names;
+use commands::names::File;
+use commands::names::Name;
 
 // How many bytes were put, or that they cannot be.
 pub enum Made {

@@ -9,7 +9,7 @@ use mir.Syntax.{w32}
 use borrow.Author.Tests.{not-true, not-false}
 use Rattle.model.specs.Balance.{Oracle}
 use Rattle.oracle.specs.Oracle.{oracle-of}
-use Rattle.picking.specs.Picked.{Sizes}
+use Rattle.selection.specs.Picked.{Sizes}
 use Rattle.mesh.specs.Parts.{part}
 use Rattle.balance.specs.Moves.{Surpluses}
 use Rattle.balance.proofs.MovesLaws.{Giving, giving-start, giving-skip, giving-none, giving-found, giving-end, below-told, blocks-apart}

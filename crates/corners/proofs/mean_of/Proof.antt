@@ -7,7 +7,7 @@ use Rattle.answers.proofs.Questions.{said-no, said-yes}
 use Rattle.memory.proofs.Lookups.{place-at, held-at, held-nothing}
 use Rattle.cells.proofs.Sited.{sited}
 use Rattle.cells.proofs.Resets.{zeros-long}
-use Rattle.picking.proofs.Loops.{walkable}
+use Rattle.selection.proofs.Loops.{walkable}
 use Rattle.corners.proofs.CornerLaws.{mean-there, mean-unsound, mean-nowhere}
 use native.Mathlib.Omega.{arith}
 use borrow.Author.Needs.{needs}

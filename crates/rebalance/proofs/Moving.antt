@@ -1,0 +1,234 @@
+-- Moves one after the other: one more, and how it ends. Assumes nothing.
+use mathlib.Core.Path.{_≡_, refl, sym, _∙_, ap, subst}
+use mathlib.Core.List.{List, [], _∷_, _++_, append-assoc, append-nil}
+use Prim.Native.Nat.{ℕ, zero, suc, _+_, _*_, _/_, _≤_, _<_}
+use native.Mathlib.Omega.{arith}
+use lib.Dec.{eqb}
+use lib.ListN.{length, set, take, drop, length-append, length-set, take-append-drop}
+use lib.Seq.{take-add}
+use Rattle.model.specs.Lists.{concat, tab, first-no, Check}
+use Rattle.model.specs.Values.{all-rack}
+use Rattle.model.specs.Balance as balance
+use Rattle.model.specs.Balance.{Oracle, Move, NextMove}
+use Rattle.model.specs.Calls.{Answer, served, refused, asked, memories, next-move}
+use Rattle.laws.proofs.Lists.{concat-snoc}
+use Rattle.laws.proofs.Tables.{tab-more}
+use Rattle.laws.proofs.Tests.{by-cases}
+use Rattle.answers.specs.Answers.{Gives, move-of}
+use Rattle.answers.specs.declared.NextMove as answers-move
+use Rattle.rounds.specs.Played.{left-over, asks-for}
+use Rattle.rounds.specs.Requests.{over}
+use Rattle.rounds.proofs.Requests.{over-more, outbox-length}
+use Rattle.rebalance.specs.Turn.{ending-of, a-move, turn, turn-by, round-turn, Levelled}
+use Rattle.rebalance.specs.Balanced.{Stop, Run, stopped, moved-first, with-memories, stop-by, after-step, balanced, numbers-of, with-move, stop-of, count-of, Asked, Balances}
+use Rattle.rebalance.specs.declared.Ending.{Ending}
+use Rattle.rebalance.specs.declared.Ending.the-variants as ending
+use Rattle.rebalance.specs.declared.moves.Balanced.{Balanced}
+
+-- A MESH is the memories of its blocks, and what stands behind the last one
+pieces-front : (n : ℕ) (m : List ℕ) → concat (tab (λ i. take 32776 (drop (i * 32776) m)) n) ≡ take (n * 32776) m
+unfolding concat
+pieces-front zero m = refl
+pieces-front (suc n) m =
+    let e : n * 32776 + 32776 ≡ suc n * 32776 = omega arith in
+    ap concat (tab-more (λ i. take 32776 (drop (i * 32776) m)) n)
+    ∙ concat-snoc (tab (λ i. take 32776 (drop (i * 32776) m)) n) (take 32776 (drop (n * 32776) m))
+    ∙ ap (λ (l : List ℕ). l ++ take 32776 (drop (n * 32776) m)) (pieces-front n m)
+    ∙ sym (take-add (n * 32776) 32776 m) ∙ ap (λ (k : ℕ). take k m) e
+
+pub whole-again : (m : List ℕ) → with-memories m (memories m) ≡ m
+unfolding memories
+whole-again m = ap (λ (l : List ℕ). l ++ left-over m) (pieces-front (length m / 32776) m) ∙ take-append-drop (length m / 32776 * 32776) m
+
+mesh-after : (m m′ : List ℕ) (ms : List (List ℕ)) → memories m′ ≡ ms → left-over m′ ≡ left-over m → with-memories m ms ≡ m′
+mesh-after m m′ ms e l = ap (λ (x : List (List ℕ)). concat x ++ left-over m) (sym e) ∙ ap (λ (x : List ℕ). concat (memories m′) ++ x) (sym l) ∙ whole-again m′
+
+-- THE SCRATCH stays
+asked-keeps : {A : Type 0} (qs : List Check) (l : List ℕ) (v : A) → asked qs l v l .lent ≡ l
+unfolding asked
+asked-keeps qs l v = by-cases (eqb (first-no qs) 0) (λ e. rw e) (λ e. rw e)
+
+pub scratch-stays : (m : List ℕ) (o : Oracle) (scratch : List ℕ) → next-move all-rack m o scratch .lent ≡ scratch
+unfolding next-move
+scratch-stays m o scratch = asked-keeps _ scratch _
+
+-- THE OUTBOX keeps its length
+turned-length : (m outbox : List ℕ) (a : Answer NextMove) → length (turn-by m outbox a .outbox) ≡ length outbox
+unfolding round-turn
+turned-length m outbox (served balance.level) = refl
+turned-length m outbox (served balance.blocked) = refl
+turned-length m outbox (served (balance.move t)) = outbox-length (memories m) (asks-for (t .donor) (t .recipient) (t .serial)) outbox
+turned-length m outbox (refused n) = refl
+
+pub turn-length : (m : List ℕ) (o : Oracle) (scratch outbox : List ℕ) → length (turn m o scratch outbox .outbox) ≡ length outbox
+unfolding turn
+turn-length m o scratch outbox = turned-length m outbox (next-move all-rack m o scratch .answer)
+
+-- MOVES AS NUMBERS
+abbrev numbers : Move → List ℕ
+numbers t = t .donor ∷ t .recipient ∷ t .serial ∷ []
+
+numbers-length : (ts : List Move) → length (numbers-of ts) ≡ length ts * 3
+unfolding numbers-of
+numbers-length [] = refl
+numbers-length (t ∷ ts) = let e = numbers-length ts in omega (arith, e)
+
+numbers-more : (ts : List Move) (t : Move) → numbers-of (ts ++ t ∷ []) ≡ numbers-of ts ++ numbers t
+unfolding numbers-of
+numbers-more [] t = refl
+numbers-more (s ∷ ts) t = ap (λ (l : List ℕ). s .donor ∷ s .recipient ∷ s .serial ∷ l) (numbers-more ts t)
+
+-- one more, behind those that are written
+with-move-over : (xs l : List ℕ) (n : ℕ) (t : Move) → length xs ≡ n * 3 → n < length l / 3 → with-move (over xs l) n t ≡ over (xs ++ numbers t) l
+with-move-over xs l n t e h =
+    let ys = xs ++ t .donor ∷ [] in
+    let zs = ys ++ t .recipient ∷ [] in
+    let ly : length ys ≡ n * 3 + 1 = length-append xs (t .donor ∷ []) ∙ ap (λ (k : ℕ). k + 1) e in
+    let lz : length zs ≡ n * 3 + 2 = length-append ys (t .recipient ∷ []) ∙ omega (arith, ly) in
+    ap (λ (x : List ℕ). set (set x (n * 3 + 1) (t .recipient)) (n * 3 + 2) (t .serial)) (over-more xs l (n * 3) (t .donor) e (omega (arith, h)))
+    ∙ ap (λ (x : List ℕ). set x (n * 3 + 2) (t .serial)) (over-more ys l (n * 3 + 1) (t .recipient) ly (omega (arith, h)))
+    ∙ over-more zs l (n * 3 + 2) (t .serial) lz (omega (arith, h))
+    ∙ ap (λ (x : List ℕ). over x l) (append-assoc ys (t .recipient ∷ []) (t .serial ∷ []) ∙ append-assoc xs (t .donor ∷ []) (t .recipient ∷ t .serial ∷ []))
+
+-- ONE STEP of the fold
+one-step : {m : List ℕ} {o : Oracle} {scratch outbox : List ℕ} {s : Ending} {m′ scratch′ outbox′ : List ℕ} (k : ℕ) → Levelled m o scratch outbox s m′ scratch′ outbox′
+    → balanced (suc k) m o scratch outbox ≡ after-step (ending-of s) m′ outbox′ (balanced k m′ o scratch outbox′)
+unfolding balanced
+one-step {m} {o} {scratch} {outbox} {s} {m′} {scratch′} {outbox′} k w =
+    let p = sym (w .ended .ending-is) in
+    let q = mesh-after m m′ _ (w .ended .memories-are) (w .ended .left) in
+    let r = sym (w .ended .outbox-is) in
+    λ i. after-step (p i) (q i) (r i) (balanced k (q i) o scratch (r i))
+
+-- moves that were carried out, and the rest
+abbrev behind : List Move → Run → Run
+behind ts r = record { stop = r .stop; moves = ts ++ r .moves; mesh = r .mesh; outbox = r .outbox }
+
+behind-more : (ts : List Move) (t : Move) (r : Run) → behind ts (moved-first t r) ≡ behind (ts ++ t ∷ []) r
+behind-more ts t r = ap (λ (l : List Move). record { stop = r .stop; moves = l; mesh = r .mesh; outbox = r .outbox }) (sym (append-assoc ts (t ∷ []) (r .moves)))
+
+-- THE LOOP: n moves are carried out and written down, and what is left gives the same end
+pub record Moving (m₀ : List ℕ) (o : Oracle) (scratch₀ outbox₀ moves₀ : List ℕ) (n : ℕ) (m scratch outbox moves : List ℕ) : Type 0 where
+  pub carried : List Move
+  pub count : length carried ≡ n
+  pub room : ℕ
+  pub rooms : length moves₀ / 3 ≡ n + room
+  pub same-end : balanced (length moves₀ / 3) m₀ o scratch₀ outbox₀ ≡ behind carried (balanced room m o scratch₀ outbox)
+  pub written : moves ≡ over (numbers-of carried) moves₀
+  pub as-was : scratch ≡ scratch₀
+  pub mesh-size : length m ≡ length m₀
+  pub scratch-size : length scratch ≡ length scratch₀
+  pub outbox-size : length outbox ≡ length outbox₀
+  pub moves-size : length moves ≡ length moves₀
+
+pub none-moved : (m : List ℕ) (o : Oracle) (scratch outbox moves : List ℕ) → Moving m o scratch outbox moves 0 m scratch outbox moves
+unfolding numbers-of
+none-moved m o scratch outbox moves = record {
+  carried = [];
+  count = refl;
+  room = length moves / 3;
+  rooms = omega arith;
+  same-end = refl;
+  written = refl;
+  as-was = refl;
+  mesh-size = refl;
+  scratch-size = refl;
+  outbox-size = refl;
+  moves-size = refl;
+}
+
+module _ {m₀ : List ℕ} {o : Oracle} {scratch₀ outbox₀ moves₀ : List ℕ} {n : ℕ} {m scratch outbox moves : List ℕ} (w : Moving m₀ o scratch₀ outbox₀ moves₀ n m scratch outbox moves) where
+  abbrev whole : Run
+  whole = balanced (length moves₀ / 3) m₀ o scratch₀ outbox₀
+
+  -- a step that is taken while there is room
+  next-room : n < length moves / 3 → (k : ℕ) × (w .room ≡ suc k)
+  next-room h = go (w .room) (w .rooms)
+    where
+      go : (r : ℕ) → length moves₀ / 3 ≡ n + r → (k : ℕ) × (r ≡ suc k)
+      go zero e = let s = w .moves-size in absurd (omega (arith, e, h, s))
+      go (suc k) e = (k, refl)
+
+  module _ (h : n < length moves / 3) {s : Ending} {m′ scratch′ outbox′ : List ℕ} (l : Levelled m o scratch outbox s m′ scratch′ outbox′) where
+    abbrev k : ℕ
+    k = next-room h .0
+
+    stepped : (x : Ending) → s ≡ x → whole ≡ behind (w .carried) (after-step (ending-of x) m′ outbox′ (balanced k m′ o scratch₀ outbox′))
+    stepped x known =
+        let e = subst (λ (c : List ℕ). Levelled m o c outbox s m′ scratch′ outbox′) (w .as-was) l in
+        w .same-end
+        ∙ ap (λ (r : ℕ). behind (w .carried) (balanced r m o scratch₀ outbox)) (next-room h .1)
+        ∙ ap (behind (w .carried)) (one-step k e)
+        ∙ ap (λ (y : Ending). behind (w .carried) (after-step (ending-of y) m′ outbox′ (balanced k m′ o scratch₀ outbox′))) known
+
+    scratch-now : scratch′ ≡ scratch₀
+    scratch-now = l .scratch-is ∙ scratch-stays m o scratch ∙ w .as-was
+
+    outbox-now : length outbox′ ≡ length outbox₀
+    outbox-now = ap length (l .ended .outbox-is) ∙ turn-length m o scratch outbox ∙ w .outbox-size
+
+    pub one-moved : (d r v : ℕ) (moves′ : List ℕ) → s ≡ ending.Moved d r v → moves′ ≡ with-move moves n (a-move d r v) → Moving m₀ o scratch₀ outbox₀ moves₀ (n + 1) m′ scratch′ outbox′ moves′
+    one-moved d r v moves′ known put =
+        let t = a-move d r v in
+        let c = w .count in
+        let size = w .moves-size in record {
+          carried = w .carried ++ t ∷ [];
+          count = length-append (w .carried) (t ∷ []) ∙ ap (λ (x : ℕ). x + 1) c;
+          room = k;
+          rooms = let e = w .rooms in let f = next-room h .1 in omega (arith, e, f);
+          same-end = stepped (ending.Moved d r v) known ∙ behind-more (w .carried) t (balanced k m′ o scratch₀ outbox′);
+          written = put ∙ ap (λ (x : List ℕ). with-move x n t) (w .written)
+              ∙ with-move-over (numbers-of (w .carried)) moves₀ n t (numbers-length (w .carried) ∙ ap (λ (x : ℕ). x * 3) c) (omega (arith, h, size))
+              ∙ ap (λ (x : List ℕ). over x moves₀) (sym (numbers-more (w .carried) t));
+          as-was = scratch-now;
+          mesh-size = l .ended .size ∙ w .mesh-size;
+          scratch-size = ap length scratch-now;
+          outbox-size = outbox-now;
+          moves-size = ap length put ∙ sized ∙ size;
+        }
+      where
+        sized : length (with-move moves n (a-move d r v)) ≡ length moves
+        sized = length-set (set (set moves (n * 3) d) (n * 3 + 1) r) (n * 3 + 2) v ∙ length-set (set moves (n * 3) d) (n * 3 + 1) r ∙ length-set moves (n * 3) d
+
+  -- THE END
+  concludes : (b : Balanced) {m′ scratch′ outbox′ : List ℕ} → whole ≡ behind (w .carried) (stopped (stop-of b) m′ outbox′) → count-of b ≡ n → scratch′ ≡ scratch₀
+      → Balances m₀ o scratch₀ outbox₀ moves₀ b m′ scratch′ outbox′ moves
+  concludes b e c s = record {
+    stop-is = sym (ap (λ (r : Run). r .stop) e);
+    count-is = c ∙ sym (w .count) ∙ ap length done;
+    mesh-is = sym (ap (λ (r : Run). r .mesh) e);
+    scratch-is = s;
+    outbox-is = sym (ap (λ (r : Run). r .outbox) e);
+    moves-are = w .written ∙ ap (λ (ts : List Move). over (numbers-of ts) moves₀) done;
+  }
+    where
+      done : w .carried ≡ whole .moves
+      done = sym (ap (λ (r : Run). r .moves) e ∙ append-nil (w .carried))
+
+  -- by a step that moves nothing
+  pub last-step : n < length moves / 3 → {s : Ending} {m′ scratch′ outbox′ : List ℕ} → Levelled m o scratch outbox s m′ scratch′ outbox′ → (x : Ending) → s ≡ x
+      → (b : Balanced) → ((a c : List ℕ) (r : Run) → after-step (ending-of x) a c r ≡ stopped (stop-of b) a c) → count-of b ≡ n
+      → Balances m₀ o scratch₀ outbox₀ moves₀ b m′ scratch′ outbox′ moves
+  last-step h {s} {m′} {scratch′} {outbox′} l x known b ends c =
+      concludes b (stepped h l x known ∙ ap (behind (w .carried)) (ends m′ outbox′ (balanced (next-room h .0) m′ o scratch₀ outbox′))) c (scratch-now h l)
+
+  -- with no room left
+  no-room : length moves / 3 ≤ n → w .room ≡ 0
+  no-room h = let e = w .rooms in let s = w .moves-size in omega (arith, e, s, h)
+
+  pub last-asked : length moves / 3 ≤ n → (b : Balanced) {scratch′ : List ℕ} → Asked m o scratch n b scratch′ → Balances m₀ o scratch₀ outbox₀ moves₀ b m scratch′ outbox moves
+  unfolding balanced
+  last-asked h b a =
+      let e = a .stop-is ∙ ap (λ (c : List ℕ). stop-by (next-move all-rack m o c .answer)) (w .as-was) in
+      concludes b (w .same-end
+      ∙ ap (λ (r : ℕ). behind (w .carried) (balanced r m o scratch₀ outbox)) (no-room h)
+      ∙ ap (λ (x : Stop). behind (w .carried) (stopped x m outbox)) (sym e)) (a .count-is) (a .scratch-is ∙ w .as-was)
+
+-- the next move asked for
+pub asked-as : (m : List ℕ) (o : Oracle) (scratch : List ℕ) (n : ℕ) {a x : answers-move.NextMove} {scratch′ : List ℕ} (b : Balanced) → a ≡ x
+    → Gives (next-move all-rack m o scratch) (move-of a) scratch′ → stop-of b ≡ stop-by (move-of x) → count-of b ≡ n → Asked m o scratch n b scratch′
+asked-as m o scratch n b known g e c = record {
+  stop-is = e ∙ ap (λ (y : answers-move.NextMove). stop-by (move-of y)) (sym known) ∙ ap stop-by (g .answer);
+  count-is = c;
+  scratch-is = g .left ∙ scratch-stays m o scratch;
+}

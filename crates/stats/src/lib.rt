@@ -1,0 +1,37 @@
+// What a block has, counted: darts, volumes, pieces, critical faces; and its counter.
+ghost use mathlib.Core.Path.{_≡_};
+ghost use Rattle.stats.specs.Tally.{tally-of};
+use oracle::Oracle;
+
+pub mod counts; // counts.rt: what is told of a block
+pub mod critical; // critical.rt: its critical faces, counted
+pub mod groups; // groups.rt: its darts in groups, cells or pieces
+pub mod pieces; // pieces.rt: its pieces, counted
+pub mod rows; // rows.rt: the figures of each of its cells
+
+pub use counts::Tally;
+
+// The tally of a block; all zero where the memory is no sound block's image.
+pub fn tally(block: &[u64]) -> Tally
+    ensures { λ r. ⌜ r ≡ tally-of (now (block .entry)) ⌝ }
+{
+    if !sound::is_sound(block) {
+        return Tally {
+            darts: 0,
+            volumes: 0,
+            pieces: 0,
+            critical: 0,
+            counter: 0,
+        };
+    }
+    let volumes = selection::count(block, Oracle::Every);
+    let joined = pieces::pieces(block);
+    let faces = critical::critical_faces(block);
+    Tally {
+        darts: block[2],
+        volumes: volumes as u64,
+        pieces: joined as u64,
+        critical: faces as u64,
+        counter: block[1],
+    }
+}
