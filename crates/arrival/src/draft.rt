@@ -45,7 +45,7 @@ fn index_of(keys: &[u64], p: DraftPlace) -> MessageIndex
     ensures { λ r. ⌜ r .0 ≡ index-at (now (keys .entry)) (p .0) ⌝ }
 {
     let at = p.0;
-    MessageIndex((keys[at] % 512) as usize)
+    MessageIndex((keys[at] % ranking::INDICES) as usize)
 }
 
 // The record at a place of the draft.
@@ -66,7 +66,7 @@ fn record_of(
     ensures { λ r. ⌜ r ≡ draft-record (now (vertex .entry)) (now (starts .entry)) (now (sizes .entry)) (now (keys .entry)) (now (ranks .entry)) (now (opposite .entry)) (now (message .entry)) from (p .0) ⌝ }
 {
     let at = p.0;
-    let serial = keys[at] / 512;
+    let serial = keys[at] / ranking::INDICES;
     let i = index_of(keys, p);
     let next = pairs::next_index(starts, sizes, i);
     let other = place::index_at(opposite, i);

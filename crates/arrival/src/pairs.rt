@@ -77,8 +77,8 @@ fn couples(keys: &[u64], k: usize, opposite: &mut [usize]) -> bool
         if a / 1024 != b / 1024 {
             return false;
         }
-        opposite[(a % 512) as usize] = (b % 512) as usize;
-        opposite[(b % 512) as usize] = (a % 512) as usize;
+        opposite[(a % ranking::INDICES) as usize] = (b % ranking::INDICES) as usize;
+        opposite[(b % ranking::INDICES) as usize] = (a % ranking::INDICES) as usize;
         r += 2;
     }
     true

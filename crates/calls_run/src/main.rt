@@ -3,6 +3,7 @@
 use answers::Answer;
 use answers::NextMove;
 use answers::Written;
+use memory::header::Header;
 use script::line;
 use script::show;
 
@@ -109,7 +110,7 @@ fn move_by(line: &[u8], mesh: &[u64], points: &[u8], scratch: &mut [u64]) -> Nex
 }
 
 fn next_move(line: &[u8], mesh: &[u64], points: &[u8]) {
-    let mut scratch = [0u64; 65536];
+    let mut scratch = [0u64; Header::SCRATCH];
     moved(move_by(line, mesh, points, &mut scratch));
 }
 

@@ -9,6 +9,7 @@ ghost use Rattle.model.specs.Values.{room};
 ghost use Rattle.model.specs.Image.{dart-in, holds-block};
 ghost use Rattle.selection.specs.Picked.{Walkable};
 ghost use Rattle.corners.specs.Corners.{plus-point, over-number, sum-of, Cornered, mean-in};
+use memory::header::Header;
 use memory::lookup;
 use memory::lookup::Found;
 use memory::point;
@@ -72,11 +73,11 @@ fn corners_at(block: &[u64], p: Place, firsts: &mut [usize]) -> usize
     ensures { λ r. ⌜ Cornered (now (block .entry)) (p .0) (now (firsts .exit)) r ⌝ }
 {
     let n = block[2] as usize;
-    let mut marks = [0u8; 4096];
-    let mut out = [0usize; 4096];
-    let mut starts = [0usize; 4096];
-    let mut seen = [0u8; 4096];
-    let mut numbers = [0usize; 4096];
+    let mut marks = [0u8; Header::DARTS];
+    let mut out = [0usize; Header::DARTS];
+    let mut starts = [0usize; Header::DARTS];
+    let mut seen = [0u8; Header::DARTS];
+    let mut numbers = [0usize; Header::DARTS];
     let size = cells::walk::volume(block, n, p, &mut out, &mut marks);
     let order = cells::order::message_order(
         block,
@@ -102,7 +103,7 @@ pub fn mean_of(block: &[u64], serial: u64) -> Mean
     let Found::At(place) = lookup::place_of(block, n, serial) else {
         return Mean::Not;
     };
-    let mut firsts = [0usize; 4096];
+    let mut firsts = [0usize; Header::DARTS];
     let count = corners_at(block, place, &mut firsts);
     let sum = sum_at(block, &firsts, count);
     Mean::Is(over(sum, count))

@@ -1,13 +1,13 @@
 // The words of a command, by their place, and its options, which begin with two minuses and may stand anywhere among them.
 ghost use Rattle.io.specs.Counts.{Counts};
-use store::say;
-use decimal::Decimal;
 use commands::command;
 use commands::command::OptionWord;
 use commands::words;
 use commands::words::Number;
+use decimal::Decimal;
 use memory::point::Point;
 use oracle::Oracle;
+use store::say;
 
 // How many words stand before the command's own: two, where the first asks for the status on a descriptor, as `--status 3`.
 fn in_front() -> usize {

@@ -1,8 +1,9 @@
 // What is told of a basin: a line for each block, and whether it is sound.
 use answers::Answer;
-use store::say;
 use commands::names;
+use memory::header::Header;
 use oracle::Oracle;
+use store::say;
 
 // Into how many pieces a block's volumes fall.
 fn show_pieces(n: u64) {
@@ -35,11 +36,11 @@ fn show_block(b: usize, block: &[u64]) {
 
 // A line for each block.
 pub fn show_blocks(mesh: &[u64]) {
-    let k = mesh.len() / 32776;
+    let k = mesh.len() / Header::WORDS;
     let mut b = 0;
     while b < k {
-        let from = b * 32776;
-        let end = from + 32776;
+        let from = b * Header::WORDS;
+        let end = from + Header::WORDS;
         show_block(b, &mesh[from..end]);
         b += 1;
     }
@@ -47,10 +48,10 @@ pub fn show_blocks(mesh: &[u64]) {
 
 // The first of the blocks that are refused by a number when those behind it are left out.
 fn first_refused(question: u32, mesh: &[u64], scratch: &mut [u64]) -> usize {
-    let k = mesh.len() / 32776;
+    let k = mesh.len() / Header::WORDS;
     let mut b = 0;
     while b < k {
-        let end = b * 32776 + 32776;
+        let end = b * Header::WORDS + Header::WORDS;
         if answers::answer_number(checkmesh::check_mesh(&mesh[0..end], scratch)) == question {
             return b;
         }
@@ -61,7 +62,7 @@ fn first_refused(question: u32, mesh: &[u64], scratch: &mut [u64]) -> usize {
 
 // Whether the dart at place p has a kind, which is that of a third link and of the other block.
 fn has_kind_at(block: &[u64], p: usize, kind: u64) -> bool {
-    if p < 4096 {
+    if p < Header::DARTS {
         let at = p * 8 + 11;
         if at < block.len() {
             return block[at] == kind;
@@ -74,7 +75,7 @@ fn has_kind_at(block: &[u64], p: usize, kind: u64) -> bool {
 fn has_kind(block: &[u64], kind: u64) -> bool {
     // None before p has it.
     let mut p: usize = 0;
-    while p < 4096 {
+    while p < Header::DARTS {
         if has_kind_at(block, p, kind) {
             return true;
         }
@@ -85,11 +86,11 @@ fn has_kind(block: &[u64], kind: u64) -> bool {
 
 // The first block that has a dart of a kind; how many there are where none has.
 fn first_with_kind(kind: u64, mesh: &[u64]) -> usize {
-    let k = mesh.len() / 32776;
+    let k = mesh.len() / Header::WORDS;
     let mut b = 0;
     while b < k {
-        let from = b * 32776;
-        let end = from + 32776;
+        let from = b * Header::WORDS;
+        let end = from + Header::WORDS;
         if has_kind(&mesh[from..end], kind) {
             return b;
         }
@@ -100,9 +101,9 @@ fn first_with_kind(kind: u64, mesh: &[u64]) -> usize {
 
 // Says which block is named by a critical dart and has no file, the first of them; whether there is one.
 fn say_missing(mesh: &[u64]) -> bool {
-    let k = mesh.len() / 32776;
+    let k = mesh.len() / Header::WORDS;
     let mut m = k;
-    while m < 16 {
+    while m < Header::BLOCKS as usize {
         // critical with block m
         let b = first_with_kind(2 + 4 * (m as u64), mesh);
         if b < k {
@@ -158,11 +159,11 @@ fn picked(block: &[u64], o: Oracle) -> u64 {
 
 // The same for each block, in a line.
 pub fn show_picked(mesh: &[u64], o: Oracle) {
-    let k = mesh.len() / 32776;
+    let k = mesh.len() / Header::WORDS;
     let mut b = 0;
     while b < k {
-        let from = b * 32776;
-        let end = from + 32776;
+        let from = b * Header::WORDS;
+        let end = from + Header::WORDS;
         say::text(b" ");
         say::number(picked(&mesh[from..end], o));
         b += 1;

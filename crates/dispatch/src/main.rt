@@ -10,20 +10,21 @@ use answers::Answer;
 use arguments::Given;
 use arguments::Named;
 use arguments::Options;
+use commands::command;
+use commands::command::Command;
+use commands::command::OracleWord;
+use commands::names;
+use commands::words::Number;
+use memory::header::Header;
+use oracle::Oracle;
+use playing::Input;
+use status::Status;
 use store::files;
 use store::files::Contents;
 use store::process;
 use store::reading;
 use store::reading::Basin;
 use store::say;
-use commands::command;
-use commands::command::Command;
-use commands::command::OracleWord;
-use commands::names;
-use commands::words::Number;
-use oracle::Oracle;
-use playing::Input;
-use status::Status;
 use tasks::Task;
 
 fn help() {
@@ -75,8 +76,8 @@ fn check_blocks(mesh: &[u64], scratch: &mut [u64]) -> Status {
 fn check(mesh: &mut [u64], scratch: &mut [u64], room: &mut [u8]) -> Status {
     match reading::look(mesh, room) {
         Basin::Blocks(k) => {
-            if k <= mesh.len() / 32776 {
-                let end = k * 32776;
+            if k <= mesh.len() / Header::WORDS {
+                let end = k * Header::WORDS;
                 return check_blocks(&mesh[0..end], scratch);
             }
             Status::Error
@@ -139,8 +140,8 @@ fn tell(
     match reading::file_of(b, room) {
         Contents::Bytes(n) => {
             if n <= room.len() {
-                if 32776 <= mesh.len() {
-                    let block = &mut mesh[0..32776];
+                if Header::WORDS <= mesh.len() {
+                    let block = &mut mesh[0..Header::WORDS];
                     return tell_file(cells, b, &room[0..n], block, rows, text);
                 }
             }
@@ -192,7 +193,7 @@ fn tell_word(
     }
     match arguments::number_at(2) {
         Number::Is(b) => {
-            if 15 < b {
+            if Header::BLOCKS as usize <= b {
                 say::error(b"a block's number is 0 to 15");
                 return Status::Error;
             }
@@ -339,7 +340,7 @@ fn blocks_word(usage: &[u8]) -> Blocks {
     }
     match arguments::number_at(2) {
         Number::Is(n) => {
-            if (n < 1) | (16 < n) {
+            if (n < 1) | ((Header::BLOCKS as usize) < n) {
                 say::error(b"a basin has 1 to 16 blocks");
                 return Blocks::Told;
             }
@@ -392,8 +393,8 @@ fn do_planned(
 // Runs a command, with all memory that any of them needs: sixteen blocks and what is made of them, 6.5 MB.
 fn run(c: Command, o: Options) -> Status {
     let mut mesh = [0u64; 524416];
-    let mut scratch = [0u64; 65536];
-    let mut outbox = [0u8; 65536];
+    let mut scratch = [0u64; Header::SCRATCH];
+    let mut outbox = [0u8; Header::OUTBOX];
     let mut room = [0u8; 262144];
     let mut text = [0u8; 524288];
     let mut requests = [0u64; 98304];

@@ -1,9 +1,9 @@
 // Requests: read from lines, then played as one list, then told line by line.
-use store::say;
 use commands::lines;
 use commands::lines::Line;
 use commands::words;
 use commands::words::Kind;
+use store::say;
 
 // What an input has: so many requests; a line that is none; a last line that is cut off; more requests than there is room for.
 pub enum Input {

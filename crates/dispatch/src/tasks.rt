@@ -4,14 +4,15 @@ use crate::inspect;
 use crate::moving;
 use crate::playing;
 use crate::status::Status;
+use memory::header::Header;
+use oracle::Oracle;
+use rebalance::Balanced;
 use store::disk;
 use store::lock;
 use store::lock::Taken;
 use store::reading;
 use store::reading::Basin;
 use store::say;
-use rebalance::Balanced;
-use oracle::Oracle;
 
 // Plays so many requests; balances; adds empty blocks up to so many, and balances or does not.
 pub enum Task {
@@ -158,7 +159,7 @@ fn keep_on(grown: bool, dry: bool, mesh: &[u64], scratch: &mut [u64], room: &mut
         return Status::Refused;
     }
     say::text(b"# the basin has ");
-    say::number((mesh.len() / 32776) as u64);
+    say::number((mesh.len() / Header::WORDS) as u64);
     say::text(b" blocks\n");
     if !save_if(grown, dry, mesh, room) {
         return Status::Error;
@@ -168,9 +169,9 @@ fn keep_on(grown: bool, dry: bool, mesh: &[u64], scratch: &mut [u64], room: &mut
 
 // Makes block b empty.
 fn empty_part(b: usize, mesh: &mut [u64]) {
-    if b < mesh.len() / 32776 {
-        let from = b * 32776;
-        let end = from + 32776;
+    if b < mesh.len() / Header::WORDS {
+        let from = b * Header::WORDS;
+        let end = from + Header::WORDS;
         memory::header::empty(b as u64, &mut mesh[from..end]);
     }
 }
@@ -261,8 +262,8 @@ fn carry_out_on(
     if !grows(k, n, mesh) {
         return Status::Error;
     }
-    if n <= mesh.len() / 32776 {
-        let end = n * 32776;
+    if n <= mesh.len() / Header::WORDS {
+        let end = n * Header::WORDS;
         let part = &mut mesh[0..end];
         return carry_out(
             task,

@@ -46,6 +46,12 @@ impl Header {
     // Entries of the scratch of a mesh's calls.
     pub const SCRATCH: usize = 65536;
 
+    // Darts that a mesh may have: a dart's number in the mesh, block × 4,096 + place, lies below this.
+    pub const MESH: u64 = 65536;
+
+    // Bytes of an outbox that are always enough.
+    pub const OUTBOX: usize = 65536;
+
     // The header of an empty block: from its number alone, counter 0.
     pub fn empty(number: u64) -> Header
         ensures { λ r. ⌜ r ≡ empty-header number ⌝ }

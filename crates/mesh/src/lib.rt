@@ -36,7 +36,7 @@ pub fn mesh_lent(mesh: &[u64], scratch: &[u64]) -> bool
     if mesh.len() / Header::WORDS * Header::WORDS != mesh.len() {
         return false;
     }
-    if scratch.len() != 65536 {
+    if scratch.len() != Header::SCRATCH {
         return false;
     }
     zeros(scratch)

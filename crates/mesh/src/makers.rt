@@ -20,11 +20,11 @@ fn made(mesh: &[u64], kind: u64, link: u64) -> bool
     if kind % 4 < 2 {
         return true;
     }
-    let maker = (link / 4096 / 4294967296) as usize;
+    let maker = (link / Header::POSITIONS / Header::NUMBERS) as usize;
     if mesh.len() / Header::WORDS <= maker {
         return false;
     }
-    link / 4096 % 4294967296 < mesh[maker * Header::WORDS + 1]
+    link / Header::POSITIONS % Header::NUMBERS < mesh[maker * Header::WORDS + 1]
 }
 
 // Of all darts of a block.

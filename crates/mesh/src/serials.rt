@@ -69,7 +69,7 @@ fn apart(keys: &mut [u64], c: usize) -> bool
     requires { ⌜ (c ≤ 65536) × (length (now keys) ≡ 65536) ⌝ }
     ensures { λ r. ⌜ (r ≡ distinct (take c (now (keys .entry)))) × (length (now (keys .exit)) ≡ 65536) ⌝ }
 {
-    let mut other = [0u64; 65536];
+    let mut other = [0u64; Header::SCRATCH];
     differ(keys, &mut other, c)
 }
 

@@ -17,6 +17,7 @@ ghost use Rattle.mesh.specs.Parts.{blocks};
 ghost use Rattle.pairing.specs.Numbers.{Asked, Before};
 ghost use Rattle.pairing.specs.Keys.{all-keys};
 ghost use Rattle.pairing.specs.Told.{pairing-of};
+use memory::header::Header;
 
 // What questions 25 and 26 say.
 pub enum Pairing {
@@ -62,7 +63,7 @@ fn with_room(mesh: &[u64], keys: &mut [u64], c: usize) -> Pairing
     requires { ⌜ Asked (now mesh) × (c ≤ 65536) × (length (now keys) ≡ 65536) × (take c (now keys) ≡ all-keys (now mesh) (blocks (now mesh))) ⌝ }
     ensures { λ r. ⌜ (r ≡ pairing-of (labels-paired (map block-in (memories (now (mesh .entry))))) (points-across (map block-in (memories (now (mesh .entry)))))) × (length (now (keys .exit)) ≡ 65536) ⌝ }
 {
-    let mut other = [0u64; 65536];
+    let mut other = [0u64; Header::SCRATCH];
     ordered(mesh, keys, &mut other, c)
 }
 

@@ -5,15 +5,16 @@ ghost use lib.ListN.{length, getD, drop};
 ghost use Rattle.pairing.specs.Numbers.{Asked, Before};
 ghost use Rattle.pairing.specs.Keys.{HeldKeys, fresh as fresh-in, in-pairs, each-pair, label-pair, point-pair, two-test};
 use crate::dart;
+use memory::header::Header;
 
 // Whether key t, if there is one, has another label than x.
 fn fresh(keys: &[u64], x: u64, t: usize) -> bool
-    ensures { λ r. ⌜ r ≡ fresh-in (x / 65536) (drop t (now (keys .entry))) ⌝ }
+    ensures { λ r. ⌜ r ≡ fresh-in (x / Header::MESH) (drop t (now (keys .entry))) ⌝ }
 {
     if keys.len() <= t {
         return true;
     }
-    x / 65536 != keys[t] / 65536
+    x / Header::MESH != keys[t] / Header::MESH
 }
 
 // 25, of keys t and t + 1.
@@ -25,7 +26,7 @@ fn two(mesh: &[u64], table: &[u64], keys: &[u64], t: usize) -> bool
     let y = keys[t + 1];
     let apart = fresh(keys, x, t + 2);
     let pair = dart::labels_pair(mesh, table, x, y);
-    (x / 65536 == y / 65536) & apart & pair
+    (x / Header::MESH == y / Header::MESH) & apart & pair
 }
 
 // 25, of all keys.

@@ -5,6 +5,7 @@ ghost use lib.ListN.{length, getD};
 ghost use Rattle.parts.specs.Faces.{Over, Spans, Faced, numbered-code, code-at};
 ghost use Rattle.parts.specs.Entries.{LabelsThere};
 use groups::Read;
+use memory::header::Header;
 use memory::record::MessageIndex;
 
 // The same word from index `at` on, n times.
@@ -74,7 +75,12 @@ pub fn put_part3(
         let i = place::entry_index(indices, e);
         let n = place::size_at(sizes, i);
         fill(kinds, i, n, 2 + 4 * from);
-        count_up(links, i, n, (from * 4294967296 + numbers[e]) * 4096);
+        count_up(
+            links,
+            i,
+            n,
+            (from * Header::NUMBERS + numbers[e]) * Header::POSITIONS,
+        );
         e += 1;
     }
 }

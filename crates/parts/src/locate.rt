@@ -22,7 +22,7 @@ fn note(block: &[u64], p: Place, keys: &[u64], c: usize, places: &mut [usize])
     let Ranking::At(r) = ranking::find(keys, c, record::field(block, p, 4)) else {
         return;
     };
-    let e = (keys[r] % 512) as usize;
+    let e = (keys[r] % ranking::INDICES) as usize;
     places[e] = p.0;
 }
 

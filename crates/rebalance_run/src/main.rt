@@ -1,8 +1,9 @@
 // Balances the meshes on standard input to the end: for each the number of blocks, their files behind their lengths, the oracle, its
 // axis and its six floats. Prints the picked volumes of every block, the moves, how they end, the picked volumes then and a digest of
 // every block.
-use rebalance::Ending;
+use memory::header::Header;
 use oracle::Oracle;
+use rebalance::Ending;
 use vectors::cursor;
 use vectors::meshes;
 
@@ -28,9 +29,9 @@ fn picked(block: &[u64], o: Oracle) -> usize {
 
 // The same of block b of a mesh.
 fn picked_at(mesh: &[u64], b: usize, o: Oracle) -> usize {
-    if b < mesh.len() / 32776 {
-        let start = b * 32776;
-        let past = start + 32776;
+    if b < mesh.len() / Header::WORDS {
+        let start = b * Header::WORDS;
+        let past = start + Header::WORDS;
         return picked(&mesh[start..past], o);
     }
     0
@@ -116,8 +117,8 @@ fn balance_blocks(mesh: &mut [u64], k: usize, o: Oracle, scratch: &mut [u64], ou
 
 // The first k blocks of what is lent.
 fn balance_first(mesh: &mut [u64], k: usize, o: Oracle, scratch: &mut [u64], outbox: &mut [u8]) {
-    if k <= mesh.len() / 32776 {
-        let words = k * 32776;
+    if k <= mesh.len() / Header::WORDS {
+        let words = k * Header::WORDS;
         balance_blocks(&mut mesh[..words], k, o, scratch, outbox);
     }
 }
@@ -184,8 +185,8 @@ fn run(input: &[u8], n: usize, mesh: &mut [u64], scratch: &mut [u64], outbox: &m
 fn main() {
     let mut input = [0u8; 262144];
     let mut mesh = [0u64; 524416];
-    let mut scratch = [0u64; 65536];
-    let mut outbox = [0u8; 65536];
+    let mut scratch = [0u64; Header::SCRATCH];
+    let mut outbox = [0u8; Header::OUTBOX];
     let n = io::read_full(0, &mut input);
     run(&input, n, &mut mesh, &mut scratch, &mut outbox);
 }

@@ -157,13 +157,13 @@ pub fn redirect(block: &mut [u64], message: &[u8]) -> Answer
     if !sound::is_sound(block) {
         return Answer::Refused(Refusal::NotAnImage);
     }
-    let mut vertex = [0u64; 512];
-    let mut serial = [0u64; 512];
-    let mut starts = [0usize; 512];
-    let mut sizes = [0usize; 512];
-    let mut table = [4097u16; 4096];
-    let mut codes = [0u64; 4096];
-    let mut scratch = [0u64; 4096];
+    let mut vertex = [0u64; Header::MESSAGE];
+    let mut serial = [0u64; Header::MESSAGE];
+    let mut starts = [0usize; Header::MESSAGE];
+    let mut sizes = [0usize; Header::MESSAGE];
+    let mut table = [4097u16; Header::DARTS];
+    let mut codes = [0u64; Header::DARTS];
+    let mut scratch = [0u64; Header::DARTS];
     let mut hits = [0u8; 4097];
     match received(message, &mut vertex, &mut serial, &mut starts, &mut sizes) {
         Received::Transfer(f, t) => Answer::Refused(Refusal::NotForHere),

@@ -96,13 +96,13 @@ pub fn release(block: &mut [u64], to: u64, serial: u64) -> Answer
     if !sound::is_sound(block) {
         return Answer::Refused(Refusal::NotAnImage);
     }
-    let mut marks = [0u8; 4096];
-    let mut order = [0usize; 4096];
-    let mut starts = [0usize; 4096];
-    let mut seen = [0u8; 4096];
-    let mut numbers = [0usize; 4096];
-    let mut firsts = [0usize; 4096];
-    let mut stamps = [0usize; 512];
+    let mut marks = [0u8; Header::DARTS];
+    let mut order = [0usize; Header::DARTS];
+    let mut starts = [0usize; Header::DARTS];
+    let mut seen = [0u8; Header::DARTS];
+    let mut numbers = [0usize; Header::DARTS];
+    let mut firsts = [0usize; Header::DARTS];
+    let mut stamps = [0usize; Header::VOLUME];
     release_asked(
         block,
         Limits::rack(),

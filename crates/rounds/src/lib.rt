@@ -14,6 +14,7 @@ pub use crate::list::play_all;
 use answers::Answer;
 use answers::Refusal;
 use answers::Written;
+use memory::header::Header;
 
 // How a round ends: refused by send or receive, finished, or taken and yet not finished.
 pub enum Outcome {
@@ -27,8 +28,8 @@ fn send_part(mesh: &[u64], b: usize, to: u64, serial: u64, outbox: &mut [u8]) ->
     requires { ⌜ b < blocks (now mesh) ⌝ }
     ensures { λ r. ⌜ Gives (calls.send rack (part (now (mesh .entry)) b) to serial (now (outbox .entry))) (written-of r) (now (outbox .exit)) ⌝ }
 {
-    let from = b * 32776;
-    let end = from + 32776;
+    let from = b * Header::WORDS;
+    let end = from + Header::WORDS;
     send::send(&mesh[from..end], to, serial, outbox)
 }
 
@@ -53,7 +54,7 @@ fn deliver(mesh: &mut [u64], from: u64, to: u64, serial: u64, sent: &[u8]) -> Ou
 pub fn play(mesh: &mut [u64], from: u64, to: u64, serial: u64, outbox: &mut [u8]) -> Outcome
     ensures { λ r. ⌜ Played (now (mesh .entry)) from to serial (now (outbox .entry)) r (now (mesh .exit)) (now (outbox .exit)) ⌝ }
 {
-    if (mesh.len() / 32776) as u64 <= from {
+    if (mesh.len() / Header::WORDS) as u64 <= from {
         return Outcome::Refused(Refusal::MemorySize);
     }
     match send_part(mesh, from as usize, to, serial, outbox) {

@@ -10,14 +10,15 @@ ghost use Rattle.rounds.specs.Played.{Stepped, Ran, at-block};
 use crate::post;
 use answers::Answer;
 use answers::Refusal;
+use memory::header::Header;
 
 // Receive at block b, which the mesh has.
 fn receive_part(mesh: &mut [u64], b: usize, message: &[u8]) -> Answer
     requires { ⌜ b < blocks (now mesh) ⌝ }
     ensures { λ r. ⌜ Stepped (now (mesh .entry)) (at-block b (receiving (now (message .entry)))) (number-of (answer-of r)) (now (mesh .exit)) ⌝ }
 {
-    let from = b * 32776;
-    let end = from + 32776;
+    let from = b * Header::WORDS;
+    let end = from + Header::WORDS;
     receive::receive(&mut mesh[from..end], message)
 }
 
@@ -26,8 +27,8 @@ fn release_part(mesh: &mut [u64], b: usize, to: u64, serial: u64) -> Answer
     requires { ⌜ b < blocks (now mesh) ⌝ }
     ensures { λ r. ⌜ Stepped (now (mesh .entry)) (at-block b (releasing to serial)) (number-of (answer-of r)) (now (mesh .exit)) ⌝ }
 {
-    let from = b * 32776;
-    let end = from + 32776;
+    let from = b * Header::WORDS;
+    let end = from + Header::WORDS;
     release::release(&mut mesh[from..end], to, serial)
 }
 
@@ -36,8 +37,8 @@ fn redirect_part(mesh: &mut [u64], b: usize, message: &[u8]) -> Answer
     requires { ⌜ b < blocks (now mesh) ⌝ }
     ensures { λ r. ⌜ Stepped (now (mesh .entry)) (at-block b (redirecting (now (message .entry)))) (number-of (answer-of r)) (now (mesh .exit)) ⌝ }
 {
-    let from = b * 32776;
-    let end = from + 32776;
+    let from = b * Header::WORDS;
+    let end = from + Header::WORDS;
     redirect::redirect(&mut mesh[from..end], message)
 }
 
@@ -45,7 +46,7 @@ fn redirect_part(mesh: &mut [u64], b: usize, message: &[u8]) -> Answer
 pub fn receive_at(mesh: &mut [u64], b: u64, message: &[u8]) -> Answer
     ensures { λ r. ⌜ Stepped (now (mesh .entry)) (at-block b (receiving (now (message .entry)))) (number-of (answer-of r)) (now (mesh .exit)) ⌝ }
 {
-    if (mesh.len() / 32776) as u64 <= b {
+    if (mesh.len() / Header::WORDS) as u64 <= b {
         return Answer::Refused(Refusal::MemorySize);
     }
     receive_part(mesh, b as usize, message)
@@ -55,7 +56,7 @@ pub fn receive_at(mesh: &mut [u64], b: u64, message: &[u8]) -> Answer
 pub fn release_at(mesh: &mut [u64], b: u64, to: u64, serial: u64) -> Answer
     ensures { λ r. ⌜ Stepped (now (mesh .entry)) (at-block b (releasing to serial)) (number-of (answer-of r)) (now (mesh .exit)) ⌝ }
 {
-    if (mesh.len() / 32776) as u64 <= b {
+    if (mesh.len() / Header::WORDS) as u64 <= b {
         return Answer::Refused(Refusal::MemorySize);
     }
     release_part(mesh, b as usize, to, serial)
@@ -65,7 +66,7 @@ pub fn release_at(mesh: &mut [u64], b: u64, to: u64, serial: u64) -> Answer
 pub fn redirect_at(mesh: &mut [u64], b: u64, message: &[u8]) -> Answer
     ensures { λ r. ⌜ Stepped (now (mesh .entry)) (at-block b (redirecting (now (message .entry)))) (number-of (answer-of r)) (now (mesh .exit)) ⌝ }
 {
-    if (mesh.len() / 32776) as u64 <= b {
+    if (mesh.len() / Header::WORDS) as u64 <= b {
         return Answer::Refused(Refusal::MemorySize);
     }
     redirect_part(mesh, b as usize, message)

@@ -1,5 +1,6 @@
 // Plays the requests on standard input, mesh after mesh: the number of blocks, their files behind their lengths, the number of
 // requests, the requests. Prints each round's outcome and a digest of every block after it.
+use memory::header::Header;
 use rounds::Outcome;
 use vectors::cursor;
 use vectors::meshes;
@@ -90,7 +91,7 @@ fn run(input: &[u8], n: usize, mesh: &mut [u64], outbox: &mut [u8]) {
 fn main() {
     let mut input = [0u8; 262144];
     let mut mesh = [0u64; 524416];
-    let mut outbox = [0u8; 65536];
+    let mut outbox = [0u8; Header::OUTBOX];
     let n = io::read_full(0, &mut input);
     run(&input, n, &mut mesh, &mut outbox);
 }

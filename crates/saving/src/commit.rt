@@ -6,6 +6,7 @@ ghost use Rattle.groups.specs.Slices.{Stored};
 ghost use Rattle.saving.specs.Commit.{digest as digest-in, entry-of as entry-for, entry-bytes};
 ghost use Rattle.saving.specs.Commit.{word-in as word-of, committed as committed-in, entry-in as entry-at};
 use groups::Read;
+use memory::header::Header;
 
 // What a commit says of a file: its length and its digest.
 pub struct Entry {
@@ -74,7 +75,7 @@ pub fn committed(commit: &[u8]) -> usize
     if k == 0 {
         return 0;
     }
-    if 16 < k {
+    if Header::BLOCKS < k {
         return 0;
     }
     let n = k as usize;

@@ -4,6 +4,7 @@ ghost use mathlib.Core.Bool.{false};
 ghost use lib.ListN.{getD};
 ghost use Rattle.saving.specs.Plan.{save-step, writing-step, placing-step, mend-step, tidied};
 use commands::names::File;
+use memory::header::Header;
 
 // Write a file; give it another name; take it away; have the disk keep the folder's names.
 pub enum Step {
@@ -104,10 +105,10 @@ pub fn mend(k: usize, there: &[bool], i: usize) -> Step
         return Step::Keep;
     }
     let b = i - 1;
-    if b < 16 {
+    if b < Header::BLOCKS as usize {
         return tidy(k, there, b);
     }
-    if b == 16 {
+    if b == Header::BLOCKS as usize {
         if says(there, 16) {
             return Step::Remove(File::NewCommit);
         }

@@ -11,6 +11,7 @@ use answers::Written;
 use commands::names;
 use commands::names::File;
 use commands::names::Name;
+use memory::header::Header;
 
 // How many bytes were put, or that they cannot be.
 pub enum Made {
@@ -44,11 +45,11 @@ enum Known {
 fn put_file(mesh: &[u64], b: usize, out: &mut [u8]) -> Made
     ensures { λ r. ⌜ Put (contents (now (mesh .entry)) (File.NewBlock b)) (now (out .entry)) (now (out .exit)) r ⌝ }
 {
-    if mesh.len() / 32776 <= b {
+    if mesh.len() / Header::WORDS <= b {
         return Made::Cannot;
     }
-    let from = b * 32776;
-    let end = from + 32776;
+    let from = b * Header::WORDS;
+    let end = from + Header::WORDS;
     match savefile::save_file(&mesh[from..end], out) {
         Written::Served(n) => Made::Bytes(n),
         Written::Refused(_) => Made::Cannot,
@@ -103,11 +104,11 @@ fn put_bytes(commit: &[u8], n: usize, room: &mut [u8])
 fn put_commit(mesh: &[u64], room: &mut [u8]) -> Made
     ensures { λ r. ⌜ Put (contents (now (mesh .entry)) File.NewCommit) (now (room .entry)) (now (room .exit)) r ⌝ }
 {
-    let k = mesh.len() / 32776;
+    let k = mesh.len() / Header::WORDS;
     if k < 1 {
         return Made::Cannot;
     }
-    if 16 < k {
+    if (Header::BLOCKS as usize) < k {
         return Made::Cannot;
     }
     let n = 8 + 16 * k;

@@ -21,13 +21,13 @@ pub fn send(block: &[u64], to: u64, serial: u64, outbox: &mut [u8]) -> Written
     if !sound::is_sound(block) {
         return Written::Refused(Refusal::NotAnImage);
     }
-    let mut marks = [0u8; 4096];
-    let mut order = [0usize; 4096];
-    let mut starts = [0usize; 4096];
-    let mut seen = [0u8; 4096];
-    let mut numbers = [0usize; 4096];
-    let mut firsts = [0usize; 4096];
-    let mut stamps = [0usize; 512];
+    let mut marks = [0u8; Header::DARTS];
+    let mut order = [0usize; Header::DARTS];
+    let mut starts = [0usize; Header::DARTS];
+    let mut seen = [0u8; Header::DARTS];
+    let mut numbers = [0usize; Header::DARTS];
+    let mut firsts = [0usize; Header::DARTS];
+    let mut stamps = [0usize; Header::VOLUME];
     let mut labels = [0usize; 16];
     let mut bytes = [0usize; 16];
     volume::send_volume(

@@ -6,6 +6,7 @@ ghost use Rattle.model.specs.Values.{finite, room};
 ghost use Rattle.model.specs.Image.{words-for, column, dart-in};
 ghost use Rattle.memory.specs.Point.{FiniteAt};
 ghost use Rattle.columns.specs.Columns.{Places, SewnPlaces, Finite, Darts, place-test, critical-test, kind-test, label-test, link-test, sewn-test, third-test, same-at, point-test, far-test};
+use memory::header::Header;
 use memory::label;
 use memory::point;
 use memory::record;
@@ -126,7 +127,7 @@ fn critical_right(me: u64, counter: u64, k: u64, a: u64) -> bool
     let maker = label::maker_of(a);
     let number = label::number_of(a);
     (k % 4 == 2)
-        & (k / 4 < 16)
+        & (k / 4 < Header::BLOCKS)
         & (a < 281474976710656)
         & (k / 4 != me)
         & ((maker != me) | (number < counter))

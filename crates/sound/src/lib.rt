@@ -19,9 +19,9 @@ fn header_right(block: &[u64]) -> bool
     requires { ⌜ 8 ≤ length (now block) ⌝ }
     ensures { λ r. ⌜ r ≡ header-test (now (block .entry)) ⌝ }
 {
-    (block[0] < 16)
+    (block[0] < Header::BLOCKS)
         & (block[1] < 4294967296)
-        & (block[2] <= 4096)
+        & (block[2] <= Header::DARTS as u64)
         & (block[3] == 0)
         & (block[4] == 0)
         & (block[5] == 0)
@@ -45,7 +45,7 @@ fn zeros(block: &[u64], a: usize) -> bool
 }
 
 // Whether each dart by itself is right, and no two have the same next.
-fn darts_right(block: &[u64], n: usize, seen: &mut [u8; 4096]) -> bool
+fn darts_right(block: &[u64], n: usize, seen: &mut [u8; Header::DARTS]) -> bool
     requires { ⌜ (n ≤ room) × (words-for n ≤ length (now block)) × (now seen ≡ replicate 4096 0) ⌝ }
     ensures { λ r. ⌜ (r ≡ true) ↔ Darts (now (block .entry)) n ⌝ }
 {
@@ -81,7 +81,7 @@ struct Far {
 }
 
 // Looks at each dart and at those that it links to, and keeps the labels of the critical ones in order.
-fn far_right(block: &[u64], n: usize, keys: &mut [u64; 4096]) -> Far
+fn far_right(block: &[u64], n: usize, keys: &mut [u64; Header::DARTS]) -> Far
     requires { ⌜ (n ≤ room) × (words-for n ≤ length (now block)) × Darts (now block) n × (length (now keys) ≡ 4096) ⌝ }
     ensures right { λ r. ⌜ r .right ≡ all-below (far-test (now (block .entry))) n ⌝ }
     ensures labels { λ r. ⌜ (r .right ≡ true → (r .critical ≤ n) × (take (r .critical) (now (keys .exit)) ≡ codes (now (block .entry)) n)) × (length (now (keys .exit)) ≡ 4096) ⌝ }
@@ -122,11 +122,11 @@ pub fn is_sound(block: &[u64]) -> bool
     if !zeros(block, 8 + n * 8) {
         return false;
     }
-    let mut seen = [0u8; 4096];
+    let mut seen = [0u8; Header::DARTS];
     if !darts_right(block, n, &mut seen) {
         return false;
     }
-    let mut keys = [0u64; 4096];
+    let mut keys = [0u64; Header::DARTS];
     let far = far_right(block, n, &mut keys);
     if !far.right {
         return false;

@@ -11,11 +11,12 @@ ghost use Rattle.model.specs.Values.{room};
 ghost use Rattle.columns.specs.Columns.{all-below, count, own-test, codes, Ranged, Links};
 ghost use Rattle.sound.specs.Kept.{Kept};
 use crate::dart;
+use memory::header::Header;
 use memory::record;
 use memory::record::Place;
 
 // The label of the dart at place i, if it is critical, goes after the first c keys. Returns how many there are then.
-pub fn put_label(block: &[u64], i: usize, keys: &mut [u64; 4096], c: usize) -> usize
+pub fn put_label(block: &[u64], i: usize, keys: &mut [u64; Header::DARTS], c: usize) -> usize
     requires { ⌜ (i < room) × (words-for (i + 1) ≤ length (now block)) × (length (now keys) ≡ 4096) × (c < 4096) ⌝ }
     ensures { λ r. ⌜ Kept (now (block .entry)) i (now (keys .entry)) c (now (keys .exit)) r ⌝ }
 {
@@ -28,7 +29,7 @@ pub fn put_label(block: &[u64], i: usize, keys: &mut [u64; 4096], c: usize) -> u
 }
 
 // The labels of the critical darts, in order; how many there are.
-fn gather(block: &[u64], n: usize, keys: &mut [u64; 4096]) -> usize
+fn gather(block: &[u64], n: usize, keys: &mut [u64; Header::DARTS]) -> usize
     requires { ⌜ (n ≤ room) × (words-for n ≤ length (now block)) × (length (now keys) ≡ 4096) ⌝ }
     ensures { λ r. ⌜ (r ≤ n) × (length (now (keys .exit)) ≡ 4096) × (take r (now (keys .exit)) ≡ codes (now (block .entry)) n) ⌝ }
 {
@@ -63,7 +64,7 @@ pub fn apart(keys: &mut [u64], c: usize) -> bool
     if told == 1 {
         return false;
     }
-    let mut scratch = [0u64; 4096];
+    let mut scratch = [0u64; Header::DARTS];
     differ(keys, &mut scratch, c)
 }
 
@@ -72,7 +73,7 @@ fn labels_differ(block: &[u64], n: usize) -> bool
     requires { ⌜ (n ≤ room) × (words-for n ≤ length (now block)) ⌝ }
     ensures { λ r. ⌜ r ≡ distinct (codes (now (block .entry)) n) ⌝ }
 {
-    let mut keys = [0u64; 4096];
+    let mut keys = [0u64; Header::DARTS];
     let c = gather(block, n, &mut keys);
     apart(&mut keys, c)
 }
@@ -95,7 +96,7 @@ pub fn coordinates_finite(block: &[u64]) -> bool
 }
 
 // The test of links, with a mark for each next.
-fn links_pass(block: &[u64], n: usize, seen: &mut [u8; 4096]) -> bool
+fn links_pass(block: &[u64], n: usize, seen: &mut [u8; Header::DARTS]) -> bool
     requires { ⌜ (n ≤ room) × (words-for n ≤ length (now block)) × (now seen ≡ replicate 4096 0) ⌝ }
     ensures { λ r. ⌜ (r ≡ true) ↔ Links (now (block .entry)) n ⌝ }
 {
@@ -121,7 +122,7 @@ pub fn links_right(block: &[u64]) -> bool
     ensures { λ r. ⌜ r ≡ right-links (block-in (now (block .entry)) .darts) ⌝ }
 {
     let n = block[2] as usize;
-    let mut seen = [0u8; 4096];
+    let mut seen = [0u8; Header::DARTS];
     links_pass(block, n, &mut seen)
 }
 

@@ -8,6 +8,7 @@ ghost use Rattle.model.specs.Cells.{faces, start-of};
 ghost use Rattle.model.specs.Image.{words-for, column, block-in, holds-block};
 ghost use Rattle.cells.specs.Places.{InOrder, Linked};
 ghost use Rattle.stats.specs.Tally.{critical-at, critical-faces};
+use memory::header::Header;
 use memory::record;
 use memory::record::Place;
 
@@ -52,10 +53,10 @@ pub fn critical_faces(block: &[u64]) -> usize
     ensures { λ r. ⌜ r ≡ length (critical-faces (block-in (now (block .entry)) .darts)) ⌝ }
 {
     let n = block[2] as usize;
-    let marks = [1u8; 4096];
-    let mut out = [0usize; 4096];
-    let mut starts = [0usize; 4096];
-    let mut seen = [0u8; 4096];
+    let marks = [1u8; Header::DARTS];
+    let mut out = [0usize; Header::DARTS];
+    let mut starts = [0usize; Header::DARTS];
+    let mut seen = [0u8; Header::DARTS];
     let order = cells::order::scanned_order(
         block,
         n,

@@ -15,6 +15,7 @@ ghost use Rattle.stats.specs.Counting.{head-word, Headed, cell-word, cri
 ghost use Rattle.stats.specs.Counting.{face-starts, Started, FacesCounted, Bordering};
 use crate::critical;
 use crate::groups;
+use memory::header::Header;
 use memory::record;
 use memory::record::Place;
 
@@ -157,10 +158,10 @@ fn tell_faces(block: &[u64], numbers: &[usize], rows: &mut [u64])
     ensures { λ _. ⌜ FacesCounted (now (block .entry)) (now (numbers .entry)) (now (rows .entry)) (now (rows .exit)) ⌝ }
 {
     let n = block[2] as usize;
-    let marks = [1u8; 4096];
-    let mut out = [0usize; 4096];
-    let mut starts = [0usize; 4096];
-    let mut seen = [0u8; 4096];
+    let marks = [1u8; Header::DARTS];
+    let mut out = [0usize; Header::DARTS];
+    let mut starts = [0usize; Header::DARTS];
+    let mut seen = [0u8; Header::DARTS];
     let order = cells::order::scanned_order(
         block,
         n,
@@ -196,9 +197,9 @@ pub fn cell_figures(block: &[u64], rows: &mut [u64]) -> Told
     if !sound::is_sound(block) {
         return Told::Unsound;
     }
-    let mut numbers = [0usize; 4096];
-    let mut firsts = [0usize; 4096];
-    let mut order = [0usize; 4096];
+    let mut numbers = [0usize; Header::DARTS];
+    let mut firsts = [0usize; Header::DARTS];
+    let mut order = [0usize; Header::DARTS];
     let count = groups::number(block, false, &mut numbers, &mut firsts, &mut order);
     if rows.len() < 19 * count {
         return Told::Short;

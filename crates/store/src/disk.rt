@@ -6,6 +6,7 @@ use crate::say;
 use commands::names;
 use commands::names::File;
 use commands::names::Name;
+use memory::header::Header;
 use saving::commit;
 use saving::look;
 use saving::look::Found;
@@ -167,7 +168,7 @@ fn are_right(bytes: &[u8], k: usize, room: &mut [u8]) -> bool {
 fn new_files() -> [bool; 17] {
     let mut there = [false; 17];
     let mut b = 0;
-    while b < 16 {
+    while b < Header::BLOCKS as usize {
         there[b] = is_there(File::NewBlock(b));
         b += 1;
     }
@@ -263,7 +264,7 @@ pub fn mend(room: &mut [u8]) -> bool {
 
 // Saves the blocks of a mesh. A save that fails is forgotten, or finished where it was committed.
 fn save_mesh(mesh: &[u64], room: &mut [u8]) -> bool {
-    let k = mesh.len() / 32776;
+    let k = mesh.len() / Header::WORDS;
     let mut i = 0;
     while i < plan::SAVE_STEPS {
         let e = carry_out(plan::save(k, i), mesh, room);
@@ -283,7 +284,7 @@ pub fn save(mesh: &[u64], room: &mut [u8]) -> bool {
         return false;
     }
     say::text(b"# saved ");
-    say::number((mesh.len() / 32776) as u64);
+    say::number((mesh.len() / Header::WORDS) as u64);
     say::text(b" blocks\n");
     true
 }

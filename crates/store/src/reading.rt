@@ -12,6 +12,7 @@ use crate::say;
 use answers::Answer;
 use commands::names;
 use commands::names::File;
+use memory::header::Header;
 use saving::commit;
 use saving::look;
 
@@ -43,11 +44,11 @@ enum Part {
 
 // The bytes of a file, into block b of a mesh.
 fn take(b: usize, file: &[u8], mesh: &mut [u64]) -> Part {
-    if mesh.len() / 32776 <= b {
+    if mesh.len() / Header::WORDS <= b {
         return Part::Wrong(Fault::TooLarge);
     }
-    let from = b * 32776;
-    let end = from + 32776;
+    let from = b * Header::WORDS;
+    let end = from + Header::WORDS;
     match readfile::read_file(file, &mut mesh[from..end]) {
         Answer::Served => Part::Block,
         Answer::Refused(r) => Part::Wrong(Fault::Refused(answers::refusal_number(r))),
@@ -92,7 +93,7 @@ fn take_named(b: usize, held: &mut [i32], mesh: &mut [u64], room: &mut [u8]) -> 
 // The first block from k on whose file is there; 16 where there is none.
 fn next_there(k: usize) -> usize {
     let mut b = k;
-    while b < 16 {
+    while b < Header::BLOCKS as usize {
         if files::is_there(&names::block(b)) {
             return b;
         }
@@ -104,7 +105,7 @@ fn next_there(k: usize) -> usize {
 // The blocks once block k is not found.
 fn counted(k: usize) -> Seen {
     let behind = next_there(k);
-    if behind < 16 {
+    if behind < Header::BLOCKS as usize {
         return Seen::Gap(k, behind);
     }
     Seen::Blocks(k)
@@ -113,7 +114,7 @@ fn counted(k: usize) -> Seen {
 // The files under the names, from block 0 on.
 fn take_names(held: &mut [i32], mesh: &mut [u64], room: &mut [u8]) -> Seen {
     let mut b = 0;
-    while b < 16 {
+    while b < Header::BLOCKS as usize {
         match take_named(b, held, mesh, room) {
             Part::Block => {
                 b += 1;
@@ -126,7 +127,7 @@ fn take_names(held: &mut [i32], mesh: &mut [u64], room: &mut [u8]) -> Seen {
             }
         }
     }
-    Seen::Blocks(16)
+    Seen::Blocks(Header::BLOCKS as usize)
 }
 
 // Whether block b's name still leads to the file that is held, if one is.
@@ -144,7 +145,7 @@ fn stands(b: usize, held: &[i32]) -> bool {
 // Whether each name still leads to the file that is held.
 fn all_stand(held: &[i32]) -> bool {
     let mut b = 0;
-    while b < 16 {
+    while b < Header::BLOCKS as usize {
         if !stands(b, held) {
             return false;
         }
@@ -170,7 +171,7 @@ fn has_commit() -> bool {
 
 // What stands under the names, if it stood there at one moment without a commit.
 fn see_names(mesh: &mut [u64], room: &mut [u8]) -> Seen {
-    let mut held = [-1i32; 16];
+    let mut held = [-1i32; Header::BLOCKS as usize];
     let seen = take_names(&mut held, mesh, room);
     let quiet = !has_commit();
     let steady = all_stand(&held);

@@ -1,6 +1,7 @@
 // Meshes stored as the files of their blocks, and digests that stand for a block's memory.
 use crate::cursor;
 use crate::cursor::NOWHERE;
+use memory::header::Header;
 
 // A word's halves are added, high one first: the sum so far times a number, modulo a prime below 2^32.
 fn add(sum: u64, half: u64) -> u64 {
@@ -16,9 +17,9 @@ fn word_at(mesh: &[u64], at: usize) -> u64 {
 
 // Word i of block b.
 fn word_of(mesh: &[u64], b: usize, i: usize) -> u64 {
-    if b < 16 {
-        if i < 32776 {
-            return word_at(mesh, b * 32776 + i);
+    if b < Header::BLOCKS as usize {
+        if i < Header::WORDS {
+            return word_at(mesh, b * Header::WORDS + i);
         }
     }
     0
@@ -27,7 +28,7 @@ fn word_of(mesh: &[u64], b: usize, i: usize) -> u64 {
 // A digest of block b.
 pub fn digest(mesh: &[u64], b: usize) -> u64 {
     let mut sum = 0;
-    for i in 0..32776 {
+    for i in 0..Header::WORDS {
         let word = word_of(mesh, b, i);
         sum = add(add(sum, word / 4294967296), word % 4294967296);
     }
@@ -47,9 +48,9 @@ fn read_block(input: &[u8], from: usize, end: usize, block: &mut [u64]) -> bool 
 
 // The same into block b of a mesh.
 fn read_part(input: &[u8], from: usize, end: usize, mesh: &mut [u64], b: usize) -> bool {
-    if b < mesh.len() / 32776 {
-        let start = b * 32776;
-        let past = start + 32776;
+    if b < mesh.len() / Header::WORDS {
+        let start = b * Header::WORDS;
+        let past = start + Header::WORDS;
         return read_block(input, from, end, &mut mesh[start..past]);
     }
     false
