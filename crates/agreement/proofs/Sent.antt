@@ -16,7 +16,7 @@ use Rattle.model.specs.Links.{Placed, placed}
 use Rattle.model.specs.Runs.{Request}
 use Rattle.model.specs.UndividedRun.{State, nx, op, th, cell}
 use Rattle.laws.proofs.Faces.{face-stays, is-start, along-face, order-only}
-use Rattle.laws.proofs.Members.{In, in-here, in-there, in-eq, keep-in, Each, map-cong, map-in, firsts-only}
+use Rattle.laws.proofs.Members.{In, in-here, in-there, in-eq, keep-in, Each, map-cong, map-in, firsts-only, keep-each}
 use Rattle.agreement.proofs.Described.{pt, third-by, block-by, Map, Inv, Mine, darts-by, third-is, point-at, kind-free, kind-sewn, kind-critical, by-kind}
 use Rattle.agreement.proofs.Moved.{Served, moved-cell}
 use Rattle.agreement.proofs.MovedCell.{Cell, volume-same, faces-same, vertex-same, out-same}
@@ -30,10 +30,6 @@ use Rattle.theory.proofs.FaceIndices.{placed-each}
 pub collect-cong : {A B : Type 0} (P : A → Type 0) (f g : A → Option B) (l : List A) → Each P l → ((a : A) → P a → f a ≡ g a) → collect f l ≡ collect g l
 collect-cong P f g [] e h = refl
 collect-cong P f g (a ∷ l) e h = rw (h a (e .0), collect-cong P f g l (e .1) h)
-
-pub keep-cong : {A : Type 0} (P : A → Type 0) (p q : A → Bool) (l : List A) → Each P l → ((a : A) → P a → p a ≡ q a) → keep p l ≡ keep q l
-keep-cong P p q [] e h = refl
-keep-cong P p q (a ∷ l) e h = rw (h a (e .0), keep-cong P p q l (e .1) h)
 
 module _ (lims : ℕ → Limits) (fit : Fit lims) (k : ℕ) (u : State) (label : ℕ → Label) (I : Inv lims k u label) (r : Request) (S : Served lims k u r) where
   abbrev M₂ : Map u
@@ -177,7 +173,7 @@ module _ (lims : ℕ → Limits) (fit : Fit lims) (k : ℕ) (u : State) (label :
             collect-cong (λ p. IsFace (p .face)) _ _ (placed 0 cell-faces) placed-faces-each
             (λ p q. ap (part2-entry (r .to) (p .at)) (start-third (p .face) q ∙ ap (third-by u label) (sym (start-is (p .face) q))))
             n;
-        part3 = ap (λ (l : List Placed). part3-from (u .count (r .from)) (map (λ p. p .at) l)) (keep-cong (λ p. IsFace (p .face)) _ _ (placed 0 cell-faces) placed-faces-each inner-same) n;
+        part3 = ap (λ (l : List Placed). part3-from (u .count (r .from)) (map (λ p. p .at) l)) (keep-each (λ p. IsFace (p .face)) _ _ (placed 0 cell-faces) placed-faces-each inner-same) n;
         part4 = collect-cong (λ p. IsFace (p .face)) _ _ (placed 0 cell-faces) placed-faces-each part4-same n;
       })
     where

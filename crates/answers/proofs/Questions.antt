@@ -1,7 +1,7 @@
 -- Questions in a row: a chain of yes, ended by a no or by the last yes, gives what the model's `asked` gives on the list of checks.
 -- A call's proof is such a chain: `gives _ _ _ _ (ask-yes e (ask-yes f (ask-no refl g refl)))`. Assumes nothing.
 use mathlib.Core.Path.{_≡_, refl, sym, _∙_}
-use mathlib.Core.Bool.{Bool, true, false, cond, not, _&&_}
+use mathlib.Core.Bool.{Bool, true, false, cond, not}
 use mathlib.Core.List.{List, [], _∷_, _++_}
 use Prim.Native.Nat.{ℕ}
 use native.Mathlib.Omega.{arith}
@@ -9,6 +9,7 @@ use lib.Dec.{eqb}
 use borrow.Author.Tests.{not-true, not-false, eq-eqb, eqb-true}
 use Rattle.model.specs.Lists.{all, Check, first-no}
 use Rattle.model.specs.Calls.{Answer, served, refused, Result, asked}
+use Rattle.laws.proofs.Tests.{and-left, and-right}
 use Rattle.answers.specs.Answers.{Gives, answered}
 
 -- the questions of a call were put, and gave this
@@ -51,14 +52,6 @@ said-yes {r} e h = sym e ∙ not-false r h
 false-true : _≡_ {A = Bool} false true → ⊥
 false-true e = let z : _≡_ {A = ℕ} 0 1 = cc in omega arith
 
-and-left : (a b : Bool) → (a && b) ≡ true → a ≡ true
-and-left true b h = refl
-and-left false b h = h
-
-and-right : (a b : Bool) → (a && b) ≡ true → b ≡ true
-and-right true b h = h
-and-right false b h = absurd (false-true h)
-
 -- QUESTIONS THAT A CALLEE PUT, before others
 -- no question has the number 0
 abbrev pub numbered : List Check → Bool
@@ -68,7 +61,7 @@ numbered qs = all (λ q. not (eqb (q .0) 0)) qs
 abbrev outcome : {A : Type 0} → Bool → ℕ → List ℕ → A → List ℕ → Result A
 outcome {A} b n before value after = cond {A = Result A} b (record { answer = served value; lent = after }) (record { answer = refused n; lent = before })
 
-served-none : (qs : List Check) → served (tt {0}) ≡ answered qs → first-no qs ≡ 0
+pub served-none : (qs : List Check) → served (tt {0}) ≡ answered qs → first-no qs ≡ 0
 unfolding answered asked
 served-none qs h = go (eqb (first-no qs) 0) refl h
   where

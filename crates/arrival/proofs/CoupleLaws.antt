@@ -1,9 +1,9 @@
 -- A pair and its reverse are neighbours among the pairs in order: couples, by the numbers of their ends. Assumes nothing.
 use mathlib.Core.Path.{_≡_, refl, sym, _∙_, ap}
 use mathlib.Core.Logic.{_≢_, ⊎-elim}
-use mathlib.Core.Bool.{Bool, true, false, true≢false, not}
+use mathlib.Core.Bool.{Bool, true, false, true≢false}
 use mathlib.Core.List.{List}
-use Prim.Native.Nat.{ℕ, zero, suc, _+_, _-_, _*_, _/_, _≤_, _<_}
+use Prim.Native.Nat.{ℕ, _+_, _-_, _*_, _/_, _≤_, _<_}
 use native.Mathlib.Nat.{eq-or-lt-of-le}
 use native.Mathlib.Omega.{arith}
 use lib.ListN.{length, getD, take, set, length-set}
@@ -11,11 +11,10 @@ use lib.Seq.{getD-take, getD-set-same, getD-set-other}
 use borrow.Author.Tests.{lt-ltb, le-ltb}
 use Rattle.laws.specs.Order.{Ascending}
 use Rattle.model.specs.Lists.{all, mem, distinct, tab}
-use Rattle.laws.proofs.Tests.{by-cases, lt-or-ge, and-right, same-truth}
-use Rattle.laws.proofs.Members.{distinct-not}
-use Rattle.laws.proofs.Tables.{getD-tab, tab-all, all-tab, mem-place, mem-none}
+use Rattle.ranking.proofs.Steps.{index-fits}
+use Rattle.laws.proofs.Tests.{by-cases, lt-or-ge, same-truth}
+use Rattle.laws.proofs.Tables.{getD-tab, tab-all, all-tab, mem-place, mem-none, tab-apart, tab-distinct}
 use Rattle.ranking.specs.Ranks.{value-at, index-at, Ranked}
-use Rattle.ranking.proofs.RankLaws.{tab-distinct}
 use Rattle.arrival.specs.Sides.{next-index, pair-code, pair-at, reverse-at, couple-code, couple-at, Segments, Small}
 use Rattle.arrival.specs.Draft.{Opposed, Coupled}
 use Rattle.arrival.proofs.SegmentLaws.{next-below}
@@ -64,13 +63,6 @@ module _ {a c d f : ℕ} (la : a ≤ 512) (lc : c ≤ 512) (ld : d ≤ 512) (lf 
   ends-same s = let p : a ≡ d = omega (arith, s, la, lc, ld, lf) in let q : c ≡ f = omega (arith, s, la, lc, ld, lf) in rw (p, q) refl
 
 -- PAIRS BY INDEX
-pub tab-apart : (f : ℕ → ℕ) (n : ℕ) → distinct (tab f n) ≡ true → (i j : ℕ) → i < n → j < n → f i ≡ f j → i ≡ j
-tab-apart f zero d i j hi hj e = absurd (omega (arith, hi))
-tab-apart f (suc n) d zero zero hi hj e = refl
-tab-apart f (suc n) d zero (suc j) hi hj e = absurd (distinct-not (f 0) (tab (λ k. f (suc k)) n) d (f (suc j)) (mem-place (λ k. f (suc k)) n j (f (suc j)) (omega (arith, hj)) refl) (sym e))
-tab-apart f (suc n) d (suc i) zero hi hj e = absurd (distinct-not (f 0) (tab (λ k. f (suc k)) n) d (f (suc i)) (mem-place (λ k. f (suc k)) n i (f (suc i)) (omega (arith, hi)) refl) e)
-tab-apart f (suc n) d (suc i) (suc j) hi hj e = ap suc (tab-apart (λ k. f (suc k)) n (and-right (not (mem (f 0) (tab (λ k. f (suc k)) n))) _ d) i j (omega (arith, hi)) (omega (arith, hj)) e)
-
 module _ (v : List ℕ) {b z : List ℕ} {k : ℕ} (seg : Segments b z k) (small : Small v k) where
   head-small : (i : ℕ) → i < k → getD v (next-index b z i) 0 ≤ 512
   head-small i h = small (next-index b z i) (next-below seg i h)
@@ -140,9 +132,6 @@ pub record Coupling (keys : List ℕ) (k : ℕ) (q : List ℕ) (r : ℕ) : Type 
 
 pub coupling-none : (keys : List ℕ) (k : ℕ) {q : List ℕ} → length q ≡ 512 → Coupling keys k q 0
 coupling-none keys k e = record { len = e; le = omega arith; two = λ h. omega (arith, h); last = λ h. absurd (omega (arith, h)); met = λ p h. absurd (omega (arith, h)) }
-
-index-fits : (keys : List ℕ) (p : ℕ) → index-at keys p < 512
-index-fits keys p = omega arith
 
 module _ {keys : List ℕ} {k : ℕ} {q : List ℕ} {r : ℕ} (up : Ascending k (value-at keys)) (w : Coupling keys k q r) (h : r < k) where
   up-to : (p s : ℕ) → p ≤ s → s < k → value-at keys p ≤ value-at keys s

@@ -5,7 +5,6 @@ use mathlib.Core.List.{List, [], _∷_, map}
 use mathlib.Core.Option.{some}
 use Prim.Native.Nat.{ℕ, zero, suc, _+_, _*_, _<_}
 use native.Mathlib.Omega.{arith}
-use lib.Dec.{eqb}
 use lib.ListN.{getD}
 use borrow.Author.Tests.{eqb-true, eq-eqb}
 use Rattle.model.specs.Lists.{keep, mem, find, tab}
@@ -15,7 +14,7 @@ use Rattle.model.specs.Image.{count-in, column, dart-in, third-in}
 use Rattle.model.specs.Messages.{Transfer, size-all}
 use Rattle.model.specs.Arrival.{Side, sides, reverses, first-serial, opposite-of, new-dart, new-darts}
 use Rattle.laws.proofs.Tests.{by-cases}
-use Rattle.laws.proofs.Tables.{getD-tab, map-tab, find-none, mem-place, place-mem, dart-place}
+use Rattle.laws.proofs.Tables.{getD-tab, map-tab, find-none, mem-place, place-mem, dart-place, find-only}
 use Rattle.memory.specs.Record.{record-in}
 use Rattle.memory.specs.declared.record.Record.{Record}
 use Rattle.cells.proofs.Sited.{darts-in}
@@ -39,14 +38,6 @@ keep-single p f (suc n) zero h t only = rw t (ap (λ (l : List _). f 0 ∷ l) (k
 keep-single p f (suc n) (suc j) h t only = by-cases (p (f 0))
     (λ e. absurd (let z = only 0 (omega arith) e in omega (arith, z)))
     (λ e. rw e (keep-single p (λ k. f (suc k)) n j (omega (arith, h)) t (λ i l u. let z = only (suc i) (omega (arith, l)) u in omega (arith, z))))
-
--- a row whose key no other has
-find-only : {A : Type 0} (key : A → ℕ) (f : ℕ → A) (n p : ℕ) → p < n → ((i : ℕ) → i < n → key (f i) ≡ key (f p) → i ≡ p) → find key (key (f p)) (tab f n) ≡ some (f p)
-find-only key f zero p h only = absurd (omega (arith, h))
-find-only key f (suc n) zero h only = rw (eq-eqb (key (f 0)) (key (f 0)) refl) refl
-find-only key f (suc n) (suc p) h only = by-cases (eqb (key (f (suc p))) (key (f 0)))
-    (λ e. absurd (let z = only 0 (omega arith) (sym (eqb-true (key (f (suc p))) (key (f 0)) e)) in omega (arith, z)))
-    (λ e. rw e (find-only key (λ k. f (suc k)) n p (omega (arith, h)) (λ i l u. let z = only (suc i) (omega (arith, l)) u in omega (arith, z))))
 
 dart-path : {a a′ c c′ d d′ : ℕ} {e e′ : Third} {f f′ : Point} → a ≡ a′ → c ≡ c′ → d ≡ d′ → e ≡ e′ → f ≡ f′
     → _≡_ {A = Dart} (record { serial = a; next = c; opposite = d; third = e; point = f }) (record { serial = a′; next = c′; opposite = d′; third = e′; point = f′ })

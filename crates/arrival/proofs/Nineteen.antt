@@ -1,7 +1,7 @@
 -- Question 19 as a whole: what each test tells of it. Assumes nothing.
 use mathlib.Core.Path.{_≡_, refl, sym, _∙_, ap, subst}
 use mathlib.Core.Bool.{Bool, true, false, true≢false, not, _&&_}
-use mathlib.Core.List.{List, [], _∷_, map}
+use mathlib.Core.List.{List, map}
 use Prim.Native.Nat.{ℕ, _+_, _*_, _≤_, _<_}
 use native.Mathlib.Omega.{arith}
 use lib.Dec.{leb, ltb, eqb}
@@ -13,9 +13,9 @@ use Rattle.model.specs.Image.{column}
 use Rattle.model.specs.Messages.{Transfer}
 use Rattle.model.specs.Arrival.{Side, sides, new-darts, faces-ordered, pairs-right, one-volume, vertices-right, volume-right}
 use Rattle.laws.proofs.Tests.{by-cases, and-intro, and-left, and-right, same-list-is, and-false}
-use Rattle.laws.proofs.Members.{In, in-map, keep-le, getD-in, firsts-fewer}
+use Rattle.laws.proofs.Members.{In, in-map, getD-in, firsts-fewer}
 use Rattle.laws.proofs.Maps.{map-at}
-use Rattle.laws.proofs.Tables.{length-tab, getD-tab, map-tab, tab-all, all-tab}
+use Rattle.laws.proofs.Tables.{length-tab, getD-tab, map-tab, tab-all, all-tab, tab-apart}
 use Rattle.theory.proofs.ImageLaws.{place-back}
 use Rattle.cells.specs.Places.{Numbered, places-in, volume-of}
 use Rattle.cells.proofs.RingLaws.{mem-firsts}
@@ -28,7 +28,6 @@ use Rattle.arrival.specs.Draft.{Paired, draft-record, Draftable, Drafted
 use Rattle.arrival.proofs.SideLaws.{sides-are}
 use Rattle.arrival.proofs.OrderLaws.{order-is}
 use Rattle.arrival.proofs.SegmentLaws.{segments}
-use Rattle.arrival.proofs.CoupleLaws.{tab-apart}
 use Rattle.arrival.proofs.PairLaws.{pairs-is}
 use Rattle.arrival.proofs.VolumeLaws.{volume-is, vertices-are}
 

@@ -2,7 +2,7 @@
 use mathlib.Core.Path.{_≡_, refl, sym, _∙_, ap}
 use mathlib.Core.Bool.{Bool, true, false, not, _&&_}
 use mathlib.Core.List.{List, [], _∷_, map}
-use Prim.Native.Nat.{ℕ, zero, suc, _+_, _*_, _<_}
+use Prim.Native.Nat.{ℕ, _+_, _*_, _<_}
 use native.Mathlib.Omega.{arith}
 use lib.Dec.{eqb}
 use lib.ListN.{getD}
@@ -11,7 +11,7 @@ use Rattle.model.specs.Lists.{all, any, mem, tab, distinct}
 use Rattle.model.specs.Links.{same-pair, pairs-once}
 use Rattle.model.specs.Arrival.{Side, reverses, pairs-right}
 use Rattle.laws.proofs.Tests.{and-intro, and-left, and-right, same-truth}
-use Rattle.laws.proofs.Members.{Each, all-map}
+use Rattle.laws.proofs.Members.{Each, all-map, each-tab}
 use Rattle.laws.proofs.Tables.{map-tab, tab-any, any-tab, tab-all, all-tab}
 use Rattle.arrival.specs.Sides.{next-index, side-at, pair-code, pair-at, reverse-at, ends-differ, Segments, Small}
 use Rattle.arrival.proofs.SegmentLaws.{next-below}
@@ -53,10 +53,6 @@ swap-and false true = refl
 swap-and false false = refl
 
 -- BY INDEX
-each-tab : {A : Type 0} (P : A → Type 0) (f : ℕ → A) (n : ℕ) → ((i : ℕ) → i < n → P (f i)) → Each P (tab f n)
-each-tab P f zero h = tt
-each-tab P f (suc n) h = (h 0 (omega arith), each-tab P (λ k. f (suc k)) n (λ i l. h (suc i) (omega (arith, l))))
-
 -- a test of each value is a test of each index
 pub all-index : {A : Type 0} (q : A → Bool) (f : ℕ → A) (n : ℕ) → all q (tab f n) ≡ all (λ i. q (f i)) (tab (λ i. i) n)
 all-index q f n = ap (all q) (sym (map-tab f (λ i. i) n)) ∙ all-map q f (tab (λ i. i) n)

@@ -17,7 +17,7 @@ use Rattle.model.specs.Sound.{dart-in-range, link-right, links-right, third-rig
 use Rattle.model.specs.Image.{dart-words, words-of, count-in, image, memory-of, column}
 use Rattle.model.specs.Balance.{Oracle, picks, picked, counts}
 use Rattle.laws.proofs.Tests.{by-cases, and-left, and-right, all-at, find-map}
-use Rattle.theory.proofs.ImageLaws.{place-back, getD-serial, column-is, Readable, readable-dart, parts-of, ranges-of}
+use Rattle.theory.proofs.ImageLaws.{place-back, getD-serial, column-is, Readable, readable-dart, parts-of, ranges-of, image-count}
 
 -- WHAT IS PICKED, from what it depends on
 abbrev volume-of : List ℕ → (ℕ → ℕ) → (ℕ → ℕ) → ℕ → List ℕ
@@ -59,10 +59,6 @@ index-back x (y ∷ ss) h = by-cases (eqb x y)
     (λ e. rw e (sym (eqb-true x y e)))
     (λ e. rw e (index-back x ss (let k : suc (index-of x ss) < suc (length ss) = rw e at h in omega arith)))
 
-count-word : (size : ℕ) (b : Block) → count-in (image size b) ≡ length (b .darts)
-unfolding image
-count-word size b = refl
-
 getD-bare : (ds : List Dart) (p : ℕ) → getD (map bare ds) p no-dart ≡ bare (getD ds p no-dart)
 unfolding no-dart
 getD-bare [] p = refl
@@ -72,7 +68,7 @@ getD-bare (d ∷ ds) (suc p) = getD-bare ds p
 -- two blocks with one image, of which one is sound
 module _ (lim : Limits) (size other : ℕ) (b c : Block) (sound : sound-block lim c ≡ true) (same : image size b ≡ image other c) where
   length-same : length (b .darts) ≡ length (c .darts)
-  length-same = sym (count-word size b) ∙ ap count-in same ∙ count-word other c
+  length-same = sym (image-count size b) ∙ ap count-in same ∙ image-count other c
 
   abbrev db : ℕ → Dart
   db p = getD (b .darts) p no-dart

@@ -7,7 +7,7 @@ use native.Mathlib.Omega.{arith}
 use native.Mathlib.Numerals.{add-one}
 use lib.ListN.{length, getD, replicate, set, take, drop, length-replicate}
 use lib.Seq.{take-suc, length-take-le, getD-take}
-use Rattle.model.specs.Lists.{least, least-from, mem}
+use Rattle.model.specs.Lists.{least, mem}
 use Rattle.laws.proofs.Tests.{by-cases}
 use Rattle.laws.proofs.Lists.{getD-zeros}
 use Rattle.laws.proofs.Members.{In, in-getD, least-in, least-below, least-more}
@@ -16,7 +16,7 @@ use Rattle.cells.proofs.Paths.{paint-more}
 use Rattle.cells.proofs.FaceLaws.{in-marked, marked-in}
 
 -- PAINTED BY A LIST: one place more
-one-more : (order : List ℕ) (i : ℕ) → i < length order → take (i + 1) order ≡ take i order ++ getD order i 0 ∷ []
+pub one-more : (order : List ℕ) (i : ℕ) → i < length order → take (i + 1) order ≡ take i order ++ getD order i 0 ∷ []
 one-more order i h = ap (λ (k : ℕ). take k order) (add-one i) ∙ take-suc order i 0 h
 
 pub paint-listed : (order : List ℕ) (i : ℕ) {c : ℕ} {t t′ : List ℕ} → Painted c (take i order) t t′ → i < length order

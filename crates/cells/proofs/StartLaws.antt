@@ -36,11 +36,6 @@ start-at i (f ∷ fs) (suc k) h some =
     let r = start-at (i + length f) fs k (omega arith) some in
     (length f + r .0, r .1 ∙ add-assoc i (length f) (r .0), omega (arith, length-append f (concat fs), r .2), getD-append-add f (concat fs) (r .0) 0 ∙ r .3)
 
-pub placed-length : (i : ℕ) (fs : List (List ℕ)) → length (placed i fs) ≡ length fs
-unfolding placed
-placed-length i [] = refl
-placed-length i (f ∷ fs) = ap suc (placed-length (i + length f) fs)
-
 -- the first dart of a face
 pub cycle-start : {f : ℕ → ℕ} {x c : ℕ} → Round f x c → start-of (cycle f x) ≡ x
 cycle-start {f} {x} {c} r = rw (r .cycle-is) (go c (r .some))

@@ -10,20 +10,17 @@ use Rattle.model.specs.Lists.{keep, firsts, index-of, least, least-from}
 use Rattle.model.specs.Cells.{ring, vertex, vertices, vertex-number, next-in, opposite-in}
 use Rattle.model.specs.Image.{count-in, column}
 use Rattle.laws.proofs.Tests.{by-cases}
-use Rattle.laws.proofs.Members.{In, in-here, in-there, map-in, keep-map, map-map, map-cong, keep-cong}
+use Rattle.laws.proofs.Members.{In, in-here, in-there, map-in, keep-map, map-map, map-cong, keep-cong, firsts-only}
 use Rattle.laws.specs.Order.{Ascending}
 use Rattle.laws.proofs.Carry.{carry-cycle}
 use Rattle.cells.proofs.Walks.{eq-or-ne}
 use Rattle.cells.proofs.Sited.{Sited, darts-in}
 use Rattle.cells.proofs.Serials.{serials-apart}
-use Rattle.cells.proofs.RingLaws.{mem-firsts, step-within, ring-self, ring-below, vertex-in}
+use Rattle.cells.proofs.RingLaws.{step-within, ring-self, ring-below, vertex-in}
 
 -- LISTS UNDER A MAP that keeps their elements apart
 pub same-eqb : (h : ℕ → ℕ) (x y : ℕ) → (h x ≡ h y → x ≡ y) → eqb (h x) (h y) ≡ eqb x y
 same-eqb h x y inj = eq-or-ne x y (λ e. rw (eq-eqb x y e) (eq-eqb (h x) (h y) (ap h e))) (λ e. rw (ne-eqb x y e) (ne-eqb (h x) (h y) (λ w. e (inj w))))
-
-firsts-in : (y : ℕ) (l : List ℕ) → In y (firsts l) → In y l
-firsts-in y l k = sym (mem-firsts y l) ∙ k
 
 firsts-map : (h : ℕ → ℕ) (l : List ℕ) → ((x y : ℕ) → In x l → In y l → h x ≡ h y → x ≡ y) → firsts (map h l) ≡ map h (firsts l)
 unfolding firsts
@@ -31,7 +28,7 @@ firsts-map h [] inj = refl
 firsts-map h (x ∷ l) inj = ap (λ (t : List ℕ). h x ∷ t)
     (ap (keep (λ y. not (eqb (h x) y))) (firsts-map h l (λ y z i j. inj y z (in-there y x l i) (in-there z x l j)))
     ∙ keep-map (λ y. not (eqb (h x) y)) h (firsts l)
-    ∙ ap (map h) (keep-cong (λ y. not (eqb (h x) (h y))) (λ y. not (eqb x y)) (firsts l) (λ y k. ap not (same-eqb h x y (inj x y (in-here x l) (in-there y x l (firsts-in y l k)))))))
+    ∙ ap (map h) (keep-cong (λ y. not (eqb (h x) (h y))) (λ y. not (eqb x y)) (firsts l) (λ y k. ap not (same-eqb h x y (inj x y (in-here x l) (in-there y x l (firsts-only y l k)))))))
 
 index-map : (h : ℕ → ℕ) (x : ℕ) (l : List ℕ) → ((y : ℕ) → In y l → h x ≡ h y → x ≡ y) → index-of (h x) (map h l) ≡ index-of x l
 unfolding index-of
@@ -97,4 +94,4 @@ module _ {m : List ℕ} (site : Sited m) where
         ap (λ (v : ℕ). index-of v (vertices (next-in (darts-in m)) (opposite-in (darts-in m)) (map (column m 0) l))) (vertex-serial x (below x k))
         ∙ ap (index-of (column m 0 (vertex (column m 1) (column m 2) x))) vertices-serials
         ∙ index-map (column m 0) (vertex (column m 1) (column m 2) x) (vertices (column m 1) (column m 2) l)
-        (λ y j. serials-apart site (vertex (column m 1) (column m 2) x) y (vertex-below x (below x k)) (some-vertex y (firsts-in y (map (vertex (column m 1) (column m 2)) l) j)))
+        (λ y j. serials-apart site (vertex (column m 1) (column m 2) x) y (vertex-below x (below x k)) (some-vertex y (firsts-only y (map (vertex (column m 1) (column m 2)) l) j)))

@@ -5,7 +5,6 @@ use mathlib.Core.List.{List, [], map}
 use Prim.Native.Nat.{ℕ}
 use native.Mathlib.Omega.{arith}
 use lib.Dec.{eqb}
-use borrow.Author.Tests.{eqb-true}
 use Rattle.model.specs.Lists.{all, Check, first-no}
 use Rattle.model.specs.Values.{rack}
 use Rattle.model.specs.Sound.{blocks-right, serials-distinct, labels-paired, points-across, makers-right, mesh-checks}
@@ -13,7 +12,7 @@ use Rattle.model.specs.Image.{block-in, holds-block}
 use Rattle.model.specs.Calls.{Answer, served, refused, Result, asked, memories, mesh-lent, scratch-entries, whole-mesh-checks, check-mesh}
 use Rattle.laws.proofs.Tests.{yes-first}
 use Rattle.answers.specs.Answers.{Gives, answered}
-use Rattle.answers.proofs.Questions.{alone, ask-no, ask-yes, ask-end, said-no, said-yes}
+use Rattle.answers.proofs.Questions.{alone, ask-no, ask-yes, ask-end, said-no, said-yes, served-none}
 use Rattle.pairing.specs.Told.{pairing-of}
 use Rattle.pairing.specs.declared.Pairing.{Pairing}
 use Rattle.pairing.specs.declared.Pairing.the-variants.{Right, Unpaired, Apart}
@@ -90,20 +89,12 @@ module _ (m s : List ℕ) where
 abbrev outcome : Bool → ℕ → List ℕ → Result (Unit {0})
 outcome b n s = cond {A = Result (Unit {0})} b (record { answer = served tt; lent = s }) (record { answer = refused n; lent = s })
 
-none-no : (qs : List Check) → served (tt {0}) ≡ answered qs → first-no qs ≡ 0
-unfolding answered asked
-none-no qs h = go (eqb (first-no qs) 0) refl h
-  where
-    go : (b : Bool) → eqb (first-no qs) 0 ≡ b → served (tt {0}) ≡ outcome b (first-no qs) [] .answer → first-no qs ≡ 0
-    go true e q = eqb-true (first-no qs) 0 e
-    go false e q = let z : _≡_ {A = ℕ} 0 1 = cc in absurd (omega arith)
-
 -- every question was answered yes
 pub right : (m s : List ℕ) → served (tt {0}) ≡ answered (whole-mesh-checks (λ _. rack) m s) → mesh.Right m s
 unfolding whole-mesh-checks mesh-checks
 right m s e =
     let bs = map block-in (memories m) in
-    let q1 = yes-first 1 (mesh-lent scratch-entries m s) _ (λ z. omega arith) (none-no _ e) in
+    let q1 = yes-first 1 (mesh-lent scratch-entries m s) _ (λ z. omega arith) (served-none _ e) in
     let q2 = yes-first 2 (all (λ b. holds-block b) (memories m)) _ (λ z. omega arith) (q1 .1) in
     let q23 = yes-first 23 (blocks-right bs) _ (λ z. omega arith) (q2 .1) in
     let q24 = yes-first 24 (serials-distinct bs) _ (λ z. omega arith) (q23 .1) in

@@ -12,7 +12,7 @@ use lib.ListN.{length, getD, replicate}
 use lib.Seq.{getD-append-add, ext-getD}
 use borrow.Author.Tests.{le-leb, lt-ltb, leb-true, ltb-true}
 use Rattle.model.specs.Lists.{all, tab, ascending, concat, index-of}
-use Rattle.model.specs.Values.{free, sewn, critical, Dart, no-dart, Block, widest, serial-bound, room}
+use Rattle.model.specs.Values.{free, sewn, critical, no-dart, Block, widest, serial-bound, room}
 use Rattle.model.specs.Cells.{serials}
 use Rattle.model.specs.Sound.{third-in-range, dart-in-range, ranges-right}
 use Rattle.model.specs.Image.{words-for, kind-word, link-word, dart-words, image, column, label-in, third-in, dart-in, block-in}
@@ -20,7 +20,7 @@ use Rattle.laws.proofs.Tests.{by-cases, lt-or-ge, and-intro, and-left, and-righ
 use Rattle.laws.proofs.Lists.{getD-zeros}
 use Rattle.laws.specs.Order.{Ascending}
 use Rattle.laws.proofs.Tables.{length-tab, getD-tab, all-tab, tab-all, map-tab, tab-ascending, ascending-tab, index-place}
-use Rattle.theory.proofs.ImageLaws.{column-is, image-length, ranges-of}
+use Rattle.theory.proofs.ImageLaws.{column-is, image-length, ranges-of, rows-length}
 use Rattle.columns.specs.Columns.{count, before, Kind, kind-free, kind-sewn, kind-critical, Ranged, Places, SewnPlaces}
 use Rattle.columns.proofs.Thirds.{third-free, third-sewn, third-critical, kind-back, link-back}
 
@@ -37,11 +37,6 @@ pub in-order : (m : List ℕ) → Ranged m → Ascending (count m) (column m 0)
 in-order m w = ascends (column m 0) (count m) (w .above)
 
 -- THE REST OF AN IMAGE
-rows-length : (ss : List ℕ) (es : List Dart) → length (concat (map (dart-words ss) es)) ≡ length es * 8
-unfolding concat dart-words
-rows-length ss [] = refl
-rows-length ss (d ∷ es) = let ih = rows-length ss es in omega arith
-
 pub image-rest : (size : ℕ) (b : Block) (i : ℕ) → 8 + length (b .darts) * 8 ≤ i → getD (image size b) i 0 ≡ 0
 unfolding image
 image-rest size b i h =

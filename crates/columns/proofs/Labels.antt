@@ -14,9 +14,10 @@ use Rattle.model.specs.Sound.{label-right, labels-right}
 use Rattle.model.specs.Image.{column, third-in, dart-in, block-in}
 use Rattle.laws.proofs.Members.{map-append}
 use Rattle.laws.proofs.Tables.{tab-more}
+use Rattle.laws.proofs.Labels.{code-in}
 use Rattle.columns.specs.Columns.{all-below, count, Kind, kind-free, kind-sewn, kind-critical, Ranged, label-test, own-test, codes}
 use Rattle.columns.proofs.Below.{all-tests}
-use Rattle.columns.proofs.Thirds.{third-free, third-sewn, third-critical, code-in}
+use Rattle.columns.proofs.Thirds.{third-free, third-sewn, third-critical}
 
 pub label-is : (s : ℕ → ℕ) (me counter k a : ℕ) → Kind k a → label-right me counter (third-in s k a) ≡ label-test me counter k a
 unfolding label-test

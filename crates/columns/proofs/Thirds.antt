@@ -1,17 +1,18 @@
 -- Kind words and link words: what the test of them says, and the third link that they stand for. Assumes nothing.
-use mathlib.Core.Path.{_≡_, refl, sym}
-use mathlib.Core.Bool.{true, not, _&&_, _||_}
+use mathlib.Core.Path.{_≡_, refl, sym, ap}
+use mathlib.Core.Bool.{true, not, _&&_, _||_, cond}
 use mathlib.Core.List.{List}
 use mathlib.Core.Logic.{_⊎_, inl, inr}
-use Prim.Native.Nat.{ℕ, _/_, _%_, _≤_, _<_, _^_}
+use Prim.Native.Nat.{ℕ, _/_, _%_, _≤_, _<_, _^_, suc}
 use native.Mathlib.Omega.{arith}
 use lib.Dec.{ltb, eqb}
 use borrow.Author.Tests.{eqb-true, eq-eqb, ltb-true, ltb-false, lt-ltb, le-ltb}
 use Rattle.model.specs.Lists.{index-of}
-use Rattle.model.specs.Values.{free, sewn, critical, code}
+use Rattle.model.specs.Values.{free, sewn, critical, label-key}
 use Rattle.model.specs.Image.{kind-word, link-word, label-in, third-in}
 use Rattle.laws.proofs.Tests.{by-cases, and-intro, and-left, and-right, or-cases}
 use Rattle.laws.proofs.Members.{or-right}
+use Rattle.laws.proofs.Labels.{code-in}
 use Rattle.columns.specs.Columns.{Kind, kind-free, kind-sewn, kind-critical, label-test, critical-test, kind-test}
 
 -- THE THREE KINDS
@@ -26,10 +27,6 @@ third-sewn s k a e = rw e refl
 pub third-critical : (s : ℕ → ℕ) (k a : ℕ) → k % 4 ≡ 2 → third-in s k a ≡ critical (k / 4) (label-in a)
 unfolding third-in
 third-critical s k a e = rw e refl
-
-pub code-in : (a : ℕ) → code (label-in a) ≡ a
-unfolding code
-code-in a = omega arith
 
 -- THE TEST
 pub record KindRight (me counter n k a : ℕ) : Type 0 where
@@ -85,3 +82,13 @@ pub link-back : (s : ℕ → ℕ) (ss : List ℕ) (k a : ℕ) → Kind k a → (
 link-back s ss k a (kind-free e f) h = rw (third-free s k a e) (sym f)
 link-back s ss k a (kind-sewn e) h = rw (third-sewn s k a e) (h e)
 link-back s ss k a (kind-critical e f g) h = rw (third-critical s k a e) (code-in a)
+
+pub kind-one : {k a : ℕ} → Kind k a → k % 4 ≡ 1 → k ≡ 1
+kind-one (kind-free e f) h = absurd (omega arith)
+kind-one (kind-sewn e) h = e
+kind-one (kind-critical e f g) h = absurd (omega arith)
+
+pub label-word : (s : ℕ → ℕ) (k a : ℕ) → Kind k a → label-key (third-in s k a) ≡ cond (ltb 1 k) (suc a) 0
+label-word s k a (kind-free e f) = rw (third-free s k a e, e) refl
+label-word s k a (kind-sewn e) = rw (third-sewn s k a e, e) refl
+label-word s k a (kind-critical e f g) = rw (third-critical s k a e, lt-ltb 1 k (omega arith)) (ap suc (code-in a))

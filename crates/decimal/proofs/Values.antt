@@ -1,6 +1,6 @@
 -- The value of digits and a power of ten; texts put together from their pieces. Assumes nothing.
 use mathlib.Core.Path.{_≡_, refl, sym, ap, _∙_}
-use mathlib.Core.Bool.{Bool, true, false, true≢false, cond, _||_}
+use mathlib.Core.Bool.{Bool, true, false, cond, _||_}
 use mathlib.Core.List.{List, [], _∷_}
 use mathlib.Core.Logic.{⊎-elim}
 use Prim.Native.Nat.{ℕ, _+_, _*_, _-_, _^_, _<_, _≤_}
@@ -12,7 +12,7 @@ use lib.Pow.{pow-add}
 use lib.Ieee.{Float, binary64, round, neg}
 use lib.Ieee.Scale.{round-same}
 use borrow.Author.Tests.{lt-ltb, le-ltb, le-leb, lt-leb, ne-eqb, ltb-true, ltb-false}
-use Rattle.laws.proofs.Tests.{or-cases, and-false}
+use Rattle.laws.proofs.Tests.{or-cases, and-false, or-false}
 use Rattle.laws.proofs.Lists.{rest-whole}
 use Rattle.commands.specs.Words.{is-digit, leading}
 use Rattle.decimal.specs.declared.Decimal.{Decimal}
@@ -85,10 +85,6 @@ scaled-not minus m places e = rw e refl
 pub scaled-far : (minus : Bool) (m places k : ℕ) {p : Power} → p ≡ power.Down k → (ltb 22 places || ltb 22 k) ≡ true → decimal.Not ≡ scaled-by minus m places p
 scaled-far minus m places k e h = scaled-down minus m places k e (nearest-far-down minus m 0 (places + k)
     (⊎-elim (λ x. omega (arith, ltb-true 22 places x)) (λ x. omega (arith, ltb-true 22 k x)) (or-cases (ltb 22 places) (ltb 22 k) h)))
-
-or-false : (a b : Bool) → (a || b) ≡ false → (a ≡ false) × (b ≡ false)
-or-false true b h = absurd (true≢false h)
-or-false false b h = (refl, h)
 
 pub near-sum : (places k : ℕ) → (ltb 22 places || ltb 22 k) ≡ false → places + k ≤ 44
 near-sum places k h = let w = or-false (ltb 22 places) (ltb 22 k) h in omega (arith, ltb-false 22 places (w .0), ltb-false 22 k (w .1))

@@ -19,7 +19,7 @@ use Rattle.model.specs.Links.{Placed, placed}
 use Rattle.laws.proofs.Tests.{by-cases, and-left}
 use Rattle.laws.proofs.Members.{In, in-eq, in-getD, in-append-left, in-append-right, map-map, map-cong, keep-map, Each, map-each, keep-each, each-kept, collect-each, collect-map}
 use Rattle.laws.proofs.Tables.{dart-place}
-use Rattle.laws.proofs.Faces.{along-face}
+use Rattle.laws.proofs.Faces.{along-face, start-map}
 use Rattle.theory.proofs.BlockLaws.{same-point-is}
 use Rattle.columns.specs.Columns.{Kind, point-test, same-at}
 use Rattle.columns.proofs.Question.{Passed}
@@ -34,7 +34,7 @@ use Rattle.cells.proofs.VolumeArrays.{number-of, vertices-of}
 use Rattle.cells.proofs.VolumeReady.{out-whole}
 use Rattle.cells.proofs.Sited.{Sited, darts-in}
 use Rattle.departure.specs.ByPlaces.{critical-with, critical-beside, dart-entry, part2-at, part4-at, transfer-at, least-at, update-at, updates-at}
-use Rattle.departure.proofs.LeavingFaces.{Face, faces-are, start-map, start-below, critical-is, part2-is, part4-is, labels-are, least-is}
+use Rattle.departure.proofs.LeavingFaces.{Face, faces-are, start-below, critical-is, part2-is, part4-is, labels-are, least-is}
 
 -- faces by place, and what becomes of one by serial
 abbrev serial-face : (ℕ → ℕ) → Placed → Placed

@@ -15,10 +15,10 @@ use Rattle.model.specs.Cells.{cycle, faces, start-of, third-at, labels-along, l
 use Rattle.model.specs.Image.{count-in, column, third-in, label-in}
 use Rattle.model.specs.Departure.{part2-entry, part4-entry, least-labels}
 use Rattle.model.specs.Links.{Placed}
-use Rattle.laws.proofs.Tests.{by-cases, and-left}
+use Rattle.laws.proofs.Tests.{by-cases, and-left, eqb-swap}
 use Rattle.laws.proofs.Members.{In, in-here, in-there, in-eq, in-append-left, in-append-right, distinct-left, distinct-apart, in-map, map-in, Each, each-map, keep-in, least-in, one-kept, keep-map, map-map, map-cong, collect-map}
 use Rattle.laws.proofs.Faces.{face-stays, along-face, face-distinct}
-use Rattle.memory.proofs.Labels.{code-label}
+use Rattle.laws.proofs.Labels.{code-in}
 use Rattle.columns.specs.Columns.{Kind, kind-free, kind-sewn, kind-critical, codes, third-test}
 use Rattle.columns.proofs.Thirds.{third-free, third-sewn, third-critical}
 use Rattle.columns.proofs.Question.{Passed}
@@ -40,10 +40,6 @@ pub record Face (m f : List ℕ) : Type 0 where
 start-in : (f : List ℕ) → 0 < length f → In (start-of f) f
 start-in [] h = absurd (omega arith)
 start-in (x ∷ f) h = in-here x f
-
-pub start-map : (s : ℕ → ℕ) (f : List ℕ) → 0 < length f → start-of (map s f) ≡ s (start-of f)
-start-map s [] h = absurd (omega arith)
-start-map s (x ∷ f) h = refl
 
 pub start-below : {m f : List ℕ} → Face m f → start-of f < count-in m
 start-below {m} {f} w = w .below (start-of f) (start-in f (w .some))
@@ -76,7 +72,7 @@ module _ {m : List ℕ} (site : Sited m) (ok : Passed m) where
       (λ x k. cycle-face x (marked-below site p h mk x (keep-in (λ x. all (leb x) (cycle (column m 1) x)) (marked (count-in m) marks) x k .0)))
 
 -- LABELS stand once in a block's memory
-in-codes : (m : List ℕ) (n p : ℕ) → p < n → 1 < column m 3 p → In (column m 4 p) (codes m n)
+pub in-codes : (m : List ℕ) (n p : ℕ) → p < n → 1 < column m 3 p → In (column m 4 p) (codes m n)
 unfolding codes
 in-codes m zero p h c = absurd (omega arith)
 in-codes m (suc n) p h c = by-cases (eqb p n)
@@ -109,9 +105,6 @@ same-other : (k j : ℕ) → k % 4 ≡ 2 → eqb (k / 4) j ≡ eqb k (2 + 4 * j)
 same-other k j e = by-cases (eqb (k / 4) j)
     (λ a. let w = eqb-true (k / 4) j a in rw a (sym (eq-eqb k (2 + 4 * j) (omega arith))))
     (λ a. let w = eqb-false (k / 4) j a in rw a (sym (ne-eqb k (2 + 4 * j) (λ x. w (omega arith)))))
-
-eqb-swap : (a b : ℕ) → eqb a b ≡ eqb b a
-eqb-swap a b = by-cases (eqb a b) (λ e. rw e (sym (eq-eqb b a (sym (eqb-true a b e))))) (λ e. rw e (sym (ne-eqb b a (λ x. eqb-false a b e (sym x)))))
 
 pub critical-is : (s : ℕ → ℕ) (k a j : ℕ) → Kind k a → is-critical-with j (third-in s k a) ≡ eqb k (2 + 4 * j)
 critical-is s k a j (kind-free e f) = rw (third-free s k a e, ne-eqb k (2 + 4 * j) (λ x. omega arith))
@@ -151,7 +144,7 @@ module _ {m : List ℕ} (site : Sited m) (ok : Passed m) where
     labels-are = collect-map (column m 0) (λ x. label-of (third-at (darts-in m) x)) f ∙ labels-by f (λ q k. (w .below q k, critical-all q k))
 
     codes-are : map code (map (label-at m) f) ≡ map (column m 4) f
-    codes-are = map-map (label-at m) code f ∙ map-cong (λ q. code (label-at m q)) (column m 4) f (λ q k. code-label (column m 4 q))
+    codes-are = map-map (label-at m) code f ∙ map-cong (λ q. code (label-at m q)) (column m 4) f (λ q k. code-in (column m 4 q))
 
     least-place : (y : ℕ) × In y f × (least (map (column m 4) f) ≡ column m 4 y)
     least-place = map-in (column m 4) f (least (map (column m 4) f)) (least-of (map (column m 4) f) (column m 4 (start-of f)) (in-map (column m 4) (start-of f) f (start-in f (w .some))))
@@ -171,6 +164,6 @@ module _ {m : List ℕ} (site : Sited m) (ok : Passed m) where
         ap (λ (l : List Label). keep (λ x. eqb (code x) (least (map code l))) l) labels-are
         ∙ ap (λ (l : List ℕ). keep (λ x. eqb (code x) (least l)) (map (label-at m) f)) codes-are
         ∙ keep-map (λ x. eqb (code x) c′) (label-at m) f
-        ∙ ap (map (label-at m)) (one-kept test y f (w .once) hy (eq-eqb _ _ (code-label (column m 4 y) ∙ sym ey))
-        (λ z hz e. labels-apart m (count-in m) z y (ok .differ) (w .below z hz) (w .below y hy) (critical-all z hz) (critical-all y hy) (sym (code-label (column m 4 z)) ∙ eqb-true _ _ e ∙ ey)))
+        ∙ ap (map (label-at m)) (one-kept test y f (w .once) hy (eq-eqb _ _ (code-in (column m 4 y) ∙ sym ey))
+        (λ z hz e. labels-apart m (count-in m) z y (ok .differ) (w .below z hz) (w .below y hy) (critical-all z hz) (critical-all y hy) (sym (code-in (column m 4 z)) ∙ eqb-true _ _ e ∙ ey)))
         ∙ ap (λ (a : ℕ). label-in a ∷ []) (sym ey)

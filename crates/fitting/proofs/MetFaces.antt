@@ -1,7 +1,7 @@
 -- The faces that part 2 meets are different faces exactly if they meet different places. Assumes nothing.
-use mathlib.Core.Path.{_≡_, refl, sym, _∙_, ap, subst}
+use mathlib.Core.Path.{_≡_, sym, _∙_, ap, subst}
 use mathlib.Core.Bool.{true, true≢false, not}
-use mathlib.Core.List.{List, [], _∷_, map}
+use mathlib.Core.List.{List, map}
 use mathlib.Core.Logic.{⊎-elim, _≢_}
 use Prim.Native.Nat.{ℕ, zero, suc, _+_, _-_, _≤_, _<_}
 use native.Mathlib.Omega.{arith}
@@ -13,11 +13,10 @@ use Rattle.model.specs.Image.{count-in, column}
 use Rattle.model.specs.Messages.{Part2}
 use Rattle.model.specs.Arrival.{part2-apart}
 use Rattle.laws.proofs.Tests.{lt-or-ge, and-left, and-right}
-use Rattle.laws.proofs.Members.{In, in-eq, least-in, least-below, least-among}
+use Rattle.laws.proofs.Members.{In, in-eq, least-below, least-among}
 use Rattle.laws.proofs.Orbits.{iter, iter-add, iter-stays, iter-inj, path, path-in, around-path, in-cycle, path-length}
 use Rattle.laws.proofs.Faces.{face-self, face-stays, face-sym, face-trans}
-use Rattle.laws.proofs.Tables.{map-tab, tab-cong, mem-place, one-place}
-use Rattle.ranking.proofs.RankLaws.{tab-distinct}
+use Rattle.laws.proofs.Tables.{map-tab, tab-cong, mem-place, one-place, tab-distinct}
 use Rattle.cells.proofs.Reached.{places, in-places, places-below, within-places}
 use Rattle.cells.proofs.Paths.{apart-places, few-places}
 use Rattle.cells.proofs.Sited.{Sited, darts-in}

@@ -1,18 +1,19 @@
 -- Faces read one after the other into arrays. Assumes nothing.
 use mathlib.Core.Path.{_≡_, refl, sym, _∙_, ap, subst}
-use mathlib.Core.Bool.{Bool, false, true≢false, _&&_, _||_}
+use mathlib.Core.Bool.{Bool, false, _&&_, _||_}
 use mathlib.Core.List.{List, [], _∷_, _++_, append-assoc, append-nil}
 use mathlib.Core.Option.{none, some, Option·none-ne-some}
-use Prim.Native.Nat.{ℕ, zero, suc, _+_, _-_, _≤_, _<_}
+use Prim.Native.Nat.{ℕ, suc, _+_, _-_, _≤_, _<_}
 use native.Mathlib.Omega.{arith}
-use lib.Dec.{leb, ltb, eqb}
+use lib.Dec.{leb, eqb}
 use lib.ListN.{length, take, drop, replicate, length-append, length-map}
-use borrow.Author.Tests.{le-leb, lt-leb, ltb-true, ltb-false}
+use borrow.Author.Tests.{le-leb, lt-leb}
 use Rattle.model.specs.Lists.{concat}
 use Rattle.model.specs.Layouts.{Layout, then, group, as-type, _⊗_, times, get-all, counted}
 use Rattle.model.specs.Messages.{FaceDart, face-dart, size-all}
 use Rattle.laws.proofs.Members.{map-append}
 use Rattle.laws.proofs.Tests.{by-cases, and-intro}
+use Rattle.theory.proofs.LayoutLaws.{get-all-length}
 use Rattle.groups.specs.declared.Read.{Read as Answer}
 use Rattle.groups.specs.declared.Read.the-variants.{Value, Bad}
 use Rattle.groups.proofs.Ends.{then-some}
@@ -21,15 +22,6 @@ use Rattle.inbox.specs.declared.faces.FacesOrNot.the-variants as faces
 use Rattle.inbox.specs.Inbox.{most, Took, Sides, Grown, DartsSaid, DartsRead, FaceSaid, FaceRead, FacesIn, FacesRead, starts-of, sizes-of, some-darts, is-hollow}
 use Rattle.inbox.proofs.Taking.{SoFar, so-far-start, so-far-more, so-far-end, counted-none, counted-half, counted-took}
 use Rattle.inbox.proofs.Arrays.{length-replicate}
-
--- as many as were asked for
-pub get-all-length : {A : Type 0} (l : Layout A) (n : ℕ) (bs : List ℕ) (xs : List A) (rest : List ℕ) → get-all l n bs ≡ some (xs, rest) → length xs ≡ n
-unfolding get-all
-get-all-length l zero bs xs rest e = sym (ap length (same-value e))
-get-all-length {A} l (suc n) bs xs rest e =
-    let r = then-some (l .get bs) _ _ e in
-    let t = then-some (get-all l n (r .1)) _ _ (r .3) in
-    sym (ap length (same-value (t .3))) ∙ ap suc (get-all-length l n (r .1) (t .0) (t .1) (t .2))
 
 counted-length : {A : Type 0} (l : Layout A) {s : List ℕ} {at n p : ℕ} (xs : List A) (rest : List ℕ) → Took group s at n p → counted l .get (drop at s) ≡ some (xs, rest) → length xs ≡ n
 unfolding counted times as-type _⊗_

@@ -12,6 +12,7 @@ use Rattle.model.specs.Layouts.{read-bytes, coordinate, group, _⊕_, get-all, 
 use Rattle.model.specs.Messages.{point}
 use Rattle.laws.proofs.Tests.{lt-or-ge}
 use Rattle.laws.proofs.Tables.{tab-cong}
+use Rattle.theory.proofs.LayoutLaws.{bytes-none}
 use Rattle.groups.specs.declared.Read.the-variants.{Value, Bad}
 use Rattle.inbox.specs.Inbox.{Took, word-in, point-in, points-in, PointsRead}
 use Rattle.inbox.proofs.Taking.{both-none, both-half, both-took, as-none, as-took, counted-half, counted-took}
@@ -22,12 +23,6 @@ unfolding read-bytes
 bytes-some zero bs h = (0, refl)
 bytes-some (suc n) [] h = absurd (omega arith)
 bytes-some (suc n) (b ∷ bs) h = let r = bytes-some n bs (omega arith) in (b + 256 * r .0, rw (r .1))
-
-bytes-none : (n : ℕ) (bs : List ℕ) → length bs < n → read-bytes n bs ≡ none
-unfolding read-bytes
-bytes-none zero bs h = absurd (omega arith)
-bytes-none (suc n) [] h = refl
-bytes-none (suc n) (b ∷ bs) h = rw (bytes-none n bs (omega arith))
 
 -- A WORD
 pub word-took : (s : List ℕ) (at : ℕ) → at + 8 ≤ length s → Took coordinate s at (word-in s at) (at + 8)

@@ -10,9 +10,10 @@ use lib.Dec.{eqb}
 use lib.ListN.{getD}
 use borrow.Author.Tests.{eqb-true, eq-eqb, ne-eqb}
 use Rattle.model.specs.Lists.{any, find, tab}
-use Rattle.model.specs.Values.{Third, free, sewn, Dart, with-third, room}
+use Rattle.model.specs.Values.{Third, sewn, Dart, with-third, room}
 use Rattle.model.specs.Image.{column, third-in, dart-in}
 use Rattle.model.specs.Links.{Link, third-or, relink}
+use Rattle.columns.proofs.Thirds.{third-sewn}
 use Rattle.laws.proofs.Tests.{by-cases, and-intro, and-left, and-right, eq-or-ne}
 use Rattle.laws.proofs.Tables.{any-tab, tab-any, one-place}
 use Rattle.columns.specs.Columns.{Kind, kind-free, kind-sewn, kind-critical}
@@ -26,15 +27,6 @@ old-one at p q hp hq e = one-place (at .old-up) hp hq e
 
 pub new-one : {m c w : List ℕ} {n k : ℕ} {old new : List ℕ} → Stands m c w n k old new → (p q : ℕ) → p < k → q < k → getD new p 0 ≡ getD new q 0 → p ≡ q
 new-one at p q hp hq e = one-place (at .new-up) hp hq e
-
--- a third link by its words
-third-free : (s : ℕ → ℕ) (k a : ℕ) → k ≡ 0 → third-in s k a ≡ free
-unfolding third-in
-third-free s k a e = rw e refl
-
-third-sewn : (s : ℕ → ℕ) (k a : ℕ) → k ≡ 1 → third-in s k a ≡ sewn (s a)
-unfolding third-in
-third-sewn s k a e = rw e refl
 
 -- of a label no serial is asked
 third-other : (s s′ : ℕ → ℕ) {k a : ℕ} → Kind k a → (k ≡ 1 → ⊥) → third-in s k a ≡ third-in s′ k a

@@ -20,12 +20,11 @@ use Rattle.laws.proofs.Members.{In}
 use Rattle.laws.proofs.Tables.{one-place, dart-place}
 use Rattle.theory.proofs.ImageLaws.{column-is, image-length}
 use Rattle.columns.specs.Columns.{Kind, kind-free, kind-sewn, kind-critical}
-use Rattle.columns.proofs.Thirds.{third-free, third-sewn, third-critical}
+use Rattle.columns.proofs.Thirds.{third-free, third-sewn, third-critical, kind-one}
 use Rattle.cells.specs.Places.{Within, Apart, Linked}
 use Rattle.cells.proofs.Sited.{Sited, darts-in}
 use Rattle.removal.specs.LetGo.{moved-words}
 use Rattle.removal.proofs.ReleasedImage.{link-sewn, link-other}
-use Rattle.removal.proofs.CutFaces.{kind-one}
 use Rattle.release.specs.Asks.{Tabled}
 use Rattle.join.specs.Weave.{up, woven-at}
 use Rattle.join.proofs.Weaving.{by-table}

@@ -9,10 +9,14 @@ use lib.Dec.{leb}
 use lib.ListN.{length}
 use borrow.Author.Tests.{leb-true, le-leb, not-true}
 use Rattle.model.specs.Lists.{all, keep, concat, mem, distinct, least}
-use Rattle.model.specs.Cells.{around, cycle, faces}
+use Rattle.model.specs.Cells.{around, cycle, faces, start-of}
 use Rattle.laws.proofs.Members.{In, in-here, in-there, in-keep, in-cons, in-eq, all-in, all-from, keep-in, in-append-left, in-append-right, append-in, distinct-append, least-in, least-below}
 use Rattle.laws.proofs.Orbits.{iter, iter-add, path, path-in, iter-stays, iter-inj, around-path, around-enough, Cyc, in-cycle, cycle-in, cycle-sym}
 use Rattle.laws.proofs.Tests.{and-intro, and-left, and-right}
+
+pub start-map : (s : ℕ → ℕ) (f : List ℕ) → 0 < length f → start-of (map s f) ≡ s (start-of f)
+start-map s [] h = absurd (omega arith)
+start-map s (x ∷ f) h = refl
 
 module _ (nx : ℕ → ℕ) (v : List ℕ) (stays : (x : ℕ) → In x v → In (nx x) v) (inj : (x y : ℕ) → In x v → In y v → nx x ≡ nx y → x ≡ y) (small : length v ≤ 4096) where
   abbrev pub face : ℕ → List ℕ

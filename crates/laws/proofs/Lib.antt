@@ -8,3 +8,4 @@ pub mod KeptFaces
 pub mod Tables
 pub mod Carry
 pub mod Maps
+pub mod Labels

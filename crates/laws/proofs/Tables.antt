@@ -2,21 +2,22 @@
 -- Assumes nothing.
 --   find-place, find-none, index-place, index-none    lookups by key
 --   tab-ascending, ascending-tab    the model's test of order
-use Prim.Native.Nat.{ℕ, zero, suc, _<_}
-use mathlib.Core.Path.{_≡_, refl, sym, ap}
-use mathlib.Core.Bool.{Bool, true, false, true≢false}
+use Prim.Native.Nat.{ℕ, zero, suc, _<_, _≤_}
+use mathlib.Core.Path.{_≡_, refl, sym, ap, _∙_}
+use mathlib.Core.Bool.{Bool, true, false, true≢false, not}
 use mathlib.Core.List.{List, [], _∷_, _++_, map}
 use mathlib.Core.Logic.{_⊎_, inl, inr, ⊎-elim}
 use mathlib.Core.Option.{none, some}
 use native.Mathlib.Omega.{arith}
 use lib.Dec.{eqb, ltb}
-use lib.ListN.{length, getD}
-use borrow.Author.Tests.{eq-eqb, ne-eqb, eqb-true, lt-ltb, ltb-true}
-use Rattle.model.specs.Lists.{all, any, mem, tab, find, index-of, ascending}
+use lib.ListN.{length, getD, take}
+use borrow.Author.Tests.{eq-eqb, ne-eqb, eqb-true, lt-ltb, ltb-true, not-true}
+use Rattle.model.specs.Lists.{all, any, mem, tab, find, index-of, ascending, distinct}
 use Rattle.model.specs.Values.{Dart}
 use Rattle.model.specs.Cells.{dart-at, held}
 use Rattle.laws.specs.Order.{Ascending}
 use Rattle.laws.proofs.Tests.{by-cases, lt-or-ge, and-intro, and-left, and-right, or-cases}
+use lib.Seq.{ext-getD, length-take-le, getD-take}
 
 -- LISTS BY PLACE
 module _ {A : Type 0} where
@@ -155,3 +156,32 @@ pub place-held : (f : ℕ → Dart) (n x : ℕ) → held (tab f n) x ≡ true �
 place-held f n x e =
     let w = any-tab (eqb x) (λ k. f k .serial) n (rw (map-tab (λ d. d .serial) f n) at e) in
     (w .0, w .1, eqb-true _ _ (w .2))
+
+-- one to one below n is a list without a value twice
+pub tab-apart : (f : ℕ → ℕ) (n : ℕ) → distinct (tab f n) ≡ true → (i j : ℕ) → i < n → j < n → f i ≡ f j → i ≡ j
+tab-apart f zero d i j a b e = absurd (omega arith)
+tab-apart f (suc n) d zero zero a b e = refl
+tab-apart f (suc n) d zero (suc j) a b e = absurd (true≢false (sym (mem-place (λ i. f (suc i)) n j (f 0) (omega arith) (sym e)) ∙ not-true _ (and-left (not (mem (f 0) (tab (λ i. f (suc i)) n))) _ d)))
+tab-apart f (suc n) d (suc i) zero a b e = absurd (true≢false (sym (mem-place (λ i. f (suc i)) n i (f 0) (omega arith) e) ∙ not-true _ (and-left (not (mem (f 0) (tab (λ i. f (suc i)) n))) _ d)))
+tab-apart f (suc n) d (suc i) (suc j) a b e = ap suc (tab-apart (λ i. f (suc i)) n (and-right (not (mem (f 0) (tab (λ i. f (suc i)) n))) _ d) i j (omega arith) (omega arith) e)
+
+pub tab-distinct : (f : ℕ → ℕ) (n : ℕ) → ((i j : ℕ) → i < n → j < n → f i ≡ f j → i ≡ j) → distinct (tab f n) ≡ true
+tab-distinct f zero h = refl
+tab-distinct f (suc n) h =
+    and-intro
+    (ap not (mem-none (λ i. f (suc i)) n (f 0) (λ p l e. let r = h (suc p) 0 (omega arith) (omega arith) e in omega (arith, r))))
+    (tab-distinct (λ i. f (suc i)) n (λ i j a b e. let r = h (suc i) (suc j) (omega arith) (omega arith) e in omega (arith, r)))
+
+-- the row whose key no other row has
+pub find-only : {A : Type 0} (key : A → ℕ) (f : ℕ → A) (n p : ℕ) → p < n → ((i : ℕ) → i < n → key (f i) ≡ key (f p) → i ≡ p) → find key (key (f p)) (tab f n) ≡ some (f p)
+find-only key f zero p h only = absurd (omega arith)
+find-only key f (suc n) zero h only = rw (eq-eqb (key (f 0)) (key (f 0)) refl) refl
+find-only key f (suc n) (suc p) h only = by-cases (eqb (key (f (suc p))) (key (f 0)))
+    (λ e. absurd (let z = only 0 (omega arith) (sym (eqb-true (key (f (suc p))) (key (f 0)) e)) in omega (arith, z)))
+    (λ e. rw e (find-only key (λ k. f (suc k)) n p (omega (arith, h)) (λ i l u. let z = only (suc i) (omega (arith, l)) u in omega (arith, z))))
+
+-- the front of a list
+pub tab-take : (l : List ℕ) (n : ℕ) → n ≤ length l → tab (λ p. getD l p 0) n ≡ take n l
+tab-take l n h =
+    ext-getD 0 _ _ (length-tab _ n ∙ sym (length-take-le n l h))
+    (λ i g. let d : i < n = omega (arith, g, length-tab (λ p. getD l p 0) n) in getD-tab (λ p. getD l p 0) n i 0 d ∙ sym (getD-take n l i 0 d))

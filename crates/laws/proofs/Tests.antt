@@ -44,6 +44,20 @@ pub and-false : (a : Bool) → (a && false) ≡ false
 and-false true = refl
 and-false false = refl
 
+pub and-yes : (a : Bool) → (a && true) ≡ a
+and-yes true = refl
+and-yes false = refl
+
+pub both-are : {a b c d : Bool} → a ≡ b → c ≡ d → (a && c) ≡ (b && d)
+both-are e f = rw (e, f)
+
+pub first-false : (a b c : Bool) → a ≡ false → false ≡ (a && b && c)
+first-false a true c e = rw e refl
+first-false a false c e = rw e refl
+
+pub all-three : (a b c : Bool) {r : Bool} → a ≡ true → b ≡ true → r ≡ c → r ≡ (a && b && c)
+all-three a b c e f g = rw (e, f) g
+
 -- two tests that follow from each other are one
 pub same-truth : (a b : Bool) → (a ≡ true → b ≡ true) → (b ≡ true → a ≡ true) → a ≡ b
 same-truth true b f g = sym (f refl)
@@ -53,6 +67,13 @@ same-truth false false f g = refl
 pub or-cases : (a b : Bool) → (a || b) ≡ true → (a ≡ true) ⊎ (b ≡ true)
 or-cases true b p = inl refl
 or-cases false b p = inr p
+
+pub or-false : (a b : Bool) → (a || b) ≡ false → (a ≡ false) × (b ≡ false)
+or-false true b h = absurd (true≢false h)
+or-false false b h = (refl, h)
+
+pub eqb-swap : (a b : ℕ) → eqb a b ≡ eqb b a
+eqb-swap a b = by-cases (eqb a b) (λ e. rw e (sym (eq-eqb b a (sym (eqb-true a b e))))) (λ e. rw e (sym (ne-eqb b a (λ x. eqb-false a b e (sym x)))))
 
 pub not-equal : (a b : ℕ) → a ≢ b → not (eqb a b) ≡ true
 not-equal a b h = rw (ne-eqb a b h)

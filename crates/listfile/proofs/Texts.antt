@@ -1,22 +1,14 @@
 -- What is printed for a file, case by case. Assumes nothing.
-use mathlib.Core.Path.{_≡_, refl, subst}
-use mathlib.Core.List.{List, [], _∷_, _++_}
-use Prim.Native.Nat.{ℕ, suc, _<_}
-use lib.ListN.{getD}
-use borrow.Author.Tests.{lt-ltb}
+use mathlib.Core.Path.{_≡_, subst}
+use mathlib.Core.List.{List, _++_}
+use Prim.Native.Nat.{ℕ}
 use Rattle.model.specs.Calls.{served, refused, Result}
-use Rattle.model.specs.Demands.{Bytes}
 use Rattle.model.specs.Listing.{bytes, decimal}
-use Rattle.laws.proofs.Tests.{and-intro}
 use Rattle.answers.specs.Answers.{Gives, answer-of, question}
 use Rattle.answers.specs.declared.Answer.{Answer}
 use Rattle.answers.specs.declared.Answer.the-variants.{Served, Refused}
 use Rattle.answers.specs.declared.Refusal.{Refusal}
 use Rattle.listing.specs.Printed.{Printed}
-
-pub byte-list : (l : List ℕ) → ((i : ℕ) → getD l i 0 < 256) → Bytes l
-byte-list [] h = refl
-byte-list (b ∷ l) h = and-intro (lt-ltb b 256 (h 0)) (byte-list l (λ i. h (suc i)))
 
 pub printed-as : {t u before after : List ℕ} {n : ℕ} → t ≡ u → Printed u before after n → Printed t before after n
 printed-as {before = before} {after = after} {n = n} e p = rw e p

@@ -1,5 +1,4 @@
 pub mod Records
 pub mod Headers
 pub mod Lookups
-pub mod Labels
 pub mod Points

@@ -8,7 +8,7 @@ use lib.Dec.{leb, eqb}
 use lib.ListN.{length, getD, take, drop}
 use lib.Seq.{getD-take, getD-drop, ext-getD}
 use borrow.Author.Tests.{eqb-true, eq-eqb, ne-eqb, le-leb, lt-leb}
-use Rattle.laws.proofs.Tests.{and-intro, and-left, and-right, same-truth}
+use Rattle.laws.proofs.Tests.{and-intro, and-left, and-right, same-truth, first-false, all-three}
 use Rattle.laws.proofs.Tables.{length-tab, map-tab, getD-tab}
 use Rattle.model.specs.Lists.{all, tab}
 use Rattle.model.specs.Values.{Block}
@@ -58,14 +58,8 @@ pub zeros-is : (s : List ℕ) → all-below (zero-test s) (length s) ≡ all (eq
 zeros-is s = all-is (eqb 0) (λ i. getD s i 0) (length s) ∙ ap (all (eqb 0)) (sym (list-tab s))
 
 -- 1: the three parts of the answer
-first-false : (a b c : Bool) → a ≡ false → false ≡ (a && b && c)
-first-false a b c e = rw e refl
-
 second-false : (a b c : Bool) → a ≡ true → b ≡ false → false ≡ (a && b && c)
 second-false a b c e f = rw (e, f) refl
-
-all-three : (a b c : Bool) {r : Bool} → a ≡ true → b ≡ true → r ≡ c → r ≡ (a && b && c)
-all-three a b c e f g = rw (e, f) g
 
 module _ (m s : List ℕ) where
   pub not-whole : (length m / 32776 * 32776 ≡ length m → ⊥) → false ≡ mesh-lent scratch-entries m s

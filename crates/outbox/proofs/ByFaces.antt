@@ -1,6 +1,6 @@
 -- The arrays face by face: where each face starts and ends, and the bytes of all faces and of each part by the arrays. Assumes nothing.
 use mathlib.Core.Path.{_≡_, refl, sym, _∙_, ap}
-use mathlib.Core.Bool.{Bool, true, false, cond}
+use mathlib.Core.Bool.{Bool, cond}
 use mathlib.Core.List.{List, [], _∷_, _++_, map, append-assoc}
 use Prim.Native.Nat.{ℕ, zero, suc, _+_, _-_, _/_, _≤_, _<_}
 use native.Mathlib.Nat.{add-assoc}
@@ -18,8 +18,8 @@ use Rattle.model.specs.Messages.{FaceDart, Part4, point, label, face-dart, part
 use Rattle.model.specs.Departure.{part3-from}
 use Rattle.model.specs.Links.{Placed, placed}
 use Rattle.laws.proofs.Tests.{by-cases}
+use Rattle.theory.proofs.FaceIndices.{placed-count}
 use Rattle.cells.specs.Places.{InOrder, sewn-out}
-use Rattle.cells.proofs.StartLaws.{placed-length}
 use Rattle.departure.specs.ByPlaces.{critical-with, critical-beside, label-at, dart-entry, part2-at, part4-at}
 use Rattle.outbox.specs.Runs.{run, tally}
 use Rattle.outbox.specs.Bytes.{beside-put, dart-put, end-of, face-put, faces-put, in-part2, in-part3, in-part4, label-put, part2-put, part3-put, part4-put, point-put, size-of, start-at}
@@ -151,7 +151,7 @@ module _ (m numbers : List ℕ) {fs : List (List ℕ)} {order starts : List ℕ}
 
     pub count-part : length (keep (λ p. q (start-of (p .face))) (placed 0 fs)) ≡ tally (λ f. q (start-at order starts f)) count
     count-part = tally-kept none (λ p. q (start-of (p .face))) (placed 0 fs)
-        ∙ ap (tally _) (placed-length 0 fs ∙ sym (o .count-is)) ∙ tally-cong _ _ count test-is
+        ∙ ap (tally _) (placed-count 0 fs ∙ sym (o .count-is)) ∙ tally-cong _ _ count test-is
 
     -- b says what a face adds that passes
     part-run : {B : Type 0} (l : Layout B) (g : Placed → B) (b : ℕ → List ℕ)
@@ -161,7 +161,7 @@ module _ (m numbers : List ℕ) {fs : List (List ℕ)} {order starts : List ℕ}
         counted-bytes l (map g (keep (λ p. q (start-of (p .face))) (placed 0 fs)))
         ∙ ap (λ (n : ℕ). group .put n ++ put-all l (map g (keep (λ p. q (start-of (p .face))) (placed 0 fs)))) (length-map (keep (λ p. q (start-of (p .face))) (placed 0 fs)) g ∙ count-part)
         ∙ ap (λ (r : List ℕ). group .put (tally (λ f. q (start-at order starts f)) count) ++ r) (put-kept none l g (λ p. q (start-of (p .face))) (placed 0 fs)
-        ∙ ap (run _) (placed-length 0 fs ∙ sym (o .count-is)) ∙ run-cong _ b count (λ f h. one f h ∙ e f h))
+        ∙ ap (run _) (placed-count 0 fs ∙ sym (o .count-is)) ∙ run-cong _ b count (λ f h. one f h ∙ e f h))
       where
         one : (f : ℕ) → f < count → cond (q (start-of (getD (placed 0 fs) f none .face))) (l .put (g (getD (placed 0 fs) f none))) []
             ≡ cond (q (start-at order starts f)) (l .put (g (record { at = getD starts f 0; face = getD fs f [] }))) []
@@ -207,7 +207,7 @@ module _ (m numbers : List ℕ) {fs : List (List ℕ)} {order starts : List ℕ}
       (numbered-length c (map (λ p. p .at) (keep q ps)) ∙ length-map (keep q ps) (λ (p : Placed). p .at)
       ∙ count-part (sewn-out m marks))
       ∙ ap (λ (r : List ℕ). group .put (tally (in-part3 m marks order starts) count) ++ r) (put-numbered none (λ p. p .at) q c ps
-      ∙ ap (run _) (placed-length 0 fs ∙ sym (o .count-is)) ∙ run-cong _ (part3-put m marks c order starts) count one)
+      ∙ ap (run _) (placed-count 0 fs ∙ sym (o .count-is)) ∙ run-cong _ (part3-put m marks c order starts) count one)
     where
       one : (f : ℕ) → f < count → cond (sewn-out m marks (start-of (getD (placed 0 fs) f none .face)))
           (part3 .put (record { number = c + tally (λ t. sewn-out m marks (start-of (getD (placed 0 fs) t none .face))) f; index = getD (placed 0 fs) f none .at })) []

@@ -14,8 +14,8 @@ use Rattle.model.specs.Cells.{dart-at, third-at, previous-in, labelled}
 use Rattle.model.specs.Sound.{block-at, all-darts, share-label, paired, same-across}
 use Rattle.model.specs.Image.{column, label-in, dart-in, block-in}
 use Rattle.laws.proofs.Tests.{lt-or-ge, and-left, and-right}
+use Rattle.laws.proofs.Labels.{code-in}
 use Rattle.columns.specs.Columns.{count}
-use Rattle.columns.proofs.Thirds.{code-in}
 use Rattle.columns.proofs.Held.{darts, dart-is}
 use Rattle.columns.proofs.Question.{Passed}
 use Rattle.mesh.specs.Parts.{blocks, part}

@@ -7,7 +7,7 @@ use Prim.Native.Nat.{ℕ, zero, suc, _+_, _/_, _%_, _≤_, _<_, _^_}
 use native.Mathlib.Omega.{arith}
 use lib.Dec.{leb, eqb, ltb}
 use lib.ListN.{length, getD, List·getD-eq-default}
-use borrow.Author.Tests.{eqb-true, eqb-false, eq-eqb, lt-ltb, le-ltb, ltb-true, not-true}
+use borrow.Author.Tests.{eqb-true, eqb-false, lt-ltb, le-ltb, ltb-true, not-true}
 use Rattle.model.specs.Lists.{tab, find}
 use Rattle.model.specs.Values.{Third, critical, Dart, Block, no-dart, no-block, or-no-dart, code, label-key, is-critical-with}
 use Rattle.model.specs.Cells.{third-at, previous-in, labelled}
@@ -15,9 +15,10 @@ use Rattle.model.specs.Sound.{block-at, blocks-right, numbered-from}
 use Rattle.model.specs.Image.{words, column, label-in, third-in, dart-in, block-in, holds-block}
 use Rattle.model.specs.Calls.{memories}
 use Rattle.laws.proofs.Tests.{by-cases, and-left, and-right}
-use Rattle.laws.proofs.Tables.{all-tab, length-tab, getD-tab}
+use Rattle.laws.proofs.Tables.{all-tab, length-tab, getD-tab, find-only}
+use Rattle.laws.proofs.Labels.{code-in}
 use Rattle.columns.specs.Columns.{count, Kind, kind-free, kind-sewn, kind-critical, label-test}
-use Rattle.columns.proofs.Thirds.{third-critical, code-in}
+use Rattle.columns.proofs.Thirds.{third-critical, label-word}
 use Rattle.columns.proofs.Held.{darts, dart-is, one-serial, onto}
 use Rattle.columns.proofs.Links.{linked}
 use Rattle.columns.proofs.ThirdLinks.{same-kind}
@@ -27,17 +28,8 @@ use Rattle.mesh.specs.Parts.{blocks, part}
 use Rattle.mesh.proofs.Parts.{mesh-tab, numbered-at}
 use Rattle.mesh.proofs.Gathers.{few-blocks}
 use Rattle.pairing.specs.Numbers.{Asked}
-use Rattle.pairing.proofs.Members.{label-word}
 
 -- ROWS BY PLACE
--- a row whose key no other has
-find-only : {A : Type 0} (key : A → ℕ) (f : ℕ → A) (n p : ℕ) → p < n → ((i : ℕ) → i < n → key (f i) ≡ key (f p) → i ≡ p) → find key (key (f p)) (tab f n) ≡ some (f p)
-find-only key f zero p h only = absurd (omega arith)
-find-only key f (suc n) zero h only = rw (eq-eqb (key (f 0)) (key (f 0)) refl) refl
-find-only key f (suc n) (suc p) h only = by-cases (eqb (key (f (suc p))) (key (f 0)))
-    (λ e. absurd (let z = only 0 (omega arith) (sym (eqb-true (key (f (suc p))) (key (f 0)) e)) in omega (arith, z)))
-    (λ e. rw e (find-only key (λ k. f (suc k)) n p (omega (arith, h)) (λ i l u. let z = only (suc i) (omega (arith, l)) u in omega (arith, z))))
-
 -- a row that is found stands at a place
 found-at : {A : Type 0} (key : A → ℕ) (f : ℕ → A) (n x : ℕ) (d : A) → find key x (tab f n) ≡ some d → (p : ℕ) × (p < n) × (key (f p) ≡ x)
 found-at key f zero x d e = absurd (Option·none-ne-some d e)

@@ -10,14 +10,14 @@ use lib.Dec.{eqb, ltb}
 use lib.ListN.{length}
 use borrow.Author.Tests.{eqb-true, eqb-false, eq-eqb, ne-eqb, lt-ltb, ltb-true}
 use Rattle.model.specs.Lists.{keep, tab}
-use Rattle.model.specs.Values.{Label, Dart, Block, code, label-key, has-label}
+use Rattle.model.specs.Values.{Label, Dart, Block, code, has-label}
 use Rattle.model.specs.Sound.{all-darts}
 use Rattle.model.specs.Image.{column, third-in, dart-in, block-in}
 use Rattle.laws.proofs.Tests.{by-cases}
 use Rattle.laws.proofs.Members.{In, in-here, in-cons, in-append-left, in-append-right, append-in}
 use Rattle.laws.proofs.Maps.{tab-more}
-use Rattle.columns.specs.Columns.{count, Kind, kind-free, kind-sewn, kind-critical}
-use Rattle.columns.proofs.Thirds.{third-free, third-sewn, third-critical, code-in}
+use Rattle.columns.specs.Columns.{count, Kind}
+use Rattle.columns.proofs.Thirds.{label-word}
 use Rattle.sort.specs.Order.{weight}
 use Rattle.sort.proofs.Order.{total-append}
 use Rattle.mesh.specs.Parts.{part}
@@ -89,11 +89,6 @@ in-all m (suc n) i p h l c = ⊎-elim
     (eq-or-lt-of-le (le-of-suc-le-suc h))
 
 -- HOW OFTEN A CODE STANDS: as often as its label among the darts
-pub label-word : (s : ℕ → ℕ) (k a : ℕ) → Kind k a → label-key (third-in s k a) ≡ cond (ltb 1 k) (suc a) 0
-label-word s k a (kind-free e f) = rw (third-free s k a e, e) refl
-label-word s k a (kind-sewn e) = rw (third-sewn s k a e, e) refl
-label-word s k a (kind-critical e f g) = rw (third-critical s k a e, lt-ltb 1 k (omega arith)) (ap suc (code-in a))
-
 pub suc-eqb : (a b : ℕ) → eqb (suc a) (suc b) ≡ eqb a b
 suc-eqb a b = by-cases (eqb a b)
     (λ e. rw e (eq-eqb (suc a) (suc b) (ap suc (eqb-true a b e))))

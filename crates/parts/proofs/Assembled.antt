@@ -3,8 +3,7 @@ use mathlib.Core.Path.{_≡_, refl, sym, _∙_, ap, subst}
 use mathlib.Core.Bool.{Bool, true, false, true≢false, not, _&&_}
 use mathlib.Core.List.{List, [], _++_, map}
 use mathlib.Core.Logic.{_⊎_, ⊎-elim, inl, inr}
-use mathlib.Core.Option.{some}
-use Prim.Native.Nat.{ℕ, _/_, zero, suc, _+_, _*_, _-_, _≤_, _<_, _%_, _^_}
+use Prim.Native.Nat.{ℕ, _/_, _+_, _*_, _-_, _≤_, _<_, _%_, _^_}
 use native.Mathlib.Omega.{arith}
 use lib.Dec.{eqb, ltb}
 use lib.ListN.{length, getD, take, drop, length-map, replicate}
@@ -12,7 +11,7 @@ use lib.Seq.{getD-take}
 use borrow.Author.Tests.{eqb-true, ltb-true, le-leb, not-true}
 use Rattle.model.specs.Lists.{all, mem, ascending, tab, concat-map}
 use Rattle.model.specs.Values.{Block}
-use Rattle.model.specs.Layouts.{Layout, get-all, times}
+use Rattle.model.specs.Layouts.{Layout, times}
 use Rattle.model.specs.Messages.{Part3, Transfer, size-all, part2, part3, part4}
 use Rattle.model.specs.Arrival.{face-from, indices-right, consecutive, critical-links}
 use Rattle.laws.proofs.Lists.{getD-zeros}
@@ -20,9 +19,8 @@ use Rattle.laws.proofs.Tests.{by-cases, and-left, and-right, and-intro, lt-or-g
 use Rattle.laws.proofs.Maps.{map-at}
 use Rattle.laws.proofs.Members.{In, all-in, all-from, append-in, in-append-right, distinct-append, ascending-distinct}
 use Rattle.laws.proofs.Tables.{map-tab, mem-place, place-mem, ascending-tab, all-tab}
+use Rattle.theory.proofs.LayoutLaws.{get-all-length}
 use Rattle.theory.proofs.ImageLaws.{tab-list}
-use Rattle.groups.proofs.Ends.{then-some}
-use Rattle.groups.proofs.Labels.{same-value}
 use Rattle.inbox.specs.Inbox.{Took}
 use Rattle.inbox.specs.declared.message.Tail.{Tail}
 use Rattle.cells.proofs.Paths.{mem-append}
@@ -42,18 +40,9 @@ use Rattle.parts.proofs.Ranges.{took-back, took-small, took-count, took
 use Rattle.parts.proofs.FaceLinks.{part3-is, part4-is, critical-are}
 use Rattle.parts.proofs.FreshLabels.{Words}
 
--- AS MANY ENTRIES as are counted
-all-count : {A : Type 0} (l : Layout A) (n : ℕ) (bs : List ℕ) (xs : List A) (rest : List ℕ) → get-all l n bs ≡ some (xs, rest) → length xs ≡ n
-unfolding get-all
-all-count l zero bs xs rest e = ap length (sym (same-value e))
-all-count l (suc n) bs xs rest e =
-    let t = then-some (l .get bs) _ _ e in
-    let u = then-some (get-all l n (t .1)) _ _ (t .3) in
-    ap length (sym (same-value (u .3))) ∙ ap suc (all-count l n (t .1) (u .0) (u .1) (u .2))
-
 took-length : {A : Type 0} (l : Layout A) (n : ℕ) {s : List ℕ} {at past : ℕ} {xs : List A} → Took (times n l) s at xs past → length xs ≡ n
 unfolding times
-took-length l n {s} {at} {past} {xs} t = all-count l n (drop at s) xs (drop past s) (t .value)
+took-length l n {s} {at} {past} {xs} t = get-all-length l n (drop at s) xs (drop past s) (t .value)
 
 -- the indices of a part that fits
 module _ {b z : List ℕ} {k : ℕ} (segs : Segments b z k) (few : k ≤ 512) (others idx : List ℕ) (c : ℕ) (n : c ≤ length idx) (t : part-fits b k others (take c idx) ≡ true) where

@@ -18,7 +18,7 @@ use Rattle.model.specs.Arrival.{face-from, part3-links, part4-links, critical-l
 use Rattle.laws.proofs.Tests.{by-cases, and-left, and-right, eq-or-ne}
 use Rattle.laws.proofs.Maps.{map-at}
 use Rattle.laws.proofs.Tables.{tab-cong, find-none}
-use Rattle.memory.proofs.Labels.{label-code}
+use Rattle.laws.proofs.Labels.{in-code}
 use Rattle.arrival.specs.Sides.{Segments}
 use Rattle.parts.specs.Indices.{starts-at}
 use Rattle.parts.specs.Segments.{link-of, face-links}
@@ -118,7 +118,7 @@ labels-tab o maker number pos f (suc n) = two
 
 numbered-back : (maker number j : ℕ) → number < 2 ^ 32 → j < 4096 → label-in ((maker * 2 ^ 32 + number) * 4096 + j) ≡ record { maker = maker; number = number; position = 0 + j }
 unfolding code
-numbered-back maker number j h l = ap label-in same ∙ label-code (record { maker = maker; number = number; position = 0 + j }) h (omega arith)
+numbered-back maker number j h l = ap label-in same ∙ in-code (record { maker = maker; number = number; position = 0 + j }) h (omega arith)
   where
     same : (maker * 2 ^ 32 + number) * 4096 + j ≡ (maker * 2 ^ 32 + number) * 4096 + (0 + j)
     same = omega arith

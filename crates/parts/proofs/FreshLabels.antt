@@ -10,17 +10,18 @@ use lib.Dec.{ltb, eqb}
 use lib.ListN.{getD}
 use borrow.Author.Tests.{eqb-true, eq-eqb, ne-eqb, lt-ltb, le-ltb, ltb-true, not-true}
 use Rattle.model.specs.Lists.{all, mem, distinct, tab, collect, more, concat-map}
-use Rattle.model.specs.Values.{Label, critical, label-of, code}
+use Rattle.model.specs.Values.{Label, label-of, code}
 use Rattle.model.specs.Cells.{labels}
 use Rattle.model.specs.Image.{column, label-in, third-in, dart-in, block-in}
 use Rattle.model.specs.Messages.{Transfer}
 use Rattle.model.specs.Links.{Link}
 use Rattle.model.specs.Arrival.{critical-links, label-new, labels-new}
+use Rattle.departure.proofs.LeavingFaces.{in-codes}
 use Rattle.laws.proofs.Tests.{by-cases, and-left, and-right, and-intro, lt-or-ge, eq-or-ne, same-truth}
 use Rattle.laws.proofs.Members.{In, in-there, all-in, all-from, all-cong, all-map, map-append, map-map, map-cong, append-in, in-append-left, in-append-right, distinct-append, distinct-left, distinct-right, distinct-apart}
 use Rattle.laws.proofs.Maps.{map-self}
-use Rattle.laws.proofs.Tables.{tab-all, all-tab, map-tab, mem-place, place-mem, mem-none}
-use Rattle.memory.proofs.Labels.{code-label}
+use Rattle.laws.proofs.Tables.{tab-all, all-tab, map-tab, mem-place, place-mem, mem-none, tab-apart, tab-distinct}
+use Rattle.laws.proofs.Labels.{code-in}
 use Rattle.columns.specs.Columns.{Ranged, Kind, kind-free, kind-sewn, kind-critical, codes, count}
 use Rattle.columns.proofs.Labels.{codes-are}
 use Rattle.columns.proofs.Thirds.{third-critical}
@@ -30,34 +31,7 @@ use Rattle.parts.specs.Segments.{link-of, face-links}
 use Rattle.parts.specs.Fresh.{own-at, fresh-at, clear-at, labels-fit}
 
 -- VALUES THAT DIFFER
-pub tab-once : (f : ℕ → ℕ) (n : ℕ) → ((i j : ℕ) → i < n → j < n → f i ≡ f j → i ≡ j) → distinct (tab f n) ≡ true
-tab-once f zero h = refl
-tab-once f (suc n) h =
-    and-intro
-    (ap not (mem-none (λ i. f (suc i)) n (f 0) (λ p l e. let r = h (suc p) 0 (omega arith) (omega arith) e in omega (arith, r))))
-    (tab-once (λ i. f (suc i)) n (λ i j a b e. let r = h (suc i) (suc j) (omega arith) (omega arith) e in omega (arith, r)))
-
-pub once-tab : (f : ℕ → ℕ) (n : ℕ) → distinct (tab f n) ≡ true → (i j : ℕ) → i < n → j < n → f i ≡ f j → i ≡ j
-once-tab f zero d i j a b e = absurd (omega arith)
-once-tab f (suc n) d zero zero a b e = refl
-once-tab f (suc n) d zero (suc j) a b e = absurd (true≢false (sym (mem-place (λ i. f (suc i)) n j (f 0) (omega arith) (sym e)) ∙ not-true _ (and-left (not (mem (f 0) (tab (λ i. f (suc i)) n))) _ d)))
-once-tab f (suc n) d (suc i) zero a b e = absurd (true≢false (sym (mem-place (λ i. f (suc i)) n i (f 0) (omega arith) e) ∙ not-true _ (and-left (not (mem (f 0) (tab (λ i. f (suc i)) n))) _ d)))
-once-tab f (suc n) d (suc i) (suc j) a b e = ap suc (once-tab (λ i. f (suc i)) n (and-right (not (mem (f 0) (tab (λ i. f (suc i)) n))) _ d) i j (omega arith) (omega arith) e)
-
 -- THE CODES OF A BLOCK
-codes-have : (m : List ℕ) (n p : ℕ) → p < n → 1 < column m 3 p → In (column m 4 p) (codes m n)
-unfolding codes
-codes-have m zero p h c = absurd (omega arith)
-codes-have m (suc n) p h c = ⊎-elim
-    (λ (e : p ≡ n). rw (e, lt-ltb 1 (column m 3 n) (subst (λ (q : ℕ). 1 < column m 3 q) e c)) (in-append-right (column m 4 n) (codes m n) (column m 4 n ∷ []) (in-self (column m 4 n))))
-    (λ (e : p ≡ n → ⊥). by-cases (ltb 1 (column m 3 n))
-    (λ t. rw t (in-append-left (column m 4 p) (codes m n) (column m 4 n ∷ []) (codes-have m n p (omega arith) c)))
-    (λ t. rw t (codes-have m n p (omega arith) c)))
-    (eq-or-ne p n)
-  where
-    in-self : (x : ℕ) → In x (x ∷ [])
-    in-self x = rw (eq-eqb x x refl) refl
-
 codes-had : (m : List ℕ) (n a : ℕ) → In a (codes m n) → (p : ℕ) × (p < n) × (1 < column m 3 p) × (column m 4 p ≡ a)
 unfolding codes
 codes-had m zero a h = absurd (true≢false (sym h))
@@ -101,7 +75,7 @@ module _ {b z : List ℕ} (links : List ℕ) {k : ℕ} (segs : Segments b z k) w
       let sq : getD z i 0 ≡ getD z q 0 = segs .same-size q hq i (omega arith) (omega arith) in
       let sr : getD z i 0 ≡ getD z r 0 = segs .same-size r hr i (omega arith) (omega arith) in
       let same =
-      once-tab (λ j. getD links (i + j) 0) (getD z i 0) d (q - i) (r - i) (omega arith) (omega arith)
+      tab-apart (λ j. getD links (i + j) 0) (getD z i 0) d (q - i) (r - i) (omega arith) (omega arith)
       (ap (λ (p : ℕ). getD links p 0) (omega arith) ∙ e ∙ ap (λ (p : ℕ). getD links p 0) (omega arith))
       in
       omega arith
@@ -150,7 +124,7 @@ module _ {b z : List ℕ} (links : List ℕ) {k : ℕ} (segs : Segments b z k) w
 
   once-faces : (l : List ℕ) → all (starts-at b k) l ≡ true → distinct l ≡ true → Apart l → distinct (concat-map face-codes l) ≡ true
   once-faces [] t o h = refl
-  once-faces (a ∷ l) t o h = distinct-append (face-codes a) (concat-map face-codes l) (tab-once (λ j. getD links (a + j) 0) (getD z a 0) within-face)
+  once-faces (a ∷ l) t o h = distinct-append (face-codes a) (concat-map face-codes l) (tab-distinct (λ j. getD links (a + j) 0) (getD z a 0) within-face)
       (once-faces l (and-right (starts-at b k a) _ t) (and-right (not (mem a l)) _ o) (λ q r hq hr iq ir e. h q r hq hr (later (getD b q 0) iq) (later (getD b r 0) ir) e)) apart
     where
       small : a < k
@@ -243,7 +217,7 @@ module _ (s : ℕ → ℕ) (x : List ℕ) {b z kinds links : List ℕ} {k : ℕ}
 
     new-is : (a : ℕ) → label-new (block-in m) (label-in a) ≡ new a
     unfolding label-new
-    new-is a = ap (λ (c : Bool). not c && own a) (ap (λ (y : ℕ). mem y (map code (labels (tab (dart-in m) (count m))))) (code-label a) ∙ ap (mem a) (codes-are m (count m) (ranged .kinds)))
+    new-is a = ap (λ (c : Bool). not c && own a) (ap (λ (y : ℕ). mem y (map code (labels (tab (dart-in m) (count m))))) (code-in a) ∙ ap (mem a) (codes-are m (count m) (ranged .kinds)))
 
     fresh-in : (q : ℕ) → q < k → 2 ≤ getD kinds q 0 → In (getD b q 0) l
     fresh-in q h c = by-cases (mem (getD b q 0) l) (λ t. t) (λ t. let r = w .kind-out q h t in absurd (omega arith))
@@ -269,7 +243,7 @@ module _ (s : ℕ → ℕ) (x : List ℕ) {b z kinds links : List ℕ} {k : ℕ}
     to-fit t =
         and-intro
         (and-intro (tab-all (own-at (getD m 0 0) (getD m 1 0) kinds links) (λ q. q) k owned)
-        (tab-once (fresh-at kinds links) k once)) (tab-all (clear-at m (tab (fresh-at kinds links) k)) (λ p. p) (count m) clear)
+        (tab-distinct (fresh-at kinds links) k once)) (tab-all (clear-at m (tab (fresh-at kinds links) k)) (λ p. p) (count m) clear)
       where
         each : (q : ℕ) → q < k → 2 ≤ getD kinds q 0 → new (getD links q 0) ≡ true
         each q h c = all-in new all-codes (and-left (all new all-codes) _ t) (getD links q 0) (in-faces links (w .segs) l q h (fresh-in q h c))
@@ -305,7 +279,7 @@ module _ (s : ℕ → ℕ) (x : List ℕ) {b z kinds links : List ℕ} {k : ℕ}
                 (λ (d : 2 ≤ getD kinds q 0). true≢false
                 (sym
                 (subst (λ (y : ℕ). In y (codes m (count m))) (sym (sym (value-in q d) ∙ e))
-                (codes-have m (count m) p h (omega arith)))
+                (in-codes m (count m) p h (omega arith)))
                 ∙ not-true _ (and-left (not (mem (getD links q 0) (codes m (count m)))) _ (each q hq d))))
                 (lt-or-ge (getD kinds q 0) 2)
 
@@ -345,7 +319,7 @@ module _ (s : ℕ → ℕ) (x : List ℕ) {b z kinds links : List ℕ} {k : ℕ}
 
         apart : (q r : ℕ) → q < k → r < k → In (getD b q 0) l → In (getD b r 0) l → getD links q 0 ≡ getD links r 0 → q ≡ r
         apart q r hq hr iq ir e =
-            once-tab (fresh-at kinds links) k
+            tab-apart (fresh-at kinds links) k
             (and-right (all (own-at (getD m 0 0) (getD m 1 0) kinds links) (tab (λ q. q) k)) _ two) q r hq hr
             (value-in q (in-fresh q hq iq) ∙ e ∙ sym (value-in r (in-fresh r hr ir)))
 
@@ -355,7 +329,7 @@ module _ (s : ℕ → ℕ) (x : List ℕ) {b z kinds links : List ℕ} {k : ℕ}
     labels-are t e = ap (λ (ks : List Link). all (label-new (block-in m)) (collect (λ d. label-of (d .third)) ks) && distinct (map code (collect (λ d. label-of (d .third)) ks))) e
         ∙ ap (λ (ls : List Label). all (label-new (block-in m)) ls && distinct (map code ls)) (labels-told l (w .starts) (λ i h. h))
         ∙ both (all-map (label-new (block-in m)) label-in all-codes ∙ all-cong _ _ all-codes (λ a h. new-is a))
-        (ap distinct (map-map label-in code all-codes ∙ map-cong _ _ all-codes (λ a h. code-label a) ∙ map-self all-codes))
+        (ap distinct (map-map label-in code all-codes ∙ map-cong _ _ all-codes (λ a h. code-in a) ∙ map-self all-codes))
         ∙ same-truth _ _ to-fit of-fit
       where
         both : {p q r u : Bool} → p ≡ q → r ≡ u → (p && r) ≡ (q && u)

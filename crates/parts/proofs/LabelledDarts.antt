@@ -1,11 +1,9 @@
 -- The dart with a label is the one at the place where its code stands. Assumes nothing.
 use mathlib.Core.Path.{_≡_, refl, sym, _∙_, ap}
-use mathlib.Core.Bool.{cond}
 use mathlib.Core.List.{List}
 use mathlib.Core.Logic.{⊎-elim}
 use Prim.Native.Nat.{ℕ, suc, _≤_, _<_}
 use native.Mathlib.Omega.{arith}
-use lib.Dec.{ltb}
 use borrow.Author.Tests.{lt-ltb, le-ltb}
 use Rattle.model.specs.Lists.{tab}
 use Rattle.model.specs.Values.{Label, code, label-key, or-no-dart, no-dart}
@@ -13,28 +11,21 @@ use Rattle.model.specs.Cells.{labelled}
 use Rattle.model.specs.Image.{column, third-in, dart-in}
 use Rattle.laws.proofs.Tests.{lt-or-ge}
 use Rattle.laws.proofs.Tables.{find-none}
-use Rattle.memory.proofs.Labels.{code-label}
-use Rattle.columns.specs.Columns.{Kind, kind-free, kind-sewn, kind-critical, count}
-use Rattle.columns.proofs.Thirds.{third-free, third-sewn, third-critical}
+use Rattle.columns.specs.Columns.{count}
+use Rattle.columns.proofs.Thirds.{label-word}
 use Rattle.columns.proofs.Question.{Passed}
 use Rattle.departure.proofs.LeavingFaces.{labels-apart}
 use Rattle.parts.proofs.FaceLinks.{find-first}
-
--- the key of a third link by its words
-key-is : (s : ℕ → ℕ) (k a : ℕ) → Kind k a → label-key (third-in s k a) ≡ cond (ltb 1 k) (suc a) 0
-key-is s k a (kind-free e f) = rw (third-free s k a e, le-ltb 1 k (omega arith)) refl
-key-is s k a (kind-sewn e) = rw (third-sewn s k a e, le-ltb 1 k (omega arith)) refl
-key-is s k a (kind-critical e f g) = rw (third-critical s k a e, lt-ltb 1 k (omega arith)) (ap suc (code-label a))
 
 module _ {m : List ℕ} (ok : Passed m) (l : Label) where
   abbrev key : ℕ → ℕ
   key p = label-key (third-in (column m 0) (column m 3 p) (column m 4 p))
 
   key-in : (p : ℕ) → p < count m → 1 < column m 3 p → key p ≡ suc (column m 4 p)
-  key-in p h c = key-is (column m 0) (column m 3 p) (column m 4 p) (ok .range .kinds p h) ∙ rw (lt-ltb 1 (column m 3 p) c) refl
+  key-in p h c = label-word (column m 0) (column m 3 p) (column m 4 p) (ok .range .kinds p h) ∙ rw (lt-ltb 1 (column m 3 p) c) refl
 
   key-out : (p : ℕ) → p < count m → column m 3 p ≤ 1 → key p ≡ 0
-  key-out p h c = key-is (column m 0) (column m 3 p) (column m 4 p) (ok .range .kinds p h) ∙ rw (le-ltb 1 (column m 3 p) c) refl
+  key-out p h c = label-word (column m 0) (column m 3 p) (column m 4 p) (ok .range .kinds p h) ∙ rw (le-ltb 1 (column m 3 p) c) refl
 
   -- a dart with the key has the code
   key-says : (p : ℕ) → p < count m → key p ≡ suc (code l) → (1 < column m 3 p) × (column m 4 p ≡ code l)

@@ -2,7 +2,7 @@
 use mathlib.Core.Path.{_≡_, refl, sym, _∙_, ap}
 use mathlib.Core.Logic.{_⊎_, inl, inr, ⊎-elim}
 use mathlib.Core.Bool.{Bool, true, false, true≢false, not, _&&_}
-use mathlib.Core.List.{List, [], _∷_, map}
+use mathlib.Core.List.{List, map}
 use Prim.Native.Nat.{ℕ, _+_, _*_, _-_, _≤_, _<_}
 use native.Mathlib.Omega.{arith}
 use lib.Dec.{ltb, eqb}
@@ -16,10 +16,10 @@ use Rattle.model.specs.Image.{count-in, column, dart-in, holds-block}
 use Rattle.model.specs.Messages.{Part2, Transfer, size-all}
 use Rattle.model.specs.Arrival.{new-darts, face-from, points-meet, part2-right, part2-apart}
 use Rattle.laws.proofs.Tests.{by-cases, lt-or-ge, and-intro, and-left, and-right, same-truth}
-use Rattle.laws.proofs.Members.{In, in-eq, least-in, least-below, least-among}
+use Rattle.laws.proofs.Members.{In, in-eq, least-below, least-among}
 use Rattle.laws.proofs.Orbits.{iter}
 use Rattle.laws.proofs.Faces.{face-stays, face-self, face-trans, face-sym}
-use Rattle.laws.proofs.Tables.{all-tab, tab-all, getD-tab, tab-cong, map-tab, one-place, dart-place}
+use Rattle.laws.proofs.Tables.{all-tab, tab-all, getD-tab, tab-cong, map-tab, one-place, dart-place, tab-apart, tab-distinct}
 use Rattle.theory.proofs.ImageLaws.{tab-list}
 use Rattle.columns.proofs.Question.{image-passed}
 use Rattle.cells.proofs.Reached.{places, in-places, places-below, within-places}
@@ -38,7 +38,6 @@ use Rattle.parts.specs.Locate.{Located, LocatedAt}
 use Rattle.parts.specs.Meets.{meet-at, met-at, entry-right}
 use Rattle.parts.specs.Sewing.{clear-of, face-size, passes-at}
 use Rattle.parts.proofs.FaceStarts.{face-is}
-use Rattle.parts.proofs.FreshLabels.{tab-once, once-tab}
 use Rattle.parts.proofs.LabelledDarts.{labelled-at, labelled-none}
 use Rattle.parts.proofs.Meeting.{part2-is}
 use Rattle.parts.proofs.Trails.{met-is}
@@ -151,10 +150,10 @@ by-entries : (passes right : ℕ → Bool) (key : ℕ → ℕ) (c : ℕ) → ((e
     → (((e : ℕ) → e < c → right e ≡ true) → ((d e : ℕ) → d < e → e < c → key d ≡ key e → ⊥) → (e : ℕ) → e < c → passes e ≡ true)
     → all passes (tab (λ e. e) c) ≡ (all right (tab (λ e. e) c) && distinct (tab key c))
 by-entries passes right key c one two three = same-truth _ _
-    (λ t. and-intro (tab-all right (λ e. e) c (λ e h. one e h (all-tab passes (λ e. e) c t e h))) (tab-once key c (λ i j hi hj q. differ t i j hi hj q)))
+    (λ t. and-intro (tab-all right (λ e. e) c (λ e h. one e h (all-tab passes (λ e. e) c t e h))) (tab-distinct key c (λ i j hi hj q. differ t i j hi hj q)))
     (λ t. tab-all passes (λ e. e) c
     (three (λ e h. all-tab right (λ e. e) c (and-left (all right (tab (λ e. e) c)) (distinct (tab key c)) t) e h)
-    (λ d e l h q. let r = once-tab key c (and-right (all right (tab (λ e. e) c)) (distinct (tab key c)) t) d e (omega arith) h q in
+    (λ d e l h q. let r = tab-apart key c (and-right (all right (tab (λ e. e) c)) (distinct (tab key c)) t) d e (omega arith) h q in
     omega (arith, r, l))))
   where
     differ : all passes (tab (λ e. e) c) ≡ true → (i j : ℕ) → i < c → j < c → key i ≡ key j → i ≡ j

@@ -9,9 +9,9 @@ use Rattle.model.specs.Values.{Label, code}
 use Rattle.model.specs.Image.{label-in}
 use Rattle.model.specs.Layouts.{group, at-most, as-type, _⊗_, _⊕_, get-all, times}
 use Rattle.model.specs.Messages.{Part2, Part3, label, part2, part3}
+use Rattle.laws.proofs.Labels.{in-code}
 use Rattle.groups.proofs.Ends.{then-some}
 use Rattle.groups.proofs.Labels.{same-value, group-bound, at-most-bound}
-use Rattle.memory.proofs.Labels.{label-code}
 use Rattle.inbox.specs.Inbox.{Took}
 use Rattle.parts.specs.Entries.{code2, number3}
 
@@ -45,7 +45,7 @@ unfolding code
 code-small l w = let a = w .maker-small in let b = w .number-small in let c = w .position-small in omega arith
 
 label-back : (l : Label) → InRange l → label-in (code l) ≡ l
-label-back l w = label-code l (w .number-small) (let c = w .position-small in omega arith)
+label-back l w = in-code l (w .number-small) (let c = w .position-small in omega arith)
 
 -- labels that were read
 labels-back : (n : ℕ) (bs : List ℕ) (ls : List Label) (rest : List ℕ) → get-all label n bs ≡ some (ls, rest) → map label-in (map code ls) ≡ ls

@@ -14,7 +14,7 @@ use Rattle.model.specs.Cells.{cycle}
 use Rattle.model.specs.Image.{words-for, column}
 use Rattle.memory.specs.Point.{FiniteAt}
 use Rattle.laws.proofs.Orbits.{iter, path}
-use Rattle.laws.proofs.Tests.{eq-or-ne, same-truth}
+use Rattle.laws.proofs.Tests.{eq-or-ne, same-truth, first-false, all-three}
 use Rattle.arrival.proofs.PairLaws.{all-same}
 use Rattle.cells.specs.Places.{Within, Linked, Put}
 use Rattle.cells.proofs.Paths.{Round, Going, round}
@@ -128,20 +128,13 @@ pub meets-told : (m d ranks : List ℕ) (at size j : ℕ) (trail : List ℕ) {p 
 meets-told m d ranks at size j trail {p} {w} h e q = q ∙ ap (λ (x : ℕ). meet-at m d x w) h ∙ ap (meet-at m d (getD ranks (at + j) 0)) e
 
 -- AN ENTRY
-first-no : (a b c : Bool) → a ≡ false → false ≡ (a && b && c)
-first-no a true c e = rw e refl
-first-no a false c e = rw e refl
-
 second-no : (a b c : Bool) → b ≡ false → false ≡ (a && b && c)
 second-no true b c e = rw e refl
 second-no false b c e = refl
 
-both-yes : (a b c : Bool) {e : Bool} → a ≡ true → b ≡ true → e ≡ c → e ≡ (a && b && c)
-both-yes a b c p q r = rw (p, q) r
-
 module _ (m d ranks : List ℕ) (from y at size : ℕ) {trail : List ℕ} where
   pub not-critical : {v : ℕ} → length trail ≡ 512 → v ≡ column m 3 y → (v ≡ 2 + 4 * from → ⊥) → EntryRight m d ranks from y at size trail false
-  not-critical h e ne = record { len = h; said = first-no _ _ _ (ne-eqb (column m 3 y) (2 + 4 * from) (λ s. ne (e ∙ s))); front = λ t. absurd (true≢false (sym t)) }
+  not-critical h e ne = record { len = h; said = first-false _ _ _ (ne-eqb (column m 3 y) (2 + 4 * from) (λ s. ne (e ∙ s))); front = λ t. absurd (true≢false (sym t)) }
 
   pub not-equal : Walked m y size trail false → EntryRight m d ranks from y at size trail false
   not-equal w =
@@ -157,7 +150,7 @@ module _ (m d ranks : List ℕ) (from y at size : ℕ) {trail : List ℕ} where
   entry-told e c w q = record {
     len = w .len;
     said =
-        both-yes _ _ _ (eq-eqb (column m 3 y) (2 + 4 * from) (sym e ∙ c)) (sym (w .said))
+        all-three _ _ _ (eq-eqb (column m 3 y) (2 + 4 * from) (sym e ∙ c)) (sym (w .said))
         (q ∙ all-same _ _ size (λ j h. ap (meet-at m d (getD ranks (at + j) 0)) (met-same trail (cycle (column m 1) y) size j h one)));
     front = λ t. w .front refl;
   }

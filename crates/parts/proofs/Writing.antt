@@ -13,9 +13,9 @@ use Rattle.model.specs.Layouts.{times}
 use Rattle.model.specs.Messages.{label}
 use Rattle.laws.proofs.Tests.{last-or-below}
 use Rattle.laws.proofs.Members.{map-append}
+use Rattle.laws.proofs.Labels.{code-in}
 use Rattle.groups.specs.Slices.{read-at, label-code}
 use Rattle.groups.specs.declared.Read.the-variants.{Value, Bad}
-use Rattle.memory.proofs.Labels.{code-label}
 use Rattle.inbox.proofs.Taking.{SoFar, so-far-start, so-far-more, so-far-stop, so-far-end}
 use Rattle.inbox.proofs.Passing.{no-label, took-label}
 use Rattle.parts.specs.Faces.{Over, Spans, Faced, code-at}
@@ -100,7 +100,7 @@ module _ {s : List ℕ} {from n at : ℕ} {a a′ : List ℕ} {j p : ℕ} (w : C
       count = length-map (w .items) code ∙ w .read
 
       list : map code (w .items ++ label-in y ∷ []) ≡ map code (w .items) ++ y ∷ []
-      list = map-append code (w .items) (label-in y ∷ []) ∙ ap (λ (c : ℕ). map code (w .items) ++ c ∷ []) (code-label y)
+      list = map-append code (w .items) (label-in y ∷ []) ∙ ap (λ (c : ℕ). map code (w .items) ++ c ∷ []) (code-in y)
 
       same : (i : ℕ) → i < j → getD (map code (w .items)) i 0 ≡ getD (map code (w .items ++ label-in y ∷ [])) i 0
       same i l = sym (ap (λ (m : List ℕ). getD m i 0) list ∙ List·getD-append (map code (w .items)) (y ∷ []) 0 i (omega (arith, l, count)))

@@ -3,14 +3,13 @@ use mathlib.Core.Path.{_≡_, refl, sym, ap, _∙_}
 use mathlib.Core.Bool.{Bool, true, false, true≢false, not}
 use mathlib.Core.List.{List, [], _∷_, _++_, map}
 use mathlib.Core.Option.{Option, none, some, Option·none-ne-some}
-use Prim.Native.Nat.{ℕ, suc, _+_, _*_, _-_, _<_, _≤_}
+use Prim.Native.Nat.{ℕ, _+_, _*_, _-_, _<_, _≤_}
 use native.Mathlib.Omega.{arith}
 use native.Mathlib.Nat.{add-assoc}
 use lib.ListN.{length, getD, replicate, length-append, length-replicate, length-map}
 use lib.Seq.{drop-append-add, drop-at}
-use borrow.Author.Tests.{ne-eqb, lt-ltb, not-true, not-false}
+use borrow.Author.Tests.{ne-eqb, not-true, not-false}
 use Rattle.laws.specs.Order.{Ascending}
-use Rattle.laws.proofs.Tests.{and-intro}
 use Rattle.laws.proofs.Maps.{map-at}
 use Rattle.laws.proofs.Tables.{ascending-tab}
 use Rattle.model.specs.Lists.{tab, concat, ascending, is-some}
@@ -115,10 +114,6 @@ module _ (b : Block) where
   raw-ascends e = ascending-tab (column (raw b) 0) (getD (raw b) 2 0) (ap ascending raw-serials ∙ e)
 
 -- QUESTION 3
-pub bytes-are : (s : List ℕ) → ((i : ℕ) → getD s i 0 < 256) → Bytes s
-bytes-are [] h = refl
-bytes-are (x ∷ s) h = and-intro (lt-ltb x 256 (h 0)) (bytes-are s (λ i. h (suc i)))
-
 -- the ranges of a block that a file holds
 pub file-ranges : (s : List ℕ) → Bytes s → (b : Block) → whole (file rack) s ≡ some b → ranges-right rack b ≡ true
 file-ranges s h b e = ok-ranges rack b (whole-only (file rack) (file-lawful rack) s b h e .1)

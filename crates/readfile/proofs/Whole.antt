@@ -18,9 +18,9 @@ use Rattle.model.specs.Cells.{serials}
 use Rattle.model.specs.Layouts.{Layout, Read, then, when, group, _⊗_, _⊕_, as-type, such-that, at-most, get-all, times, counted, ended, at-end, whole}
 use Rattle.model.specs.Messages.{a-dart, file}
 use Rattle.model.specs.Image.{words-for, words}
+use Rattle.theory.proofs.LayoutLaws.{get-all-length}
 use Rattle.memory.specs.Header.{header-words}
 use Rattle.groups.proofs.Ends.{Ends, Reads, then-some, when-some, same-rest}
-use Rattle.groups.proofs.Labels.{same-value}
 use Rattle.readfile.specs.Serials.{raw-words, raw, behind, stored-all}
 use Rattle.readfile.specs.Parts.{climbs, climbing, placed-end, DartsStored, RawRead}
 use Rattle.readfile.specs.declared.raw.End.the-variants as end
@@ -52,16 +52,6 @@ in-order-is : (ds : List Dart) → climbs 0 (serials ds) ≡ (all (λ d. leb 1 (
 in-order-is ds = same-truth (climbs 0 (serials ds)) (all (λ d. leb 1 (d .serial)) ds && ascending (serials ds))
     (λ e. and-intro (sym (all-map (ltb 0) (λ (d : Dart). d .serial) ds) ∙ climbs-first 0 (serials ds) e) (climbs-ascends 0 (serials ds) e))
     (λ e. ascends-climbs 0 (serials ds) (all-map (ltb 0) (λ (d : Dart). d .serial) ds ∙ and-left (all (λ d. leb 1 (d .serial)) ds) _ e) (and-right (all (λ d. leb 1 (d .serial)) ds) _ e))
-
--- so many darts are read as are counted
-pub all-length : {A : Type 0} (l : Layout A) (n : ℕ) (bs : List ℕ) (v : List A) (rest : List ℕ) → get-all l n bs ≡ some (v, rest) → length v ≡ n
-unfolding get-all
-all-length l zero bs v rest e = ap length (sym (same-value e))
-all-length {A} l (suc n) bs v rest e = go (then-some (l .get bs) _ _ e) (all-length l n)
-  where
-    go : (a : A) × (s : List ℕ) × (l .get bs ≡ some (a, s)) × (then (get-all l n s) (λ w t. some (a ∷ w, t)) ≡ some (v, rest))
-        → ((s : List ℕ) (w : List A) (t : List ℕ) → get-all l n s ≡ some (w, t) → length w ≡ n) → length v ≡ suc n
-    go t ih = let u = then-some (get-all l n (t .1)) _ _ (t .3) in ap length (sym (same-value (u .3))) ∙ ap suc (ih (t .1) (u .0) (u .1) (u .2))
 
 -- and what is left is part of what was there
 all-short : {A : Type 0} (l : Layout A) → Ends l → (n : ℕ) (bs : List ℕ) (v : List A) (rest : List ℕ) → get-all l n bs ≡ some (v, rest) → length rest ≤ length bs
@@ -124,7 +114,7 @@ module _ {s : List ℕ} {number a : ℕ} (p : Reads (at-most 15) s 0 number a) w
           go : (w : Read (List Dart)) → get-all a-dart n (drop c s) ≡ w → whole (file rack) s ≡ none
           go none e = by-darts none e
           go (some w) e =
-              let l = all-length a-dart n (drop c s) (w .0) (w .1) e in
+              let l = get-all-length a-dart n (drop c s) (w .0) (w .1) e in
               by-darts (some w) e ∙ rw (lt-leb (length (w .0)) 4096 (omega arith)) refl
 
       -- darts in order, and nothing after them
@@ -139,7 +129,7 @@ module _ {s : List ℕ} {number a : ℕ} (p : Reads (at-most 15) s 0 number a) w
           go : (v : Read (List Dart)) → get-all a-dart n (drop c s) ≡ v
               → whole (file rack) s ≡ at-end (then (then (get-all a-dart n (drop c s)) (λ ds rest. when (climbs 0 (serials ds)) (some (ds, rest)))) (λ ds rest. some (block-of ds, rest)))
           go none e = rw e (by-darts none e)
-          go (some v) e = rw e (by-darts (some v) e ∙ ap at-end (tested (v .0) (v .1) (all-length a-dart n (drop c s) (v .0) (v .1) e)))
+          go (some v) e = rw e (by-darts (some v) e ∙ ap at-end (tested (v .0) (v .1) (get-all-length a-dart n (drop c s) (v .0) (v .1) e)))
 
       pub no-darts : n ≤ 4096 → end.Bad ≡ placed-end (length s) (climbing n .get (drop c s)) → whole (file rack) s ≡ none
       no-darts h k = go (climbing n .get (drop c s)) refl k
@@ -185,7 +175,7 @@ module _ {s : List ℕ} {number a : ℕ} (p : Reads (at-most 15) s 0 number a) w
             darts = d .darts;
             rest = d .rest;
             value = d .value;
-            count = all-length a-dart n (drop c s) (d .darts) (d .rest) (climbing-all n (drop c s) (d .darts) (d .rest) (d .value));
+            count = get-all-length a-dart n (drop c s) (d .darts) (d .rest) (climbing-all n (drop c s) (d .darts) (d .rest) (d .value));
             whole-is = by-climbing h (some (d .darts, d .rest)) (d .value) ∙ none-left (d .darts) (d .rest) (omega (arith, rest-short d, d .next-is, e));
           }
         where

@@ -13,13 +13,13 @@ use Rattle.model.specs.Calls.{Answer, served, memories, whole-mesh-checks, next
 use Rattle.model.specs.Runs.{finished}
 use Rattle.model.specs.DividedRun.{last-steps, sent-messages, memory-at}
 use Rattle.model.specs.Demands.{outbox-bytes}
+use Rattle.laws.proofs.Tests.{first-no-left}
 use Rattle.theory.proofs.CallLaws.{served-value}
 use Rattle.theory.proofs.MeshLaws.{mesh-of, mesh-parts, memories-are, images-pass}
 use Rattle.agreement.proofs.Agreement.{rack-fits}
 use Rattle.soundness.proofs.OutboxLength.{rack-outbox-suffices}
 use Rattle.balancing.proofs.Lowers.{request-of, rack-move-lowers}
 use Rattle.rounds.specs.Played.{round-in-order}
-use Rattle.rounds.proofs.Requests.{front-passes}
 use Rattle.rebalance.specs.Turn.{ending-by, moved, turn, turn-by, round-turn}
 
 -- a mesh of which next move was served is sound, and its memories are the images of its blocks
@@ -29,7 +29,7 @@ module _ (m : List ℕ) (o : Oracle) (scratch : List ℕ) (t : Move) (e : next-m
 
   asked-of : Sound all-rack bs × (concat (map (image words) bs) ≡ m)
   unfolding next-move
-  asked-of = mesh-of all-rack m scratch (front-passes (whole-mesh-checks all-rack m scratch) ((28, oracle-right o) ∷ []) (served-value _ scratch _ scratch (move t) e .0))
+  asked-of = mesh-of all-rack m scratch (first-no-left (whole-mesh-checks all-rack m scratch) ((28, oracle-right o) ∷ []) (served-value _ scratch _ scratch (move t) e .0))
 
   images-are : memories m ≡ map (image words) bs
   images-are =

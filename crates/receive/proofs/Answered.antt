@@ -1,19 +1,19 @@
 -- The call's answers: questions 17 to 21 in their order. Assumes nothing.
 use mathlib.Core.Path.{_≡_, refl, sym, _∙_, ap, subst}
 use mathlib.Core.Bool.{Bool, true, false, not}
-use mathlib.Core.List.{List, [], _∷_, append-nil}
+use mathlib.Core.List.{List, [], append-nil}
 use mathlib.Core.Logic.{inl, inr}
 use Prim.Native.Nat.{ℕ, zero, suc, _+_, _≤_, _<_}
 use native.Mathlib.Omega.{arith}
 use lib.ListN.{length, getD}
-use borrow.Author.Tests.{le-leb, lt-leb, lt-ltb, eq-eqb, ne-eqb}
+use borrow.Author.Tests.{le-leb, lt-leb, eq-eqb, ne-eqb}
 use Rattle.model.specs.Lists.{tab, Check, first-no}
 use Rattle.model.specs.Values.{rack, serial-bound}
 use Rattle.model.specs.Image.{words, image, dart-in, block-in, holds-block, memory-checks}
 use Rattle.model.specs.Messages.{Transfer, Message, a-transfer, an-update, no-message, message-in, size-all}
 use Rattle.model.specs.Arrival.{addressed, serials-new, volume-right, receive-checks, received, received-from}
 use Rattle.model.specs.Calls.{Answer, served, refused, storing, receive}
-use Rattle.laws.proofs.Tests.{and-intro, yes-then, no-more}
+use Rattle.laws.proofs.Tests.{yes-then, no-more}
 use Rattle.laws.proofs.Tables.{length-tab}
 use Rattle.answers.specs.Answers.{Gives, answered}
 use Rattle.answers.specs.declared.Refusal.{Refusal}
@@ -141,11 +141,6 @@ new-volume {m} {s} {v} {x} {b} {z} {f} {l} {keys} {ranks} {q} {c} eighteen yes-1
   outlined = w;
   right = λ t w. said-yes (nineteen t (told-of w)) yes-19;
 }
-
--- a slice of bytes
-pub bytes-in : (l : List ℕ) → ((i : ℕ) → getD l i 0 < 256) → Bytes l
-bytes-in [] h = refl
-bytes-in (b ∷ l) h = and-intro (lt-ltb b 256 (h 0)) (bytes-in l (λ i. h (suc i)))
 
 -- THE CALL
 module _ (m s : List ℕ) where

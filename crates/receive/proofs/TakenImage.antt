@@ -12,7 +12,7 @@ use Rattle.model.specs.Messages.{Transfer, a-transfer, transfer}
 use Rattle.model.specs.Links.{relink}
 use Rattle.model.specs.Arrival.{new-darts, insert-all, received, transfer-links, volume-right, receive-checks}
 use Rattle.laws.proofs.Members.{In}
-use Rattle.laws.proofs.Tables.{length-tab, map-tab, tab-cong, place-mem}
+use Rattle.laws.proofs.Tables.{length-tab, map-tab, tab-cong, place-mem, tab-distinct}
 use Rattle.theory.proofs.ImageLaws.{image-is, is-image-of}
 use Rattle.columns.specs.Columns.{Places}
 use Rattle.columns.proofs.Question.{image-passed}
@@ -34,7 +34,6 @@ use Rattle.arrival.specs.Draft.{Draft, Told}
 use Rattle.arrival.proofs.DraftLaws.{sited, serial-of, links}
 use Rattle.arrival.proofs.NewDarts.{all-new, dart-there}
 use Rattle.arrival.proofs.Nineteen.{is-numbered, vertices-fit, each-below}
-use Rattle.ranking.proofs.RankLaws.{tab-distinct}
 use Rattle.join.specs.Join.{Joins}
 
 module _ {v x b z keys ranks q s : List ℕ} {from k : ℕ} {c : List ℕ} (d : Draft v x b z keys ranks q s from k c) where

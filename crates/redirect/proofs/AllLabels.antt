@@ -2,8 +2,7 @@
 use mathlib.Core.Path.{_≡_, refl, sym, _∙_, ap}
 use mathlib.Core.Bool.{Bool, true, false, true≢false, _&&_, _||_}
 use mathlib.Core.List.{List, [], _∷_, map}
-use mathlib.Core.Option.{some}
-use Prim.Native.Nat.{ℕ, zero, suc, _≤_, _<_}
+use Prim.Native.Nat.{ℕ, suc, _≤_, _<_}
 use native.Mathlib.Omega.{arith}
 use lib.Dec.{ltb, eqb}
 use lib.ListN.{length, getD, take, drop, length-map}
@@ -11,14 +10,13 @@ use borrow.Author.Tests.{eqb-true, lt-ltb, le-ltb, ltb-true, ltb-false}
 use Rattle.model.specs.Lists.{all, any, mem, distinct, ascending, insert, sorted, tab, index-of}
 use Rattle.model.specs.Values.{Label, code, room}
 use Rattle.model.specs.Image.{column}
-use Rattle.model.specs.Layouts.{Layout, times, get-all}
+use Rattle.model.specs.Layouts.{times}
 use Rattle.model.specs.Messages.{label}
 use Rattle.model.specs.Arrival.{names-face}
 use Rattle.laws.proofs.Tests.{by-cases, and-left, and-right}
 use Rattle.laws.proofs.Members.{In, in-map, all-in, pigeonhole, getD-in}
-use Rattle.laws.proofs.Tables.{length-tab, any-tab}
-use Rattle.groups.proofs.Ends.{then-some}
-use Rattle.groups.proofs.Labels.{same-value}
+use Rattle.laws.proofs.Tables.{length-tab, any-tab, tab-take}
+use Rattle.theory.proofs.LayoutLaws.{get-all-length}
 use Rattle.sort.proofs.Apart.{ascending-distinct}
 use Rattle.columns.proofs.Below.{and-no}
 use Rattle.columns.proofs.Question.{Passed}
@@ -31,7 +29,7 @@ use Rattle.inbox.specs.Inbox.{Took}
 use Rattle.redirect.specs.ByPlaces.{face-code, names-at, named-at, CodesRead, Ready, code-index, EachNamed, AllNamed, Rewritten}
 use Rattle.redirect.proofs.Faces.{stays-in, code-there}
 use Rattle.redirect.proofs.Names.{names-are}
-use Rattle.redirect.proofs.ReadCodes.{front-tab, front-ascends}
+use Rattle.redirect.proofs.ReadCodes.{front-ascends}
 
 -- SORTED LISTS have the same members
 module _ (p : ℕ → Bool) where
@@ -76,7 +74,7 @@ unfolding code-index
 index-named m from {codes} {c} l ready e p = by-cases (critical-with m from p) (λ t. rw t there) (λ t. rw t (le-ltb 4097 c (let h = ready .few in omega arith)))
   where
     list : tab (λ k. getD codes k 0) c ≡ sorted l
-    list = front-tab codes c (let a = ready .few in let b = ready .size in omega arith) ∙ e
+    list = tab-take codes c (let a = ready .few in let b = ready .size in omega arith) ∙ e
 
     there : ltb (index-of (face-code m p) (tab (λ k. getD codes k 0) c)) c ≡ mem (face-code m p) l
     there = ap (ltb (index-of (face-code m p) (tab (λ k. getD codes k 0) c))) (sym (length-tab (λ k. getD codes k 0) c))
@@ -131,14 +129,6 @@ names-all {m} site ok from (l ∷ ls) = both (names-are site ok from l) (names-a
     both e f = rw (e, f)
 
 -- TOO MANY: labels that differ and name faces are at most as many as the darts
-took-length : {A : Type 0} (l : Layout A) (n : ℕ) (bs : List ℕ) (xs : List A) (rest : List ℕ) → get-all l n bs ≡ some (xs, rest) → length xs ≡ n
-unfolding get-all
-took-length l zero bs xs rest e = ap length (sym (same-value e))
-took-length {A} l (suc n) bs xs rest e =
-    let t = then-some (l .get bs) _ _ e in
-    let u = then-some (get-all l n (t .1)) _ _ (t .3) in
-    ap length (sym (same-value (u .3))) ∙ ap suc (took-length l n (t .1) (u .0) (u .1) (u .2))
-
 module _ {m : List ℕ} {n : ℕ} (l : Linked m n) (same : n ≡ getD m 2 0) where
   code-held : (from c : ℕ) → names-at m from c ≡ true → In c (map (column m 4) (places n))
   code-held from c t =
@@ -163,5 +153,5 @@ module _ {m : List ℕ} {n : ℕ} (l : Linked m n) (same : n ≡ getD m 2 0) whe
       → (all (names-at m from) (map code ls) && distinct (map code ls)) ≡ false
   unfolding times
   too-many from {s} {at} {count} {past} ls t h = by-cases (all (names-at m from) (map code ls) && distinct (map code ls))
-      (λ e. let a = few-named from (map code ls) e in absurd (omega (arith, length-map ls code, took-length label count (drop at s) ls (drop past s) (t .value))))
+      (λ e. let a = few-named from (map code ls) e in absurd (omega (arith, length-map ls code, get-all-length label count (drop at s) ls (drop past s) (t .value))))
       (λ e. e)

@@ -1,7 +1,7 @@
 -- The faces of a block's memory by places: one kind and one least label each. Assumes nothing.
 use mathlib.Core.Path.{_≡_, refl, sym, _∙_, ap}
-use mathlib.Core.Bool.{true, true≢false}
-use mathlib.Core.List.{List, [], _∷_, map}
+use mathlib.Core.Bool.{true}
+use mathlib.Core.List.{List, map}
 use Prim.Native.Nat.{ℕ, _≤_, _<_}
 use native.Mathlib.Omega.{arith}
 use lib.Dec.{eqb}
@@ -11,9 +11,9 @@ use Rattle.model.specs.Values.{code}
 use Rattle.model.specs.Cells.{cycle, next-in, least-label}
 use Rattle.model.specs.Image.{count-in, column}
 use Rattle.laws.proofs.Tests.{and-left}
-use Rattle.laws.proofs.Members.{In, in-map, map-in, map-map, map-cong, least-in, least-below, least-among}
+use Rattle.laws.proofs.Members.{In, in-map, map-in, map-map, map-cong, least-below, least-among}
 use Rattle.laws.proofs.Faces.{face-self, face-stays, face-sym, face-trans, along-face, face-distinct}
-use Rattle.memory.proofs.Labels.{code-label}
+use Rattle.laws.proofs.Labels.{code-in}
 use Rattle.columns.specs.Columns.{third-test}
 use Rattle.columns.proofs.Question.{Passed}
 use Rattle.cells.specs.Places.{Linked}
@@ -102,4 +102,4 @@ module _ {m : List ℕ} (site : Sited m) (ok : Passed m) where
       let r = round (l .few) (l .next-within) (l .next-apart) x h in
       ap (least-label (darts-in m)) (sym (cycle-carried site x h))
       ∙ ap (λ (ls : List _). least (map code ls)) (labels-are site ok f (face-of x h) (omega (arith, ap (column m 3) (cycle-start r))))
-      ∙ ap least (map-map (label-at m) code f ∙ map-cong (λ q. code (label-at m q)) (column m 4) f (λ q k. code-label (column m 4 q)))
+      ∙ ap least (map-map (label-at m) code f ∙ map-cong (λ q. code (label-at m q)) (column m 4) f (λ q k. code-in (column m 4 q)))

@@ -10,14 +10,13 @@ use lib.Seq.{getD-set-same, getD-set-other}
 use borrow.Author.Tests.{eqb-true, eq-eqb}
 use Rattle.model.specs.Lists.{all, mem, tab, index-of}
 use Rattle.laws.proofs.Tests.{by-cases, and-intro, and-left, and-right, same-truth}
-use Rattle.laws.proofs.Tables.{tab-any, any-tab, index-place, index-held}
+use Rattle.laws.proofs.Tables.{tab-any, any-tab, index-place, index-held, tab-take}
 use Rattle.columns.specs.Columns.{all-below}
 use Rattle.columns.proofs.Below.{all-tests}
 use Rattle.cells.specs.Places.{Clear, Painted}
 use Rattle.cells.proofs.Walks.{eq-or-ne}
 use Rattle.departure.specs.ByPlaces.{critical-with}
 use Rattle.redirect.specs.ByPlaces.{face-code, names-at, Ready, code-index, Unset, Indexed, HitsAre, all-hit, EachNamed}
-use Rattle.redirect.proofs.ReadCodes.{front-tab}
 
 -- MARKS, beside a table of indices that is filled face by face
 pub record Hitting (index : ℕ → ℕ) (n : ℕ) (table hits : List ℕ) : Type 0 where
@@ -66,7 +65,7 @@ module _ (m : List ℕ) (from : ℕ) {codes : List ℕ} {c : ℕ} (ready : Ready
   hits-names : {hits : List ℕ} → HitsAre (code-index m from codes c) (getD m 2 0) hits → all-hit hits c ≡ all (names-at m from) (take c codes)
   hits-names {hits} w =
       all-tests (names-at m from) (λ k. getD codes k 0) (λ k. eqb (getD hits k 0) 1) c (λ k h. sym (same-truth (eqb (getD hits k 0) 1) (names-at m from (getD codes k 0)) (yes-of k h) (hit-of k h)))
-      ∙ ap (all (names-at m from)) (front-tab codes c (let a = ready .few in let b = ready .size in omega arith))
+      ∙ ap (all (names-at m from)) (tab-take codes c (let a = ready .few in let b = ready .size in omega arith))
     where
       yes-of : (k : ℕ) → k < c → eqb (getD hits k 0) 1 ≡ true → names-at m from (getD codes k 0) ≡ true
       yes-of k h t =

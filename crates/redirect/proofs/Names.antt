@@ -12,10 +12,10 @@ use Rattle.model.specs.Values.{Label, Dart, no-dart, or-no-dart, code, label-ke
 use Rattle.model.specs.Cells.{cycle, next-in, least-label, labelled}
 use Rattle.model.specs.Image.{count-in, column, third-in, dart-in}
 use Rattle.model.specs.Arrival.{face-with, names-face}
-use Rattle.laws.proofs.Tests.{by-cases, and-intro, and-left, and-right, same-truth}
+use Rattle.laws.proofs.Tests.{by-cases, and-intro, and-left, and-right, same-truth, both-are}
 use Rattle.laws.proofs.Members.{In, in-eq}
 use Rattle.laws.proofs.Tables.{tab-any, any-tab}
-use Rattle.memory.proofs.Labels.{code-label}
+use Rattle.laws.proofs.Labels.{code-in}
 use Rattle.columns.specs.Columns.{Kind, kind-free, kind-sewn, kind-critical}
 use Rattle.columns.proofs.Thirds.{third-free, third-sewn, third-critical}
 use Rattle.columns.proofs.Question.{Passed}
@@ -50,15 +50,12 @@ find-row {A} key f (suc n) x = by-cases (eqb x (key (f 0)))
 key-far : (s : ℕ → ℕ) (k a : ℕ) → Kind k a → 1 < k → label-key (third-in s k a) ≡ suc a
 key-far s k a (kind-free e f) h = absurd (omega arith)
 key-far s k a (kind-sewn e) h = absurd (omega arith)
-key-far s k a (kind-critical e f g) h = rw (third-critical s k a e, code-label a)
+key-far s k a (kind-critical e f g) h = rw (third-critical s k a e, code-in a)
 
 key-says : (s : ℕ → ℕ) (k a c : ℕ) → Kind k a → label-key (third-in s k a) ≡ suc c → (1 < k) × (a ≡ c)
 key-says s k a c (kind-free e f) h = let z : 0 ≡ suc c = rw (third-free s k a e) at h in absurd (omega arith)
 key-says s k a c (kind-sewn e) h = let z : 0 ≡ suc c = rw (third-sewn s k a e) at h in absurd (omega arith)
-key-says s k a c (kind-critical e f g) h = let z : suc a ≡ suc c = rw (third-critical s k a e, code-label a) at h in (omega arith, omega arith)
-
-both : {a b c d : Bool} → a ≡ b → c ≡ d → (a && c) ≡ (b && d)
-both e f = rw (e, f)
+key-says s k a c (kind-critical e f g) h = let z : suc a ≡ suc c = rw (third-critical s k a e, code-in a) at h in (omega arith, omega arith)
 
 -- a label that no dart has names no face
 test-none : (ds : List Dart) (from : ℕ) (l : Label) → labelled l ds ≡ no-dart → names-face ds from l ≡ false
@@ -97,7 +94,7 @@ module _ {m : List ℕ} (site : Sited m) (ok : Passed m) where
     pub test-at : names-face (darts-in m) from l ≡ (critical-with m from y && eqb (code l) (face-code m y))
     unfolding names-face face-with
     test-at = ap (λ (d : Dart). is-critical-with from (d .third) && eqb (code l) (least-label (darts-in m) (cycle (next-in (darts-in m)) (d .serial)))) e
-        ∙ both (critical-is (column m 0) (column m 3 y) (column m 4 y) from (ok .range .kinds y h)) (ap (eqb (code l)) (least-is site ok y h c))
+        ∙ both-are (critical-is (column m 0) (column m 3 y) (column m 4 y) from (ok .range .kinds y h)) (ap (eqb (code l)) (least-is site ok y h c))
 
     pub face-at : face-with (darts-in m) l ≡ map (column m 0) (cycle (column m 1) y)
     unfolding face-with

@@ -7,20 +7,19 @@ use Prim.Native.Nat.{ℕ, _+_, _≤_, _<_}
 use native.Mathlib.Omega.{arith}
 use native.Mathlib.Numerals.{add-one}
 use lib.ListN.{length, getD, set, take, drop, length-set, length-append}
-use lib.Seq.{take-suc-set, take-at, length-take-le, getD-take}
+use lib.Seq.{take-suc-set, take-at, length-take-le}
 use Rattle.laws.specs.Order.{Ascending}
 use Rattle.laws.proofs.Members.{map-append}
-use Rattle.laws.proofs.Tables.{ascending-tab, index-place, index-none}
+use Rattle.laws.proofs.Tables.{ascending-tab, index-place, index-none, tab-take}
 use Rattle.model.specs.Lists.{ascending, sorted, tab, index-of}
 use Rattle.model.specs.Values.{Label, code}
 use Rattle.model.specs.Image.{label-in}
 use Rattle.model.specs.Layouts.{times}
 use Rattle.model.specs.Messages.{label}
-use Rattle.theory.proofs.ImageLaws.{tab-list}
+use Rattle.laws.proofs.Labels.{code-in}
 use Rattle.groups.specs.Slices.{read-at, label-code}
 use Rattle.groups.specs.declared.Read.the-variants.{Value, Bad}
 use Rattle.groups.proofs.Labels.{same-value}
-use Rattle.memory.proofs.Labels.{code-label}
 use Rattle.memory.proofs.Lookups.{Halving}
 use Rattle.sort.proofs.Order.{same-length, sorted-keys}
 use Rattle.inbox.proofs.Taking.{SoFar, so-far-start, so-far-more, so-far-stop, so-far-end}
@@ -48,7 +47,7 @@ module _ {s : List ℕ} {at count : ℕ} {codes : List ℕ} {i p : ℕ} (w : Rea
     so-far = so-far-more label (w .so-far) (took-label e);
     read = let n = w .read in omega (arith, length-append (w .items) (label-in a ∷ []));
     codes-are = ap (λ (k : ℕ). take k (set codes i a)) (add-one i) ∙ take-suc-set codes i a (let n = w .size in omega arith) ∙ ap (λ (l : List ℕ). l ++ a ∷ []) (w .codes-are)
-        ∙ ap (λ (b : ℕ). map code (w .items) ++ b ∷ []) (sym (code-label a)) ∙ sym (map-append code (w .items) (label-in a ∷ []));
+        ∙ ap (λ (b : ℕ). map code (w .items) ++ b ∷ []) (sym (code-in a)) ∙ sym (map-append code (w .items) (label-in a ∷ []));
   }
 
   -- where labels stand, none is missing
@@ -73,15 +72,9 @@ sorted-length l = same-length l (sorted l) (sorted-keys l)
 pub sorted-front : (codes : List ℕ) (c : ℕ) {x : List ℕ} → c ≤ length codes → x ≡ sorted (take c codes) → take c (x ++ drop c codes) ≡ sorted (take c codes)
 sorted-front codes c {x} h e = take-at x (drop c codes) c (ap length e ∙ sorted-length (take c codes) ∙ length-take-le c codes h) ∙ e
 
--- the first c as a table
-pub front-tab : (codes : List ℕ) (c : ℕ) → c ≤ length codes → tab (λ k. getD codes k 0) c ≡ take c codes
-front-tab codes c h =
-    let n = length-take-le c codes h in
-    ap (tab (λ k. getD codes k 0)) (sym n) ∙ tab-list 0 (take c codes) (λ k. getD codes k 0) (λ k j. sym (getD-take c codes k 0 (omega arith)))
-
 -- codes that differ ascend by index
 pub front-ascends : (codes : List ℕ) (c : ℕ) → c ≤ length codes → ascending (take c codes) ≡ true → Ascending c (λ k. getD codes k 0)
-front-ascends codes c h e = ascending-tab (λ k. getD codes k 0) c (ap ascending (front-tab codes c h) ∙ e)
+front-ascends codes c h e = ascending-tab (λ k. getD codes k 0) c (ap ascending (tab-take codes c h) ∙ e)
 
 -- SEARCH
 pub halved : {n : ℕ} {s : ℕ → ℕ} {x low left v : ℕ} → Ascending n s → Halving n s x low left → left ≤ 1 → v ≡ s low → v ≡ x → low ≡ index-of x (tab s n)

@@ -10,6 +10,7 @@ use Rattle.model.specs.Values.{Limits, rack}
 use Rattle.model.specs.Image.{words, words-for, words-of, image, is-image, block-in, holds-block, memory-checks}
 use Rattle.model.specs.Departure.{departure-checks, released}
 use Rattle.model.specs.Calls.{Answer, served, refused, storing, release}
+use Rattle.columns.proofs.Thirds.{kind-one}
 use Rattle.answers.specs.Answers.{Gives, answered}
 use Rattle.answers.proofs.Questions.{Asks, gives, ask-no, ask-yes, ask-end, ask-all, ask-first, said-no}
 use Rattle.columns.proofs.ThirdLinks.{same-kind}
@@ -20,7 +21,7 @@ use Rattle.departure.specs.Asked.{Departs}
 use Rattle.departure.specs.declared.Counts.{Counts}
 use Rattle.removal.specs.LetGo.{with-links, sewn-at, left-behind, without, released-at}
 use Rattle.removal.proofs.PutLinks.{length-links, header-stays, column-stays}
-use Rattle.removal.proofs.CutFaces.{kind-one, sewn, away}
+use Rattle.removal.proofs.CutFaces.{sewn, away}
 use Rattle.removal.proofs.ReleasedImage.{none-within, sewn-after, rest-after, released-image}
 use Rattle.release.specs.Asks.{Sewing, Bounded}
 

@@ -1,22 +1,22 @@
 -- The faces along which a volume is cut off, as places: sewn as a whole, to darts that stay. Assumes nothing.
-use mathlib.Core.Path.{_≡_, refl, sym, _∙_, ap}
-use mathlib.Core.Bool.{Bool, true, false, true≢false, not}
-use mathlib.Core.List.{List, [], _∷_, map}
+use mathlib.Core.Path.{_≡_, sym, _∙_, ap}
+use mathlib.Core.Bool.{Bool, true, false, true≢false}
+use mathlib.Core.List.{List, map}
 use Prim.Native.Nat.{ℕ, _%_, _≤_, _<_}
 use native.Mathlib.Omega.{arith}
 use lib.Dec.{eqb}
 use lib.ListN.{length, getD}
-use borrow.Author.Tests.{eqb-true, eqb-false, eq-eqb, ne-eqb, not-true}
-use Rattle.model.specs.Lists.{any, mem, concat, distinct, ascending}
+use borrow.Author.Tests.{eqb-true, eqb-false, eq-eqb, ne-eqb}
+use Rattle.model.specs.Lists.{any, concat, distinct, ascending}
 use Rattle.model.specs.Cells.{cycle, start-of}
 use Rattle.model.specs.Image.{count-in, column}
-use Rattle.laws.proofs.Tests.{by-cases, and-intro, and-left, and-right}
-use Rattle.laws.proofs.Members.{In, in-here, in-there, in-eq, any-in, map-in, keep-le, keep-ascending, distinct-map}
+use Rattle.columns.proofs.Thirds.{kind-one}
+use Rattle.laws.proofs.Tests.{by-cases, and-intro}
+use Rattle.laws.proofs.Members.{In, any-in, keep-le, keep-ascending, distinct-map}
 use Rattle.laws.proofs.Orbits.{in-cycle}
 use Rattle.laws.proofs.Faces.{face-sym, along-face}
 use Rattle.laws.proofs.KeptFaces.{kept-distinct, kept-in, in-kept}
 use Rattle.laws.proofs.Tables.{length-tab, tab-ascending}
-use Rattle.columns.specs.Columns.{Kind, kind-free, kind-sewn, kind-critical}
 use Rattle.columns.proofs.Links.{linked}
 use Rattle.columns.proofs.ThirdLinks.{Sewn, same-kind, sewn-says}
 use Rattle.columns.proofs.Question.{Passed}
@@ -28,12 +28,6 @@ use Rattle.cells.proofs.FaceLaws.{marked-in, in-marked}
 use Rattle.cells.proofs.FaceSerials.{closed-next, closed-opposite}
 use Rattle.cells.proofs.Sited.{Sited}
 use Rattle.removal.specs.LetGo.{sewn-at}
-
--- a kind word whose rest is 1
-pub kind-one : {k a : ℕ} → Kind k a → k % 4 ≡ 1 → k ≡ 1
-kind-one (kind-free e f) h = absurd (omega arith)
-kind-one (kind-sewn e) h = e
-kind-one (kind-critical e f g) h = absurd (omega arith)
 
 module _ {m : List ℕ} (site : Sited m) (pass : Passed m) (p : ℕ) (h : p < count-in m) {marks : List ℕ} (mk : Marked (volume-of m p) marks) where
   abbrev n : ℕ

@@ -20,9 +20,10 @@ use Rattle.laws.proofs.Tests.{yes-first}
 use Rattle.laws.proofs.Lists.{getD-zeros}
 use Rattle.laws.proofs.Members.{In, in-here, in-there, in-eq, in-map, map-in, keep-map, map-map, map-cong, Each, each-found, keep-cong}
 use Rattle.laws.proofs.Tables.{map-tab}
+use Rattle.laws.proofs.Labels.{code-in}
 use Rattle.theory.proofs.CallLaws.{served-value}
 use Rattle.columns.specs.Columns.{Kind, kind-free, kind-sewn, kind-critical}
-use Rattle.columns.proofs.Thirds.{third-free, third-sewn, third-critical, code-in, kind-back}
+use Rattle.columns.proofs.Thirds.{third-free, third-sewn, third-critical, kind-back}
 use Rattle.columns.proofs.Question.{Passed, image-passed}
 use Rattle.cells.specs.Places.{Marked, marked, sewn-in, volume-of}
 use Rattle.cells.proofs.Reached.{places, places-below}

@@ -17,21 +17,15 @@ use Rattle.model.specs.DividedRun.{Round}
 use Rattle.model.specs.Runs.{Request}
 use Rattle.laws.proofs.Members.{map-append}
 use Rattle.laws.proofs.Tables.{length-tab, getD-tab}
-use Rattle.laws.proofs.Tests.{by-cases, yes-first, first-no-append}
+use Rattle.laws.proofs.Tests.{by-cases, yes-first, first-no-append, first-no-left}
 use Rattle.theory.proofs.CallLaws.{with-fifteen, writing-serves, writing-refuses}
 use Rattle.rounds.specs.Played.{asks-for, outcome-of, round-in-order, Played}
 use Rattle.rounds.specs.declared.Outcome.{Outcome}
 use Rattle.rounds.specs.Requests.{request-at, requests-in, outcome-number, outbox-after, Run, run, over, PlayedOne, Listed, PlayedAll}
 
--- questions that stand first
-pub front-passes : (ps qs : List Check) → first-no (ps ++ qs) ≡ 0 → first-no ps ≡ 0
-unfolding first-no
-front-passes [] qs e = refl
-front-passes (p ∷ ps) qs e = by-cases (p .1) (λ t. rw t (front-passes ps qs (rw t at e))) (λ t. rw t (rw t at e))
-
 -- THE OUTBOX keeps its length
 fifteen-yes : (qs : List Check) (b : Bool) → all (λ q. ltb 0 (q .0)) qs ≡ true → first-no (qs ++ (15, b) ∷ []) ≡ 0 → b ≡ true
-fifteen-yes qs b h e = yes-first 15 b [] (λ z. omega arith) (sym (first-no-append qs ((15, b) ∷ []) (front-passes qs _ e) h) ∙ e) .0
+fifteen-yes qs b h e = yes-first 15 b [] (λ z. omega arith) (sym (first-no-append qs ((15, b) ∷ []) (first-no-left qs _ e) h) ∙ e) .0
 
 writing-length : (qs : List Check) (out bytes : List ℕ) → all (λ q. ltb 0 (q .0)) qs ≡ true → length (writing qs out bytes .lent) ≡ length out
 writing-length qs out bytes h = by-cases (eqb (first-no (with-fifteen qs out bytes)) 0)

@@ -9,6 +9,7 @@ use lib.ListN.{length, drop, length-drop}
 use lib.Seq.{drop-length}
 use Rattle.model.specs.Calls.{memories}
 use Rattle.model.specs.DividedRun.{Step, done, stored, run-steps, messages-in, addressee, redirecting, redirect-step}
+use Rattle.laws.proofs.Tests.{and-yes, both-are}
 use Rattle.rounds.specs.Post.{first-in}
 use Rattle.rounds.specs.Played.{on-rack, at-block, Stepped, Ran}
 use Rattle.rounds.proofs.Cuts.{first-then, nothing-in, behind-first, first-fits}
@@ -16,10 +17,6 @@ use Rattle.rounds.proofs.Cuts.{first-then, nothing-in, behind-first, fi
 pub none-ran : (m : List ℕ) → Ran m [] true m
 unfolding run-steps
 none-ran m = record { said = refl; stored-are = refl; size = refl; left = refl }
-
-and-yes : (b : Bool) → (b && true) ≡ b
-and-yes true = refl
-and-yes false = refl
 
 pub one-ran : {m : List ℕ} {s : Step} {n : ℕ} {m′ : List ℕ} → Stepped m s n m′ → Ran m (s ∷ []) (eqb n 0) m′
 unfolding run-steps
@@ -45,9 +42,6 @@ then-run : (ss ts : List Step) (ms : List (List ℕ)) → run-steps on-rack (ss 
 unfolding run-steps
 then-run [] ts ms = refl
 then-run (s ∷ ss) ts ms = then-run ss ts (stored ms s (done on-rack ms s))
-
-both-are : {a b c d : Bool} → a ≡ b → c ≡ d → (a && c) ≡ (b && d)
-both-are p q = rw (p, q) refl
 
 pub then-ran : {m : List ℕ} {ss ts : List Step} {a b : Bool} {m₁ m₂ : List ℕ} → Ran m ss a m₁ → Ran m₁ ts b m₂ → Ran m (ss ++ ts) (a && b) m₂
 then-ran {m} {ss} {ts} v w = record {

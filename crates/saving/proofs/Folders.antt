@@ -1,6 +1,6 @@
 -- Folders: what a step changes, and what a plan keeps whether it is cut or not. Assumes nothing.
-use mathlib.Core.Path.{_≡_, refl, sym, ap, _∙_}
-use mathlib.Core.Bool.{Bool, true, false, true≢false, cond, _||_}
+use mathlib.Core.Path.{_≡_, refl, ap, _∙_}
+use mathlib.Core.Bool.{true, false, cond, _||_}
 use mathlib.Core.List.{List, [], _∷_, _++_}
 use mathlib.Core.Logic.{_⊎_, inl, inr}
 use mathlib.Core.Option.{Option, none, some}
@@ -8,7 +8,7 @@ use Prim.Native.Nat.{ℕ, zero, suc, _+_, _-_, _≤_, _<_}
 use native.Mathlib.Omega.{arith}
 use lib.ListN.{length, getD}
 use Rattle.laws.proofs.Members.{Each}
-use Rattle.laws.proofs.Tests.{lt-or-ge}
+use Rattle.laws.proofs.Tests.{lt-or-ge, or-false}
 use Rattle.commands.specs.declared.names.File.{File}
 use Rattle.commands.specs.declared.names.File.the-variants as file
 use Rattle.commands.specs.Names.{same-name, is-basins}
@@ -23,15 +23,10 @@ pub put-at : (f g : File) (x : Option (List ℕ)) (d : Folder) → is-basins f �
 unfolding put
 put-at f g x d l h = rw (names-tell f g l h)
 
--- a name that a step does not touch
-or-none : (a b : Bool) → (a || b) ≡ false → (a ≡ false) × (b ≡ false)
-or-none true b e = absurd (true≢false e)
-or-none false b e = (refl, e)
-
 moved-other : (x : Option (List ℕ)) (f h g : File) (d : Folder) → (same-name f g || same-name h g) ≡ false → moved x f h d g ≡ d g
 unfolding put
 moved-other none f h g d e = refl
-moved-other (some bytes) f h g d e = let n = or-none (same-name f g) (same-name h g) e in rw (n .0, n .1)
+moved-other (some bytes) f h g d e = let n = or-false (same-name f g) (same-name h g) e in rw (n .0, n .1)
 
 pub untouched : (c : File → List ℕ) (s : Step) (d : Folder) (g : File) → touches s g ≡ false → does c s d g ≡ d g
 unfolding does put

@@ -1,32 +1,29 @@
 -- Nothing is lost by a save: the old basin is seen until the commit has its name, and the new one from then on; wherever the save is cut,
 -- one of the two. A reader beside it has read one of them. Assumes nothing.
 use mathlib.Core.Path.{_≡_, refl, sym, ap, subst, _∙_}
-use mathlib.Core.Bool.{Bool, true, false, cond}
 use mathlib.Core.List.{List, [], _∷_, _++_, append-assoc}
 use mathlib.Core.Logic.{_⊎_, inl, inr, ⊎-elim}
 use mathlib.Core.Option.{Option, none, some}
 use Prim.Native.Nat.{ℕ, zero, suc, _+_, _-_, _^_, _≤_, _<_}
 use native.Mathlib.Omega.{arith}
-use lib.Dec.{eqb, ltb}
-use lib.ListN.{length, getD, length-append}
+use lib.ListN.{length, length-append}
 use borrow.Author.Tests.{lt-ltb, le-ltb, eq-eqb, ne-eqb}
 use Rattle.model.specs.Lists.{tab}
-use Rattle.laws.proofs.Members.{Each, each-append}
+use Rattle.laws.proofs.Members.{Each, each-append, each-tab}
 use Rattle.laws.proofs.Tables.{length-tab, tab-more}
 use Rattle.laws.proofs.Tests.{lt-or-ge, eq-or-ne}
-use Rattle.commands.specs.declared.names.File.{File}
 use Rattle.commands.specs.declared.names.File.the-variants as file
 use Rattle.saving.specs.declared.plan.Step.{Step}
 use Rattle.saving.specs.declared.plan.Step.the-variants as step
 use Rattle.saving.specs.Plan.{steps, writing, committing, placing, ending, save-stages}
 use Rattle.saving.specs.Commit.{entry-of, commit-of, committed}
-use Rattle.saving.specs.Folder.{Folder, put, moved, does, all-of, at, Some, Cut, blocks-of, seen, Alike, saves, renewed, saving, saved, SaveKeeps, Reading, read, ReadsOne}
+use Rattle.saving.specs.Folder.{Folder, put, moved, does, all-of, at, Some, Cut, seen, Alike, saves, renewed, saving, saved, SaveKeeps, Reading, read, ReadsOne}
 use Rattle.saving.proofs.Commits.{committed-back, entry-back}
 use Rattle.saving.proofs.Folders.{Steady, some-keeps, all-keeps, all-append, at-first, at-later, at-untouched, cut-at, cut-first, cut-none, some-end, some-rename}
 use Rattle.saving.proofs.Looked.{Right, sees-right, free-right, saved-right}
 use Rattle.saving.proofs.Seen.{new-new, newcommit-new, newcommit-block, newcommit-commit, newcommit-newcommit, commit-new, commit-block, commit-commit, commit-newcommit}
 use Rattle.saving.proofs.Seen.{Sees, sees-alike, sees-itself, sees-new, sees-newcommit, sees-place, place-gone, place-other, place-newcommit, Rest, sees-rest, rest-ends, Held, held-alike}
-use Rattle.saving.proofs.Seen.{steady-step, steady-write, each-tab}
+use Rattle.saving.proofs.Seen.{steady-step, steady-write}
 
 module _ (k : ℕ) (c : ℕ → List ℕ) (few : 1 ≤ k) (many : k ≤ 16) (d : Folder) (free : d file.Commit ≡ none) where
   -- what is written under the commit's new name

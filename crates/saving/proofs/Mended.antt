@@ -2,30 +2,29 @@
 -- file. Assumes nothing.
 use mathlib.Core.Path.{_≡_, refl, sym, ap, subst, _∙_}
 use mathlib.Core.Bool.{Bool, true, false, true≢false, cond}
-use mathlib.Core.List.{List, [], _∷_, _++_}
+use mathlib.Core.List.{List, [], _∷_}
 use mathlib.Core.Logic.{_⊎_, inl, inr, ⊎-elim}
 use mathlib.Core.Option.{Option, none, some}
-use Prim.Native.Nat.{ℕ, zero, suc, _+_, _≤_, _<_}
+use Prim.Native.Nat.{ℕ, zero, suc, _≤_, _<_}
 use native.Mathlib.Omega.{arith}
-use lib.Dec.{eqb, ltb}
+use lib.Dec.{ltb}
 use lib.ListN.{getD}
 use borrow.Author.Tests.{lt-ltb, le-ltb, eq-eqb, ne-eqb, ltb-true, ltb-false}
 use Rattle.model.specs.Lists.{tab, is-some}
-use Rattle.laws.proofs.Members.{Each, each-append}
+use Rattle.laws.proofs.Members.{Each, each-append, each-tab}
 use Rattle.laws.proofs.Tables.{tab-more}
 use Rattle.laws.proofs.Tests.{by-cases, eq-or-ne}
-use Rattle.commands.specs.declared.names.File.{File}
 use Rattle.commands.specs.declared.names.File.the-variants as file
 use Rattle.saving.specs.declared.plan.Step.{Step}
 use Rattle.saving.specs.declared.plan.Step.the-variants as step
 use Rattle.saving.specs.Plan.{steps, tidied, tidying, mend-stages}
-use Rattle.saving.specs.Folder.{Folder, put, does, all-of, Some, Cut, blocks-of, seen, Alike, LooksRight, there, mending, no-bytes, Mendings, no-mending, again, Readable, mended, MendKeeps}
+use Rattle.saving.specs.Folder.{Folder, does, all-of, Cut, blocks-of, seen, Alike, LooksRight, there, mending, no-bytes, Mendings, no-mending, again, Readable, mended, MendKeeps}
 use Rattle.saving.proofs.Plans.{in-table, past-table}
 use Rattle.saving.proofs.Folders.{Steady, some-keeps, all-keeps, all-append, cut-first, cut-none, some-end}
 use Rattle.saving.proofs.Looked.{sees-right, looks-committed}
 use Rattle.saving.proofs.Seen.{new-new, new-newcommit, newcommit-new, newcommit-newcommit, commit-new, commit-commit, commit-newcommit}
 use Rattle.saving.proofs.Seen.{Sees, sees-itself, sees-new, sees-newcommit, sees-place, place-gone, place-other, place-newcommit, Rest, sees-rest, rest-ends, Held, held-alike}
-use Rattle.saving.proofs.Seen.{steady-step, steady-nothing, each-tab}
+use Rattle.saving.proofs.Seen.{steady-step, steady-nothing}
 
 none-there : (x : Option (List ℕ)) → is-some x ≡ false → x ≡ none
 none-there none e = refl

@@ -3,20 +3,16 @@
 --   Rest x t    block b has t b under its own name, and no new file of the commit x is there
 use mathlib.Core.Path.{_≡_, refl, sym, ap, subst, _∙_}
 use mathlib.Core.Bool.{Bool, true, false, true≢false, cond}
-use mathlib.Core.List.{List, [], _∷_, _++_}
+use mathlib.Core.List.{List}
 use mathlib.Core.Logic.{_⊎_, inl, inr, ⊎-elim}
 use mathlib.Core.Option.{Option, none, some}
-use Prim.Native.Nat.{ℕ, zero, suc, _+_, _≤_, _<_}
+use Prim.Native.Nat.{ℕ, _≤_, _<_}
 use native.Mathlib.Omega.{arith}
 use lib.Dec.{eqb, ltb}
 use borrow.Author.Tests.{lt-ltb, le-ltb, eq-eqb, ne-eqb}
-use Rattle.model.specs.Lists.{tab}
-use Rattle.laws.proofs.Members.{Each}
 use Rattle.laws.proofs.Tests.{lt-or-ge, eq-or-ne}
 use Rattle.commands.specs.declared.names.File.{File}
 use Rattle.commands.specs.declared.names.File.the-variants as file
-use Rattle.commands.specs.Names.{is-basins}
-use Rattle.commands.proofs.NameLaws.{one-file}
 use Rattle.saving.specs.declared.plan.Step.{Step}
 use Rattle.saving.specs.declared.plan.Step.the-variants as step
 use Rattle.saving.specs.Folder.{Folder, put, moved, does, blocks-of, first, seen, Alike}
@@ -235,7 +231,3 @@ steady-write c P f h = record { whole = h (some (c f)); part = λ g q x e p. sub
 pub steady-nothing : (c : File → List ℕ) (P : Folder → Type 0) → Steady c P step.Nothing
 unfolding does
 steady-nothing c P = steady-step c P step.Nothing refl (λ e p. p)
-
-pub each-tab : {A : Type 0} (P : A → Type 0) (f : ℕ → A) (n : ℕ) → ((b : ℕ) → b < n → P (f b)) → Each P (tab f n)
-each-tab P f zero h = tt
-each-tab P f (suc n) h = (h 0 (omega arith), each-tab P (λ k. f (suc k)) n (λ b l. h (suc b) (omega arith)))

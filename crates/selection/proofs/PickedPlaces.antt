@@ -2,19 +2,17 @@
 use mathlib.Core.Path.{_≡_, refl, sym, ap, _∙_}
 use mathlib.Core.Bool.{Bool, true, false, true≢false, cond, _&&_}
 use mathlib.Core.List.{List, [], _∷_, map}
-use Prim.Native.Nat.{ℕ, _≤_, _<_}
-use mathlib.Core.Logic.{⊎-elim}
+use Prim.Native.Nat.{ℕ, _<_}
 use native.Mathlib.Omega.{arith}
 use lib.Dec.{leb, ltb}
 use lib.ListN.{length}
-use borrow.Author.Tests.{le-leb, leb-true, lt-ltb}
+use borrow.Author.Tests.{lt-ltb}
 use Rattle.model.specs.Lists.{all, keep}
 use Rattle.model.specs.Values.{Dart}
 use Rattle.model.specs.Cells.{dart-at, serials, volume-in, volume-starts}
 use Rattle.model.specs.Balance.{Oracle, picks, picked}
 use Rattle.model.specs.Image.{count-in, column, dart-in, holds-block}
-use Rattle.laws.specs.Order.{Ascending}
-use Rattle.laws.proofs.Tests.{by-cases, lt-or-ge, same-truth}
+use Rattle.cells.proofs.FaceSerials.{same-order}
 use Rattle.laws.proofs.Members.{In, all-map, all-cong, map-map, map-cong, keep-map, keep-twice, keep-cong}
 use Rattle.laws.proofs.Tables.{map-tab}
 use Rattle.cells.specs.Places.{volume-of}
@@ -22,15 +20,6 @@ use Rattle.cells.proofs.Reached.{places, places-below, volume-linked, in-places
 use Rattle.cells.proofs.Sited.{Sited, sited, darts-in, dart-is}
 use Rattle.cells.proofs.Serials.{volume-serials, volume-size}
 use Rattle.selection.specs.Picked.{volume-at, is-start, is-picked, size-at}
-
--- serials keep the order of places
-order-kept : {n : ℕ} {s : ℕ → ℕ} → Ascending n s → (p q : ℕ) → p < n → q < n → leb (s p) (s q) ≡ leb p q
-order-kept {n} {s} a p q hp hq = same-truth (leb (s p) (s q)) (leb p q)
-    (λ e. le-leb p q (⊎-elim (λ l. absurd (omega (arith, a q p l hp, leb-true (s p) (s q) e))) (λ l. l) (lt-or-ge q p)))
-    (λ e. le-leb (s p) (s q) (⊎-elim (λ l. omega (arith, a p q l hq)) (λ l. at-same (omega (arith, leb-true p q e))) (lt-or-ge p q)))
-  where
-    at-same : p ≡ q → s p ≤ s q
-    at-same e = rw e (omega arith)
 
 module _ (o : Oracle) (m : List ℕ) (ok : holds-block m ≡ true) where
   abbrev n : ℕ
@@ -44,7 +33,7 @@ module _ (o : Oracle) (m : List ℕ) (ok : holds-block m ≡ true) where
 
   start-is : (p : ℕ) → p < n → all (leb (s p)) (volume-in (darts-in m) (s p)) ≡ is-start m p
   start-is p h = ap (all (leb (s p))) (sym (volume-serials site p h)) ∙ all-map (leb (s p)) s (volume-at m p)
-      ∙ all-cong (λ q. leb (s p) (s q)) (leb p) (volume-at m p) (λ q k. order-kept (site .ascends) p q h (places-in-in n (volume-of m p) q k .0))
+      ∙ all-cong (λ q. leb (s p) (s q)) (leb p) (volume-at m p) (λ q k. same-order (site .ascends) p q h (places-in-in n (volume-of m p) q k .0))
 
   points-are : (p : ℕ) → p < n → map (λ x. dart-at (darts-in m) x .point) (volume-in (darts-in m) (s p)) ≡ map (λ q. dart-in m q .point) (volume-at m p)
   points-are p h = ap (map (λ x. dart-at (darts-in m) x .point)) (sym (volume-serials site p h))

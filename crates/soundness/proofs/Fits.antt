@@ -47,7 +47,7 @@ ok-serial : (v : ℕ) → serial .ok v ≡ true → v < serial-bound
 unfolding serial group-below
 ok-serial v o = ltb-true v serial-bound o
 
-ok-most : (n v : ℕ) → at-most n .ok v ≡ true → v ≤ n
+pub ok-most : (n v : ℕ) → at-most n .ok v ≡ true → v ≤ n
 unfolding at-most
 ok-most n v o = leb-true v n (ok-such group (λ v. leb v n) v o .1)
 

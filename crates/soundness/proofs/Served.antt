@@ -12,12 +12,13 @@ use Rattle.model.specs.Values.{Block, Limits, rack, room}
 use Rattle.model.specs.Cells.{labels}
 use Rattle.model.specs.Sound.{ranges-right, coordinates-finite, links-right, thirds-right, labels-right, points-agree, block-checks, sound-block}
 use Rattle.model.specs.Image.{words-of, image, block-in, is-image, new-block}
-use Rattle.model.specs.Layouts.{Layout, group, _⊗_, _⊕_, as-type, such-that, at-most, exactly, counted}
+use Rattle.model.specs.Layouts.{Layout, _⊗_, _⊕_, as-type, at-most, exactly, counted}
 use Rattle.model.specs.Messages.{Transfer, Update, label, transfer, update, Message, a-transfer, an-update, no-message, message-in}
 use Rattle.model.specs.Departure.{released}
 use Rattle.model.specs.Arrival.{addressed, update-right, receive-checks, received-from, redirect-checks, redirected, redirected-from}
 use Rattle.model.specs.Calls.{Result, storing, empty, read-file, receive, release, redirect}
 use Rattle.model.specs.Demands.{Bytes, Leaves-image, LeavesSound}
+use Rattle.soundness.proofs.Fits.{ok-most}
 use Rattle.laws.proofs.Tests.{and-left, and-right, yes-first}
 use Rattle.theory.proofs.CallLaws.{served-value, storing-serves, after-memory}
 use Rattle.theory.proofs.DemandTwo.{read-as}
@@ -36,13 +37,9 @@ first-ok : {A B : Type 0} (l : Layout A) (m : Layout B) (a : A) (b : B) → (l �
 unfolding _⊗_ _⊕_
 first-ok l m a b h = and-left (l .ok a) _ h
 
-at-most-ok : (n v : ℕ) → at-most n .ok v ≡ true → v ≤ n
-unfolding at-most such-that
-at-most-ok n v h = leb-true v n (and-right (group .ok v) _ h)
-
 update-small : (u : Update) → update .ok u ≡ true → u .block ≤ 15
 unfolding update as-type
-update-small u h = at-most-ok 15 (u .block) (first-ok (at-most 15) (counted label) _ _
+update-small u h = ok-most 15 (u .block) (first-ok (at-most 15) (counted label) _ _
     (second-ok (at-most 15) (at-most 15 ⊕ counted label) _ _ (second-ok (at-most 15) (at-most 15 ⊕ at-most 15 ⊕ counted label) _ _ (second-ok (exactly 2) (at-most 15 ⊕ at-most 15 ⊕ at-most 15 ⊕ counted label) _ _ h))))
 
 -- a message that was read

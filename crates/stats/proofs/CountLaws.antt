@@ -7,11 +7,12 @@ use native.Mathlib.Numerals.{add-one}
 use native.Mathlib.Omega.{arith}
 use lib.Dec.{eqb}
 use lib.ListN.{length, getD, set, take, length-set, length-append}
-use lib.Seq.{getD-set-same, getD-set-other, take-suc, take-all, length-take-le}
+use lib.Seq.{getD-set-same, getD-set-other, take-all, length-take-le}
 use borrow.Author.Tests.{eq-eqb, ne-eqb}
 use Rattle.model.specs.Lists.{keep, tab}
 use Rattle.model.specs.Image.{column}
 use Rattle.model.specs.Values.{room}
+use Rattle.cells.proofs.Resets.{one-more}
 use Rattle.laws.proofs.Members.{keep-le}
 use Rattle.laws.proofs.Maps.{tab-more}
 use Rattle.laws.proofs.Tables.{length-tab}
@@ -52,9 +53,6 @@ counted-le {index} {l} w i = omega (arith, w .value i, keep-le (λ x. eqb (index
 -- LISTS that grow by one
 pub places-more : (p : ℕ) → tab (λ q. q) (p + 1) ≡ tab (λ q. q) p ++ p ∷ []
 places-more p = ap (tab (λ q. q)) (add-one p) ∙ sym (tab-more (λ x. x) p)
-
-pub take-more : (l : List ℕ) (f : ℕ) → f < length l → take (f + 1) l ≡ take f l ++ getD l f 0 ∷ []
-take-more l f h = ap (λ (k : ℕ). take k l) (add-one f) ∙ take-suc l f 0 h
 
 -- WHAT COUNTING ASKS
 module _ {m G T : List ℕ} (c : Countable (2 ^ 33) m G T) (few : getD m 2 0 ≤ room) {q : ℕ} (h : q < getD m 2 0) where
@@ -113,7 +111,7 @@ module _ {m out starts : List ℕ} {count : ℕ} (s : Started m out starts count
 
     one-more : keep test (take (f + 1) (face-starts m)) ≡ keep test (take f (face-starts m)) ++ keep test (p ∷ [])
     one-more =
-        ap (keep test) (take-more (face-starts m) f (omega (arith, s .count-is)) ∙ ap (λ (x : ℕ). take f (face-starts m) ++ x ∷ []) (sym start))
+        ap (keep test) (one-more (face-starts m) f (omega (arith, s .count-is)) ∙ ap (λ (x : ℕ). take f (face-starts m) ++ x ∷ []) (sym start))
         ∙ keep-append test (take f (face-starts m)) (p ∷ [])
 
     pub faces-skip : test p ≡ false → Faces m index test T count (f + 1) T′

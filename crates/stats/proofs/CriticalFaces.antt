@@ -14,6 +14,7 @@ use Rattle.model.specs.Image.{count-in, column, dart-in, third-in, block-in, ho
 use Rattle.model.specs.Balance.{every, picked}
 use Rattle.laws.proofs.Members.{In, in-here, in-there, keep-in, keep-map, keep-each, Each, each-map}
 use Rattle.laws.proofs.Tables.{length-tab, map-tab}
+use Rattle.laws.proofs.Faces.{start-map}
 use Rattle.columns.specs.Columns.{Kind, kind-free, kind-sewn, kind-critical}
 use Rattle.columns.proofs.Thirds.{third-free, third-sewn, third-critical}
 use Rattle.columns.proofs.Question.{image-passed}
@@ -75,10 +76,6 @@ critical-third : (s : ℕ → ℕ) (k a : ℕ) → Kind k a → is-critical (thi
 critical-third s k a (kind-free e f) = rw (third-free s k a e, ne-eqb (k % 4) 2 (λ x. omega arith))
 critical-third s k a (kind-sewn e) = rw (third-sewn s k a e, ne-eqb (k % 4) 2 (λ x. omega arith))
 critical-third s k a (kind-critical e f g) = rw (third-critical s k a e, eq-eqb (k % 4) 2 e)
-
-pub start-map : (s : ℕ → ℕ) (f : List ℕ) → 0 < length f → start-of (map s f) ≡ s (start-of f)
-start-map s [] h = absurd (omega arith)
-start-map s (x ∷ f) h = refl
 
 module _ (m : List ℕ) (ok : holds-block m ≡ true) where
   abbrev site : Sited m

@@ -16,7 +16,7 @@ use Rattle.laws.proofs.Tests.{by-cases, same-truth, and-left, and-right}
 use Rattle.laws.proofs.Members.{In, in-here, in-there, in-cons, all-map, all-cong, keep-map, keep-cong}
 use Rattle.laws.proofs.Tables.{length-tab, map-tab}
 use Rattle.columns.specs.Columns.{Kind, kind-free, kind-sewn, kind-critical}
-use Rattle.columns.proofs.Thirds.{third-free, third-sewn, third-critical}
+use Rattle.columns.proofs.Thirds.{third-free, third-sewn, third-critical, kind-one}
 use Rattle.columns.proofs.ThirdLinks.{sewn-says}
 use Rattle.columns.proofs.Question.{image-passed}
 use Rattle.cells.specs.Places.{places-in, volume-of}
@@ -120,17 +120,12 @@ module _ {m : List ℕ} (j : Joined m) (third : Bool) where
   group-away P step p h out y i py = out (group-linked y (group-below p h y i) .least P py step p (group-sym p y h i))
 
 -- A SOUND BLOCK'S MEMORY
-exactly-sewn : {k a : ℕ} → Kind k a → k % 4 ≡ 1 → k ≡ 1
-exactly-sewn (kind-free e f) h = omega arith
-exactly-sewn (kind-sewn e) h = e
-exactly-sewn (kind-critical e f g) h = omega arith
-
 pub joined : (m : List ℕ) → holds-block m ≡ true → Joined m
 joined m ok = record {
   linked = sited m ok .linked;
   sewn-back = λ p h e.
       let w = image-passed m ok in
-      let t = sewn-says m (getD m 2 0) p (w .thirds p h) (exactly-sewn (w .range .kinds p h) e) in
+      let t = sewn-says m (getD m 2 0) p (w .thirds p h) (kind-one (w .range .kinds p h) e) in
       (omega (arith, t .kind), t .back);
 }
 

@@ -12,10 +12,11 @@ use Rattle.model.specs.Values.{Dart, is-critical-with, room}
 use Rattle.model.specs.Cells.{cycle, faces, start-of, next-in, third-at, volume-in, faces-in, volume-starts}
 use Rattle.model.specs.Image.{count-in, column, third-in, holds-block}
 use borrow.Author.Tests.{eqb-true, eq-eqb, ne-eqb, le-leb, lt-leb}
-use Rattle.laws.proofs.Tests.{by-cases, same-truth, and-intro, and-left, and-right}
+use Rattle.laws.proofs.Tests.{by-cases, same-truth, and-intro, and-left, and-right, and-false, eqb-swap, and-yes}
 use Rattle.laws.proofs.Members.{In, in-here, in-there, getD-in, keep-in, keep-le, keep-cong, keep-twice, keep-map, map-map}
 use Rattle.laws.proofs.Maps.{map-at}
 use Rattle.laws.proofs.Tables.{length-tab, getD-tab}
+use Rattle.laws.proofs.Faces.{start-map}
 use Rattle.columns.specs.Columns.{Kind, kind-free, kind-sewn, kind-critical}
 use Rattle.columns.proofs.Thirds.{third-free, third-sewn, third-critical}
 use Rattle.columns.proofs.Question.{image-passed}
@@ -31,7 +32,7 @@ use Rattle.stats.specs.Tally.{critical-at}
 use Rattle.stats.specs.Groups.{is-first, firsts-below, Grouped}
 use Rattle.stats.specs.Rows.{critical-with, figure, rows-of, row-words, told-rows, cells-told, rows-after}
 use Rattle.stats.specs.Counting.{head-word, Headed, cell-word, critical-word, Countable, Counted, face-starts, Started, FacesCounted, Bordering}
-use Rattle.stats.proofs.CriticalFaces.{order-few, start-map, first-dart}
+use Rattle.stats.proofs.CriticalFaces.{order-few, first-dart}
 use Rattle.stats.proofs.CountLaws.{counted-le}
 use Rattle.stats.proofs.GroupLaws.{cell-mem, firsts-serials, group-count}
 
@@ -73,19 +74,11 @@ none-kept : (t : ℕ → Bool) (l : List ℕ) → ((x : ℕ) → In x l → t x 
 none-kept t [] h = refl
 none-kept t (x ∷ l) h = rw (h x (in-here x l)) (none-kept t l (λ y k. h y (in-there y x l k)))
 
-and-no : (a : Bool) → (a && false) ≡ false
-and-no true = refl
-and-no false = refl
-
-and-yes : (a : Bool) → (a && true) ≡ a
-and-yes true = refl
-and-yes false = refl
-
 -- in a list of places that have their numbers
 module _ (G l : List ℕ) (named : (x : ℕ) → In x l → 0 < getD G x 0) (c : ℕ) where
   pub other-word : (k j : ℕ) → k < 19 → j < 19 → (k ≡ j → ⊥) → length (keep (λ x. eqb (cell-word G k x) (19 * c + j)) l) ≡ 0
   other-word k j a b differ = none-kept (λ x. eqb (cell-word G k x) (19 * c + j)) l
-      (λ x i. hit G x j k c (named x i) a b ∙ rw (ne-eqb k j differ) (and-no (eqb (getD G x 0) (suc c))))
+      (λ x i. hit G x j k c (named x i) a b ∙ rw (ne-eqb k j differ) (and-false (eqb (getD G x 0) (suc c))))
 
   pub own-word : (j : ℕ) → j < 19 → length (keep (λ x. eqb (cell-word G j x) (19 * c + j)) l) ≡ length (keep (λ x. eqb (getD G x 0) (suc c)) l)
   own-word j a = ap length (keep-cong (λ x. eqb (cell-word G j x) (19 * c + j)) (λ x. eqb (getD G x 0) (suc c)) l
@@ -100,9 +93,6 @@ keep-swap p q l = keep-twice p q l ∙ keep-cong (λ x. q x && p x) (λ x. p x &
     swap true false = refl
     swap false true = refl
     swap false false = refl
-
-eqb-swap : (a b : ℕ) → eqb a b ≡ eqb b a
-eqb-swap a b = same-truth (eqb a b) (eqb b a) (λ e. eq-eqb b a (sym (eqb-true a b e))) (λ e. eq-eqb a b (sym (eqb-true b a e)))
 
 map-same : (f : ℕ → ℕ) (l : List ℕ) → ((x : ℕ) → In x l → f x ≡ x) → map f l ≡ l
 map-same f [] h = refl
@@ -278,7 +268,7 @@ module _ (m : List ℕ) (ok : holds-block m ≡ true) where
 
       critical-none : (j : ℕ) → j < 3 → length (keep (λ x. eqb (critical-word m G x) (19 * c + j)) critical-starts) ≡ 0
       critical-none j l = none-kept (λ x. eqb (critical-word m G x) (19 * c + j)) critical-starts
-          (λ x k. critical-hit j x (omega arith) k ∙ rw (ne-eqb (3 + column m 3 x / 4) j (λ e. omega arith)) (and-no (eqb (getD G x 0) (suc c))))
+          (λ x k. critical-hit j x (omega arith) k ∙ rw (ne-eqb (3 + column m 3 x / 4) j (λ e. omega arith)) (and-false (eqb (getD G x 0) (suc c))))
 
       critical-here : (o : ℕ) → o < 16 → length (keep (λ x. eqb (critical-word m G x) (19 * c + (3 + o))) critical-starts) ≡ length (critical-with ds (s p) o)
       critical-here o l =

@@ -239,7 +239,7 @@ count-fits lim m e =
     leb-true (words-for (count-in m)) (length m) (and-left fits _ (and-left (fits && same-list (image (length m) (block-in m)) m) _ e))
 
 -- THE LENGTH OF AN IMAGE
-rows-length : (ss : List ℕ) (es : List Dart) → length (concat (map (dart-words ss) es)) ≡ length es * 8
+pub rows-length : (ss : List ℕ) (es : List Dart) → length (concat (map (dart-words ss) es)) ≡ length es * 8
 unfolding concat dart-words
 rows-length ss [] = refl
 rows-length ss (d ∷ es) = let ih = rows-length ss es in omega arith
@@ -248,7 +248,7 @@ pub image-length : (size : ℕ) (b : Block) → words-for (length (b .darts)) �
 unfolding image
 image-length size b h = simp (length-append, length-replicate, rows-length) (omega arith)
 
-image-count : (size : ℕ) (b : Block) → count-in (image size b) ≡ length (b .darts)
+pub image-count : (size : ℕ) (b : Block) → count-in (image size b) ≡ length (b .darts)
 unfolding image
 image-count size b = refl
 

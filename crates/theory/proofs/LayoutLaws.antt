@@ -4,11 +4,11 @@ use mathlib.Core.Logic.{_≢_}
 use mathlib.Core.Path.{_≡_, refl, sym, _∙_, ap}
 use mathlib.Core.Bool.{Bool, true, false, not, _&&_}
 use mathlib.Core.List.{List, [], _∷_, _++_, append-assoc, append-nil}
-use mathlib.Core.Option.{none, some, Option·none-ne-some, Option·some-injective}
+use mathlib.Core.Option.{none, some, Option·none-ne-some, Option·some-injective, Option}
 use Prim.Native.Nat.{ℕ, zero, suc, _+_, _*_, _-_, _/_, _%_, _^_, _<_, _≤_}
 use native.Mathlib.Bridge.{le-by-compare, IsLe}
 use lib.Dec.{leb, ltb, eqb}
-use lib.ListN.{length}
+use lib.ListN.{length, getD}
 use borrow.Author.Tests.{eqb-true, eqb-false, eq-eqb, ne-eqb, ltb-true, ltb-false, lt-ltb, le-ltb, not-true}
 use native.Mathlib.Omega.{arith}
 use native.Mathlib.Nat.{pow-suc, le-trans}
@@ -17,6 +17,10 @@ use Rattle.laws.proofs.Tests.{by-cases, and-left, and-right, and-intro}
 use Rattle.model.specs.Values.{serial-bound}
 use Rattle.model.specs.Layouts.{Read, then, when, Layout, groups, read-groups, group-below, group, serial, low-bytes, read-bytes, coordinate, _⊗_, _⊕_, as-type, such-that, at-most, exactly, put-all, get-all, times, counted, at-end, ended, whole, framed, of-length, unframed}
 use Rattle.model.specs.Demands.{Bytes}
+
+-- WHAT WAS READ
+pub same-value : {A : Type 0} {a b : A} {s t : List ℕ} → _≡_ {A = Option (A × List ℕ)} (some (a, s)) (some (b, t)) → a ≡ b
+same-value {A} {a} {b} {s} {t} p = ap (λ (r : A × List ℕ). r .0) (Option·some-injective (a, s) (b, t) p)
 
 -- NUMBERS
 pub groups-back : (n v : ℕ) (rest : List ℕ) → v < 128 ^ suc n → read-groups n (groups n v ++ rest) ≡ some (v, rest)
@@ -292,3 +296,24 @@ module _ {A : Type 0} (l : Layout A) (L : Lawful l) where
           let size : r .0 ≡ length (l .put v) = sym (eqb-true (length (r .1)) (r .0) t) ∙ ap length (w .0) in
           (f .0 ∙ ap (λ (n : ℕ). group .put n ++ r .1) size ∙ ap (λ (t : List ℕ). group .put (length (l .put v)) ++ t) (w .0), w .1))
           (λ t. absurd (Option·none-ne-some v (rw t at q)))
+
+-- a slice of bytes
+pub byte-list : (l : List ℕ) → ((i : ℕ) → getD l i 0 < 256) → Bytes l
+byte-list [] h = refl
+byte-list (b ∷ l) h = and-intro (lt-ltb b 256 (h 0)) (byte-list l (λ i. h (suc i)))
+
+-- a list that was read has as many as were to be read
+pub get-all-length : {A : Type 0} (l : Layout A) (n : ℕ) (bs : List ℕ) (xs : List A) (rest : List ℕ) → get-all l n bs ≡ some (xs, rest) → length xs ≡ n
+unfolding get-all
+get-all-length l zero bs xs rest e = sym (ap length (same-value e))
+get-all-length {A} l (suc n) bs xs rest e =
+    let r = then-some (l .get bs) _ _ e in
+    let t = then-some (get-all l n (r .1)) _ _ (r .3) in
+    sym (ap length (same-value (t .3))) ∙ ap suc (get-all-length l n (r .1) (t .0) (t .1) (t .2))
+
+-- too few bytes
+pub bytes-none : (n : ℕ) (bs : List ℕ) → length bs < n → read-bytes n bs ≡ none
+unfolding read-bytes
+bytes-none zero bs h = absurd (omega arith)
+bytes-none (suc n) [] h = refl
+bytes-none (suc n) (b ∷ bs) h = rw (bytes-none n bs (omega arith))

@@ -1,7 +1,8 @@
 use mir.Facts.{fits-lt-pow}
 use Rattle.model.specs.Values.{rack}
+use Rattle.theory.proofs.LayoutLaws.{byte-list}
 use Rattle.listing.proofs.Listed.{of-served, of-refused, served-image}
-use Rattle.listfile.proofs.Texts.{byte-list, printed-as, printed-number, gives-served, gives-refused}
+use Rattle.listfile.proofs.Texts.{printed-as, printed-number, gives-served, gives-refused}
 use native.Mathlib.Omega.{arith}
 use borrow.Author.Needs.{needs}
 use Rattle.listfile.proofs.list_whole.Statement.{statement}

@@ -1,8 +1,8 @@
 -- `readfile::read_file` meets its contract: each answer is that of the first question that is answered no.
 -- Assumes nothing.
 use mathlib.Core.Path.{refl, sym, ap, _∙_}
+use Rattle.theory.proofs.LayoutLaws.{byte-list}
 use Rattle.answers.specs.Answers.{answer-of}
-use Rattle.readfile.proofs.Imaged.{bytes-are}
 use Rattle.readfile.proofs.Answered.{size-refused, layout-refused, image-long, image-fits, image-ranged, block-refused, block-served}
 use borrow.Author.Needs.{needs}
 use Rattle.readfile.proofs.read_file.Statement.{statement}
@@ -35,8 +35,8 @@ block-answer-requires c κs =
     let if1-left = (let p : tie.Else1 = search in p .if1 .left) in
     let read-image-ensures = (let p : tie.After-read-image = search in p .read-image .ensures) in
     let if2-left = (let p : tie.Else2 = search in p .if2 .left) in (
-      image-fits _ (start .args .block .now) if1-left read-image-ensures if2-left (bytes-are (start .args .file .now) (λ i. shared-slice-known-given i .fits)),
-      image-ranged _ (start .args .block .now) if1-left read-image-ensures if2-left (bytes-are (start .args .file .now) (λ i. shared-slice-known-given i .fits)),
+      image-fits _ (start .args .block .now) if1-left read-image-ensures if2-left (byte-list (start .args .file .now) (λ i. shared-slice-known-given i .fits)),
+      image-ranged _ (start .args .block .now) if1-left read-image-ensures if2-left (byte-list (start .args .file .now) (λ i. shared-slice-known-given i .fits)),
     )
 
 enum-told : tie.Need-enum-told
@@ -54,7 +54,7 @@ copy-requires c κs =
     let if1-left = (let p : tie.Else1 = search in p .if1 .left) in
     let read-image-ensures = (let p : tie.After-read-image = search in p .read-image .ensures) in
     let if2-left = (let p : tie.Else2 = search in p .if2 .left) in
-    if1-left ∙ sym (image-long _ block if1-left read-image-ensures if2-left (bytes-are file (λ i. shared-slice-known-given i .fits)))
+    if1-left ∙ sym (image-long _ block if1-left read-image-ensures if2-left (byte-list file (λ i. shared-slice-known-given i .fits)))
 
 enum-known-r : tie.Need-enum-known-r
 enum-known-r c = search needs
@@ -72,7 +72,7 @@ returns-3 c =
     let block-answer-ensures = (let p : tie.After-block-answer = search in p .block-answer .ensures) in
     let enum-told-given = (let p : tie.After-enum-told = search in p .enum-told .given) in
     let copy-ensures = (let p : tie.After-copy = search in p .copy .ensures) in
-    block-served _ _ if1-left read-image-ensures if2-left (bytes-are (start .args .file .now) (λ i. shared-slice-known-given i .fits))
+    block-served _ _ if1-left read-image-ensures if2-left (byte-list (start .args .file .now) (λ i. shared-slice-known-given i .fits))
     (ap answer-of (sym (enum-told-given .1)) ∙ block-answer-ensures) copy-ensures
 
 returns-4 : tie.Need-returns-4
@@ -84,7 +84,7 @@ returns-4 c =
     let if2-left = (let p : tie.Else2 = search in p .if2 .left) in
     let block-answer-ensures = (let p : tie.After-block-answer = search in p .block-answer .ensures) in
     let r-given = (let p : tie.After-r = search in p .r .given) in
-    block-refused _ _ if1-left read-image-ensures if2-left (bytes-are (start .args .file .now) (λ i. shared-slice-known-given i .fits))
+    block-refused _ _ if1-left read-image-ensures if2-left (byte-list (start .args .file .now) (λ i. shared-slice-known-given i .fits))
     (ap answer-of (sym (r-given .1)) ∙ block-answer-ensures)
 
 pub read-file-spec : {M : Type 1} → statement M

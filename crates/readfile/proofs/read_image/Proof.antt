@@ -1,6 +1,7 @@
 -- `readfile::read_image` meets its contract: a block with serials, resolved, is its image.
 -- Assumes nothing.
-use Rattle.readfile.proofs.Imaged.{bytes-are, image-refused, raw-ready, image-served}
+use Rattle.theory.proofs.LayoutLaws.{byte-list}
+use Rattle.readfile.proofs.Imaged.{image-refused, raw-ready, image-served}
 use native.Mathlib.Omega.{arith}
 use borrow.Author.Needs.{needs}
 use Rattle.readfile.proofs.read_image.Statement.{statement}
@@ -23,7 +24,7 @@ resolve-requires c κs =
     let shared-slice-known-given = (let p : tie.After-shared-slice-known = search in p .shared-slice-known .given) in
     let read-raw-ensures = (let p : tie.After-read-raw = search in p .read-raw .ensures) in
     let if1-left = (let p : tie.Else1 = search in p .if1 .left) in
-    let ready = raw-ready read-raw-ensures if1-left (bytes-are (start .args .file .now) (λ i. shared-slice-known-given i .fits)) in
+    let ready = raw-ready read-raw-ensures if1-left (byte-list (start .args .file .now) (λ i. shared-slice-known-given i .fits)) in
     (omega (arith, ready .length-is, ready .few), ready .ascends)
 
 same-length-2 : tie.Need-same-length-2

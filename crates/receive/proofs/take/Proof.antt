@@ -2,8 +2,9 @@
 -- Assumes nothing.
 use mathlib.Core.Path.{refl}
 use mir.Facts.{fits-lt-pow}
+use Rattle.theory.proofs.LayoutLaws.{byte-list}
 use Rattle.cells.proofs.Resets.{zeros-long}
-use Rattle.receive.proofs.Answered.{bytes-in, asked-no, asked-yes, transfer-refused}
+use Rattle.receive.proofs.Answered.{asked-no, asked-yes, transfer-refused}
 use Rattle.fitting.proofs.Outlined.{told-of}
 use Rattle.receive.proofs.Served.{may-join, few-new, served-image}
 use native.Mathlib.Omega.{arith}
@@ -116,7 +117,7 @@ returns-2 c =
       gives =
           λ t e w. served-image (start .pre .0) (start .pre .1)
           (let l = start .pre .2 .serial-size in let f = told-of w .few in omega (arith, l, f)) y t e w
-          (bytes-in message (λ i. fits-lt-pow (shared-slice-known-given i))) join-ensures;
+          (byte-list message (λ i. fits-lt-pow (shared-slice-known-given i))) join-ensures;
     }
 
 pub take-spec : {M : Type 1} → statement M

@@ -3,9 +3,9 @@
 use Prim.Native.Nat.{_-_}
 use mathlib.Core.Path.{refl, sym, _∙_}
 use Rattle.model.specs.Messages.{part2}
+use Rattle.laws.proofs.Labels.{code-in}
 use Rattle.parts.specs.Entries.{code2, index2}
 use Rattle.parts.proofs.Reading.{Reading, reading-start, reading-more, reading-bad, reading-end, no-part2, half-part2, took-part2}
-use Rattle.memory.proofs.Labels.{code-label}
 use native.Mathlib.Omega.{arith}
 use borrow.Author.Needs.{needs}
 use Rattle.parts.proofs.entries.read_part2.Statement.{statement}
@@ -111,7 +111,7 @@ loop-again c =
     let read-group-ensures = (let p : tie.After-read-group Inv-loop μ-loop = search in p .read-group .ensures) in
     let index-given = (let p : tie.After-index Inv-loop μ-loop = search in p .index .given) in
     reading-more part2 code2 index2 loop-inv loop-test-taken (start .pre .1)
-    (took-part2 (sym (code-given .1) ∙ read-label-ensures) (sym (index-given .1) ∙ read-group-ensures)) (sym (code-label _)) refl
+    (took-part2 (sym (code-given .1) ∙ read-label-ensures) (sym (index-given .1) ∙ read-group-ensures)) (sym (code-in _)) refl
 
 same-length-5 : tie.Need-same-length-5 Inv-loop μ-loop
 same-length-5 c =

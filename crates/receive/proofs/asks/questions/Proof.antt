@@ -3,11 +3,12 @@
 use mathlib.Core.Path.{refl}
 use mir.Facts.{fits-lt-pow}
 use borrow.Author.Tests.{not-false}
+use Rattle.theory.proofs.LayoutLaws.{byte-list}
 use Rattle.cells.proofs.Sited.{sited}
 use Rattle.columns.proofs.Question.{image-passed}
 use Rattle.fitting.proofs.Outlined.{told-of}
 use Rattle.arrival.proofs.Eighteen.{finite-told}
-use Rattle.receive.proofs.Answered.{bytes-in, serials-small, sender-small, new-volume, no-17, no-18, no-19, no-20, no-21, yes-all}
+use Rattle.receive.proofs.Answered.{serials-small, sender-small, new-volume, no-17, no-18, no-19, no-20, no-21, yes-all}
 use native.Mathlib.Omega.{arith}
 use borrow.Author.Needs.{needs}
 use Rattle.receive.proofs.asks.questions.Statement.{statement}
@@ -50,7 +51,7 @@ new-serials-requires c κs =
         (told-of (start .pre .0 .2 .2)) .some-darts,
         (told-of (start .pre .0 .2 .2)) .few,
         (told-of (start .pre .0 .2 .2)) .points-fit,
-        (serials-small (bytes-in message (λ i. fits-lt-pow (shared-slice-known2-given i))) (start .pre .0 .2 .1)
+        (serials-small (byte-list message (λ i. fits-lt-pow (shared-slice-known2-given i))) (start .pre .0 .2 .1)
             (start .pre .0 .2 .2)),
       ),
     )
@@ -158,7 +159,7 @@ parts-right-requires c κs =
         new-serials-ensures .2,
         start .pre .1 .4,
         start .pre .1 .5,
-        sender-small (bytes-in message (λ i. fits-lt-pow (shared-slice-known2-given i))) (start .pre .0 .2 .1)
+        sender-small (byte-list message (λ i. fits-lt-pow (shared-slice-known2-given i))) (start .pre .0 .2 .1)
             (start .pre .0 .2 .2),
       ),
       (
