@@ -21,7 +21,7 @@ use Rattle.laws.proofs.Lists.{concat-snoc}
 use Rattle.memory.specs.Record.{record-in, put}
 use Rattle.memory.specs.declared.record.Record.{Record}
 use Rattle.memory.proofs.Records.{length-put}
-use Rattle.removal.specs.LetGo.{moved-link, moved-words}
+use Rattle.release.specs.LetGo.{moved-link, moved-words}
 use Rattle.release.specs.Asks.{Tabled, Bounded}
 use Rattle.release.proofs.Removing.{length-moved, same-words}
 use Rattle.join.specs.Weave.{below, up, Between, last-old, behind, weave, moved-record, rows, woven-at, Weaves}

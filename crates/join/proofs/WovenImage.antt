@@ -23,8 +23,8 @@ use Rattle.columns.proofs.Thirds.{kind-back}
 use Rattle.columns.proofs.Question.{image-passed}
 use Rattle.cells.specs.Places.{Linked}
 use Rattle.cells.proofs.Sited.{sited}
-use Rattle.removal.specs.LetGo.{moved-words}
-use Rattle.removal.proofs.ReleasedImage.{link-moved}
+use Rattle.release.specs.LetGo.{moved-words}
+use Rattle.release.proofs.ReleasedImage.{link-moved}
 use Rattle.join.specs.Weave.{up, Between, weave, rows, woven-at}
 use Rattle.join.specs.Woven.{Drafted}
 use Rattle.join.proofs.Positions.{Rows, woven-rows, keys, woven-keys, index-old, index-new, map-weave, keep-weave}

@@ -10,7 +10,7 @@ use Rattle.model.specs.Image.{words-for, column}
 use Rattle.model.specs.Values.{room}
 use Rattle.laws.specs.Order.{Ascending}
 use Rattle.memory.specs.declared.record.Record.{Record}
-use Rattle.removal.specs.LetGo.{moved-link, moved-words}
+use Rattle.release.specs.LetGo.{moved-link, moved-words}
 use Rattle.release.specs.Asks.{Bounded}
 
 -- WHERE EACH GOES

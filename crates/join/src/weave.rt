@@ -7,7 +7,7 @@ ghost use Rattle.model.specs.Lists.{concat};
 ghost use Rattle.model.specs.Image.{words-for, column};
 ghost use Rattle.model.specs.Values.{room};
 ghost use Rattle.memory.specs.Record.{put};
-ghost use Rattle.removal.specs.LetGo.{moved-link};
+ghost use Rattle.release.specs.LetGo.{moved-link};
 ghost use Rattle.release.specs.Asks.{Tabled};
 ghost use Rattle.join.specs.Weave.{up, last-old, moved-record, rows, woven-at, Weaves};
 use memory::header::Header;

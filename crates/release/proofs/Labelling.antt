@@ -25,8 +25,8 @@ use Rattle.cells.proofs.Paths.{Round, round, Going, going-start, going-next, go
 use Rattle.cells.proofs.FaceLaws.{marked-in}
 use Rattle.cells.proofs.StartLaws.{cycle-start, in-order-few, start-place}
 use Rattle.departure.specs.Asked.{faces-at}
-use Rattle.removal.specs.LetGo.{with-link, with-links, sewn-at, left-behind}
-use Rattle.removal.proofs.PutLinks.{links-append}
+use Rattle.release.specs.LetGo.{with-link, with-links, sewn-at, left-behind}
+use Rattle.release.proofs.PutLinks.{links-append}
 use Rattle.release.specs.Asks.{Sewing, Same}
 
 -- ONE LABEL: two stores are a link

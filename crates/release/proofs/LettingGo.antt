@@ -19,10 +19,10 @@ use Rattle.cells.proofs.FaceSerials.{closed-next}
 use Rattle.cells.proofs.Sited.{Sited, sited}
 use Rattle.departure.specs.Asked.{Departs}
 use Rattle.departure.specs.declared.Counts.{Counts}
-use Rattle.removal.specs.LetGo.{with-links, sewn-at, left-behind, without, released-at}
-use Rattle.removal.proofs.PutLinks.{length-links, header-stays, column-stays}
-use Rattle.removal.proofs.CutFaces.{sewn, away}
-use Rattle.removal.proofs.ReleasedImage.{none-within, sewn-after, rest-after, released-image}
+use Rattle.release.specs.LetGo.{with-links, sewn-at, left-behind, without, released-at}
+use Rattle.release.proofs.PutLinks.{length-links, header-stays, column-stays}
+use Rattle.release.proofs.CutFaces.{sewn, away}
+use Rattle.release.proofs.ReleasedImage.{none-within, sewn-after, rest-after, released-image}
 use Rattle.release.specs.Asks.{Sewing, Bounded}
 
 module _ (m : List ℕ) (ok : holds-block m ≡ true) (j d : ℕ) {most : ℕ} {c : Counts} {marks out starts numbers firsts : List ℕ} (w : Departs most m j d c marks out starts numbers firsts) where

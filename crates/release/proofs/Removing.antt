@@ -15,9 +15,9 @@ use Rattle.laws.proofs.Lists.{concat-snoc}
 use Rattle.memory.specs.Record.{record-in, put}
 use Rattle.memory.specs.declared.record.Record.{Record}
 use Rattle.memory.proofs.Records.{length-put}
-use Rattle.removal.specs.LetGo.{unmarked, rank, moved-link, moved-words, records, without}
-use Rattle.removal.proofs.Ranks.{unmarked-one, unmarked-none, rank-one, rank-none, rank-le}
-use Rattle.removal.proofs.ReleasedImage.{link-sewn, link-other}
+use Rattle.release.specs.LetGo.{unmarked, rank, moved-link, moved-words, records, without}
+use Rattle.release.proofs.Ranks.{unmarked-one, unmarked-none, rank-one, rank-none, rank-le}
+use Rattle.release.proofs.ReleasedImage.{link-sewn, link-other}
 use Rattle.release.specs.Asks.{Tabled, Entered, Bounded, Moved}
 
 -- WHERE EACH PLACE GOES: of the places below p, `kept` are not marked

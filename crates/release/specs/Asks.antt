@@ -8,7 +8,7 @@ use Rattle.model.specs.Values.{room}
 use Rattle.cells.specs.Places.{Within, Apart, Closed}
 use Rattle.departure.specs.Asked.{Departs}
 use Rattle.departure.specs.declared.Counts.{Counts}
-use Rattle.removal.specs.LetGo.{rank, records}
+use Rattle.release.specs.LetGo.{rank, records}
 
 -- the marked volume may go to block j, whichever of its darts was asked for
 pub record MayGo (m : List ℕ) (j : ℕ) (c : Counts) (marks order starts : List ℕ) : Type 0 where

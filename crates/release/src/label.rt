@@ -8,7 +8,7 @@ ghost use Rattle.model.specs.Image.{words-for, column};
 ghost use Rattle.model.specs.Links.{label-links};
 ghost use Rattle.cells.specs.Places.{InOrder};
 ghost use Rattle.departure.specs.Asked.{faces-at};
-ghost use Rattle.removal.specs.LetGo.{with-link, with-links, sewn-at, left-behind};
+ghost use Rattle.release.specs.LetGo.{with-link, with-links, sewn-at, left-behind};
 ghost use Rattle.release.specs.Asks.{Sewing, Same};
 use memory::kind;
 use memory::record;

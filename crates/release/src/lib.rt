@@ -9,7 +9,7 @@ ghost use Rattle.model.specs.Calls as calls;
 ghost use Rattle.answers.specs.Answers.{answer-of, Gives};
 ghost use Rattle.memory.specs.Header.{limits-of};
 ghost use Rattle.cells.specs.Places.{Clear};
-ghost use Rattle.removal.specs.LetGo.{released-at};
+ghost use Rattle.release.specs.LetGo.{released-at};
 ghost use Rattle.release.specs.Asks.{MayGo};
 
 mod label; // label.rt: the labels of the faces left behind

@@ -6,7 +6,7 @@ ghost use lib.ListN.{length, getD, take, drop, replicate};
 ghost use Rattle.model.specs.Image.{words-for, count-in, column};
 ghost use Rattle.model.specs.Values.{room};
 ghost use Rattle.memory.specs.Record.{put};
-ghost use Rattle.removal.specs.LetGo.{rank, moved-link, moved-words, without};
+ghost use Rattle.release.specs.LetGo.{rank, moved-link, moved-words, without};
 ghost use Rattle.release.specs.Asks.{Tabled, Entered, Bounded, Moved};
 use memory::header;
 use memory::header::Header;

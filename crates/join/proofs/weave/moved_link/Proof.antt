@@ -1,7 +1,7 @@
 -- `join::weave::moved_link` meets its contract: only a sewn dart's link is a place. Assumes nothing.
 use mathlib.Core.Path.{_∙_}
 use lib.ListN.{getD}
-use Rattle.removal.proofs.ReleasedImage.{link-sewn, link-other}
+use Rattle.release.proofs.ReleasedImage.{link-sewn, link-other}
 use native.Mathlib.Omega.{arith}
 use Rattle.join.proofs.weave.moved_link.Statement.{statement}
 use Rattle.join.proofs.weave.moved_link.Tie as tie

@@ -4,7 +4,7 @@ use Prim.Native.Nat.{_+_, _*_, _-_, _≤_}
 use mathlib.Core.Path.{_∙_}
 use mathlib.Core.Logic.{⊎-elim}
 use lib.ListN.{length}
-use Rattle.removal.specs.LetGo.{rank, moved-words}
+use Rattle.release.specs.LetGo.{rank, moved-words}
 use Rattle.release.specs.Asks.{Moved}
 use Rattle.release.proofs.Removing.{length-moved, moved-start, count-le, moved-none, moved-one, moved-end, links-fit, one-move}
 use native.Mathlib.Omega.{arith}

@@ -1,7 +1,7 @@
 -- `release::remove::moved_link` meets its contract: only a sewn dart's link is a place. Assumes nothing.
 use mathlib.Core.Path.{_∙_}
 use lib.ListN.{getD}
-use Rattle.removal.proofs.ReleasedImage.{link-sewn, link-other}
+use Rattle.release.proofs.ReleasedImage.{link-sewn, link-other}
 use Rattle.release.proofs.remove.moved_link.Statement.{statement}
 use Rattle.release.proofs.remove.moved_link.Tie as tie
 

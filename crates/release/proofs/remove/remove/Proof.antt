@@ -1,7 +1,7 @@
 -- `release::remove::remove` meets its contract: ranks, records moved, the rest cleared, the header stored. Assumes nothing.
 use lib.ListN.{getD}
 use Rattle.release.proofs.Removing.{all-removed}
-use Rattle.removal.proofs.Ranks.{rank-le}
+use Rattle.release.proofs.Ranks.{rank-le}
 use native.Mathlib.Omega.{arith}
 use borrow.Author.Needs.{needs}
 use Rattle.release.proofs.remove.remove.Statement.{statement}

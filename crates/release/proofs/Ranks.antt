@@ -16,7 +16,7 @@ use Rattle.laws.proofs.Members.{In, keep-in, keep-le}
 use Rattle.laws.proofs.Tables.{length-tab, tail-ascends}
 use Rattle.cells.proofs.Reached.{places, places-below}
 use Rattle.cells.proofs.FaceLaws.{keep-append}
-use Rattle.removal.specs.LetGo.{unmarked, rank}
+use Rattle.release.specs.LetGo.{unmarked, rank}
 
 -- WHICH THEY ARE
 pub unmarked-in : (n : ℕ) (marks : List ℕ) (p : ℕ) → In p (unmarked n marks) → (p < n) × (getD marks p 0 ≡ 1 → ⊥)

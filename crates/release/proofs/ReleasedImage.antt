@@ -33,11 +33,11 @@ use Rattle.cells.proofs.StartLaws.{sewn-faces-serials}
 use Rattle.cells.proofs.Sited.{Sited, darts-in, sited}
 use Rattle.departure.specs.Asked.{Departs}
 use Rattle.departure.specs.declared.Counts.{Counts}
-use Rattle.removal.specs.LetGo.{with-links, sewn-at, left-behind, unmarked, rank, moved-link, moved-words, records, without, released-at}
-use Rattle.removal.proofs.PutLinks.{length-links, others-stay, header-stays, column-stays, unnamed-stays, named}
-use Rattle.removal.proofs.NewLinks.{renamed, Critical, darts-are, faces-critical, faces-renamed, find-renamed, find-unnamed}
-use Rattle.removal.proofs.Ranks.{unmarked-in, index-rank}
-use Rattle.removal.proofs.CutFaces.{sewn, next-stays, opposite-stays, cut-is, in-cut, left-distinct}
+use Rattle.release.specs.LetGo.{with-links, sewn-at, left-behind, unmarked, rank, moved-link, moved-words, records, without, released-at}
+use Rattle.release.proofs.PutLinks.{length-links, others-stay, header-stays, column-stays, unnamed-stays, named}
+use Rattle.release.proofs.NewLinks.{renamed, Critical, darts-are, faces-critical, faces-renamed, find-renamed, find-unnamed}
+use Rattle.release.proofs.Ranks.{unmarked-in, index-rank}
+use Rattle.release.proofs.CutFaces.{sewn, next-stays, opposite-stays, cut-is, in-cut, left-distinct}
 
 -- LINK WORDS with places moved
 pub link-sewn : (t : ℕ → ℕ) (k a : ℕ) → k ≡ 1 → t a ≡ moved-link t k a

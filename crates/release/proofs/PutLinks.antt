@@ -15,7 +15,7 @@ use Rattle.model.specs.Links.{Link}
 use Rattle.laws.proofs.Tests.{by-cases, and-left, and-right}
 use Rattle.laws.proofs.Members.{Each}
 use Rattle.memory.proofs.Records.{set-here, set-there}
-use Rattle.removal.specs.LetGo.{with-link, with-links}
+use Rattle.release.specs.LetGo.{with-link, with-links}
 
 pub links-append : (m : List ℕ) (ks js : List Link) → with-links m (ks ++ js) ≡ with-links (with-links m ks) js
 unfolding with-links

@@ -27,7 +27,7 @@ use Rattle.cells.proofs.StartLaws.{cycle-start}
 use Rattle.cells.proofs.FaceLaws.{marked-in, in-marked}
 use Rattle.cells.proofs.FaceSerials.{closed-next, closed-opposite}
 use Rattle.cells.proofs.Sited.{Sited}
-use Rattle.removal.specs.LetGo.{sewn-at}
+use Rattle.release.specs.LetGo.{sewn-at}
 
 module _ {m : List ℕ} (site : Sited m) (pass : Passed m) (p : ℕ) (h : p < count-in m) {marks : List ℕ} (mk : Marked (volume-of m p) marks) where
   abbrev n : ℕ

@@ -1,5 +1,0 @@
-pub mod PutLinks
-pub mod NewLinks
-pub mod Ranks
-pub mod CutFaces
-pub mod ReleasedImage
