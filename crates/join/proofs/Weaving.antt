@@ -21,7 +21,8 @@ use Rattle.laws.proofs.Lists.{concat-snoc}
 use Rattle.memory.specs.Record.{record-in, put}
 use Rattle.memory.specs.declared.record.Record.{Record}
 use Rattle.memory.proofs.Records.{length-put}
-use Rattle.release.specs.LetGo.{moved-link, moved-words}
+use Rattle.place.specs.Renumber.{LinksBelow}
+use Rattle.release.specs.LetGo.{moved-words}
 use Rattle.release.specs.Asks.{Tabled, Bounded}
 use Rattle.release.proofs.Removing.{length-moved, same-words}
 use Rattle.join.specs.Weave.{below, up, Between, last-old, behind, weave, moved-record, rows, woven-at, Weaves}
@@ -86,14 +87,14 @@ module _ {s : ℕ → ℕ} {n : ℕ} {f : ℕ → ℕ} {k : ℕ} (w : Between s 
 pub record Placing (s : ℕ → ℕ) (n : ℕ) (f : ℕ → ℕ) (k : ℕ) (old new : List ℕ) (i j : ℕ) : Type 0 where
   pub i-le : i ≤ n
   pub j-le : j ≤ k
-  pub old-size : length old ≡ room
-  pub new-size : length new ≡ room
+  pub old-size : n ≤ length old
+  pub new-size : k ≤ length new
   pub low : (x y : ℕ) → x < i → j ≤ y → y < k → s x < f y
   pub high : (x y : ℕ) → i ≤ x → x < n → y < j → f y < s x
   pub olds : (x : ℕ) → i ≤ x → x < n → getD old x 0 ≡ up s f k x
   pub news : (y : ℕ) → j ≤ y → y < k → getD new y 0 ≡ up f s n y
 
-pub placing-start : {s : ℕ → ℕ} {n : ℕ} {f : ℕ → ℕ} {k : ℕ} {old new : List ℕ} → length old ≡ room → length new ≡ room → Placing s n f k old new n k
+pub placing-start : {s : ℕ → ℕ} {n : ℕ} {f : ℕ → ℕ} {k : ℕ} {old new : List ℕ} → n ≤ length old → k ≤ length new → Placing s n f k old new n k
 placing-start a b =
     record {
       i-le = omega arith;
@@ -148,8 +149,8 @@ module _ {s : ℕ → ℕ} {n : ℕ} {f : ℕ → ℕ} {k : ℕ} (w : Between s 
       }
 
 pub placing-end : {s : ℕ → ℕ} {n : ℕ} {f : ℕ → ℕ} {k : ℕ} {old new : List ℕ} {i j : ℕ} → Placing s n f k old new i j → i + j ≤ 0
-    → Tabled (up s f k) n old × (length old ≡ room) × Tabled (up f s n) k new × (length new ≡ room)
-placing-end v h = (λ x l. v .olds x (omega arith) l, v .old-size, λ y l. v .news y (omega arith) l, v .new-size)
+    → Tabled (up s f k) n old × Tabled (up f s n) k new
+placing-end v h = (λ x l. v .olds x (omega arith) l, λ y l. v .news y (omega arith) l)
 
 -- ONE RECORD MORE in a weave
 module _ {A : Type 0} (s f : ℕ → ℕ) (g h : ℕ → A) where
@@ -197,27 +198,17 @@ unfolding last-old
 front-last x m f i j e = ⊎-elim (λ z. rw (eq-eqb i 0 z) refl) (λ z. rw (front-column x m i (i - 1) 0 e (omega (arith, positive i z)) (omega arith)) refl) (eq-or-ne i 0)
 
 -- the record that the code stores
-record-words : (t : ℕ → ℕ) (x : List ℕ) (p : ℕ) {r : Record} → r ≡ record-in x p → moved-record t r ≡ moved-words t x p
+moved-read : (t : ℕ → ℕ) (x : List ℕ) (p : ℕ) {r : Record} → r ≡ record-in x p → moved-record t r ≡ moved-words t x p
 unfolding moved-words
-record-words t x p e = rw e
-
--- as it stores it
-pub stored-moved : (m : List ℕ) (at : ℕ) (r : Record) (table : List ℕ) {a o l : ℕ} {y : List ℕ} → a ≡ getD table (r .next) 0
-    → o ≡ getD table (r .opposite) 0 → l ≡ moved-link (λ p. getD table p 0) (r .kind) (r .link)
-    → y ≡ put m at (r .serial ∷ a ∷ o ∷ r .kind ∷ l ∷ r .x ∷ r .y ∷ r .z ∷ []) → y ≡ put m at (moved-record (λ p. getD table p 0) r)
-stored-moved m at r table e f g q = q ∙ rw (e, f, g)
+moved-read t x p e = rw e
 
 pub by-table : (m table : List ℕ) (t : ℕ → ℕ) (n p : ℕ) → Bounded m n → Tabled t n table → p < n → moved-words (λ q. getD table q 0) m p ≡ moved-words t m p
 by-table m table t n p b a l = same-words (λ q. getD table q 0) t m p (a _ (b .next-lt p l)) (a _ (b .opposite-lt p l)) (λ e. a _ (b .sewn-lt p l e))
 
--- what it may ask of a record before it stores it
-pub record Fits (r : Record) : Type 0 where
-  pub next : r .next < room
-  pub opposite : r .opposite < room
-  pub link : r .kind ≡ 1 → r .link < room
-
-record-fits : (m : List ℕ) (n p : ℕ) {r : Record} → Bounded m n → p < n → r ≡ record-in m p → Fits r
-record-fits m n p b l e = rw e (record { next = omega (arith, b .next-lt p l, b .few); opposite = omega (arith, b .opposite-lt p l, b .few); link = λ q. omega (arith, b .sewn-lt p l q, b .few) })
+-- what it asks of a record before it stores it
+record-fits : (m : List ℕ) (n p size : ℕ) {r : Record} → Bounded m n → p < n → n ≤ size → r ≡ record-in m p → LinksBelow size r
+record-fits m n p size b l h e =
+    rw e (record { next-lt = omega (arith, b .next-lt p l, h); opposite-lt = omega (arith, b .opposite-lt p l, h); sewn-lt = λ q. omega (arith, b .sewn-lt p l q, h) })
 
 -- one turn
 module _ {m c : List ℕ} {n k : ℕ} (a : Weaves m c n k) {x : List ℕ} {i j : ℕ} (w : Weaving m c n k x i j) (more : 0 < i + j) {b : Bool} (told : b ≡ last-old (column x 0) (column c 0) i j) where
@@ -259,14 +250,14 @@ module _ {m c : List ℕ} {n k : ℕ} (a : Weaves m c n k) {x : List ℕ} {i j :
     old-lt : i - 1 < n
     old-lt = omega (arith, old-left e, w .i-le)
 
-    pub old-fits : Fits r
-    old-fits =
+    pub old-fits : (size : ℕ) → n ≤ size → LinksBelow size r
+    old-fits size h =
         let l : i - 1 < i = omega (arith, old-left e) in
-        let at : (f : ℕ) → f < 8 → column x f (i - 1) ≡ column m f (i - 1) = λ f h. front-column x m i (i - 1) f (w .front) l h in
+        let at : (f : ℕ) → f < 8 → column x f (i - 1) ≡ column m f (i - 1) = λ f g. front-column x m i (i - 1) f (w .front) l g in
         rw read (record {
-          next = omega (arith, at 1 (omega arith), a .block .next-lt (i - 1) old-lt, a .block .few);
-          opposite = omega (arith, at 2 (omega arith), a .block .opposite-lt (i - 1) old-lt, a .block .few);
-          link = λ q. omega (arith, at 4 (omega arith), a .block .sewn-lt (i - 1) old-lt (sym (at 3 (omega arith)) ∙ q), a .block .few);
+          next-lt = omega (arith, at 1 (omega arith), a .block .next-lt (i - 1) old-lt, h);
+          opposite-lt = omega (arith, at 2 (omega arith), a .block .opposite-lt (i - 1) old-lt, h);
+          sewn-lt = λ q. omega (arith, at 4 (omega arith), a .block .sewn-lt (i - 1) old-lt (sym (at 3 (omega arith)) ∙ q), h);
         })
 
     pub old-turn : (old : List ℕ) → Tabled (up (column m 0) (column c 0) k) n old → {y : List ℕ} → y ≡ put x (i + j - 1) (moved-record (λ p. getD old p 0) r) → Weaving m c n k y (i - 1) j
@@ -274,7 +265,7 @@ module _ {m c : List ℕ} {n k : ℕ} (a : Weaves m c n k) {x : List ℕ} {i j :
         let last = last-yes (a .keys) (w .i-le) (w .j-le) more (sym is-last ∙ e) in
         let u : ℕ → ℕ = up (column m 0) (column c 0) k in
         let is : moved-record (λ p. getD old p 0) r ≡ moved-words u m (i - 1) =
-        record-words (λ p. getD old p 0) x (i - 1) read
+        moved-read (λ p. getD old p 0) x (i - 1) read
         ∙ front-words (λ p. getD old p 0) x m i (i - 1) (w .front) (omega (arith, last .0))
         ∙ by-table m old u n (i - 1) (a .block) t old-lt
         in
@@ -287,14 +278,14 @@ module _ {m c : List ℕ} {n k : ℕ} (a : Weaves m c n k) {x : List ℕ} {i j :
     new-lt : j - 1 < k
     new-lt = omega (arith, new-left e, w .j-le)
 
-    pub new-fits : Fits r
-    new-fits = record-fits c k (j - 1) (a .draft) new-lt read
+    pub new-fits : (size : ℕ) → k ≤ size → LinksBelow size r
+    new-fits size h = record-fits c k (j - 1) size (a .draft) new-lt h read
 
     pub new-turn : (new : List ℕ) → Tabled (up (column c 0) (column m 0) n) k new → {y : List ℕ} → y ≡ put x (i + j - 1) (moved-record (λ p. getD new p 0) r) → Weaving m c n k y i (j - 1)
     new-turn new t q =
         let last = last-no (a .keys) (w .i-le) (w .j-le) (sym is-last ∙ e) in
         let u : ℕ → ℕ = up (column c 0) (column m 0) n in
-        let is : moved-record (λ p. getD new p 0) r ≡ moved-words u c (j - 1) = record-words (λ p. getD new p 0) c (j - 1) read ∙ by-table c new u k (j - 1) (a .draft) t new-lt in
+        let is : moved-record (λ p. getD new p 0) r ≡ moved-words u c (j - 1) = moved-read (λ p. getD new p 0) c (j - 1) read ∙ by-table c new u k (j - 1) (a .draft) t new-lt in
         let z : j ≡ suc (j - 1) = omega (arith, last .0) in
         rw (q ∙ ap (put x (i + j - 1)) is) (step (moved-words u c (j - 1)) i (j - 1)
         (ap (λ (y : ℕ). rows m n c k i y) z ∙ weave-new (column m 0) (column c 0) (moved-words (up (column m 0) (column c 0) k) m) (moved-words u c) i (j - 1) (last .1))

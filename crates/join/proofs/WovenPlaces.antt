@@ -24,7 +24,7 @@ use Rattle.columns.proofs.Thirds.{third-free, third-sewn, third-critical, kind-
 use Rattle.cells.specs.Places.{Within, Apart, Linked}
 use Rattle.cells.proofs.Sited.{Sited, darts-in}
 use Rattle.release.specs.LetGo.{moved-words}
-use Rattle.release.proofs.ReleasedImage.{link-sewn, link-other}
+use Rattle.place.proofs.Renumbering.{link-sewn, link-other}
 use Rattle.release.specs.Asks.{Tabled}
 use Rattle.join.specs.Weave.{up, woven-at}
 use Rattle.join.proofs.Weaving.{by-table}

@@ -10,7 +10,9 @@ use Rattle.model.specs.Image.{words-for, column}
 use Rattle.model.specs.Values.{room}
 use Rattle.laws.specs.Order.{Ascending}
 use Rattle.memory.specs.declared.record.Record.{Record}
-use Rattle.release.specs.LetGo.{moved-link, moved-words}
+use Rattle.memory.specs.Record.{record-words}
+use Rattle.place.specs.Renumber.{renumbered}
+use Rattle.release.specs.LetGo.{moved-words}
 use Rattle.release.specs.Asks.{Bounded}
 
 -- WHERE EACH GOES
@@ -47,7 +49,7 @@ module _ {A : Type 0} (s f : ℕ → ℕ) (g h : ℕ → A) where
 
 -- the words of a record with places moved by t
 abbrev pub moved-record : (ℕ → ℕ) → Record → List ℕ
-moved-record t r = r .serial ∷ t (r .next) ∷ t (r .opposite) ∷ r .kind ∷ moved-link t (r .kind) (r .link) ∷ r .x ∷ r .y ∷ r .z ∷ []
+moved-record t r = record-words (renumbered t r)
 
 -- of n darts of m and k darts of c, the records of the first i and the first j, each with its links as they are afterwards
 abbrev pub rows : List ℕ → ℕ → List ℕ → ℕ → ℕ → ℕ → List (List ℕ)

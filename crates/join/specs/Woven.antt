@@ -8,7 +8,7 @@ use Rattle.model.specs.Image.{column, dart-in}
 use Rattle.laws.specs.Order.{Ascending}
 use Rattle.columns.specs.Columns.{Kind}
 use Rattle.cells.specs.Places.{Linked}
-use Rattle.release.specs.LetGo.{moved-link}
+use Rattle.place.specs.Renumber.{moved-link}
 use Rattle.join.specs.Weave.{Weaves}
 
 -- memory of n darts with zeros behind them, and a draft of k free darts

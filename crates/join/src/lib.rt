@@ -5,7 +5,6 @@ pub mod sewing; // sewing.rt: words 3 and 4 of the new darts, and of those they 
 ghost use mathlib.Core.Path.{_≡_};
 ghost use Prim.Native.Nat.{_≤_};
 ghost use lib.ListN.{length, getD};
-ghost use Rattle.model.specs.Values.{room};
 ghost use Rattle.join.specs.Join.{MayJoin, Joins};
 
 // `old` and `new` are lent for the places of the darts of both.
@@ -18,7 +17,7 @@ pub fn join(
     old: &mut [usize],
     new: &mut [usize],
 )
-    requires { ⌜ (length (now old) ≡ room) × (length (now new) ≡ room) ⌝ }
+    requires { ⌜ (getD (now block) 2 0 ≤ length (now old)) × (getD (now draft) 2 0 ≤ length (now new)) ⌝ }
     requires { ⌜ (length (now kinds) ≡ 512) × (length (now links) ≡ 512) × (length (now ranks) ≡ 512) × MayJoin (now block) (now draft) (getD (now block) 2 0) (getD (now draft) 2 0) (now kinds) (now links) (now ranks) × (getD (now draft) 2 0 ≤ 512) ⌝ }
     ensures { λ _. ⌜ Joins (now (block .entry)) (now (draft .entry)) (getD (now (block .entry)) 2 0) (getD (now (draft .entry)) 2 0) (now (kinds .entry)) (now (links .entry)) (now (ranks .entry)) (now (block .exit)) ⌝ }
 {

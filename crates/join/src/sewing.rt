@@ -3,7 +3,6 @@ ghost use mathlib.Core.Path.{_≡_};
 ghost use Prim.Native.Nat.{_+_, _≤_, _<_};
 ghost use lib.ListN.{length, getD};
 ghost use Rattle.model.specs.Image.{words-for};
-ghost use Rattle.model.specs.Values.{room};
 ghost use Rattle.join.specs.Thirds.{with-third, sewn-at, Sewable, Sewn};
 use memory::record;
 use memory::record::MessageIndex;
@@ -20,7 +19,7 @@ fn put_third(block: &mut [u64], p: Place, kind: u64, link: u64)
 
 // A new dart at place p, and the dart that it is sewn to.
 fn sew_at(block: &mut [u64], kind: u64, link: u64, old: &[usize], p: Place)
-    requires { ⌜ (words-for (p .0 + 1) ≤ length (now block)) × (length (now old) ≡ room) × (kind ≡ 1 → link < room) × (kind ≡ 1 → words-for (getD (now old) link 0 + 1) ≤ length (now block)) ⌝ }
+    requires { ⌜ (words-for (p .0 + 1) ≤ length (now block)) × (kind ≡ 1 → link < length (now old)) × (kind ≡ 1 → words-for (getD (now old) link 0 + 1) ≤ length (now block)) ⌝ }
     ensures { λ _. ⌜ now (block .exit) ≡ sewn-at (now (block .entry)) kind link (now (old .entry)) (p .0) ⌝ }
 {
     if kind == 0 {
@@ -46,7 +45,7 @@ pub fn sew(
     old: &[usize],
     new: &[usize],
 )
-    requires { ⌜ (words-for (n + k) ≤ length (now block)) × (length (now kinds) ≡ 512) × (length (now links) ≡ 512) × (length (now ranks) ≡ 512) × (length (now old) ≡ room) × (length (now new) ≡ room) × Sewable n k (now kinds) (now links) (now ranks) (now old) (now new) ⌝ }
+    requires { ⌜ (words-for (n + k) ≤ length (now block)) × (length (now kinds) ≡ 512) × (length (now links) ≡ 512) × (length (now ranks) ≡ 512) × (n ≤ length (now old)) × (k ≤ length (now new)) × Sewable n k (now kinds) (now links) (now ranks) (now old) (now new) ⌝ }
     ensures { λ _. ⌜ Sewn (now (block .entry)) (now (kinds .entry)) (now (links .entry)) (now (ranks .entry)) (now (old .entry)) (now (new .entry)) k (now (block .exit)) ⌝ }
 {
     // Those before i are.

@@ -5,9 +5,8 @@ ghost use Prim.Native.Nat.{_+_, _*_, _≤_, _<_};
 ghost use lib.ListN.{length, getD, take, drop};
 ghost use Rattle.model.specs.Lists.{concat};
 ghost use Rattle.model.specs.Image.{words-for, column};
-ghost use Rattle.model.specs.Values.{room};
 ghost use Rattle.memory.specs.Record.{put};
-ghost use Rattle.release.specs.LetGo.{moved-link};
+ghost use Rattle.place.specs.Renumber.{LinksBelow};
 ghost use Rattle.release.specs.Asks.{Tabled};
 ghost use Rattle.join.specs.Weave.{up, last-old, moved-record, rows, woven-at, Weaves};
 use memory::header::Header;
@@ -32,8 +31,8 @@ fn last_is_old(block: &[u64], draft: &[u64], i: usize, j: usize) -> bool
 
 // Where the darts of both go.
 fn tables(block: &[u64], n: usize, draft: &[u64], k: usize, old: &mut [usize], new: &mut [usize])
-    requires { ⌜ Weaves (now block) (now draft) n k × (length (now old) ≡ room) × (length (now new) ≡ room) ⌝ }
-    ensures { λ _. ⌜ Tabled (up (column (now (block .entry)) 0) (column (now (draft .entry)) 0) k) n (now (old .exit)) × (length (now (old .exit)) ≡ room) × Tabled (up (column (now (draft .entry)) 0) (column (now (block .entry)) 0) n) k (now (new .exit)) × (length (now (new .exit)) ≡ room) ⌝ }
+    requires { ⌜ Weaves (now block) (now draft) n k × (n ≤ length (now old)) × (k ≤ length (now new)) ⌝ }
+    ensures { λ _. ⌜ Tabled (up (column (now (block .entry)) 0) (column (now (draft .entry)) 0) k) n (now (old .exit)) × Tabled (up (column (now (draft .entry)) 0) (column (now (block .entry)) 0) n) k (now (new .exit)) ⌝ }
 {
     // The darts from place i of the block and place j of the draft on have their new places.
     let mut i = n;
@@ -52,42 +51,17 @@ fn tables(block: &[u64], n: usize, draft: &[u64], k: usize, old: &mut [usize], n
     }
 }
 
-// The link word: where the place of a sewn dart goes.
-fn moved_link(table: &[usize], kind: u64, link: u64) -> u64
-    requires { ⌜ (length (now table) ≡ room) × (kind ≡ 1 → link < room) ⌝ }
-    ensures { λ r. ⌜ r ≡ moved-link (λ p. getD (now (table .entry)) p 0) kind link ⌝ }
-{
-    if kind == 1 {
-        let there = place::moved_at(table, Place(link as usize));
-        return there.0 as u64;
-    }
-    link
-}
-
 // Stores a record at place `at`, with its links by the table.
 fn put_moved(block: &mut [u64], at: Place, r: Record, table: &[usize])
-    requires { ⌜ (words-for (at .0 + 1) ≤ length (now block)) × (length (now table) ≡ room) × (r .next < room) × (r .opposite < room) × (r .kind ≡ 1 → r .link < room) ⌝ }
+    requires { ⌜ (words-for (at .0 + 1) ≤ length (now block)) × LinksBelow (length (now table)) r ⌝ }
     ensures { λ _. ⌜ now (block .exit) ≡ put (now (block .entry)) (at .0) (moved-record (λ p. getD (now (table .entry)) p 0) r) ⌝ }
 {
-    let next = place::moved_at(table, Place(r.next as usize));
-    let opposite = place::moved_at(table, Place(r.opposite as usize));
-    let link = moved_link(table, r.kind, r.link);
-    let there = Record {
-        serial: r.serial,
-        next: next.0 as u64,
-        opposite: opposite.0 as u64,
-        kind: r.kind,
-        link,
-        x: r.x,
-        y: r.y,
-        z: r.z,
-    };
-    record::put_record(block, at, there);
+    record::put_record(block, at, place::renumber::renumbered(table, r));
 }
 
 // Puts the draft's k records among the block's n, each with its links by its table.
 fn merge(block: &mut [u64], n: usize, draft: &[u64], k: usize, old: &[usize], new: &[usize])
-    requires { ⌜ Weaves (now block) (now draft) n k × (length (now old) ≡ room) × (length (now new) ≡ room) ⌝ }
+    requires { ⌜ Weaves (now block) (now draft) n k × (n ≤ length (now old)) × (k ≤ length (now new)) ⌝ }
     requires { ⌜ Tabled (up (column (now block) 0) (column (now draft) 0) k) n (now old) × Tabled (up (column (now draft) 0) (column (now block) 0) n) k (now new) ⌝ }
     ensures { λ _. ⌜ now (block .exit) ≡ take 8 (now (block .entry)) ++ (concat (rows (now (block .entry)) n (now (draft .entry)) k n k) ++ drop (8 + (n + k) * 8) (now (block .entry))) ⌝ }
 {
@@ -112,10 +86,10 @@ fn merge(block: &mut [u64], n: usize, draft: &[u64], k: usize, old: &[usize], ne
 
 // Puts the darts of the draft among those of the block. `old` and `new` get the new place of each dart of the block and of the draft.
 pub fn insert(block: &mut [u64], draft: &[u64], old: &mut [usize], new: &mut [usize])
-    requires { ⌜ Weaves (now block) (now draft) (getD (now block) 2 0) (getD (now draft) 2 0) × (length (now old) ≡ room) × (length (now new) ≡ room) ⌝ }
+    requires { ⌜ Weaves (now block) (now draft) (getD (now block) 2 0) (getD (now draft) 2 0) × (getD (now block) 2 0 ≤ length (now old)) × (getD (now draft) 2 0 ≤ length (now new)) ⌝ }
     ensures woven { λ _. ⌜ now (block .exit) ≡ woven-at (now (block .entry)) (getD (now (block .entry)) 2 0) (now (draft .entry)) (getD (now (draft .entry)) 2 0) ⌝ }
-    ensures olds { λ _. ⌜ Tabled (up (column (now (block .entry)) 0) (column (now (draft .entry)) 0) (getD (now (draft .entry)) 2 0)) (getD (now (block .entry)) 2 0) (now (old .exit)) × (length (now (old .exit)) ≡ room) ⌝ }
-    ensures news { λ _. ⌜ Tabled (up (column (now (draft .entry)) 0) (column (now (block .entry)) 0) (getD (now (block .entry)) 2 0)) (getD (now (draft .entry)) 2 0) (now (new .exit)) × (length (now (new .exit)) ≡ room) ⌝ }
+    ensures olds { λ _. ⌜ Tabled (up (column (now (block .entry)) 0) (column (now (draft .entry)) 0) (getD (now (draft .entry)) 2 0)) (getD (now (block .entry)) 2 0) (now (old .exit)) ⌝ }
+    ensures news { λ _. ⌜ Tabled (up (column (now (draft .entry)) 0) (column (now (block .entry)) 0) (getD (now (block .entry)) 2 0)) (getD (now (draft .entry)) 2 0) (now (new .exit)) ⌝ }
 {
     let number = block[0];
     let counter = block[1];

@@ -1,4 +1,6 @@
 // The three numbers of a dart that arrives, each of its own type, read from the arrays and memories that keep them as plain numbers.
+pub mod renumber; // renumber.rt: a record whose places have moved
+
 ghost use mathlib.Core.Path.{_≡_};
 ghost use Prim.Native.Nat.{_+_, _≤_, _<_};
 ghost use lib.ListN.{length, getD};

@@ -8,7 +8,7 @@ use native.Mathlib.Omega.{arith}
 use lib.Dec.{eqb}
 use lib.ListN.{length, getD, drop, replicate, length-map, length-drop, length-replicate}
 use lib.Seq.{ext-getD, getD-drop}
-use borrow.Author.Tests.{eq-eqb, ne-eqb, not-true}
+use borrow.Author.Tests.{not-true}
 use Rattle.model.specs.Lists.{any, keep, mem, concat, find, index-of}
 use Rattle.model.specs.Values.{Label, Third, critical, Dart, code, partner}
 use Rattle.model.specs.Cells.{serials, third-at, volume-in}
@@ -25,6 +25,8 @@ use Rattle.theory.proofs.CallLaws.{served-value}
 use Rattle.columns.specs.Columns.{Kind, kind-free, kind-sewn, kind-critical}
 use Rattle.columns.proofs.Thirds.{third-free, third-sewn, third-critical, kind-back}
 use Rattle.columns.proofs.Question.{Passed, image-passed}
+use Rattle.place.specs.Renumber.{moved-link}
+use Rattle.place.proofs.Renumbering.{link-sewn, link-other}
 use Rattle.cells.specs.Places.{Marked, marked, sewn-in, volume-of}
 use Rattle.cells.proofs.Reached.{places, places-below}
 use Rattle.cells.proofs.Serials.{serials-apart}
@@ -33,21 +35,13 @@ use Rattle.cells.proofs.StartLaws.{sewn-faces-serials}
 use Rattle.cells.proofs.Sited.{Sited, darts-in, sited}
 use Rattle.departure.specs.Asked.{Departs}
 use Rattle.departure.specs.declared.Counts.{Counts}
-use Rattle.release.specs.LetGo.{with-links, sewn-at, left-behind, unmarked, rank, moved-link, moved-words, records, without, released-at}
+use Rattle.release.specs.LetGo.{with-links, sewn-at, left-behind, unmarked, rank, moved-words, records, without, released-at}
 use Rattle.release.proofs.PutLinks.{length-links, others-stay, header-stays, column-stays, unnamed-stays, named}
 use Rattle.release.proofs.NewLinks.{renamed, Critical, darts-are, faces-critical, faces-renamed, find-renamed, find-unnamed}
 use Rattle.release.proofs.Ranks.{unmarked-in, index-rank}
 use Rattle.release.proofs.CutFaces.{sewn, next-stays, opposite-stays, cut-is, in-cut, left-distinct}
 
 -- LINK WORDS with places moved
-pub link-sewn : (t : ℕ → ℕ) (k a : ℕ) → k ≡ 1 → t a ≡ moved-link t k a
-unfolding moved-link
-link-sewn t k a e = rw (eq-eqb k 1 e) refl
-
-pub link-other : (t : ℕ → ℕ) (k a : ℕ) → (k ≡ 1 → ⊥) → a ≡ moved-link t k a
-unfolding moved-link
-link-other t k a e = rw (ne-eqb k 1 e) refl
-
 -- of a third link where the serial at place a has index t a
 pub link-moved : (s t : ℕ → ℕ) (ss : List ℕ) (k a : ℕ) → Kind k a → (k ≡ 1 → index-of (s a) ss ≡ t a) → link-word ss (third-in s k a) ≡ moved-link t k a
 link-moved s t ss k a (kind-free e f) h = ap (link-word ss) (third-free s k a e) ∙ sym f ∙ link-other t k a (λ q. omega arith)

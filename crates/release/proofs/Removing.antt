@@ -12,13 +12,14 @@ use Rattle.model.specs.Values.{room}
 use Rattle.laws.proofs.Tests.{eq-or-ne, last-or-below}
 use Rattle.laws.proofs.Members.{map-append}
 use Rattle.laws.proofs.Lists.{concat-snoc}
-use Rattle.memory.specs.Record.{record-in, put}
+use Rattle.memory.specs.Record.{record-in, record-words, put}
 use Rattle.memory.specs.declared.record.Record.{Record}
 use Rattle.memory.proofs.Records.{length-put}
-use Rattle.release.specs.LetGo.{unmarked, rank, moved-link, moved-words, records, without}
+use Rattle.place.specs.Renumber.{moved-link, renumbered, LinksBelow}
+use Rattle.place.proofs.Renumbering.{link-sewn, link-other}
+use Rattle.release.specs.LetGo.{unmarked, rank, moved-words, records, without}
 use Rattle.release.proofs.Ranks.{unmarked-one, unmarked-none, rank-one, rank-none, rank-le}
-use Rattle.release.proofs.ReleasedImage.{link-sewn, link-other}
-use Rattle.release.specs.Asks.{Tabled, Entered, Bounded, Moved}
+use Rattle.release.specs.Asks.{Tabled, Bounded, Moved}
 
 -- WHERE EACH PLACE GOES: of the places below p, `kept` are not marked
 pub record Ranking (marks : List ℕ) (n : ℕ) (table : List ℕ) (kept p : ℕ) : Type 0 where
@@ -58,10 +59,10 @@ unfolding moved-words
 length-moved t m p = refl
 
 -- as the code reads and stores it
-pub record-moved : (m : List ℕ) (i at : ℕ) (t : ℕ → ℕ) {r : Record} {a o l : ℕ} {y : List ℕ} → r ≡ record-in m i → a ≡ t (r .next) → o ≡ t (r .opposite) → l ≡ moved-link t (r .kind) (r .link)
-    → y ≡ put m at (r .serial ∷ a ∷ o ∷ r .kind ∷ l ∷ r .x ∷ r .y ∷ r .z ∷ []) → y ≡ put m at (moved-words t m i)
+pub record-moved : (m : List ℕ) (i at : ℕ) (t : ℕ → ℕ) {r s : Record} {y : List ℕ} → r ≡ record-in m i → s ≡ renumbered t r → y ≡ put m at (record-words s)
+    → y ≡ put m at (moved-words t m i)
 unfolding moved-words
-record-moved m i at t e f g h q = q ∙ rw (h, g, f, e)
+record-moved m i at t e f q = q ∙ ap (λ (s : Record). put m at (record-words s)) (f ∙ ap (renumbered t) e)
 
 -- tables that agree on the links of a record
 same-link : (t u : ℕ → ℕ) (k a : ℕ) → (k ≡ 1 → t a ≡ u a) → moved-link t k a ≡ moved-link u k a
@@ -161,15 +162,12 @@ moved-end {i = i} {n = n} v h k = let e : n ≡ i = omega arith in rw e v
 
 -- the record that the code moves, by the table
 module _ {m marks x : List ℕ} {n i w : ℕ} (b : Bounded m n) (table : List ℕ) (tabled : Tabled (rank marks) n table) (v : Moved (moved-words (rank marks) m) m marks i x w) (h : i < n) where
-  pub links-fit : n ≤ length table → Entered table (column x 1 i) × Entered table (column x 2 i) × (column x 3 i ≡ 1 → Entered table (column x 4 i))
-  links-fit long = (
-    entered (omega (arith, same-column x m i 1 (v .after), b .next-lt i h)),
-    entered (omega (arith, same-column x m i 2 (v .after), b .opposite-lt i h)),
-    λ e. entered (omega (arith, same-column x m i 4 (v .after), b .sewn-lt i h (sym (same-column x m i 3 (v .after)) ∙ e))),
-  )
-    where
-      entered : {p : ℕ} → p < n → Entered table p
-      entered less = (omega (arith, less, b .few), omega (arith, less, long))
+  pub links-fit : n ≤ length table → LinksBelow (length table) (record-in x i)
+  links-fit long = record {
+    next-lt = omega (arith, same-column x m i 1 (v .after), b .next-lt i h, long);
+    opposite-lt = omega (arith, same-column x m i 2 (v .after), b .opposite-lt i h, long);
+    sewn-lt = λ e. omega (arith, same-column x m i 4 (v .after), b .sewn-lt i h (sym (same-column x m i 3 (v .after)) ∙ e), long);
+  }
 
   pub one-move : moved-words (λ p. getD table p 0) x i ≡ moved-words (rank marks) m i
   one-move = words-after (λ p. getD table p 0) x m i (v .after)

@@ -43,10 +43,6 @@ pub record Same (m marks x : List ℕ) : Type 0 where
 abbrev pub Tabled : (ℕ → ℕ) → ℕ → List ℕ → Type 0
 Tabled f n t = (p : ℕ) → p < n → getD t p 0 ≡ f p
 
--- it has an entry for place p
-abbrev pub Entered : List ℕ → ℕ → Type 0
-Entered t p = (p < room) × (p < length t)
-
 -- links that lead to places below n
 pub record Bounded (m : List ℕ) (n : ℕ) : Type 0 where
   pub size : words-for n ≤ length m

@@ -1,6 +1,6 @@
 -- The memory that release leaves, by places: the faces left behind labelled, the marked records taken out, the others renumbered.
 -- Assumes nothing.
-use mathlib.Core.Bool.{cond, not}
+use mathlib.Core.Bool.{not}
 use mathlib.Core.List.{List, [], _∷_, _++_, map}
 use Prim.Native.Nat.{ℕ, _+_, _*_, _-_}
 use lib.Dec.{eqb}
@@ -9,6 +9,8 @@ use Rattle.model.specs.Lists.{keep, concat, tab}
 use Rattle.model.specs.Cells.{start-of}
 use Rattle.model.specs.Image.{words-for, kind-word, link-word, column}
 use Rattle.model.specs.Links.{Link, label-faces}
+use Rattle.memory.specs.Record.{record-in, record-words}
+use Rattle.place.specs.Renumber.{renumbered}
 use Rattle.cells.specs.Places.{sewn-out}
 use Rattle.departure.specs.Asked.{faces-at}
 
@@ -39,14 +41,9 @@ unmarked n marks = keep (λ p. not (eqb (getD marks p 0) 1)) (tab (λ p. p) n)
 unfoldable pub rank : List ℕ → ℕ → ℕ
 rank marks p = length (unmarked p marks)
 
--- the link word of kind word k, with places moved by t
-unfoldable pub moved-link : (ℕ → ℕ) → ℕ → ℕ → ℕ
-moved-link t k a = cond (eqb k 1) (t a) a
-
 -- the words of the dart at place p, with places moved by t
 unfoldable pub moved-words : (ℕ → ℕ) → List ℕ → ℕ → List ℕ
-moved-words t m p = column m 0 p ∷ t (column m 1 p) ∷ t (column m 2 p) ∷ column m 3 p ∷ moved-link t (column m 3 p) (column m 4 p)
-    ∷ column m 5 p ∷ column m 6 p ∷ column m 7 p ∷ []
+moved-words t m p = record-words (renumbered t (record-in m p))
 
 -- the records of the unmarked places below n, one after the other
 unfoldable pub records : (ℕ → List ℕ) → List ℕ → ℕ → List ℕ

@@ -5,15 +5,14 @@ ghost use Prim.Native.Nat.{_+_, _*_, _-_, _≤_, _<_, _^_};
 ghost use lib.ListN.{length, getD, take, drop, replicate};
 ghost use Rattle.model.specs.Image.{words-for, count-in, column};
 ghost use Rattle.model.specs.Values.{room};
-ghost use Rattle.memory.specs.Record.{put};
-ghost use Rattle.release.specs.LetGo.{rank, moved-link, moved-words, without};
-ghost use Rattle.release.specs.Asks.{Tabled, Entered, Bounded, Moved};
+ghost use Rattle.memory.specs.Record.{put, record-in};
+ghost use Rattle.place.specs.Renumber.{LinksBelow};
+ghost use Rattle.release.specs.LetGo.{rank, moved-words, without};
+ghost use Rattle.release.specs.Asks.{Tabled, Bounded, Moved};
 use memory::header;
 use memory::header::Header;
-use memory::kind;
 use memory::record;
 use memory::record::Place;
-use memory::record::Record;
 
 // Where each of the first n places goes. Returns how many stay.
 fn ranks(marks: &[u8], n: usize, table: &mut [usize]) -> usize
@@ -33,47 +32,13 @@ fn ranks(marks: &[u8], n: usize, table: &mut [usize]) -> usize
     kept
 }
 
-// Where a place goes.
-fn moved(table: &[usize], p: Place) -> Place
-    requires { ⌜ Entered (now table) (p .0) ⌝ }
-    ensures { λ r. ⌜ r .0 ≡ getD (now (table .entry)) (p .0) 0 ⌝ }
-{
-    let i = p.0;
-    Place(table[i])
-}
-
-// The link word: where the place of a sewn dart goes.
-fn moved_link(table: &[usize], kind: u64, link: u64) -> u64
-    requires { ⌜ (kind ≡ 1 → Entered (now table) link) ⌝ }
-    ensures { λ r. ⌜ r ≡ moved-link (λ p. getD (now (table .entry)) p 0) kind link ⌝ }
-{
-    if kind == kind::SEWN {
-        return moved(table, Place(link as usize)).0 as u64;
-    }
-    link
-}
-
 // Moves the record at place `from` to place `at`, with its links by the table.
 fn move_record(block: &mut [u64], from: Place, at: Place, table: &[usize])
-    requires { ⌜ (words-for (from .0 + 1) ≤ length (now block)) × (at .0 ≤ from .0) ⌝ }
-    requires { ⌜ Entered (now table) (column (now block) 1 (from .0)) × Entered (now table) (column (now block) 2 (from .0)) × (column (now block) 3 (from .0) ≡ 1 → Entered (now table) (column (now block) 4 (from .0))) ⌝ }
+    requires { ⌜ (words-for (from .0 + 1) ≤ length (now block)) × (at .0 ≤ from .0) × LinksBelow (length (now table)) (record-in (now block) (from .0)) ⌝ }
     ensures { λ _. ⌜ now (block .exit) ≡ put (now (block .entry)) (at .0) (moved-words (λ p. getD (now (table .entry)) p 0) (now (block .entry)) (from .0)) ⌝ }
 {
     let r = record::record_at(block, from);
-    let next = moved(table, Place(r.next as usize)).0 as u64;
-    let opposite = moved(table, Place(r.opposite as usize)).0 as u64;
-    let link = moved_link(table, r.kind, r.link);
-    let there = Record {
-        serial: r.serial,
-        next,
-        opposite,
-        kind: r.kind,
-        link,
-        x: r.x,
-        y: r.y,
-        z: r.z,
-    };
-    record::put_record(block, at, there);
+    record::put_record(block, at, place::renumber::renumbered(table, r));
 }
 
 // Moves the records that are not marked to the front. Returns how many there are.

@@ -1,6 +1,7 @@
 -- `join::join` meets its contract.
 -- Assumes nothing.
 use Rattle.join.proofs.Joining.{may-sew, joins, woven-size}
+use native.Mathlib.Omega.{arith}
 use borrow.Author.Needs.{needs}
 use Rattle.join.proofs.join.Statement.{statement}
 use Rattle.join.proofs.join.Tie as tie
@@ -17,14 +18,15 @@ insert-requires c κs = search needs
 sew-requires : tie.Need-sew-requires
 sew-requires c κs =
     let start : tie.Start = (let c : tie.After-insert = search in search) in
-    let insert-ensures = (let p : tie.After-insert = search in p .insert .ensures) in (
+    let insert-ensures = (let p : tie.After-insert = search in p .insert .ensures) in
+    let insert-kept = (let p : tie.After-insert = search in p .insert .kept) in (
       woven-size (start .pre .1 .3) (insert-ensures .0),
       start .pre .1 .0,
       start .pre .1 .1,
       start .pre .1 .2,
-      insert-ensures .1 .0 .1,
-      insert-ensures .1 .1 .1,
-      may-sew (start .pre .1 .3) _ _ (insert-ensures .1 .0 .0) (insert-ensures .1 .1 .0) (start .pre .1 .4),
+      omega (arith, insert-kept, start .pre .0 .0),
+      omega (arith, insert-kept, start .pre .0 .1),
+      may-sew (start .pre .1 .3) _ _ (insert-ensures .1 .0) (insert-ensures .1 .1) (start .pre .1 .4),
     )
 
 same-length : tie.Need-same-length
@@ -42,7 +44,7 @@ returns c =
     let insert-ensures = (let p : tie.After-insert = search in p .insert .ensures) in
     let c : tie.After-insert = search in
     let start : tie.Start = search in
-    joins (start .pre .1 .3) _ _ (insert-ensures .1 .0 .0) (insert-ensures .1 .1 .0) (insert-ensures .0) sew-ensures
+    joins (start .pre .1 .3) _ _ (insert-ensures .1 .0) (insert-ensures .1 .1) (insert-ensures .0) sew-ensures
 
 pub join-spec : {M : Type 1} → statement M
 join-spec =

@@ -29,7 +29,7 @@ new-at-requires : tie.Need-new-at-requires Inv-loop μ-loop
 new-at-requires c κs =
     let start : tie.Start Inv-loop μ-loop = search in
     let loop-i = (let p : tie.At-loop Inv-loop μ-loop = search in p .loop .i) in
-    let r = start .pre .6 .rank-below loop-i (omega arith) in omega (arith, r, c .rank-at .ensures, start .pre .6 .few, start .pre .5)
+    let r = start .pre .6 .rank-below loop-i (omega arith) in omega (arith, r, c .rank-at .ensures, start .pre .5)
 
 mul-sew-at : tie.Need-mul-sew-at Inv-loop μ-loop
 mul-sew-at c = search needs
@@ -52,8 +52,7 @@ sew-at-requires c κs =
     let new-at-ensures = (let p : tie.After-new-at Inv-loop μ-loop = search in p .new-at .ensures) in
     let there = new-at-ensures ∙ ap (λ (r : ℕ). getD (start .args .new .now) r 0) rank-at-ensures in (
       (let a = start .pre .6 .new-below loop-i (omega arith) in omega (arith, a, there, loop-inv .0 .size, start .pre .0)),
-      start .pre .4,
-      (λ e. let a = start .pre .6 .link-below loop-i (omega arith) e in let f = start .pre .6 .fits in omega (arith, a, f)),
+      (λ e. let a = start .pre .6 .link-below loop-i (omega arith) e in omega (arith, a, start .pre .4)),
       (λ e. let a = start .pre .6 .old-below _ (start .pre .6 .link-below loop-i (omega arith) e) in
           omega (arith, a, loop-inv .0 .size, start .pre .0)),
     )

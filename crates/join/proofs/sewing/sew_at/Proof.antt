@@ -28,7 +28,7 @@ returns-2 c =
 moved-at-requires : tie.Need-moved-at-requires
 moved-at-requires c κs =
     let start : tie.Start = search in
-    omega (arith, start .pre .2 (c .if2 .left), start .pre .1)
+    start .pre .1 (c .if2 .left)
 
 put-third-requires-2 : tie.Need-put-third-requires-2
 put-third-requires-2 c κs =
@@ -44,7 +44,7 @@ put-third-requires-3 c κs =
     let moved-at-ensures = (let p : tie.After-moved-at = search in p .moved-at .ensures) in
     let if2-left = (let p : tie.Else2 = search in p .if2 .left) in
     let put-third2-ensures = (let p : tie.After-put-third2 = search in p .put-third2 .ensures) in
-    omega (arith, moved-at-ensures, start .pre .3 if2-left, ap length put-third2-ensures, third-length block p' 1 (moved-at-result .0))
+    omega (arith, moved-at-ensures, start .pre .2 if2-left, ap length put-third2-ensures, third-length block p' 1 (moved-at-result .0))
 
 same-length-2 : tie.Need-same-length-2
 same-length-2 c = search needs

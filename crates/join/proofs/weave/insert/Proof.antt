@@ -22,7 +22,11 @@ tables-requires : tie.Need-tables-requires
 tables-requires c κs = search needs
 
 merge-requires : tie.Need-merge-requires
-merge-requires c κs = search needs
+merge-requires c κs =
+    let tables-ensures = (let p : tie.After-tables = search in p .tables .ensures) in
+    let tables-kept = (let p : tie.After-tables = search in p .tables .kept) in
+    let start : tie.Start = search in
+    ((start .pre .0, omega (arith, tables-kept, start .pre .1), omega (arith, tables-kept, start .pre .2)), tables-ensures)
 
 add-darts : tie.Need-add-darts
 add-darts c = search needs
@@ -49,7 +53,7 @@ returns c =
     let block = start .args .block .now in
     let draft = start .args .draft .now in (
       all-woven block draft (getD block 2 0) (getD draft 2 0) (omega (arith, start .pre .0 .block .size)) merge-ensures write-ensures,
-      ((tables-ensures .0, tables-ensures .1), (tables-ensures .2, tables-ensures .3)),
+      tables-ensures,
     )
 
 pub insert-spec : {M : Type 1} → statement M

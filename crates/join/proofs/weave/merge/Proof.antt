@@ -62,13 +62,8 @@ put-moved-requires c κs =
     let last-is-old-ensures = (let p : tie.After-last-is-old Inv-loop μ-loop = search in p .last-is-old .ensures) in
     let if1-taken = (let p : tie.Then1 Inv-loop μ-loop = search in p .if1 .taken) in
     let record-at-ensures = (let p : tie.After-record-at Inv-loop μ-loop = search in p .record-at .ensures) in
-    let w = old-fits (start .pre .0 .0) loop-inv loop-test-taken last-is-old-ensures if1-taken record-at-ensures in (
-      omega (arith, loop-test-taken, loop-inv .i-le, loop-inv .j-le, loop-inv .size, start .pre .0 .0 .holds),
-      start .pre .0 .1,
-      w .next,
-      w .opposite,
-      w .link,
-    )
+    let w = old-fits (start .pre .0 .0) loop-inv loop-test-taken last-is-old-ensures if1-taken record-at-ensures _ (start .pre .0 .1) in
+    (omega (arith, loop-test-taken, loop-inv .i-le, loop-inv .j-le, loop-inv .size, start .pre .0 .0 .holds), w)
 
 loop-less : tie.Need-loop-less Inv-loop μ-loop
 loop-less c =
@@ -116,13 +111,8 @@ put-moved-requires-2 c κs =
     let last-is-old-ensures = (let p : tie.After-last-is-old Inv-loop μ-loop = search in p .last-is-old .ensures) in
     let if1-left = (let p : tie.Else1 Inv-loop μ-loop = search in p .if1 .left) in
     let draft-record-ensures = (let p : tie.After-draft-record Inv-loop μ-loop = search in p .draft-record .ensures) in
-    let w = new-fits (start .pre .0 .0) loop-inv loop-test-taken last-is-old-ensures if1-left draft-record-ensures in (
-      omega (arith, loop-test-taken, loop-inv .i-le, loop-inv .j-le, loop-inv .size, start .pre .0 .0 .holds),
-      start .pre .0 .2,
-      w .next,
-      w .opposite,
-      w .link,
-    )
+    let w = new-fits (start .pre .0 .0) loop-inv loop-test-taken last-is-old-ensures if1-left draft-record-ensures _ (start .pre .0 .2) in
+    (omega (arith, loop-test-taken, loop-inv .i-le, loop-inv .j-le, loop-inv .size, start .pre .0 .0 .holds), w)
 
 loop-less-2 : tie.Need-loop-less-2 Inv-loop μ-loop
 loop-less-2 c =

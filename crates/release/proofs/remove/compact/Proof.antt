@@ -32,10 +32,8 @@ move-record-requires c κs =
     let table = start .args .table .now in
     let loop-inv = (let p : tie.At-loop Inv-loop μ-loop = search in p .loop .inv) in
     let loop-test-taken = (let p : tie.In-loop Inv-loop μ-loop = search in p .loop-test .taken) in (
-      (
-        omega (arith, loop-test-taken, loop-inv .1 .len, start .pre .0 .size),
-        count-le (loop-inv .1) (omega (arith, loop-test-taken, start .pre .0 .few, start .pre .0 .size)),
-      ),
+      omega (arith, loop-test-taken, loop-inv .1 .len, start .pre .0 .size),
+      count-le (loop-inv .1) (omega (arith, loop-test-taken, start .pre .0 .few, start .pre .0 .size)),
       links-fit (start .pre .0) table (start .pre .3) (loop-inv .1) loop-test-taken (start .pre .2),
     )
 

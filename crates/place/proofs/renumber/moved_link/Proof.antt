@@ -1,15 +1,14 @@
--- `join::weave::moved_link` meets its contract: only a sewn dart's link is a place. Assumes nothing.
+-- `place::renumber::moved_link` meets its contract: only a sewn dart's link is a place. Assumes nothing.
 use mathlib.Core.Path.{_∙_}
 use lib.ListN.{getD}
-use Rattle.release.proofs.ReleasedImage.{link-sewn, link-other}
-use native.Mathlib.Omega.{arith}
-use Rattle.join.proofs.weave.moved_link.Statement.{statement}
-use Rattle.join.proofs.weave.moved_link.Tie as tie
+use Rattle.place.proofs.Renumbering.{link-sewn, link-other}
+use Rattle.place.proofs.renumber.moved_link.Statement.{statement}
+use Rattle.place.proofs.renumber.moved_link.Tie as tie
 
 moved-at-requires : tie.Need-moved-at-requires
 moved-at-requires c κs =
     let start : tie.Start = search in
-    omega (arith, start .pre .0, start .pre .1 (c .if1 .taken))
+    start .pre (c .if1 .taken)
 
 returns : tie.Need-returns
 returns c =
