@@ -9,6 +9,7 @@ ghost use Rattle.ranking.specs.Ranks.{index-at};
 ghost use Rattle.arrival.specs.Draft.{draft-record, FiniteIn, Draftable, Drafted};
 use crate::pairs;
 use groups::Read;
+use memory::header::Header;
 use memory::point;
 use memory::point::Point;
 use memory::record;
@@ -90,7 +91,7 @@ fn set_count(draft: &mut [u64], k: usize)
     requires { ⌜ 8 ≤ length (now draft) ⌝ }
     ensures { λ _. ⌜ now (draft .exit) ≡ set (now (draft .entry)) 2 k ⌝ }
 {
-    draft[2] = k as u64;
+    draft[Header::COUNT] = k as u64;
 }
 
 // Drafts k darts.

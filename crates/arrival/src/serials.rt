@@ -17,6 +17,7 @@ use memory::header::Header;
 use memory::point;
 use memory::record;
 use memory::record::Place;
+use memory::record::Record;
 
 // Whether the point at a place of the message is finite: asked of its words, since only finite ones make a `Point`.
 fn point_finite(message: &[u8], at: usize) -> bool
@@ -55,7 +56,7 @@ fn last_of(block: &[u64], n: usize, serial: u64) -> Place
     let mut left = n;
     while 1 < left {
         let half = left / 2;
-        let middle = record::field(block, Place(low + half), 0);
+        let middle = record::field(block, Place(low + half), Record::SERIAL);
         low = ranking::up(low, half, middle, serial);
         left -= half;
     }
@@ -70,7 +71,7 @@ fn is_past(block: &[u64], gap: usize, serial: u64) -> bool
     if gap == 0 {
         return true;
     }
-    record::field(block, Place(gap - 1), 0) < serial
+    record::field(block, Place(gap - 1), Record::SERIAL) < serial
 }
 
 // Whether a serial lies between those at the places before and from `gap` on.
@@ -82,7 +83,7 @@ fn in_gap(block: &[u64], n: usize, gap: usize, serial: u64) -> bool
         return false;
     }
     if gap < n {
-        return serial < record::field(block, Place(gap), 0);
+        return serial < record::field(block, Place(gap), Record::SERIAL);
     }
     true
 }
@@ -106,7 +107,7 @@ fn gap_of(block: &[u64], n: usize, serial: u64, near: usize) -> Gap
         return Gap::Below(near);
     }
     let last = last_of(block, n, serial);
-    let there = record::field(block, last, 0);
+    let there = record::field(block, last, Record::SERIAL);
     if there == serial {
         return Gap::NotNew;
     }

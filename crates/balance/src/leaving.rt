@@ -11,6 +11,7 @@ use memory::header::Header;
 use memory::header::Limits;
 use memory::record;
 use memory::record::Place;
+use memory::record::Record;
 
 // A volume that may go, by its least serial.
 pub enum Candidate {
@@ -74,7 +75,7 @@ fn first_asked(
     ensures candidate { λ r. ⌜ r ≡ candidate-of (going (at (now (sizes .entry))) (now (block .entry)) left) ⌝ }
     ensures untried { λ r. ⌜ Untried-in (at (now (sizes .entry))) (now (block .entry)) (now (sizes .exit)) ⌝ }
 {
-    let n = block[2] as usize;
+    let n = block[Header::COUNT] as usize;
     // None of the volumes that start before i may go.
     let mut i = 0;
     while i < n {
@@ -87,7 +88,7 @@ fn first_asked(
         if left < s {
             continue;
         }
-        let serial = record::field(block, Place(p), 0);
+        let serial = record::field(block, Place(p), Record::SERIAL);
         if may_leave(
             block,
             to,

@@ -41,7 +41,7 @@ fn between(mesh: &[u64], d: usize, to: usize, sizes: &mut [usize]) -> Candidate
     ensures candidate { λ r. ⌜ r ≡ candidate-of (going (at (now (sizes .entry))) (part (now (mesh .entry)) d) (4096 - getD (part (now (mesh .entry)) to) 2 0)) ⌝ }
     ensures untried { λ r. ⌜ Untried-in (at (now (sizes .entry))) (part (now (mesh .entry)) d) (now (sizes .exit)) ⌝ }
 {
-    let left = Header::DARTS - mesh[to * Header::WORDS + 2] as usize;
+    let left = Header::DARTS - mesh[to * Header::WORDS + Header::COUNT] as usize;
     let from = d * Header::WORDS;
     let end = from + Header::WORDS;
     leaving::first_leaving(&mesh[from..end], to as u64, left, sizes)

@@ -72,7 +72,7 @@ fn corners_at(block: &[u64], p: Place, firsts: &mut [usize]) -> usize
     requires { ⌜ (holds-block (now block) ≡ true) × (p .0 < getD (now block) 2 0) × (getD (now block) 2 0 ≤ length (now firsts)) ⌝ }
     ensures { λ r. ⌜ Cornered (now (block .entry)) (p .0) (now (firsts .exit)) r ⌝ }
 {
-    let n = block[2] as usize;
+    let n = block[Header::COUNT] as usize;
     let mut marks = [0u8; Header::DARTS];
     let mut out = [0usize; Header::DARTS];
     let mut starts = [0usize; Header::DARTS];
@@ -99,7 +99,7 @@ pub fn mean_of(block: &[u64], serial: u64) -> Mean
     if !sound::is_sound(block) {
         return Mean::Not;
     }
-    let n = block[2] as usize;
+    let n = block[Header::COUNT] as usize;
     let Found::At(place) = lookup::place_of(block, n, serial) else {
         return Mean::Not;
     };

@@ -44,7 +44,7 @@ fn part2_fits(
     if !rank_codes(codes, c, &mut keys, &mut rows) {
         return false;
     }
-    let n = block[2] as usize;
+    let n = block[Header::COUNT] as usize;
     let mut places = [Header::DARTS; Header::VOLUME];
     parts::locate::locate(block, n, codes, c, &keys, &rows, &mut places);
     parts::meets::part2_right(

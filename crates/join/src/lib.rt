@@ -6,6 +6,7 @@ ghost use mathlib.Core.Path.{_≡_};
 ghost use Prim.Native.Nat.{_≤_};
 ghost use lib.ListN.{length, getD};
 ghost use Rattle.join.specs.Join.{MayJoin, Joins};
+use memory::header::Header;
 
 // `old` and `new` are lent for the places of the darts of both.
 pub fn join(
@@ -21,8 +22,8 @@ pub fn join(
     requires { ⌜ (length (now kinds) ≡ 512) × (length (now links) ≡ 512) × (length (now ranks) ≡ 512) × MayJoin (now block) (now draft) (getD (now block) 2 0) (getD (now draft) 2 0) (now kinds) (now links) (now ranks) × (getD (now draft) 2 0 ≤ 512) ⌝ }
     ensures { λ _. ⌜ Joins (now (block .entry)) (now (draft .entry)) (getD (now (block .entry)) 2 0) (getD (now (draft .entry)) 2 0) (now (kinds .entry)) (now (links .entry)) (now (ranks .entry)) (now (block .exit)) ⌝ }
 {
-    let n = block[2] as usize;
-    let k = draft[2] as usize;
+    let n = block[Header::COUNT] as usize;
+    let k = draft[Header::COUNT] as usize;
     weave::insert(block, draft, old, new);
     sewing::sew(block, n, k, kinds, links, ranks, old, new);
 }

@@ -7,14 +7,15 @@ ghost use Rattle.join.specs.Thirds.{with-third, sewn-at, Sewable, Sewn};
 use memory::record;
 use memory::record::MessageIndex;
 use memory::record::Place;
+use memory::record::Record;
 
 // The kind word and the link word of the dart at place p.
 fn put_third(block: &mut [u64], p: Place, kind: u64, link: u64)
     requires { ⌜ words-for (p .0 + 1) ≤ length (now block) ⌝ }
     ensures { λ _. ⌜ now (block .exit) ≡ with-third (now (block .entry)) (p .0) kind link ⌝ }
 {
-    record::put_field(block, p, 3, kind);
-    record::put_field(block, p, 4, link);
+    record::put_field(block, p, Record::KIND, kind);
+    record::put_field(block, p, Record::LINK, link);
 }
 
 // A new dart at place p, and the dart that it is sewn to.

@@ -26,7 +26,8 @@ fn last_is_old(block: &[u64], draft: &[u64], i: usize, j: usize) -> bool
     if i == 0 {
         return false;
     }
-    place::draft_serial(draft, DraftPlace(j - 1)) < record::field(block, Place(i - 1), 0)
+    place::draft_serial(draft, DraftPlace(j - 1))
+        < record::field(block, Place(i - 1), Record::SERIAL)
 }
 
 // Where the darts of both go.
@@ -91,10 +92,10 @@ pub fn insert(block: &mut [u64], draft: &[u64], old: &mut [usize], new: &mut [us
     ensures olds { λ _. ⌜ Tabled (up (column (now (block .entry)) 0) (column (now (draft .entry)) 0) (getD (now (draft .entry)) 2 0)) (getD (now (block .entry)) 2 0) (now (old .exit)) ⌝ }
     ensures news { λ _. ⌜ Tabled (up (column (now (draft .entry)) 0) (column (now (block .entry)) 0) (getD (now (block .entry)) 2 0)) (getD (now (draft .entry)) 2 0) (now (new .exit)) ⌝ }
 {
-    let number = block[0];
-    let counter = block[1];
-    let n = block[2] as usize;
-    let k = draft[2] as usize;
+    let number = block[Header::NUMBER];
+    let counter = block[Header::COUNTER];
+    let n = block[Header::COUNT] as usize;
+    let k = draft[Header::COUNT] as usize;
     tables(block, n, draft, k, old, new);
     merge(block, n, draft, k, old, new);
     let darts = n + k;

@@ -10,6 +10,7 @@ ghost use lib.ListN.{length};
 ghost use Rattle.model.specs.Image.{block-in, holds-block};
 ghost use Rattle.model.specs.Listing.{bytes, decimal, listing};
 ghost use Rattle.listing.specs.Printed.{Printed, listing-room, refusal-room};
+use memory::header::Header;
 
 // Bytes that are enough for any listing: a first line of at most 40, and 60 for each of 4,096 darts.
 pub const ROOM: usize = 262144;
@@ -20,7 +21,7 @@ pub fn put_listing(block: &[u64], out: &mut [u8]) -> usize
     ensures { λ r. ⌜ Printed (listing (block-in (now (block .entry)))) (now (out .entry)) (now (out .exit)) r ⌝ }
 {
     let past_header = lines::put_header(block, out);
-    lines::put_darts(block, block[2] as usize, out, past_header)
+    lines::put_darts(block, block[Header::COUNT] as usize, out, past_header)
 }
 
 // What is printed of a refusal.

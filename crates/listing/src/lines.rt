@@ -9,9 +9,11 @@ ghost use Rattle.model.specs.Listing.{third-text, dart-line, header-line};
 ghost use Rattle.groups.specs.Slices.{Stored};
 ghost use Rattle.savefile.specs.Named.{ThirdSmall, Small, AllSmall};
 use crate::text;
+use memory::header::Header;
 use memory::label;
 use memory::record;
 use memory::record::Place;
+use memory::record::Record;
 use savefile::links;
 
 // A third link, by its kind word and what it names.
@@ -39,10 +41,10 @@ fn put_dart(block: &[u64], p: Place, out: &mut [u8], at: usize) -> usize
     requires { ⌜ Small (now block) (p .0) × (at + 60 ≤ length (now out)) ⌝ }
     ensures { λ r. ⌜ Stored (now (out .entry)) at (dart-line (dart-in (now (block .entry)) (p .0))) (now (out .exit)) r ⌝ }
 {
-    let past_serial = text::put_number(out, at, record::field(block, p, 0), b' ');
+    let past_serial = text::put_number(out, at, record::field(block, p, Record::SERIAL), b' ');
     let past_next = text::put_number(out, past_serial, links::serial_along(block, p, 1), b' ');
     let past_opposite = text::put_number(out, past_next, links::serial_along(block, p, 2), b' ');
-    let kind = record::field(block, p, 3);
+    let kind = record::field(block, p, Record::KIND);
     let past_third = put_third(kind, links::third_along(block, p), out, past_opposite);
     text::put_byte(out, past_third, b'\n')
 }
@@ -68,9 +70,9 @@ pub fn put_header(block: &[u64], out: &mut [u8]) -> usize
     ensures { λ r. ⌜ Stored (now (out .entry)) 0 (header-line (block-in (now (block .entry)))) (now (out .exit)) r ⌝ }
 {
     let past_block = text::put_text(out, 0, b"block ");
-    let past_number = text::put_decimal(out, past_block, block[0]);
+    let past_number = text::put_decimal(out, past_block, block[Header::NUMBER]);
     let past_darts = text::put_text(out, past_number, b" darts ");
-    let past_count = text::put_decimal(out, past_darts, block[2]);
+    let past_count = text::put_decimal(out, past_darts, block[Header::COUNT]);
     let past_counter = text::put_text(out, past_count, b" counter ");
-    text::put_number(out, past_counter, block[1], b'\n')
+    text::put_number(out, past_counter, block[Header::COUNTER], b'\n')
 }

@@ -3,7 +3,7 @@ ghost use mathlib.Core.Path.{_≡_};
 ghost use mathlib.Core.List.{[], _++_};
 ghost use Prim.Native.Nat.{_+_, _≤_, _<_};
 ghost use lib.ListN.{length, drop, replicate};
-ghost use Rattle.model.specs.Calls.{empty as emptied};
+ghost use Rattle.model.specs.Calls as calls;
 ghost use Rattle.answers.specs.Answers.{answer-of, Gives};
 ghost use Rattle.model.specs.Image.{image, new-block};
 ghost use Rattle.model.specs.Values.{rack};
@@ -28,8 +28,14 @@ impl Header {
     // Blocks that a mesh may have: numbers lie below this.
     pub const BLOCKS: u64 = 16;
 
-    // Words of the header itself.
+    // Words of the header itself, and the number of each that is used.
     pub const SIZE: usize = 8;
+
+    pub const NUMBER: usize = 0;
+
+    pub const COUNTER: usize = 1;
+
+    pub const COUNT: usize = 2;
 
     // Words of a block's memory: those of the header, 8 for each dart.
     pub const WORDS: usize = 32776;
@@ -69,9 +75,9 @@ impl Header {
         ensures { λ r. ⌜ r ≡ header-in (now (block .entry)) ⌝ }
     {
         Header {
-            number: block[0],
-            counter: block[1],
-            darts: block[2] as usize,
+            number: block[Header::NUMBER],
+            counter: block[Header::COUNTER],
+            darts: block[Header::COUNT] as usize,
         }
     }
 
@@ -80,9 +86,9 @@ impl Header {
         requires { ⌜ 8 ≤ length (now block) ⌝ }
         ensures { λ _. ⌜ now (block .exit) ≡ header-words self ++ drop 8 (now (block .entry)) ⌝ }
     {
-        block[0] = self.number;
-        block[1] = self.counter;
-        block[2] = self.darts as u64;
+        block[Header::NUMBER] = self.number;
+        block[Header::COUNTER] = self.counter;
+        block[Header::COUNT] = self.darts as u64;
         block[3] = 0;
         block[4] = 0;
         block[5] = 0;
@@ -132,7 +138,7 @@ pub fn make_empty(number: u64, block: &mut [u64])
 
 // Makes an empty block. 1: is the memory of a block's size? 9: is the number at most 15? A refused call leaves the memory.
 pub fn empty(number: u64, block: &mut [u64]) -> Answer
-    ensures { λ r. ⌜ Gives (emptied rack number (now (block .entry))) (answer-of r) (now (block .exit)) ⌝ }
+    ensures { λ r. ⌜ Gives (calls.empty rack number (now (block .entry))) (answer-of r) (now (block .exit)) ⌝ }
 {
     if block.len() != Header::WORDS {
         return Answer::Refused(Refusal::MemorySize);

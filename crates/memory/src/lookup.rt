@@ -7,6 +7,7 @@ ghost use Rattle.model.specs.Image.{words-for, column};
 ghost use Rattle.memory.specs.Lookup.{place-in};
 use crate::record;
 use crate::record::Place;
+use crate::record::Record;
 
 pub enum Found {
     At(Place),
@@ -27,12 +28,12 @@ pub fn place_of(block: &[u64], n: usize, serial: u64) -> Found
     while 1 < left {
         let half = left / 2;
         let mid = low + half;
-        if record::field(block, Place(mid), 0) <= serial {
+        if record::field(block, Place(mid), Record::SERIAL) <= serial {
             low = mid;
         }
         left -= half;
     }
-    if record::field(block, Place(low), 0) == serial {
+    if record::field(block, Place(low), Record::SERIAL) == serial {
         return Found::At(Place(low));
     }
     Found::Nothing

@@ -9,6 +9,7 @@ ghost use Rattle.model.specs.Image.{words-for, column};
 ghost use Rattle.memory.specs.Point.{point-of, patterns, FinitePoint, FiniteAt, with-point};
 use crate::record;
 use crate::record::Place;
+use crate::record::Record;
 
 pub struct Point {
     pub x: f64,
@@ -41,9 +42,9 @@ pub fn point_at(block: &[u64], p: Place) -> Point
     ensures { λ r. ⌜ r ≡ point-of (column (now (block .entry)) 5 (p .0)) (column (now (block .entry)) 6 (p .0)) (column (now (block .entry)) 7 (p .0)) ⌝ }
 {
     let i = p.0;
-    let x = record::field(block, Place(i), 5);
-    let y = record::field(block, Place(i), 6);
-    let z = record::field(block, Place(i), 7);
+    let x = record::field(block, Place(i), Record::X);
+    let y = record::field(block, Place(i), Record::Y);
+    let z = record::field(block, Place(i), Record::Z);
     point_of(x, y, z)
 }
 
@@ -75,7 +76,7 @@ pub fn put_point(block: &mut [u64], p: Place, point: Point)
     let x = pattern(point.x);
     let y = pattern(point.y);
     let z = pattern(point.z);
-    record::put_field(block, Place(i), 5, x);
-    record::put_field(block, Place(i), 6, y);
-    record::put_field(block, Place(i), 7, z);
+    record::put_field(block, Place(i), Record::X, x);
+    record::put_field(block, Place(i), Record::Y, y);
+    record::put_field(block, Place(i), Record::Z, z);
 }

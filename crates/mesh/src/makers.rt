@@ -12,6 +12,7 @@ ghost use Rattle.mesh.specs.Parts.{blocks, part, Roomy, made-test, made-
 use memory::header::Header;
 use memory::record;
 use memory::record::Place;
+use memory::record::Record;
 
 // Of a kind word and a link word.
 fn made(mesh: &[u64], kind: u64, link: u64) -> bool
@@ -24,7 +25,7 @@ fn made(mesh: &[u64], kind: u64, link: u64) -> bool
     if mesh.len() / Header::WORDS <= maker {
         return false;
     }
-    link / Header::POSITIONS % Header::NUMBERS < mesh[maker * Header::WORDS + 1]
+    link / Header::POSITIONS % Header::NUMBERS < mesh[maker * Header::WORDS + Header::COUNTER]
 }
 
 // Of all darts of a block.
@@ -32,12 +33,12 @@ fn made_darts(mesh: &[u64], block: &[u64]) -> bool
     requires { ⌜ words-for (count-in (now block)) ≤ length (now block) ⌝ }
     ensures { λ r. ⌜ r ≡ made-block (now (mesh .entry)) (now (block .entry)) ⌝ }
 {
-    let n = block[2] as usize;
+    let n = block[Header::COUNT] as usize;
     // The darts below p pass.
     let mut p = 0;
     while p < n {
-        let kind = record::field(block, Place(p), 3);
-        let link = record::field(block, Place(p), 4);
+        let kind = record::field(block, Place(p), Record::KIND);
+        let link = record::field(block, Place(p), Record::LINK);
         if !made(mesh, kind, link) {
             return false;
         }

@@ -14,17 +14,18 @@ ghost use Rattle.mesh.specs.Parts.{blocks, part, Roomy, serials-of, gath
 use memory::header::Header;
 use memory::record;
 use memory::record::Place;
+use memory::record::Record;
 
 // Puts a block's serials from `at` on; where they end.
 fn put_serials(block: &[u64], out: &mut [u64], at: usize) -> usize
     requires { ⌜ (words-for (count-in (now block)) ≤ length (now block)) × (at + count-in (now block) ≤ length (now out)) ⌝ }
     ensures { λ r. ⌜ (r ≡ at + count-in (now (block .entry))) × Put at (serials-of (now (block .entry))) (now (out .entry)) (now (out .exit)) r ⌝ }
 {
-    let n = block[2] as usize;
+    let n = block[Header::COUNT] as usize;
     // The serials of the darts below i are put.
     let mut i = 0;
     while i < n {
-        out[at + i] = record::field(block, Place(i), 0);
+        out[at + i] = record::field(block, Place(i), Record::SERIAL);
         i += 1;
     }
     at + n

@@ -22,7 +22,7 @@ fn fill_part(mesh: &[u64], i: usize, table: &mut [u64])
     requires { ⌜ Asked (now mesh) × (i < blocks (now mesh)) × BeforeBelow (now mesh) (now table) i 0 ⌝ }
     ensures { λ _. ⌜ BeforeBelow (now (mesh .entry)) (now (table .exit)) (i + 1) 0 ⌝ }
 {
-    let n = mesh[i * Header::WORDS + 2] as usize;
+    let n = mesh[i * Header::WORDS + Header::COUNT] as usize;
     // The darts below p are done.
     let mut p = 0;
     while p < n {

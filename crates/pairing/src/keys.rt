@@ -11,17 +11,18 @@ ghost use Rattle.pairing.specs.Keys.{Short, key-of, keys-of, all-keys};
 use memory::header::Header;
 use memory::record;
 use memory::record::Place;
+use memory::record::Record;
 
 // Puts the key of the dart at place p of block i, if it is critical; where the keys end.
 fn put_key(block: &[u64], i: usize, p: Place, out: &mut [u64], at: usize) -> usize
     requires { ⌜ (words-for (getD (now block) 2 0) ≤ length (now block)) × (getD (now block) 2 0 ≤ room) × Short (now block) × (i < 16) × (p .0 < getD (now block) 2 0) × (at < length (now out)) ⌝ }
     ensures { λ r. ⌜ (r ≤ at + 1) × Put at (key-of (now (block .entry)) i (p .0)) (now (out .entry)) (now (out .exit)) r ⌝ }
 {
-    let kind = record::field(block, p, 3);
+    let kind = record::field(block, p, Record::KIND);
     if kind <= 1 {
         return at;
     }
-    let link = record::field(block, p, 4);
+    let link = record::field(block, p, Record::LINK);
     out[at] = link * Header::MESH + (i * Header::DARTS + p.0) as u64;
     at + 1
 }
@@ -31,7 +32,7 @@ fn put_keys(block: &[u64], i: usize, out: &mut [u64], at: usize) -> usize
     requires { ⌜ (words-for (getD (now block) 2 0) ≤ length (now block)) × (getD (now block) 2 0 ≤ room) × Short (now block) × (i < 16) × (at + room ≤ length (now out)) ⌝ }
     ensures { λ r. ⌜ (r ≤ at + room) × Put at (keys-of (now (block .entry)) i (getD (now (block .entry)) 2 0)) (now (out .entry)) (now (out .exit)) r ⌝ }
 {
-    let n = block[2] as usize;
+    let n = block[Header::COUNT] as usize;
     // The keys of the darts below p stand from `at` up to the end.
     let mut end = at;
     let mut p = 0;

@@ -108,6 +108,6 @@ pub fn critical_right(
     }
     faces::put_part3(&third, &numbers, c3, sizes, from, kinds, links);
     faces::put_part4(message, &fourth, &others, &places, c4, sizes, kinds, links);
-    let n = block[2] as usize;
+    let n = block[Header::COUNT] as usize;
     fresh::labels_fit(block, n, kinds, links, k)
 }

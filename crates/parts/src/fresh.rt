@@ -15,6 +15,7 @@ use memory::label;
 use memory::record;
 use memory::record::MessageIndex;
 use memory::record::Place;
+use memory::record::Record;
 use ranking::Ranking;
 
 // Whether a kind and a link word are not of an own-made label from the counter on.
@@ -72,10 +73,10 @@ fn clear_at(block: &[u64], p: Place, keys: &[u64], k: usize) -> bool
     requires { ⌜ (words-for (p .0 + 1) ≤ length (now block)) × (length (now keys) ≡ 512) × (k ≤ 512) × Ascending k (value-at (now keys)) ⌝ }
     ensures { λ r. ⌜ r ≡ clear-at (now (block .entry)) (tab (value-at (now (keys .entry))) k) (p .0) ⌝ }
 {
-    if record::field(block, p, 3) < 2 {
+    if record::field(block, p, Record::KIND) < 2 {
         return true;
     }
-    let Ranking::At(r) = ranking::find(keys, k, record::field(block, p, 4)) else {
+    let Ranking::At(r) = ranking::find(keys, k, record::field(block, p, Record::LINK)) else {
         return true;
     };
     false
@@ -103,7 +104,13 @@ pub fn labels_fit(block: &[u64], n: usize, kinds: &[u64], links: &[u64], k: usiz
     requires { ⌜ ((q : ℕ) → q < k → getD (now links) q 0 < 2 ^ 48) ⌝ }
     ensures { λ r. ⌜ r ≡ labels-fit (now (block .entry)) n (now (kinds .entry)) (now (links .entry)) k ⌝ }
 {
-    if !all_own(block[0], block[1], kinds, links, k) {
+    if !all_own(
+        block[Header::NUMBER],
+        block[Header::COUNTER],
+        kinds,
+        links,
+        k,
+    ) {
         return false;
     }
     let mut values = [0u64; Header::VOLUME];

@@ -9,6 +9,7 @@ ghost use Rattle.ranking.specs.Ranks.{value-at, index-at, Ranked};
 ghost use Rattle.parts.specs.Locate.{Noted, Located, none-there};
 use memory::record;
 use memory::record::Place;
+use memory::record::Record;
 use ranking::Ranking;
 
 // Notes place p for the entry whose label the dart at p has.
@@ -16,10 +17,10 @@ fn note(block: &[u64], p: Place, keys: &[u64], c: usize, places: &mut [usize])
     requires { ⌜ (words-for (p .0 + 1) ≤ length (now block)) × (length (now keys) ≡ 512) × (c ≤ 512) × (length (now places) ≡ 512) × Ascending c (value-at (now keys)) × ((r : ℕ) → r < c → index-at (now keys) r < c) ⌝ }
     ensures { λ _. ⌜ Noted (now (block .entry)) (now (keys .entry)) c (p .0) (now (places .entry)) (now (places .exit)) ⌝ }
 {
-    if record::field(block, p, 3) < 2 {
+    if record::field(block, p, Record::KIND) < 2 {
         return;
     }
-    let Ranking::At(r) = ranking::find(keys, c, record::field(block, p, 4)) else {
+    let Ranking::At(r) = ranking::find(keys, c, record::field(block, p, Record::LINK)) else {
         return;
     };
     let e = (keys[r] % ranking::INDICES) as usize;

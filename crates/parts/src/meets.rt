@@ -16,6 +16,7 @@ use memory::header::Header;
 use memory::record;
 use memory::record::MessageIndex;
 use memory::record::Place;
+use memory::record::Record;
 
 // Walks the face of the dart at place `start` into `trail`, at most `size` steps. Whether it has `size` darts.
 fn walk_face(block: &[u64], n: usize, start: Place, size: usize, trail: &mut [usize]) -> bool
@@ -122,7 +123,7 @@ pub fn entry_right(
     requires { ⌜ Meetable (now block) n (now draft) k (now ranks) × (from ≤ 15) × (y .0 < n) × (at .0 + size ≤ k) × (length (now trail) ≡ 512) ⌝ }
     ensures { λ r. ⌜ EntryRight (now (block .entry)) (now (draft .entry)) (now (ranks .entry)) from (y .0) (at .0) size (now (trail .exit)) r ⌝ }
 {
-    if record::field(block, y, 3) != 2 + 4 * from {
+    if record::field(block, y, Record::KIND) != 2 + 4 * from {
         return false;
     }
     if !walk_face(block, n, y, size, trail) {

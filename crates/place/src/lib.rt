@@ -85,7 +85,7 @@ pub fn next_of(block: &[u64], p: Place) -> Place
     requires { ⌜ words-for (p .0 + 1) ≤ length (now block) ⌝ }
     ensures { λ r. ⌜ r .0 ≡ column (now (block .entry)) 1 (p .0) ⌝ }
 {
-    Place(record::field(block, p, 1) as usize)
+    Place(record::field(block, p, Record::NEXT) as usize)
 }
 
 // The place of the next dart in a draft.
@@ -93,7 +93,7 @@ pub fn draft_next(draft: &[u64], p: DraftPlace) -> DraftPlace
     requires { ⌜ words-for (p .0 + 1) ≤ length (now draft) ⌝ }
     ensures { λ r. ⌜ r .0 ≡ column (now (draft .entry)) 1 (p .0) ⌝ }
 {
-    DraftPlace(record::field(draft, Place(p.0), 1) as usize)
+    DraftPlace(record::field(draft, Place(p.0), Record::NEXT) as usize)
 }
 
 // The serial of a dart of a draft.
@@ -101,7 +101,7 @@ pub fn draft_serial(draft: &[u64], p: DraftPlace) -> u64
     requires { ⌜ words-for (p .0 + 1) ≤ length (now draft) ⌝ }
     ensures { λ r. ⌜ r ≡ column (now (draft .entry)) 0 (p .0) ⌝ }
 {
-    record::field(draft, Place(p.0), 0)
+    record::field(draft, Place(p.0), Record::SERIAL)
 }
 
 // The record of a dart of a draft.

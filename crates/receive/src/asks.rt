@@ -21,7 +21,7 @@ fn for_here(block: &[u64], from: u64, to: u64) -> bool
     requires { ⌜ 8 ≤ length (now block) ⌝ }
     ensures { λ r. ⌜ r ≡ addressed from to (block-in (now (block .entry))) ⌝ }
 {
-    (to == block[0]) & (from != block[0])
+    (to == block[Header::NUMBER]) & (from != block[Header::NUMBER])
 }
 
 // All of them, in their order: the first no, or served. `queue` and `firsts` are lent to work in.
@@ -50,7 +50,7 @@ pub fn questions(
     if !for_here(block, front.from, front.to) {
         return Answer::Refused(Refusal::NotForHere);
     }
-    let n = block[2] as usize;
+    let n = block[Header::COUNT] as usize;
     let k = front.darts;
     if !arrival::serials::new_serials(
         message,

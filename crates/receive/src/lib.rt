@@ -7,7 +7,7 @@ ghost use lib.ListN.{length};
 ghost use Rattle.model.specs.Values.{rack};
 ghost use Rattle.model.specs.Image.{words, holds-block};
 ghost use Rattle.model.specs.Messages.{Transfer, a-transfer, message-in};
-ghost use Rattle.model.specs.Calls.{receive as taken};
+ghost use Rattle.model.specs.Calls as calls;
 ghost use Rattle.answers.specs.Answers.{answer-of, Gives};
 ghost use Rattle.inbox.specs.Inbox.{Sides};
 ghost use Rattle.inbox.specs.Arrived.{TransferOutlined};
@@ -75,7 +75,7 @@ fn take(
 // message? 17: a transfer, addressed here, from elsewhere? 18 to 21: is what it brings new, a volume, right in its parts, and is there
 // room? A refused call leaves the memory.
 pub fn receive(block: &mut [u64], message: &[u8]) -> Answer
-    ensures { λ r. ⌜ Gives (taken rack (now (block .entry)) (now (message .entry))) (answer-of r) (now (block .exit)) ⌝ }
+    ensures { λ r. ⌜ Gives (calls.receive rack (now (block .entry)) (now (message .entry))) (answer-of r) (now (block .exit)) ⌝ }
 {
     if block.len() != Header::WORDS {
         return Answer::Refused(Refusal::MemorySize);

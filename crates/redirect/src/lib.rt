@@ -11,7 +11,7 @@ ghost use lib.ListN.{length, getD};
 ghost use Rattle.model.specs.Values.{rack, room};
 ghost use Rattle.model.specs.Image.{words, count-in, block-in, holds-block};
 ghost use Rattle.model.specs.Arrival.{addressed};
-ghost use Rattle.model.specs.Calls.{redirect as told};
+ghost use Rattle.model.specs.Calls as calls;
 ghost use Rattle.answers.specs.Answers.{answer-of, Gives};
 ghost use Rattle.cells.specs.Places.{Clear};
 ghost use Rattle.redirect.specs.ByPlaces.{Ready, Unset, EachNamed, AllNamed};
@@ -42,7 +42,7 @@ fn for_here(block: &[u64], from: u64, to: u64) -> bool
     requires { ⌜ 8 ≤ length (now block) ⌝ }
     ensures { λ r. ⌜ r ≡ addressed from to (block-in (now (block .entry))) ⌝ }
 {
-    (to == block[0]) & (from != block[0])
+    (to == block[Header::NUMBER]) & (from != block[Header::NUMBER])
 }
 
 // 22: the new block is neither end.
@@ -120,7 +120,7 @@ fn redirect_update(
         return Answer::Refused(Refusal::UpdateWrong);
     }
     // Each label names a face of its own, so there are no more labels than darts.
-    let darts = block[2];
+    let darts = block[Header::COUNT];
     if darts < u.count {
         return Answer::Refused(Refusal::UpdateWrong);
     }
@@ -149,7 +149,7 @@ fn redirect_update(
 // message? 17: an update, addressed here, from elsewhere? 22: is the new block neither end, and does each label name a face of its own?
 // A refused call leaves the memory.
 pub fn redirect(block: &mut [u64], message: &[u8]) -> Answer
-    ensures { λ r. ⌜ Gives (told rack (now (block .entry)) (now (message .entry))) (answer-of r) (now (block .exit)) ⌝ }
+    ensures { λ r. ⌜ Gives (calls.redirect rack (now (block .entry)) (now (message .entry))) (answer-of r) (now (block .exit)) ⌝ }
 {
     if block.len() != Header::WORDS {
         return Answer::Refused(Refusal::MemorySize);

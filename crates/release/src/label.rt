@@ -10,6 +10,7 @@ ghost use Rattle.cells.specs.Places.{InOrder};
 ghost use Rattle.departure.specs.Asked.{faces-at};
 ghost use Rattle.release.specs.LetGo.{with-link, with-links, sewn-at, left-behind};
 ghost use Rattle.release.specs.Asks.{Sewing, Same};
+use memory::header::Header;
 use memory::kind;
 use memory::record;
 use memory::record::Place;
@@ -32,7 +33,7 @@ fn label_face(block: &mut [u64], n: usize, marks: &[u8], start: Place, to: u64, 
     ensures same { λ _. ⌜ Same (now (block .entry)) (now (marks .entry)) (now (block .exit)) ⌝ }
     ensures labelled { λ _. ⌜ now (block .exit) ≡ with-links (now (block .entry)) (label-links (column (now (block .entry)) 4) to (getD (now (block .entry)) 0 0) number 0 (cycle (column (now (block .entry)) 1) (start .0))) ⌝ }
 {
-    let maker = block[0];
+    let maker = block[Header::NUMBER];
     // The darts sewn to those from `start` up to the one before p, i of them, have labels.
     let first = start.0;
     let mut i = 0;
@@ -61,9 +62,9 @@ pub fn label_faces(
     requires { ⌜ Sewing (now block) (now marks) (getD (now block) 2 0) × InOrder (faces-at (now block) (now marks)) (now order) (now starts) darts count × (to ≤ 15) × (getD (now block) 1 0 + length (sewn-at (now block) (now marks)) < 2 ^ 32) ⌝ }
     ensures { λ _. ⌜ now (block .exit) ≡ with-links (now (block .entry)) (left-behind (now (block .entry)) (now (marks .entry)) to) ⌝ }
 {
-    let n = block[2] as usize;
+    let n = block[Header::COUNT] as usize;
     // The faces before f have labels; the next has `number`.
-    let mut number = block[1];
+    let mut number = block[Header::COUNTER];
     let mut f = 0;
     while f < count {
         let i = starts[f];

@@ -37,7 +37,7 @@ fn let_go(
     requires { ⌜ count-in (now block) ≤ length (now table) ⌝ }
     ensures { λ _. ⌜ now (block .exit) ≡ released-at (now (block .entry)) (now (marks .entry)) to ⌝ }
 {
-    let counter = block[1] + counts.sewn as u64;
+    let counter = block[Header::COUNTER] + counts.sewn as u64;
     let darts = counts.darts;
     let faces = counts.faces;
     label::label_faces(block, marks, order, starts, darts, faces, to);

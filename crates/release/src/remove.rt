@@ -73,8 +73,8 @@ pub fn remove(block: &mut [u64], marks: &[u8], counter: u64, table: &mut [usize]
     requires { ⌜ drop (8 + getD (now block) 2 0 * 8) (now block) ≡ replicate (length (now block) - words-for (getD (now block) 2 0)) 0 ⌝ }
     ensures { λ _. ⌜ now (block .exit) ≡ without (now (block .entry)) (now (marks .entry)) counter ⌝ }
 {
-    let number = block[0];
-    let n = block[2] as usize;
+    let number = block[Header::NUMBER];
+    let n = block[Header::COUNT] as usize;
     ranks(marks, n, table);
     let kept = compact(block, n, marks, table);
     clear_part(block, 8 + kept * 8, 8 + n * 8);

@@ -11,15 +11,16 @@ use memory::label;
 use memory::point;
 use memory::record;
 use memory::record::Place;
+use memory::record::Record;
 
 // 4: a finite point.
 pub fn finite_at(block: &[u64], p: usize) -> bool
     requires { ⌜ (p < room) × (words-for (p + 1) ≤ length (now block)) ⌝ }
     ensures { λ r. ⌜ r ≡ finite (dart-in (now (block .entry)) p .point) ⌝ }
 {
-    let x = point::finite_word(record::field(block, Place(p), 5));
-    let y = point::finite_word(record::field(block, Place(p), 6));
-    let z = point::finite_word(record::field(block, Place(p), 7));
+    let x = point::finite_word(record::field(block, Place(p), Record::X));
+    let y = point::finite_word(record::field(block, Place(p), Record::Y));
+    let z = point::finite_word(record::field(block, Place(p), Record::Z));
     x & y & z
 }
 
@@ -28,12 +29,12 @@ pub fn link_at(block: &[u64], n: usize, p: usize) -> bool
     requires { ⌜ (p < n) × (n ≤ room) × (words-for n ≤ length (now block)) ⌝ }
     ensures { λ r. ⌜ r ≡ link-test (now (block .entry)) n p ⌝ }
 {
-    let a = record::field(block, Place(p), 1);
-    let b = record::field(block, Place(p), 2);
+    let a = record::field(block, Place(p), Record::NEXT);
+    let b = record::field(block, Place(p), Record::OPPOSITE);
     if !((a < n as u64) & (b < n as u64)) {
         return false;
     }
-    let c = record::field(block, Place(b as usize), 2);
+    let c = record::field(block, Place(b as usize), Record::OPPOSITE);
     (b != p as u64) & (c == p as u64)
 }
 
@@ -42,9 +43,9 @@ fn sewn_at(block: &[u64], p: usize, l: usize, z: usize) -> bool
     requires { ⌜ (words-for (l + 1) ≤ length (now block)) × (words-for (z + 1) ≤ length (now block)) × (l < room) ⌝ }
     ensures { λ r. ⌜ r ≡ sewn-test (now (block .entry)) p l z ⌝ }
 {
-    let k = record::field(block, Place(l), 3);
-    let b = record::field(block, Place(l), 4);
-    let x = record::field(block, Place(z), 1);
+    let k = record::field(block, Place(l), Record::KIND);
+    let b = record::field(block, Place(l), Record::LINK);
+    let x = record::field(block, Place(z), Record::NEXT);
     (k == 1) & (b == p as u64) & (l != p) & (x == l as u64)
 }
 
@@ -53,17 +54,17 @@ pub fn third_at(block: &[u64], n: usize, p: usize) -> bool
     requires { ⌜ (p < n) × (n ≤ room) × (words-for n ≤ length (now block)) × (column (now block) 1 p < n) ⌝ }
     ensures { λ r. ⌜ r ≡ third-test (now (block .entry)) n p ⌝ }
 {
-    let a = record::field(block, Place(p), 1) as usize;
-    let k = record::field(block, Place(p), 3);
-    let j = record::field(block, Place(a), 3);
+    let a = record::field(block, Place(p), Record::NEXT) as usize;
+    let k = record::field(block, Place(p), Record::KIND);
+    let j = record::field(block, Place(a), Record::KIND);
     if j != k {
         return false;
     }
     if k != 1 {
         return true;
     }
-    let l = record::field(block, Place(p), 4);
-    let z = record::field(block, Place(a), 4);
+    let l = record::field(block, Place(p), Record::LINK);
+    let z = record::field(block, Place(a), Record::LINK);
     if !((l < n as u64) & (z < n as u64)) {
         return false;
     }
@@ -94,17 +95,17 @@ pub fn points_at(block: &[u64], n: usize, p: usize) -> bool
     requires { ⌜ (p < n) × (n ≤ room) × (words-for n ≤ length (now block)) × Places (now block) n × SewnPlaces (now block) n × Finite (now block) n ⌝ }
     ensures { λ r. ⌜ r ≡ point-test (now (block .entry)) p ⌝ }
 {
-    let b = record::field(block, Place(p), 2) as usize;
-    let v = record::field(block, Place(b), 1) as usize;
+    let b = record::field(block, Place(p), Record::OPPOSITE) as usize;
+    let v = record::field(block, Place(b), Record::NEXT) as usize;
     if !same_at(block, p, v) {
         return false;
     }
-    let k = record::field(block, Place(p), 3);
+    let k = record::field(block, Place(p), Record::KIND);
     if k != 1 {
         return true;
     }
-    let l = record::field(block, Place(p), 4) as usize;
-    let w = record::field(block, Place(l), 1) as usize;
+    let l = record::field(block, Place(p), Record::LINK) as usize;
+    let w = record::field(block, Place(l), Record::NEXT) as usize;
     same_at(block, p, w)
 }
 
@@ -113,10 +114,10 @@ pub fn place_at(block: &[u64], n: usize, p: usize, last: u64) -> bool
     requires { ⌜ (p < n) × (n ≤ room) × (words-for n ≤ length (now block)) ⌝ }
     ensures { λ r. ⌜ r ≡ place-test (now (block .entry)) n last p ⌝ }
 {
-    let s = record::field(block, Place(p), 0);
+    let s = record::field(block, Place(p), Record::SERIAL);
     let f = finite_at(block, p);
-    let a = record::field(block, Place(p), 1);
-    let b = record::field(block, Place(p), 2);
+    let a = record::field(block, Place(p), Record::NEXT);
+    let b = record::field(block, Place(p), Record::OPPOSITE);
     (last < s) & (s < 4294967296) & f & (a < n as u64) & (b < n as u64) & (b != p as u64)
 }
 
@@ -148,12 +149,12 @@ pub fn far_at(block: &[u64], n: usize, p: usize) -> bool
     requires { ⌜ (p < n) × (n ≤ room) × (words-for n ≤ length (now block)) × Darts (now block) n ⌝ }
     ensures { λ r. ⌜ r ≡ far-test (now (block .entry)) p ⌝ }
 {
-    let a = record::field(block, Place(p), 1) as usize;
-    let b = record::field(block, Place(p), 2) as usize;
-    let k = record::field(block, Place(p), 3);
-    let c = record::field(block, Place(b), 2);
-    let j = record::field(block, Place(a), 3);
-    let v = record::field(block, Place(b), 1) as usize;
+    let a = record::field(block, Place(p), Record::NEXT) as usize;
+    let b = record::field(block, Place(p), Record::OPPOSITE) as usize;
+    let k = record::field(block, Place(p), Record::KIND);
+    let c = record::field(block, Place(b), Record::OPPOSITE);
+    let j = record::field(block, Place(a), Record::KIND);
+    let v = record::field(block, Place(b), Record::NEXT) as usize;
     let s = same_at(block, p, v);
     if !((c == p as u64) & (j == k) & s) {
         return false;
@@ -161,9 +162,9 @@ pub fn far_at(block: &[u64], n: usize, p: usize) -> bool
     if k != 1 {
         return true;
     }
-    let l = record::field(block, Place(p), 4) as usize;
-    let z = record::field(block, Place(a), 4) as usize;
-    let w = record::field(block, Place(l), 1) as usize;
+    let l = record::field(block, Place(p), Record::LINK) as usize;
+    let z = record::field(block, Place(a), Record::LINK) as usize;
+    let w = record::field(block, Place(l), Record::NEXT) as usize;
     let t = sewn_at(block, p, l, z);
     let u = same_at(block, p, w);
     t & u

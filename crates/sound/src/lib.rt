@@ -13,15 +13,16 @@ ghost use Rattle.columns.specs.Columns.{all-below, codes, header-test, far-test
 use memory::header::Header;
 use memory::record;
 use memory::record::Place;
+use memory::record::Record;
 
 // Number, counter and dart count in range, five zeros.
 fn header_right(block: &[u64]) -> bool
     requires { ⌜ 8 ≤ length (now block) ⌝ }
     ensures { λ r. ⌜ r ≡ header-test (now (block .entry)) ⌝ }
 {
-    (block[0] < Header::BLOCKS)
-        & (block[1] < 4294967296)
-        & (block[2] <= Header::DARTS as u64)
+    (block[Header::NUMBER] < Header::BLOCKS)
+        & (block[Header::COUNTER] < 4294967296)
+        & (block[Header::COUNT] <= Header::DARTS as u64)
         & (block[3] == 0)
         & (block[4] == 0)
         & (block[5] == 0)
@@ -49,8 +50,8 @@ fn darts_right(block: &[u64], n: usize, seen: &mut [u8; Header::DARTS]) -> bool
     requires { ⌜ (n ≤ room) × (words-for n ≤ length (now block)) × (now seen ≡ replicate 4096 0) ⌝ }
     ensures { λ r. ⌜ (r ≡ true) ↔ Darts (now (block .entry)) n ⌝ }
 {
-    let me = block[0];
-    let counter = block[1];
+    let me = block[Header::NUMBER];
+    let counter = block[Header::COUNTER];
     // The darts below i are right, and their nexts, marked in `seen`, differ.
     let mut last = 0;
     let mut i = 0;
@@ -58,17 +59,17 @@ fn darts_right(block: &[u64], n: usize, seen: &mut [u8; Header::DARTS]) -> bool
         if !dart::place_at(block, n, i, last) {
             return false;
         }
-        let k = record::field(block, Place(i), 3);
-        let l = record::field(block, Place(i), 4);
+        let k = record::field(block, Place(i), Record::KIND);
+        let l = record::field(block, Place(i), Record::LINK);
         if !dart::kind_right(me, counter, n, k, l) {
             return false;
         }
-        let a = record::field(block, Place(i), 1) as usize;
+        let a = record::field(block, Place(i), Record::NEXT) as usize;
         if seen[a] != 0 {
             return false;
         }
         seen[a] = 1;
-        last = record::field(block, Place(i), 0);
+        last = record::field(block, Place(i), Record::SERIAL);
         i += 1;
     }
     true
@@ -115,7 +116,7 @@ pub fn is_sound(block: &[u64]) -> bool
     if !header_right(block) {
         return false;
     }
-    let n = block[2] as usize;
+    let n = block[Header::COUNT] as usize;
     if block.len() < 8 + n * 8 {
         return false;
     }

@@ -14,17 +14,18 @@ use crate::dart;
 use memory::header::Header;
 use memory::record;
 use memory::record::Place;
+use memory::record::Record;
 
 // The label of the dart at place i, if it is critical, goes after the first c keys. Returns how many there are then.
 pub fn put_label(block: &[u64], i: usize, keys: &mut [u64; Header::DARTS], c: usize) -> usize
     requires { ⌜ (i < room) × (words-for (i + 1) ≤ length (now block)) × (length (now keys) ≡ 4096) × (c < 4096) ⌝ }
     ensures { λ r. ⌜ Kept (now (block .entry)) i (now (keys .entry)) c (now (keys .exit)) r ⌝ }
 {
-    let k = record::field(block, Place(i), 3);
+    let k = record::field(block, Place(i), Record::KIND);
     if k < 2 {
         return c;
     }
-    keys[c] = record::field(block, Place(i), 4);
+    keys[c] = record::field(block, Place(i), Record::LINK);
     c + 1
 }
 
@@ -83,7 +84,7 @@ pub fn coordinates_finite(block: &[u64]) -> bool
     requires { ⌜ (words-for (count (now block)) ≤ length (now block)) × (count (now block) ≤ room) ⌝ }
     ensures { λ r. ⌜ r ≡ coordinates-finite (block-in (now (block .entry)) .darts) ⌝ }
 {
-    let n = block[2] as usize;
+    let n = block[Header::COUNT] as usize;
     // The points below i are finite.
     let mut i = 0;
     while i < n {
@@ -106,7 +107,7 @@ fn links_pass(block: &[u64], n: usize, seen: &mut [u8; Header::DARTS]) -> bool
         if !dart::link_at(block, n, i) {
             return false;
         }
-        let a = record::field(block, Place(i), 1) as usize;
+        let a = record::field(block, Place(i), Record::NEXT) as usize;
         if seen[a] != 0 {
             return false;
         }
@@ -121,7 +122,7 @@ pub fn links_right(block: &[u64]) -> bool
     requires { ⌜ (words-for (count (now block)) ≤ length (now block)) × Ranged (now block) ⌝ }
     ensures { λ r. ⌜ r ≡ right-links (block-in (now (block .entry)) .darts) ⌝ }
 {
-    let n = block[2] as usize;
+    let n = block[Header::COUNT] as usize;
     let mut seen = [0u8; Header::DARTS];
     links_pass(block, n, &mut seen)
 }
@@ -131,7 +132,7 @@ pub fn thirds_right(block: &[u64]) -> bool
     requires { ⌜ (words-for (count (now block)) ≤ length (now block)) × Ranged (now block) × (right-links (block-in (now block) .darts) ≡ true) ⌝ }
     ensures { λ r. ⌜ r ≡ right-thirds (block-in (now (block .entry)) .darts) ⌝ }
 {
-    let n = block[2] as usize;
+    let n = block[Header::COUNT] as usize;
     // The third links below i are right.
     let mut i = 0;
     while i < n {
@@ -148,13 +149,13 @@ fn own_labels(block: &[u64], n: usize) -> bool
     requires { ⌜ (n ≤ room) × (words-for n ≤ length (now block)) ⌝ }
     ensures { λ r. ⌜ r ≡ all-below (own-test (now (block .entry))) n ⌝ }
 {
-    let me = block[0];
-    let counter = block[1];
+    let me = block[Header::NUMBER];
+    let counter = block[Header::COUNTER];
     // The labels below i are right.
     let mut i = 0;
     while i < n {
-        let k = record::field(block, Place(i), 3);
-        let l = record::field(block, Place(i), 4);
+        let k = record::field(block, Place(i), Record::KIND);
+        let l = record::field(block, Place(i), Record::LINK);
         if !dart::label_right(me, counter, k, l) {
             return false;
         }
@@ -168,7 +169,7 @@ pub fn labels_right(block: &[u64]) -> bool
     requires { ⌜ (words-for (count (now block)) ≤ length (now block)) × Ranged (now block) ⌝ }
     ensures { λ r. ⌜ r ≡ right-labels (block-in (now (block .entry))) ⌝ }
 {
-    let n = block[2] as usize;
+    let n = block[Header::COUNT] as usize;
     if !own_labels(block, n) {
         return false;
     }
@@ -180,7 +181,7 @@ pub fn points_agree(block: &[u64]) -> bool
     requires { ⌜ (words-for (count (now block)) ≤ length (now block)) × Ranged (now block) × (coordinates-finite (block-in (now block) .darts) ≡ true) × (right-links (block-in (now block) .darts) ≡ true) × (right-thirds (block-in (now block) .darts) ≡ true) ⌝ }
     ensures { λ r. ⌜ r ≡ agreeing-points (block-in (now (block .entry)) .darts) ⌝ }
 {
-    let n = block[2] as usize;
+    let n = block[Header::COUNT] as usize;
     // The points below i agree.
     let mut i = 0;
     while i < n {

@@ -11,13 +11,14 @@ ghost use Rattle.stats.specs.Tally.{critical-at, critical-faces};
 use memory::header::Header;
 use memory::record;
 use memory::record::Place;
+use memory::record::Record;
 
 // Whether the dart at place p is critical.
 pub fn is_critical(block: &[u64], p: usize) -> bool
     requires { ⌜ words-for (p + 1) ≤ length (now block) ⌝ }
     ensures { λ r. ⌜ r ≡ critical-at (now (block .entry)) p ⌝ }
 {
-    record::field(block, Place(p), 3) % 4 == 2
+    record::field(block, Place(p), Record::KIND) % 4 == 2
 }
 
 // How many of the faces of the first n places are critical.
@@ -52,7 +53,7 @@ pub fn critical_faces(block: &[u64]) -> usize
     requires { ⌜ holds-block (now block) ≡ true ⌝ }
     ensures { λ r. ⌜ r ≡ length (critical-faces (block-in (now (block .entry)) .darts)) ⌝ }
 {
-    let n = block[2] as usize;
+    let n = block[Header::COUNT] as usize;
     let marks = [1u8; Header::DARTS];
     let mut out = [0usize; Header::DARTS];
     let mut starts = [0usize; Header::DARTS];

@@ -6,16 +6,18 @@ ghost use Rattle.model.specs.Image.{words-for};
 ghost use Rattle.model.specs.Values.{room};
 ghost use Rattle.cells.specs.Places.{Painted};
 ghost use Rattle.stats.specs.Groups.{third-link, group-of, Joined, Entered, Queued, LinksEntered, Shut, Grouped};
+use memory::header::Header;
 use memory::record;
 use memory::record::Place;
+use memory::record::Record;
 
 // Where the third link of the dart at place p leads, if third links count and the dart is sewn; else p.
 fn third_link(block: &[u64], third: bool, p: usize) -> usize
     requires { ⌜ words-for (p + 1) ≤ length (now block) ⌝ }
     ensures { λ r. ⌜ r ≡ third-link third (now (block .entry)) p ⌝ }
 {
-    if third & (record::field(block, Place(p), 3) % 4 == 1) {
-        return record::field(block, Place(p), 4) as usize;
+    if third & (record::field(block, Place(p), Record::KIND) % 4 == 1) {
+        return record::field(block, Place(p), Record::LINK) as usize;
     }
     p
 }
@@ -50,9 +52,9 @@ fn enter_links(
     ensures { λ r. ⌜ LinksEntered third (now (block .entry)) p group (now (groups .entry)) (now (order .entry)) tail
         (now (groups .exit)) (now (order .exit)) r ⌝ }
 {
-    let a = record::field(block, Place(p), 1) as usize;
+    let a = record::field(block, Place(p), Record::NEXT) as usize;
     let with_next = enter(groups, order, tail, a, group);
-    let b = record::field(block, Place(p), 2) as usize;
+    let b = record::field(block, Place(p), Record::OPPOSITE) as usize;
     let with_opposite = enter(groups, order, with_next, b, group);
     let c = third_link(block, third, p);
     enter(groups, order, with_opposite, c, group)
@@ -96,7 +98,7 @@ pub fn number(
     requires { ⌜ Joined (now block) × (now groups ≡ replicate room 0) × (length (now firsts) ≡ room) × (length (now order) ≡ room) ⌝ }
     ensures { λ r. ⌜ Grouped third (now (block .entry)) (now (groups .exit)) (now (firsts .exit)) r ⌝ }
 {
-    let n = block[2] as usize;
+    let n = block[Header::COUNT] as usize;
     // The groups of the places below p have their numbers, `count` of them.
     let mut count = 0;
     let mut tail = 0;

@@ -1,6 +1,7 @@
 // What a block has, counted: darts, volumes, pieces, critical faces; and its counter.
 ghost use mathlib.Core.Path.{_≡_};
 ghost use Rattle.stats.specs.Tally.{tally-of};
+use memory::header::Header;
 use oracle::Oracle;
 
 pub mod counts; // counts.rt: what is told of a block
@@ -28,10 +29,10 @@ pub fn tally(block: &[u64]) -> Tally
     let joined = pieces::pieces(block);
     let faces = critical::critical_faces(block);
     Tally {
-        darts: block[2],
+        darts: block[Header::COUNT],
         volumes: volumes as u64,
         pieces: joined as u64,
         critical: faces as u64,
-        counter: block[1],
+        counter: block[Header::COUNTER],
     }
 }

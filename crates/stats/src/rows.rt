@@ -18,6 +18,7 @@ use crate::groups;
 use memory::header::Header;
 use memory::record;
 use memory::record::Place;
+use memory::record::Record;
 
 // How many cells were told; or that there is no room for their rows; or that the memory is no sound block's image.
 pub enum Told {
@@ -36,7 +37,7 @@ fn first_word(block: &[u64], firsts: &[usize], i: usize) -> u64
     }
     let c = i / 19;
     let p = firsts[c];
-    record::field(block, Place(p), 0)
+    record::field(block, Place(p), Record::SERIAL)
 }
 
 // Starts the rows: the first `end` words.
@@ -77,7 +78,7 @@ fn count_darts(block: &[u64], numbers: &[usize], rows: &mut [u64])
     ensures { λ _. ⌜ Counted (cell-word (now (numbers .entry)) 1) (tab (λ p. p) (getD (now (block .entry)) 2 0))
         (now (rows .entry)) (now (rows .exit)) ⌝ }
 {
-    let n = block[2] as usize;
+    let n = block[Header::COUNT] as usize;
     // The darts before p are counted.
     let mut p = 0;
     while p < n {
@@ -123,7 +124,7 @@ fn border_word(block: &[u64], p: usize) -> usize
     requires { ⌜ words-for (p + 1) ≤ length (now block) ⌝ }
     ensures { λ r. ⌜ r ≡ 3 + column (now (block .entry)) 3 p / 4 ⌝ }
 {
-    3 + (record::field(block, Place(p), 3) / 4) as usize
+    3 + (record::field(block, Place(p), Record::KIND) / 4) as usize
 }
 
 // Counts the critical faces of each cell, by the block that they are critical with.
@@ -157,7 +158,7 @@ fn tell_faces(block: &[u64], numbers: &[usize], rows: &mut [u64])
     requires { ⌜ (holds-block (now block) ≡ true) × Countable (2 ^ 32 + room) (now block) (now numbers) (now rows) ⌝ }
     ensures { λ _. ⌜ FacesCounted (now (block .entry)) (now (numbers .entry)) (now (rows .entry)) (now (rows .exit)) ⌝ }
 {
-    let n = block[2] as usize;
+    let n = block[Header::COUNT] as usize;
     let marks = [1u8; Header::DARTS];
     let mut out = [0usize; Header::DARTS];
     let mut starts = [0usize; Header::DARTS];
