@@ -46,7 +46,7 @@ fn side(mesh: &[u64], table: &[u64], g: usize, h: usize) -> bool
 
 // 25, of the darts of two keys.
 pub fn labels_pair(mesh: &[u64], table: &[u64], x: u64, y: u64) -> bool
-    requires { ⌜ Asked (now mesh) × Before (now mesh) (now table) × Held (now mesh) (x % Header::MESH) × Held (now mesh) (y % Header::MESH) ⌝ }
+    requires { ⌜ Asked (now mesh) × Before (now mesh) (now table) × Held (now mesh) (x % 65536) × Held (now mesh) (y % 65536) ⌝ }
     ensures { λ r. ⌜ r ≡ label-pair (now (mesh .entry)) (now (table .entry)) x y ⌝ }
 {
     let g = (x % Header::MESH) as usize;
@@ -78,7 +78,7 @@ fn meet(mesh: &[u64], g: usize, h: usize) -> bool
 
 // 26, of the darts of two keys.
 pub fn points_pair(mesh: &[u64], x: u64, y: u64) -> bool
-    requires { ⌜ Asked (now mesh) × Held (now mesh) (x % Header::MESH) × Held (now mesh) (y % Header::MESH) ⌝ }
+    requires { ⌜ Asked (now mesh) × Held (now mesh) (x % 65536) × Held (now mesh) (y % 65536) ⌝ }
     ensures { λ r. ⌜ r ≡ point-pair (now (mesh .entry)) x y ⌝ }
 {
     let g = (x % Header::MESH) as usize;

@@ -55,8 +55,8 @@ fn put_part(mesh: &[u64], i: usize, out: &mut [u64], at: usize) -> usize
 
 // Puts the keys of all blocks; how many there are.
 pub fn gather(mesh: &[u64], out: &mut [u64]) -> usize
-    requires { ⌜ Asked (now mesh) × (length (now out) ≡ Header::MESH) ⌝ }
-    ensures { λ r. ⌜ (r ≤ Header::MESH) × (length (now (out .exit)) ≡ Header::MESH) × (take r (now (out .exit)) ≡ all-keys (now (mesh .entry)) (blocks (now (mesh .entry)))) ⌝ }
+    requires { ⌜ Asked (now mesh) × (length (now out) ≡ 65536) ⌝ }
+    ensures { λ r. ⌜ (r ≤ 65536) × (length (now (out .exit)) ≡ 65536) × (take r (now (out .exit)) ≡ all-keys (now (mesh .entry)) (blocks (now (mesh .entry)))) ⌝ }
 {
     let k = mesh.len() / Header::WORDS;
     // The first c entries are the keys of the blocks below i.

@@ -9,7 +9,7 @@ use memory::header::Header;
 
 // Whether key t, if there is one, has another label than x.
 fn fresh(keys: &[u64], x: u64, t: usize) -> bool
-    ensures { λ r. ⌜ r ≡ fresh-in (x / Header::MESH) (drop t (now (keys .entry))) ⌝ }
+    ensures { λ r. ⌜ r ≡ fresh-in (x / 65536) (drop t (now (keys .entry))) ⌝ }
 {
     if keys.len() <= t {
         return true;
