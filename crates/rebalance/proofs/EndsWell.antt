@@ -13,9 +13,8 @@ use Rattle.model.specs.Image.{words, image, block-in}
 use Rattle.model.specs.Balance as balance
 use Rattle.model.specs.Balance.{Oracle, oracle-right, positive-surplus, Move, move, NextMove, next-of}
 use Rattle.model.specs.Calls.{Answer, served, refused, Result, memories, whole-mesh-checks, next-move}
-use Rattle.model.specs.Runs as runs
 use Rattle.model.specs.Runs.{Request, finished}
-use Rattle.model.specs.DividedRun.{memory-at, last-steps, sent-messages}
+use Rattle.model.specs.DividedRun.{memory-at, last-steps, sent-messages, Round}
 use Rattle.laws.proofs.Tests.{by-cases, yes-then, no-here, no-more, first-no-append}
 use Rattle.theory.proofs.CallLaws.{served-gives, refused-gives}
 use Rattle.theory.proofs.MeshLaws.{mesh-parts, memories-are, images-pass, sound-passes}
@@ -145,7 +144,7 @@ module _ (bs : List Block) (sound : Sound all-rack bs) where
       abbrev r : Request
       r = as-request t
 
-      abbrev after-round : runs.Round
+      abbrev after-round : Round
       after-round = round-in-order (map (image words) bs) r outbox
 
       carried : (after-round .outcome ≡ finished) × ((after : List Block) → after-round .memories ≡ map (image words) after → suc (positive-surplus o after) ≡ positive-surplus o bs)
