@@ -30,9 +30,7 @@ fn sizes_at(mesh: &[u64], i: usize, o: Oracle, sizes: &mut [usize])
     requires { ⌜ SoundParts (now mesh) × (i < blocks (now mesh)) × (length (now sizes) ≡ room) ⌝ }
     ensures { λ _. ⌜ Sizes (oracle-of o) (part (now (mesh .entry)) i) (now (sizes .exit)) ⌝ }
 {
-    let from = i * Header::WORDS;
-    let to = from + Header::WORDS;
-    selection::sizes_of(&mesh[from..to], o, sizes)
+    selection::sizes_of(mesh::part_of(mesh, i), o, sizes)
 }
 
 // The first volume that may go from block d to block `to`.
@@ -42,9 +40,7 @@ fn between(mesh: &[u64], d: usize, to: usize, sizes: &mut [usize]) -> Candidate
     ensures untried { λ r. ⌜ Untried-in (at (now (sizes .entry))) (part (now (mesh .entry)) d) (now (sizes .exit)) ⌝ }
 {
     let left = Header::DARTS - mesh[to * Header::WORDS + Header::COUNT] as usize;
-    let from = d * Header::WORDS;
-    let end = from + Header::WORDS;
-    leaving::first_leaving(&mesh[from..end], to as u64, left, sizes)
+    leaving::first_leaving(mesh::part_of(mesh, d), to as u64, left, sizes)
 }
 
 // A move from a known block: the recipient, and the serial of the volume.

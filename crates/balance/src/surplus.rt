@@ -19,9 +19,7 @@ fn count_part(mesh: &[u64], i: usize, o: Oracle) -> u32
     requires { ⌜ SoundParts (now mesh) × (i < blocks (now mesh)) ⌝ }
     ensures { λ r. ⌜ (r ≡ count-at (oracle-of o) (now (mesh .entry)) i) × (r ≤ 4096) ⌝ }
 {
-    let from = i * Header::WORDS;
-    let to = from + Header::WORDS;
-    selection::count(&mesh[from..to], o) as u32
+    selection::count(mesh::part_of(mesh, i), o) as u32
 }
 
 // How many volumes of each block are picked.

@@ -42,14 +42,22 @@ pub fn mesh_lent(mesh: &[u64], scratch: &[u64]) -> bool
     zeros(scratch)
 }
 
+// The memory of block i.
+pub fn part_of<'a>(mesh: &'a [u64], i: usize) -> &'a [u64]
+    requires { ⌜ i < blocks (now mesh) ⌝ }
+    ensures { λ r. ⌜ now r ≡ part (now (mesh .entry)) i ⌝ }
+{
+    let from = i * Header::WORDS;
+    let to = from + Header::WORDS;
+    &mesh[from..to]
+}
+
 // Whether block i is sound.
 fn sound_at(mesh: &[u64], i: usize) -> bool
     requires { ⌜ i < blocks (now mesh) ⌝ }
     ensures { λ r. ⌜ r ≡ holds-block (part (now (mesh .entry)) i) ⌝ }
 {
-    let from = i * Header::WORDS;
-    let to = from + Header::WORDS;
-    sound::is_sound(&mesh[from..to])
+    sound::is_sound(part_of(mesh, i))
 }
 
 // 2: is each part a sound block's image?

@@ -52,9 +52,7 @@ fn made_part(mesh: &[u64], i: usize) -> bool
     requires { ⌜ (i < blocks (now mesh)) × Roomy (now mesh) ⌝ }
     ensures { λ r. ⌜ r ≡ made-block (now (mesh .entry)) (part (now (mesh .entry)) i) ⌝ }
 {
-    let from = i * Header::WORDS;
-    let to = from + Header::WORDS;
-    made_darts(mesh, &mesh[from..to])
+    made_darts(mesh, crate::part_of(mesh, i))
 }
 
 // 27: of all blocks; asked after 2.

@@ -36,9 +36,7 @@ fn put_part(mesh: &[u64], i: usize, out: &mut [u64], at: usize) -> usize
     requires { ⌜ (i < blocks (now mesh)) × Roomy (now mesh) × (at + room ≤ length (now out)) ⌝ }
     ensures { λ r. ⌜ (r ≤ at + room) × Put at (serials-of (part (now (mesh .entry)) i)) (now (out .entry)) (now (out .exit)) r ⌝ }
 {
-    let from = i * Header::WORDS;
-    let to = from + Header::WORDS;
-    put_serials(&mesh[from..to], out, at)
+    put_serials(crate::part_of(mesh, i), out, at)
 }
 
 // Puts the serials of all blocks, one block after the other; how many there are.

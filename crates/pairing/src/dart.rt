@@ -61,9 +61,10 @@ fn point_of(mesh: &[u64], g: usize) -> Point
     requires { ⌜ Asked (now mesh) × Held (now mesh) g ⌝ }
     ensures { λ r. ⌜ r ≡ point-by (now (mesh .entry)) g ⌝ }
 {
-    let from = g / Header::DARTS * Header::WORDS;
-    let to = from + Header::WORDS;
-    point::point_at(&mesh[from..to], Place(g % Header::DARTS))
+    point::point_at(
+        mesh::part_of(mesh, g / Header::DARTS),
+        Place(g % Header::DARTS),
+    )
 }
 
 // 26: g and next of h have one point.

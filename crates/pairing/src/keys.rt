@@ -48,9 +48,7 @@ fn put_part(mesh: &[u64], i: usize, out: &mut [u64], at: usize) -> usize
     requires { ⌜ Asked (now mesh) × (i < blocks (now mesh)) × (at + room ≤ length (now out)) ⌝ }
     ensures { λ r. ⌜ (r ≤ at + room) × Put at (keys-of (part (now (mesh .entry)) i) i (getD (part (now (mesh .entry)) i) 2 0)) (now (out .entry)) (now (out .exit)) r ⌝ }
 {
-    let from = i * Header::WORDS;
-    let to = from + Header::WORDS;
-    put_keys(&mesh[from..to], i, out, at)
+    put_keys(mesh::part_of(mesh, i), i, out, at)
 }
 
 // Puts the keys of all blocks; how many there are.

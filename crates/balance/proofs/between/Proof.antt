@@ -1,7 +1,6 @@
 -- `balance::between` meets its contract. Assumes nothing.
 use Prim.Native.Nat.{ℕ, _-_}
-use mathlib.Core.Path.{refl, sym, ap}
-use Rattle.mesh.proofs.Parts.{part-is}
+use mathlib.Core.Path.{sym, ap}
 use Rattle.balance.proofs.MovesLaws.{count-word, count-few, leaving-ready, between-there}
 use native.Mathlib.Omega.{arith}
 use borrow.Author.Needs.{needs}
@@ -25,31 +24,16 @@ sub-left c =
     let start : tie.Start = search in
     omega (arith, count-few (start .pre .0) (start .args .to) (start .pre .2))
 
-mul-from : tie.Need-mul-from
-mul-from c = search needs
-
-add-end : tie.Need-add-end
-add-end c = search needs
-
-mul-first-leaving : tie.Need-mul-first-leaving
-mul-first-leaving c = search needs
-
-sub-first-leaving : tie.Need-sub-first-leaving
-sub-first-leaving c = search needs
-
-part-first-leaving-start : tie.Need-part-first-leaving-start
-part-first-leaving-start c = search needs
-
-part-first-leaving-end : tie.Need-part-first-leaving-end
-part-first-leaving-end c = search needs
+part-of-requires : tie.Need-part-of-requires
+part-of-requires c κs = search needs
 
 first-leaving-requires : tie.Need-first-leaving-requires
 first-leaving-requires c κs =
     let start : tie.Start = search in
     let d = start .args .d in
     let to = start .args .to in
-    let mesh = start .args .mesh .now in
-    let q = leaving-ready (start .pre .0) d to (start .pre .1) (start .pre .2) (start .pre .3) (part-is mesh d _ refl) in
+    let part-of-ensures = (let p : tie.After-part-of = search in p .part-of .ensures) in
+    let q = leaving-ready (start .pre .0) d to (start .pre .1) (start .pre .2) (start .pre .3) part-of-ensures in
     (q .0, q .1, q .2, start .pre .4)
 
 same-length : tie.Need-same-length
@@ -60,10 +44,10 @@ returns c =
     let start : tie.Start = search in
     let sizes = start .args .sizes .now in
     let mesh = start .args .mesh .now in
-    let d = start .args .d in
     let to = start .args .to in
+    let part-of-ensures = (let p : tie.After-part-of = search in p .part-of .ensures) in
     let first-leaving-ensures = (let p : tie.After-first-leaving = search in p .first-leaving .ensures) in
-    between-there sizes (part-is mesh d _ refl) (ap (λ (x : ℕ). 4096 - x) (sym (count-word mesh to))) (first-leaving-ensures .0) (first-leaving-ensures .1)
+    between-there sizes part-of-ensures (ap (λ (x : ℕ). 4096 - x) (sym (count-word mesh to))) (first-leaving-ensures .0) (first-leaving-ensures .1)
 
 pub between-spec : {M : Type 1} → statement M
 between-spec =
@@ -74,12 +58,7 @@ between-spec =
     mul-left-2
     shared-slice-read-left
     sub-left
-    mul-from
-    add-end
-    mul-first-leaving
-    sub-first-leaving
-    part-first-leaving-start
-    part-first-leaving-end
+    part-of-requires
     first-leaving-requires
     same-length
     returns)
