@@ -4,24 +4,20 @@ use mathlib.Core.Bool.{Bool, true≢false, cond}
 use mathlib.Core.List.{List, [], _∷_, _++_}
 use Prim.Native.Nat.{ℕ, _+_, _-_, _≤_, _<_, min}
 use native.Mathlib.Omega.{arith}
-use native.Mathlib.Numerals.{add-one}
 use lib.ListN.{length, getD, replicate, set, take, drop, length-replicate}
-use lib.Seq.{take-suc, length-take-le, getD-take}
+use lib.Seq.{length-take-le, getD-take}
 use Rattle.model.specs.Lists.{least, mem}
 use Rattle.laws.proofs.Tests.{by-cases}
-use Rattle.laws.proofs.Lists.{getD-zeros}
+use Rattle.laws.proofs.Lists.{getD-zeros, take-more}
 use Rattle.laws.proofs.Members.{In, in-getD, least-in, least-below, least-more}
 use Rattle.cells.specs.Places.{Clear, Listed, Marked, Painted, bit, marked}
 use Rattle.cells.proofs.Paths.{paint-more}
 use Rattle.cells.proofs.FaceLaws.{in-marked, marked-in}
 
 -- PAINTED BY A LIST: one place more
-pub one-more : (order : List ℕ) (i : ℕ) → i < length order → take (i + 1) order ≡ take i order ++ getD order i 0 ∷ []
-one-more order i h = ap (λ (k : ℕ). take k order) (add-one i) ∙ take-suc order i 0 h
-
 pub paint-listed : (order : List ℕ) (i : ℕ) {c : ℕ} {t t′ : List ℕ} → Painted c (take i order) t t′ → i < length order
     → getD order i 0 < length t → Painted c (take (i + 1) order) t (set t′ (getD order i 0) c)
-paint-listed order i w h l = rw (one-more order i h) (paint-more w l)
+paint-listed order i w h l = rw (take-more order i h) (paint-more w l)
 
 -- what is marked is in the volume
 pub marks-in : {v marks : List ℕ} → Marked v marks → (p : ℕ) → getD marks p 0 ≡ 1 → In p v
@@ -60,7 +56,7 @@ lowest-first (x ∷ order) h = record { some = omega arith; low-is = refl }
 module _ (order : List ℕ) (i : ℕ) {low : ℕ} (w : Lowest order i low) (h : i < length order) where
   next-least : least (take (i + 1) order) ≡ min low (getD order i 0)
   next-least =
-      ap least (one-more order i h)
+      ap least (take-more order i h)
       ∙ least-last (take i order) (getD order i 0) (omega (arith, w .some, length-take-le i order (omega arith)))
       ∙ ap (λ (k : ℕ). min k (getD order i 0)) (sym (w .low-is))
 

@@ -3,18 +3,18 @@
 use mathlib.Core.Path.{_≡_, refl, sym, _∙_, ap}
 use mathlib.Core.Bool.{Bool, true, false, true≢false, cond, not, _&&_}
 use mathlib.Core.List.{List, [], _∷_, _++_, map, append-nil}
-use Prim.Native.Nat.{ℕ, zero, suc, _+_, _≤_, _<_}
+use Prim.Native.Nat.{ℕ, suc, _+_, _≤_, _<_}
 use native.Mathlib.Omega.{arith}
 use native.Mathlib.Numerals.{add-one}
 use lib.Dec.{eqb}
 use lib.ListN.{length, getD, set, take, length-append, length-set}
-use lib.Seq.{getD-set-same, getD-set-other, take-suc, take-suc-set, length-take-le, getD-take}
+use lib.Seq.{getD-set-same, getD-set-other, take-suc-set, length-take-le, getD-take}
 use borrow.Author.Tests.{eq-eqb, ne-eqb}
-use Rattle.model.specs.Lists.{keep, mem, firsts, index-of, least}
+use Rattle.model.specs.Lists.{keep, mem, firsts, index-of}
 use Rattle.model.specs.Cells.{cycle, ring, vertex, vertices, vertex-number}
 use Rattle.model.specs.Values.{room}
 use Rattle.laws.proofs.Tests.{by-cases}
-use Rattle.laws.proofs.Members.{In, in-here, in-eq, in-getD, in-append-left, in-append-right, in-map, map-append, mem-keep, least-in, least-below, least-among}
+use Rattle.laws.proofs.Members.{In, in-here, in-eq, in-getD, in-append-left, in-append-right, in-map, map-append, mem-keep, least-below, least-among}
 use Rattle.laws.proofs.Faces.{face-self, face-stays, face-sym, face-trans}
 use Rattle.theory.proofs.ImageLaws.{place-back}
 use Rattle.cells.specs.Places.{Within, Apart, Painted, Numbered}
@@ -22,6 +22,7 @@ use Rattle.cells.proofs.Walks.{eq-or-ne, in-take, last-or-below}
 use Rattle.cells.proofs.Reached.{places, in-places, places-below, within-places}
 use Rattle.cells.proofs.Paths.{apart-places, few-places, mem-append}
 use Rattle.cells.proofs.FaceLaws.{keep-append}
+use Rattle.laws.proofs.Lists.{take-more}
 
 -- FIRST USES
 pub mem-firsts : (y : ℕ) (l : List ℕ) → mem y (firsts l) ≡ mem y l
@@ -204,7 +205,7 @@ passing-start n nx op order darts numbers first size none fits =
 module _ {n darts i count p : ℕ} {nx op : ℕ → ℕ} {order numbers first : List ℕ} (w : Passing n nx op order darts i numbers first count)
     (h : i < darts) (fits : darts ≤ room) (there : darts ≤ length order) (below : (k : ℕ) → k < darts → getD order k 0 < n) (e : p ≡ getD order i 0) where
   one-more : take (i + 1) order ≡ take i order ++ p ∷ []
-  one-more = ap (λ (k : ℕ). take k order) (add-one i) ∙ take-suc order i 0 (omega arith) ∙ ap (λ (x : ℕ). take i order ++ x ∷ []) (sym e)
+  one-more = take-more order i (omega arith) ∙ ap (λ (x : ℕ). take i order ++ x ∷ []) (sym e)
 
   short : length (take i order) < room
   short = omega (arith, length-take-le i order (omega arith))

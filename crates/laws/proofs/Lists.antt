@@ -1,11 +1,11 @@
 -- Lists that a loop writes or reads from front to back, and lists of zeros. Assumes nothing.
 use Prim.Native.Nat.{ℕ, zero, suc, _+_, _-_, _≤_, _<_}
-use mathlib.Core.Path.{_≡_, refl, sym, _∙_}
+use mathlib.Core.Path.{_≡_, refl, sym, _∙_, ap}
 use mathlib.Core.List.{List, [], _∷_, _++_, append-assoc, append-nil}
 use native.Mathlib.Numerals.{add-one}
 use native.Mathlib.Omega.{arith}
 use lib.ListN.{length, getD, take, drop, set, replicate, drop-of-length-le, length-drop}
-use lib.Seq.{take-suc-set, drop-cons, take-all}
+use lib.Seq.{take-suc-set, drop-cons, take-all, take-suc}
 use Rattle.model.specs.Lists.{concat, sum}
 
 -- zeros hold nothing but 0, also past their end
@@ -49,3 +49,7 @@ pub concat-snoc : (l : List (List ℕ)) (r : List ℕ) → concat (l ++ r ∷ []
 unfolding concat
 concat-snoc [] r = append-nil r
 concat-snoc (a ∷ l) r = rw (concat-snoc l r, append-assoc)
+
+-- one more of a list
+pub take-more : (l : List ℕ) (i : ℕ) → i < length l → take (i + 1) l ≡ take i l ++ getD l i 0 ∷ []
+take-more l i h = ap (λ (k : ℕ). take k l) (add-one i) ∙ take-suc l i 0 h

@@ -12,13 +12,13 @@ use borrow.Author.Tests.{eq-eqb, ne-eqb}
 use Rattle.model.specs.Lists.{keep, tab}
 use Rattle.model.specs.Image.{column}
 use Rattle.model.specs.Values.{room}
-use Rattle.cells.proofs.Resets.{one-more}
 use Rattle.laws.proofs.Members.{keep-le}
 use Rattle.laws.proofs.Maps.{tab-more}
 use Rattle.laws.proofs.Tables.{length-tab}
 use Rattle.cells.proofs.Walks.{eq-or-ne, last-or-below}
 use Rattle.cells.proofs.FaceLaws.{keep-append}
 use Rattle.stats.specs.Counting.{head-word, Headed, cell-word, Countable, Counted, face-starts, Started}
+use Rattle.laws.proofs.Lists.{take-more}
 
 -- NOTHING COUNTED YET
 pub counted-none : (index : ℕ → ℕ) (T : List ℕ) → Counted index [] T T
@@ -111,7 +111,7 @@ module _ {m out starts : List ℕ} {count : ℕ} (s : Started m out starts count
 
     one-more : keep test (take (f + 1) (face-starts m)) ≡ keep test (take f (face-starts m)) ++ keep test (p ∷ [])
     one-more =
-        ap (keep test) (one-more (face-starts m) f (omega (arith, s .count-is)) ∙ ap (λ (x : ℕ). take f (face-starts m) ++ x ∷ []) (sym start))
+        ap (keep test) (take-more (face-starts m) f (omega (arith, s .count-is)) ∙ ap (λ (x : ℕ). take f (face-starts m) ++ x ∷ []) (sym start))
         ∙ keep-append test (take f (face-starts m)) (p ∷ [])
 
     pub faces-skip : test p ≡ false → Faces m index test T count (f + 1) T′
