@@ -15,7 +15,7 @@ use Rattle.model.specs.Calls.{served, refused, Result, asked}
 use Rattle.answers.specs.Answers.{Gives, answered}
 use Rattle.answers.proofs.Questions.{gives, alone, ask-no, ask-yes, ask-end, ask-all, ask-first}
 use Rattle.newblock.specs.Serials.{raw-block, InSerials}
-use Rattle.newblock.specs.Checks.{link-checks}
+use Rattle.newblock.specs.Checks.{link-checks, storing-block}
 use Rattle.newblock.proofs.Unheld.{finite-same, links-same, thirds-same, block-same}
 
 -- questions with the same first no have the same answer
@@ -87,11 +87,10 @@ module _ {m : List ℕ} (w : InSerials m) {x : List ℕ} (is-image : x ≡ image
   same : answered (block-checks (block-in x)) ≡ answered (block-checks (raw-block m))
   same = ap (λ (y : List ℕ). answered (block-checks (block-in y))) is-image ∙ answers-same (length m) (raw-block m) (w .ranges)
 
-  pub put-refused : {n : ℕ} → refused n ≡ answered (block-checks (block-in x)) → Gives (asked (block-checks (raw-block m)) before (tt {0}) (image (length m) (raw-block m))) (refused n) before
+  pub put-refused : {n : ℕ} → refused n ≡ answered (block-checks (block-in x)) → Gives (storing-block m before) (refused n) before
   unfolding block-checks
   put-refused q = gives _ _ _ _ (ask-first (block-checks (raw-block m)) [] (q ∙ same) refl)
 
-  pub put-served : served tt ≡ answered (block-checks (block-in x)) → {y : List ℕ} → y ≡ x
-      → Gives (asked (block-checks (raw-block m)) before (tt {0}) (image (length m) (raw-block m))) (served tt) y
+  pub put-served : served tt ≡ answered (block-checks (block-in x)) → {y : List ℕ} → y ≡ x → Gives (storing-block m before) (served tt) y
   unfolding block-checks
   put-served q f = gives _ _ _ _ (ask-all (block-checks (raw-block m)) [] refl (q ∙ same) (ask-end (f ∙ is-image)))

@@ -4,12 +4,11 @@ ghost use mathlib.Core.Path.{_≡_};
 ghost use Prim.Native.Nat.{_≤_};
 ghost use lib.ListN.{length};
 ghost use Rattle.model.specs.Sound.{block-checks};
-ghost use Rattle.model.specs.Image.{words-for, image, block-in};
-ghost use Rattle.model.specs.Calls.{asked};
+ghost use Rattle.model.specs.Image.{words-for, block-in};
 ghost use Rattle.answers.specs.Answers.{answer-of, answered, Gives};
 ghost use Rattle.columns.specs.Columns.{count, Ranged};
-ghost use Rattle.newblock.specs.Serials.{raw-block, InSerials};
-ghost use Rattle.newblock.specs.Checks.{link-checks};
+ghost use Rattle.newblock.specs.Serials.{InSerials};
+ghost use Rattle.newblock.specs.Checks.{link-checks, storing-block};
 
 pub mod place; // place.rt: places for the serials
 
@@ -56,7 +55,7 @@ pub fn block_answer(block: &[u64]) -> Answer
 // the lent memory.
 pub fn put_block(made: &mut [u64], block: &mut [u64]) -> Answer
     requires { ⌜ (length (now block) ≡ length (now made)) × InSerials (now made) ⌝ }
-    ensures { λ r. ⌜ Gives (asked (block-checks (raw-block (now (made .entry)))) (now (block .entry)) tt (image (length (now (made .entry))) (raw-block (now (made .entry))))) (answer-of r) (now (block .exit)) ⌝ }
+    ensures { λ r. ⌜ Gives (storing-block (now (made .entry)) (now (block .entry))) (answer-of r) (now (block .exit)) ⌝ }
 {
     place::resolve(made);
     match block_answer(made) {

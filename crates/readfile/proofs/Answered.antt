@@ -23,6 +23,7 @@ use Rattle.theory.proofs.ImageLaws.{ranges-of}
 use Rattle.answers.specs.Answers.{Gives}
 use Rattle.answers.proofs.Questions.{gives, ask-no, ask-yes}
 use Rattle.newblock.specs.Serials.{raw, raw-block, InSerials}
+use Rattle.newblock.specs.Checks.{storing-block}
 use Rattle.newblock.proofs.Imaged.{raw-length, raw-back, in-serials}
 use Rattle.readfile.specs.Parts.{RawRead}
 
@@ -87,6 +88,5 @@ module _ (s m : List ℕ) where
       unfolding b read-file storing block-checks
       asked-on g = rw (held .1) (gives _ _ _ _ (ask-yes (eq-eqb (length m) words size) (ask-yes refl (record { result = g }))))
 
-      pub block-put : {given : Answer (Unit {0})} {lent : List ℕ} → Gives (asked (block-checks (raw-block x)) m tt (image (length x) (raw-block x))) given lent
-          → Gives (read-file rack s m) given lent
+      pub block-put : {given : Answer (Unit {0})} {lent : List ℕ} → Gives (storing-block x m) given lent → Gives (read-file rack s m) given lent
       block-put g = asked-on (same-put m (length x) words (raw-block x) b raw-long stands-for g)

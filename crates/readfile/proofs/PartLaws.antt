@@ -166,10 +166,12 @@ critical-reads : {s : List ℕ} {at o from next : ℕ} {l : Label} → Reads (at
 unfolding critical-link
 critical-reads p q = pair-reads (at-most 15) label p q
 
-pub critical-read : {s : List ℕ} {at o from next k : ℕ} (a : ℕ) → Reads (at-most 15) s at o from → Reads label s from (label-in a) next → k ≡ 2 + 4 * o → linked.Link k a next ≡ third-read (third 2) s at
+pub critical-read : {s : List ℕ} {at o from next k : ℕ} (a : ℕ) → Reads (at-most 15) s at o from → Reads label s from (label-in a) next → k ≡ 2 + 4 * o
+    → linked.Link k a next ≡ third-read (third 2) s at
 critical-read {s} {at} {o} {from} {next} a p q e =
     let r = critical-reads p q in
-    ap (λ (w : ℕ). linked.Link w a next) e ∙ ap (λ (c : ℕ). linked.Link (2 + 4 * o) c next) (sym (code-in a)) ∙ a-third (third 2) s at next (critical o (label-in a)) (unfold third in (rw (r .value))) (r .within)
+    ap (λ (w : ℕ). linked.Link w a next) e ∙ ap (λ (c : ℕ). linked.Link (2 + 4 * o) c next) (sym (code-in a))
+    ∙ a-third (third 2) s at next (critical o (label-in a)) (unfold third in (rw (r .value))) (r .within)
 
 no-critical : {s : List ℕ} {at : ℕ} → Lacks critical-link s at → linked.Bad ≡ third-read (third 2) s at
 no-critical e = no-third (third 2) (record { value = unfold third in (rw (e .value)) })
