@@ -1,2 +1,3 @@
 pub mod ByPlaces
 pub mod Asked
+pub mod Questions

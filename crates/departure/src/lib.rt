@@ -1,17 +1,21 @@
-// What is asked before a volume leaves a block: questions 9 to 14. Send and release put them.
+// What is asked before a volume leaves a block: questions 9 to 14. Send and release put them all in a row.
+pub mod questions; // questions.rt: 9 to 14 one by one
+
 ghost use mathlib.Core.Path.{_≡_};
-ghost use mathlib.Core.Bool.{true, not, _&&_};
-ghost use Prim.Native.Nat.{ℕ, _+_, _≤_, _<_, _^_};
-ghost use lib.Dec.{leb, ltb, eqb};
+ghost use mathlib.Core.Bool.{true};
+ghost use Prim.Native.Nat.{ℕ, _≤_, _<_};
 ghost use lib.ListN.{length, getD, take};
 ghost use Rattle.model.specs.Values.{room};
 ghost use Rattle.model.specs.Image.{count-in, holds-block};
 ghost use Rattle.memory.specs.Header.{limits-of};
 ghost use Rattle.cells.specs.Places.{Clear, Marked};
 ghost use Rattle.departure.specs.Asked.{Forgotten, Leaves};
+use crate::questions::Pairs;
+use crate::questions::Sewn;
+use crate::questions::Walk;
 use answers::Refusal;
+use memory::header::Header;
 use memory::header::Limits;
-use memory::lookup;
 use memory::lookup::Found;
 
 // How many darts, faces and vertices a volume has, and how many of its faces are sewn to another volume.
@@ -26,22 +30,6 @@ pub struct Counts {
 pub enum Leaving {
     Volume(Counts),
     Refused(Refusal),
-}
-
-// 9: is the destination at most 15 and not this block?
-fn destination_right(block: &[u64], to: u64) -> bool
-    requires { ⌜ 8 ≤ length (now block) ⌝ }
-    ensures { λ r. ⌜ r ≡ (leb to 15 && not (eqb to (getD (now (block .entry)) 0 0))) ⌝ }
-{
-    (to <= 15) & (to != block[0])
-}
-
-// 14: does the counter stay a number below 2^32, with one more for each face sewn to another volume?
-fn counter_fits(block: &[u64], sewn: usize) -> bool
-    requires { ⌜ (8 ≤ length (now block)) × (getD (now block) 1 0 < 2 ^ 32) × (sewn ≤ room) ⌝ }
-    ensures { λ r. ⌜ r ≡ ltb (getD (now (block .entry)) 1 0 + sewn) (2 ^ 32) ⌝ }
-{
-    block[1] + (sewn as u64) < 4294967296
 }
 
 // Takes the marks of a volume that does not leave away, at its own darts alone.
@@ -77,36 +65,33 @@ pub fn leaves(
     ensures answer { λ r. ⌜ Leaves (limits-of limits .volume-darts) (now (block .entry)) to serial r (now (marks .exit)) (now (out .exit)) (now (starts .exit)) (now (numbers .exit)) (now (firsts .exit)) ⌝ }
     ensures clear { λ r. ⌜ Forgotten r (now (marks .exit)) (now (seen .exit)) ⌝ }
 {
-    if !destination_right(block, to) {
+    if !questions::destination_right(block, to) {
         return Leaving::Refused(Refusal::Destination);
     }
-    let n = block[2] as usize;
-    let Found::At(place) = lookup::place_of(block, n, serial) else {
+    let Found::At(place) = questions::place_held(block, serial) else {
         return Leaving::Refused(Refusal::SerialNotHeld);
     };
-    // `out` lists the darts as the walk met them before it has them in order.
-    let size = cells::walk::volume(block, n, place, out, marks);
-    if limits.volume < size {
-        cells::reset::unmark(out, size, marks);
+    let Walk::Volume(size) = questions::volume_within(block, place, limits.volume, out, marks)
+    else {
         return Leaving::Refused(Refusal::VolumeTooLarge);
-    }
+    };
+    let n = block[Header::COUNT] as usize;
     let order = cells::order::message_order(block, n, size, marks, out, starts, seen);
     let darts = order.darts;
     let faces = order.faces;
-    if cells::sewn::sewn_within(block, n, marks, out, darts) {
+    if !questions::none_sewn_within(block, marks, out, darts) {
         forget(out, darts, marks, seen);
         return Leaving::Refused(Refusal::SewnWithin);
     }
-    let vertices = cells::vertex::number_vertices(block, n, out, darts, numbers, firsts);
-    if !cells::pairs::pairs_once(block, n, numbers, firsts, vertices, stamps) {
+    let Pairs::Once(vertices) = questions::pairs_once(block, out, darts, numbers, firsts, stamps)
+    else {
         forget(out, darts, marks, seen);
         return Leaving::Refused(Refusal::VertexPairs);
-    }
-    let sewn = cells::sewn::count_sewn(block, n, marks, out, starts, darts, faces);
-    if !counter_fits(block, sewn) {
+    };
+    let Sewn::Faces(sewn) = questions::counter_fits(block, marks, out, starts, darts, faces) else {
         forget(out, darts, marks, seen);
         return Leaving::Refused(Refusal::CounterFull);
-    }
+    };
     Leaving::Volume(Counts {
         darts,
         faces,

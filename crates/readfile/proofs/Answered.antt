@@ -1,41 +1,51 @@
--- The call's answers: questions 1 and 3, then 4 to 8 as they were put to the image. Assumes nothing.
+-- The call's answers: questions 1 and 3, then 4 to 8 of the block that the file holds. Assumes nothing.
 use mathlib.Core.Path.{_≡_, refl, sym, ap, _∙_}
-use mathlib.Core.Bool.{Bool, true, false, cond, not}
-use mathlib.Core.List.{List, [], _++_}
-use mathlib.Core.Option.{some}
+use mathlib.Core.Bool.{Bool, true, false, true≢false, not}
+use mathlib.Core.List.{List}
+use mathlib.Core.Option.{Option, none, some}
 use Prim.Native.Nat.{ℕ, _≤_}
 use native.Mathlib.Omega.{arith}
-use lib.Dec.{eqb}
 use lib.ListN.{length}
 use borrow.Author.Tests.{eq-eqb, ne-eqb, not-true, not-false}
-use Rattle.model.specs.Lists.{Check, first-no}
-use Rattle.model.specs.Values.{Block, rack}
+use Rattle.model.specs.Lists.{is-some}
+use Rattle.model.specs.Values.{Block, rack, widest}
 use Rattle.model.specs.Sound.{ranges-right, block-checks}
 use Rattle.model.specs.Layouts.{whole}
 use Rattle.model.specs.Messages.{file}
-use Rattle.model.specs.Image.{words-for, words, image, block-in}
-use Rattle.model.specs.Calls.{Answer, served, refused, Result, asked, storing, read-file}
+use Rattle.model.specs.Image.{words-for, words, image}
+use Rattle.model.specs.Calls.{Answer, refused, asked, storing, read-file}
 use Rattle.model.specs.Demands.{Bytes}
-use Rattle.theory.proofs.ImageLaws.{ranges-of, image-length}
-use Rattle.answers.specs.Answers.{Gives, answered}
-use Rattle.answers.proofs.Questions.{Asks, gives, ask-no, ask-yes, ask-end, ask-all, ask-first}
-use Rattle.columns.specs.Columns.{count, Ranged}
-use Rattle.columns.proofs.Built.{built}
-use Rattle.readfile.specs.Parts.{ImageRead}
-use Rattle.readfile.proofs.Imaged.{file-ranges, some-block}
-use Rattle.readfile.proofs.Unheld.{same-answers}
+use Rattle.theory.proofs.LayoutLaws.{whole-only}
+use Rattle.theory.proofs.FileLaws.{file-lawful}
+use Rattle.theory.proofs.DemandTwo.{ok-ranges}
+use Rattle.theory.proofs.ImageLaws.{ranges-of}
+use Rattle.answers.specs.Answers.{Gives}
+use Rattle.answers.proofs.Questions.{gives, ask-no, ask-yes}
+use Rattle.newblock.specs.Serials.{raw, raw-block, InSerials}
+use Rattle.newblock.specs.Checks.{storing-block}
+use Rattle.newblock.proofs.Imaged.{raw-length, raw-back, in-serials}
+use Rattle.readfile.specs.Parts.{RawRead}
 
--- questions with the same first no have the same answer
-answered-first : (ps qs : List Check) → first-no ps ≡ first-no qs → answered ps ≡ answered qs
-unfolding answered asked
-answered-first ps qs e = ap (λ (n : ℕ). cond {A = Result (Unit {0})} (eqb n 0) (record { answer = served tt; lent = [] }) (record { answer = refused n; lent = [] }) .answer) e
+-- QUESTION 3
+-- the ranges of a block that a file holds
+file-ranges : (s : List ℕ) → Bytes s → (b : Block) → whole (file rack) s ≡ some b → ranges-right widest b ≡ true
+file-ranges s h b e = ok-ranges rack b (whole-only (file rack) (file-lawful rack) s b h e .1)
+
+some-block : (o : Option Block) → true ≡ is-some o → (b : Block) × (o ≡ some b)
+some-block none e = absurd (true≢false e)
+some-block (some b) e = (b, refl)
+
+-- the same block, in memory of the same size
+same-put : (m : List ℕ) (n size : ℕ) (c b : Block) → n ≡ size → c ≡ b → {given : Answer (Unit {0})} {lent : List ℕ}
+    → Gives (asked (block-checks c) m tt (image n c)) given lent → Gives (asked (block-checks b) m tt (image size b)) given lent
+same-put m n size c b en ec g = rw (en, ec) at g
 
 module _ (s m : List ℕ) where
   pub size-refused : (length m ≡ words → ⊥) → Gives (read-file rack s m) (refused 1) m
   unfolding read-file storing
   size-refused h = gives _ _ _ _ (ask-no refl (ne-eqb (length m) words h) refl)
 
-  module _ (size : length m ≡ words) {x : List ℕ} {r : Bool} (w : ImageRead s x r) where
+  module _ (size : length m ≡ words) {x : List ℕ} {r : Bool} (w : RawRead s x r) where
     pub layout-refused : not r ≡ true → Gives (read-file rack s m) (refused 3) m
     unfolding read-file storing
     layout-refused e = gives _ _ _ _ (ask-yes (eq-eqb (length m) words size) (ask-no refl (sym (w .answer) ∙ not-true r e) refl))
@@ -45,31 +55,33 @@ module _ (s m : List ℕ) where
       held : (b : Block) × (whole (file rack) s ≡ some b)
       held = some-block (whole (file rack) s) (sym (not-false r e) ∙ w .answer)
 
-      in-range : ranges-right rack (held .0) ≡ true
+      b : Block
+      b = held .0
+
+      in-range : ranges-right widest b ≡ true
+      unfolding b
       in-range = file-ranges s bytes (held .0) (held .1)
 
-      is-image : x ≡ image words (held .0)
-      is-image = w .memory (held .0) (held .1)
+      is-raw : x ≡ raw words b
+      unfolding b
+      is-raw = w .memory (held .0) (held .1)
 
-      pub image-long : length x ≡ words
-      image-long = rw is-image (image-length words (held .0) (omega (arith, ranges-of rack (held .0) in-range .few-darts)))
+      fits : words-for (length (b .darts)) ≤ words
+      fits = omega (arith, ranges-of widest b in-range .few-darts)
 
-      pub image-ranged : Ranged x
-      image-ranged = rw is-image (built words (held .0) in-range)
+      stands-for : raw-block x ≡ b
+      stands-for = ap raw-block is-raw ∙ raw-back words b in-range
 
-      pub image-fits : words-for (count x) ≤ length x
-      image-fits = omega (arith, image-long, image-ranged .few)
+      pub raw-long : length x ≡ words
+      raw-long = ap length is-raw ∙ raw-length words b fits
 
-      same : answered (block-checks (block-in x)) ≡ answered (block-checks (held .0))
-      same = ap (λ (y : List ℕ). answered (block-checks (block-in y))) is-image ∙ answered-first (block-checks (block-in (image words (held .0)))) (block-checks (held .0)) (same-answers words (held .0) in-range)
+      pub raw-ready : InSerials x
+      raw-ready = rw is-raw (in-serials words b in-range fits)
 
-      -- the questions before
-      read : {given : Answer (Unit {0})} {lent : List ℕ} → Asks (block-checks (held .0) ++ []) m tt (image words (held .0)) given lent → Gives (read-file rack s m) given lent
-      unfolding read-file storing block-checks
-      read a = rw (held .1) (gives _ _ _ _ (ask-yes (eq-eqb (length m) words size) (ask-yes refl a)))
+      -- 4 to 8 of it were asked
+      asked-on : {given : Answer (Unit {0})} {lent : List ℕ} → Gives (asked (block-checks b) m tt (image words b)) given lent → Gives (read-file rack s m) given lent
+      unfolding b read-file storing block-checks
+      asked-on g = rw (held .1) (gives _ _ _ _ (ask-yes (eq-eqb (length m) words size) (ask-yes refl (record { result = g }))))
 
-      pub block-refused : {n : ℕ} → refused n ≡ answered (block-checks (block-in x)) → Gives (read-file rack s m) (refused n) m
-      block-refused q = read (ask-first (block-checks (held .0)) [] (q ∙ same) refl)
-
-      pub block-served : served tt ≡ answered (block-checks (block-in x)) → {y : List ℕ} → y ≡ x → Gives (read-file rack s m) (served tt) y
-      block-served q f = read (ask-all (block-checks (held .0)) [] (unfold block-checks in refl) (q ∙ same) (ask-end (f ∙ is-image)))
+      pub block-put : {given : Answer (Unit {0})} {lent : List ℕ} → Gives (storing-block x m) given lent → Gives (read-file rack s m) given lent
+      block-put g = asked-on (same-put m (length x) words (raw-block x) b raw-long stands-for g)

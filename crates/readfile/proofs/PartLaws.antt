@@ -14,7 +14,7 @@ use Rattle.model.specs.Messages.{kind-of, label, critical-link, third-get, thir
 use Rattle.groups.specs.Slices.{label-code}
 use Rattle.groups.proofs.Ends.{Onward, Ends, Reads, from-onward, then-some, same-rest, onward-then, onward-to, as-type-ends, ⊕-ends, serial-ends, at-most-ends, label-ends, coordinate-ends}
 use Rattle.groups.proofs.Labels.{code-in, at-most-bound}
-use Rattle.readfile.specs.Serials.{raw-link, raw-record}
+use Rattle.newblock.specs.Serials.{raw-link, raw-record}
 use Rattle.readfile.specs.Parts.{kind-and-third, placed-third, third-read, placed-point, point-read, placed-dart, dart-read}
 use Rattle.readfile.specs.declared.dart.Linked.{Linked}
 use Rattle.readfile.specs.declared.dart.Linked.the-variants as linked
@@ -166,10 +166,12 @@ critical-reads : {s : List ℕ} {at o from next : ℕ} {l : Label} → Reads (at
 unfolding critical-link
 critical-reads p q = pair-reads (at-most 15) label p q
 
-pub critical-read : {s : List ℕ} {at o from next : ℕ} (a : ℕ) → Reads (at-most 15) s at o from → Reads label s from (label-in a) next → linked.Link (2 + 4 * o) a next ≡ third-read (third 2) s at
-critical-read {s} {at} {o} {from} {next} a p q =
+pub critical-read : {s : List ℕ} {at o from next k : ℕ} (a : ℕ) → Reads (at-most 15) s at o from → Reads label s from (label-in a) next → k ≡ 2 + 4 * o
+    → linked.Link k a next ≡ third-read (third 2) s at
+critical-read {s} {at} {o} {from} {next} a p q e =
     let r = critical-reads p q in
-    ap (λ (c : ℕ). linked.Link (2 + 4 * o) c next) (sym (code-in a)) ∙ a-third (third 2) s at next (critical o (label-in a)) (unfold third in (rw (r .value))) (r .within)
+    ap (λ (w : ℕ). linked.Link w a next) e ∙ ap (λ (c : ℕ). linked.Link (2 + 4 * o) c next) (sym (code-in a))
+    ∙ a-third (third 2) s at next (critical o (label-in a)) (unfold third in (rw (r .value))) (r .within)
 
 no-critical : {s : List ℕ} {at : ℕ} → Lacks critical-link s at → linked.Bad ≡ third-read (third 2) s at
 no-critical e = no-third (third 2) (record { value = unfold third in (rw (e .value)) })

@@ -1,12 +1,12 @@
 -- Darts that are read one after the other and stored from the first place on. Assumes nothing.
 use mathlib.Core.Path.{_≡_, refl, sym, ap, _∙_}
 use mathlib.Core.Bool.{true, false}
-use mathlib.Core.List.{List, [], _∷_, _++_, map, append-nil}
+use mathlib.Core.List.{List, [], _∷_, _++_, append-nil}
 use mathlib.Core.Option.{Option, none, some, Option·none-ne-some}
 use Prim.Native.Nat.{ℕ, suc, _+_, _*_, _-_, _<_, _≤_}
 use native.Mathlib.Omega.{arith}
 use lib.Dec.{ltb}
-use lib.ListN.{length, drop, length-append, length-map}
+use lib.ListN.{length, drop, length-append}
 use lib.Seq.{append-snoc}
 use borrow.Author.Tests.{lt-ltb, le-ltb}
 use Rattle.laws.proofs.Tests.{by-cases}
@@ -20,10 +20,11 @@ use Rattle.memory.specs.declared.record.Record.{Record}
 use Rattle.groups.specs.declared.Read.the-variants as read
 use Rattle.groups.proofs.Ends.{Reads, from-onward, then-some, when-some}
 use Rattle.groups.proofs.Labels.{same-value}
-use Rattle.readfile.specs.Serials.{raw-words, behind, stored-all}
+use Rattle.newblock.specs.Serials.{raw-words, stored-all}
+use Rattle.newblock.proofs.Rows.{behind-none}
+use Rattle.newblock.proofs.Stored.{stored-length, stored-more}
 use Rattle.readfile.specs.Parts.{dart-after, placed-serial, stored, DartStored, climbs, climbing, DartsStored}
 use Rattle.readfile.specs.declared.raw.End.the-variants as end
-use Rattle.readfile.proofs.Rows.{Eights, map-eights, behind-none, behind-length, behind-more}
 use Rattle.readfile.proofs.PartLaws.{Lacks, place-back, dart-ends, DartGot}
 
 -- ONE DART
@@ -85,24 +86,6 @@ stored-lacks {s} {at} {last} w = record { value = go (dart-after last .get (drop
     go : (r : Option (Dart × List ℕ)) → read.Bad ≡ placed-serial (length s) r → r ≡ none
     go none q = refl
     go (some r) q = let z : _≡_ {A = ℕ} 0 1 = cc in absurd (omega arith)
-
--- ONE MORE STORED
-pub raw-8 : (d : Dart) → length (raw-words d) ≡ 8
-unfolding raw-words
-raw-8 d = refl
-
-module _ (m : List ℕ) (ds : List Dart) (h : 8 + length ds * 8 ≤ length m) where
-  eights : Eights (map raw-words ds)
-  eights = map-eights raw-words raw-8 ds
-
-  rows-fit : 8 + length (map raw-words ds) * 8 ≤ length m
-  rows-fit = omega (arith, length-map ds raw-words)
-
-  stored-length : length (stored-all m ds) ≡ length m
-  stored-length = behind-length m (map raw-words ds) eights rows-fit
-
-  stored-more : (d : Dart) (i : ℕ) → length ds ≡ i → put (stored-all m ds) i (raw-words d) ≡ stored-all m (ds ++ d ∷ [])
-  stored-more d i e = behind-more m (map raw-words ds) eights rows-fit (raw-words d) i (length-map ds raw-words ∙ e) ∙ ap (behind m) (sym (map-append raw-words ds (d ∷ [])))
 
 -- THE LOOP
 -- what was read, and then what is read

@@ -1,27 +1,26 @@
 -- Question 3: the parts of a file that are read one after the other make the whole, and the memory is filled with it. Assumes nothing.
 use mathlib.Core.Path.{_≡_, refl, sym, ap, _∙_}
 use mathlib.Core.Bool.{true, false, _&&_}
-use mathlib.Core.List.{List, [], _∷_, _++_, map}
+use mathlib.Core.List.{List, [], _∷_, _++_}
 use mathlib.Core.Option.{none, some, Option·none-ne-some, Option·some-injective}
-use Prim.Native.Nat.{ℕ, zero, suc, _+_, _*_, _-_, _<_, _≤_}
+use Prim.Native.Nat.{ℕ, zero, suc, _+_, _-_, _<_, _≤_}
 use native.Mathlib.Omega.{arith}
 use lib.Dec.{leb, ltb}
-use lib.ListN.{length, take, drop, replicate, length-replicate, length-drop, length-map}
-use lib.Seq.{drop-at, length-take-le}
+use lib.ListN.{length, drop, replicate, length-drop}
 use borrow.Author.Tests.{le-leb, lt-leb, lt-ltb, ltb-true}
 use Rattle.laws.proofs.Tests.{by-cases, and-intro, and-left, and-right, same-truth}
 use Rattle.laws.proofs.Members.{all-map}
-use Rattle.laws.proofs.Lists.{drop-zeros}
-use Rattle.model.specs.Lists.{all, ascending, concat}
-use Rattle.model.specs.Values.{Dart, Block, rack, room}
+use Rattle.model.specs.Lists.{all, ascending}
+use Rattle.model.specs.Values.{Dart, Block, rack}
 use Rattle.model.specs.Cells.{serials}
 use Rattle.model.specs.Layouts.{Layout, Read, then, when, group, _⊗_, _⊕_, as-type, such-that, at-most, get-all, times, counted, ended, at-end, whole}
 use Rattle.model.specs.Messages.{a-dart, file}
-use Rattle.model.specs.Image.{words-for, words}
+use Rattle.model.specs.Image.{words}
 use Rattle.theory.proofs.LayoutLaws.{get-all-length}
 use Rattle.memory.specs.Header.{header-words}
 use Rattle.groups.proofs.Ends.{Ends, Reads, then-some, when-some, same-rest}
-use Rattle.readfile.specs.Serials.{raw-words, raw, behind, stored-all}
+use Rattle.newblock.specs.Serials.{raw}
+use Rattle.newblock.proofs.Stored.{stored-raw}
 use Rattle.readfile.specs.Parts.{climbs, climbing, placed-end, DartsStored, RawRead}
 use Rattle.readfile.specs.declared.raw.End.the-variants as end
 use Rattle.readfile.proofs.PartLaws.{Lacks, dependent-lacks, dependent-then-lacks, pair-lacks, pair-then-lacks, as-lacks, dart-ends}
@@ -187,27 +186,13 @@ module _ {s : List ℕ} {number a : ℕ} (p : Reads (at-most 15) s 0 number a) w
 pub raw-refused : {s after : List ℕ} → whole (file rack) s ≡ none → RawRead s after false
 raw-refused e = record { answer = rw e; memory = λ b q. absurd (Option·none-ne-some b (sym e ∙ q)) }
 
-pub zeros-length : (w : ℕ) (m : List ℕ) → m ≡ replicate w 0 → length m ≡ w
-zeros-length w m e = ap length e ∙ length-replicate w 0
-
--- zeros with the darts of a block and its header are the block with serials
-stored-raw : (w : ℕ) (m : List ℕ) (b : Block) → w ≡ words → m ≡ replicate w 0 → length (b .darts) ≤ room
-    → header-words (record { number = b .number; counter = b .counter; darts = length (b .darts) }) ++ drop 8 (stored-all m (b .darts)) ≡ raw b
-unfolding behind raw
-stored-raw w m b ew em h =
-    let l : length (take 8 m) ≡ 8 = length-take-le 8 m (omega (arith, zeros-length w m em)) in
-    let rows = map raw-words (b .darts) in
-    let rest : drop (8 + length rows * 8) m ≡ replicate (words - words-for (length (b .darts))) 0 =
-    ap (drop (8 + length rows * 8)) em ∙ drop-zeros (8 + length rows * 8) (words - words-for (length (b .darts))) w (omega (arith, length-map (b .darts) raw-words)) in
-    rw (drop-at (take 8 m) (concat rows ++ drop (8 + length rows * 8) m) 8 l, rest) refl
-
 pub raw-served : {s : List ℕ} {number a counter b n c : ℕ} (p : Reads (at-most 15) s 0 number a) (q : Reads group s a counter b) (r : Reads group s b n c)
-    → n ≤ 4096 → (w : ℕ) (m : List ℕ) → w ≡ words → m ≡ replicate w 0 → {x y : List ℕ} {next : ℕ} → DartsStored s c n m x (end.At next) → next ≡ length s
+    → n ≤ 4096 → (m : List ℕ) → m ≡ replicate words 0 → {x y : List ℕ} {next : ℕ} → DartsStored s c n m x (end.At next) → next ≡ length s
     → y ≡ header-words (record { number = number; counter = counter; darts = n }) ++ drop 8 x → RawRead s y true
-raw-served {s} {number} {a} {counter} {b} {n} {c} p q r h w m ew em {x} {y} {next} k e f =
+raw-served {s} {number} {a} {counter} {b} {n} {c} p q r h m em {x} {y} {next} k e f =
     let t = all-read p q r h (k .answer) e in
     let whole-block : Block = record { number = number; counter = counter; darts = t .darts } in
-    let filled : y ≡ raw whole-block = f ∙ ap (λ (i : ℕ). header-words (record { number = number; counter = counter; darts = i }) ++ drop 8 x) (sym (t .count))
+    let filled : y ≡ raw words whole-block = f ∙ ap (λ (i : ℕ). header-words (record { number = number; counter = counter; darts = i }) ++ drop 8 x) (sym (t .count))
     ∙ ap (λ (l : List ℕ). header-words (record { number = number; counter = counter; darts = length (t .darts) }) ++ drop 8 l) (k .memory (t .darts) (t .rest) (t .value))
-    ∙ stored-raw w m whole-block ew em (omega (arith, t .count)) in
-    record { answer = rw (t .whole-is); memory = λ d g. filled ∙ ap raw (Option·some-injective whole-block d (sym (t .whole-is) ∙ g)) }
+    ∙ stored-raw words m whole-block em (omega (arith, t .count)) in
+    record { answer = rw (t .whole-is); memory = λ d g. filled ∙ ap (raw words) (Option·some-injective whole-block d (sym (t .whole-is) ∙ g)) }

@@ -11,11 +11,11 @@ use Rattle.model.specs.Values.{Point, Third, Dart, Block, rack}
 use Rattle.model.specs.Cells.{serials}
 use Rattle.model.specs.Layouts.{Layout, _⊗_, as-type, such-that, at-most, times, whole}
 use Rattle.model.specs.Messages.{kind-of, third, point, a-dart, file}
-use Rattle.model.specs.Image.{words, kind-word, image}
+use Rattle.model.specs.Image.{words, kind-word}
 use Rattle.memory.specs.Record.{put}
 use Rattle.groups.specs.declared.Read.{Read}
 use Rattle.groups.specs.declared.Read.the-variants as read
-use Rattle.readfile.specs.Serials.{raw-link, raw-record, raw-words, raw, stored-all}
+use Rattle.newblock.specs.Serials.{raw-link, raw-record, raw-words, raw, stored-all}
 use Rattle.readfile.specs.declared.dart.Linked.{Linked}
 use Rattle.readfile.specs.declared.dart.Linked.the-variants as linked
 use Rattle.readfile.specs.declared.dart.Located.{Located}
@@ -90,8 +90,4 @@ pub record DartsStored (s : List ℕ) (from n : ℕ) (m after : List ℕ) (r : E
 -- WHOLE FILES
 pub record RawRead (s after : List ℕ) (r : Bool) : Type 0 where
   pub answer : r ≡ is-some (whole (file rack) s)
-  pub memory : (b : Block) → whole (file rack) s ≡ some b → after ≡ raw b
-
-pub record ImageRead (s after : List ℕ) (r : Bool) : Type 0 where
-  pub answer : r ≡ is-some (whole (file rack) s)
-  pub memory : (b : Block) → whole (file rack) s ≡ some b → after ≡ image words b
+  pub memory : (b : Block) → whole (file rack) s ≡ some b → after ≡ raw words b

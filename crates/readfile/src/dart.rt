@@ -3,6 +3,8 @@ ghost use mathlib.Core.Path.{_≡_};
 ghost use Rattle.model.specs.Messages.{third};
 ghost use Rattle.readfile.specs.Parts.{kind-and-third, third-read, point-read, dart-read};
 use groups::Read;
+use memory::header::Header;
+use memory::kind;
 use memory::record::Record;
 
 // A third link that was read, as kind word and link word, and the place past it.
@@ -28,13 +30,13 @@ pub enum Parsed {
 fn read_critical(file: &[u8], at: usize) -> Linked
     ensures { λ r. ⌜ r ≡ third-read (third 2) (now (file .entry)) at ⌝ }
 {
-    let Read::Value(other, past_other) = groups::read_at_most(file, at, 15) else {
+    let Read::Value(other, past_other) = groups::read_at_most(file, at, Header::BLOCKS - 1) else {
         return Linked::Bad;
     };
     let Read::Value(label, next) = groups::read_label(file, past_other) else {
         return Linked::Bad;
     };
-    Linked::Link(2 + 4 * other, label, next)
+    Linked::Link(kind::critical_with(other), label, next)
 }
 
 // A third link: its kind, and what follows it.
@@ -44,8 +46,8 @@ fn read_third(file: &[u8], at: usize) -> Linked
     let Read::Value(kind, past_kind) = groups::read_at_most(file, at, 2) else {
         return Linked::Bad;
     };
-    if kind == 0 {
-        return Linked::Link(0, 0, past_kind);
+    if kind == kind::FREE {
+        return Linked::Link(kind::FREE, 0, past_kind);
     }
     if kind == 2 {
         return read_critical(file, past_kind);
@@ -53,7 +55,7 @@ fn read_third(file: &[u8], at: usize) -> Linked
     let Read::Value(sewn, next) = groups::read_serial(file, past_kind) else {
         return Linked::Bad;
     };
-    Linked::Link(1, sewn, next)
+    Linked::Link(kind::SEWN, sewn, next)
 }
 
 // A point: three coordinates.

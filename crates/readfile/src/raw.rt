@@ -57,7 +57,7 @@ pub fn read_raw(file: &[u8], block: &mut [u64]) -> bool
     requires { ⌜ now block ≡ replicate words 0 ⌝ }
     ensures { λ r. ⌜ RawRead (now (file .entry)) (now (block .exit)) r ⌝ }
 {
-    let Read::Value(number, past_number) = groups::read_at_most(file, 0, 15) else {
+    let Read::Value(number, past_number) = groups::read_at_most(file, 0, Header::BLOCKS - 1) else {
         return false;
     };
     let Read::Value(counter, past_counter) = groups::read_group(file, past_number) else {

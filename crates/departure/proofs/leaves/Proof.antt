@@ -1,15 +1,18 @@
 -- `departure::leaves` meets its contract: each call gets what it asks from those before it, and each answer is that of the first question
 -- that is answered no; a volume that is refused is marked nowhere. Assumes nothing.
 use mathlib.Core.Path.{sym, _∙_, ap}
-use lib.ListN.{length, getD}
-use lib.Seq.{length-take-le}
+use lib.ListN.{length}
+use Rattle.model.specs.Image.{count-in}
+use Rattle.answers.proofs.Questions.{said-no, said-yes}
 use Rattle.cells.proofs.Sited.{sited}
 use Rattle.cells.proofs.Reached.{volume-linked}
-use Rattle.cells.proofs.Resets.{unmarked, listed-marked, listed-some}
+use Rattle.cells.proofs.Resets.{listed-marked, listed-some}
 use Rattle.cells.proofs.SewnLaws.{marked-places}
 use Rattle.cells.proofs.FaceSerials.{closed-next}
-use Rattle.cells.proofs.VolumeReady.{out-few, out-long, out-below, out-marked, ends-ready}
-use Rattle.departure.proofs.FirstNo.{first-9, first-10, below, first-11, first-12, darts-few, first-13, first-14, departs, ranges-in, sewn-few}
+use Rattle.cells.proofs.VolumeReady.{out-few, out-whole}
+use Rattle.departure.proofs.Answers.{held-no, held-yes, as-many, list-ready, forget-ready}
+use Rattle.departure.proofs.FirstNo.{ranges-in, first-9, first-10, first-11, first-12, first-13, first-14, departs}
+use Rattle.departure.proofs.Told.{walked-told, large-told, paired-told, unpaired-told, counter-told, full-told}
 use native.Mathlib.Omega.{arith}
 use borrow.Author.Needs.{needs}
 use Rattle.departure.proofs.leaves.Statement.{statement}
@@ -24,22 +27,15 @@ returns : tie.Need-returns
 returns c =
     let destination-right-ensures = (let p : tie.After-destination-right = search in p .destination-right .ensures) in
     let start : tie.Start = search in
-    let m = start .args .block .now in
-    let ok = start .pre .0 .0 in
-    let most = start .args .limits .volume in
-    (first-9 most m ok (start .args .to) (start .args .serial) destination-right-ensures (c .if1 .taken), (start .pre .1 .0 .1, start .pre .1 .0 .3))
+    let clear = start .pre .1 .0 in
+    (first-9 (start .args .limits .volume) (start .args .block .now) (start .args .to) (start .args .serial) (said-no destination-right-ensures (c .if1 .taken)), (clear .1, clear .3))
 
-shared-slice-read-n : tie.Need-shared-slice-read-n
-shared-slice-read-n c =
-    let start : tie.Start = search in
-    omega (arith, sited (start .args .block .now) (start .pre .0 .0) .linked .size)
-
-place-of-requires : tie.Need-place-of-requires
-place-of-requires c κs =
+place-held-requires : tie.Need-place-held-requires
+place-held-requires c κs =
     let start : tie.Start = search in
     let m = start .args .block .now in
-    let ok = start .pre .0 .0 in
-    (sited m ok .linked .size, sited m ok .ascends)
+    let site = sited m (start .pre .0 .0) in
+    (site .linked .size, site .ascends)
 
 enum-known-place : tie.Need-enum-known-place
 enum-known-place c = search needs
@@ -49,41 +45,34 @@ enum-told c = search needs
 
 returns-2 : tie.Need-returns-2
 returns-2 c =
-    let destination-right-ensures = (let p : tie.After-destination-right = search in p .destination-right .ensures) in
+    let place-held-ensures = (let p : tie.After-place-held = search in p .place-held .ensures) in
     let if1-left = (let p : tie.Else1 = search in p .if1 .left) in
-    let place-of-ensures = (let p : tie.After-place-of = search in p .place-of .ensures) in
+    let destination-right-ensures = (let p : tie.After-destination-right = search in p .destination-right .ensures) in
     let start : tie.Start = search in
-    let to = start .args .to in
+    let m = start .args .block .now in
     let serial = start .args .serial in
-    let m = start .args .block .now in
-    let ok = start .pre .0 .0 in
-    let most = start .args .limits .volume in
-    (first-10 most m ok to serial destination-right-ensures if1-left place-of-ensures (c .enum-told .given .1), (start .pre .1 .0 .1, start .pre .1 .0 .3))
+    let clear = start .pre .1 .0 in (
+      first-10 (start .args .limits .volume) m (start .args .to) serial (said-yes destination-right-ensures if1-left)
+          (held-no m serial place-held-ensures (c .enum-told .given .1)),
+      (clear .1, clear .3),
+    )
 
-volume-requires : tie.Need-volume-requires
-volume-requires c κs =
-    let destination-right-ensures = (let p : tie.After-destination-right = search in p .destination-right .ensures) in
-    let if1-left = (let p : tie.Else1 = search in p .if1 .left) in
-    let place-of-ensures = (let p : tie.After-place-of = search in p .place-of .ensures) in
+volume-within-requires : tie.Need-volume-within-requires
+volume-within-requires c κs =
     let place-given = (let p : tie.After-place = search in p .place .given) in
+    let place-held-ensures = (let p : tie.After-place-held = search in p .place-held .ensures) in
     let start : tie.Start = search in
     let m = start .args .block .now in
-    let ok = start .pre .0 .0 in
-    let most = start .args .limits .volume in
-    let linked = sited m ok .linked in
-    let low = below most m ok (start .args .to) (start .args .serial) destination-right-ensures if1-left place-of-ensures (place-given .1) in
-    (linked, low, start .pre .1 .1 .0 .0, start .pre .1 .0 .0, start .pre .1 .0 .1)
+    let site = sited m (start .pre .0 .0) in
+    let held = held-yes m (start .args .serial) place-held-ensures site (place-given .1) in
+    let clear = start .pre .1 .0 in
+    ((site .linked, held .below), (start .pre .1 .1 .0 .0, clear .0, clear .1))
 
-unmark-requires : tie.Need-unmark-requires
-unmark-requires c κs =
-    let volume-ensures = (let p : tie.After-volume = search in p .volume .ensures) in
-    let c : tie.After-volume = search in
-    let start : tie.Start = search in
-    let m = start .args .block .now in
-    let ok = start .pre .0 .0 in
-    let linked = sited m ok .linked in
-    let listed = volume-ensures .1 .1 in
-    (omega (arith, listed .few, linked .few), omega (arith, listed .few, listed .size), λ k h. omega (arith, listed .below k h, start .pre .1 .0 .0))
+enum-known-size : tie.Need-enum-known-size
+enum-known-size c = search needs
+
+enum-told-2 : tie.Need-enum-told-2
+enum-told-2 c = search needs
 
 same-length : tie.Need-same-length
 same-length c = search needs
@@ -93,97 +82,87 @@ same-length-2 c = search needs
 
 returns-3 : tie.Need-returns-3
 returns-3 c =
-    let unmark-ensures = (let p : tie.After-unmark = search in p .unmark .ensures) in
-    let if2-taken = (let p : tie.Then2 = search in p .if2 .taken) in
-    let volume-ensures = (let p : tie.After-volume = search in p .volume .ensures) in
+    let enum-told2-given = c .enum-told2 .given in
+    let volume-within-ensures = (let p : tie.After-volume-within = search in p .volume-within .ensures) in
     let place-given = (let p : tie.After-place = search in p .place .given) in
-    let place-of-ensures = (let p : tie.After-place-of = search in p .place-of .ensures) in
+    let place-held-ensures = (let p : tie.After-place-held = search in p .place-held .ensures) in
     let if1-left = (let p : tie.Else1 = search in p .if1 .left) in
     let destination-right-ensures = (let p : tie.After-destination-right = search in p .destination-right .ensures) in
     let c : tie.After-destination-right = search in
     let start : tie.Start = search in
+    let m = start .args .block .now in
+    let site = sited m (start .pre .0 .0) in
+    let most = start .args .limits .volume in
     let to = start .args .to in
     let serial = start .args .serial in
-    let m = start .args .block .now in
-    let ok = start .pre .0 .0 in
-    let most = start .args .limits .volume in
-    let mk = volume-ensures .0 in (
-      first-11 most m ok to serial destination-right-ensures if1-left place-of-ensures (place-given .1) mk (volume-ensures .1 .0)
-          if2-taken,
-      (unmarked mk (volume-ensures .1 .1 .has) unmark-ensures, start .pre .1 .0 .3),
-    )
+    let is-9 = said-yes destination-right-ensures if1-left in
+    let held = held-yes m serial place-held-ensures site (place-given .1) in
+    let large = large-told most m held _ _ volume-within-ensures (enum-told2-given .1) in
+    (first-11 most m to serial is-9 site held (large .0), (large .1, start .pre .1 .0 .3))
+
+shared-slice-read-n : tie.Need-shared-slice-read-n
+shared-slice-read-n c =
+    let start : tie.Start = search in
+    omega (arith, sited (start .args .block .now) (start .pre .0 .0) .linked .size)
 
 message-order-requires : tie.Need-message-order-requires
 message-order-requires c κs =
-    let destination-right-ensures = (let p : tie.After-destination-right = search in p .destination-right .ensures) in
-    let if1-left = (let p : tie.Else1 = search in p .if1 .left) in
-    let place-of-ensures = (let p : tie.After-place-of = search in p .place-of .ensures) in
+    let volume-within-kept = (let p : tie.After-volume-within = search in p .volume-within .kept) in
+    let size-given = (let p : tie.After-size = search in p .size .given) in
+    let volume-within-ensures = (let p : tie.After-volume-within = search in p .volume-within .ensures) in
     let place-given = (let p : tie.After-place = search in p .place .given) in
-    let volume-ensures = (let p : tie.After-volume = search in p .volume .ensures) in
-    let start : tie.Start = (let c : tie.After-destination-right = search in search) in
-    let to = start .args .to in
-    let serial = start .args .serial in
-    let m = start .args .block .now in
-    let ok = start .pre .0 .0 in
-    let most = start .args .limits .volume in
-    let linked = sited m ok .linked in
-    let low = below most m ok to serial destination-right-ensures if1-left place-of-ensures (place-given .1) in
-    let mk = volume-ensures .0 in
-    let listed = volume-ensures .1 .1 in (
-      (linked, omega (arith, start .pre .1 .0 .0), closed-next linked low mk, volume-ensures .1 .0 ∙ sym (ap length (marked-places mk (getD m 2 0)))),
-      (listed-some _ listed (volume-linked linked low .here), listed-marked mk listed, start .pre .1 .1 .0 .1, start .pre .1 .0 .2, start .pre .1 .0 .3),
-    )
-
-sewn-within-requires : tie.Need-sewn-within-requires
-sewn-within-requires c κs =
-    let message-order-ensures = (let p : tie.After-message-order = search in p .message-order .ensures) in
-    let volume-ensures = (let p : tie.After-volume = search in p .volume .ensures) in
-    let c : tie.After-volume = search in
-    let place-given = (let p : tie.After-place = search in p .place .given) in
-    let place-of-ensures = (let p : tie.After-place-of = search in p .place-of .ensures) in
-    let if1-left = (let p : tie.Else1 = search in p .if1 .left) in
-    let destination-right-ensures = (let p : tie.After-destination-right = search in p .destination-right .ensures) in
+    let place-held-ensures = (let p : tie.After-place-held = search in p .place-held .ensures) in
+    let c : tie.After-place-held = search in
     let start : tie.Start = search in
     let m = start .args .block .now in
-    let ok = start .pre .0 .0 in
-    let most = start .args .limits .volume in
-    let linked = sited m ok .linked in
-    let low = below most m ok (start .args .to) (start .args .serial) destination-right-ensures if1-left place-of-ensures (place-given .1) in
-    let mk = volume-ensures .0 in
-    let o = message-order-ensures .0 in
-    ((linked, omega (arith, start .pre .1 .0 .0)), (omega (arith, out-few linked low mk o, linked .few), out-long linked low mk o, out-below linked low mk o))
+    let site = sited m (start .pre .0 .0) in
+    let held = held-yes m (start .args .serial) place-held-ensures site (place-given .1) in
+    let walked = walked-told (start .args .limits .volume) m held _ _ volume-within-ensures (size-given .1) in
+    let mk = walked .0 .volume-marked in
+    let l = site .linked in
+    let listed = walked .0 .listed in
+    let clear = start .pre .1 .0 in (
+      (l, omega (arith, clear .0, volume-within-kept), closed-next l (held .below) mk, walked .0 .size-is ∙ sym (ap length (marked-places mk (count-in m)))),
+      (listed-some _ listed (volume-linked l (held .below) .here), listed-marked mk listed, start .pre .1 .1 .0 .1, clear .2, clear .3),
+    )
+
+none-sewn-within-requires : tie.Need-none-sewn-within-requires
+none-sewn-within-requires c κs =
+    let message-order-ensures = (let p : tie.After-message-order = search in p .message-order .ensures) in
+    let c : tie.After-message-order = search in
+    let volume-within-kept = (let p : tie.After-volume-within = search in p .volume-within .kept) in
+    let size-given = (let p : tie.After-size = search in p .size .given) in
+    let volume-within-ensures = (let p : tie.After-volume-within = search in p .volume-within .ensures) in
+    let place-given = (let p : tie.After-place = search in p .place .given) in
+    let place-held-ensures = (let p : tie.After-place-held = search in p .place-held .ensures) in
+    let c : tie.After-place-held = search in
+    let start : tie.Start = search in
+    let m = start .args .block .now in
+    let site = sited m (start .pre .0 .0) in
+    let held = held-yes m (start .args .serial) place-held-ensures site (place-given .1) in
+    let walked = walked-told (start .args .limits .volume) m held _ _ volume-within-ensures (size-given .1) in
+    let mk = walked .0 .volume-marked in
+    ((site .linked, omega (arith, start .pre .1 .0 .0, volume-within-kept)), list-ready site held mk (message-order-ensures .0))
 
 forget-requires : tie.Need-forget-requires
 forget-requires c κs =
+    let c : tie.After-message-order = search in
     let message-order-kept = (let p : tie.After-message-order = search in p .message-order .kept) in
     let message-order-ensures = (let p : tie.After-message-order = search in p .message-order .ensures) in
-    let c : tie.After-message-order = search in
-    let volume-kept = (let p : tie.After-volume = search in p .volume .kept) in
-    let volume-ensures = (let p : tie.After-volume = search in p .volume .ensures) in
+    let volume-within-kept = (let p : tie.After-volume-within = search in p .volume-within .kept) in
+    let size-given = (let p : tie.After-size = search in p .size .given) in
+    let volume-within-ensures = (let p : tie.After-volume-within = search in p .volume-within .ensures) in
     let place-given = (let p : tie.After-place = search in p .place .given) in
-    let place-of-ensures = (let p : tie.After-place-of = search in p .place-of .ensures) in
-    let if1-left = (let p : tie.Else1 = search in p .if1 .left) in
-    let destination-right-ensures = (let p : tie.After-destination-right = search in p .destination-right .ensures) in
-    let c : tie.After-destination-right = search in
+    let place-held-ensures = (let p : tie.After-place-held = search in p .place-held .ensures) in
+    let c : tie.After-place-held = search in
     let start : tie.Start = search in
-    let to = start .args .to in
-    let serial = start .args .serial in
     let m = start .args .block .now in
-    let ok = start .pre .0 .0 in
-    let most = start .args .limits .volume in
-    let linked = sited m ok .linked in
-    let low = below most m ok to serial destination-right-ensures if1-left place-of-ensures (place-given .1) in
-    let mk = volume-ensures .0 in
-    let o = message-order-ensures .0 in (
-      omega (arith, out-few linked low mk o, linked .few),
-      out-long linked low mk o,
-      (λ k h. (
-        omega (arith, out-below linked low mk o k h, volume-kept, start .pre .1 .0 .0),
-        omega (arith, out-below linked low mk o k h, message-order-kept, start .pre .1 .0 .2),
-      )),
-      out-marked linked low mk o,
-      message-order-ensures .1,
-    )
+    let site = sited m (start .pre .0 .0) in
+    let held = held-yes m (start .args .serial) place-held-ensures site (place-given .1) in
+    let walked = walked-told (start .args .limits .volume) m held _ _ volume-within-ensures (size-given .1) in
+    let mk = walked .0 .volume-marked in
+    let clear = start .pre .1 .0 in
+    forget-ready site held mk (message-order-ensures .0) (message-order-ensures .1) (omega (arith, clear .0, volume-within-kept)) (omega (arith, clear .2, message-order-kept))
 
 same-length-3 : tie.Need-same-length-3
 same-length-3 c = search needs
@@ -200,135 +179,92 @@ same-length-6 c = search needs
 returns-4 : tie.Need-returns-4
 returns-4 c =
     let forget-ensures = (let p : tie.After-forget = search in p .forget .ensures) in
-    let if3-taken = (let p : tie.Then3 = search in p .if3 .taken) in
-    let sewn-within-ensures = (let p : tie.After-sewn-within = search in p .sewn-within .ensures) in
+    let if2-taken = (let p : tie.Then2 = search in p .if2 .taken) in
+    let none-sewn-within-ensures = (let p : tie.After-none-sewn-within = search in p .none-sewn-within .ensures) in
     let message-order-ensures = (let p : tie.After-message-order = search in p .message-order .ensures) in
     let c : tie.After-message-order = search in
-    let if2-left = (let p : tie.Else2 = search in p .if2 .left) in
-    let volume-ensures = (let p : tie.After-volume = search in p .volume .ensures) in
+    let size-given = (let p : tie.After-size = search in p .size .given) in
+    let volume-within-ensures = (let p : tie.After-volume-within = search in p .volume-within .ensures) in
     let place-given = (let p : tie.After-place = search in p .place .given) in
-    let place-of-ensures = (let p : tie.After-place-of = search in p .place-of .ensures) in
+    let place-held-ensures = (let p : tie.After-place-held = search in p .place-held .ensures) in
     let if1-left = (let p : tie.Else1 = search in p .if1 .left) in
     let destination-right-ensures = (let p : tie.After-destination-right = search in p .destination-right .ensures) in
     let c : tie.After-destination-right = search in
     let start : tie.Start = search in
+    let m = start .args .block .now in
+    let site = sited m (start .pre .0 .0) in
+    let most = start .args .limits .volume in
     let to = start .args .to in
     let serial = start .args .serial in
-    let m = start .args .block .now in
-    let ok = start .pre .0 .0 in
-    let most = start .args .limits .volume in
-    let mk = volume-ensures .0 in (
-      first-12 most m ok to serial destination-right-ensures if1-left place-of-ensures (place-given .1) mk (volume-ensures .1 .0)
-          (omega (arith, if2-left)) (message-order-ensures .0) sewn-within-ensures if3-taken,
-      forget-ensures,
-    )
-
-number-vertices-requires : tie.Need-number-vertices-requires
-number-vertices-requires c κs =
-    let message-order-ensures = (let p : tie.After-message-order = search in p .message-order .ensures) in
-    let c : tie.After-message-order = search in
-    let volume-ensures = (let p : tie.After-volume = search in p .volume .ensures) in
-    let place-given = (let p : tie.After-place = search in p .place .given) in
-    let place-of-ensures = (let p : tie.After-place-of = search in p .place-of .ensures) in
-    let if1-left = (let p : tie.Else1 = search in p .if1 .left) in
-    let destination-right-ensures = (let p : tie.After-destination-right = search in p .destination-right .ensures) in
-    let c : tie.After-destination-right = search in
-    let start : tie.Start = search in
-    let m = start .args .block .now in
-    let ok = start .pre .0 .0 in
-    let most = start .args .limits .volume in
-    let linked = sited m ok .linked in
-    let low = below most m ok (start .args .to) (start .args .serial) destination-right-ensures if1-left place-of-ensures (place-given .1) in
-    let mk = volume-ensures .0 in
-    let o = message-order-ensures .0 in (
-      (linked, omega (arith, out-few linked low mk o, linked .few), out-long linked low mk o, out-below linked low mk o),
-      (start .pre .1 .1 .0 .2, omega (arith, out-few linked low mk o, start .pre .1 .1 .1 .0)),
-    )
+    let is-9 = said-yes destination-right-ensures if1-left in
+    let held = held-yes m serial place-held-ensures site (place-given .1) in
+    let walked = walked-told most m held _ _ volume-within-ensures (size-given .1) in
+    (first-12 most m to serial is-9 site held (walked .0) (walked .1) (message-order-ensures .0) (said-no none-sewn-within-ensures if2-taken), forget-ensures)
 
 pairs-once-requires : tie.Need-pairs-once-requires
 pairs-once-requires c κs =
-    let number-vertices-ensures = (let p : tie.After-number-vertices = search in p .number-vertices .ensures) in
-    let sewn-within-ensures = (let p : tie.After-sewn-within = search in p .sewn-within .ensures) in
-    let c : tie.After-sewn-within = search in
     let message-order-ensures = (let p : tie.After-message-order = search in p .message-order .ensures) in
-    let message-order-last = (let p : tie.After-message-order = search in p .message-order .last) in
-    let message-order-result = (let p : tie.After-message-order = search in p .message-order .result) in
-    let if2-left = (let p : tie.Else2 = search in p .if2 .left) in
-    let volume-ensures = (let p : tie.After-volume = search in p .volume .ensures) in
-    let c : tie.After-volume = search in
+    let c : tie.After-message-order = search in
+    let size-given = (let p : tie.After-size = search in p .size .given) in
+    let volume-within-ensures = (let p : tie.After-volume-within = search in p .volume-within .ensures) in
     let place-given = (let p : tie.After-place = search in p .place .given) in
-    let place-of-ensures = (let p : tie.After-place-of = search in p .place-of .ensures) in
-    let if1-left = (let p : tie.Else1 = search in p .if1 .left) in
-    let destination-right-ensures = (let p : tie.After-destination-right = search in p .destination-right .ensures) in
+    let place-held-ensures = (let p : tie.After-place-held = search in p .place-held .ensures) in
+    let c : tie.After-place-held = search in
     let start : tie.Start = search in
-    let to = start .args .to in
-    let serial = start .args .serial in
     let m = start .args .block .now in
-    let ok = start .pre .0 .0 in
-    let most = start .args .limits .volume in
-    let linked = sited m ok .linked in
-    let low = below most m ok to serial destination-right-ensures if1-left place-of-ensures (place-given .1) in
-    let mk = volume-ensures .0 in
-    let o = message-order-ensures .0 in (
-      linked,
-      ends-ready linked low mk o number-vertices-ensures,
-      omega (
-        arith,
-        number-vertices-ensures .count-le,
-        length-take-le (message-order-result .darts) (message-order-last .1 .1 .1 .1 .0) (out-long linked low mk o),
-        darts-few most m ok to serial destination-right-ensures if1-left place-of-ensures (place-given .1) mk (volume-ensures .1 .0)
-            (omega (arith, if2-left)) (message-order-ensures .0) sewn-within-ensures,
-        start .pre .1 .1 .1 .1,
+    let site = sited m (start .pre .0 .0) in
+    let held = held-yes m (start .args .serial) place-held-ensures site (place-given .1) in
+    let walked = walked-told (start .args .limits .volume) m held _ _ volume-within-ensures (size-given .1) in
+    let mk = walked .0 .volume-marked in
+    let o = message-order-ensures .0 in
+    let ready = list-ready site held mk o in (
+      (site .linked, out-whole (site .linked) (held .below) mk o, ready .1),
+      (
+        start .pre .1 .1 .0 .2,
+        omega (arith, out-few (site .linked) (held .below) mk o, start .pre .1 .1 .1 .0),
+        omega (arith, as-many site held mk o (walked .0), walked .1, start .pre .1 .1 .1 .1),
       ),
     )
 
+enum-known-vertices : tie.Need-enum-known-vertices
+enum-known-vertices c = search needs
+
+enum-told-3 : tie.Need-enum-told-3
+enum-told-3 c = search needs
+
 forget-requires-2 : tie.Need-forget-requires-2
 forget-requires-2 c κs =
-    let c : tie.After-sewn-within-arg2 = search in
+    let c : tie.After-message-order = search in
     let message-order-kept = (let p : tie.After-message-order = search in p .message-order .kept) in
     let message-order-ensures = (let p : tie.After-message-order = search in p .message-order .ensures) in
-    let volume-kept = (let p : tie.After-volume = search in p .volume .kept) in
-    let volume-ensures = (let p : tie.After-volume = search in p .volume .ensures) in
-    let c : tie.After-volume = search in
+    let volume-within-kept = (let p : tie.After-volume-within = search in p .volume-within .kept) in
+    let size-given = (let p : tie.After-size = search in p .size .given) in
+    let volume-within-ensures = (let p : tie.After-volume-within = search in p .volume-within .ensures) in
     let place-given = (let p : tie.After-place = search in p .place .given) in
-    let place-of-ensures = (let p : tie.After-place-of = search in p .place-of .ensures) in
-    let if1-left = (let p : tie.Else1 = search in p .if1 .left) in
-    let destination-right-ensures = (let p : tie.After-destination-right = search in p .destination-right .ensures) in
+    let place-held-ensures = (let p : tie.After-place-held = search in p .place-held .ensures) in
+    let c : tie.After-place-held = search in
     let start : tie.Start = search in
-    let to = start .args .to in
-    let serial = start .args .serial in
     let m = start .args .block .now in
-    let ok = start .pre .0 .0 in
-    let most = start .args .limits .volume in
-    let linked = sited m ok .linked in
-    let low = below most m ok to serial destination-right-ensures if1-left place-of-ensures (place-given .1) in
-    let mk = volume-ensures .0 in
-    let o = message-order-ensures .0 in (
-      omega (arith, out-few linked low mk o, linked .few),
-      out-long linked low mk o,
-      (λ k h. (
-        omega (arith, out-below linked low mk o k h, volume-kept, start .pre .1 .0 .0),
-        omega (arith, out-below linked low mk o k h, message-order-kept, start .pre .1 .0 .2),
-      )),
-      out-marked linked low mk o,
-      message-order-ensures .1,
-    )
+    let site = sited m (start .pre .0 .0) in
+    let held = held-yes m (start .args .serial) place-held-ensures site (place-given .1) in
+    let walked = walked-told (start .args .limits .volume) m held _ _ volume-within-ensures (size-given .1) in
+    let mk = walked .0 .volume-marked in
+    let clear = start .pre .1 .0 in
+    forget-ready site held mk (message-order-ensures .0) (message-order-ensures .1) (omega (arith, clear .0, volume-within-kept)) (omega (arith, clear .2, message-order-kept))
 
 same-length-7 : tie.Need-same-length-7
 same-length-7 c =
     let forget2-kept = (let p : tie.After-forget2 = search in p .forget2 .kept) in
-    let c : tie.After-number-vertices = search in
-    let c : tie.Else3 = search in
-    let volume-kept = (let p : tie.After-volume = search in p .volume .kept) in
-    omega (arith, forget2-kept, volume-kept)
+    let c : tie.Else2 = search in
+    let volume-within-kept = (let p : tie.After-volume-within = search in p .volume-within .kept) in
+    omega (arith, forget2-kept, volume-within-kept)
 
 same-length-8 : tie.Need-same-length-8
 same-length-8 c =
-    let c : tie.After-number-vertices = search in
-    let c : tie.Else3 = search in
+    let c : tie.Else2 = search in
     let message-order-kept = (let p : tie.After-message-order = search in p .message-order .kept) in
-    let volume-kept = (let p : tie.After-volume = search in p .volume .kept) in
-    omega (arith, message-order-kept, volume-kept)
+    let volume-within-kept = (let p : tie.After-volume-within = search in p .volume-within .kept) in
+    omega (arith, message-order-kept, volume-within-kept)
 
 same-length-9 : tie.Need-same-length-9
 same-length-9 c = search needs
@@ -348,118 +284,95 @@ same-length-13 c = search needs
 returns-5 : tie.Need-returns-5
 returns-5 c =
     let forget2-ensures = (let p : tie.After-forget2 = search in p .forget2 .ensures) in
-    let if4-taken = (let p : tie.Then4 = search in p .if4 .taken) in
+    let enum-told3-given = (let p : tie.After-enum-told3 = search in p .enum-told3 .given) in
     let pairs-once-ensures = (let p : tie.After-pairs-once = search in p .pairs-once .ensures) in
-    let number-vertices-ensures = (let p : tie.After-number-vertices = search in p .number-vertices .ensures) in
-    let c : tie.After-number-vertices = search in
-    let if3-left = (let p : tie.Else3 = search in p .if3 .left) in
-    let sewn-within-ensures = (let p : tie.After-sewn-within = search in p .sewn-within .ensures) in
-    let message-order-ensures = (let p : tie.After-message-order = search in p .message-order .ensures) in
+    let c : tie.After-pairs-once = search in
     let if2-left = (let p : tie.Else2 = search in p .if2 .left) in
-    let c : tie.Else2 = search in
-    let volume-ensures = (let p : tie.After-volume = search in p .volume .ensures) in
+    let none-sewn-within-ensures = (let p : tie.After-none-sewn-within = search in p .none-sewn-within .ensures) in
+    let message-order-ensures = (let p : tie.After-message-order = search in p .message-order .ensures) in
+    let c : tie.After-message-order = search in
+    let size-given = (let p : tie.After-size = search in p .size .given) in
+    let volume-within-ensures = (let p : tie.After-volume-within = search in p .volume-within .ensures) in
     let place-given = (let p : tie.After-place = search in p .place .given) in
-    let place-of-ensures = (let p : tie.After-place-of = search in p .place-of .ensures) in
+    let place-held-ensures = (let p : tie.After-place-held = search in p .place-held .ensures) in
     let if1-left = (let p : tie.Else1 = search in p .if1 .left) in
     let destination-right-ensures = (let p : tie.After-destination-right = search in p .destination-right .ensures) in
     let c : tie.After-destination-right = search in
     let start : tie.Start = search in
+    let m = start .args .block .now in
+    let site = sited m (start .pre .0 .0) in
+    let most = start .args .limits .volume in
     let to = start .args .to in
     let serial = start .args .serial in
-    let m = start .args .block .now in
-    let ok = start .pre .0 .0 in
-    let most = start .args .limits .volume in
-    let mk = volume-ensures .0 in (
-      first-13 most m ok to serial destination-right-ensures if1-left place-of-ensures (place-given .1) mk (volume-ensures .1 .0)
-          (omega (arith, if2-left)) (message-order-ensures .0) sewn-within-ensures if3-left number-vertices-ensures pairs-once-ensures
-          if4-taken,
+    let is-9 = said-yes destination-right-ensures if1-left in
+    let held = held-yes m serial place-held-ensures site (place-given .1) in
+    let walked = walked-told most m held _ _ volume-within-ensures (size-given .1) in (
+      first-13 most m to serial is-9 site held (walked .0) (walked .1) (message-order-ensures .0) (said-yes none-sewn-within-ensures if2-left)
+          (unpaired-told m _ _ pairs-once-ensures (enum-told3-given .1)),
       forget2-ensures,
     )
 
-count-sewn-requires : tie.Need-count-sewn-requires
-count-sewn-requires c κs =
-    let c : tie.After-sewn-within-arg = search in
-    let message-order-ensures = (let p : tie.After-message-order = search in p .message-order .ensures) in
-    let volume-ensures = (let p : tie.After-volume = search in p .volume .ensures) in
-    let c : tie.After-volume = search in
-    let start : tie.Start = search in
-    let m = start .args .block .now in
-    let ok = start .pre .0 .0 in
-    (sited m ok .linked, omega (arith, start .pre .1 .0 .0), message-order-ensures .0)
-
 counter-fits-requires : tie.Need-counter-fits-requires
 counter-fits-requires c κs =
-    let count-sewn-ensures = (let p : tie.After-count-sewn = search in p .count-sewn .ensures) in
-    let c : tie.After-sewn-within-arg2 = search in
     let message-order-ensures = (let p : tie.After-message-order = search in p .message-order .ensures) in
     let c : tie.After-message-order = search in
-    let c : tie.After-slice-known6 = search in
+    let volume-within-kept = (let p : tie.After-volume-within = search in p .volume-within .kept) in
+    let c : tie.After-place-held = search in
     let start : tie.Start = search in
     let m = start .args .block .now in
-    let ok = start .pre .0 .0 in
-    (omega (arith, sited m ok .linked .size), ranges-in m ok .counter-small, sewn-few _ _ (sited m ok .linked) (message-order-ensures .0) count-sewn-ensures)
+    let site = sited m (start .pre .0 .0) in
+    ((site .linked, omega (arith, start .pre .1 .0 .0, volume-within-kept), ranges-in m (start .pre .0 .0) .counter-small), message-order-ensures .0)
+
+enum-known-sewn : tie.Need-enum-known-sewn
+enum-known-sewn c = search needs
+
+enum-told-4 : tie.Need-enum-told-4
+enum-told-4 c = search needs
 
 forget-requires-3 : tie.Need-forget-requires-3
 forget-requires-3 c κs =
-    let c : tie.After-number-vertices = search in
+    let c : tie.After-message-order = search in
     let message-order-kept = (let p : tie.After-message-order = search in p .message-order .kept) in
     let message-order-ensures = (let p : tie.After-message-order = search in p .message-order .ensures) in
-    let c : tie.After-message-order = search in
-    let volume-kept = (let p : tie.After-volume = search in p .volume .kept) in
-    let volume-ensures = (let p : tie.After-volume = search in p .volume .ensures) in
+    let volume-within-kept = (let p : tie.After-volume-within = search in p .volume-within .kept) in
+    let size-given = (let p : tie.After-size = search in p .size .given) in
+    let volume-within-ensures = (let p : tie.After-volume-within = search in p .volume-within .ensures) in
     let place-given = (let p : tie.After-place = search in p .place .given) in
-    let place-of-ensures = (let p : tie.After-place-of = search in p .place-of .ensures) in
-    let if1-left = (let p : tie.Else1 = search in p .if1 .left) in
-    let destination-right-ensures = (let p : tie.After-destination-right = search in p .destination-right .ensures) in
-    let c : tie.After-destination-right = search in
+    let place-held-ensures = (let p : tie.After-place-held = search in p .place-held .ensures) in
+    let c : tie.After-place-held = search in
     let start : tie.Start = search in
-    let to = start .args .to in
-    let serial = start .args .serial in
     let m = start .args .block .now in
-    let ok = start .pre .0 .0 in
-    let most = start .args .limits .volume in
-    let linked = sited m ok .linked in
-    let low = below most m ok to serial destination-right-ensures if1-left place-of-ensures (place-given .1) in
-    let mk = volume-ensures .0 in
-    let o = message-order-ensures .0 in (
-      omega (arith, out-few linked low mk o, linked .few),
-      out-long linked low mk o,
-      (λ k h. (
-        omega (arith, out-below linked low mk o k h, volume-kept, start .pre .1 .0 .0),
-        omega (arith, out-below linked low mk o k h, message-order-kept, start .pre .1 .0 .2),
-      )),
-      out-marked linked low mk o,
-      message-order-ensures .1,
-    )
+    let site = sited m (start .pre .0 .0) in
+    let held = held-yes m (start .args .serial) place-held-ensures site (place-given .1) in
+    let walked = walked-told (start .args .limits .volume) m held _ _ volume-within-ensures (size-given .1) in
+    let mk = walked .0 .volume-marked in
+    let clear = start .pre .1 .0 in
+    forget-ready site held mk (message-order-ensures .0) (message-order-ensures .1) (omega (arith, clear .0, volume-within-kept)) (omega (arith, clear .2, message-order-kept))
 
 same-length-14 : tie.Need-same-length-14
 same-length-14 c =
     let forget3-kept = (let p : tie.After-forget3 = search in p .forget3 .kept) in
-    let c : tie.After-number-vertices = search in
-    let c : tie.Else3 = search in
-    let volume-kept = (let p : tie.After-volume = search in p .volume .kept) in
-    omega (arith, forget3-kept, volume-kept)
+    let c : tie.Else2 = search in
+    let volume-within-kept = (let p : tie.After-volume-within = search in p .volume-within .kept) in
+    omega (arith, forget3-kept, volume-within-kept)
 
 same-length-15 : tie.Need-same-length-15
 same-length-15 c =
-    let c : tie.After-number-vertices = search in
-    let c : tie.Else3 = search in
+    let c : tie.Else2 = search in
     let message-order-kept = (let p : tie.After-message-order = search in p .message-order .kept) in
-    let volume-kept = (let p : tie.After-volume = search in p .volume .kept) in
-    omega (arith, message-order-kept, volume-kept)
+    let volume-within-kept = (let p : tie.After-volume-within = search in p .volume-within .kept) in
+    omega (arith, message-order-kept, volume-within-kept)
 
 same-length-16 : tie.Need-same-length-16
 same-length-16 c =
-    let c : tie.After-number-vertices = search in
-    let c : tie.Else3 = search in
+    let c : tie.Else2 = search in
     let message-order-kept = (let p : tie.After-message-order = search in p .message-order .kept) in
     omega (arith, message-order-kept)
 
 same-length-17 : tie.Need-same-length-17
 same-length-17 c =
     let forget3-kept = (let p : tie.After-forget3 = search in p .forget3 .kept) in
-    let c : tie.After-number-vertices = search in
-    let c : tie.Else3 = search in
+    let c : tie.Else2 = search in
     let message-order-kept = (let p : tie.After-message-order = search in p .message-order .kept) in
     omega (arith, forget3-kept, message-order-kept)
 
@@ -475,51 +388,48 @@ same-length-20 c = search needs
 returns-6 : tie.Need-returns-6
 returns-6 c =
     let forget3-ensures = (let p : tie.After-forget3 = search in p .forget3 .ensures) in
-    let if5-taken = (let p : tie.Then5 = search in p .if5 .taken) in
+    let enum-told4-given = (let p : tie.After-enum-told4 = search in p .enum-told4 .given) in
     let counter-fits-ensures = (let p : tie.After-counter-fits = search in p .counter-fits .ensures) in
-    let count-sewn-ensures = (let p : tie.After-count-sewn = search in p .count-sewn .ensures) in
-    let if4-left = (let p : tie.Else4 = search in p .if4 .left) in
+    let vertices-given = (let p : tie.After-vertices = search in p .vertices .given) in
     let pairs-once-ensures = (let p : tie.After-pairs-once = search in p .pairs-once .ensures) in
     let c : tie.After-pairs-once = search in
-    let number-vertices-ensures = (let p : tie.After-number-vertices = search in p .number-vertices .ensures) in
-    let if3-left = (let p : tie.Else3 = search in p .if3 .left) in
-    let sewn-within-ensures = (let p : tie.After-sewn-within = search in p .sewn-within .ensures) in
-    let c : tie.After-sewn-within = search in
-    let message-order-ensures = (let p : tie.After-message-order = search in p .message-order .ensures) in
     let if2-left = (let p : tie.Else2 = search in p .if2 .left) in
-    let volume-ensures = (let p : tie.After-volume = search in p .volume .ensures) in
-    let c : tie.After-volume = search in
+    let none-sewn-within-ensures = (let p : tie.After-none-sewn-within = search in p .none-sewn-within .ensures) in
+    let message-order-ensures = (let p : tie.After-message-order = search in p .message-order .ensures) in
+    let c : tie.After-message-order = search in
+    let size-given = (let p : tie.After-size = search in p .size .given) in
+    let volume-within-ensures = (let p : tie.After-volume-within = search in p .volume-within .ensures) in
     let place-given = (let p : tie.After-place = search in p .place .given) in
-    let place-of-ensures = (let p : tie.After-place-of = search in p .place-of .ensures) in
+    let place-held-ensures = (let p : tie.After-place-held = search in p .place-held .ensures) in
     let if1-left = (let p : tie.Else1 = search in p .if1 .left) in
     let destination-right-ensures = (let p : tie.After-destination-right = search in p .destination-right .ensures) in
+    let c : tie.After-destination-right = search in
     let start : tie.Start = search in
+    let m = start .args .block .now in
+    let site = sited m (start .pre .0 .0) in
+    let most = start .args .limits .volume in
     let to = start .args .to in
     let serial = start .args .serial in
-    let m = start .args .block .now in
-    let ok = start .pre .0 .0 in
-    let most = start .args .limits .volume in
-    let mk = volume-ensures .0 in (
-      first-14 most m ok to serial destination-right-ensures if1-left place-of-ensures (place-given .1) mk (volume-ensures .1 .0)
-          (omega (arith, if2-left)) (message-order-ensures .0) sewn-within-ensures if3-left number-vertices-ensures pairs-once-ensures
-          if4-left count-sewn-ensures counter-fits-ensures if5-taken,
+    let is-9 = said-yes destination-right-ensures if1-left in
+    let held = held-yes m serial place-held-ensures site (place-given .1) in
+    let walked = walked-told most m held _ _ volume-within-ensures (size-given .1) in (
+      first-14 most m to serial is-9 site held (walked .0) (walked .1) (message-order-ensures .0) (said-yes none-sewn-within-ensures if2-left)
+          (paired-told m _ _ pairs-once-ensures (vertices-given .1)) (full-told m _ counter-fits-ensures (enum-told4-given .1)),
       forget3-ensures,
     )
 
 same-length-21 : tie.Need-same-length-21
 same-length-21 c =
-    let c : tie.After-number-vertices = search in
-    let c : tie.Else3 = search in
-    let volume-kept = (let p : tie.After-volume = search in p .volume .kept) in
-    omega (arith, volume-kept)
+    let c : tie.Else2 = search in
+    let volume-within-kept = (let p : tie.After-volume-within = search in p .volume-within .kept) in
+    omega (arith, volume-within-kept)
 
 same-length-22 : tie.Need-same-length-22
 same-length-22 c =
-    let c : tie.After-number-vertices = search in
-    let c : tie.Else3 = search in
+    let c : tie.Else2 = search in
     let message-order-kept = (let p : tie.After-message-order = search in p .message-order .kept) in
-    let volume-kept = (let p : tie.After-volume = search in p .volume .kept) in
-    omega (arith, message-order-kept, volume-kept)
+    let volume-within-kept = (let p : tie.After-volume-within = search in p .volume-within .kept) in
+    omega (arith, message-order-kept, volume-within-kept)
 
 same-length-23 : tie.Need-same-length-23
 same-length-23 c = search needs
@@ -538,35 +448,35 @@ same-length-27 c = search needs
 
 returns-7 : tie.Need-returns-7
 returns-7 c =
-    let if5-left = (let p : tie.Else5 = search in p .if5 .left) in
+    let sewn-given = (let p : tie.After-sewn = search in p .sewn .given) in
     let counter-fits-ensures = (let p : tie.After-counter-fits = search in p .counter-fits .ensures) in
-    let count-sewn-ensures = (let p : tie.After-count-sewn = search in p .count-sewn .ensures) in
-    let if4-left = (let p : tie.Else4 = search in p .if4 .left) in
+    let vertices-given = (let p : tie.After-vertices = search in p .vertices .given) in
     let pairs-once-ensures = (let p : tie.After-pairs-once = search in p .pairs-once .ensures) in
-    let number-vertices-ensures = (let p : tie.After-number-vertices = search in p .number-vertices .ensures) in
-    let c : tie.After-number-vertices = search in
-    let if3-left = (let p : tie.Else3 = search in p .if3 .left) in
-    let sewn-within-ensures = (let p : tie.After-sewn-within = search in p .sewn-within .ensures) in
-    let message-order-ensures = (let p : tie.After-message-order = search in p .message-order .ensures) in
+    let c : tie.After-pairs-once = search in
     let if2-left = (let p : tie.Else2 = search in p .if2 .left) in
-    let c : tie.Else2 = search in
-    let volume-kept = (let p : tie.After-volume = search in p .volume .kept) in
-    let volume-ensures = (let p : tie.After-volume = search in p .volume .ensures) in
+    let none-sewn-within-ensures = (let p : tie.After-none-sewn-within = search in p .none-sewn-within .ensures) in
+    let message-order-ensures = (let p : tie.After-message-order = search in p .message-order .ensures) in
+    let c : tie.After-message-order = search in
+    let volume-within-kept = (let p : tie.After-volume-within = search in p .volume-within .kept) in
+    let size-given = (let p : tie.After-size = search in p .size .given) in
+    let volume-within-ensures = (let p : tie.After-volume-within = search in p .volume-within .ensures) in
     let place-given = (let p : tie.After-place = search in p .place .given) in
-    let place-of-ensures = (let p : tie.After-place-of = search in p .place-of .ensures) in
+    let place-held-ensures = (let p : tie.After-place-held = search in p .place-held .ensures) in
     let if1-left = (let p : tie.Else1 = search in p .if1 .left) in
     let destination-right-ensures = (let p : tie.After-destination-right = search in p .destination-right .ensures) in
     let c : tie.After-destination-right = search in
     let start : tie.Start = search in
+    let m = start .args .block .now in
+    let site = sited m (start .pre .0 .0) in
+    let most = start .args .limits .volume in
     let to = start .args .to in
     let serial = start .args .serial in
-    let m = start .args .block .now in
-    let ok = start .pre .0 .0 in
-    let most = start .args .limits .volume in
-    let mk = volume-ensures .0 in (
-      departs most m ok to serial destination-right-ensures if1-left place-of-ensures (place-given .1) mk (volume-ensures .1 .0)
-          (omega (arith, if2-left)) (message-order-ensures .0) sewn-within-ensures if3-left number-vertices-ensures pairs-once-ensures
-          if4-left count-sewn-ensures counter-fits-ensures (start .pre .0 .1) (omega (arith, volume-kept, start .pre .1 .0 .0)) if5-left,
+    let is-9 = said-yes destination-right-ensures if1-left in
+    let held = held-yes m serial place-held-ensures site (place-given .1) in
+    let walked = walked-told most m held _ _ volume-within-ensures (size-given .1) in
+    let counted = counter-told m _ counter-fits-ensures (sewn-given .1) in (
+      departs most m to serial is-9 site held (walked .0) (walked .1) (message-order-ensures .0) (said-yes none-sewn-within-ensures if2-left)
+          (paired-told m _ _ pairs-once-ensures (vertices-given .1)) (counted .0) (counted .1) (start .pre .0 .1) (omega (arith, start .pre .1 .0 .0, volume-within-kept)),
       tt,
     )
 
@@ -576,26 +486,28 @@ leaves-spec =
     (tie.spec
     destination-right-requires
     returns
-    shared-slice-read-n
-    place-of-requires
+    place-held-requires
     enum-known-place
     enum-told
     returns-2
-    volume-requires
-    unmark-requires
+    volume-within-requires
+    enum-known-size
+    enum-told-2
     same-length
     same-length-2
     returns-3
+    shared-slice-read-n
     message-order-requires
-    sewn-within-requires
+    none-sewn-within-requires
     forget-requires
     same-length-3
     same-length-4
     same-length-5
     same-length-6
     returns-4
-    number-vertices-requires
     pairs-once-requires
+    enum-known-vertices
+    enum-told-3
     forget-requires-2
     same-length-7
     same-length-8
@@ -605,8 +517,9 @@ leaves-spec =
     same-length-12
     same-length-13
     returns-5
-    count-sewn-requires
     counter-fits-requires
+    enum-known-sewn
+    enum-told-4
     forget-requires-3
     same-length-14
     same-length-15

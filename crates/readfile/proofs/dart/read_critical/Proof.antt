@@ -11,6 +11,9 @@ use borrow.Author.Needs.{needs}
 use Rattle.readfile.proofs.dart.read_critical.Statement.{statement}
 use Rattle.readfile.proofs.dart.read_critical.Tie as tie
 
+sub-read-at-most : tie.Need-sub-read-at-most
+sub-read-at-most c = search needs
+
 read-at-most-requires : tie.Need-read-at-most-requires
 read-at-most-requires c κs = search needs
 
@@ -42,14 +45,8 @@ returns-2 c =
     no-label (at-most-at 15 (sym (other-given .1) ∙ read-at-most-ensures))
     (record { value = bad-at label-code _ _ (sym (c .enum-told2 .given .1) ∙ read-label-ensures) })
 
-mul-t9 : tie.Need-mul-t9
-mul-t9 c =
-    let read-at-most-ensures = (let p : tie.After-read-at-most = search in p .read-at-most .ensures) in
-    let other-given = (let p : tie.After-other = search in p .other .given) in
-    omega (arith, at-most-bound 15 _ _ _ (at-most-at 15 (sym (other-given .1) ∙ read-at-most-ensures) .value))
-
-add-t10 : tie.Need-add-t10
-add-t10 c =
+critical-with-requires : tie.Need-critical-with-requires
+critical-with-requires c κs =
     let read-at-most-ensures = (let p : tie.After-read-at-most = search in p .read-at-most .ensures) in
     let other-given = (let p : tie.After-other = search in p .other .given) in
     omega (arith, at-most-bound 15 _ _ _ (at-most-at 15 (sym (other-given .1) ∙ read-at-most-ensures) .value))
@@ -60,12 +57,13 @@ returns-3 c =
     let other-given = (let p : tie.After-other = search in p .other .given) in
     let read-label-ensures = (let p : tie.After-read-label = search in p .read-label .ensures) in
     let label-given = (let p : tie.After-label = search in p .label .given) in
-    critical-read _ (at-most-at 15 (sym (other-given .1) ∙ read-at-most-ensures)) (label-at (sym (label-given .1) ∙ read-label-ensures))
+    critical-read _ (at-most-at 15 (sym (other-given .1) ∙ read-at-most-ensures)) (label-at (sym (label-given .1) ∙ read-label-ensures)) (c .critical-with .ensures)
 
 pub read-critical-spec : {M : Type 1} → statement M
 read-critical-spec =
     tie.close
     (tie.spec
+    sub-read-at-most
     read-at-most-requires
     enum-known-other
     enum-told
@@ -74,6 +72,5 @@ read-critical-spec =
     enum-known-label
     enum-told-2
     returns-2
-    mul-t9
-    add-t10
+    critical-with-requires
     returns-3)

@@ -1,14 +1,18 @@
 -- `readfile::raw::read_raw` meets its contract: number, counter, count and darts make the whole file where nothing is left over.
 -- Assumes nothing.
-use mathlib.Core.Path.{refl, sym, _∙_}
+use mathlib.Core.Path.{sym, _∙_}
 use Rattle.model.specs.Layouts.{group, at-most}
 use Rattle.model.specs.Image.{words}
 use Rattle.groups.proofs.Ends.{bad-at, group-at, at-most-at}
-use Rattle.readfile.proofs.Whole.{no-number, no-counter, no-count, too-many, no-darts, left-over, raw-refused, zeros-length, raw-served}
+use Rattle.readfile.proofs.Whole.{no-number, no-counter, no-count, too-many, no-darts, left-over, raw-refused, raw-served}
+use Rattle.newblock.proofs.Stored.{zeros-length}
 use native.Mathlib.Omega.{arith}
 use borrow.Author.Needs.{needs}
 use Rattle.readfile.proofs.raw.read_raw.Statement.{statement}
 use Rattle.readfile.proofs.raw.read_raw.Tie as tie
+
+sub-read-at-most : tie.Need-sub-read-at-most
+sub-read-at-most c = search needs
 
 read-at-most-requires : tie.Need-read-at-most-requires
 read-at-most-requires c κs = search needs
@@ -145,13 +149,14 @@ returns-7 c =
     let write-ensures = (let p : tie.After-write = search in p .write .ensures) in
     raw-served (at-most-at 15 (sym (number-given .1) ∙ read-at-most-ensures))
     (group-at (sym (counter-given .1) ∙ read-group-ensures))
-    (group-at (sym (count-given .1) ∙ read-group2-ensures)) (omega arith) words _ refl (start .pre)
+    (group-at (sym (count-given .1) ∙ read-group2-ensures)) (omega arith) _ (start .pre)
     (rw (past-given .1) at read-darts-ensures) (omega arith) write-ensures
 
 pub read-raw-spec : {M : Type 1} → statement M
 read-raw-spec =
     tie.close
     (tie.spec
+    sub-read-at-most
     read-at-most-requires
     enum-known-number
     enum-told

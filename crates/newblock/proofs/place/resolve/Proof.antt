@@ -1,12 +1,13 @@
--- `readfile::place::resolve` meets its contract. The loop's invariant: the first `i` darts have places.
+-- `newblock::place::resolve` meets its contract. The loop's invariant: the first `i` darts have places.
 -- Assumes nothing.
 use Prim.Native.Nat.{_-_}
 use mathlib.Core.Path.{_∙_}
-use Rattle.readfile.proofs.Resolving.{Placing, placing-start, placing-length, placing-ascends, placing-more, placing-ends}
+use Rattle.newblock.proofs.Imaged.{serials-ascend, resolved-is}
+use Rattle.newblock.proofs.Resolving.{Placing, placing-start, placing-length, placing-ascends, placing-more, placing-ends}
 use native.Mathlib.Omega.{arith}
 use borrow.Author.Needs.{needs}
-use Rattle.readfile.proofs.place.resolve.Statement.{statement}
-use Rattle.readfile.proofs.place.resolve.Tie as tie
+use Rattle.newblock.proofs.place.resolve.Statement.{statement}
+use Rattle.newblock.proofs.place.resolve.Tie as tie
 
 abbrev Inv-loop : tie.InvT-loop
 Inv-loop block₀ n i₀ block i =
@@ -28,7 +29,8 @@ resolve-dart-requires c κs =
     let start : tie.Start Inv-loop μ-loop = search in
     let loop-inv = (let p : tie.At-loop Inv-loop μ-loop = search in p .loop .inv) in
     let loop-test-taken = (let p : tie.In-loop Inv-loop μ-loop = search in p .loop-test .taken) in
-    (loop-test-taken, omega (arith, placing-length loop-inv (omega arith), start .pre .0), placing-ascends loop-inv (omega arith) (start .pre .1))
+    let fits = start .pre .fits in
+    (loop-test-taken, omega (arith, placing-length loop-inv (omega (arith, fits)), fits), placing-ascends loop-inv (omega (arith, fits)) (serials-ascend (start .pre)))
 
 add-i : tie.Need-add-i Inv-loop μ-loop
 add-i c = search needs
@@ -41,17 +43,20 @@ loop-again c =
     let loop-inv = (let p : tie.At-loop Inv-loop μ-loop = search in p .loop .inv) in
     let loop-test-taken = (let p : tie.In-loop Inv-loop μ-loop = search in p .loop-test .taken) in
     let resolve-dart-ensures = (let p : tie.After-resolve-dart Inv-loop μ-loop = search in p .resolve-dart .ensures) in
-    placing-more loop-inv (omega arith) loop-test-taken resolve-dart-ensures
+    let start : tie.Start Inv-loop μ-loop = search in
+    placing-more loop-inv (omega (arith, start .pre .fits)) loop-test-taken resolve-dart-ensures
 
 same-length : tie.Need-same-length Inv-loop μ-loop
 same-length c =
     let loop-inv = (let p : tie.At-loop Inv-loop μ-loop = search in p .loop .inv) in
-    placing-length loop-inv (omega arith)
+    let start : tie.Start Inv-loop μ-loop = search in
+    placing-length loop-inv (omega (arith, start .pre .fits))
 
 returns : tie.Need-returns Inv-loop μ-loop
 returns c =
     let loop-inv = (let p : tie.At-loop Inv-loop μ-loop = search in p .loop .inv) in
-    placing-ends loop-inv (omega arith) (c .loop-test .left)
+    let start : tie.Start Inv-loop μ-loop = search in
+    placing-ends loop-inv (omega (arith, start .pre .fits)) (c .loop-test .left) ∙ resolved-is (start .pre)
 
 pub resolve-spec : {M : Type 1} → statement M
 resolve-spec =

@@ -1,12 +1,15 @@
 // Places for the serials of links, in memory whose darts ascend by serial.
 ghost use mathlib.Core.Path.{_≡_};
 ghost use Prim.Native.Nat.{_≤_, _<_};
-ghost use lib.ListN.{length, getD};
+ghost use lib.ListN.{length};
 ghost use Rattle.laws.specs.Order.{Ascending};
 ghost use Rattle.model.specs.Lists.{tab, index-of};
-ghost use Rattle.model.specs.Image.{words-for, column};
+ghost use Rattle.model.specs.Image.{words-for, column, image};
 ghost use Rattle.memory.specs.Record.{put};
-ghost use Rattle.readfile.specs.Places.{place-link, place-words, resolved};
+ghost use Rattle.newblock.specs.Serials.{raw-block, InSerials};
+ghost use Rattle.newblock.specs.Places.{place-link, place-words};
+use memory::header::Header;
+use memory::kind;
 use memory::lookup::Found;
 use memory::record::Place;
 use memory::record::Record;
@@ -24,7 +27,7 @@ fn place_near(block: &[u64], n: usize, p: Place, own: u64, serial: u64) -> u64
 {
     let g = guess(p, own, serial);
     if g < n as u64 {
-        if memory::record::field(block, Place(g as usize), 0) == serial {
+        if memory::record::field(block, Place(g as usize), Record::SERIAL) == serial {
             return g;
         }
     }
@@ -39,7 +42,7 @@ fn link_place(block: &[u64], n: usize, p: Place, own: u64, kind: u64, link: u64)
     requires { ⌜ (words-for n ≤ length (now block)) × Ascending n (column (now block) 0) ⌝ }
     ensures { λ r. ⌜ r ≡ place-link (tab (column (now (block .entry)) 0) n) kind link ⌝ }
 {
-    if kind == 1 {
+    if kind == kind::SEWN {
         return place_near(block, n, p, own, link);
     }
     link
@@ -68,12 +71,12 @@ fn resolve_dart(block: &mut [u64], n: usize, p: Place)
     memory::record::put_record(block, p, placed);
 }
 
-// Places for the serials of all darts.
+// Places for the serials of all darts: the image of the block that the memory has in serials.
 pub fn resolve(block: &mut [u64])
-    requires { ⌜ (words-for (getD (now block) 2 0) ≤ length (now block)) × Ascending (getD (now block) 2 0) (column (now block) 0) ⌝ }
-    ensures { λ _. ⌜ now (block .exit) ≡ resolved (now (block .entry)) ⌝ }
+    requires { ⌜ InSerials (now block) ⌝ }
+    ensures { λ _. ⌜ now (block .exit) ≡ image (length (now (block .entry))) (raw-block (now (block .entry))) ⌝ }
 {
-    let n = block[2] as usize;
+    let n = block[Header::COUNT] as usize;
     // The first i darts have places.
     let mut i = 0;
     while i < n {

@@ -20,9 +20,9 @@ use Rattle.memory.specs.declared.record.Record.{Record}
 use Rattle.memory.specs.declared.lookup.Found.{Found}
 use Rattle.memory.specs.declared.lookup.Found.the-variants.{At, Nothing}
 use Rattle.memory.proofs.Lookups.{place-at, place-nothing}
-use Rattle.readfile.specs.Serials.{behind}
-use Rattle.readfile.specs.Places.{place-link, place-words, serials-in, places-below, resolved}
-use Rattle.readfile.proofs.Rows.{Eights, tab-eights, behind-none, behind-length, behind-row, behind-rest, behind-more}
+use Rattle.newblock.specs.Serials.{behind}
+use Rattle.newblock.specs.Places.{place-link, place-words, serials-in, places-below, resolved}
+use Rattle.newblock.proofs.Rows.{Eights, tab-eights, behind-none, behind-length, behind-row, behind-rest, behind-more}
 
 -- ONE SERIAL
 module _ (s : ℕ → ℕ) (n x : ℕ) where

@@ -6,7 +6,7 @@ use lib.Dec.{eqb}
 use lib.ListN.{getD}
 use Rattle.model.specs.Lists.{tab, index-of}
 use Rattle.model.specs.Image.{column}
-use Rattle.readfile.specs.Serials.{behind}
+use Rattle.newblock.specs.Serials.{behind}
 
 -- a link word: the place of the dart that a sewn one is sewn to
 abbrev pub place-link : List ℕ → ℕ → ℕ → ℕ

@@ -1,4 +1,5 @@
--- Links that are not held: the block read back from an image has 0 for them, and is asked questions 4 to 8 with the same answers.
+-- Links that are not held: the block read back from an image has 0 for them, and is asked questions 4 to 8 with the same answers,
+-- each under the yes of those before that it rests on: 4 and 5 of none, 6 of 5, 7 and 8 of 5 and 6.
 -- Assumes nothing.
 use mathlib.Core.Path.{_≡_, refl, sym, ap, _∙_, fun-ext}
 use mathlib.Core.Bool.{Bool, true, false, true≢false, cond, _&&_}
@@ -8,16 +9,17 @@ use Prim.Native.Nat.{ℕ, _+_, _*_, _<_}
 use native.Mathlib.Omega.{arith}
 use lib.Dec.{leb, ltb, eqb}
 use lib.ListN.{length, getD, length-map}
-use Rattle.laws.proofs.Tests.{by-cases, and-intro, and-left, and-right, all-at, find-map, same-truth}
+use Rattle.laws.proofs.Tests.{by-cases, and-intro, and-left, and-right, find-map, same-truth}
 use Rattle.laws.proofs.Members.{all-in, all-map, any-map}
 use Rattle.laws.proofs.Maps.{all-weaken, map-where, map-at, map-self, index-absent}
-use Rattle.model.specs.Lists.{all, any, mem, tab, find, index-of, first-no}
-use Rattle.model.specs.Values.{Third, free, sewn, critical, Dart, no-dart, or-no-dart, Block, rack, serial-bound, finite, with-third}
+use Rattle.model.specs.Lists.{all, any, mem, tab, find, index-of}
+use Rattle.model.specs.Values.{Third, free, sewn, critical, Dart, no-dart, or-no-dart, Block, widest, serial-bound, finite, with-third}
 use Rattle.model.specs.Cells.{serials, held, dart-at, opposite-in}
-use Rattle.model.specs.Sound.{third-in-range, dart-in-range, ranges-right, coordinates-finite, link-right, links-right, third-right, thirds-right, labels-right, points-agree, block-checks}
+use Rattle.model.specs.Sound.{third-in-range, dart-in-range, ranges-right, coordinates-finite, link-right, links-right, third-right, thirds-right}
 use Rattle.model.specs.Image.{kind-word, link-word, dart-words, image, column, third-in, dart-in, block-in}
 use Rattle.theory.proofs.ImageLaws.{tab-list, column-is, ranges-of, links-held, serial-back, third-back}
 use Rattle.columns.proofs.Images.{image-rest}
+use Rattle.newblock.proofs.Imaged.{third-ranged}
 
 -- WHAT IS READ BACK: a link that is held, or 0
 clip : List Dart → ℕ → ℕ
@@ -68,21 +70,15 @@ module _ (size : ℕ) (b : Block) where
     clipped-third (getD (b .darts) p no-dart .third) r,
   ) refl
 
-  in-range : ranges-right rack b ≡ true → (p : ℕ) → p < length (b .darts) → third-in-range (getD (b .darts) p no-dart .third) ≡ true
-  unfolding dart-in-range
-  in-range r p h =
-      let d = getD (b .darts) p no-dart in
-      and-right (leb 1 (d .serial) && ltb (d .serial) serial-bound) _ (all-at dart-in-range no-dart (b .darts) p (ranges-of rack b r .each-dart) h)
-
   abbrev clipped : List Dart
   clipped = map (clip-dart (b .darts)) (b .darts)
 
-  read-clipped : ranges-right rack b ≡ true → block-in (image size b) ≡ record { number = b .number; counter = b .counter; darts = clipped }
+  read-clipped : ranges-right widest b ≡ true → block-in (image size b) ≡ record { number = b .number; counter = b .counter; darts = clipped }
   unfolding image
   read-clipped r =
       let darts : tab (dart-in (image size b)) (length ds) ≡ clipped = ap (tab (dart-in (image size b))) (sym (length-map ds (clip-dart ds)))
       ∙ tab-list no-dart clipped (dart-in (image size b)) (λ p h. let k : p < length ds = omega (arith, length-map ds (clip-dart ds)) in
-      clipped-dart p k (in-range r p k) ∙ sym (map-at (clip-dart ds) no-dart no-dart ds p k)) in
+      clipped-dart p k (third-ranged b r p k) ∙ sym (map-at (clip-dart ds) no-dart no-dart ds p k)) in
       ap (λ (l : List Dart). record { number = b .number; counter = b .counter; darts = l }) darts
 
 -- QUESTION 4
@@ -201,14 +197,7 @@ module _ (ds : List Dart) (positive : held ds 0 ≡ false) where
         (λ e. ap thirds-right (sym (clipped-same (sewn-clipped e))) ∙ e)
         (λ e. ap thirds-right (clipped-same (sewn-before e)) ∙ e)
 
--- ALL FIVE, in order
-five-same : (f l t a p f' l' t' a' p' : Bool) → f' ≡ f → l' ≡ l → (l ≡ true → t' ≡ t) → (l ≡ true → t ≡ true → (a' ≡ a) × (p' ≡ p))
-    → first-no ((4, f') ∷ (5, l') ∷ (6, t') ∷ (7, a') ∷ (8, p') ∷ []) ≡ first-no ((4, f) ∷ (5, l) ∷ (6, t) ∷ (7, a) ∷ (8, p) ∷ [])
-unfolding first-no
-five-same f l t a p f' l' t' a' p' ef el et ea = rw (ef, el) (by-cases l
-    (λ hl. rw (et hl) (by-cases t (λ ht. let e = ea hl ht in rw (e .0, e .1) refl) (λ ht. rw ht refl)))
-    (λ hl. rw hl refl))
-
+-- THE IMAGE of a block in range, question by question
 none-zero : (ds : List Dart) → all dart-in-range ds ≡ true → held ds 0 ≡ false
 unfolding dart-in-range
 none-zero ds r = by-cases (held ds 0)
@@ -218,15 +207,23 @@ none-zero ds r = by-cases (held ds 0)
     positive : all (λ d. leb 1 (d .serial)) ds ≡ true
     positive = all-weaken dart-in-range (λ d. leb 1 (d .serial)) ds (λ d q. and-left (leb 1 (d .serial)) _ (and-left (leb 1 (d .serial) && ltb (d .serial) serial-bound) _ q)) r
 
-pub same-answers : (size : ℕ) (b : Block) → ranges-right rack b ≡ true → first-no (block-checks (block-in (image size b))) ≡ first-no (block-checks b)
-unfolding block-checks
-same-answers size b r =
-    let ds = b .darts in
-    let zero-free = none-zero ds (ranges-of rack b r .each-dart) in
-    let back : Block = record { number = b .number; counter = b .counter; darts = map (clip-dart ds) ds } in
-    ap (λ (c : Block). first-no (block-checks c)) (read-clipped size b r)
-    ∙ five-same (coordinates-finite ds) (links-right ds) (thirds-right ds) (labels-right b) (points-agree ds)
-    (coordinates-finite (back .darts)) (links-right (back .darts)) (thirds-right (back .darts)) (labels-right back) (points-agree (back .darts))
-    (clipped-finite ds) (clipped-links ds zero-free) (clipped-thirds ds zero-free)
-    (λ l t. let same = clipped-same ds zero-free l (sewn-before ds zero-free l t) in
-    (ap (λ (e : List Dart). labels-right (record { number = b .number; counter = b .counter; darts = e })) same, ap points-agree same))
+module _ (size : ℕ) (b : Block) (r : ranges-right widest b ≡ true) where
+  zero-free : held (b .darts) 0 ≡ false
+  zero-free = none-zero (b .darts) (ranges-of widest b r .each-dart)
+
+  read-darts : block-in (image size b) .darts ≡ map (clip-dart (b .darts)) (b .darts)
+  read-darts = ap (λ (c : Block). c .darts) (read-clipped size b r)
+
+  pub finite-same : coordinates-finite (block-in (image size b) .darts) ≡ coordinates-finite (b .darts)
+  finite-same = ap coordinates-finite read-darts ∙ clipped-finite (b .darts)
+
+  pub links-same : links-right (block-in (image size b) .darts) ≡ links-right (b .darts)
+  links-same = ap links-right read-darts ∙ clipped-links (b .darts) zero-free
+
+  pub thirds-same : links-right (b .darts) ≡ true → thirds-right (block-in (image size b) .darts) ≡ thirds-right (b .darts)
+  thirds-same l = ap thirds-right read-darts ∙ clipped-thirds (b .darts) zero-free l
+
+  -- 7 and 8 are asked of the block itself
+  pub block-same : links-right (b .darts) ≡ true → thirds-right (b .darts) ≡ true → block-in (image size b) ≡ b
+  block-same l t = read-clipped size b r
+      ∙ ap (λ (ds : List Dart). record { number = b .number; counter = b .counter; darts = ds }) (clipped-same (b .darts) zero-free l (sewn-before (b .darts) zero-free l t))

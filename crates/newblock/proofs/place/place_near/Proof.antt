@@ -1,11 +1,11 @@
--- `readfile::place::place_near` meets its contract: the guess, the lookup and no place at all are the serial's index.
+-- `newblock::place::place_near` meets its contract: the guess, the lookup and no place at all are the serial's index.
 -- Assumes nothing.
 use mathlib.Core.Path.{sym, _∙_}
-use Rattle.readfile.proofs.Resolving.{place-is, place-found, no-place}
+use Rattle.newblock.proofs.Resolving.{place-is, place-found, no-place}
 use native.Mathlib.Omega.{arith}
 use borrow.Author.Needs.{needs}
-use Rattle.readfile.proofs.place.place_near.Statement.{statement}
-use Rattle.readfile.proofs.place.place_near.Tie as tie
+use Rattle.newblock.proofs.place.place_near.Statement.{statement}
+use Rattle.newblock.proofs.place.place_near.Tie as tie
 
 guess-requires : tie.Need-guess-requires
 guess-requires c κs = search needs

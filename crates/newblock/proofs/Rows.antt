@@ -2,7 +2,7 @@
 --   row-at, past-rows    a word of a row
 --   behind-row, behind-rest, behind-more    rows stored in memory, and one more
 use mathlib.Core.Path.{_≡_, refl, sym, ap, _∙_}
-use mathlib.Core.List.{List, [], _∷_, _++_, map, append-assoc, append-nil}
+use mathlib.Core.List.{List, [], _∷_, _++_, map, append-assoc}
 use Prim.Native.Nat.{ℕ, zero, suc, _+_, _*_, _-_, _<_, _≤_}
 use native.Mathlib.Omega.{arith}
 use native.Mathlib.Nat.{zero-mul, zero-add, add-assoc}
@@ -13,7 +13,7 @@ use Rattle.model.specs.Lists.{tab, concat}
 use Rattle.model.specs.Image.{column}
 use Rattle.laws.proofs.Lists.{concat-snoc}
 use Rattle.memory.specs.Record.{put}
-use Rattle.readfile.specs.Serials.{behind}
+use Rattle.newblock.specs.Serials.{behind}
 
 abbrev pub Eights : List (List ℕ) → Type 0
 Eights rows = Each (λ r. length r ≡ 8) rows

@@ -1,9 +1,9 @@
--- `readfile::place::link_place` meets its contract: only a sewn dart's link is a serial.
+-- `newblock::place::link_place` meets its contract: only a sewn dart's link is a serial.
 -- Assumes nothing.
-use Rattle.readfile.proofs.Resolving.{sewn-place, other-link}
+use Rattle.newblock.proofs.Resolving.{sewn-place, other-link}
 use borrow.Author.Needs.{needs}
-use Rattle.readfile.proofs.place.link_place.Statement.{statement}
-use Rattle.readfile.proofs.place.link_place.Tie as tie
+use Rattle.newblock.proofs.place.link_place.Statement.{statement}
+use Rattle.newblock.proofs.place.link_place.Tie as tie
 
 place-near-requires : tie.Need-place-near-requires
 place-near-requires c κs = search needs

@@ -1,9 +1,9 @@
--- `readfile::place::resolve_dart` meets its contract: the record with places is stored at its place.
+-- `newblock::place::resolve_dart` meets its contract: the record with places is stored at its place.
 -- Assumes nothing.
-use Rattle.readfile.proofs.Resolving.{record-placed}
+use Rattle.newblock.proofs.Resolving.{record-placed}
 use borrow.Author.Needs.{needs}
-use Rattle.readfile.proofs.place.resolve_dart.Statement.{statement}
-use Rattle.readfile.proofs.place.resolve_dart.Tie as tie
+use Rattle.newblock.proofs.place.resolve_dart.Statement.{statement}
+use Rattle.newblock.proofs.place.resolve_dart.Tie as tie
 
 record-at-requires : tie.Need-record-at-requires
 record-at-requires c κs = search needs
