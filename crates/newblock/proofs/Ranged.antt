@@ -13,6 +13,7 @@ use borrow.Author.Tests.{le-leb, lt-ltb}
 use Rattle.laws.proofs.Tests.{by-cases, and-intro, lt-or-ge}
 use Rattle.laws.proofs.Lists.{getD-zeros}
 use Rattle.laws.proofs.Tables.{length-tab, getD-tab, all-tab, tab-all, map-tab, tab-ascending}
+use Rattle.laws.proofs.Labels.{code-in}
 use Rattle.model.specs.Lists.{concat}
 use Rattle.model.specs.Values.{no-dart, Block, widest}
 use Rattle.model.specs.Sound.{third-in-range, dart-in-range, ranges-right}
@@ -20,7 +21,7 @@ use Rattle.model.specs.Image.{words-for, column, third-in, dart-in, block-in}
 use Rattle.theory.proofs.ImageLaws.{ranges-of}
 use Rattle.columns.specs.Columns.{count, Kind, kind-free, kind-sewn, kind-critical, Ranged}
 use Rattle.columns.proofs.Images.{in-order, ranges-yes}
-use Rattle.columns.proofs.Thirds.{third-free, third-sewn, third-critical, code-in, kind-back}
+use Rattle.columns.proofs.Thirds.{third-free, third-sewn, third-critical, kind-back}
 use Rattle.newblock.specs.Serials.{raw-link, raw-words, raw, raw-dart, raw-block, InSerials}
 use Rattle.newblock.proofs.Rows.{map-eights, past-rows, headed-at}
 use Rattle.newblock.proofs.Stored.{raw-8}
