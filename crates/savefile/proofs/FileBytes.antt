@@ -138,18 +138,6 @@ dart-most m p s = omega (
   third-most (column m 3 p) (third-named m p) (s .third-small),
 )
 
--- the counts of its parts make the dart's
-pub record DartCounted (m : List ℕ) (p s n o t : ℕ) : Type 0 where
-  pub same : s + (n + (o + (t + 24))) ≡ length (a-dart .put (dart-in m p))
-  pub few : s + (n + (o + (t + 24))) ≤ 60
-
-pub dart-counted : (m : List ℕ) (p : ℕ) → Small m p → {a b c k v s n o t : ℕ} → a ≡ column m 0 p → s ≡ length (serial .put a)
-    → b ≡ column m 0 (column m 1 p) → n ≡ length (serial .put b) → c ≡ column m 0 (column m 2 p) → o ≡ length (serial .put c)
-    → k ≡ column m 3 p → v ≡ third-named m p → t ≡ length (third-bytes k v) → DartCounted m p s n o t
-dart-counted m p w {a} {b} {c} {k} {v} {s} {n} {o} {t} ea es eb en ec eo ek ev et =
-    let e : s + (n + (o + (t + 24))) ≡ length (a-dart .put (dart-in m p)) = rw (es, ea, en, eb, eo, ec, et, ek, ev) (sym (dart-length m p)) in
-    record { same = e; few = omega (arith, e, dart-most m p w) }
-
 -- ALL DARTS
 abbrev pub dart-bytes : List ℕ → ℕ → List ℕ
 dart-bytes m p = a-dart .put (dart-in m p)

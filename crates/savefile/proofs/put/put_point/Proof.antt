@@ -1,6 +1,6 @@
 -- `savefile::put::put_point` meets its contract: the patterns of the point, one stored after the other.
 -- Assumes nothing.
-use Rattle.groups.proofs.Writing.{stored-then, stored-length}
+use Rattle.groups.proofs.Writing.{stored-then}
 use Rattle.groups.proofs.Coordinates.{coordinate-length}
 use Rattle.savefile.proofs.FileBytes.{point-put}
 use native.Mathlib.Omega.{arith}
@@ -25,7 +25,7 @@ put-coordinate-requires-2 c κs =
     let start : tie.Start = search in
     let pattern-result = (let p : tie.After-pattern = search in p .pattern .result) in
     let put-coordinate-ensures = (let p : tie.After-put-coordinate = search in p .put-coordinate .ensures) in
-    omega (arith, start .pre .1, stored-length put-coordinate-ensures, put-coordinate-ensures .past, coordinate-length pattern-result)
+    omega (arith, start .pre .1, put-coordinate-ensures .past, coordinate-length pattern-result)
 
 put-coordinate-requires-3 : tie.Need-put-coordinate-requires-3
 put-coordinate-requires-3 c κs =
@@ -37,10 +37,8 @@ put-coordinate-requires-3 c κs =
     omega (
       arith,
       start .pre .1,
-      stored-length put-coordinate-ensures,
       put-coordinate-ensures .past,
       coordinate-length pattern-result,
-      stored-length put-coordinate2-ensures,
       put-coordinate2-ensures .past,
       coordinate-length pattern2-result,
     )

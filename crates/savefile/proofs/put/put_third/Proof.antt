@@ -1,6 +1,6 @@
 -- `savefile::put::put_third` meets its contract: the parts of each kind, one stored after the other.
 -- Assumes nothing.
-use Rattle.groups.proofs.Writing.{stored-then, stored-length}
+use Rattle.groups.proofs.Writing.{stored-then}
 use Rattle.savefile.proofs.FileBytes.{free-bytes, sewn-bytes, critical-bytes, one-group, sewn-length, critical-length}
 use native.Mathlib.Omega.{arith}
 use borrow.Author.Needs.{needs}
@@ -35,7 +35,7 @@ put-serial-requires c κs =
     let named = start .args .named in
     let if2-taken = (let p : tie.Then2 = search in p .if2 .taken) in
     let s = (let p : tie.After-put-group2 = search in p .put-group2 .ensures) in
-    (start .pre .0 .sewn-small if2-taken, omega (arith, start .pre .1, sewn-length kind named if2-taken, one-group 1 (omega arith), s .past, stored-length s))
+    (start .pre .0 .sewn-small if2-taken, omega (arith, start .pre .1, sewn-length kind named if2-taken, one-group 1 (omega arith), s .past))
 
 same-length-2 : tie.Need-same-length-2
 same-length-2 c = search needs
@@ -65,7 +65,7 @@ put-group-requires-4 c κs =
     let if1-left = (let p : tie.Else1 = search in p .if1 .left) in
     let if2-left = (let p : tie.Else2 = search in p .if2 .left) in
     let s = (let p : tie.After-put-group3 = search in p .put-group3 .ensures) in
-    rw (c .narrow .ensures) (omega (arith, start .pre .1, critical-length kind named if1-left if2-left, one-group 2 (omega arith), s .past, stored-length s))
+    rw (c .narrow .ensures) (omega (arith, start .pre .1, critical-length kind named if1-left if2-left, one-group 2 (omega arith), s .past))
 
 put-label-requires : tie.Need-put-label-requires
 put-label-requires c κs =
@@ -78,7 +78,7 @@ put-label-requires c κs =
     let put-group4-ensures = (let p : tie.After-put-group4 = search in p .put-group4 .ensures) in
     let s = (let p : tie.After-put-group3 = search in p .put-group3 .ensures) in
     let t = rw narrow-ensures at put-group4-ensures in
-    omega (arith, start .pre .1, critical-length kind named if1-left if2-left, one-group 2 (omega arith), s .past, stored-length s, t .past, stored-length t)
+    omega (arith, start .pre .1, critical-length kind named if1-left if2-left, one-group 2 (omega arith), s .past, t .past)
 
 same-length-3 : tie.Need-same-length-3
 same-length-3 c = search needs
