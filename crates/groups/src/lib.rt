@@ -83,13 +83,13 @@ fn put_across(out: &mut [u8], at: usize, v: u64) -> usize
     put_byte(out, p, x as u8)
 }
 
-// A number below 2^32: only counted where it starts behind the output.
+// A number below 2^32: only counted where there is no output.
 fn put_number(out: &mut [u8], at: usize, v: u64) -> usize
     requires { ⌜ v < 2 ^ 32 ⌝ }
     requires { ⌜ at + length (groups 4 v) < 2 ^ 63 ⌝ }
     ensures { λ r. ⌜ Stored (now (out .entry)) at (groups 4 v) (now (out .exit)) r ⌝ }
 {
-    if out.len() <= at {
+    if out.len() == 0 {
         return at + group_count(v as u32);
     }
     if at + 5 <= out.len() {
@@ -255,11 +255,11 @@ pub fn put_coordinate(out: &mut [u8], at: usize, word: u64) -> usize
     requires { ⌜ at + 8 < 2 ^ 63 ⌝ }
     ensures { λ r. ⌜ Stored (now (out .entry)) at (coordinate .put word) (now (out .exit)) r ⌝ }
 {
-    if out.len() <= at {
-        return at + 8;
-    }
     if at + 8 <= out.len() {
         return put_word(out, at, word);
+    }
+    if out.len() == 0 {
+        return at + 8;
     }
     put_word_across(out, at, word)
 }

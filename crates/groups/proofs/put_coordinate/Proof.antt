@@ -7,17 +7,8 @@ use Rattle.groups.proofs.Writing.{stored-outside}
 use Rattle.groups.proofs.put_coordinate.Statement.{statement}
 use Rattle.groups.proofs.put_coordinate.Tie as tie
 
-add-result : tie.Need-add-result
-add-result c = search needs
-
-returns : tie.Need-returns
-returns c =
-    let start : tie.Start = search in
-    let if1-taken = (let p : tie.Then1 = search in p .if1 .taken) in
-    stored-outside if1-taken (sym (coordinate-length (start .args .word)))
-
-add-if2 : tie.Need-add-if2
-add-if2 c = search needs
+add-if1 : tie.Need-add-if1
+add-if1 c = search needs
 
 put-word-requires : tie.Need-put-word-requires
 put-word-requires c κs = search needs
@@ -25,8 +16,17 @@ put-word-requires c κs = search needs
 same-length : tie.Need-same-length
 same-length c = search needs
 
+returns : tie.Need-returns
+returns c = search needs
+
+add-result : tie.Need-add-result
+add-result c = search needs
+
 returns-2 : tie.Need-returns-2
-returns-2 c = search needs
+returns-2 c =
+    let start : tie.Start = search in
+    let if2-taken = (let p : tie.Then2 = search in p .if2 .taken) in
+    stored-outside (omega (arith, if2-taken)) (sym (coordinate-length (start .args .word)))
 
 put-word-across-requires : tie.Need-put-word-across-requires
 put-word-across-requires c κs = search needs
@@ -41,11 +41,11 @@ pub put-coordinate-spec : {M : Type 1} → statement M
 put-coordinate-spec =
     tie.close
     (tie.spec
-    add-result
-    returns
-    add-if2
+    add-if1
     put-word-requires
     same-length
+    returns
+    add-result
     returns-2
     put-word-across-requires
     same-length-2

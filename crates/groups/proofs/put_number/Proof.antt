@@ -26,7 +26,7 @@ returns c =
     let start : tie.Start = search in
     let group-count-ensures = (let p : tie.After-group-count = search in p .group-count .ensures) in
     let if1-taken = (let p : tie.Then1 = search in p .if1 .taken) in
-    stored-outside if1-taken (group-count-ensures ∙ sym (group-length (start .args .v) (start .pre .0)))
+    stored-outside (omega (arith, if1-taken)) (group-count-ensures ∙ sym (group-length (start .args .v) (start .pre .0)))
 
 add-if2 : tie.Need-add-if2
 add-if2 c = search needs
