@@ -106,14 +106,6 @@ pub fn put_group(out: &mut [u8], at: usize, v: u32) -> usize
     put_number(out, at, widen(v))
 }
 
-// How many groups a serial takes.
-pub fn serial_count(v: u64) -> usize
-    requires { ⌜ v < serial-bound ⌝ }
-    ensures { λ r. ⌜ r ≡ length (serial .put v) ⌝ }
-{
-    group_count(v as u32)
-}
-
 // A serial, whose bound is one of its own.
 pub fn put_serial(out: &mut [u8], at: usize, v: u64) -> usize
     requires { ⌜ v < serial-bound ⌝ }
@@ -291,16 +283,6 @@ pub fn read_coordinate(s: &[u8], at: usize) -> Read
         return Read::Bad;
     }
     Read::Value(word_at(s, at), at + 8)
-}
-
-// How many bytes the label with a code takes.
-pub fn label_count(code: u64) -> usize
-    ensures { λ r. ⌜ r ≡ length (label .put (label-in code)) ⌝ }
-{
-    let maker = group_count((code / 4096 / 4294967296) as u32);
-    let number = group_count((code / 4096 % 4294967296) as u32);
-    let position = group_count((code % 4096) as u32);
-    maker + (number + position)
 }
 
 // The label with a code.

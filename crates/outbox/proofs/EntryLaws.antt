@@ -10,7 +10,7 @@ use Rattle.model.specs.Messages.{FaceDart, Part2, Part3, point, label, face-dar
 use Rattle.groups.specs.Slices.{Stored}
 use Rattle.groups.proofs.Counts.{group-most}
 use Rattle.groups.proofs.Coordinates.{coordinate-length}
-use Rattle.groups.proofs.Writing.{stored-then, stored-length}
+use Rattle.groups.proofs.Writing.{stored-then}
 
 -- BYTES
 pub point-bytes : (p : Point) → point .put p ≡ coordinate .put (p .x) ++ (coordinate .put (p .y) ++ coordinate .put (p .z))
@@ -54,9 +54,9 @@ pair-length a b = length-append (group .put a) (group .put b)
 pub stored-as : {l n whole bytes : List ℕ} {at next : ℕ} → whole ≡ bytes → Stored l at bytes n next → Stored l at whole n next
 stored-as {l} {n} {whole} {bytes} {at} {next} e s = rw e s
 
--- there is room for what follows a first part
-pub room-after : {l m a : List ℕ} {at mid : ℕ} → Stored l at a m mid → (b : ℕ) → at + (length a + b) ≤ length l → mid + b ≤ length m
-room-after {l} {m} {a} s b h = omega (arith, stored-length s, s .past)
+-- what follows a first part does not wrap either
+pub room-after : {l m a : List ℕ} {at mid : ℕ} → Stored l at a m mid → (b : ℕ) → at + (length a + b) < 2 ^ 63 → mid + b < 2 ^ 63
+room-after {l} {m} {a} s b h = omega (arith, s .past)
 
 -- a point whose words were read
 pub point-words : (p : Point) {x y z : ℕ} → x ≡ p .x → y ≡ p .y → z ≡ p .z → point .put p ≡ coordinate .put x ++ (coordinate .put y ++ coordinate .put z)

@@ -1,7 +1,7 @@
-// One point, one dart of a face, one entry of a part: how many bytes it takes, and put at a place of a slice.
+// One point, one dart of a face, one entry of a part, put at a place of a slice.
 ghost use mathlib.Core.Path.{_≡_};
 ghost use mathlib.Core.List.{_++_};
-ghost use Prim.Native.Nat.{_+_, _≤_, _<_, _^_};
+ghost use Prim.Native.Nat.{_+_, _<_, _^_};
 ghost use lib.ListN.{length};
 ghost use Rattle.model.specs.Values.{serial-bound};
 ghost use Rattle.model.specs.Layouts.{group};
@@ -15,7 +15,7 @@ use memory::record::MessageIndex;
 
 // A point goes by value.
 pub fn put_point(out: &mut [u8], at: usize, p: Point) -> usize
-    requires { ⌜ FinitePoint p × (at + 24 ≤ length (now out)) ⌝ }
+    requires { ⌜ FinitePoint p × (at + 24 < 2 ^ 63) ⌝ }
     ensures { λ r. ⌜ Stored (now (out .entry)) at (point-layout .put (patterns p)) (now (out .exit)) r ⌝ }
 {
     let x = point::pattern(p.x);
@@ -27,15 +27,8 @@ pub fn put_point(out: &mut [u8], at: usize, p: Point) -> usize
 }
 
 // A dart of a face: the number of its vertex, then its serial.
-pub fn dart_size(vertex: usize, serial: u64) -> usize
-    requires { ⌜ (vertex < 2 ^ 32) × (serial < serial-bound) ⌝ }
-    ensures { λ r. ⌜ r ≡ length (face-dart .put (record { vertex = vertex; serial = serial })) ⌝ }
-{
-    groups::group_count(vertex as u32) + groups::serial_count(serial)
-}
-
 pub fn put_dart(out: &mut [u8], at: usize, vertex: usize, serial: u64) -> usize
-    requires { ⌜ (vertex < 2 ^ 32) × (serial < serial-bound) × (at + length (face-dart .put (record { vertex = vertex; serial = serial })) ≤ length (now out)) ⌝ }
+    requires { ⌜ (vertex < 2 ^ 32) × (serial < serial-bound) × (at + length (face-dart .put (record { vertex = vertex; serial = serial })) < 2 ^ 63) ⌝ }
     ensures { λ r. ⌜ Stored (now (out .entry)) at (face-dart .put (record { vertex = vertex; serial = serial })) (now (out .exit)) r ⌝ }
 {
     let past = groups::put_group(out, at, vertex as u32);
@@ -43,16 +36,8 @@ pub fn put_dart(out: &mut [u8], at: usize, vertex: usize, serial: u64) -> usize
 }
 
 // A face critical with the destination: the label of its start, as a code, then the start's index.
-pub fn part2_size(code: u64, index: MessageIndex) -> usize
-    requires { ⌜ index .0 < 2 ^ 32 ⌝ }
-    ensures { λ r. ⌜ r ≡ length (part2 .put (record { label = label-in code; index = index .0 })) ⌝ }
-{
-    let i = index.0;
-    groups::label_count(code) + groups::group_count(i as u32)
-}
-
 pub fn put_part2(out: &mut [u8], at: usize, code: u64, index: MessageIndex) -> usize
-    requires { ⌜ (index .0 < 2 ^ 32) × (at + length (part2 .put (record { label = label-in code; index = index .0 })) ≤ length (now out)) ⌝ }
+    requires { ⌜ (index .0 < 2 ^ 32) × (at + length (part2 .put (record { label = label-in code; index = index .0 })) < 2 ^ 63) ⌝ }
     ensures { λ r. ⌜ Stored (now (out .entry)) at (part2 .put (record { label = label-in code; index = index .0 })) (now (out .exit)) r ⌝ }
 {
     let i = index.0;
@@ -61,16 +46,8 @@ pub fn put_part2(out: &mut [u8], at: usize, code: u64, index: MessageIndex) -> u
 }
 
 // A sewn face: the number of its new labels, then its start's index.
-pub fn part3_size(number: u64, index: MessageIndex) -> usize
-    requires { ⌜ (number < 2 ^ 32) × (index .0 < 2 ^ 32) ⌝ }
-    ensures { λ r. ⌜ r ≡ length (part3 .put (record { number = number; index = index .0 })) ⌝ }
-{
-    let i = index.0;
-    groups::group_count(number as u32) + groups::group_count(i as u32)
-}
-
 pub fn put_part3(out: &mut [u8], at: usize, number: u64, index: MessageIndex) -> usize
-    requires { ⌜ (number < 2 ^ 32) × (index .0 < 2 ^ 32) × (at + length (part3 .put (record { number = number; index = index .0 })) ≤ length (now out)) ⌝ }
+    requires { ⌜ (number < 2 ^ 32) × (index .0 < 2 ^ 32) × (at + length (part3 .put (record { number = number; index = index .0 })) < 2 ^ 63) ⌝ }
     ensures { λ r. ⌜ Stored (now (out .entry)) at (part3 .put (record { number = number; index = index .0 })) (now (out .exit)) r ⌝ }
 {
     let i = index.0;
@@ -79,16 +56,8 @@ pub fn put_part3(out: &mut [u8], at: usize, number: u64, index: MessageIndex) ->
 }
 
 // Another critical face: its start's index and the other block, before its labels.
-pub fn part4_size(index: MessageIndex, other: u64) -> usize
-    requires { ⌜ (index .0 < 2 ^ 32) × (other < 2 ^ 32) ⌝ }
-    ensures { λ r. ⌜ r ≡ length (group .put (index .0) ++ group .put other) ⌝ }
-{
-    let i = index.0;
-    groups::group_count(i as u32) + groups::group_count(other as u32)
-}
-
 pub fn put_part4(out: &mut [u8], at: usize, index: MessageIndex, other: u64) -> usize
-    requires { ⌜ (index .0 < 2 ^ 32) × (other < 2 ^ 32) × (at + length (group .put (index .0) ++ group .put other) ≤ length (now out)) ⌝ }
+    requires { ⌜ (index .0 < 2 ^ 32) × (other < 2 ^ 32) × (at + length (group .put (index .0) ++ group .put other) < 2 ^ 63) ⌝ }
     ensures { λ r. ⌜ Stored (now (out .entry)) at (group .put (index .0) ++ group .put other) (now (out .exit)) r ⌝ }
 {
     let i = index.0;

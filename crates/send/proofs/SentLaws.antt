@@ -30,17 +30,8 @@ use Rattle.outbox.specs.Runs.{run}
 use Rattle.outbox.specs.Whole.{Sized, transfer-for}
 use Rattle.outbox.specs.declared.transfer.Sizes.{Sizes}
 use Rattle.updates.specs.ByBlocks.{told-put}
-use Rattle.updates.proofs.Rest.{rest-length, stored-rest}
 use Rattle.updates.proofs.Relatives.{updates-bytes}
 use Rattle.send.specs.Sent.{messages-at}
-
--- INTO WHAT IS LEFT after a first part
-module _ {l m a : List ℕ} {at mid : ℕ} (first : Stored l at a m mid) where
-  pub rest-room : (k : ℕ) → at + (length a + k) ≤ length l → k ≤ length (take (length m - mid) (drop mid m))
-  rest-room k h = omega (arith, rest-length m mid, stored-length first, first .past)
-
-  pub stored-both : {ys b : List ℕ} {n : ℕ} → mid ≤ length m → Stored (take (length m - mid) (drop mid m)) 0 b ys n → Stored l at (a ++ b) (putMid mid (length m - mid) m ys) (mid + n)
-  stored-both {ys} h s = stored-then first (stored-rest m ys mid h s)
 
 -- THE BYTES
 pub messages-of : (m : List ℕ) (j : ℕ) (c : Counts) (marks numbers firsts : List ℕ)

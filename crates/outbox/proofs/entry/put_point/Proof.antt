@@ -39,7 +39,6 @@ put-coordinate-requires-3 c κs =
     (omega (
       arith,
       start .pre .1,
-      stored-length put-coordinate-ensures,
       put-coordinate-ensures .past,
       coordinate-length pattern-result,
       coordinate-length pattern2-result,

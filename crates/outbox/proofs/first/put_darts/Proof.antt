@@ -1,4 +1,4 @@
--- `outbox::first::put_darts` meets its contract. The loop's invariant: the darts before k are put, and there is room for all.
+-- `outbox::first::put_darts` meets its contract. The loop's invariant: the darts before k are put.
 -- The measure is what is left of the face. Assumes nothing.
 use mathlib.Core.Path.{ap}
 use Prim.Native.Nat.{_+_, _-_}

@@ -1,4 +1,4 @@
--- `outbox::first::put_faces` meets its contract. The loop's invariant: the faces before f are put, and there is room for all.
+-- `outbox::first::put_faces` meets its contract. The loop's invariant: the faces before f are put.
 -- The measure is what is left of the faces. Assumes nothing.
 use mathlib.Core.Path.{ap}
 use Prim.Native.Nat.{_-_}

@@ -1,4 +1,4 @@
--- `outbox::first::put_points` meets its contract. The loop's invariant: the points before k are put, and there is room for all.
+-- `outbox::first::put_points` meets its contract. The loop's invariant: the points before k are put.
 -- The measure is what is left of the vertices. Assumes nothing.
 use Prim.Native.Nat.{_-_}
 use Rattle.outbox.specs.Bytes.{point-put}

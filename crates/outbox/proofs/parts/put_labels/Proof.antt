@@ -1,4 +1,4 @@
--- `outbox::parts::put_labels` meets its contract. The loop's invariant: the labels before k are put, and there is room for all.
+-- `outbox::parts::put_labels` meets its contract. The loop's invariant: the labels before k are put.
 -- The measure is what is left of the face. Assumes nothing.
 use mathlib.Core.Path.{ap}
 use Prim.Native.Nat.{_+_, _-_}

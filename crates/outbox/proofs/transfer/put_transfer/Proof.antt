@@ -41,7 +41,7 @@ put-part1-requires c κs =
       (listed m ok sv, vertexed m ok sv, started m ok sv),
       (
         (pointed m ok sv, ranges-in m ok .number-small, start .pre .1 .1 .0 .0),
-        omega (arith, start .pre .1 .1 .1 .1, whole-length m ok j sv z, stored-length put-group-ensures, put-group-ensures .past),
+        omega (arith, start .pre .1 .1 .1 .1, whole-length m ok j sv z, put-group-ensures .past),
       ),
     )
 
@@ -66,9 +66,7 @@ put-parts-requires c κs =
               arith,
               start .pre .1 .1 .1 .1,
               whole-length m ok j sv z,
-              stored-length put-group-ensures,
               put-group-ensures .past,
-              stored-length put-part1-ensures,
               put-part1-ensures .past,
             ),
           ),
