@@ -12,7 +12,7 @@ use Rattle.laws.proofs.Tests.{by-cases}
 use Rattle.groups.specs.Slices.{Stored}
 use Rattle.groups.proofs.Writing.{stored-then, stored-length}
 use Rattle.outbox.specs.Runs.{run, tally}
-use Rattle.outbox.proofs.EntryLaws.{stored-as}
+use Rattle.codec.proofs.EntryLaws.{stored-as}
 
 module _ (b : ℕ → List ℕ) where
   -- one entry more, in the code's spelling

@@ -2,7 +2,7 @@
 use mathlib.Core.Path.{_≡_, refl, sym, _∙_, ap}
 use mathlib.Core.Bool.{true}
 use mathlib.Core.List.{List, _++_}
-use Prim.Native.Nat.{ℕ, _+_, _*_, _≤_, _<_, _^_}
+use Prim.Native.Nat.{ℕ, _+_, _≤_, _<_, _^_}
 use native.Mathlib.Omega.{arith}
 use lib.ListN.{length, getD, length-append, length-map}
 use Rattle.model.specs.Lists.{keep}
@@ -22,7 +22,6 @@ use Rattle.outbox.specs.Whole.{Sized, first-bytes, parts-bytes, transfer
 use Rattle.outbox.specs.declared.transfer.Sizes.{Sizes}
 use Rattle.outbox.proofs.ByFaces.{count-faces, count-part, faces-run, part2-run, part3-run, part4-run, points-run}
 use Rattle.outbox.proofs.Ready.{pointed, some-face, started}
-use Rattle.outbox.proofs.Running.{tally-le}
 use Rattle.outbox.proofs.Small.{faces-small, part2-small, part3-small, part4-small, points-length}
 
 -- THE LAYOUT, part after part
@@ -136,13 +135,9 @@ module _ (m : List ℕ) (ok : holds-block m ≡ true) (j : ℕ) {c : Counts} {ma
   unfolding framed
   message-bytes {n} e = ap (λ (k : ℕ). group .put k ++ transfer .put (transfer-for m j c marks numbers firsts)) (sym e) ∙ ap (λ (l : List ℕ). group .put n ++ l) transfer-bytes
 
--- BOUNDS that keep every sum below 2^32
+-- BOUNDS of each part
 pub record Bounds (m : List ℕ) (j : ℕ) (c : Counts) (marks order starts numbers : List ℕ) : Type 0 where
   pub vertices-few : c .vertices ≤ 512
-  pub faces-few : c .faces ≤ 512
-  pub sewn-few : c .sewn ≤ 512
-  pub two-few : tally (in-part2 m j order starts) (c .faces) ≤ 512
-  pub four-few : tally (in-part4 m j order starts) (c .faces) ≤ 512
   pub faces-bytes : length (run (faces-put m numbers order starts (c .darts) (c .faces)) (c .faces)) ≤ 2624000
   pub two-bytes : length (run (part2-put m j order starts) (c .faces)) ≤ 10240
   pub three-bytes : length (run (part3-put m marks (getD m 1 0) order starts) (c .faces)) ≤ 5120
@@ -153,10 +148,6 @@ pub bounds : (m : List ℕ) (ok : holds-block m ≡ true) (j : ℕ) {c : Counts}
 bounds m ok j {c} {marks} {order} {starts} {numbers} s = let few = started m ok s .few in
     record {
       vertices-few = pointed m ok s .few;
-      faces-few = few;
-      sewn-few = omega (arith, sewn-tally m ok j s, tally-le (in-part3 m marks order starts) (c .faces));
-      two-few = omega (arith, tally-le (in-part2 m j order starts) (c .faces));
-      four-few = omega (arith, tally-le (in-part4 m j order starts) (c .faces));
       faces-bytes = omega (arith, faces-small m order (started m ok s) (s .few) numbers);
       two-bytes = omega (arith, part2-small m j order starts (c .faces));
       three-bytes = omega (arith, part3-small m marks (getD m 1 0) order starts (c .faces));

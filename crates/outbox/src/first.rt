@@ -1,12 +1,12 @@
 // Part 1: the points of the vertices, and the faces with vertex and serial of each dart.
 ghost use mathlib.Core.Path.{_≡_};
 ghost use Prim.Native.Nat.{_+_, _≤_, _<_, _^_};
-ghost use lib.ListN.{length, getD};
+ghost use lib.ListN.{length};
 ghost use Rattle.model.specs.Values.{room};
 ghost use Rattle.groups.specs.Slices.{Stored};
 ghost use Rattle.outbox.specs.Runs.{run};
 ghost use Rattle.outbox.specs.Bytes.{Listed, Pointed, Started, Vertexed, dart-put, end-of, face-put, faces-put, point-put};
-use crate::entry;
+use codec::entry;
 use memory::point;
 use memory::record;
 use memory::record::MessageIndex;

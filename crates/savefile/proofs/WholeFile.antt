@@ -1,5 +1,5 @@
 -- The whole file of a sound block's image: how long it is, and what the call gives. Assumes nothing.
-use mathlib.Core.Path.{_≡_, refl, sym, _∙_, ap}
+use mathlib.Core.Path.{_≡_, refl, _∙_, ap}
 use mathlib.Core.Bool.{true, false}
 use mathlib.Core.List.{List, _++_}
 use Prim.Native.Nat.{ℕ, _+_, _*_, _≤_, _<_}
@@ -9,7 +9,7 @@ use lib.Seq.{sets-eq}
 use borrow.Author.Tests.{eq-eqb, ne-eqb, le-leb, lt-leb}
 use Rattle.model.specs.Lists.{tab}
 use Rattle.model.specs.Values.{rack}
-use Rattle.model.specs.Layouts.{group, put-all}
+use Rattle.model.specs.Layouts.{put-all}
 use Rattle.model.specs.Image.{words, dart-in, block-in, holds-block, memory-checks}
 use Rattle.model.specs.Messages.{a-dart, file}
 use Rattle.model.specs.Calls.{served, refused, writing, save-file}

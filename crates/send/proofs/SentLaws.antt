@@ -2,13 +2,12 @@
 use mathlib.Core.Path.{_≡_, refl, sym, _∙_, ap, subst}
 use mathlib.Core.Bool.{true, false}
 use mathlib.Core.List.{List, [], _∷_, _++_, map}
-use Prim.Native.Nat.{ℕ, _+_, _-_, _≤_, _<_}
+use Prim.Native.Nat.{ℕ, _+_, _≤_, _<_}
 use native.Mathlib.Nat.{zero-add}
 use native.Mathlib.Omega.{arith}
-use lib.ListN.{length, take, drop, length-append}
+use lib.ListN.{length, drop, length-append}
 use lib.Seq.{sets-eq}
 use borrow.Author.Tests.{eq-eqb, ne-eqb, le-leb, lt-leb}
-use borrow.Rule.Slice.PartMut.{putMid}
 use Rattle.model.specs.Values.{Limits, rack}
 use Rattle.model.specs.Lists.{concat}
 use Rattle.model.specs.Layouts.{framed}
@@ -19,7 +18,6 @@ use Rattle.model.specs.Calls.{Answer, served, refused, writing, send}
 use Rattle.answers.specs.Answers.{Gives, answered}
 use Rattle.answers.proofs.Questions.{gives, ask-no, ask-yes, ask-end, ask-all, ask-first}
 use Rattle.groups.specs.Slices.{Stored}
-use Rattle.groups.proofs.Writing.{stored-then, stored-length}
 use Rattle.cells.proofs.Sited.{sited}
 use Rattle.columns.proofs.Question.{image-passed}
 use Rattle.departure.specs.ByPlaces.{updates-at}

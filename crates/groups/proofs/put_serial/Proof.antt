@@ -1,5 +1,4 @@
 -- `groups::put_serial` meets its contract. A serial is put as a number. Assumes nothing.
-use native.Mathlib.Omega.{arith}
 use borrow.Author.Needs.{needs}
 use Rattle.model.specs.Layouts.{group-below, serial}
 use Rattle.groups.proofs.put_serial.Statement.{statement}

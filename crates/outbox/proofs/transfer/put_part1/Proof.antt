@@ -1,6 +1,6 @@
 -- `outbox::transfer::put_part1` meets its contract: one part stored after the other, with room left for the rest. Assumes nothing.
 use Rattle.groups.proofs.Writing.{stored-then, stored-length}
-use Rattle.outbox.proofs.EntryLaws.{stored-as}
+use Rattle.codec.proofs.EntryLaws.{stored-as}
 use Rattle.outbox.proofs.WholeLaws.{first-length, first-of}
 use native.Mathlib.Omega.{arith}
 use Rattle.outbox.proofs.transfer.put_part1.Statement.{statement}

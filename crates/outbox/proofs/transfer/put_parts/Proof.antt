@@ -5,7 +5,7 @@ use lib.ListN.{length}
 use Rattle.model.specs.Layouts.{group}
 use Rattle.groups.proofs.Writing.{stored-then, stored-length}
 use Rattle.outbox.specs.Bytes.{in-part2, in-part3, in-part4}
-use Rattle.outbox.proofs.EntryLaws.{stored-as}
+use Rattle.codec.proofs.EntryLaws.{stored-as}
 use Rattle.outbox.proofs.Running.{tally-le}
 use Rattle.outbox.proofs.WholeLaws.{parts-length, parts-of}
 use native.Mathlib.Omega.{arith}

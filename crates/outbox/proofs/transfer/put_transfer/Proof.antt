@@ -2,7 +2,7 @@
 use mathlib.Core.Path.{_∙_}
 use Rattle.groups.proofs.Writing.{stored-then, stored-length}
 use Rattle.departure.proofs.FirstNo.{ranges-in}
-use Rattle.outbox.proofs.EntryLaws.{stored-as}
+use Rattle.codec.proofs.EntryLaws.{stored-as}
 use Rattle.outbox.proofs.Ready.{linked, listed, opened, pointed, started, vertexed}
 use Rattle.outbox.proofs.WholeLaws.{message-bytes, part2-entries, part4-entries, rest-small, sewn-tally, whole-length}
 use native.Mathlib.Omega.{arith}

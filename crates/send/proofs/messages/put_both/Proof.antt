@@ -1,7 +1,7 @@
 -- `send::messages::put_both` meets its contract: the transfer, then the updates. Assumes nothing.
 use Rattle.groups.proofs.Writing.{stored-then}
 use Rattle.departure.proofs.FirstNo.{ranges-in}
-use Rattle.outbox.proofs.EntryLaws.{stored-as}
+use Rattle.codec.proofs.EntryLaws.{stored-as}
 use Rattle.outbox.proofs.Ready.{listed, started}
 use Rattle.updates.proofs.UpdateLaws.{told-small}
 use Rattle.send.proofs.SentLaws.{messages-of}

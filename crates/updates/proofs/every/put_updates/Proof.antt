@@ -5,7 +5,7 @@ use Prim.Native.Nat.{_-_}
 use lib.ListN.{length}
 use Rattle.answers.proofs.Questions.{said-no, said-yes}
 use Rattle.departure.proofs.FirstNo.{ranges-in}
-use Rattle.outbox.proofs.EntryLaws.{stored-as}
+use Rattle.codec.proofs.EntryLaws.{stored-as}
 use Rattle.outbox.proofs.Running.{Running, running-start, running-size, running-end, running-space, running-step, running-skip}
 use Rattle.updates.specs.ByBlocks.{told-put}
 use Rattle.updates.proofs.SharesLaws.{shares-few}

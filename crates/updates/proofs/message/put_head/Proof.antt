@@ -1,6 +1,6 @@
 -- `updates::message::put_head` meets its contract: one number stored after the other. Assumes nothing.
 use Rattle.groups.proofs.Writing.{stored-then, stored-length}
-use Rattle.outbox.proofs.EntryLaws.{stored-as}
+use Rattle.codec.proofs.EntryLaws.{stored-as}
 use Rattle.updates.proofs.UpdateLaws.{head-lengths, head-of}
 use native.Mathlib.Omega.{arith}
 use Rattle.updates.proofs.message.put_head.Statement.{statement}

@@ -1,6 +1,6 @@
 -- `updates::message::put_update` meets its contract: the head, then the labels. Assumes nothing.
 use Rattle.groups.proofs.Writing.{stored-then, stored-length}
-use Rattle.outbox.proofs.EntryLaws.{stored-as}
+use Rattle.codec.proofs.EntryLaws.{stored-as}
 use Rattle.updates.proofs.UpdateLaws.{update-read, read-length}
 use native.Mathlib.Omega.{arith}
 use borrow.Author.Needs.{needs}

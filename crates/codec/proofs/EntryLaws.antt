@@ -10,7 +10,6 @@ use Rattle.model.specs.Messages.{FaceDart, Part2, Part3, point, label, face-dar
 use Rattle.groups.specs.Slices.{Stored}
 use Rattle.groups.proofs.Counts.{group-most}
 use Rattle.groups.proofs.Coordinates.{coordinate-length}
-use Rattle.groups.proofs.Writing.{stored-then}
 
 -- BYTES
 pub point-bytes : (p : Point) → point .put p ≡ coordinate .put (p .x) ++ (coordinate .put (p .y) ++ coordinate .put (p .z))

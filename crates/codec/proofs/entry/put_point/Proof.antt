@@ -1,12 +1,12 @@
--- `savefile::put::put_point` meets its contract: the patterns of the point, one stored after the other.
--- Assumes nothing.
+-- `codec::entry::put_point` meets its contract: the patterns of the point, one stored after the other. Assumes nothing.
 use Rattle.groups.proofs.Writing.{stored-then}
+use Rattle.codec.proofs.EntryLaws.{point-words, stored-as, room-after}
 use Rattle.groups.proofs.Coordinates.{coordinate-length}
-use Rattle.savefile.proofs.FileBytes.{point-put}
+use Rattle.memory.specs.Point.{patterns}
 use native.Mathlib.Omega.{arith}
 use borrow.Author.Needs.{needs}
-use Rattle.savefile.proofs.put.put_point.Statement.{statement}
-use Rattle.savefile.proofs.put.put_point.Tie as tie
+use Rattle.codec.proofs.entry.put_point.Statement.{statement}
+use Rattle.codec.proofs.entry.put_point.Tie as tie
 
 pattern-requires : tie.Need-pattern-requires
 pattern-requires c κs = search needs
@@ -25,7 +25,7 @@ put-coordinate-requires-2 c κs =
     let start : tie.Start = search in
     let pattern-result = (let p : tie.After-pattern = search in p .pattern .result) in
     let put-coordinate-ensures = (let p : tie.After-put-coordinate = search in p .put-coordinate .ensures) in
-    omega (arith, start .pre .1, put-coordinate-ensures .past, coordinate-length pattern-result)
+    room-after put-coordinate-ensures 8 (omega (arith, start .pre .1, coordinate-length pattern-result))
 
 put-coordinate-requires-3 : tie.Need-put-coordinate-requires-3
 put-coordinate-requires-3 c κs =
@@ -34,30 +34,30 @@ put-coordinate-requires-3 c κs =
     let pattern2-result = (let p : tie.After-pattern2 = search in p .pattern2 .result) in
     let put-coordinate-ensures = (let p : tie.After-put-coordinate = search in p .put-coordinate .ensures) in
     let put-coordinate2-ensures = (let p : tie.After-put-coordinate2 = search in p .put-coordinate2 .ensures) in
-    omega (
+    room-after put-coordinate2-ensures 8
+    (omega (
       arith,
       start .pre .1,
       put-coordinate-ensures .past,
       coordinate-length pattern-result,
-      put-coordinate2-ensures .past,
       coordinate-length pattern2-result,
-    )
+    ))
 
 same-length : tie.Need-same-length
 same-length c = search needs
 
 returns : tie.Need-returns
 returns c =
+    let start : tie.Start = search in
+    let p' = start .args .p in
     let pattern-ensures = (let p : tie.After-pattern = search in p .pattern .ensures) in
     let pattern2-ensures = (let p : tie.After-pattern2 = search in p .pattern2 .ensures) in
     let pattern3-ensures = (let p : tie.After-pattern3 = search in p .pattern3 .ensures) in
     let put-coordinate-ensures = (let p : tie.After-put-coordinate = search in p .put-coordinate .ensures) in
     let put-coordinate2-ensures = (let p : tie.After-put-coordinate2 = search in p .put-coordinate2 .ensures) in
     let put-coordinate3-ensures = (let p : tie.After-put-coordinate3 = search in p .put-coordinate3 .ensures) in
-    let s = rw pattern-ensures at put-coordinate-ensures in
-    let t = rw pattern2-ensures at put-coordinate2-ensures in
-    let u = rw pattern3-ensures at put-coordinate3-ensures in
-    rw (point-put _) (stored-then s (stored-then t u))
+    stored-as (point-words (patterns p') pattern-ensures pattern2-ensures pattern3-ensures)
+    (stored-then put-coordinate-ensures (stored-then put-coordinate2-ensures put-coordinate3-ensures))
 
 pub put-point-spec : {M : Type 1} → statement M
 put-point-spec =

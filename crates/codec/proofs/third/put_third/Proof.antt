@@ -1,11 +1,11 @@
--- `savefile::put::put_third` meets its contract: the parts of each kind, one stored after the other.
+-- `codec::third::put_third` meets its contract: the parts of each kind, one stored after the other.
 -- Assumes nothing.
 use Rattle.groups.proofs.Writing.{stored-then}
-use Rattle.savefile.proofs.FileBytes.{free-bytes, sewn-bytes, critical-bytes, one-group, sewn-length, critical-length}
+use Rattle.codec.proofs.ThirdLaws.{free-bytes, sewn-bytes, critical-bytes, one-group, sewn-length, critical-length}
 use native.Mathlib.Omega.{arith}
 use borrow.Author.Needs.{needs}
-use Rattle.savefile.proofs.put.put_third.Statement.{statement}
-use Rattle.savefile.proofs.put.put_third.Tie as tie
+use Rattle.codec.proofs.third.put_third.Statement.{statement}
+use Rattle.codec.proofs.third.put_third.Tie as tie
 
 put-group-requires : tie.Need-put-group-requires
 put-group-requires c κs =
@@ -54,8 +54,10 @@ put-group-requires-3 c κs =
     let if2-left = (let p : tie.Else2 = search in p .if2 .left) in
     omega (arith, start .pre .1, critical-length (start .args .kind) (start .args .named) if1-left if2-left, one-group 2 (omega arith))
 
-narrow-requires : tie.Need-narrow-requires
-narrow-requires c κs = search needs
+cast-put-group : tie.Need-cast-put-group
+cast-put-group c =
+    let start : tie.Start = search in
+    omega (arith, start .pre .0 .other-small)
 
 put-group-requires-4 : tie.Need-put-group-requires-4
 put-group-requires-4 c κs =
@@ -65,7 +67,7 @@ put-group-requires-4 c κs =
     let if1-left = (let p : tie.Else1 = search in p .if1 .left) in
     let if2-left = (let p : tie.Else2 = search in p .if2 .left) in
     let s = (let p : tie.After-put-group3 = search in p .put-group3 .ensures) in
-    rw (c .narrow .ensures) (omega (arith, start .pre .1, critical-length kind named if1-left if2-left, one-group 2 (omega arith), s .past))
+    omega (arith, start .pre .1, critical-length kind named if1-left if2-left, one-group 2 (omega arith), s .past)
 
 put-label-requires : tie.Need-put-label-requires
 put-label-requires c κs =
@@ -74,10 +76,8 @@ put-label-requires c κs =
     let named = start .args .named in
     let if1-left = (let p : tie.Else1 = search in p .if1 .left) in
     let if2-left = (let p : tie.Else2 = search in p .if2 .left) in
-    let narrow-ensures = (let p : tie.After-narrow = search in p .narrow .ensures) in
-    let put-group4-ensures = (let p : tie.After-put-group4 = search in p .put-group4 .ensures) in
     let s = (let p : tie.After-put-group3 = search in p .put-group3 .ensures) in
-    let t = rw narrow-ensures at put-group4-ensures in
+    let t = (let p : tie.After-put-group4 = search in p .put-group4 .ensures) in
     omega (arith, start .pre .1, critical-length kind named if1-left if2-left, one-group 2 (omega arith), s .past, t .past)
 
 same-length-3 : tie.Need-same-length-3
@@ -88,11 +88,9 @@ returns-3 c =
     let if1-left = (let p : tie.Else1 = search in p .if1 .left) in
     let if2-left = (let p : tie.Else2 = search in p .if2 .left) in
     let put-group3-ensures = (let p : tie.After-put-group3 = search in p .put-group3 .ensures) in
-    let narrow-ensures = (let p : tie.After-narrow = search in p .narrow .ensures) in
     let put-group4-ensures = (let p : tie.After-put-group4 = search in p .put-group4 .ensures) in
     let put-label-ensures = (let p : tie.After-put-label = search in p .put-label .ensures) in
-    let t = rw narrow-ensures at put-group4-ensures in
-    rw (critical-bytes _ _ if1-left if2-left) (stored-then put-group3-ensures (stored-then t put-label-ensures))
+    rw (critical-bytes _ _ if1-left if2-left) (stored-then put-group3-ensures (stored-then put-group4-ensures put-label-ensures))
 
 pub put-third-spec : {M : Type 1} → statement M
 put-third-spec =
@@ -106,7 +104,7 @@ put-third-spec =
     same-length-2
     returns-2
     put-group-requires-3
-    narrow-requires
+    cast-put-group
     put-group-requires-4
     put-label-requires
     same-length-3

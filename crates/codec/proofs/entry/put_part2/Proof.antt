@@ -1,11 +1,11 @@
--- `outbox::entry::put_part2` meets its contract: the label and the index, one stored after the other. Assumes nothing.
+-- `codec::entry::put_part2` meets its contract: the label and the index, one stored after the other. Assumes nothing.
 use Rattle.model.specs.Image.{label-in}
 use Rattle.groups.proofs.Writing.{stored-then}
-use Rattle.outbox.proofs.EntryLaws.{part2-bytes, part2-length, stored-as, room-after}
+use Rattle.codec.proofs.EntryLaws.{part2-bytes, part2-length, stored-as, room-after}
 use native.Mathlib.Omega.{arith}
 use borrow.Author.Needs.{needs}
-use Rattle.outbox.proofs.entry.put_part2.Statement.{statement}
-use Rattle.outbox.proofs.entry.put_part2.Tie as tie
+use Rattle.codec.proofs.entry.put_part2.Statement.{statement}
+use Rattle.codec.proofs.entry.put_part2.Tie as tie
 
 put-label-requires : tie.Need-put-label-requires
 put-label-requires c κs =

@@ -1,5 +1,4 @@
 // One point, one dart of a face, one entry of a part, put at a place of a slice.
-ghost use mathlib.Core.Path.{_≡_};
 ghost use mathlib.Core.List.{_++_};
 ghost use Prim.Native.Nat.{_+_, _<_, _^_};
 ghost use lib.ListN.{length};
