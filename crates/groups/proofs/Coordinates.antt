@@ -23,14 +23,13 @@ coordinate-length v = bytes-length 8 v
 
 -- while a word is put: what is left of it goes where the next byte goes
 pub record Spelling (before : List ℕ) (at word : ℕ) (out : List ℕ) (p x left : ℕ) : Type 0 where
-  pub room : at + 8 ≤ length before
   pub end : p + left ≡ at + 8
   pub same-length : length out ≡ length before
   pub same : sets out p (low-bytes left x) ≡ sets before at (coordinate .put word)
 
-pub spelling-start : (l : List ℕ) (at word : ℕ) → at + 8 ≤ length l → Spelling l at word l at word 8
+pub spelling-start : (l : List ℕ) (at word : ℕ) → Spelling l at word l at word 8
 unfolding coordinate
-spelling-start l at word h = record { room = h; end = refl; same-length = refl; same = refl }
+spelling-start l at word = record { end = refl; same-length = refl; same = refl }
 
 byte-more : (k p x : ℕ) (l : List ℕ) → 0 < k → sets (set l p (x % 256)) (p + 1) (low-bytes (k - 1) (x / 256)) ≡ sets l p (low-bytes k x)
 unfolding low-bytes
@@ -44,11 +43,14 @@ byte-none k p x l e = rw e
 module _ {l out : List ℕ} {at word p x left : ℕ} (w : Spelling l at word out p x left) where
   pub spelling-step : 0 < left → Spelling l at word (set out p (x % 256)) (p + 1) (x / 256) (left - 1)
   spelling-step h = record {
-    room = w .room;
     end = omega (arith, w .end);
     same-length = length-set out p (x % 256) ∙ w .same-length;
     same = byte-more left p x out h ∙ w .same;
   }
+
+  -- by a store that tests for room
+  pub spelling-stored : {m : List ℕ} {next : ℕ} → 0 < left → Stored out p ((x % 256) ∷ []) m next → Spelling l at word m next (x / 256) (left - 1)
+  spelling-stored h s = rw (s .slice, s .past) (spelling-step h)
 
   pub spelling-end : left ≡ 0 → Stored l at (coordinate .put word) out p
   spelling-end h = record { slice = byte-none left p x out h ∙ w .same; past = omega (arith, w .end, coordinate-length word) }

@@ -1,7 +1,7 @@
--- The table of group counts: a number below 2^32 takes as many groups as the entry of its bit length says. Assumes nothing.
+-- The count of groups: a number below 2^32 takes as many as the table's entry of its bit length says, and a quotient gives the same. Assumes nothing.
 use mathlib.Core.Path.{_≡_, refl, sym, _∙_}
-use mathlib.Core.Bool.{Bool, true, cond, _&&_}
-use Prim.Native.Nat.{ℕ, zero, suc, _-_, _/_, _^_, _<_, _≤_}
+use mathlib.Core.Bool.{Bool, true, _&&_}
+use Prim.Native.Nat.{ℕ, zero, suc, _+_, _*_, _-_, _/_, _^_, _<_, _≤_}
 use native.Mathlib.Nat.{le-antisymm}
 use native.Mathlib.Omega.{arith}
 use lib.Count.{leadingZeros, leading-length}
@@ -10,12 +10,13 @@ use lib.Ieee.{size}
 use lib.Ieee.Digits.{size-lt, size-le}
 use lib.ListN.{length, getD}
 use lib.Pow.{pow-mono}
-use borrow.Author.Tests.{eqb-true, eqb-false, ltb-true, ltb-false, leb-true, leb-false, le-leb, lt-leb}
+use borrow.Author.Tests.{eqb-true, eqb-false, ltb-true, ltb-false, leb-true, leb-false}
 use Rattle.model.specs.Layouts.{groups, group-below, group, group-counts, group-count}
 use Rattle.groups.proofs.Cases.{by-cases, and-left, and-right}
 
+-- seven bits to a group, one group for none
 abbrev rule : ℕ → ℕ
-rule i = cond (leb i 7) 1 (cond (leb i 14) 2 (cond (leb i 21) 3 (cond (leb i 28) 4 5)))
+rule i = (i * 9 + 64) / 64
 
 -- the entries below n keep the rule
 abbrev ruled : ℕ → Bool
@@ -33,17 +34,13 @@ ruled-at (suc n) i h l = by-cases (eqb i n)
     (λ e. rw (eqb-true i n e) (eqb-true (getD group-counts n 0) (rule n) (and-left _ (ruled n) h)))
     (λ e. ruled-at n i (and-right (eqb (getD group-counts n 0) (rule n)) (ruled n) h) (let d = eqb-false i n e in omega (arith, d)))
 
-count-is : (v : ℕ) → v < 2 ^ 32 → group-count v ≡ rule (size v)
+pub count-is : (v : ℕ) → v < 2 ^ 32 → group-count v ≡ rule (size v)
 unfolding group-count
 count-is v h = let s = size-le v 32 h in ruled-at 33 (size v) table-test (omega arith)
 
 -- five groups at the most
-rule-most : (i : ℕ) → rule i ≤ 5
-rule-most i = by-cases (leb i 7) (λ a. rw a (omega arith)) (λ a. rw a (by-cases (leb i 14) (λ b. rw b (omega arith)) (λ b. rw b
-    (by-cases (leb i 21) (λ c. rw c (omega arith)) (λ c. rw c (by-cases (leb i 28) (λ d. rw d (omega arith)) (λ d. rw d (omega arith))))))))
-
 pub count-most : (v : ℕ) → v < 2 ^ 32 → group-count v ≤ 5
-count-most v h = rw (count-is v h) (rule-most (size v))
+count-most v h = let s = size-le v 32 h in rw (count-is v h) (omega (arith, s))
 
 above : (v a : ℕ) → 2 ^ a ≤ v → a < size v
 above v a h = by-cases (leb (size v) a)
@@ -67,14 +64,14 @@ group-length v h = sym (count-is v h ∙ go)
   where
     go : rule (size v) ≡ length (groups 4 v)
     go = by-cases (ltb v 128)
-        (λ a. rw (a, le-leb (size v) 7 (size-le v 7 (ltb-true v 128 a))))
-        (λ a. let big = above v 7 (ltb-false v 128 a) in rw (a, lt-leb (size v) 7 big) (by-cases (ltb (v / 128) 128)
-        (λ b. let less = ltb-true (v / 128) 128 b in rw (b, le-leb (size v) 14 (size-le v 14 (omega arith))))
-        (λ b. let more = ltb-false (v / 128) 128 b in rw (b, lt-leb (size v) 14 (above v 14 (omega arith))) (by-cases (ltb (v / 128 / 128) 128)
-        (λ c. let less = ltb-true (v / 128 / 128) 128 c in rw (c, le-leb (size v) 21 (size-le v 21 (omega arith))))
-        (λ c. let more2 = ltb-false (v / 128 / 128) 128 c in rw (c, lt-leb (size v) 21 (above v 21 (omega arith))) (by-cases (ltb (v / 128 / 128 / 128) 128)
-        (λ d. let less = ltb-true (v / 128 / 128 / 128) 128 d in rw (d, le-leb (size v) 28 (size-le v 28 (omega arith))))
-        (λ d. let more3 = ltb-false (v / 128 / 128 / 128) 128 d in rw (d, lt-leb (size v) 28 (above v 28 (omega arith))))))))))
+        (λ a. let less = size-le v 7 (ltb-true v 128 a) in rw a (omega (arith, less)))
+        (λ a. let big = above v 7 (ltb-false v 128 a) in rw a (by-cases (ltb (v / 128) 128)
+        (λ b. let less = ltb-true (v / 128) 128 b in let most = size-le v 14 (omega arith) in rw b (omega (arith, big, most)))
+        (λ b. let more = ltb-false (v / 128) 128 b in let big2 = above v 14 (omega arith) in rw b (by-cases (ltb (v / 128 / 128) 128)
+        (λ c. let less = ltb-true (v / 128 / 128) 128 c in let most = size-le v 21 (omega arith) in rw c (omega (arith, big2, most)))
+        (λ c. let more2 = ltb-false (v / 128 / 128) 128 c in let big3 = above v 21 (omega arith) in rw c (by-cases (ltb (v / 128 / 128 / 128) 128)
+        (λ d. let less = ltb-true (v / 128 / 128 / 128) 128 d in let most = size-le v 28 (omega arith) in rw d (omega (arith, big3, most)))
+        (λ d. let more3 = ltb-false (v / 128 / 128 / 128) 128 d in let big4 = above v 28 (omega arith) in let most = size-le v 32 h in rw d (omega (arith, big4, most)))))))))
 
 pub group-most : (v : ℕ) → v < 2 ^ 32 → length (group .put v) ≤ 5
 group-most v h = rw (group-length v h) (count-most v h)

@@ -8,7 +8,7 @@ use native.Mathlib.Numerals.{add-one}
 use native.Mathlib.Omega.{arith}
 use lib.Dec.{ltb}
 use lib.ListN.{length, set, length-append, length-set}
-use lib.Seq.{sets, length-sets}
+use lib.Seq.{sets, set-out, length-sets}
 use borrow.Author.Tests.{lt-ltb, le-ltb}
 use Rattle.model.specs.Layouts.{groups}
 use Rattle.groups.specs.Slices.{Stored}
@@ -27,6 +27,14 @@ stored-then {l} {m} {n} {a} {b} {at} {mid} {next} p q = record {
 -- a slice keeps its length
 pub stored-length : {l m a : List ℕ} {at next : ℕ} → Stored l at a m next → length m ≡ length l
 stored-length {l} {m} {a} {at} p = rw (p .slice) (length-sets l at a)
+
+-- past the end
+sets-outside : (l : List ℕ) (at : ℕ) (b : List ℕ) → length l ≤ at → sets l at b ≡ l
+sets-outside l at [] h = refl
+sets-outside l at (x ∷ b) h = rw (set-out l at x h) (sets-outside l (suc at) b (omega arith))
+
+pub stored-outside : {l b : List ℕ} {at n : ℕ} → length l ≤ at → n ≡ length b → Stored l at b l (at + n)
+stored-outside {l} {b} {at} h e = record { slice = sym (sets-outside l at b h); past = rw e }
 
 -- nothing written
 pub stored-none : (l : List ℕ) (at : ℕ) → Stored l at [] l at
@@ -55,34 +63,35 @@ next-group v b h = rw (le-ltb v 128 h) (ap (λ (t : List ℕ). (v % 128 + 128) �
 pub record Putting (before : List ℕ) (at v : ℕ) (out : List ℕ) (p x : ℕ) : Type 0 where
   pub small : x < 2 ^ 63
   pub same-length : length out ≡ length before
-  pub room : p + length (groups 8 x) ≤ length out
   pub end : p + length (groups 8 x) ≡ at + length (groups 8 v)
   pub same : sets out p (groups 8 x) ≡ sets before at (groups 8 v)
 
-pub putting-start : (l : List ℕ) (at v : ℕ) → v < 2 ^ 63 → at + length (groups 8 v) ≤ length l → Putting l at v l at v
-putting-start l at v h r = record { small = h; same-length = refl; room = r; end = refl; same = refl }
+pub putting-start : (l : List ℕ) (at v : ℕ) → v < 2 ^ 63 → Putting l at v l at v
+putting-start l at v h = record { small = h; same-length = refl; end = refl; same = refl }
 
 module _ {l out : List ℕ} {at v p x : ℕ} (w : Putting l at v out p x) where
-  pub put-more : 128 ≤ x → p + suc (length (groups 8 (x / 128))) ≤ length out
-  put-more h = rw (next-group x (w .small) h) at (w .room)
+  pub put-more : 128 ≤ x → p + suc (length (groups 8 (x / 128))) ≡ at + length (groups 8 v)
+  put-more h = rw (next-group x (w .small) h) at (w .end)
 
-  pub put-last : x < 128 → p + 1 ≤ length out
-  put-last h = rw (last-group x h) at (w .room)
+  pub put-last : x < 128 → p + 1 ≡ at + length (groups 8 v)
+  put-last h = rw (last-group x h) at (w .end)
 
   pub putting-step : 128 ≤ x → Putting l at v (set out p (x % 128 + 128)) (p + 1) (x / 128)
   putting-step h =
       let e = next-group x (w .small) h in
-      let k = ap length e in
       record {
         small = omega (arith, w .small);
         same-length = length-set out p _ ∙ w .same-length;
-        room = rw length-set (omega (arith, put-more h));
-        end = omega (arith, w .end, k);
+        end = omega (arith, put-more h);
         same = rw (add-one p) (rw e at (w .same));
       }
 
   pub putting-end : x < 128 → Stored l at (groups 8 v) (set out p x) (p + 1)
-  putting-end h =
-      let e = last-group x h in
-      let k = ap length e in
-      record { slice = rw e at (w .same); past = omega (arith, w .end, k) }
+  putting-end h = let e = last-group x h in record { slice = rw e at (w .same); past = put-last h }
+
+  -- by stores that test for room
+  pub stored-step : {m : List ℕ} {next : ℕ} → 128 ≤ x → Stored out p ((x % 128 + 128) ∷ []) m next → Putting l at v m next (x / 128)
+  stored-step h s = rw (s .slice, s .past) (putting-step h)
+
+  pub stored-end : {m : List ℕ} {next : ℕ} → x < 128 → Stored out p (x ∷ []) m next → Stored l at (groups 8 v) m next
+  stored-end h s = rw (s .slice, s .past) (putting-end h)

@@ -1,5 +1,6 @@
 // Numbers as groups of seven bits, coordinates and labels: put into a slice at a place, and read at a place.
 ghost use mathlib.Core.Bool.{cond};
+ghost use mathlib.Core.List.{[], _∷_};
 ghost use mathlib.Core.Path.{_≡_};
 ghost use Prim.Native.Nat.{_+_, _≤_, _<_, _^_};
 ghost use lib.Dec.{ltb};
@@ -10,43 +11,6 @@ ghost use Rattle.model.specs.Image.{label-in};
 ghost use Rattle.model.specs.Messages.{label};
 ghost use Rattle.groups.specs.Slices.{Stored, read-at, number-from, label-code};
 
-// The count of groups by bit length, 0 to 32.
-const COUNTS: [u8; 33] = [
-    1,
-    1,
-    1,
-    1,
-    1,
-    1,
-    1,
-    1,
-    2,
-    2,
-    2,
-    2,
-    2,
-    2,
-    2,
-    3,
-    3,
-    3,
-    3,
-    3,
-    3,
-    3,
-    4,
-    4,
-    4,
-    4,
-    4,
-    4,
-    4,
-    5,
-    5,
-    5,
-    5,
-];
-
 // The value that was read and the place past it, or that no value stands there.
 pub enum Read {
     Value(u64, usize),
@@ -54,12 +18,6 @@ pub enum Read {
 }
 
 // Wider numbers, by functions of their own: a cast in place would ask for its bound at each use.
-fn size(x: u8) -> usize
-    ensures { λ r. ⌜ r ≡ x ⌝ }
-{
-    x as usize
-}
-
 fn wide(x: u8) -> u64
     ensures { λ r. ⌜ (r ≡ x) × (r < 256) ⌝ }
 {
@@ -72,17 +30,29 @@ fn widen(x: u32) -> u64
     x as u64
 }
 
-// How many groups a number takes.
+// How many groups a number takes: seven bits each, by its bit length.
 pub fn group_count(v: u32) -> usize
     ensures { λ r. ⌜ r ≡ group-count v ⌝ }
 {
     let n = (32 - u32::leading_zeros(v)) as usize;
-    size(COUNTS[n])
+    (n * 9 + 64) / 64
 }
 
-// The groups of any number that has at most nine.
+// A byte, where the output has room for it.
+fn put_byte(out: &mut [u8], at: usize, b: u8) -> usize
+    requires { ⌜ at < 2 ^ 63 ⌝ }
+    ensures { λ r. ⌜ Stored (now (out .entry)) at (b ∷ []) (now (out .exit)) r ⌝ }
+{
+    if out.len() <= at {
+        return at + 1;
+    }
+    out[at] = b;
+    at + 1
+}
+
+// The groups of a number that ends inside the output: no byte is tested.
 // Invariant: what is left of the number, put where the next group goes, gives the same slice in the end.
-fn put_number(out: &mut [u8], at: usize, v: u64) -> usize
+fn put_inside(out: &mut [u8], at: usize, v: u64) -> usize
     requires { ⌜ v < 2 ^ 63 ⌝ }
     requires { ⌜ at + length (groups 8 v) ≤ length (now out) ⌝ }
     ensures { λ r. ⌜ Stored (now (out .entry)) at (groups 8 v) (now (out .exit)) r ⌝ }
@@ -98,26 +68,48 @@ fn put_number(out: &mut [u8], at: usize, v: u64) -> usize
     p + 1
 }
 
-// A number below 2^32.
+// The groups of a number that may end outside. Invariant: as above.
+fn put_across(out: &mut [u8], at: usize, v: u64) -> usize
+    requires { ⌜ v < 2 ^ 63 ⌝ }
+    requires { ⌜ at + length (groups 8 v) < 2 ^ 63 ⌝ }
+    ensures { λ r. ⌜ Stored (now (out .entry)) at (groups 8 v) (now (out .exit)) r ⌝ }
+{
+    let mut p = at;
+    let mut x = v;
+    while 128 <= x {
+        p = put_byte(out, p, (x % 128 + 128) as u8);
+        x = x / 128;
+    }
+    put_byte(out, p, x as u8)
+}
+
+// A number below 2^32: only counted where there is no output.
+fn put_number(out: &mut [u8], at: usize, v: u64) -> usize
+    requires { ⌜ v < 2 ^ 32 ⌝ }
+    requires { ⌜ at + length (groups 4 v) < 2 ^ 63 ⌝ }
+    ensures { λ r. ⌜ Stored (now (out .entry)) at (groups 4 v) (now (out .exit)) r ⌝ }
+{
+    if out.len() == 0 {
+        return at + group_count(v as u32);
+    }
+    if at + 5 <= out.len() {
+        return put_inside(out, at, v);
+    }
+    put_across(out, at, v)
+}
+
+// Each put writes the bytes that have room and gives the place past the last one, so into no output it only counts.
 pub fn put_group(out: &mut [u8], at: usize, v: u32) -> usize
-    requires { ⌜ at + length (group .put v) ≤ length (now out) ⌝ }
+    requires { ⌜ at + length (group .put v) < 2 ^ 63 ⌝ }
     ensures { λ r. ⌜ Stored (now (out .entry)) at (group .put v) (now (out .exit)) r ⌝ }
 {
     put_number(out, at, widen(v))
 }
 
-// How many groups a serial takes.
-pub fn serial_count(v: u64) -> usize
-    requires { ⌜ v < serial-bound ⌝ }
-    ensures { λ r. ⌜ r ≡ length (serial .put v) ⌝ }
-{
-    group_count(v as u32)
-}
-
 // A serial, whose bound is one of its own.
 pub fn put_serial(out: &mut [u8], at: usize, v: u64) -> usize
     requires { ⌜ v < serial-bound ⌝ }
-    requires { ⌜ at + length (serial .put v) ≤ length (now out) ⌝ }
+    requires { ⌜ at + length (serial .put v) < 2 ^ 63 ⌝ }
     ensures { λ r. ⌜ Stored (now (out .entry)) at (serial .put v) (now (out .exit)) r ⌝ }
 {
     put_number(out, at, v)
@@ -216,9 +208,9 @@ pub fn read_at_most(s: &[u8], at: usize, most: u64) -> Read
     }
 }
 
-// A coordinate's word as eight bytes.
+// Eight bytes that end inside the output.
 // Invariant: what is left of the word, put where the next byte goes, gives the same slice in the end.
-pub fn put_coordinate(out: &mut [u8], at: usize, word: u64) -> usize
+fn put_word(out: &mut [u8], at: usize, word: u64) -> usize
     requires { ⌜ at + 8 ≤ length (now out) ⌝ }
     ensures { λ r. ⌜ Stored (now (out .entry)) at (coordinate .put word) (now (out .exit)) r ⌝ }
 {
@@ -232,6 +224,36 @@ pub fn put_coordinate(out: &mut [u8], at: usize, word: u64) -> usize
         left -= 1;
     }
     p
+}
+
+// Eight bytes that may end outside. Invariant: as above.
+fn put_word_across(out: &mut [u8], at: usize, word: u64) -> usize
+    requires { ⌜ at + 8 < 2 ^ 63 ⌝ }
+    ensures { λ r. ⌜ Stored (now (out .entry)) at (coordinate .put word) (now (out .exit)) r ⌝ }
+{
+    let mut p = at;
+    let mut x = word;
+    let mut left: u32 = 8;
+    while 0 < left {
+        p = put_byte(out, p, (x % 256) as u8);
+        x = x / 256;
+        left -= 1;
+    }
+    p
+}
+
+// A coordinate's word as eight bytes.
+pub fn put_coordinate(out: &mut [u8], at: usize, word: u64) -> usize
+    requires { ⌜ at + 8 < 2 ^ 63 ⌝ }
+    ensures { λ r. ⌜ Stored (now (out .entry)) at (coordinate .put word) (now (out .exit)) r ⌝ }
+{
+    if at + 8 <= out.len() {
+        return put_word(out, at, word);
+    }
+    if out.len() == 0 {
+        return at + 8;
+    }
+    put_word_across(out, at, word)
 }
 
 // The word whose eight bytes stand at a place.
@@ -263,19 +285,9 @@ pub fn read_coordinate(s: &[u8], at: usize) -> Read
     Read::Value(word_at(s, at), at + 8)
 }
 
-// How many bytes the label with a code takes.
-pub fn label_count(code: u64) -> usize
-    ensures { λ r. ⌜ r ≡ length (label .put (label-in code)) ⌝ }
-{
-    let maker = group_count((code / 4096 / 4294967296) as u32);
-    let number = group_count((code / 4096 % 4294967296) as u32);
-    let position = group_count((code % 4096) as u32);
-    maker + (number + position)
-}
-
 // The label with a code.
 pub fn put_label(out: &mut [u8], at: usize, code: u64) -> usize
-    requires { ⌜ at + length (label .put (label-in code)) ≤ length (now out) ⌝ }
+    requires { ⌜ at + length (label .put (label-in code)) < 2 ^ 63 ⌝ }
     ensures { λ r. ⌜ Stored (now (out .entry)) at (label .put (label-in code)) (now (out .exit)) r ⌝ }
 {
     let past_maker = put_group(out, at, (code / 4096 / 4294967296) as u32);

@@ -15,7 +15,8 @@ use Rattle.model.specs.Image.{column, label-in, third-in, dart-in, block-in, ho
 use Rattle.model.specs.Listing.{bytes, decimal, third-text, dart-line, header-line, listing}
 use Rattle.groups.proofs.Writing.{stored-length}
 use Rattle.columns.proofs.Question.{image-passed}
-use Rattle.savefile.specs.Named.{third-named, ThirdSmall, Small, AllSmall}
+use Rattle.codec.specs.Thirds.{ThirdSmall}
+use Rattle.savefile.specs.Named.{third-named, Small, AllSmall}
 use Rattle.savefile.proofs.Pieces.{pieces, in-pieces, length-most, Placing}
 use Rattle.savefile.proofs.FileBytes.{third-is}
 use Rattle.savefile.proofs.Sizes.{image-small, counter-small, count-small}

@@ -16,7 +16,7 @@ use Rattle.memory.specs.declared.point.Point.{Point}
 use Rattle.memory.proofs.Points.{point-finite, point-patterns}
 use Rattle.outbox.specs.Runs.{run, tally}
 use Rattle.outbox.specs.Bytes.{Listed, Started, Vertexed, beside-put, dart-put, end-of, face-put, faces-put, in-part2, in-part3, in-part4, label-put, part2-put, part3-put, part4-put, point-put, start-at}
-use Rattle.outbox.proofs.EntryLaws.{point-length}
+use Rattle.codec.proofs.EntryLaws.{point-length}
 
 -- POINTS
 module _ (m firsts : List ℕ) (k : ℕ) (p : Point)

@@ -1,4 +1,3 @@
-pub mod EntryLaws
 pub mod Running
 pub mod BytesLaws
 pub mod RunLists

@@ -1,4 +1,4 @@
--- Entries put or counted in a loop: what is done before entry k, and one entry more. Assumes nothing.
+-- Entries put in a loop: what is done before entry k, and one entry more. Assumes nothing.
 use mathlib.Core.Path.{_≡_, refl, sym, _∙_, ap}
 use mathlib.Core.Bool.{Bool, true, false}
 use mathlib.Core.List.{List, [], _++_, append-nil}
@@ -12,7 +12,7 @@ use Rattle.laws.proofs.Tests.{by-cases}
 use Rattle.groups.specs.Slices.{Stored}
 use Rattle.groups.proofs.Writing.{stored-then, stored-length}
 use Rattle.outbox.specs.Runs.{run, tally}
-use Rattle.outbox.proofs.EntryLaws.{stored-as}
+use Rattle.codec.proofs.EntryLaws.{stored-as}
 
 module _ (b : ℕ → List ℕ) where
   -- one entry more, in the code's spelling
@@ -44,13 +44,13 @@ module _ (b : ℕ → List ℕ) where
   run-same w zero h = omega arith
   run-same w (suc n) h = omega (arith, longer n, run-same w n (λ k l. h k (omega arith)), h n (omega arith), suc-mul n w)
 
--- IN A LOOP THAT PUTS: the entries before k stand from `from` up to `at`, and there is room for all n
+-- IN A LOOP THAT PUTS: the entries before k stand from `from` up to `at`, and no place wraps
 pub record Running (b : ℕ → List ℕ) (n : ℕ) (before : List ℕ) (from k : ℕ) (after : List ℕ) (at : ℕ) : Type 0 where
   pub k-le : k ≤ n
   pub so-far : Stored before from (run b k) after at
-  pub space : from + length (run b n) ≤ length before
+  pub space : from + length (run b n) < 2 ^ 63
 
-pub running-start : (b : ℕ → List ℕ) (n : ℕ) (l : List ℕ) (from : ℕ) → from + length (run b n) ≤ length l → Running b n l from 0 l from
+pub running-start : (b : ℕ → List ℕ) (n : ℕ) (l : List ℕ) (from : ℕ) → from + length (run b n) < 2 ^ 63 → Running b n l from 0 l from
 unfolding run
 running-start b n l from h = record { k-le = omega arith; so-far = record { slice = refl; past = omega arith }; space = h }
 
@@ -62,41 +62,17 @@ module _ {b : ℕ → List ℕ} {n : ℕ} {l m : List ℕ} {from k at : ℕ} (r 
   running-end h = let e : n ≡ k = omega (arith, r .k-le) in rw e (r .so-far)
 
   module _ (h : k < n) where
-    pub running-space : at + length (b k) ≤ length m
-    running-space = omega (arith, running-size, r .so-far .past, r .space, run-fits b k n h)
+    pub running-within : at + length (b k) ≤ from + length (run b n)
+    running-within = omega (arith, r .so-far .past, run-fits b k n h)
+
+    pub running-space : at + length (b k) < 2 ^ 63
+    running-space = omega (arith, running-within, r .space)
 
     pub running-step : {m' : List ℕ} {at' : ℕ} → Stored m at (b k) m' at' → Running b n l from (k + 1) m' at'
     running-step s = record { k-le = omega arith; so-far = stored-as (run-more b k) (stored-then (r .so-far) s); space = r .space }
 
     pub running-skip : b k ≡ [] → Running b n l from (k + 1) m at
     running-skip e = record { k-le = omega arith; so-far = stored-as (run-more b k ∙ ap (λ (x : List ℕ). run b k ++ x) e ∙ append-nil (run b k)) (r .so-far); space = r .space }
-
--- IN A LOOP THAT COUNTS: the entries before k take so many bytes, and all n not too many
-pub record Counting (b : ℕ → List ℕ) (n k bytes : ℕ) : Type 0 where
-  pub k-le : k ≤ n
-  pub so-far : bytes ≡ length (run b k)
-  pub small : length (run b n) < 2 ^ 32
-
-pub counting-start : (b : ℕ → List ℕ) (n : ℕ) → length (run b n) < 2 ^ 32 → Counting b n 0 0
-unfolding run
-counting-start b n h = record { k-le = omega arith; so-far = refl; small = h }
-
-module _ {b : ℕ → List ℕ} {n k bytes : ℕ} (r : Counting b n k bytes) where
-  pub counting-end : n ≤ k → bytes ≡ length (run b n)
-  counting-end h = let e : n ≡ k = omega (arith, r .k-le) in rw e (r .so-far)
-
-  module _ (h : k < n) where
-    pub counting-small : bytes + length (b k) < 2 ^ 32
-    counting-small = omega (arith, r .so-far, r .small, run-fits b k n h)
-
-    pub counting-one : length (b k) < 2 ^ 32
-    counting-one = omega (arith, counting-small)
-
-    pub counting-step : {w : ℕ} → w ≡ length (b k) → Counting b n (k + 1) (bytes + w)
-    counting-step e = record { k-le = omega arith; so-far = omega (arith, r .so-far, e, ap length (run-more b k), length-append (run b k) (b k)); small = r .small }
-
-    pub counting-skip : b k ≡ [] → Counting b n (k + 1) bytes
-    counting-skip e = record { k-le = omega arith; so-far = omega (arith, r .so-far, ap length e, ap length (run-more b k), length-append (run b k) (b k)); small = r .small }
 
 -- HOW MANY PASS
 module _ (q : ℕ → Bool) where
@@ -128,3 +104,25 @@ module _ (q : ℕ → Bool) where
   pub tally-from : (c : ℕ) → c ≡ c + tally q 0
   unfolding tally
   tally-from c = omega arith
+
+-- IN A LOOP THAT COUNTS: of the first k so many pass
+pub record Tallied (q : ℕ → Bool) (n k entries : ℕ) : Type 0 where
+  pub k-le : k ≤ n
+  pub so-far : entries ≡ tally q k
+
+pub tallied-start : (q : ℕ → Bool) (n : ℕ) → Tallied q n 0 0
+tallied-start q n = record { k-le = omega arith; so-far = tally-start q }
+
+module _ {q : ℕ → Bool} {n k entries : ℕ} (r : Tallied q n k entries) where
+  pub tallied-few : entries ≤ k
+  tallied-few = omega (arith, r .so-far, tally-le q k)
+
+  pub tallied-end : n ≤ k → entries ≡ tally q n
+  tallied-end h = let e : n ≡ k = omega (arith, r .k-le) in rw e (r .so-far)
+
+  module _ (h : k < n) where
+    pub tallied-step : q k ≡ true → Tallied q n (k + 1) (entries + 1)
+    tallied-step e = record { k-le = omega arith; so-far = omega (arith, r .so-far, tally-yes q k e) }
+
+    pub tallied-skip : q k ≡ false → Tallied q n (k + 1) entries
+    tallied-skip e = record { k-le = omega arith; so-far = r .so-far ∙ sym (tally-no q k e) }

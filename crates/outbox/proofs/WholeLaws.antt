@@ -2,13 +2,12 @@
 use mathlib.Core.Path.{_≡_, refl, sym, _∙_, ap}
 use mathlib.Core.Bool.{true}
 use mathlib.Core.List.{List, _++_}
-use Prim.Native.Nat.{ℕ, _+_, _*_, _≤_, _<_, _^_}
+use Prim.Native.Nat.{ℕ, _+_, _≤_, _<_, _^_}
 use native.Mathlib.Omega.{arith}
 use lib.ListN.{length, getD, length-append, length-map}
-use borrow.Author.Tests.{lt-ltb}
 use Rattle.model.specs.Lists.{keep}
 use Rattle.model.specs.Cells.{start-of}
-use Rattle.model.specs.Layouts.{groups, group-below, group, such-that, at-most, exactly, counted, framed, _⊗_, _⊕_, as-type}
+use Rattle.model.specs.Layouts.{group, such-that, at-most, exactly, counted, framed, _⊗_, _⊕_, as-type}
 use Rattle.model.specs.Messages.{Transfer, point, face-dart, part1, part2, part3, part4, transfer}
 use Rattle.model.specs.Links.{placed}
 use Rattle.model.specs.Image.{holds-block}
@@ -16,14 +15,13 @@ use Rattle.cells.specs.Places.{sewn-out}
 use Rattle.departure.specs.ByPlaces.{critical-with, critical-beside, part2-at, part4-at, transfer-at}
 use Rattle.departure.specs.Asked.{Surveyed, faces-at}
 use Rattle.departure.specs.declared.Counts.{Counts}
-use Rattle.departure.proofs.FirstNo.{ranges-in}
+use Rattle.theory.proofs.LayoutLengths.{group-short}
 use Rattle.outbox.specs.Runs.{run, tally}
 use Rattle.outbox.specs.Bytes.{faces-put, in-part2, in-part3, in-part4, part2-put, part3-put, part4-put, point-put}
 use Rattle.outbox.specs.Whole.{Sized, first-bytes, parts-bytes, transfer-for}
 use Rattle.outbox.specs.declared.transfer.Sizes.{Sizes}
 use Rattle.outbox.proofs.ByFaces.{count-faces, count-part, faces-run, part2-run, part3-run, part4-run, points-run}
 use Rattle.outbox.proofs.Ready.{pointed, some-face, started}
-use Rattle.outbox.proofs.Running.{tally-le}
 use Rattle.outbox.proofs.Small.{faces-small, part2-small, part3-small, part4-small, points-length}
 
 -- THE LAYOUT, part after part
@@ -44,10 +42,6 @@ first-lengths a b c d e f g = simp length-append (omega arith)
 
 parts-lengths : (a b c d e f : List ℕ) → length ((a ++ b) ++ ((c ++ d) ++ (e ++ f))) ≡ (length a + length b) + (length c + length d) + (length e + length f)
 parts-lengths a b c d e f = simp length-append (omega arith)
-
-one-group : (v : ℕ) → v < 128 → length (group .put v) ≡ 1
-unfolding group group-below groups
-one-group v h = rw (lt-ltb v 128 h)
 
 pub first-length : (m : List ℕ) (j : ℕ) (c : Counts) (order starts numbers firsts : List ℕ) → length (first-bytes m j c order starts numbers firsts)
     ≡ length (group .put 1) + length (group .put (getD m 0 0)) + length (group .put j) + (length (group .put (c .vertices)) + length (run (point-put m firsts) (c .vertices)))
@@ -104,24 +98,6 @@ module _ (m : List ℕ) (ok : holds-block m ≡ true) (j : ℕ) {c : Counts} {ma
       ∙ count-part m numbers (s .order) (some-face m ok s) (critical-beside m j)
 
   -- SIZES
-  pub rest-length : j ≤ 15 → length (transfer .put (transfer-for m j c marks numbers firsts))
-      ≡ 3 + (length (group .put (c .vertices)) + 24 * c .vertices)
-      + (length (group .put (c .faces)) + length (run (faces-put m numbers order starts (c .darts) (c .faces)) (c .faces)))
-      + ((length (group .put (tally (in-part2 m j order starts) (c .faces))) + length (run (part2-put m j order starts) (c .faces)))
-      + (length (group .put (tally (in-part3 m marks order starts) (c .faces))) + length (run (part3-put m marks (getD m 1 0) order starts) (c .faces))))
-      + (length (group .put (tally (in-part4 m j order starts) (c .faces))) + length (run (part4-put m j order starts (c .darts) (c .faces)) (c .faces)))
-  rest-length h = omega (
-    arith,
-    ap length transfer-bytes,
-    length-append (first-bytes m j c order starts numbers firsts) (parts-bytes m j c marks order starts),
-    first-length m j c order starts numbers firsts,
-    parts-length m j c marks order starts,
-    points-length m firsts (c .vertices),
-    one-group 1 (omega arith),
-    one-group (getD m 0 0) (omega (arith, ranges-in m ok .number-small)),
-    one-group j (omega arith),
-  )
-
   pub framed-length : length (framed transfer (transfer-for m j c marks numbers firsts))
       ≡ length (group .put (length (transfer .put (transfer-for m j c marks numbers firsts)))) + length (transfer .put (transfer-for m j c marks numbers firsts))
   unfolding framed
@@ -159,13 +135,9 @@ module _ (m : List ℕ) (ok : holds-block m ≡ true) (j : ℕ) {c : Counts} {ma
   unfolding framed
   message-bytes {n} e = ap (λ (k : ℕ). group .put k ++ transfer .put (transfer-for m j c marks numbers firsts)) (sym e) ∙ ap (λ (l : List ℕ). group .put n ++ l) transfer-bytes
 
--- BOUNDS that keep every sum below 2^32
+-- BOUNDS of each part
 pub record Bounds (m : List ℕ) (j : ℕ) (c : Counts) (marks order starts numbers : List ℕ) : Type 0 where
   pub vertices-few : c .vertices ≤ 512
-  pub faces-few : c .faces ≤ 512
-  pub sewn-few : c .sewn ≤ 512
-  pub two-few : tally (in-part2 m j order starts) (c .faces) ≤ 512
-  pub four-few : tally (in-part4 m j order starts) (c .faces) ≤ 512
   pub faces-bytes : length (run (faces-put m numbers order starts (c .darts) (c .faces)) (c .faces)) ≤ 2624000
   pub two-bytes : length (run (part2-put m j order starts) (c .faces)) ≤ 10240
   pub three-bytes : length (run (part3-put m marks (getD m 1 0) order starts) (c .faces)) ≤ 5120
@@ -176,12 +148,51 @@ pub bounds : (m : List ℕ) (ok : holds-block m ≡ true) (j : ℕ) {c : Counts}
 bounds m ok j {c} {marks} {order} {starts} {numbers} s = let few = started m ok s .few in
     record {
       vertices-few = pointed m ok s .few;
-      faces-few = few;
-      sewn-few = omega (arith, sewn-tally m ok j s, tally-le (in-part3 m marks order starts) (c .faces));
-      two-few = omega (arith, tally-le (in-part2 m j order starts) (c .faces));
-      four-few = omega (arith, tally-le (in-part4 m j order starts) (c .faces));
       faces-bytes = omega (arith, faces-small m order (started m ok s) (s .few) numbers);
       two-bytes = omega (arith, part2-small m j order starts (c .faces));
       three-bytes = omega (arith, part3-small m marks (getD m 1 0) order starts (c .faces));
       four-bytes = omega (arith, part4-small m order (started m ok s) (s .few) j);
     }
+
+-- so both halves are short
+pub halves-short : (m : List ℕ) (ok : holds-block m ≡ true) (j : ℕ) {c : Counts} {marks order starts numbers firsts : List ℕ} → Surveyed m c marks order starts numbers firsts
+    → length (first-bytes m j c order starts numbers firsts) + length (parts-bytes m j c marks order starts) < 2 ^ 31
+halves-short m ok j {c} {marks} {order} {starts} {numbers} {firsts} s =
+    let b = bounds m ok j s in
+    let two = tally (in-part2 m j order starts) (c .faces) in
+    let three = tally (in-part3 m marks order starts) (c .faces) in
+    let four = tally (in-part4 m j order starts) (c .faces) in
+    omega (
+      arith,
+      first-length m j c order starts numbers firsts,
+      parts-length m j c marks order starts,
+      points-length m firsts (c .vertices),
+      group-short 1,
+      group-short (getD m 0 0),
+      group-short j,
+      group-short (c .vertices),
+      group-short (c .faces),
+      group-short two,
+      group-short three,
+      group-short four,
+      b .vertices-few,
+      b .faces-bytes,
+      b .two-bytes,
+      b .three-bytes,
+      b .four-bytes,
+    )
+
+-- where both halves end that are put from place 0 on
+module _ (m : List ℕ) (ok : holds-block m ≡ true) (j : ℕ) {c : Counts} {marks order starts numbers firsts : List ℕ} (s : Surveyed m c marks order starts numbers firsts)
+    {mid end : ℕ} (a : mid ≡ 0 + length (first-bytes m j c order starts numbers firsts)) (b : end ≡ mid + length (parts-bytes m j c marks order starts)) where
+  pub end-small : end < 2 ^ 31
+  end-small = omega (arith, a, b, halves-short m ok j s)
+
+  pub end-is : end ≡ length (transfer .put (transfer-for m j c marks numbers firsts))
+  end-is = omega (
+    arith,
+    a,
+    b,
+    ap length (transfer-bytes m ok j s),
+    length-append (first-bytes m j c order starts numbers firsts) (parts-bytes m j c marks order starts),
+  )

@@ -6,7 +6,7 @@ use lib.ListN.{length, getD}
 use Rattle.model.specs.Layouts.{group, framed}
 use Rattle.model.specs.Messages.{Transfer, transfer}
 use Rattle.departure.specs.ByPlaces.{transfer-at}
-use Rattle.departure.specs.Asked.{Surveyed, faces-at}
+use Rattle.departure.specs.Asked.{faces-at}
 use Rattle.departure.specs.declared.Counts.{Counts}
 use Rattle.outbox.specs.Runs.{run, tally}
 use Rattle.outbox.specs.Bytes.{faces-put, in-part2, in-part3, in-part4, part2-put, part3-put, part4-put, point-put}
@@ -15,10 +15,6 @@ use Rattle.outbox.specs.declared.transfer.Sizes.{Sizes}
 -- to block j
 abbrev pub transfer-for : List ℕ → ℕ → Counts → List ℕ → List ℕ → List ℕ → Transfer
 transfer-for m j c marks numbers firsts = transfer-at m j marks (faces-at m marks) numbers firsts (c .vertices)
-
--- surveyed with some first darts of the vertices
-abbrev pub Outlined : List ℕ → Counts → List ℕ → List ℕ → List ℕ → List ℕ → Type 0
-Outlined m c marks order starts numbers = (firsts : List ℕ) × Surveyed m c marks order starts numbers firsts
 
 -- what is counted of a transfer before it is put
 pub record Sized (t : Transfer) (s : Sizes) : Type 0 where

@@ -1,12 +1,12 @@
 // Part 1: the points of the vertices, and the faces with vertex and serial of each dart.
 ghost use mathlib.Core.Path.{_≡_};
 ghost use Prim.Native.Nat.{_+_, _≤_, _<_, _^_};
-ghost use lib.ListN.{length, getD};
+ghost use lib.ListN.{length};
 ghost use Rattle.model.specs.Values.{room};
 ghost use Rattle.groups.specs.Slices.{Stored};
 ghost use Rattle.outbox.specs.Runs.{run};
 ghost use Rattle.outbox.specs.Bytes.{Listed, Pointed, Started, Vertexed, dart-put, end-of, face-put, faces-put, point-put};
-use crate::entry;
+use codec::entry;
 use memory::point;
 use memory::record;
 use memory::record::MessageIndex;
@@ -33,7 +33,7 @@ pub fn put_points(
     from: usize,
 ) -> usize
     requires { ⌜ Pointed (now block) (now firsts) count ⌝ }
-    requires { ⌜ from + length (run (point-put (now block) (now firsts)) count) ≤ length (now out) ⌝ }
+    requires { ⌜ from + length (run (point-put (now block) (now firsts)) count) < 2 ^ 63 ⌝ }
     ensures { λ r. ⌜ Stored (now (out .entry)) from (run (point-put (now (block .entry)) (now (firsts .entry))) count) (now (out .exit)) r ⌝ }
 {
     // The points before k are put, up to `at`.
@@ -47,30 +47,7 @@ pub fn put_points(
     at
 }
 
-// Of the `size` darts of a face from index `start` of the order on.
-fn darts_size(
-    block: &[u64],
-    numbers: &[usize],
-    order: &[usize],
-    start: MessageIndex,
-    size: usize,
-) -> usize
-    requires { ⌜ Listed (now block) (now order) (start .0 + size) × Vertexed (now numbers) (now order) (start .0 + size) ⌝ }
-    requires { ⌜ length (run (dart-put (now block) (now numbers) (now order) (start .0)) size) < 2 ^ 32 ⌝ }
-    ensures { λ r. ⌜ r ≡ length (run (dart-put (now (block .entry)) (now (numbers .entry)) (now (order .entry)) (start .0)) size) ⌝ }
-{
-    // The darts before k take `bytes`.
-    let first = start.0;
-    let mut bytes = 0;
-    let mut k = 0;
-    while k < size {
-        let p = order[first + k];
-        bytes += entry::dart_size(numbers[p], record::field(block, Place(p), Record::SERIAL));
-        k += 1;
-    }
-    bytes
-}
-
+// The `size` darts of a face from index `start` of the order on.
 fn put_darts(
     block: &[u64],
     numbers: &[usize],
@@ -81,7 +58,7 @@ fn put_darts(
     from: usize,
 ) -> usize
     requires { ⌜ Listed (now block) (now order) (start .0 + size) × Vertexed (now numbers) (now order) (start .0 + size) ⌝ }
-    requires { ⌜ from + length (run (dart-put (now block) (now numbers) (now order) (start .0)) size) ≤ length (now out) ⌝ }
+    requires { ⌜ from + length (run (dart-put (now block) (now numbers) (now order) (start .0)) size) < 2 ^ 63 ⌝ }
     ensures { λ r. ⌜ Stored (now (out .entry)) from (run (dart-put (now (block .entry)) (now (numbers .entry)) (now (order .entry)) (start .0)) size) (now (out .exit)) r ⌝ }
 {
     // The darts before k are put, up to `at`.
@@ -102,20 +79,6 @@ fn put_darts(
 }
 
 // A face: its size, then its darts.
-fn face_size(
-    block: &[u64],
-    numbers: &[usize],
-    order: &[usize],
-    start: MessageIndex,
-    size: usize,
-) -> usize
-    requires { ⌜ Listed (now block) (now order) (start .0 + size) × Vertexed (now numbers) (now order) (start .0 + size) ⌝ }
-    requires { ⌜ length (face-put (now block) (now numbers) (now order) (start .0) size) < 2 ^ 32 ⌝ }
-    ensures { λ r. ⌜ r ≡ length (face-put (now (block .entry)) (now (numbers .entry)) (now (order .entry)) (start .0) size) ⌝ }
-{
-    groups::group_count(size as u32) + darts_size(block, numbers, order, start, size)
-}
-
 fn put_face(
     block: &[u64],
     numbers: &[usize],
@@ -126,7 +89,7 @@ fn put_face(
     at: usize,
 ) -> usize
     requires { ⌜ Listed (now block) (now order) (start .0 + size) × Vertexed (now numbers) (now order) (start .0 + size) ⌝ }
-    requires { ⌜ at + length (face-put (now block) (now numbers) (now order) (start .0) size) ≤ length (now out) ⌝ }
+    requires { ⌜ at + length (face-put (now block) (now numbers) (now order) (start .0) size) < 2 ^ 63 ⌝ }
     ensures { λ r. ⌜ Stored (now (out .entry)) at (face-put (now (block .entry)) (now (numbers .entry)) (now (order .entry)) (start .0) size) (now (out .exit)) r ⌝ }
 {
     let past = groups::put_group(out, at, size as u32);
@@ -134,30 +97,6 @@ fn put_face(
 }
 
 // The faces one after the other.
-pub fn faces_size(
-    block: &[u64],
-    numbers: &[usize],
-    order: &[usize],
-    starts: &[usize],
-    darts: usize,
-    count: usize,
-) -> usize
-    requires { ⌜ Listed (now block) (now order) darts × Vertexed (now numbers) (now order) darts × Started (now starts) darts count ⌝ }
-    requires { ⌜ length (run (faces-put (now block) (now numbers) (now order) (now starts) darts count) count) < 2 ^ 32 ⌝ }
-    ensures { λ r. ⌜ r ≡ length (run (faces-put (now (block .entry)) (now (numbers .entry)) (now (order .entry)) (now (starts .entry)) darts count) count) ⌝ }
-{
-    // The faces before f take `bytes`.
-    let mut bytes = 0;
-    let mut f = 0;
-    while f < count {
-        let start = starts[f];
-        let end = face_end(starts, count, darts, f);
-        bytes += face_size(block, numbers, order, MessageIndex(start), end - start);
-        f += 1;
-    }
-    bytes
-}
-
 pub fn put_faces(
     block: &[u64],
     numbers: &[usize],
@@ -169,7 +108,7 @@ pub fn put_faces(
     from: usize,
 ) -> usize
     requires { ⌜ Listed (now block) (now order) darts × Vertexed (now numbers) (now order) darts × Started (now starts) darts count ⌝ }
-    requires { ⌜ from + length (run (faces-put (now block) (now numbers) (now order) (now starts) darts count) count) ≤ length (now out) ⌝ }
+    requires { ⌜ from + length (run (faces-put (now block) (now numbers) (now order) (now starts) darts count) count) < 2 ^ 63 ⌝ }
     ensures { λ r. ⌜ Stored (now (out .entry)) from (run (faces-put (now (block .entry)) (now (numbers .entry)) (now (order .entry)) (now (starts .entry)) darts count) count) (now (out .exit)) r ⌝ }
 {
     // The faces before f are put, up to `at`.

@@ -8,20 +8,14 @@ ghost use Rattle.cells.specs.Places.{Linked};
 ghost use Rattle.departure.specs.ByPlaces.{critical-with, critical-beside};
 ghost use Rattle.outbox.specs.Runs.{run, tally};
 ghost use Rattle.outbox.specs.Bytes.{Listed, Opened, Started, beside-put, in-part2, in-part3, in-part4, label-put, part2-put, part3-put, part4-put};
-use crate::entry;
 use crate::first;
 use cells::sewn;
+use codec::entry;
 use memory::kind;
 use memory::record;
 use memory::record::MessageIndex;
 use memory::record::Place;
 use memory::record::Record;
-
-// How many entries a part has, and how many bytes they take.
-pub struct Tally {
-    pub entries: usize,
-    pub bytes: usize,
-}
 
 // Whether the dart at place p is critical with block `to`.
 fn critical_with(block: &[u64], to: u64, p: Place) -> bool
@@ -40,15 +34,13 @@ fn critical_beside(block: &[u64], to: u64, p: Place) -> bool
     (1 < word) & (word != kind::critical_with(to))
 }
 
-// Part 2.
-pub fn part2_tally(block: &[u64], to: u64, order: &[usize], starts: &[usize], count: usize) -> Tally
+// How many entries part 2 has.
+pub fn part2_count(block: &[u64], to: u64, order: &[usize], starts: &[usize], count: usize) -> usize
     requires { ⌜ (words-for (count-in (now block)) ≤ length (now block)) × Opened (count-in (now block)) (now order) (now starts) count × (to ≤ 15) ⌝ }
-    requires { ⌜ length (run (part2-put (now block) to (now order) (now starts)) count) < 2 ^ 32 ⌝ }
-    ensures { λ r. ⌜ (r .entries ≡ tally (in-part2 (now (block .entry)) to (now (order .entry)) (now (starts .entry))) count) × (r .bytes ≡ length (run (part2-put (now (block .entry)) to (now (order .entry)) (now (starts .entry))) count)) ⌝ }
+    ensures { λ r. ⌜ r ≡ tally (in-part2 (now (block .entry)) to (now (order .entry)) (now (starts .entry))) count ⌝ }
 {
-    // The faces before f have so many entries, which take so many bytes.
+    // The faces before f have so many entries.
     let mut entries = 0;
-    let mut bytes = 0;
     let mut f = 0;
     while f < count {
         let i = starts[f];
@@ -58,14 +50,11 @@ pub fn part2_tally(block: &[u64], to: u64, order: &[usize], starts: &[usize], co
             continue;
         }
         entries += 1;
-        bytes += entry::part2_size(
-            record::field(block, Place(p), Record::LINK),
-            MessageIndex(i),
-        );
     }
-    Tally { entries, bytes }
+    entries
 }
 
+// Part 2.
 pub fn put_part2s(
     block: &[u64],
     to: u64,
@@ -76,7 +65,7 @@ pub fn put_part2s(
     from: usize,
 ) -> usize
     requires { ⌜ (words-for (count-in (now block)) ≤ length (now block)) × Opened (count-in (now block)) (now order) (now starts) count × (to ≤ 15) ⌝ }
-    requires { ⌜ from + length (run (part2-put (now block) to (now order) (now starts)) count) ≤ length (now out) ⌝ }
+    requires { ⌜ from + length (run (part2-put (now block) to (now order) (now starts)) count) < 2 ^ 63 ⌝ }
     ensures { λ r. ⌜ Stored (now (out .entry)) from (run (part2-put (now (block .entry)) to (now (order .entry)) (now (starts .entry))) count) (now (out .exit)) r ⌝ }
 {
     // The entries of the faces before f are put, up to `at`.
@@ -100,37 +89,6 @@ pub fn put_part2s(
 }
 
 // Part 3; `counter` is the first number.
-pub fn part3_size(
-    block: &[u64],
-    n: usize,
-    marks: &[u8],
-    counter: u64,
-    order: &[usize],
-    starts: &[usize],
-    count: usize,
-) -> usize
-    requires { ⌜ Linked (now block) n × (n ≤ length (now marks)) × Opened n (now order) (now starts) count ⌝ }
-    requires { ⌜ counter + tally (in-part3 (now block) (now marks) (now order) (now starts)) count < 2 ^ 32 ⌝ }
-    requires { ⌜ length (run (part3-put (now block) (now marks) counter (now order) (now starts)) count) < 2 ^ 32 ⌝ }
-    ensures { λ r. ⌜ r ≡ length (run (part3-put (now (block .entry)) (now (marks .entry)) counter (now (order .entry)) (now (starts .entry))) count) ⌝ }
-{
-    // The entries of the faces before f take `bytes`; the next has `number`.
-    let mut bytes = 0;
-    let mut number = counter;
-    let mut f = 0;
-    while f < count {
-        let i = starts[f];
-        let p = order[i];
-        f += 1;
-        if !sewn::sewn_away(block, n, marks, Place(p)) {
-            continue;
-        }
-        bytes += entry::part3_size(number, MessageIndex(i));
-        number += 1;
-    }
-    bytes
-}
-
 pub fn put_part3s(
     block: &[u64],
     n: usize,
@@ -144,7 +102,7 @@ pub fn put_part3s(
 ) -> usize
     requires { ⌜ Linked (now block) n × (n ≤ length (now marks)) × Opened n (now order) (now starts) count ⌝ }
     requires { ⌜ counter + tally (in-part3 (now block) (now marks) (now order) (now starts)) count < 2 ^ 32 ⌝ }
-    requires { ⌜ from + length (run (part3-put (now block) (now marks) counter (now order) (now starts)) count) ≤ length (now out) ⌝ }
+    requires { ⌜ from + length (run (part3-put (now block) (now marks) counter (now order) (now starts)) count) < 2 ^ 63 ⌝ }
     ensures { λ r. ⌜ Stored (now (out .entry)) from (run (part3-put (now (block .entry)) (now (marks .entry)) counter (now (order .entry)) (now (starts .entry))) count) (now (out .exit)) r ⌝ }
 {
     // The entries of the faces before f are put, up to `at`; the next has `number`.
@@ -165,23 +123,6 @@ pub fn put_part3s(
 }
 
 // The labels of the `size` darts of a face from index `start` of the order on.
-fn labels_size(block: &[u64], order: &[usize], start: MessageIndex, size: usize) -> usize
-    requires { ⌜ Listed (now block) (now order) (start .0 + size) ⌝ }
-    requires { ⌜ length (run (label-put (now block) (now order) (start .0)) size) < 2 ^ 32 ⌝ }
-    ensures { λ r. ⌜ r ≡ length (run (label-put (now (block .entry)) (now (order .entry)) (start .0)) size) ⌝ }
-{
-    // The labels before k take `bytes`.
-    let first = start.0;
-    let mut bytes = 0;
-    let mut k = 0;
-    while k < size {
-        let p = order[first + k];
-        bytes += groups::label_count(record::field(block, Place(p), Record::LINK));
-        k += 1;
-    }
-    bytes
-}
-
 fn put_labels(
     block: &[u64],
     order: &[usize],
@@ -191,7 +132,7 @@ fn put_labels(
     from: usize,
 ) -> usize
     requires { ⌜ Listed (now block) (now order) (start .0 + size) ⌝ }
-    requires { ⌜ from + length (run (label-put (now block) (now order) (start .0)) size) ≤ length (now out) ⌝ }
+    requires { ⌜ from + length (run (label-put (now block) (now order) (start .0)) size) < 2 ^ 63 ⌝ }
     ensures { λ r. ⌜ Stored (now (out .entry)) from (run (label-put (now (block .entry)) (now (order .entry)) (start .0)) size) (now (out .exit)) r ⌝ }
 {
     // The labels before k are put, up to `at`.
@@ -207,17 +148,6 @@ fn put_labels(
 }
 
 // A whole entry of part 4: index, other block and labels of a face.
-fn beside_size(block: &[u64], order: &[usize], start: MessageIndex, size: usize) -> usize
-    requires { ⌜ Listed (now block) (now order) (start .0 + size) × (0 < size) ⌝ }
-    requires { ⌜ length (beside-put (now block) (now order) (start .0) size) < 2 ^ 32 ⌝ }
-    ensures { λ r. ⌜ r ≡ length (beside-put (now (block .entry)) (now (order .entry)) (start .0) size) ⌝ }
-{
-    let first = start.0;
-    let p = order[first];
-    let other = kind::other_of(record::field(block, Place(p), Record::KIND));
-    entry::part4_size(start, other) + labels_size(block, order, start, size)
-}
-
 fn put_beside(
     block: &[u64],
     order: &[usize],
@@ -227,7 +157,7 @@ fn put_beside(
     at: usize,
 ) -> usize
     requires { ⌜ Listed (now block) (now order) (start .0 + size) × (0 < size) ⌝ }
-    requires { ⌜ at + length (beside-put (now block) (now order) (start .0) size) ≤ length (now out) ⌝ }
+    requires { ⌜ at + length (beside-put (now block) (now order) (start .0) size) < 2 ^ 63 ⌝ }
     ensures { λ r. ⌜ Stored (now (out .entry)) at (beside-put (now (block .entry)) (now (order .entry)) (start .0) size) (now (out .exit)) r ⌝ }
 {
     let first = start.0;
@@ -237,37 +167,27 @@ fn put_beside(
     put_labels(block, order, start, size, out, past)
 }
 
-// Part 4.
-pub fn part4_tally(
-    block: &[u64],
-    to: u64,
-    order: &[usize],
-    starts: &[usize],
-    darts: usize,
-    count: usize,
-) -> Tally
-    requires { ⌜ Listed (now block) (now order) darts × Started (now starts) darts count × (to ≤ 15) ⌝ }
-    requires { ⌜ length (run (part4-put (now block) to (now order) (now starts) darts count) count) < 2 ^ 32 ⌝ }
-    ensures { λ r. ⌜ (r .entries ≡ tally (in-part4 (now (block .entry)) to (now (order .entry)) (now (starts .entry))) count) × (r .bytes ≡ length (run (part4-put (now (block .entry)) to (now (order .entry)) (now (starts .entry)) darts count) count)) ⌝ }
+// How many entries part 4 has.
+pub fn part4_count(block: &[u64], to: u64, order: &[usize], starts: &[usize], count: usize) -> usize
+    requires { ⌜ (words-for (count-in (now block)) ≤ length (now block)) × Opened (count-in (now block)) (now order) (now starts) count × (to ≤ 15) ⌝ }
+    ensures { λ r. ⌜ r ≡ tally (in-part4 (now (block .entry)) to (now (order .entry)) (now (starts .entry))) count ⌝ }
 {
-    // The faces before f have so many entries, which take so many bytes.
+    // The faces before f have so many entries.
     let mut entries = 0;
-    let mut bytes = 0;
     let mut f = 0;
     while f < count {
-        let start = starts[f];
-        let end = first::face_end(starts, count, darts, f);
-        let p = order[start];
+        let i = starts[f];
+        let p = order[i];
         f += 1;
         if !critical_beside(block, to, Place(p)) {
             continue;
         }
         entries += 1;
-        bytes += beside_size(block, order, MessageIndex(start), end - start);
     }
-    Tally { entries, bytes }
+    entries
 }
 
+// Part 4.
 pub fn put_part4s(
     block: &[u64],
     to: u64,
@@ -279,7 +199,7 @@ pub fn put_part4s(
     from: usize,
 ) -> usize
     requires { ⌜ Listed (now block) (now order) darts × Started (now starts) darts count × (to ≤ 15) ⌝ }
-    requires { ⌜ from + length (run (part4-put (now block) to (now order) (now starts) darts count) count) ≤ length (now out) ⌝ }
+    requires { ⌜ from + length (run (part4-put (now block) to (now order) (now starts) darts count) count) < 2 ^ 63 ⌝ }
     ensures { λ r. ⌜ Stored (now (out .entry)) from (run (part4-put (now (block .entry)) to (now (order .entry)) (now (starts .entry)) darts count) count) (now (out .exit)) r ⌝ }
 {
     // The entries of the faces before f are put, up to `at`.

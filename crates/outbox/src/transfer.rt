@@ -1,10 +1,9 @@
 // The transfer: kind, blocks, points, faces and parts, after a number that says how long they are.
 ghost use mathlib.Core.Path.{_≡_};
 ghost use mathlib.Core.Bool.{true};
-ghost use mathlib.Core.List.{List};
-ghost use Prim.Native.Nat.{ℕ, _+_, _≤_, _<_, _^_};
+ghost use Prim.Native.Nat.{_+_, _≤_, _<_, _^_};
 ghost use lib.ListN.{length, getD};
-ghost use Rattle.model.specs.Layouts.{group, framed};
+ghost use Rattle.model.specs.Layouts.{framed};
 ghost use Rattle.model.specs.Messages.{transfer};
 ghost use Rattle.model.specs.Image.{holds-block};
 ghost use Rattle.groups.specs.Slices.{Stored};
@@ -12,7 +11,7 @@ ghost use Rattle.cells.specs.Places.{Linked};
 ghost use Rattle.departure.specs.Asked.{Surveyed};
 ghost use Rattle.outbox.specs.Runs.{tally};
 ghost use Rattle.outbox.specs.Bytes.{Listed, Opened, Pointed, Started, Vertexed, in-part2, in-part3, in-part4};
-ghost use Rattle.outbox.specs.Whole.{Outlined, Sized, first-bytes, parts-bytes, transfer-for};
+ghost use Rattle.outbox.specs.Whole.{Sized, first-bytes, parts-bytes, transfer-for};
 use crate::first;
 use crate::parts;
 use departure::Counts;
@@ -23,47 +22,6 @@ pub struct Sizes {
     pub part4: usize,
     pub rest: usize,
     pub whole: usize,
-}
-
-// The bytes of a count and of what it counts.
-fn counted(entries: usize, bytes: usize) -> usize
-    requires { ⌜ (entries < 2 ^ 32) × (bytes < 2 ^ 32) ⌝ }
-    ensures { λ r. ⌜ (r ≡ length (group .put entries) + bytes) × (r ≤ 5 + bytes) ⌝ }
-{
-    groups::group_count(entries as u32) + bytes
-}
-
-// What send asks for (question 15) before it puts a byte. The points take 24 bytes each, whatever the first darts are.
-pub fn transfer_sizes(
-    block: &[u64],
-    to: u64,
-    marks: &[u8],
-    order: &[usize],
-    starts: &[usize],
-    numbers: &[usize],
-    counts: Counts,
-) -> Sizes
-    requires { ⌜ holds-block (now block) ≡ true ⌝ }
-    requires { ⌜ Outlined (now block) counts (now marks) (now order) (now starts) (now numbers) ⌝ }
-    requires { ⌜ (to ≤ 15) × (getD (now block) 1 0 + counts .sewn < 2 ^ 32) ⌝ }
-    ensures { λ r. ⌜ ((firsts : List ℕ) → Surveyed (now (block .entry)) counts (now (marks .entry)) (now (order .entry)) (now (starts .entry)) (now (numbers .entry)) firsts → Sized (transfer-for (now (block .entry)) to counts (now (marks .entry)) (now (numbers .entry)) firsts) r) ⌝ }
-{
-    let darts = counts.darts;
-    let faces = counts.faces;
-    let n = block[2] as usize;
-    let shapes = first::faces_size(block, numbers, order, starts, darts, faces);
-    let two = parts::part2_tally(block, to, order, starts, faces);
-    let three = parts::part3_size(block, n, marks, block[1], order, starts, faces);
-    let four = parts::part4_tally(block, to, order, starts, darts, faces);
-    let part1 = 3 + counted(counts.vertices, 24 * counts.vertices) + counted(faces, shapes);
-    let part23 = counted(two.entries, two.bytes) + counted(counts.sewn, three);
-    let rest = part1 + part23 + counted(four.entries, four.bytes);
-    Sizes {
-        part2: two.entries,
-        part4: four.entries,
-        rest,
-        whole: counted(rest, rest),
-    }
 }
 
 // Kind, blocks, points and faces.
@@ -80,7 +38,7 @@ fn put_part1(
 ) -> usize
     requires { ⌜ Listed (now block) (now order) (counts .darts) × Vertexed (now numbers) (now order) (counts .darts) × Started (now starts) (counts .darts) (counts .faces) ⌝ }
     requires { ⌜ Pointed (now block) (now firsts) (counts .vertices) × (getD (now block) 0 0 ≤ 15) × (to ≤ 15) ⌝ }
-    requires { ⌜ at + length (first-bytes (now block) to counts (now order) (now starts) (now numbers) (now firsts)) ≤ length (now out) ⌝ }
+    requires { ⌜ at + length (first-bytes (now block) to counts (now order) (now starts) (now numbers) (now firsts)) < 2 ^ 63 ⌝ }
     ensures { λ r. ⌜ Stored (now (out .entry)) at (first-bytes (now (block .entry)) to counts (now (order .entry)) (now (starts .entry)) (now (numbers .entry)) (now (firsts .entry))) (now (out .exit)) r ⌝ }
 {
     let past_kind = groups::put_group(out, at, 1);
@@ -111,19 +69,20 @@ fn put_parts(
     order: &[usize],
     starts: &[usize],
     counts: Counts,
-    sizes: Sizes,
+    part2: usize,
+    part4: usize,
     out: &mut [u8],
     at: usize,
 ) -> usize
     requires { ⌜ Listed (now block) (now order) (counts .darts) × Started (now starts) (counts .darts) (counts .faces) × (to ≤ 15) ⌝ }
     requires { ⌜ Linked (now block) (getD (now block) 2 0) × (getD (now block) 2 0 ≤ length (now marks)) × Opened (getD (now block) 2 0) (now order) (now starts) (counts .faces) ⌝ }
-    requires { ⌜ (sizes .part2 ≡ tally (in-part2 (now block) to (now order) (now starts)) (counts .faces)) × (counts .sewn ≡ tally (in-part3 (now block) (now marks) (now order) (now starts)) (counts .faces)) × (sizes .part4 ≡ tally (in-part4 (now block) to (now order) (now starts)) (counts .faces)) ⌝ }
-    requires { ⌜ (getD (now block) 1 0 + counts .sewn < 2 ^ 32) × (at + length (parts-bytes (now block) to counts (now marks) (now order) (now starts)) ≤ length (now out)) ⌝ }
+    requires { ⌜ (part2 ≡ tally (in-part2 (now block) to (now order) (now starts)) (counts .faces)) × (counts .sewn ≡ tally (in-part3 (now block) (now marks) (now order) (now starts)) (counts .faces)) × (part4 ≡ tally (in-part4 (now block) to (now order) (now starts)) (counts .faces)) ⌝ }
+    requires { ⌜ (getD (now block) 1 0 + counts .sewn < 2 ^ 32) × (at + length (parts-bytes (now block) to counts (now marks) (now order) (now starts)) < 2 ^ 63) ⌝ }
     ensures { λ r. ⌜ Stored (now (out .entry)) at (parts-bytes (now (block .entry)) to counts (now (marks .entry)) (now (order .entry)) (now (starts .entry))) (now (out .exit)) r ⌝ }
 {
     let n = block[2] as usize;
     let faces = counts.faces;
-    let past_two = groups::put_group(out, at, sizes.part2 as u32);
+    let past_two = groups::put_group(out, at, part2 as u32);
     let past_part2 = parts::put_part2s(block, to, order, starts, faces, out, past_two);
     let past_three = groups::put_group(out, past_part2, counts.sewn as u32);
     let past_part3 = parts::put_part3s(
@@ -137,7 +96,7 @@ fn put_parts(
         out,
         past_three,
     );
-    let past_four = groups::put_group(out, past_part3, sizes.part4 as u32);
+    let past_four = groups::put_group(out, past_part3, part4 as u32);
     parts::put_part4s(
         block,
         to,
@@ -148,6 +107,58 @@ fn put_parts(
         out,
         past_four,
     )
+}
+
+// What send asks for (question 15) before it puts a byte: the transfer is put into no output.
+pub fn transfer_sizes(
+    block: &[u64],
+    to: u64,
+    marks: &[u8],
+    order: &[usize],
+    starts: &[usize],
+    numbers: &[usize],
+    firsts: &[usize],
+    counts: Counts,
+) -> Sizes
+    requires { ⌜ holds-block (now block) ≡ true ⌝ }
+    requires { ⌜ Surveyed (now block) counts (now marks) (now order) (now starts) (now numbers) (now firsts) ⌝ }
+    requires { ⌜ (to ≤ 15) × (getD (now block) 1 0 + counts .sewn < 2 ^ 32) ⌝ }
+    ensures { λ r. ⌜ Sized (transfer-for (now (block .entry)) to counts (now (marks .entry)) (now (numbers .entry)) (now (firsts .entry))) r ⌝ }
+{
+    let faces = counts.faces;
+    let part2 = parts::part2_count(block, to, order, starts, faces);
+    let part4 = parts::part4_count(block, to, order, starts, faces);
+    let mut none = [0u8; 0];
+    let first = put_part1(
+        block,
+        to,
+        order,
+        starts,
+        numbers,
+        firsts,
+        counts,
+        &mut none,
+        0,
+    );
+    let rest = put_parts(
+        block,
+        to,
+        marks,
+        order,
+        starts,
+        counts,
+        part2,
+        part4,
+        &mut none,
+        first,
+    );
+    let whole = groups::group_count(rest as u32) + rest;
+    Sizes {
+        part2,
+        part4,
+        rest,
+        whole,
+    }
 }
 
 // The message: its length, then the transfer.
@@ -167,7 +178,7 @@ pub fn put_transfer(
     requires { ⌜ holds-block (now block) ≡ true ⌝ }
     requires { ⌜ Surveyed (now block) counts (now marks) (now order) (now starts) (now numbers) (now firsts) ⌝ }
     requires { ⌜ (to ≤ 15) × (getD (now block) 1 0 + counts .sewn < 2 ^ 32) ⌝ }
-    requires { ⌜ Sized (transfer-for (now block) to counts (now marks) (now numbers) (now firsts)) sizes × (at + sizes .whole ≤ length (now out)) ⌝ }
+    requires { ⌜ Sized (transfer-for (now block) to counts (now marks) (now numbers) (now firsts)) sizes × (at + sizes .whole < 2 ^ 63) ⌝ }
     ensures { λ r. ⌜ Stored (now (out .entry)) at (framed transfer (transfer-for (now (block .entry)) to counts (now (marks .entry)) (now (numbers .entry)) (now (firsts .entry)))) (now (out .exit)) r ⌝ }
 {
     let past_length = groups::put_group(out, at, sizes.rest as u32);
@@ -189,7 +200,8 @@ pub fn put_transfer(
         order,
         starts,
         counts,
-        sizes,
+        sizes.part2,
+        sizes.part4,
         out,
         past_first,
     )

@@ -43,26 +43,26 @@ length-most g b (suc n) h =
     let ih = length-most g b n (λ p l. h p (omega arith)) in
     omega (arith, length-append (pieces g n) (g n), h n (omega arith), suc-mul n b)
 
--- WHILE PIECES ARE COUNTED: the bytes of those below i
-pub record Counting (g : ℕ → List ℕ) (n bytes i : ℕ) : Type 0 where
+-- WHILE PIECES ARE WRITTEN, into any output: those below i are
+pub record Laying (g : ℕ → List ℕ) (n at : ℕ) (before out : List ℕ) (past i : ℕ) : Type 0 where
   pub i-le : i ≤ n
-  pub total : bytes ≡ length (pieces g i)
+  pub stored : Stored before at (pieces g i) out past
 
-pub count-none : (g : ℕ → List ℕ) (n : ℕ) → Counting g n 0 0
-count-none g n = record { i-le = omega arith; total = refl }
+pub lay-none : (g : ℕ → List ℕ) (n at : ℕ) (l : List ℕ) → Laying g n at l l at 0
+lay-none g n at l = record { i-le = omega arith; stored = stored-none l at }
 
-module _ {g : ℕ → List ℕ} {n bytes i : ℕ} (w : Counting g n bytes i) where
-  pub count-more : i < n → {more : ℕ} → more ≡ length (g i) → Counting g n (bytes + more) (i + 1)
-  count-more h {more} e = record { i-le = omega arith; total = omega (arith, length-more g i, w .total) }
+module _ {g : ℕ → List ℕ} {n at : ℕ} {l out : List ℕ} {past i : ℕ} (w : Laying g n at l out past i) where
+  -- the next one ends no later than all
+  pub lay-within : i < n → past + length (g i) ≤ at + length (pieces g n)
+  lay-within h = omega (arith, length-more g i, length-fewer g n (i + 1) (omega arith), w .stored .past)
 
-  -- never more than all
-  pub count-within : bytes ≤ length (pieces g n)
-  count-within = omega (arith, w .total, length-fewer g n i (w .i-le))
+  pub lay-more : i < n → {after : List ℕ} {next : ℕ} → Stored out past (g i) after next → Laying g n at l after next (i + 1)
+  lay-more h {after} {next} s = record { i-le = omega arith; stored = rw (add-one i) (stored-then (w .stored) s) }
 
-  pub count-all : n ≤ i → bytes ≡ length (pieces g n)
-  count-all h = let e : n ≡ i = omega (arith, w .i-le) in rw e (w .total)
+  pub lay-all : n ≤ i → Stored l at (pieces g n) out past
+  lay-all h = let e : n ≡ i = omega (arith, w .i-le) in rw e (w .stored)
 
--- WHILE PIECES ARE WRITTEN: those below i are
+-- and into one that has room for all
 pub record Placing (g : ℕ → List ℕ) (n at : ℕ) (before out : List ℕ) (past i : ℕ) : Type 0 where
   pub i-le : i ≤ n
   pub fits : at + length (pieces g n) ≤ length before

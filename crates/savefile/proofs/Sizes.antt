@@ -14,7 +14,8 @@ use Rattle.columns.proofs.Links.{places}
 use Rattle.columns.proofs.ThirdLinks.{sewn-places}
 use Rattle.columns.proofs.Question.{image-passed}
 use Rattle.sound.proofs.OneDart.{finite-at}
-use Rattle.savefile.specs.Named.{third-named, ThirdSmall, Small, AllSmall}
+use Rattle.codec.specs.Thirds.{ThirdSmall}
+use Rattle.savefile.specs.Named.{third-named, Small, AllSmall}
 
 -- the dart at place p, by the columns' facts
 module _ (m : List ℕ) (p : ℕ) where

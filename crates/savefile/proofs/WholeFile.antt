@@ -1,5 +1,5 @@
--- The whole file of a sound block's image: its count, and what the call gives. Assumes nothing.
-use mathlib.Core.Path.{_≡_, refl, sym, _∙_, ap}
+-- The whole file of a sound block's image: how long it is, and what the call gives. Assumes nothing.
+use mathlib.Core.Path.{_≡_, refl, _∙_, ap}
 use mathlib.Core.Bool.{true, false}
 use mathlib.Core.List.{List, _++_}
 use Prim.Native.Nat.{ℕ, _+_, _*_, _≤_, _<_}
@@ -9,14 +9,14 @@ use lib.Seq.{sets-eq}
 use borrow.Author.Tests.{eq-eqb, ne-eqb, le-leb, lt-leb}
 use Rattle.model.specs.Lists.{tab}
 use Rattle.model.specs.Values.{rack}
-use Rattle.model.specs.Layouts.{group, group-count, put-all}
+use Rattle.model.specs.Layouts.{put-all}
 use Rattle.model.specs.Image.{words, dart-in, block-in, holds-block, memory-checks}
 use Rattle.model.specs.Messages.{a-dart, file}
 use Rattle.model.specs.Calls.{served, refused, writing, save-file}
 use Rattle.answers.specs.Answers.{Gives}
 use Rattle.answers.proofs.Questions.{gives, ask-no, ask-yes, ask-end}
 use Rattle.groups.specs.Slices.{Stored}
-use Rattle.groups.proofs.Counts.{group-length, group-most}
+use Rattle.groups.proofs.Counts.{group-most}
 use Rattle.savefile.specs.Named.{header-bytes}
 use Rattle.savefile.proofs.FileBytes.{darts-put, darts-most, file-put, header-length}
 use Rattle.savefile.proofs.Sizes.{image-small, number-small, counter-small, count-small}
@@ -24,26 +24,20 @@ use Rattle.savefile.proofs.Sizes.{image-small, number-small, counter-sm
 pub file-length : (m : List ℕ) → length (file rack .put (block-in m)) ≡ length (header-bytes m) + length (put-all a-dart (tab (dart-in m) (getD m 2 0)))
 file-length m = rw (file-put m) (length-append (header-bytes m) (put-all a-dart (tab (dart-in m) (getD m 2 0))))
 
--- THE COUNT, of header and darts
-pub record FileCounted (m : List ℕ) (s t u n : ℕ) : Type 0 where
-  pub same : s + (t + (u + n)) ≡ length (file rack .put (block-in m))
-  pub few : s + (t + (u + n)) ≤ 245775
+-- HOW LONG IT IS AT THE MOST
+pub header-most : (m : List ℕ) → holds-block m ≡ true → length (header-bytes m) ≤ 15
+header-most m e =
+    let number = group-most (getD m 0 0) (number-small m e) in
+    let counter = group-most (getD m 1 0) (counter-small m e) in
+    let count = group-most (getD m 2 0) (omega (arith, count-small m e)) in
+    omega (arith, header-length m)
 
-pub file-counted : (m : List ℕ) → holds-block m ≡ true → {a b c s t u n : ℕ} → a ≡ getD m 0 0 → s ≡ group-count a → b ≡ getD m 1 0 → t ≡ group-count b
-    → c ≡ getD m 2 0 → u ≡ group-count c → n ≡ length (put-all a-dart (tab (dart-in m) (getD m 2 0))) → FileCounted m s t u n
-file-counted m e {a} {b} {c} {s} {t} {u} {n} ea es eb et ec eu en =
+pub file-most : (m : List ℕ) → holds-block m ≡ true → length (file rack .put (block-in m)) ≤ 245775
+file-most m e =
     let few = count-small m e in
-    let c0 = number-small m e in
-    let c1 = counter-small m e in
-    let darts = put-all a-dart (tab (dart-in m) (getD m 2 0)) in
-    let total = file-length m in
     let short = darts-most (image-small m e) in
-    let most : length darts ≤ getD m 2 0 * 60 = rw (darts-put m (getD m 2 0)) short in
-    let s' : s ≡ length (group .put (getD m 0 0)) = es ∙ ap group-count ea ∙ sym (group-length (getD m 0 0) c0) in
-    let t' : t ≡ length (group .put (getD m 1 0)) = et ∙ ap group-count eb ∙ sym (group-length (getD m 1 0) c1) in
-    let u' : u ≡ length (group .put (getD m 2 0)) = eu ∙ ap group-count ec ∙ sym (group-length (getD m 2 0) (omega arith)) in
-    let head = header-length m in
-    record { same = omega arith; few = omega (arith, group-most (getD m 0 0) c0, group-most (getD m 1 0) c1, group-most (getD m 2 0) (omega arith)) }
+    let most : length (put-all a-dart (tab (dart-in m) (getD m 2 0))) ≤ getD m 2 0 * 60 = rw (darts-put m (getD m 2 0)) short in
+    omega (arith, file-length m, header-most m e)
 
 -- THE CALL, question by question
 pub refused-size : (m out : List ℕ) → (length m ≡ words → ⊥) → Gives (save-file rack m out) (refused 1) out
@@ -54,7 +48,7 @@ pub refused-image : (m out : List ℕ) → length m ≡ words → holds-block m 
 unfolding save-file writing memory-checks
 refused-image m out h e = gives _ _ _ _ (ask-yes (eq-eqb (length m) words h) (ask-no refl e refl))
 
-module _ (m out : List ℕ) (h : length m ≡ words) (e : holds-block m ≡ true) {n : ℕ} (c : n ≡ length (file rack .put (block-in m))) where
+module _ (m out : List ℕ) (h : length m ≡ words) (e : holds-block m ≡ true) {n : ℕ} (c : n ≡ 0 + length (file rack .put (block-in m))) where
   pub refused-output : length out < n → Gives (save-file rack m out) (refused 15) out
   unfolding save-file writing memory-checks
   refused-output l =
@@ -66,4 +60,4 @@ module _ (m out : List ℕ) (h : length m ≡ words) (e : holds-block m ≡ true
       let bytes = file rack .put (block-in m) in
       let z : 0 + length bytes ≡ length bytes = omega arith in
       let same : after ≡ bytes ++ drop (length bytes) out = s .slice ∙ sets-eq bytes out 0 (omega arith) ∙ ap (λ (k : ℕ). bytes ++ drop k out) z in
-      rw c (gives _ _ _ _ (ask-yes (eq-eqb (length m) words h) (ask-yes e (ask-yes (le-leb (length bytes) (length out) (omega arith)) (ask-end same)))))
+      rw (c ∙ z) (gives _ _ _ _ (ask-yes (eq-eqb (length m) words h) (ask-yes e (ask-yes (le-leb (length bytes) (length out) (omega arith)) (ask-end same)))))

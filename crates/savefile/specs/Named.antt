@@ -4,23 +4,19 @@
 use mathlib.Core.Path.{_≡_}
 use mathlib.Core.Bool.{cond}
 use mathlib.Core.List.{List, _++_}
-use Prim.Native.Nat.{ℕ, _+_, _/_, _%_, _^_, _<_, _≤_}
+use Prim.Native.Nat.{ℕ, _+_, _%_, _<_, _≤_}
 use lib.Dec.{eqb}
 use lib.ListN.{length, getD}
 use Rattle.model.specs.Values.{serial-bound, room}
-use Rattle.model.specs.Layouts.{group, serial, at-most, _⊗_}
-use Rattle.model.specs.Image.{words-for, column, third-in}
-use Rattle.model.specs.Messages.{kind-of, third}
+use Rattle.model.specs.Layouts.{group, serial}
+use Rattle.model.specs.Image.{words-for, column}
 use Rattle.memory.specs.Point.{FiniteAt}
+use Rattle.codec.specs.Thirds.{ThirdSmall}
 
 unfoldable pub third-named : List ℕ → ℕ → ℕ
 third-named m p = cond (eqb (column m 3 p % 4) 1) (column m 0 (column m 4 p)) (column m 4 p)
 
 -- BYTES
--- of a third link, kind first
-unfoldable pub third-bytes : ℕ → ℕ → List ℕ
-third-bytes k a = let t = third-in (λ x. x) k a in (at-most 2 ⊗ third) .put (kind-of t, t)
-
 -- serial, next, opposite
 unfoldable pub link-bytes : List ℕ → ℕ → List ℕ
 link-bytes m p = serial .put (column m 0 p) ++ (serial .put (column m 0 (column m 1 p)) ++ serial .put (column m 0 (column m 2 p)))
@@ -30,12 +26,6 @@ unfoldable pub header-bytes : List ℕ → List ℕ
 header-bytes m = group .put (getD m 0 0) ++ (group .put (getD m 1 0) ++ group .put (getD m 2 0))
 
 -- NUMBERS IN RANGE
--- of a third link, by its kind word and what it names
-pub record ThirdSmall (k a : ℕ) : Type 0 where
-  pub other-small : k / 4 < 16
-  pub named-small : a < 2 ^ 48
-  pub sewn-small : k % 4 ≡ 1 → a < serial-bound
-
 pub record Small (m : List ℕ) (p : ℕ) : Type 0 where
   pub here : words-for (p + 1) ≤ length m
   pub next-here : words-for (column m 1 p + 1) ≤ length m

@@ -1,7 +1,6 @@
-// Saves a block as a file: the bytes are counted first, so that a refusal leaves the output as it was, and then written.
+// Saves a block as a file: it is written into no output first, which counts its bytes, so that a refusal leaves the output as it was.
 pub mod links; // links.rt: what a dart's links name, by serial
-pub mod count; // count.rt: how many bytes a file has
-pub mod put; // put.rt: its bytes written
+pub mod put; // put.rt: its bytes counted and written
 
 ghost use Rattle.model.specs.Values.{rack};
 ghost use Rattle.model.specs.Calls.{save-file};
@@ -21,7 +20,8 @@ pub fn save_file(block: &[u64], out: &mut [u8]) -> Written
     if !sound::is_sound(block) {
         return Written::Refused(Refusal::NotAnImage);
     }
-    let n = count::count_file(block);
+    let mut none = [0u8; 0];
+    let n = put::put_file(block, &mut none);
     if out.len() < n {
         return Written::Refused(Refusal::OutputTooShort);
     }

@@ -1,25 +1,25 @@
-// A block's file written into an output that is long enough.
+// A block's file written: each byte that the output has room for, so that into no output the bytes are only counted.
 ghost use mathlib.Core.Bool.{true};
 ghost use mathlib.Core.Path.{_≡_};
-ghost use Prim.Native.Nat.{_+_, _≤_};
+ghost use Prim.Native.Nat.{_+_, _<_, _^_};
 ghost use lib.ListN.{length};
 ghost use Rattle.model.specs.Lists.{tab};
 ghost use Rattle.model.specs.Values.{rack};
 ghost use Rattle.model.specs.Layouts.{put-all};
 ghost use Rattle.model.specs.Image.{dart-in, block-in, holds-block};
-ghost use Rattle.model.specs.Messages.{point as point-layout, a-dart, file};
+ghost use Rattle.model.specs.Messages.{a-dart, file};
 ghost use Rattle.groups.specs.Slices.{Stored};
-ghost use Rattle.memory.specs.Point.{patterns, FinitePoint};
-ghost use Rattle.savefile.specs.Named.{ThirdSmall, third-bytes, link-bytes, header-bytes, Small, AllSmall};
+ghost use Rattle.savefile.specs.Named.{link-bytes, header-bytes, Small, AllSmall};
 use crate::links;
+use codec::entry;
+use codec::third;
 use memory::point;
-use memory::point::Point;
 use memory::record;
 use memory::record::Place;
 
 // Serial, next and opposite of the dart at place p.
 fn put_links(block: &[u64], p: Place, out: &mut [u8], at: usize) -> usize
-    requires { ⌜ Small (now block) (p .0) × (at + length (link-bytes (now block) (p .0)) ≤ length (now out)) ⌝ }
+    requires { ⌜ Small (now block) (p .0) × (at + length (link-bytes (now block) (p .0)) < 2 ^ 63) ⌝ }
     ensures { λ r. ⌜ Stored (now (out .entry)) at (link-bytes (now (block .entry)) (p .0)) (now (out .exit)) r ⌝ }
 {
     let past_serial = groups::put_serial(out, at, record::field(block, p, 0));
@@ -27,51 +27,20 @@ fn put_links(block: &[u64], p: Place, out: &mut [u8], at: usize) -> usize
     groups::put_serial(out, past_next, links::serial_along(block, p, 2))
 }
 
-// A third link, by its kind word and what it names: 0 free; 1 sewn, serial; 2 critical, other block, label.
-fn put_third(kind: u64, named: u64, out: &mut [u8], at: usize) -> usize
-    requires { ⌜ ThirdSmall kind named × (at + length (third-bytes kind named) ≤ length (now out)) ⌝ }
-    ensures { λ r. ⌜ Stored (now (out .entry)) at (third-bytes kind named) (now (out .exit)) r ⌝ }
-{
-    let k = kind % 4;
-    if k == 0 {
-        return groups::put_group(out, at, 0);
-    }
-    if k == 1 {
-        let past_kind = groups::put_group(out, at, 1);
-        return groups::put_serial(out, past_kind, named);
-    }
-    let past_kind = groups::put_group(out, at, 2);
-    let past_other = groups::put_group(out, past_kind, links::narrow(kind / 4));
-    groups::put_label(out, past_other, named)
-}
-
-// A point goes by value.
-fn put_point(out: &mut [u8], at: usize, p: Point) -> usize
-    requires { ⌜ FinitePoint p × (at + 24 ≤ length (now out)) ⌝ }
-    ensures { λ r. ⌜ Stored (now (out .entry)) at (point-layout .put (patterns p)) (now (out .exit)) r ⌝ }
-{
-    let x = point::pattern(p.x);
-    let y = point::pattern(p.y);
-    let z = point::pattern(p.z);
-    let past_x = groups::put_coordinate(out, at, x);
-    let past_y = groups::put_coordinate(out, past_x, y);
-    groups::put_coordinate(out, past_y, z)
-}
-
 // The dart at place p.
 fn put_dart(block: &[u64], p: Place, out: &mut [u8], at: usize) -> usize
-    requires { ⌜ Small (now block) (p .0) × (at + length (a-dart .put (dart-in (now block) (p .0))) ≤ length (now out)) ⌝ }
+    requires { ⌜ Small (now block) (p .0) × (at + length (a-dart .put (dart-in (now block) (p .0))) < 2 ^ 63) ⌝ }
     ensures { λ r. ⌜ Stored (now (out .entry)) at (a-dart .put (dart-in (now (block .entry)) (p .0))) (now (out .exit)) r ⌝ }
 {
     let past_links = put_links(block, p, out, at);
     let kind = record::field(block, p, 3);
-    let past_third = put_third(kind, links::third_along(block, p), out, past_links);
-    put_point(out, past_third, point::point_at(block, p))
+    let past_third = third::put_third(kind, links::third_along(block, p), out, past_links);
+    entry::put_point(out, past_third, point::point_at(block, p))
 }
 
 // The first n darts.
 fn put_darts(block: &[u64], n: usize, out: &mut [u8], at: usize) -> usize
-    requires { ⌜ AllSmall (now block) n × (at + length (put-all a-dart (tab (dart-in (now block)) n)) ≤ length (now out)) ⌝ }
+    requires { ⌜ AllSmall (now block) n × (at + length (put-all a-dart (tab (dart-in (now block)) n)) < 2 ^ 63) ⌝ }
     ensures { λ r. ⌜ Stored (now (out .entry)) at (put-all a-dart (tab (dart-in (now (block .entry))) n)) (now (out .exit)) r ⌝ }
 {
     // The darts below i are stored, up to past.
@@ -86,7 +55,7 @@ fn put_darts(block: &[u64], n: usize, out: &mut [u8], at: usize) -> usize
 
 // Block, counter, dart count.
 fn put_header(block: &[u64], out: &mut [u8]) -> usize
-    requires { ⌜ (holds-block (now block) ≡ true) × (length (header-bytes (now block)) ≤ length (now out)) ⌝ }
+    requires { ⌜ holds-block (now block) ≡ true ⌝ }
     ensures { λ r. ⌜ Stored (now (out .entry)) 0 (header-bytes (now (block .entry))) (now (out .exit)) r ⌝ }
 {
     let past_number = groups::put_group(out, 0, links::narrow(block[0]));
@@ -96,7 +65,7 @@ fn put_header(block: &[u64], out: &mut [u8]) -> usize
 
 // The whole file, from the output's first byte.
 pub fn put_file(block: &[u64], out: &mut [u8]) -> usize
-    requires { ⌜ (holds-block (now block) ≡ true) × (length (file rack .put (block-in (now block))) ≤ length (now out)) ⌝ }
+    requires { ⌜ holds-block (now block) ≡ true ⌝ }
     ensures { λ r. ⌜ Stored (now (out .entry)) 0 (file rack .put (block-in (now (block .entry)))) (now (out .exit)) r ⌝ }
 {
     let past_header = put_header(block, out);

@@ -19,7 +19,7 @@ use Rattle.laws.proofs.Tests.{by-cases, and-left, and-right, yes-first}
 use Rattle.answers.specs.declared.Written.{Written}
 use Rattle.answers.specs.declared.Written.the-variants as written
 use Rattle.answers.specs.Answers.{Gives, written-of, question}
-use Rattle.savefile.proofs.WholeFile.{file-counted}
+use Rattle.savefile.proofs.WholeFile.{file-most}
 use Rattle.mesh.specs.Parts.{blocks, part}
 use Rattle.commands.specs.declared.names.File.the-variants as files
 use Rattle.saving.specs.declared.prepare.Made.{Made}
@@ -86,8 +86,7 @@ file-short m b e =
     let p : List ℕ = part m b in
     let one = yes-first 1 (eqb (length p) words) ((2, holds-block p) ∷ []) (λ z. omega arith) (eqb-true (first-no ((1, eqb (length p) words) ∷ (2, holds-block p) ∷ [])) 0 e) in
     let two = yes-first 2 (holds-block p) [] (λ z. omega arith) (one .1) in
-    let counted = file-counted p (two .0) refl refl refl refl refl refl refl in
-    omega (arith, counted .same, counted .few)
+    omega (arith, file-most p (two .0))
 
 -- A ROOM AFTERWARDS
 -- bytes were put: they are all there, and stand first

@@ -1,5 +1,4 @@
 pub mod LeastLaws
 pub mod SharesLaws
 pub mod UpdateLaws
-pub mod Rest
 pub mod Relatives

@@ -2,6 +2,8 @@
 ghost use mathlib.Core.Path.{_≡_};
 ghost use Prim.Native.Nat.{_+_, _≤_, _<_, _^_, min};
 ghost use lib.ListN.{length, getD, replicate, set};
+ghost use Rattle.model.specs.Image.{label-in};
+ghost use Rattle.model.specs.Messages.{label};
 ghost use Rattle.groups.specs.Slices.{Stored};
 ghost use Rattle.outbox.specs.Runs.{run};
 ghost use Rattle.outbox.specs.Bytes.{Listed, Started};
@@ -38,6 +40,14 @@ fn least_code(block: &[u64], order: &[usize], start: MessageIndex, size: usize) 
         k += 1;
     }
     least
+}
+
+// The bytes of the label with a code: it is put into no output.
+fn label_size(code: u64) -> usize
+    ensures { λ r. ⌜ r ≡ length (label .put (label-in code)) ⌝ }
+{
+    let mut none = [0u8; 0];
+    groups::put_label(&mut none, 0, code)
 }
 
 // One face more that block k shares, whose least label takes `size` bytes.
@@ -78,7 +88,7 @@ pub fn count_labels(
             continue;
         }
         let code = least_code(block, order, MessageIndex(start), end - start);
-        let size = groups::label_count(code);
+        let size = label_size(code);
         add_face(labels, bytes, kind::other_of(word) as usize, size);
     }
 }
@@ -95,7 +105,7 @@ pub fn put_leasts(
     from: usize,
 ) -> usize
     requires { ⌜ Listed (now block) (now order) darts × Started (now starts) darts count × (k ≤ 15) ⌝ }
-    requires { ⌜ from + length (run (least-put (now block) k (now order) (now starts) darts count) count) ≤ length (now out) ⌝ }
+    requires { ⌜ from + length (run (least-put (now block) k (now order) (now starts) darts count) count) < 2 ^ 63 ⌝ }
     ensures { λ r. ⌜ Stored (now (out .entry)) from (run (least-put (now (block .entry)) k (now (order .entry)) (now (starts .entry)) darts count) count) (now (out .exit)) r ⌝ }
 {
     // The labels of the faces before f are put, up to `at`.

@@ -38,12 +38,20 @@ pub fn update_size(to: u64, k: u64, n: usize, bytes: usize) -> usize
 }
 
 // What stands before the labels: the length of the rest, kind, blocks and count.
-fn put_head(block: &[u64], to: u64, k: u64, n: usize, rest: usize, out: &mut [u8]) -> usize
+fn put_head(
+    block: &[u64],
+    to: u64,
+    k: u64,
+    n: usize,
+    rest: usize,
+    out: &mut [u8],
+    at: usize,
+) -> usize
     requires { ⌜ (0 < length (now block)) × (getD (now block) 0 0 ≤ 15) × (to ≤ 15) × (k ≤ 15) × (n < 2 ^ 32) × (rest < 2 ^ 32) ⌝ }
-    requires { ⌜ length (head-bytes (now block) to k n rest) ≤ length (now out) ⌝ }
-    ensures { λ r. ⌜ Stored (now (out .entry)) 0 (head-bytes (now (block .entry)) to k n rest) (now (out .exit)) r ⌝ }
+    requires { ⌜ at + length (head-bytes (now block) to k n rest) < 2 ^ 63 ⌝ }
+    ensures { λ r. ⌜ Stored (now (out .entry)) at (head-bytes (now (block .entry)) to k n rest) (now (out .exit)) r ⌝ }
 {
-    let past_length = groups::put_group(out, 0, rest as u32);
+    let past_length = groups::put_group(out, at, rest as u32);
     let past_kind = groups::put_group(out, past_length, 2);
     let past_from = groups::put_group(out, past_kind, block[0] as u32);
     let past_to = groups::put_group(out, past_from, k as u32);
@@ -51,7 +59,7 @@ fn put_head(block: &[u64], to: u64, k: u64, n: usize, rest: usize, out: &mut [u8
     groups::put_group(out, past_new, n as u32)
 }
 
-// The message for block k, into the first bytes of what is lent.
+// The message for block k.
 pub fn put_update(
     block: &[u64],
     to: u64,
@@ -63,13 +71,14 @@ pub fn put_update(
     n: usize,
     bytes: usize,
     out: &mut [u8],
+    at: usize,
 ) -> usize
     requires { ⌜ Listed (now block) (now order) darts × Started (now starts) darts count ⌝ }
     requires { ⌜ (getD (now block) 0 0 ≤ 15) × (to ≤ 15) × (k ≤ 15) × (n < 2 ^ 16) × (bytes < 2 ^ 16) ⌝ }
     requires { ⌜ (n ≡ tally (in-part2 (now block) k (now order) (now starts)) count) × (bytes ≡ length (run (least-put (now block) k (now order) (now starts) darts count) count)) ⌝ }
-    requires { ⌜ length (update-bytes (now block) to (now order) (now starts) darts count k) ≤ length (now out) ⌝ }
-    ensures { λ r. ⌜ Stored (now (out .entry)) 0 (update-bytes (now (block .entry)) to (now (order .entry)) (now (starts .entry)) darts count k) (now (out .exit)) r ⌝ }
+    requires { ⌜ at + length (update-bytes (now block) to (now order) (now starts) darts count k) < 2 ^ 63 ⌝ }
+    ensures { λ r. ⌜ Stored (now (out .entry)) at (update-bytes (now (block .entry)) to (now (order .entry)) (now (starts .entry)) darts count k) (now (out .exit)) r ⌝ }
 {
-    let at = put_head(block, to, k, n, rest_size(n, bytes), out);
-    labels::put_leasts(block, k, order, starts, darts, count, out, at)
+    let past = put_head(block, to, k, n, rest_size(n, bytes), out, at);
+    labels::put_leasts(block, k, order, starts, darts, count, out, past)
 }

@@ -1,66 +1,52 @@
--- `groups::put_coordinate` meets its contract. The loop's invariant (`Spelling`): what is left of the word, put where the next byte goes,
--- gives the same slice in the end. The measure is how many bytes are left. Assumes nothing.
+-- `groups::put_coordinate` meets its contract. Assumes nothing.
+use mathlib.Core.Path.{sym}
 use native.Mathlib.Omega.{arith}
 use borrow.Author.Needs.{needs}
-use Rattle.groups.proofs.Coordinates.{Spelling, spelling-start, spelling-step, spelling-end}
+use Rattle.groups.proofs.Coordinates.{coordinate-length}
+use Rattle.groups.proofs.Writing.{stored-outside}
 use Rattle.groups.proofs.put_coordinate.Statement.{statement}
 use Rattle.groups.proofs.put_coordinate.Tie as tie
 
-abbrev Inv-loop : tie.InvT-loop
-Inv-loop out₀ at word p₀ x₀ left₀ out p x left =
-    Spelling out₀ at word out p x left
+add-if1 : tie.Need-add-if1
+add-if1 c = search needs
 
-abbrev μ-loop : tie.MeasureT-loop
-μ-loop out₀ at word p₀ x₀ left₀ out p x left =
-    left
+put-word-requires : tie.Need-put-word-requires
+put-word-requires c κs = search needs
 
-loop-holds : tie.Need-loop-holds Inv-loop μ-loop
-loop-holds c =
-    spelling-start _ _ _ (c .pre)
+same-length : tie.Need-same-length
+same-length c = search needs
 
-cast-out : tie.Need-cast-out Inv-loop μ-loop
-cast-out c = search needs
+returns : tie.Need-returns
+returns c = search needs
 
-slice-write-out : tie.Need-slice-write-out Inv-loop μ-loop
-slice-write-out c = omega arith
+add-result : tie.Need-add-result
+add-result c = search needs
 
-add-p : tie.Need-add-p Inv-loop μ-loop
-add-p c = omega arith
+returns-2 : tie.Need-returns-2
+returns-2 c =
+    let start : tie.Start = search in
+    let if2-taken = (let p : tie.Then2 = search in p .if2 .taken) in
+    stored-outside (omega (arith, if2-taken)) (sym (coordinate-length (start .args .word)))
 
-sub-left : tie.Need-sub-left Inv-loop μ-loop
-sub-left c = search needs
+put-word-across-requires : tie.Need-put-word-across-requires
+put-word-across-requires c κs = search needs
 
-loop-less : tie.Need-loop-less Inv-loop μ-loop
-loop-less c =
-    omega arith
+same-length-2 : tie.Need-same-length-2
+same-length-2 c = search needs
 
-loop-again : tie.Need-loop-again Inv-loop μ-loop
-loop-again c =
-    let loop-inv = (let p : tie.At-loop Inv-loop μ-loop = search in p .loop .inv) in
-    spelling-step loop-inv (c .loop-test .taken)
-
-same-length : tie.Need-same-length Inv-loop μ-loop
-same-length c =
-    let loop-inv = (let p : tie.At-loop Inv-loop μ-loop = search in p .loop .inv) in
-    loop-inv .same-length
-
-returns : tie.Need-returns Inv-loop μ-loop
-returns c =
-    let loop-inv = (let p : tie.At-loop Inv-loop μ-loop = search in p .loop .inv) in
-    spelling-end loop-inv (omega arith)
+returns-3 : tie.Need-returns-3
+returns-3 c = search needs
 
 pub put-coordinate-spec : {M : Type 1} → statement M
 put-coordinate-spec =
     tie.close
     (tie.spec
-    Inv-loop
-    μ-loop
-    loop-holds
-    cast-out
-    slice-write-out
-    add-p
-    sub-left
-    loop-less
-    loop-again
+    add-if1
+    put-word-requires
     same-length
-    returns)
+    returns
+    add-result
+    returns-2
+    put-word-across-requires
+    same-length-2
+    returns-3)

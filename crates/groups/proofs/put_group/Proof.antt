@@ -1,8 +1,7 @@
--- `groups::put_group` meets its contract. Five groups are enough below 2^32, so that nine allowed are the same. Assumes nothing.
+-- `groups::put_group` meets its contract. Assumes nothing.
 use native.Mathlib.Omega.{arith}
 use borrow.Author.Needs.{needs}
 use Rattle.model.specs.Layouts.{group-below, group}
-use Rattle.groups.proofs.Writing.{four-is-eight}
 use Rattle.groups.proofs.put_group.Statement.{statement}
 use Rattle.groups.proofs.put_group.Tie as tie
 
@@ -13,7 +12,7 @@ put-number-requires : tie.Need-put-number-requires
 unfolding group group-below
 put-number-requires c κs =
     let start : tie.Start = search in
-    (omega arith, rw (c .widen .ensures, four-is-eight (start .args .v) (omega arith)) (start .pre))
+    (omega arith, rw (c .widen .ensures) (start .pre))
 
 same-length : tie.Need-same-length
 same-length c = search needs
@@ -21,10 +20,9 @@ same-length c = search needs
 returns : tie.Need-returns
 unfolding group group-below
 returns c =
-    let start : tie.Start = search in
     let widen-ensures = (let p : tie.After-widen = search in p .widen .ensures) in
     let put-number-ensures = (let p : tie.After-put-number = search in p .put-number .ensures) in
-    rw (widen-ensures, four-is-eight (start .args .v) (omega arith)) at put-number-ensures
+    rw widen-ensures at put-number-ensures
 
 pub put-group-spec : {M : Type 1} → statement M
 put-group-spec = tie.close (tie.spec widen-requires put-number-requires same-length returns)

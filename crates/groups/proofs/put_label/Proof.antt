@@ -1,7 +1,7 @@
 -- `groups::put_label` meets its contract. The label's three numbers, one stored after the other. Assumes nothing.
 use native.Mathlib.Omega.{arith}
 use borrow.Author.Needs.{needs}
-use Rattle.groups.proofs.Writing.{stored-then, stored-length}
+use Rattle.groups.proofs.Writing.{stored-then}
 use Rattle.groups.proofs.Labels.{label-put, label-length}
 use Rattle.groups.proofs.put_label.Statement.{statement}
 use Rattle.groups.proofs.put_label.Tie as tie
@@ -21,7 +21,7 @@ put-group-requires-2 : tie.Need-put-group-requires-2
 put-group-requires-2 c κs =
     let start : tie.Start = search in
     let put-group-ensures = (let p : tie.After-put-group = search in p .put-group .ensures) in
-    omega (arith, start .pre, label-length (start .args .code), stored-length put-group-ensures, put-group-ensures .past)
+    omega (arith, start .pre, label-length (start .args .code), put-group-ensures .past)
 
 cast-put-group-3 : tie.Need-cast-put-group-3
 cast-put-group-3 c = search needs
@@ -36,9 +36,7 @@ put-group-requires-3 c κs =
       arith,
       start .pre,
       label-length code,
-      stored-length put-group-ensures,
       put-group-ensures .past,
-      stored-length put-group2-ensures,
       put-group2-ensures .past,
     )
 

@@ -1,83 +1,78 @@
--- `groups::put_number` meets its contract. The loop's invariant (`Putting`): what is left of the number, put where the next group goes,
--- gives the same slice in the end. The measure is what is left. Assumes nothing.
+-- `groups::put_number` meets its contract. Five groups are enough below 2^32, so that nine allowed are the same. Assumes nothing.
+use mathlib.Core.Path.{_∙_, sym}
 use native.Mathlib.Omega.{arith}
 use borrow.Author.Needs.{needs}
-use Rattle.groups.proofs.Writing.{Putting, putting-start, putting-step, putting-end, put-more, put-last}
+use Rattle.model.specs.Layouts.{group-below, group}
+use Rattle.groups.proofs.Counts.{group-length, group-most}
+use Rattle.groups.proofs.Writing.{four-is-eight, stored-outside}
 use Rattle.groups.proofs.put_number.Statement.{statement}
 use Rattle.groups.proofs.put_number.Tie as tie
 
-abbrev Inv-loop : tie.InvT-loop
-Inv-loop out₀ at v p₀ x₀ out p x =
-    Putting out₀ at v out p x
+cast-group-count : tie.Need-cast-group-count
+cast-group-count c = search needs
 
-abbrev μ-loop : tie.MeasureT-loop
-μ-loop out₀ at v p₀ x₀ out p x =
-    x
+group-count-requires : tie.Need-group-count-requires
+group-count-requires c κs = search needs
 
-loop-holds : tie.Need-loop-holds Inv-loop μ-loop
-loop-holds c =
-    putting-start _ _ _ (c .pre .0) (c .pre .1)
-
-add-out : tie.Need-add-out Inv-loop μ-loop
-add-out c = search needs
-
-cast-out : tie.Need-cast-out Inv-loop μ-loop
-cast-out c = search needs
-
-slice-write-out : tie.Need-slice-write-out Inv-loop μ-loop
-slice-write-out c =
-    let loop-inv = (let p : tie.At-loop Inv-loop μ-loop = search in p .loop .inv) in
-    omega (arith, put-more loop-inv (c .loop-test .taken))
-
-add-p : tie.Need-add-p Inv-loop μ-loop
-add-p c =
-    let loop-inv = (let p : tie.At-loop Inv-loop μ-loop = search in p .loop .inv) in
-    omega (arith, put-more loop-inv (c .loop-test .taken))
-
-loop-less : tie.Need-loop-less Inv-loop μ-loop
-loop-less c = search needs
-
-loop-again : tie.Need-loop-again Inv-loop μ-loop
-loop-again c =
-    let loop-inv = (let p : tie.At-loop Inv-loop μ-loop = search in p .loop .inv) in
-    putting-step loop-inv (c .loop-test .taken)
-
-cast-out-2 : tie.Need-cast-out-2 Inv-loop μ-loop
-cast-out-2 c = search needs
-
-slice-write-out-2 : tie.Need-slice-write-out-2 Inv-loop μ-loop
-slice-write-out-2 c =
-    let loop-inv = (let p : tie.At-loop Inv-loop μ-loop = search in p .loop .inv) in
-    omega (arith, put-last loop-inv (c .loop-test .left))
-
-add-result : tie.Need-add-result Inv-loop μ-loop
+add-result : tie.Need-add-result
+unfolding group group-below
 add-result c =
-    let loop-inv = (let p : tie.At-loop Inv-loop μ-loop = search in p .loop .inv) in
-    omega (arith, put-last loop-inv (c .loop-test .left))
+    let start : tie.Start = search in
+    omega (arith, start .pre .1, c .group-count .ensures, group-length (start .args .v) (start .pre .0))
 
-same-length : tie.Need-same-length Inv-loop μ-loop
+returns : tie.Need-returns
+unfolding group group-below
+returns c =
+    let start : tie.Start = search in
+    let group-count-ensures = (let p : tie.After-group-count = search in p .group-count .ensures) in
+    let if1-taken = (let p : tie.Then1 = search in p .if1 .taken) in
+    stored-outside (omega (arith, if1-taken)) (group-count-ensures ∙ sym (group-length (start .args .v) (start .pre .0)))
+
+add-if2 : tie.Need-add-if2
+add-if2 c = search needs
+
+put-inside-requires : tie.Need-put-inside-requires
+unfolding group group-below
+put-inside-requires c κs =
+    let start : tie.Start = search in
+    let v = start .args .v in
+    (omega arith, rw (four-is-eight v (start .pre .0)) (omega (arith, group-most v (start .pre .0))))
+
+same-length : tie.Need-same-length
 same-length c = search needs
 
-returns : tie.Need-returns Inv-loop μ-loop
-returns c =
-    let loop-inv = (let p : tie.At-loop Inv-loop μ-loop = search in p .loop .inv) in
-    putting-end loop-inv (c .loop-test .left)
+returns-2 : tie.Need-returns-2
+returns-2 c =
+    let start : tie.Start = search in
+    let put-inside-ensures = (let p : tie.After-put-inside = search in p .put-inside .ensures) in
+    rw (four-is-eight (start .args .v) (start .pre .0)) at put-inside-ensures
+
+put-across-requires : tie.Need-put-across-requires
+put-across-requires c κs =
+    let start : tie.Start = search in
+    (omega arith, rw (four-is-eight (start .args .v) (start .pre .0)) (start .pre .1))
+
+same-length-2 : tie.Need-same-length-2
+same-length-2 c = search needs
+
+returns-3 : tie.Need-returns-3
+returns-3 c =
+    let start : tie.Start = search in
+    let put-across-ensures = (let p : tie.After-put-across = search in p .put-across .ensures) in
+    rw (four-is-eight (start .args .v) (start .pre .0)) at put-across-ensures
 
 pub put-number-spec : {M : Type 1} → statement M
 put-number-spec =
     tie.close
     (tie.spec
-    Inv-loop
-    μ-loop
-    loop-holds
-    add-out
-    cast-out
-    slice-write-out
-    add-p
-    loop-less
-    loop-again
-    cast-out-2
-    slice-write-out-2
+    cast-group-count
+    group-count-requires
     add-result
+    returns
+    add-if2
+    put-inside-requires
     same-length
-    returns)
+    returns-2
+    put-across-requires
+    same-length-2
+    returns-3)

@@ -2,7 +2,6 @@
 -- Assumes nothing.
 use Rattle.answers.proofs.Questions.{said-no, said-yes}
 use Rattle.savefile.proofs.WholeFile.{refused-size, refused-image, refused-output, served-file}
-use native.Mathlib.Omega.{arith}
 use borrow.Author.Needs.{needs}
 use Rattle.savefile.proofs.save_file.Statement.{statement}
 use Rattle.savefile.proofs.save_file.Tie as tie
@@ -20,26 +19,28 @@ returns-2 c =
     let is-sound-ensures = (let p : tie.After-is-sound = search in p .is-sound .ensures) in
     refused-image _ _ if1-left (said-no is-sound-ensures (c .if2 .taken))
 
-count-file-requires : tie.Need-count-file-requires
-count-file-requires c κs =
+slice-aggregate-put-file : tie.Need-slice-aggregate-put-file
+slice-aggregate-put-file c = search needs
+
+put-file-requires : tie.Need-put-file-requires
+put-file-requires c κs =
     let is-sound-ensures = (let p : tie.After-is-sound = search in p .is-sound .ensures) in
-    said-yes is-sound-ensures (c .if2 .left)
+    let if2-left = (let p : tie.Else2 = search in p .if2 .left) in
+    said-yes is-sound-ensures if2-left
 
 returns-3 : tie.Need-returns-3
 returns-3 c =
     let if1-left = (let p : tie.Else1 = search in p .if1 .left) in
     let is-sound-ensures = (let p : tie.After-is-sound = search in p .is-sound .ensures) in
     let if2-left = (let p : tie.Else2 = search in p .if2 .left) in
-    let count-file-ensures = (let p : tie.After-count-file = search in p .count-file .ensures) in
-    refused-output _ _ if1-left (said-yes is-sound-ensures if2-left) count-file-ensures (c .if3 .taken)
+    let put-file-ensures = (let p : tie.After-put-file = search in p .put-file .ensures) in
+    refused-output _ _ if1-left (said-yes is-sound-ensures if2-left) (put-file-ensures .past) (c .if3 .taken)
 
-put-file-requires : tie.Need-put-file-requires
-put-file-requires c κs =
+put-file-requires-2 : tie.Need-put-file-requires-2
+put-file-requires-2 c κs =
     let is-sound-ensures = (let p : tie.After-is-sound = search in p .is-sound .ensures) in
     let if2-left = (let p : tie.Else2 = search in p .if2 .left) in
-    let count-file-ensures = (let p : tie.After-count-file = search in p .count-file .ensures) in
-    let if3-left = (let p : tie.Else3 = search in p .if3 .left) in
-    (said-yes is-sound-ensures if2-left, omega (arith, count-file-ensures, if3-left))
+    said-yes is-sound-ensures if2-left
 
 same-length : tie.Need-same-length
 same-length c = search needs
@@ -49,10 +50,10 @@ returns-4 c =
     let if1-left = (let p : tie.Else1 = search in p .if1 .left) in
     let is-sound-ensures = (let p : tie.After-is-sound = search in p .is-sound .ensures) in
     let if2-left = (let p : tie.Else2 = search in p .if2 .left) in
-    let count-file-ensures = (let p : tie.After-count-file = search in p .count-file .ensures) in
-    let if3-left = (let p : tie.Else3 = search in p .if3 .left) in
     let put-file-ensures = (let p : tie.After-put-file = search in p .put-file .ensures) in
-    served-file _ _ if1-left (said-yes is-sound-ensures if2-left) count-file-ensures if3-left put-file-ensures
+    let if3-left = (let p : tie.Else3 = search in p .if3 .left) in
+    let put-file2-ensures = (let p : tie.After-put-file2 = search in p .put-file2 .ensures) in
+    served-file _ _ if1-left (said-yes is-sound-ensures if2-left) (put-file-ensures .past) if3-left put-file2-ensures
 
 pub save-file-spec : {M : Type 1} → statement M
 save-file-spec =
@@ -61,8 +62,9 @@ save-file-spec =
     returns
     is-sound-requires
     returns-2
-    count-file-requires
-    returns-3
+    slice-aggregate-put-file
     put-file-requires
+    returns-3
+    put-file-requires-2
     same-length
     returns-4)

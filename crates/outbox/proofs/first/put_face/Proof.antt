@@ -1,6 +1,6 @@
 -- `outbox::first::put_face` meets its contract: the size, and the darts after it. Assumes nothing.
 use Rattle.groups.proofs.Writing.{stored-then}
-use Rattle.outbox.proofs.EntryLaws.{stored-as, room-after}
+use Rattle.codec.proofs.EntryLaws.{stored-as, room-after}
 use Rattle.outbox.proofs.BytesLaws.{face-length, face-of}
 use native.Mathlib.Omega.{arith}
 use borrow.Author.Needs.{needs}

@@ -1,8 +1,8 @@
--- `outbox::first::put_points` meets its contract. The loop's invariant: the points before k are put, and there is room for all.
+-- `outbox::first::put_points` meets its contract. The loop's invariant: the points before k are put.
 -- The measure is what is left of the vertices. Assumes nothing.
 use Prim.Native.Nat.{_-_}
 use Rattle.outbox.specs.Bytes.{point-put}
-use Rattle.outbox.proofs.EntryLaws.{stored-as}
+use Rattle.codec.proofs.EntryLaws.{stored-as}
 use Rattle.outbox.proofs.Running.{Running, running-start, running-size, running-end, running-space, running-step}
 use Rattle.outbox.proofs.BytesLaws.{point-fine, point-is, point-put-length}
 use native.Mathlib.Omega.{arith}

@@ -2,7 +2,7 @@
 use mathlib.Core.Path.{ap, _∙_}
 use Prim.Native.Nat.{ℕ, _/_}
 use Rattle.groups.proofs.Writing.{stored-then}
-use Rattle.outbox.proofs.EntryLaws.{stored-as, room-after}
+use Rattle.codec.proofs.EntryLaws.{stored-as, room-after}
 use Rattle.outbox.proofs.BytesLaws.{beside-of, beside-length}
 use native.Mathlib.Omega.{arith}
 use borrow.Author.Needs.{needs}

@@ -5,7 +5,7 @@ use Prim.Native.Nat.{_-_}
 use lib.ListN.{length}
 use Rattle.answers.proofs.Questions.{said-no, said-yes}
 use Rattle.outbox.specs.Bytes.{part2-put}
-use Rattle.outbox.proofs.EntryLaws.{stored-as}
+use Rattle.codec.proofs.EntryLaws.{stored-as}
 use Rattle.outbox.proofs.Running.{Running, running-start, running-size, running-end, running-space, running-step, running-skip}
 use Rattle.outbox.proofs.BytesLaws.{part2-none, part2-one}
 use native.Mathlib.Omega.{arith}

@@ -6,7 +6,7 @@ use lib.ListN.{length}
 use Rattle.answers.proofs.Questions.{said-no, said-yes}
 use Rattle.outbox.specs.Runs.{tally}
 use Rattle.outbox.specs.Bytes.{in-part3, part3-put}
-use Rattle.outbox.proofs.EntryLaws.{stored-as}
+use Rattle.codec.proofs.EntryLaws.{stored-as}
 use Rattle.outbox.proofs.Running.{Running, running-start, running-size, running-end, running-space, running-step, running-skip, tally-yes, tally-no, tally-grows, tally-from}
 use Rattle.outbox.proofs.BytesLaws.{part3-none, part3-one}
 use native.Mathlib.Omega.{arith}

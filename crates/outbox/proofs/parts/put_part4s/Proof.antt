@@ -5,7 +5,7 @@ use Prim.Native.Nat.{_-_}
 use lib.ListN.{length, getD}
 use Rattle.answers.proofs.Questions.{said-no, said-yes}
 use Rattle.outbox.specs.Bytes.{part4-put}
-use Rattle.outbox.proofs.EntryLaws.{stored-as}
+use Rattle.codec.proofs.EntryLaws.{stored-as}
 use Rattle.outbox.proofs.Running.{Running, running-start, running-size, running-end, running-space, running-step, running-skip}
 use Rattle.outbox.proofs.BytesLaws.{listed-part, start-le, end-le, some-darts, part4-none, part4-one}
 use native.Mathlib.Omega.{arith}

@@ -1,6 +1,6 @@
 -- `outbox::transfer::put_part1` meets its contract: one part stored after the other, with room left for the rest. Assumes nothing.
 use Rattle.groups.proofs.Writing.{stored-then, stored-length}
-use Rattle.outbox.proofs.EntryLaws.{stored-as}
+use Rattle.codec.proofs.EntryLaws.{stored-as}
 use Rattle.outbox.proofs.WholeLaws.{first-length, first-of}
 use native.Mathlib.Omega.{arith}
 use Rattle.outbox.proofs.transfer.put_part1.Statement.{statement}
@@ -37,7 +37,7 @@ put-group-requires-2 c κs =
     let firsts = start .args .firsts .now in
     let m = start .args .block .now in
     let len = first-length m to counts order starts numbers firsts in
-    omega (arith, start .pre .1 .1, len, stored-length put-group-ensures, put-group-ensures .past)
+    omega (arith, start .pre .1 .1, len, put-group-ensures .past)
 
 cast-put-group-2 : tie.Need-cast-put-group-2
 cast-put-group-2 c = omega arith
@@ -55,7 +55,7 @@ put-group-requires-3 c κs =
     let firsts = start .args .firsts .now in
     let m = start .args .block .now in
     let len = first-length m to counts order starts numbers firsts in
-    omega (arith, start .pre .1 .1, len, stored-length put-group-ensures, put-group-ensures .past, stored-length put-group2-ensures, put-group2-ensures .past)
+    omega (arith, start .pre .1 .1, len, put-group-ensures .past, put-group2-ensures .past)
 
 cast-put-group-3 : tie.Need-cast-put-group-3
 cast-put-group-3 c = omega arith
@@ -78,11 +78,8 @@ put-group-requires-4 c κs =
       arith,
       start .pre .1 .1,
       len,
-      stored-length put-group-ensures,
       put-group-ensures .past,
-      stored-length put-group2-ensures,
       put-group2-ensures .past,
-      stored-length put-group3-ensures,
       put-group3-ensures .past,
     )
 
@@ -107,13 +104,9 @@ put-points-requires c κs =
         arith,
         start .pre .1 .1,
         len,
-        stored-length put-group-ensures,
         put-group-ensures .past,
-        stored-length put-group2-ensures,
         put-group2-ensures .past,
-        stored-length put-group3-ensures,
         put-group3-ensures .past,
-        stored-length put-group4-ensures,
         put-group4-ensures .past,
       ),
     )
@@ -145,15 +138,10 @@ put-group-requires-5 c κs =
       arith,
       start .pre .1 .1,
       len,
-      stored-length put-group-ensures,
       put-group-ensures .past,
-      stored-length put-group2-ensures,
       put-group2-ensures .past,
-      stored-length put-group3-ensures,
       put-group3-ensures .past,
-      stored-length put-group4-ensures,
       put-group4-ensures .past,
-      stored-length put-points-ensures,
       put-points-ensures .past,
     )
 
@@ -180,17 +168,11 @@ put-faces-requires c κs =
         arith,
         start .pre .1 .1,
         len,
-        stored-length put-group-ensures,
         put-group-ensures .past,
-        stored-length put-group2-ensures,
         put-group2-ensures .past,
-        stored-length put-group3-ensures,
         put-group3-ensures .past,
-        stored-length put-group4-ensures,
         put-group4-ensures .past,
-        stored-length put-points-ensures,
         put-points-ensures .past,
-        stored-length put-group5-ensures,
         put-group5-ensures .past,
       ),
     )

@@ -5,7 +5,7 @@ use lib.ListN.{length}
 use Rattle.model.specs.Layouts.{group}
 use Rattle.groups.proofs.Writing.{stored-then, stored-length}
 use Rattle.outbox.specs.Bytes.{in-part2, in-part3, in-part4}
-use Rattle.outbox.proofs.EntryLaws.{stored-as}
+use Rattle.codec.proofs.EntryLaws.{stored-as}
 use Rattle.outbox.proofs.Running.{tally-le}
 use Rattle.outbox.proofs.WholeLaws.{parts-length, parts-of}
 use native.Mathlib.Omega.{arith}
@@ -63,7 +63,6 @@ put-part2s-requires c κs =
         ap (λ (n : ℕ). length (group .put n)) (start .pre .1 .1 .0 .0),
         ap (λ (n : ℕ). length (group .put n)) (start .pre .1 .1 .0 .1),
         ap (λ (n : ℕ). length (group .put n)) (start .pre .1 .1 .0 .2),
-        stored-length put-group-ensures,
         put-group-ensures .past,
       ),
     )
@@ -97,9 +96,7 @@ put-group-requires-2 c κs =
       ap (λ (n : ℕ). length (group .put n)) (start .pre .1 .1 .0 .0),
       ap (λ (n : ℕ). length (group .put n)) (start .pre .1 .1 .0 .1),
       ap (λ (n : ℕ). length (group .put n)) (start .pre .1 .1 .0 .2),
-      stored-length put-group-ensures,
       put-group-ensures .past,
-      stored-length put-part2s-ensures,
       put-part2s-ensures .past,
     )
 
@@ -131,11 +128,8 @@ put-part3s-requires c κs =
           ap (λ (n : ℕ). length (group .put n)) (start .pre .1 .1 .0 .0),
           ap (λ (n : ℕ). length (group .put n)) (start .pre .1 .1 .0 .1),
           ap (λ (n : ℕ). length (group .put n)) (start .pre .1 .1 .0 .2),
-          stored-length put-group-ensures,
           put-group-ensures .past,
-          stored-length put-part2s-ensures,
           put-part2s-ensures .past,
-          stored-length put-group2-ensures,
           put-group2-ensures .past,
         ),
       ),
@@ -174,13 +168,9 @@ put-group-requires-3 c κs =
       ap (λ (n : ℕ). length (group .put n)) (start .pre .1 .1 .0 .0),
       ap (λ (n : ℕ). length (group .put n)) (start .pre .1 .1 .0 .1),
       ap (λ (n : ℕ). length (group .put n)) (start .pre .1 .1 .0 .2),
-      stored-length put-group-ensures,
       put-group-ensures .past,
-      stored-length put-part2s-ensures,
       put-part2s-ensures .past,
-      stored-length put-group2-ensures,
       put-group2-ensures .past,
-      stored-length put-part3s-ensures,
       put-part3s-ensures .past,
     )
 
@@ -208,15 +198,10 @@ put-part4s-requires c κs =
         ap (λ (n : ℕ). length (group .put n)) (start .pre .1 .1 .0 .0),
         ap (λ (n : ℕ). length (group .put n)) (start .pre .1 .1 .0 .1),
         ap (λ (n : ℕ). length (group .put n)) (start .pre .1 .1 .0 .2),
-        stored-length put-group-ensures,
         put-group-ensures .past,
-        stored-length put-part2s-ensures,
         put-part2s-ensures .past,
-        stored-length put-group2-ensures,
         put-group2-ensures .past,
-        stored-length put-part3s-ensures,
         put-part3s-ensures .past,
-        stored-length put-group3-ensures,
         put-group3-ensures .past,
       ),
     )

@@ -2,7 +2,7 @@
 use mathlib.Core.Path.{_∙_}
 use Rattle.groups.proofs.Writing.{stored-then, stored-length}
 use Rattle.departure.proofs.FirstNo.{ranges-in}
-use Rattle.outbox.proofs.EntryLaws.{stored-as}
+use Rattle.codec.proofs.EntryLaws.{stored-as}
 use Rattle.outbox.proofs.Ready.{linked, listed, opened, pointed, started, vertexed}
 use Rattle.outbox.proofs.WholeLaws.{message-bytes, part2-entries, part4-entries, rest-small, sewn-tally, whole-length}
 use native.Mathlib.Omega.{arith}
@@ -41,7 +41,7 @@ put-part1-requires c κs =
       (listed m ok sv, vertexed m ok sv, started m ok sv),
       (
         (pointed m ok sv, ranges-in m ok .number-small, start .pre .1 .1 .0 .0),
-        omega (arith, start .pre .1 .1 .1 .1, whole-length m ok j sv z, stored-length put-group-ensures, put-group-ensures .past),
+        omega (arith, start .pre .1 .1 .1 .1, whole-length m ok j sv z, put-group-ensures .past),
       ),
     )
 
@@ -66,9 +66,7 @@ put-parts-requires c κs =
               arith,
               start .pre .1 .1 .1 .1,
               whole-length m ok j sv z,
-              stored-length put-group-ensures,
               put-group-ensures .past,
-              stored-length put-part1-ensures,
               put-part1-ensures .past,
             ),
           ),

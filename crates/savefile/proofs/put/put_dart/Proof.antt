@@ -1,6 +1,6 @@
 -- `savefile::put::put_dart` meets its contract: links, third link and point, one stored after the other.
 -- Assumes nothing.
-use Rattle.groups.proofs.Writing.{stored-then, stored-length}
+use Rattle.groups.proofs.Writing.{stored-then}
 use Rattle.savefile.proofs.FileBytes.{dart-put, dart-length, link-length, point-fine, point-is}
 use native.Mathlib.Omega.{arith}
 use borrow.Author.Needs.{needs}
@@ -30,7 +30,7 @@ put-third-requires c κs =
     let s = (let p : tie.After-put-links = search in p .put-links .ensures) in (
       rw (field-ensures, third-along-ensures) (start .pre .0 .third-small),
       rw (field-ensures, third-along-ensures)
-          (omega (arith, start .pre .1, dart-length block p', link-length block p', s .past, stored-length s)),
+          (omega (arith, start .pre .1, dart-length block p', link-length block p', s .past)),
     )
 
 point-at-requires : tie.Need-point-at-requires
@@ -47,7 +47,7 @@ put-point-requires c κs =
     let s = (let p : tie.After-put-links = search in p .put-links .ensures) in
     let t = rw (field-ensures, third-along-ensures) at put-third-ensures in (
       point-fine block p' (start .pre .0 .finite-here) (c .point-at .ensures),
-      omega (arith, start .pre .1, dart-length block p', link-length block p', s .past, stored-length s, t .past, stored-length t),
+      omega (arith, start .pre .1, dart-length block p', link-length block p', s .past, t .past),
     )
 
 same-length : tie.Need-same-length

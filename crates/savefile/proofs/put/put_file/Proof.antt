@@ -1,9 +1,9 @@
 -- `savefile::put::put_file` meets its contract: header and darts, one stored after the other.
 -- Assumes nothing.
-use Rattle.groups.proofs.Writing.{stored-then, stored-length}
+use Rattle.groups.proofs.Writing.{stored-then}
 use Rattle.savefile.proofs.FileBytes.{file-put}
 use Rattle.savefile.proofs.Sizes.{header-here, image-small}
-use Rattle.savefile.proofs.WholeFile.{file-length}
+use Rattle.savefile.proofs.WholeFile.{file-length, file-most}
 use native.Mathlib.Omega.{arith}
 use borrow.Author.Needs.{needs}
 use Rattle.savefile.proofs.put.put_file.Statement.{statement}
@@ -12,18 +12,19 @@ use Rattle.savefile.proofs.put.put_file.Tie as tie
 put-header-requires : tie.Need-put-header-requires
 put-header-requires c κs =
     let start : tie.Start = search in
-    (start .pre .0, omega (arith, start .pre .1, file-length (start .args .block .now)))
+    start .pre
 
 shared-slice-read-put-darts : tie.Need-shared-slice-read-put-darts
 shared-slice-read-put-darts c =
     let start : tie.Start = search in
-    omega (arith, header-here (start .args .block .now) (start .pre .0))
+    omega (arith, header-here (start .args .block .now) (start .pre))
 
 put-darts-requires : tie.Need-put-darts-requires
 put-darts-requires c κs =
     let start : tie.Start = search in
+    let block = start .args .block .now in
     let s = (let p : tie.After-put-header = search in p .put-header .ensures) in
-    (image-small (start .args .block .now) (start .pre .0), omega (arith, start .pre .1, file-length (start .args .block .now), s .past, stored-length s))
+    (image-small block (start .pre), omega (arith, file-length block, file-most block (start .pre), s .past))
 
 same-length : tie.Need-same-length
 same-length c = search needs

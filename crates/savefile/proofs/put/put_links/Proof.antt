@@ -1,6 +1,6 @@
 -- `savefile::put::put_links` meets its contract: three serials, one stored after the other.
 -- Assumes nothing.
-use Rattle.groups.proofs.Writing.{stored-then, stored-length}
+use Rattle.groups.proofs.Writing.{stored-then}
 use Rattle.savefile.specs.Named.{link-bytes}
 use Rattle.savefile.proofs.FileBytes.{link-length}
 use native.Mathlib.Omega.{arith}
@@ -30,7 +30,7 @@ put-serial-requires-2 c κs =
     let put-serial-ensures = (let p : tie.After-put-serial = search in p .put-serial .ensures) in
     let s = rw field-ensures at put-serial-ensures in (
       rw (c .serial-along .ensures) (start .pre .0 .next-small),
-      rw (c .serial-along .ensures) (omega (arith, start .pre .1, link-length block p', s .past, stored-length s)),
+      rw (c .serial-along .ensures) (omega (arith, start .pre .1, link-length block p', s .past)),
     )
 
 serial-along-requires-2 : tie.Need-serial-along-requires-2
@@ -49,7 +49,7 @@ put-serial-requires-3 c κs =
     let t = rw serial-along-ensures at put-serial2-ensures in (
       rw (c .serial-along2 .ensures) (start .pre .0 .opposite-small),
       rw (c .serial-along2 .ensures)
-          (omega (arith, start .pre .1, link-length block p', s .past, stored-length s, t .past, stored-length t)),
+          (omega (arith, start .pre .1, link-length block p', s .past, t .past)),
     )
 
 same-length : tie.Need-same-length

@@ -10,7 +10,7 @@ use Rattle.send.proofs.messages.put_messages.Tie as tie
 transfer-sizes-requires : tie.Need-transfer-sizes-requires
 transfer-sizes-requires c κs =
     let start : tie.Start = search in
-    (start .pre .0, ((_, start .pre .1 .0), start .pre .1 .1 .0))
+    (start .pre .0, (start .pre .1 .0, start .pre .1 .1 .0))
 
 updates-size-requires : tie.Need-updates-size-requires
 updates-size-requires c κs =
@@ -26,7 +26,7 @@ add-if1 c =
     let transfer-sizes-ensures = (let p : tie.After-transfer-sizes = search in p .transfer-sizes .ensures) in
     let updates-size-ensures = (let p : tie.After-updates-size = search in p .updates-size .ensures) in
     let start : tie.Start = search in
-    omega (arith, updates-size-ensures .1, transfer-sizes-ensures _ (start .pre .1 .0) .small)
+    omega (arith, updates-size-ensures .1, transfer-sizes-ensures .small)
 
 same-length : tie.Need-same-length
 same-length c = search needs
@@ -42,17 +42,15 @@ returns c =
     let to = start .args .to in
     let m = start .args .block .now in
     too-short _ _
-    (messages-length m (start .pre .0) to (start .pre .1 .1 .0 .0) (start .pre .1 .0) (transfer-sizes-ensures _ (start .pre .1 .0))
+    (messages-length m (start .pre .0) to (start .pre .1 .1 .0 .0) (start .pre .1 .0) transfer-sizes-ensures
     (updates-size-ensures .0)) (c .if1 .taken)
 
 put-both-requires : tie.Need-put-both-requires
 put-both-requires c κs =
     let transfer-sizes-ensures = (let p : tie.After-transfer-sizes = search in p .transfer-sizes .ensures) in
     let updates-size-ensures = (let p : tie.After-updates-size = search in p .updates-size .ensures) in
-    let if1-left = (let p : tie.Else1 = search in p .if1 .left) in
     let start : tie.Start = search in
-    let z = transfer-sizes-ensures _ (start .pre .1 .0) in
-    (start .pre .0, (start .pre .1 .0, (start .pre .1 .1 .0, ((z, updates-size-ensures .2), omega (arith, if1-left, updates-size-ensures .0)))))
+    (start .pre .0, (start .pre .1 .0, (start .pre .1 .1 .0, (transfer-sizes-ensures, updates-size-ensures .2))))
 
 same-length-3 : tie.Need-same-length-3
 same-length-3 c = search needs
@@ -74,7 +72,7 @@ returns-2 c =
     let to = start .args .to in
     let m = start .args .block .now in
     long-enough _ _
-    (messages-length m (start .pre .0) to (start .pre .1 .1 .0 .0) (start .pre .1 .0) (transfer-sizes-ensures _ (start .pre .1 .0))
+    (messages-length m (start .pre .0) to (start .pre .1 .1 .0 .0) (start .pre .1 .0) transfer-sizes-ensures
     (updates-size-ensures .0)) if1-left put-both-ensures
 
 pub put-messages-spec : {M : Type 1} → statement M

@@ -94,8 +94,8 @@ least-code-requires c κs =
     let e = (let p : tie.After-face-end Inv-loop μ-loop = search in p .face-end .ensures) in
     (listed-part (start .pre .0 .0) _ (end-le (start .pre .0 .1) f _ t e), some-darts (start .pre .0 .1) f _ t e)
 
-label-count-requires : tie.Need-label-count-requires Inv-loop μ-loop
-label-count-requires c κs = search needs
+label-size-requires : tie.Need-label-size-requires Inv-loop μ-loop
+label-size-requires c κs = search needs
 
 other-of-requires : tie.Need-other-of-requires Inv-loop μ-loop
 other-of-requires c κs = search needs
@@ -111,7 +111,7 @@ add-face-requires c κs =
     let other-of-ensures = (let p : tie.After-other-of Inv-loop μ-loop = search in p .other-of .ensures) in
     let other = (let p : tie.After-other-of Inv-loop μ-loop = search in p .other-of .result) in
     let least-code-result = (let p : tie.After-least-code Inv-loop μ-loop = search in p .least-code .result) in
-    let label-count-ensures = (let p : tie.After-label-count Inv-loop μ-loop = search in p .label-count .ensures) in
+    let label-size-ensures = (let p : tie.After-label-size Inv-loop μ-loop = search in p .label-size .ensures) in
     let few = shares-few (loop-inv .1) (omega (arith, loop-inv .0, start .pre .0 .1 .few)) in
     let small = start .pre .0 .0 .other-small (getD starts loop-f 0) (start .pre .0 .1 .below loop-f loop-test-taken) in
     let k : other < 16 = omega (arith, other-of-ensures, field-ensures, small) in (
@@ -119,7 +119,7 @@ add-face-requires c κs =
       (
         omega (arith, few .labels-few _ k),
         omega (arith, few .bytes-few _ k),
-        omega (arith, label-count-ensures, label-short (label-in least-code-result)),
+        omega (arith, label-size-ensures, label-short (label-in least-code-result)),
       ),
     )
 
@@ -134,12 +134,12 @@ loop-again-2 c =
     let field-ensures = (let p : tie.After-field Inv-loop μ-loop = search in p .field .ensures) in
     let is-critical-ensures = (let p : tie.After-is-critical Inv-loop μ-loop = search in p .is-critical .ensures) in
     let other-of-ensures = (let p : tie.After-other-of Inv-loop μ-loop = search in p .other-of .ensures) in
-    let size = (let p : tie.After-label-count Inv-loop μ-loop = search in p .label-count .result) in
+    let size = (let p : tie.After-label-size Inv-loop μ-loop = search in p .label-size .result) in
     let labels = (let p : tie.At-loop Inv-loop μ-loop = search in p .loop .labels) in
     let bytes = (let p : tie.At-loop Inv-loop μ-loop = search in p .loop .bytes) in
     let if1-left = (let p : tie.Else1 Inv-loop μ-loop = search in p .if1 .left) in
     let least-code-ensures = (let p : tie.After-least-code Inv-loop μ-loop = search in p .least-code .ensures) in
-    let label-count-ensures = (let p : tie.After-label-count Inv-loop μ-loop = search in p .label-count .ensures) in
+    let label-size-ensures = (let p : tie.After-label-size Inv-loop μ-loop = search in p .label-size .ensures) in
     let add-face-ensures = (let p : tie.After-add-face Inv-loop μ-loop = search in p .add-face .ensures) in
     let start : tie.Start Inv-loop μ-loop = search in
     let starts = start .args .starts .now in
@@ -148,7 +148,7 @@ loop-again-2 c =
       omega (arith, loop-test-taken),
       shares-all labels bytes size
           (shares-step (loop-inv .1) field-ensures (eqb-true _ 2 (sym is-critical-ensures ∙ not-false _ if1-left)) (omega (arith, field-ensures, small))
-          face-end-ensures least-code-ensures label-count-ensures) other-of-ensures (add-face-ensures .0) (add-face-ensures .1),
+          face-end-ensures least-code-ensures label-size-ensures) other-of-ensures (add-face-ensures .0) (add-face-ensures .1),
     )
 
 same-length : tie.Need-same-length Inv-loop μ-loop
@@ -187,7 +187,7 @@ count-labels-spec =
     loop-again
     sub-least-code
     least-code-requires
-    label-count-requires
+    label-size-requires
     other-of-requires
     add-face-requires
     loop-less-2

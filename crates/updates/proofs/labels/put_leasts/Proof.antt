@@ -3,7 +3,7 @@
 use mathlib.Core.Path.{ap, sym, _∙_}
 use Prim.Native.Nat.{_-_}
 use lib.ListN.{length, getD}
-use Rattle.outbox.proofs.EntryLaws.{stored-as}
+use Rattle.codec.proofs.EntryLaws.{stored-as}
 use Rattle.outbox.proofs.Running.{Running, running-start, running-size, running-end, running-space, running-step, running-skip}
 use Rattle.outbox.proofs.BytesLaws.{listed-part, start-le, end-le, some-darts}
 use Rattle.updates.specs.ByBlocks.{least-put}

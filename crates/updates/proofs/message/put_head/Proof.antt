@@ -1,6 +1,6 @@
--- `updates::message::put_head` meets its contract: one number stored after the other, with room left for the rest. Assumes nothing.
+-- `updates::message::put_head` meets its contract: one number stored after the other. Assumes nothing.
 use Rattle.groups.proofs.Writing.{stored-then, stored-length}
-use Rattle.outbox.proofs.EntryLaws.{stored-as}
+use Rattle.codec.proofs.EntryLaws.{stored-as}
 use Rattle.updates.proofs.UpdateLaws.{head-lengths, head-of}
 use native.Mathlib.Omega.{arith}
 use Rattle.updates.proofs.message.put_head.Statement.{statement}
@@ -22,7 +22,7 @@ put-group-requires-2 c κs =
     let put-group-ensures = (let p : tie.After-put-group = search in p .put-group .ensures) in
     let a = start .args in
     let len = head-lengths (a .block .now) (a .to) (a .k) (a .n) (a .rest) in
-    omega (arith, start .pre .1, len, stored-length put-group-ensures, put-group-ensures .past)
+    omega (arith, start .pre .1, len, put-group-ensures .past)
 
 shared-slice-read-put-group : tie.Need-shared-slice-read-put-group
 shared-slice-read-put-group c = omega arith
@@ -37,7 +37,7 @@ put-group-requires-3 c κs =
     let put-group2-ensures = (let p : tie.After-put-group2 = search in p .put-group2 .ensures) in
     let a = start .args in
     let len = head-lengths (a .block .now) (a .to) (a .k) (a .n) (a .rest) in
-    omega (arith, start .pre .1, len, stored-length put-group-ensures, put-group-ensures .past, stored-length put-group2-ensures, put-group2-ensures .past)
+    omega (arith, start .pre .1, len, put-group-ensures .past, put-group2-ensures .past)
 
 cast-put-group-3 : tie.Need-cast-put-group-3
 cast-put-group-3 c = omega arith
@@ -54,11 +54,8 @@ put-group-requires-4 c κs =
       arith,
       start .pre .1,
       len,
-      stored-length put-group-ensures,
       put-group-ensures .past,
-      stored-length put-group2-ensures,
       put-group2-ensures .past,
-      stored-length put-group3-ensures,
       put-group3-ensures .past,
     )
 
@@ -78,13 +75,9 @@ put-group-requires-5 c κs =
       arith,
       start .pre .1,
       len,
-      stored-length put-group-ensures,
       put-group-ensures .past,
-      stored-length put-group2-ensures,
       put-group2-ensures .past,
-      stored-length put-group3-ensures,
       put-group3-ensures .past,
-      stored-length put-group4-ensures,
       put-group4-ensures .past,
     )
 
@@ -106,15 +99,10 @@ put-group-requires-6 c κs =
       arith,
       start .pre .1,
       len,
-      stored-length put-group-ensures,
       put-group-ensures .past,
-      stored-length put-group2-ensures,
       put-group2-ensures .past,
-      stored-length put-group3-ensures,
       put-group3-ensures .past,
-      stored-length put-group4-ensures,
       put-group4-ensures .past,
-      stored-length put-group5-ensures,
       put-group5-ensures .past,
     )
 

@@ -1,6 +1,6 @@
 -- `updates::message::put_update` meets its contract: the head, then the labels. Assumes nothing.
 use Rattle.groups.proofs.Writing.{stored-then, stored-length}
-use Rattle.outbox.proofs.EntryLaws.{stored-as}
+use Rattle.codec.proofs.EntryLaws.{stored-as}
 use Rattle.updates.proofs.UpdateLaws.{update-read, read-length}
 use native.Mathlib.Omega.{arith}
 use borrow.Author.Needs.{needs}
@@ -43,7 +43,7 @@ put-leasts-requires c κs =
     (start .pre .1 .1 .0 .1) r
     in (
       (start .pre .0 .0, start .pre .0 .1, omega (arith, start .pre .1 .0 .2)),
-      omega (arith, start .pre .1 .1 .1, len, stored-length put-head-ensures, put-head-ensures .past),
+      omega (arith, start .pre .1 .1 .1, len, put-head-ensures .past),
     )
 
 same-length : tie.Need-same-length
