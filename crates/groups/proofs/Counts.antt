@@ -1,4 +1,4 @@
--- The count of groups: a number below 2^32 takes as many as the table's entry of its bit length says, and a quotient gives the same. Assumes nothing.
+-- The table of group counts: a number below 2^32 takes as many groups as the entry of its bit length says. Assumes nothing.
 use mathlib.Core.Path.{_≡_, refl, sym, _∙_}
 use mathlib.Core.Bool.{Bool, true, _&&_}
 use Prim.Native.Nat.{ℕ, zero, suc, _+_, _*_, _-_, _/_, _^_, _<_, _≤_}

@@ -11,6 +11,43 @@ ghost use Rattle.model.specs.Image.{label-in};
 ghost use Rattle.model.specs.Messages.{label};
 ghost use Rattle.groups.specs.Slices.{Stored, read-at, number-from, label-code};
 
+// The count of groups by bit length, 0 to 32.
+const COUNTS: [u8; 33] = [
+    1,
+    1,
+    1,
+    1,
+    1,
+    1,
+    1,
+    1,
+    2,
+    2,
+    2,
+    2,
+    2,
+    2,
+    2,
+    3,
+    3,
+    3,
+    3,
+    3,
+    3,
+    3,
+    4,
+    4,
+    4,
+    4,
+    4,
+    4,
+    4,
+    5,
+    5,
+    5,
+    5,
+];
+
 // The value that was read and the place past it, or that no value stands there.
 pub enum Read {
     Value(u64, usize),
@@ -18,6 +55,12 @@ pub enum Read {
 }
 
 // Wider numbers, by functions of their own: a cast in place would ask for its bound at each use.
+fn size(x: u8) -> usize
+    ensures { λ r. ⌜ r ≡ x ⌝ }
+{
+    x as usize
+}
+
 fn wide(x: u8) -> u64
     ensures { λ r. ⌜ (r ≡ x) × (r < 256) ⌝ }
 {
@@ -30,12 +73,12 @@ fn widen(x: u32) -> u64
     x as u64
 }
 
-// How many groups a number takes: seven bits each, by its bit length.
+// How many groups a number takes.
 pub fn group_count(v: u32) -> usize
     ensures { λ r. ⌜ r ≡ group-count v ⌝ }
 {
     let n = (32 - u32::leading_zeros(v)) as usize;
-    (n * 9 + 64) / 64
+    size(COUNTS[n])
 }
 
 // A byte, where the output has room for it.

@@ -1,8 +1,9 @@
--- `groups::group_count` meets its contract. The leading zeros leave the bit length, of which the count is a quotient. Assumes nothing.
+-- `groups::group_count` meets its contract. The leading zeros leave the bit length, whose entry of the table the definition takes too. Assumes nothing.
 use native.Mathlib.Omega.{arith}
 use lib.Count.{leading-le}
 use borrow.Author.Needs.{needs}
-use Rattle.groups.proofs.Counts.{bit-length, count-is}
+use Rattle.model.specs.Layouts.{group-counts, group-count}
+use Rattle.groups.proofs.Counts.{bit-length}
 use Rattle.groups.proofs.group_count.Statement.{statement}
 use Rattle.groups.proofs.group_count.Tie as tie
 
@@ -13,17 +14,17 @@ sub-n c =
 cast-n : tie.Need-cast-n
 cast-n c = search needs
 
-mul-result : tie.Need-mul-result
-mul-result c = search needs
+array-read-size : tie.Need-array-read-size
+array-read-size c = search needs
 
-add-result : tie.Need-add-result
-add-result c = search needs
+size-requires : tie.Need-size-requires
+size-requires c κs = search needs
 
 returns : tie.Need-returns
+unfolding group-counts group-count
 returns c =
     let start : tie.Start = search in
-    let v = start .args .v in
-    rw (bit-length v (omega arith), count-is v (omega arith))
+    rw (← bit-length (start .args .v) (omega arith)) (c .size .ensures)
 
 pub group-count-spec : {M : Type 1} → statement M
-group-count-spec = tie.close (tie.spec sub-n cast-n mul-result add-result returns)
+group-count-spec = tie.close (tie.spec sub-n cast-n array-read-size size-requires returns)
