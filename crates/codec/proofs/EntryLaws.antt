@@ -8,7 +8,7 @@ use Rattle.model.specs.Values.{Point, Label, serial-bound}
 use Rattle.model.specs.Layouts.{group, serial, coordinate, _⊗_, _⊕_, as-type}
 use Rattle.model.specs.Messages.{FaceDart, Part2, Part3, point, label, face-dart, part2, part3}
 use Rattle.groups.specs.Slices.{Stored}
-use Rattle.groups.proofs.Counts.{group-most}
+use Rattle.theory.proofs.GroupLaws.{group-most}
 use Rattle.groups.proofs.Coordinates.{coordinate-length}
 
 -- BYTES

@@ -10,7 +10,7 @@ use Rattle.model.specs.Layouts.{group, serial, _⊗_, _⊕_, such-that, at-most
 use Rattle.model.specs.Image.{label-in, third-in}
 use Rattle.model.specs.Messages.{label, critical-link, third-put, third}
 use Rattle.laws.proofs.Tests.{eq-or-ne}
-use Rattle.groups.proofs.Counts.{group-most}
+use Rattle.theory.proofs.GroupLaws.{group-most}
 use Rattle.groups.proofs.Labels.{label-most}
 use Rattle.codec.specs.Thirds.{ThirdSmall, third-bytes}
 use Rattle.codec.proofs.EntryLaws.{serial-most}

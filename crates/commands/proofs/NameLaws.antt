@@ -1,14 +1,13 @@
 -- Different files have different names. Assumes nothing.
 use mathlib.Core.Path.{_≡_, refl, sym, ap, _∙_}
 use mathlib.Core.Bool.{Bool, true, false, true≢false, _&&_}
-use mathlib.Core.List.{List, [], _∷_, _++_}
 use Prim.Native.Nat.{ℕ, _+_, _/_, _%_, _<_}
 use native.Mathlib.Omega.{arith}
-use lib.Dec.{eqb, ltb}
+use lib.Dec.{eqb}
 use borrow.Author.Tests.{eqb-true, eq-eqb, ltb-true}
 use Rattle.model.specs.Lists.{same-list}
 use Rattle.model.specs.Listing.{bytes}
-use Rattle.laws.proofs.Tests.{and-left, and-right, and-intro, same-truth, same-list-self}
+use Rattle.laws.proofs.Tests.{and-left, and-right, and-intro, same-truth}
 use Rattle.commands.specs.declared.names.File.{File}
 use Rattle.commands.specs.declared.names.File.the-variants as file
 use Rattle.commands.specs.Names.{block-name, name-of, same-name, is-basins}
@@ -112,6 +111,3 @@ one-file-self file.Commit = refl
 one-file-self file.NewCommit = refl
 
 -- DIFFERENT FILES HAVE DIFFERENT NAMES
-pub names-differ : (f g : File) → is-basins f ≡ true → is-basins g ≡ true → name-of f ≡ name-of g → f ≡ g
-unfolding same-name
-names-differ f g l h e = one-file-is f g (sym (names-tell f g l h) ∙ ap (λ (n : List ℕ). same-list (name-of f) n) (sym e) ∙ same-list-self (name-of f))

@@ -1,13 +1,14 @@
 -- Coordinates: one byte more, put and read. Assumes nothing.
 use mathlib.Core.Path.{_≡_, refl, _∙_, ap}
 use mathlib.Core.List.{List, [], _∷_}
-use mathlib.Core.Option.{none, some}
+use mathlib.Core.Option.{some}
 use Prim.Native.Nat.{ℕ, zero, suc, _+_, _*_, _-_, _/_, _%_, _<_, _≤_}
 use native.Mathlib.Numerals.{add-one}
 use native.Mathlib.Omega.{arith}
 use lib.ListN.{length, getD, drop, set, length-set, length-drop}
 use lib.Seq.{sets, drop-cons}
 use Rattle.model.specs.Layouts.{low-bytes, read-bytes, coordinate}
+use Rattle.theory.proofs.LayoutLaws.{bytes-none}
 use Rattle.groups.specs.Slices.{Stored, read-at}
 use Rattle.groups.specs.declared.Read.the-variants.{Value, Bad}
 
@@ -56,15 +57,9 @@ module _ {l out : List ℕ} {at word p x left : ℕ} (w : Spelling l at word out
   spelling-end h = record { slice = byte-none left p x out h ∙ w .same; past = omega (arith, w .end, coordinate-length word) }
 
 -- READ
-short : (n : ℕ) (bs : List ℕ) → length bs < n → read-bytes n bs ≡ none
-unfolding read-bytes
-short zero bs h = absurd (omega arith)
-short (suc n) [] h = refl
-short (suc n) (b ∷ bs) h = rw (short n bs (omega arith))
-
 pub coordinate-short : (at : ℕ) (s : List ℕ) → length s < at + 8 → Bad ≡ read-at coordinate s at
 unfolding read-at coordinate
-coordinate-short at s h = rw (short 8 (drop at s) (rw length-drop (omega arith)))
+coordinate-short at s h = rw (bytes-none 8 (drop at s) (rw length-drop (omega arith)))
 
 no-byte : (bs : List ℕ) → read-bytes 0 bs ≡ some (0, bs)
 unfolding read-bytes

@@ -1,6 +1,6 @@
 -- Where a read ends: past its place, within the slice, and what it leaves is the rest of the slice. Assumes nothing.
 use mathlib.Core.Path.{_≡_, refl, sym, _∙_, ap}
-use mathlib.Core.Bool.{Bool, true, false, not}
+use mathlib.Core.Bool.{Bool, not}
 use mathlib.Core.List.{List, [], _∷_}
 use mathlib.Core.Option.{Option, none, some, Option·none-ne-some, Option·some-injective}
 use Prim.Native.Nat.{ℕ, zero, suc, _+_, _*_, _-_, _<_, _≤_}
@@ -8,11 +8,12 @@ use native.Mathlib.Omega.{arith}
 use lib.Dec.{ltb, eqb}
 use lib.ListN.{length, drop, length-drop}
 use lib.Seq.{drop-drop}
-use Rattle.model.specs.Layouts.{Layout, Read, then, when, read-groups, group-below, group, serial, such-that, at-most, read-bytes, coordinate, _⊗_, _⊕_, as-type}
+use Rattle.model.specs.Layouts.{Layout, Read, when, read-groups, group-below, group, serial, such-that, at-most, read-bytes, coordinate, _⊗_, _⊕_, as-type}
 use Rattle.model.specs.Messages.{label}
+use Rattle.laws.proofs.Tests.{by-cases}
+use Rattle.theory.proofs.LayoutLaws.{then-some, when-some}
 use Rattle.groups.specs.Slices.{placed, read-at, label-code}
 use Rattle.groups.specs.declared.Read.the-variants.{Value, Bad}
-use Rattle.groups.proofs.Cases.{by-cases}
 
 -- some bytes were read, and the rest is left
 pub record Onward (bs rest : List ℕ) : Type 0 where
@@ -70,20 +71,7 @@ at-value l {s} {at} {v} {next} r =
     let e : length s - (length s - next) ≡ next = omega (arith, r .within) in
     rw (r .value, length-drop next s, e)
 
-pub at-bad : (l : Layout ℕ) (s : List ℕ) (at : ℕ) → l .get (drop at s) ≡ none → Bad ≡ read-at l s at
-unfolding read-at
-at-bad l s at e = rw e
-
 -- LAYOUTS THAT END
-pub then-some : {A B : Type 0} (r : Read A) (f : A → List ℕ → Read B) (y : B × List ℕ) → then r f ≡ some y
-    → (a : A) × (rest : List ℕ) × (r ≡ some (a, rest)) × (f a rest ≡ some y)
-then-some none f y p = absurd (Option·none-ne-some y p)
-then-some (some r) f y p = (r .0, r .1, refl, p)
-
-pub when-some : {A : Type 0} (b : Bool) (r : Read A) (y : A × List ℕ) → when b r ≡ some y → (b ≡ true) × (r ≡ some y)
-when-some true r y p = (refl, p)
-when-some false r y p = absurd (Option·none-ne-some y p)
-
 pub same-rest : {A : Type 0} {a b : A} {s t : List ℕ} → _≡_ {A = Read A} (some (a, s)) (some (b, t)) → s ≡ t
 same-rest {A} {a} {b} {s} {t} p = ap (λ (r : A × List ℕ). r .1) (Option·some-injective (a, s) (b, t) p)
 

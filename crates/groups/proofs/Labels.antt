@@ -1,7 +1,7 @@
 -- Labels: three numbers one after the other, and the code that stands for them. Assumes nothing.
 use mathlib.Core.Path.{_≡_, refl, _∙_, ap}
 use mathlib.Core.List.{List, _++_}
-use mathlib.Core.Option.{Option, none, some, Option·some-injective}
+use mathlib.Core.Option.{none, some}
 use Prim.Native.Nat.{ℕ, _+_, _*_, _/_, _%_, _^_, _<_, _≤_}
 use native.Mathlib.Omega.{arith}
 use lib.Dec.{leb, ltb}
@@ -11,24 +11,12 @@ use Rattle.model.specs.Values.{Label, code}
 use Rattle.model.specs.Image.{label-in}
 use Rattle.model.specs.Layouts.{read-groups, group-below, group, such-that, at-most, _⊗_, _⊕_, as-type}
 use Rattle.model.specs.Messages.{label}
+use Rattle.laws.proofs.Labels.{in-code}
+use Rattle.theory.proofs.LayoutLaws.{same-value, then-some, when-some}
 use Rattle.groups.specs.Slices.{read-at, label-code}
 use Rattle.groups.specs.declared.Read.the-variants.{Value, Bad}
-use Rattle.groups.proofs.Counts.{group-most}
-use Rattle.groups.proofs.Ends.{Reads, then-some, when-some, same-rest, value-at, at-value, label-code-ends}
-
--- THE CODE stands for a label whose number and position are within their ranges
-pub code-in : (a : ℕ) → code (label-in a) ≡ a
-unfolding code
-code-in a = omega arith
-
-pub in-code : (l : Label) → l .number < 2 ^ 32 → l .position < 4096 → label-in (code l) ≡ l
-unfolding code
-in-code l n p =
-    let c = (l .maker * 2 ^ 32 + l .number) * 4096 + l .position in
-    let em : c / 4096 / 2 ^ 32 ≡ l .maker = omega arith in
-    let en : c / 4096 % 2 ^ 32 ≡ l .number = omega arith in
-    let ep : c % 4096 ≡ l .position = omega arith in
-    λ i. record { maker = em i; number = en i; position = ep i }
+use Rattle.theory.proofs.GroupLaws.{group-most}
+use Rattle.groups.proofs.Ends.{Reads, same-rest, value-at, at-value, label-code-ends}
 
 -- PUT
 pub label-put : (a : ℕ) → label .put (label-in a) ≡ group .put (a / 4096 / 2 ^ 32) ++ (group .put (a / 4096 % 2 ^ 32) ++ group .put (a % 4096))
@@ -44,9 +32,6 @@ pub label-most : (a : ℕ) → a < 2 ^ 64 → length (label .put (label-in a)) �
 label-most a h = omega (arith, label-length a, group-most (a / 4096 / 2 ^ 32) (omega arith), group-most (a / 4096 % 2 ^ 32) (omega arith), group-most (a % 4096) (omega arith))
 
 -- READ
-pub same-value : {A : Type 0} {a b : A} {s t : List ℕ} → _≡_ {A = Option (A × List ℕ)} (some (a, s)) (some (b, t)) → a ≡ b
-same-value {A} {a} {b} {s} {t} p = ap (λ (r : A × List ℕ). r .0) (Option·some-injective (a, s) (b, t) p)
-
 pub group-bound : (bs : List ℕ) (v : ℕ) (rest : List ℕ) → group .get bs ≡ some (v, rest) → v < 2 ^ 32
 unfolding group group-below
 group-bound bs v rest h =

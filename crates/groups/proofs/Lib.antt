@@ -1,8 +1,6 @@
-pub mod Cases
 pub mod Counts
 pub mod Writing
 pub mod Reading
 pub mod Coordinates
 pub mod Ends
 pub mod Labels
-pub mod Back

@@ -12,10 +12,10 @@ use lib.ListN.{length, getD, drop, length-drop, drop-of-length-le}
 use lib.Seq.{drop-cons}
 use borrow.Author.Tests.{lt-ltb, le-ltb, le-leb, lt-leb, ne-eqb, eqb-false}
 use Rattle.model.specs.Layouts.{then, when, read-groups, group-below, group, such-that, at-most}
+use Rattle.laws.proofs.Tests.{by-cases}
 use Rattle.groups.specs.Slices.{placed, read-at, over, kept, number-from}
 use Rattle.groups.specs.declared.Read.{Read}
 use Rattle.groups.specs.declared.Read.the-variants.{Value, Bad}
-use Rattle.groups.proofs.Cases.{by-cases}
 
 -- ONE GROUP of the number at a place
 pub read-end : (n at : ℕ) (s : List ℕ) → length s ≤ at → read-groups n (drop at s) ≡ none

@@ -13,11 +13,9 @@ use Rattle.model.specs.Layouts.{Layout, then, group, as-type, _⊗_, times, get
 use Rattle.model.specs.Messages.{FaceDart, face-dart, size-all}
 use Rattle.laws.proofs.Members.{map-append}
 use Rattle.laws.proofs.Tests.{by-cases, and-intro}
-use Rattle.theory.proofs.LayoutLaws.{get-all-length}
+use Rattle.theory.proofs.LayoutLaws.{get-all-length, same-value, then-some}
 use Rattle.groups.specs.declared.Read.{Read as Answer}
 use Rattle.groups.specs.declared.Read.the-variants.{Value, Bad}
-use Rattle.groups.proofs.Ends.{then-some}
-use Rattle.groups.proofs.Labels.{same-value}
 use Rattle.inbox.specs.declared.faces.FacesOrNot.the-variants as faces
 use Rattle.inbox.specs.Inbox.{most, Took, Sides, Grown, DartsSaid, DartsRead, FaceSaid, FaceRead, FacesIn, FacesRead, starts-of, sizes-of, some-darts, is-hollow}
 use Rattle.inbox.proofs.Taking.{SoFar, so-far-start, so-far-more, so-far-end, counted-none, counted-half, counted-took}

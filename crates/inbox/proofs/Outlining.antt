@@ -1,7 +1,7 @@
 -- Whole messages by their parts: what is missing, and what is told when nothing is. Assumes nothing.
 use mathlib.Core.Path.{_≡_, refl, sym, _∙_, ap, subst}
 use mathlib.Core.Logic.{_≢_}
-use mathlib.Core.Bool.{true, false, cond}
+use mathlib.Core.Bool.{false, cond}
 use mathlib.Core.List.{List, [], _∷_}
 use mathlib.Core.Option.{Option, none, some, Option·none-ne-some}
 use Prim.Native.Nat.{ℕ, _+_, _*_, _-_}
@@ -12,10 +12,10 @@ use borrow.Author.Tests.{eq-eqb, ne-eqb}
 use Rattle.model.specs.Layouts.{Layout, Read, then, when, group, at-most, exactly, such-that, as-type, _⊗_, _⊕_, times, get-all, counted, at-end, ended, whole, unframed}
 use Rattle.model.specs.Messages.{FaceDart, face-dart, point, label, Part1, part1, Part2, part2, Part3, part3, Part4, part4, Transfer, transfer, update}
 use Rattle.laws.proofs.Lists.{drop-end}
+use Rattle.theory.proofs.LayoutLaws.{same-value, then-some}
 use Rattle.groups.specs.declared.Read.{Read as Answer}
 use Rattle.groups.specs.declared.Read.the-variants.{Value, Bad}
-use Rattle.groups.proofs.Ends.{then-some}
-use Rattle.groups.proofs.Labels.{same-value, at-most-bound}
+use Rattle.groups.proofs.Labels.{at-most-bound}
 use Rattle.inbox.specs.declared.faces.Faces.{Faces}
 use Rattle.inbox.specs.declared.faces.FacesOrNot.{FacesOrNot}
 use Rattle.inbox.specs.declared.faces.FacesOrNot.the-variants as faces

@@ -18,7 +18,7 @@ use Rattle.model.specs.Messages.{FaceDart, Part4, point, label, face-dart, part
 use Rattle.model.specs.Departure.{part3-from}
 use Rattle.model.specs.Links.{Placed, placed}
 use Rattle.laws.proofs.Tests.{by-cases}
-use Rattle.theory.proofs.FaceIndices.{placed-count}
+use Rattle.theory.proofs.FaceIndices.{placed-count, part3-count}
 use Rattle.cells.specs.Places.{InOrder, sewn-out}
 use Rattle.departure.specs.ByPlaces.{critical-with, critical-beside, label-at, dart-entry, part2-at, part4-at}
 use Rattle.outbox.specs.Runs.{run, tally}
@@ -115,11 +115,6 @@ part4-bytes : (g : List (List FaceDart)) (e : Part4) → part4 g .put e ≡ (gro
 unfolding part4 as-type _⊗_ _⊕_ such-that at-most times
 part4-bytes g e = sym (append-assoc (group .put (e .index)) (group .put (e .other)) (put-all label (e .labels)))
 
-numbered-length : (c : ℕ) (is : List ℕ) → length (part3-from c is) ≡ length is
-unfolding part3-from
-numbered-length c [] = refl
-numbered-length c (i ∷ is) = ap suc (numbered-length (suc c) is)
-
 none : Placed
 none = record { at = 0; face = [] }
 
@@ -204,7 +199,7 @@ module _ (m numbers : List ℕ) {fs : List (List ℕ)} {order starts : List ℕ}
       let ps = placed 0 fs in
       counted-bytes part3 (part3-from c (map (λ p. p .at) (keep q ps)))
       ∙ ap (λ (n : ℕ). group .put n ++ put-all part3 (part3-from c (map (λ p. p .at) (keep q ps))))
-      (numbered-length c (map (λ p. p .at) (keep q ps)) ∙ length-map (keep q ps) (λ (p : Placed). p .at)
+      (part3-count c (map (λ p. p .at) (keep q ps)) ∙ length-map (keep q ps) (λ (p : Placed). p .at)
       ∙ count-part (sewn-out m marks))
       ∙ ap (λ (r : List ℕ). group .put (tally (in-part3 m marks order starts) count) ++ r) (put-numbered none (λ p. p .at) q c ps
       ∙ ap (run _) (placed-count 0 fs ∙ sym (o .count-is)) ∙ run-cong _ (part3-put m marks c order starts) count one)

@@ -7,13 +7,13 @@ use native.Mathlib.Omega.{arith}
 use lib.ListN.{length, getD}
 use Rattle.model.specs.Lists.{keep}
 use Rattle.model.specs.Layouts.{Layout, put-all}
-use Rattle.model.specs.Messages.{Part3, part3}
+use Rattle.model.specs.Messages.{part3}
 use Rattle.model.specs.Departure.{part3-from}
 use Rattle.laws.proofs.Tests.{by-cases}
 use Rattle.outbox.specs.Runs.{run, tally}
 
 -- THE FIRST ENTRY APART
-run-first : (b : ℕ → List ℕ) (n : ℕ) → b 0 ++ run (λ k. b (suc k)) n ≡ run b (suc n)
+pub run-first : (b : ℕ → List ℕ) (n : ℕ) → b 0 ++ run (λ k. b (suc k)) n ≡ run b (suc n)
 unfolding run
 run-first b zero = append-nil (b 0)
 run-first b (suc n) = sym (append-assoc (b 0) (run (λ k. b (suc k)) n) (b (suc n))) ∙ ap (λ (l : List ℕ). l ++ b (suc n)) (run-first b n)

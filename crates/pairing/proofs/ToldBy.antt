@@ -1,13 +1,11 @@
 -- What the functions read and answer, from what their callees ensure. Assumes nothing.
 use mathlib.Core.Path.{_≡_, sym, ap, subst, _∙_}
 use mathlib.Core.Bool.{Bool, _&&_}
-use mathlib.Core.List.{List, _++_}
+use mathlib.Core.List.{List}
 use Prim.Native.Nat.{ℕ, _+_, _*_, _/_, _%_, _≤_, _<_}
 use native.Mathlib.Omega.{arith}
 use lib.Dec.{eqb}
-use lib.ListN.{length, getD, take, drop}
-use lib.Seq.{length-take-le, take-at}
-use Rattle.model.specs.Lists.{sorted}
+use lib.ListN.{length, getD}
 use Rattle.model.specs.Image.{words-for, words, column}
 use Rattle.model.specs.Values.{Point as Patterns, same-point, room}
 use Rattle.memory.specs.declared.point.Point.{Point}
@@ -15,7 +13,6 @@ use Rattle.memory.specs.Point.{point-of, patterns, FinitePoint, FiniteAt}
 use Rattle.memory.proofs.Points.{point-finite, point-patterns}
 use Rattle.sound.proofs.OneDart.{finite-at}
 use Rattle.columns.specs.Columns.{count}
-use Rattle.sort.proofs.Order.{same-length, sorted-keys}
 use Rattle.mesh.specs.Parts.{blocks, part, Put}
 use Rattle.mesh.proofs.Gathers.{part-length}
 use Rattle.pairing.specs.Numbers.{Asked, Held, word, next-of, before-of, Before, point-by, side-test, meet-test}
@@ -112,10 +109,6 @@ module _ (m : List ℕ) (i : ℕ) {b : List ℕ} (is : b ≡ part m i) (a : Aske
   pub part-told : {at r : ℕ} {before after : List ℕ} → (r ≤ at + 4096) × Put at (keys-of b i (getD b 2 0)) before after r
       → (r ≤ at + 4096) × Put at (keys-of (part m i) i (getD (part m i) 2 0)) before after r
   part-told {at} {r} {before} {after} p = (p .0, subst (λ (x : List ℕ). Put at (keys-of x i (getD x 2 0)) before after r) is (p .1))
-
--- the first keys in order, and the rest
-pub sorted-front : (l : List ℕ) (c : ℕ) {x : List ℕ} → c ≤ length l → x ≡ sorted (take c l) → take c (x ++ drop c l) ≡ sorted (take c l)
-sorted-front l c {x} h e = take-at x (drop c l) c (ap length e ∙ same-length (take c l) (sorted (take c l)) (sorted-keys (take c l)) ∙ length-take-le c l h) ∙ e
 
 -- THE NUMBER of the dart at place p of block i
 pub number-sits : (i p : ℕ) → p < 4096 → Sits (i * 4096 + p) i p

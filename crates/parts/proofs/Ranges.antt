@@ -10,8 +10,8 @@ use Rattle.model.specs.Image.{label-in}
 use Rattle.model.specs.Layouts.{group, at-most, as-type, _⊗_, _⊕_, get-all, times}
 use Rattle.model.specs.Messages.{Part2, Part3, label, part2, part3}
 use Rattle.laws.proofs.Labels.{in-code}
-use Rattle.groups.proofs.Ends.{then-some}
-use Rattle.groups.proofs.Labels.{same-value, group-bound, at-most-bound}
+use Rattle.theory.proofs.LayoutLaws.{same-value, then-some}
+use Rattle.groups.proofs.Labels.{group-bound, at-most-bound}
 use Rattle.inbox.specs.Inbox.{Took}
 use Rattle.parts.specs.Entries.{code2, number3}
 

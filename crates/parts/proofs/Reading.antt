@@ -11,7 +11,6 @@ use Rattle.model.specs.Layouts.{at-most, such-that, _⊕_}
 use Rattle.model.specs.Values.{Label}
 use Rattle.model.specs.Lists.{tab}
 use mathlib.Core.Path.{_≡_, refl, sym, _∙_, ap, subst}
-use mathlib.Core.Bool.{true, false, true≢false}
 use mathlib.Core.Logic.{⊎-elim}
 use lib.Dec.{ltb}
 use borrow.Author.Tests.{lt-ltb}
@@ -26,10 +25,11 @@ use Rattle.model.specs.Image.{label-in}
 use Rattle.model.specs.Layouts.{Layout, group, times}
 use Rattle.model.specs.Messages.{label, part2, part3}
 use Rattle.laws.proofs.Members.{map-append}
+use Rattle.theory.proofs.LayoutLaws.{same-value}
 use Rattle.groups.specs.Slices.{read-at, label-code}
 use Rattle.groups.specs.declared.Read.the-variants.{Value, Bad}
 use Rattle.groups.proofs.Ends.{bad-at}
-use Rattle.groups.proofs.Labels.{same-value, at-most-bound}
+use Rattle.groups.proofs.Labels.{at-most-bound}
 use Rattle.groups.specs.declared.Read.{Read as Answer}
 use Rattle.inbox.specs.Inbox.{most, Took, PassSaid, Passes, Sized}
 use Rattle.inbox.proofs.Taking.{took-group, such-took, pair-took, both-none, both-half, both-took, as-none, as-took, SoFar, so-far-start, so-far-more, so-far-stop, so-far-end}

@@ -11,9 +11,11 @@ use Rattle.model.specs.Values.{Point, Label, Third, free, sewn, critical, Dart,
 use Rattle.model.specs.Layouts.{Layout, Read, then, serial, coordinate, at-most, _⊗_, _⊕_, as-type}
 use Rattle.model.specs.Image.{label-in, kind-word}
 use Rattle.model.specs.Messages.{kind-of, label, critical-link, third-get, third, point, a-dart}
+use Rattle.laws.proofs.Labels.{code-in}
+use Rattle.theory.proofs.LayoutLaws.{then-some}
 use Rattle.groups.specs.Slices.{label-code}
-use Rattle.groups.proofs.Ends.{Onward, Ends, Reads, from-onward, then-some, same-rest, onward-then, onward-to, as-type-ends, ⊕-ends, serial-ends, at-most-ends, label-ends, coordinate-ends}
-use Rattle.groups.proofs.Labels.{code-in, at-most-bound}
+use Rattle.groups.proofs.Ends.{Onward, Ends, Reads, from-onward, same-rest, onward-then, onward-to, as-type-ends, ⊕-ends, serial-ends, at-most-ends, label-ends, coordinate-ends}
+use Rattle.groups.proofs.Labels.{at-most-bound}
 use Rattle.newblock.specs.Serials.{raw-link, raw-record}
 use Rattle.readfile.specs.Parts.{kind-and-third, placed-third, third-read, placed-point, point-read, placed-dart, dart-read}
 use Rattle.readfile.specs.declared.dart.Linked.{Linked}

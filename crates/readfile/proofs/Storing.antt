@@ -15,11 +15,11 @@ use Rattle.model.specs.Values.{Dart}
 use Rattle.model.specs.Cells.{serials}
 use Rattle.model.specs.Layouts.{Read, then, when, such-that, get-all, times}
 use Rattle.model.specs.Messages.{a-dart}
+use Rattle.theory.proofs.LayoutLaws.{same-value, then-some, when-some}
 use Rattle.memory.specs.Record.{record-words, put}
 use Rattle.memory.specs.declared.record.Record.{Record}
 use Rattle.groups.specs.declared.Read.the-variants as read
-use Rattle.groups.proofs.Ends.{Reads, from-onward, then-some, when-some}
-use Rattle.groups.proofs.Labels.{same-value}
+use Rattle.groups.proofs.Ends.{Reads, from-onward}
 use Rattle.newblock.specs.Serials.{raw-words, stored-all}
 use Rattle.newblock.proofs.Rows.{behind-none}
 use Rattle.newblock.proofs.Stored.{stored-length, stored-more}

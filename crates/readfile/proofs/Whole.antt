@@ -16,9 +16,9 @@ use Rattle.model.specs.Cells.{serials}
 use Rattle.model.specs.Layouts.{Layout, Read, then, when, group, _⊗_, _⊕_, as-type, such-that, at-most, get-all, times, counted, ended, at-end, whole}
 use Rattle.model.specs.Messages.{a-dart, file}
 use Rattle.model.specs.Image.{words}
-use Rattle.theory.proofs.LayoutLaws.{get-all-length}
+use Rattle.theory.proofs.LayoutLaws.{get-all-length, then-some, when-some}
 use Rattle.memory.specs.Header.{header-words}
-use Rattle.groups.proofs.Ends.{Ends, Reads, then-some, when-some, same-rest}
+use Rattle.groups.proofs.Ends.{Ends, Reads, same-rest}
 use Rattle.newblock.specs.Serials.{raw}
 use Rattle.newblock.proofs.Stored.{stored-raw}
 use Rattle.readfile.specs.Parts.{climbs, climbing, placed-end, DartsStored, RawRead}

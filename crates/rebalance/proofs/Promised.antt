@@ -1,23 +1,20 @@
 -- THE PROMISE about `rebalance::balance`: what it ensures, on a sound mesh. Assumes nothing.
 use mathlib.Core.Path.{_≡_, refl, sym, _∙_, ap, subst}
 use mathlib.Core.List.{List, [], _∷_, _++_, map}
-use Prim.Native.Nat.{ℕ, suc, _+_, _*_, _/_, _≤_}
+use Prim.Native.Nat.{ℕ, suc, _+_, _*_, _/_}
 use native.Mathlib.Omega.{arith}
 use lib.ListN.{length, getD, take}
 use Rattle.model.specs.Lists.{tab}
-use Rattle.model.specs.Values.{Block, all-rack}
-use Rattle.model.specs.Sound.{Sound}
 use Rattle.model.specs.Image.{words, image}
-use Rattle.model.specs.Balance.{Oracle, positive-surplus, Move}
+use Rattle.model.specs.Balance.{positive-surplus, Move}
 use Rattle.model.specs.Runs.{Request}
 use Rattle.laws.proofs.Tables.{tab-cong}
 use Rattle.rounds.specs.Played.{asks-for}
 use Rattle.rounds.specs.Requests as list
 use Rattle.rounds.specs.Requests.{request-at, requests-in}
 use Rattle.rebalance.specs.Balanced.{balanced, numbers-of, count-of}
-use Rattle.rebalance.specs.Promise.{most-moves, ends-well, as-request, Levels, Promise}
+use Rattle.rebalance.specs.Promise.{ends-well, as-request, Levels, Promise}
 use Rattle.rebalance.proofs.EndsWell.{ends-well-at}
-use Rattle.rebalance.proofs.FewMoves.{few-moves}
 
 -- MOVES THAT ARE WRITTEN are read again as requests
 three-on : (a b c : ℕ) (l : List ℕ) (n k : ℕ) → n ≡ suc (suc (suc k)) → getD (a ∷ b ∷ c ∷ l) n 0 ≡ getD l k 0
@@ -41,10 +38,6 @@ read-again : (ts : List Move) (l : List ℕ) → take (length ts) (requests-in (
 unfolding numbers-of
 read-again [] l = refl
 read-again (t ∷ ts) l = ap (take (suc (length ts))) (one-first (t .donor) (t .recipient) (t .serial) (numbers-of ts ++ l)) ∙ ap (λ (rs : List Request). as-request t ∷ rs) (read-again ts l)
-
--- three words for each of 32,768 moves are always room enough
-pub room-enough : (bs : List Block) (o : Oracle) (moves : List ℕ) → Sound all-rack bs → most-moves * 3 ≤ length moves → positive-surplus o bs ≤ length moves / 3
-room-enough bs o moves sound h = let f = few-moves bs o sound in omega (arith, f, h)
 
 pub promise : Promise
 promise bs o m scratch outbox moves b m′ scratch′ outbox′ moves′ sound lent L few p =

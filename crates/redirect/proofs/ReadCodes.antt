@@ -6,8 +6,8 @@ use mathlib.Core.Option.{Option·none-ne-some}
 use Prim.Native.Nat.{ℕ, _+_, _≤_, _<_}
 use native.Mathlib.Omega.{arith}
 use native.Mathlib.Numerals.{add-one}
-use lib.ListN.{length, getD, set, take, drop, length-set, length-append}
-use lib.Seq.{take-suc-set, take-at, length-take-le}
+use lib.ListN.{length, getD, set, take, length-set, length-append}
+use lib.Seq.{take-suc-set}
 use Rattle.laws.specs.Order.{Ascending}
 use Rattle.laws.proofs.Members.{map-append}
 use Rattle.laws.proofs.Tables.{ascending-tab, index-place, index-none, tab-take}
@@ -17,9 +17,9 @@ use Rattle.model.specs.Image.{label-in}
 use Rattle.model.specs.Layouts.{times}
 use Rattle.model.specs.Messages.{label}
 use Rattle.laws.proofs.Labels.{code-in}
+use Rattle.theory.proofs.LayoutLaws.{same-value}
 use Rattle.groups.specs.Slices.{read-at, label-code}
 use Rattle.groups.specs.declared.Read.the-variants.{Value, Bad}
-use Rattle.groups.proofs.Labels.{same-value}
 use Rattle.memory.proofs.Lookups.{Halving}
 use Rattle.sort.proofs.Order.{same-length, sorted-keys}
 use Rattle.inbox.proofs.Taking.{SoFar, so-far-start, so-far-more, so-far-stop, so-far-end}
@@ -67,10 +67,6 @@ module _ {s : List ℕ} {at count : ℕ} {codes : List ℕ} {i p : ℕ} (w : Rea
 -- IN ORDER
 sorted-length : (l : List ℕ) → length (sorted l) ≡ length l
 sorted-length l = same-length l (sorted l) (sorted-keys l)
-
--- the first c, sorted in place
-pub sorted-front : (codes : List ℕ) (c : ℕ) {x : List ℕ} → c ≤ length codes → x ≡ sorted (take c codes) → take c (x ++ drop c codes) ≡ sorted (take c codes)
-sorted-front codes c {x} h e = take-at x (drop c codes) c (ap length e ∙ sorted-length (take c codes) ∙ length-take-le c codes h) ∙ e
 
 -- codes that differ ascend by index
 pub front-ascends : (codes : List ℕ) (c : ℕ) → c ≤ length codes → ascending (take c codes) ≡ true → Ascending c (λ k. getD codes k 0)

@@ -16,7 +16,7 @@ use Rattle.model.specs.Calls.{served, refused, writing, save-file}
 use Rattle.answers.specs.Answers.{Gives}
 use Rattle.answers.proofs.Questions.{gives, ask-no, ask-yes, ask-end}
 use Rattle.groups.specs.Slices.{Stored}
-use Rattle.groups.proofs.Counts.{group-most}
+use Rattle.theory.proofs.GroupLaws.{group-most}
 use Rattle.savefile.specs.Named.{header-bytes}
 use Rattle.savefile.proofs.FileBytes.{darts-put, darts-most, file-put, header-length}
 use Rattle.savefile.proofs.Sizes.{image-small, number-small, counter-small, count-small}

@@ -1,6 +1,6 @@
 -- The steps of the plans by their number. Assumes nothing.
 use mathlib.Core.Path.{_≡_, refl, sym, ap, _∙_}
-use mathlib.Core.Bool.{Bool, true, false, cond}
+use mathlib.Core.Bool.{Bool, false, cond}
 use mathlib.Core.List.{List, [], _∷_, _++_, append-assoc}
 use Prim.Native.Nat.{ℕ, zero, suc, _+_, _-_, _≤_, _<_}
 use native.Mathlib.Omega.{arith}
@@ -77,11 +77,6 @@ save-first k i e = rw e
 pub save-later : (k i : ℕ) → 0 < i → writing-step k (i - 1) ≡ save-step k i
 unfolding save-step writing-step save-stages steps
 save-later k i h = behind-first step.Keep (steps (writing k ∷ committing ∷ placing k ∷ ending ∷ [])) i h
-
--- no save of sixteen blocks or fewer has more than 40 steps
-pub save-end : (k i : ℕ) → k ≤ 16 → 40 ≤ i → save-step k i ≡ step.Nothing
-save-end k i h l =
-    sym (save-later k i (omega arith)) ∙ sym (writing-placing k (i - 1) (i - 1 - k - 4) (omega arith) (omega arith)) ∙ sym (placing-end k (i - 1 - k - 4) (omega arith))
 
 -- A MENDING: a Keep, then
 abbrev pub after-blocks : ℕ → List Bool → List Step

@@ -4,7 +4,7 @@ use mathlib.Core.Logic.{_≢_}
 use mathlib.Core.Bool.{Bool, true, true≢false, not, _&&_}
 use mathlib.Core.List.{List, [], _∷_}
 use mathlib.Core.Option.{some, Option·none-ne-some, Option·some-injective}
-use Prim.Native.Nat.{ℕ, zero, suc, _<_, _≤_}
+use Prim.Native.Nat.{ℕ, zero, suc, _<_}
 use native.Mathlib.Omega.{arith}
 use native.Mathlib.Nat.{not-suc-le-zero}
 use lib.Dec.{eqb}
@@ -13,10 +13,10 @@ use borrow.Author.Tests.{eqb-true, eqb-false, eq-eqb, ne-eqb, not-true}
 use Rattle.model.specs.Lists.{all, any, mem, distinct, find}
 use Rattle.laws.proofs.Tests.{by-cases, and-intro, and-left, and-right, found-all}
 use Rattle.model.specs.Values.{Point, Dart, same-point, or-no-dart}
-use Rattle.model.specs.Cells.{around, dart-at, next-in, opposite-in, previous-in, serials}
+use Rattle.model.specs.Cells.{dart-at, next-in, opposite-in, previous-in, serials}
 use Rattle.model.specs.Sound.{links-right, link-right}
 use Rattle.laws.proofs.Members.{In, in-here, in-there, in-eq}
-use Rattle.laws.proofs.Orbits.{iter, iter-out, iter-stays, around-path, cycle-sym, in-cycle}
+use Rattle.laws.proofs.Orbits.{iter, iter-out, iter-stays, around-path}
 
 -- a dart that is held is found
 pub held-found : (x : ℕ) (ds : List Dart) → In x (serials ds) → (d : Dart) × (find (λ d. d .serial) x ds ≡ some d) × (d .serial ≡ x)
@@ -125,20 +125,6 @@ links-from ds u a = record {
 -- the ring of next x holds the opposite of x
 abbrev pub ring-step : List Dart → ℕ → ℕ
 ring-step ds d = next-in ds (opposite-in ds d)
-
-pub ring-of-next : (ds : List Dart) → Links ds → (n x : ℕ) → length (serials ds) ≤ n → In x (serials ds)
-    → In (opposite-in ds x) (around (ring-step ds) (next-in ds x) n (next-in ds x))
-ring-of-next ds L n x big h = cycle-sym (ring-step ds) (serials ds) stays inj n (opposite-in ds x) (next-in ds x) big (L .opposite-in-block x h) (L .next-in-block x h)
-    (subst (λ (y : ℕ). In (next-in ds y) (around (ring-step ds) (opposite-in ds x) n (opposite-in ds x))) (L .opposite-opposite x h)
-    (in-cycle (ring-step ds) (serials ds) stays inj n (opposite-in ds x) 1 big (L .opposite-in-block x h)))
-  where
-    stays : (y : ℕ) → In y (serials ds) → In (ring-step ds y) (serials ds)
-    stays y k = L .next-in-block _ (L .opposite-in-block y k)
-
-    inj : (y z : ℕ) → In y (serials ds) → In z (serials ds) → ring-step ds y ≡ ring-step ds z → y ≡ z
-    inj y z k j e =
-        let p : opposite-in ds y ≡ opposite-in ds z = sym (L .previous-next _ (L .opposite-in-block y k)) ∙ ap (previous-in ds) e ∙ L .previous-next _ (L .opposite-in-block z j) in
-        sym (L .opposite-opposite y k) ∙ ap (opposite-in ds) p ∙ L .opposite-opposite z j
 
 -- POINTS
 -- points that are equal agree

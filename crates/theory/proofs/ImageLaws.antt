@@ -286,8 +286,3 @@ sound-wider lim wide b h s =
       labels = q .labels;
       points = q .points;
     })
-
-pub is-image-wider : (lim wide : Limits) (m : List ℕ) → lim .block-darts ≤ wide .block-darts → is-image lim m ≡ true → is-image wide m ≡ true
-unfolding is-image
-is-image-wider lim wide m h e = let fits = leb (words-for (count-in m)) (length m) && same-list (image (length m) (block-in m)) m in
-    and-intro (and-left fits _ e) (sound-wider lim wide (block-in m) h (and-right fits _ e))

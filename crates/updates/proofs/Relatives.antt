@@ -1,7 +1,7 @@
 -- The messages block by block are the updates of the volume, one after the other. Assumes nothing.
 use mathlib.Core.Path.{_≡_, refl, sym, _∙_, ap}
 use mathlib.Core.Bool.{true, false, cond}
-use mathlib.Core.List.{List, [], _∷_, _++_, map, append-nil, append-assoc}
+use mathlib.Core.List.{List, [], _∷_, _++_, map, append-assoc}
 use mathlib.Core.Option.{Option, none, some}
 use Prim.Native.Nat.{ℕ, zero, suc, _+_, _≤_, _<_}
 use native.Mathlib.Omega.{arith}
@@ -25,15 +25,9 @@ use Rattle.outbox.specs.Runs.{run, tally}
 use Rattle.outbox.specs.Bytes.{in-part2, size-of, start-at}
 use Rattle.outbox.proofs.ByFaces.{count-faces, first-is, place-is, size-is}
 use Rattle.outbox.proofs.Ready.{some-face}
-use Rattle.outbox.proofs.RunLists.{put-kept, run-cong}
+use Rattle.outbox.proofs.RunLists.{put-kept, run-cong, run-first}
 use Rattle.updates.specs.ByBlocks.{head-bytes, least-code, least-put, relative, rest-for, told-put}
 use Rattle.updates.proofs.UpdateLaws.{one-group, told-none, told-some, update-of}
-
--- MESSAGES OF SOME UPDATES, by index
-run-first : (b : ℕ → List ℕ) (n : ℕ) → b 0 ++ run (λ k. b (suc k)) n ≡ run b (suc n)
-unfolding run
-run-first b zero = append-nil (b 0)
-run-first b (suc n) = sym (append-assoc (b 0) (run (λ k. b (suc k)) n) (b (suc n))) ∙ ap (λ (l : List ℕ). l ++ b (suc n)) (run-first b n)
 
 abbrev message-of : Option Update → List ℕ
 message-of none = []

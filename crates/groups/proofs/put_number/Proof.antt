@@ -3,7 +3,7 @@ use mathlib.Core.Path.{_∙_, sym}
 use native.Mathlib.Omega.{arith}
 use borrow.Author.Needs.{needs}
 use Rattle.model.specs.Layouts.{group-below, group}
-use Rattle.groups.proofs.Counts.{group-length, group-most}
+use Rattle.theory.proofs.GroupLaws.{group-length, group-most}
 use Rattle.groups.proofs.Writing.{four-is-eight, stored-outside}
 use Rattle.groups.proofs.put_number.Statement.{statement}
 use Rattle.groups.proofs.put_number.Tie as tie

@@ -1,7 +1,7 @@
 -- `outbox::transfer::transfer_sizes` meets its contract: both halves that are put into no output end where the transfer does. Assumes nothing.
 use mathlib.Core.Path.{_∙_, ap, sym}
 use Prim.Native.Nat.{ℕ, _+_}
-use Rattle.groups.proofs.Counts.{count-most, group-length}
+use Rattle.theory.proofs.GroupLaws.{count-most, group-length}
 use Rattle.departure.proofs.FirstNo.{ranges-in}
 use Rattle.outbox.proofs.Ready.{linked, listed, opened, pointed, started, vertexed}
 use Rattle.outbox.proofs.WholeLaws.{end-is, end-small, halves-short, sewn-tally, sized}

@@ -2,9 +2,9 @@
 -- Assumes nothing.
 use lib.Seq.{length-take-le}
 use mathlib.Core.Path.{sym, _∙_}
-use Rattle.pairing.proofs.ToldBy.{sorted-front}
 use native.Mathlib.Omega.{arith}
 use borrow.Author.Needs.{needs}
+use Rattle.sort.proofs.Order.{sorted-front}
 use Rattle.pairing.proofs.keys.order.Statement.{statement}
 use Rattle.pairing.proofs.keys.order.Tie as tie
 

@@ -2,9 +2,9 @@
 -- Assumes nothing.
 use lib.Seq.{length-take-le}
 use mathlib.Core.Path.{sym, _∙_}
-use Rattle.redirect.proofs.ReadCodes.{sorted-front}
 use native.Mathlib.Omega.{arith}
 use borrow.Author.Needs.{needs}
+use Rattle.sort.proofs.Order.{sorted-front}
 use Rattle.redirect.proofs.codes.order.Statement.{statement}
 use Rattle.redirect.proofs.codes.order.Tie as tie
 

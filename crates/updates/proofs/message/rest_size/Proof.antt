@@ -1,5 +1,5 @@
 -- `updates::message::rest_size` meets its contract: a count takes at most five bytes. Assumes nothing.
-use Rattle.groups.proofs.Counts.{group-length, count-most}
+use Rattle.theory.proofs.GroupLaws.{group-length, count-most}
 use Rattle.updates.specs.ByBlocks.{rest-for}
 use native.Mathlib.Omega.{arith}
 use borrow.Author.Needs.{needs}

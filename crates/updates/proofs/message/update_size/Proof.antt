@@ -1,6 +1,6 @@
 -- `updates::message::update_size` meets its contract: the rest and the count of its length, if the block is told. Assumes nothing.
 use Rattle.answers.proofs.Questions.{said-no, said-yes}
-use Rattle.groups.proofs.Counts.{group-length, count-most}
+use Rattle.theory.proofs.GroupLaws.{group-length, count-most}
 use Rattle.updates.proofs.UpdateLaws.{size-none, size-some}
 use native.Mathlib.Omega.{arith}
 use borrow.Author.Needs.{needs}
