@@ -1,5 +1,5 @@
 -- What is read after the last value, and four numbers read so as the head of a message. Assumes nothing.
-use mathlib.Core.Path.{_≡_, refl, sym, _∙_, ap}
+use mathlib.Core.Path.{_≡_, refl, sym, _∙_, ap, subst}
 use mathlib.Core.List.{List}
 use mathlib.Core.Option.{none}
 use Prim.Native.Nat.{ℕ, _-_, _≤_}
@@ -10,6 +10,7 @@ use Rattle.groups.specs.Slices.{read-at}
 use Rattle.groups.specs.declared.Read.{Read}
 use Rattle.groups.specs.declared.Read.the-variants.{Value, Bad}
 use Rattle.groups.proofs.Ends.{Reads, group-at, bad-at}
+use Rattle.reader.specs.declared.Head.{Head as Numbers}
 use Rattle.reader.specs.declared.HeadOrNot.{HeadOrNot}
 use Rattle.reader.specs.declared.HeadOrNot.the-variants.{Head, Not}
 use Rattle.reader.specs.Heads.{read-after, head-of, four, head-in}
@@ -79,3 +80,43 @@ module _ (s : List ℕ) where
   -- four numbers that were read one after the other, from the first byte on
   pub head-read : {a b c d : Read} {h : HeadOrNot} → a ≡ step (Value 0 0) → b ≡ step a → c ≡ step b → d ≡ step c → h ≡ head-of a b c d → h ≡ head-in s
   head-read {a} e f g k w = w ∙ rw (k, g, f) (first a e)
+
+-- WHAT A HEAD SAYS: the number that is missing, or all four
+pub data Missing (s : List ℕ) : Type 0 where
+  no-length : group .get (drop 0 s) ≡ none → Missing s
+  no-kind : (n p : ℕ) → Reads group s 0 n p → group .get (drop p s) ≡ none → Missing s
+  no-from : (n p k q : ℕ) → Reads group s 0 n p → Reads group s p k q → group .get (drop q s) ≡ none → Missing s
+  no-to : (n p k q f r : ℕ) → Reads group s 0 n p → Reads group s p k q → Reads group s q f r → group .get (drop r s) ≡ none → Missing s
+
+pub record Four (s : List ℕ) (h : Numbers) : Type 0 where
+  pub past : ℕ
+  pub after : ℕ
+  pub length-read : Reads group s 0 (h .length) (h .body)
+  pub kind-read : Reads group s (h .body) (h .kind) past
+  pub from-read : Reads group s past (h .from) after
+  pub to-read : Reads group s after (h .to) (h .next)
+
+abbrev pub Says : List ℕ → HeadOrNot → Type 0
+Says s Not = Missing s
+Says s (Head h) = Four s h
+
+module _ (s : List ℕ) where
+  fourth-says : {n p k q f r : ℕ} → Reads group s 0 n p → Reads group s p k q → Reads group s q f r → (d : Read) → d ≡ read-at group s r
+      → Says s (head-of (Value n p) (Value k q) (Value f r) d)
+  fourth-says a b c Bad e = no-to _ _ _ _ _ _ a b c (bad-at group s _ e)
+  fourth-says a b c (Value t o) e = record { past = _; after = _; length-read = a; kind-read = b; from-read = c; to-read = group-at e }
+
+  third-says : {n p k q : ℕ} → Reads group s 0 n p → Reads group s p k q → (c : Read) → c ≡ read-at group s q → Says s (head-of (Value n p) (Value k q) c (step s c))
+  third-says a b Bad e = no-from _ _ _ _ a b (bad-at group s _ e)
+  third-says a b (Value f r) e = fourth-says a b (group-at e) (read-at group s r) refl
+
+  second-says : {n p : ℕ} → Reads group s 0 n p → (b : Read) → b ≡ read-at group s p → Says s (head-of (Value n p) b (step s b) (step s (step s b)))
+  second-says a Bad e = no-kind _ _ a (bad-at group s _ e)
+  second-says a (Value k q) e = third-says a (group-at e) (read-at group s q) refl
+
+  first-says : (a : Read) → a ≡ read-at group s 0 → Says s (head-of a (step s a) (step s (step s a)) (step s (step s (step s a))))
+  first-says Bad e = no-length (bad-at group s 0 e)
+  first-says (Value n p) e = second-says (group-at e) (read-at group s p) refl
+
+  pub head-says : {r : HeadOrNot} → r ≡ head-in s → Says s r
+  head-says e = subst (Says s) (first s (read-at group s 0) refl ∙ sym e) (first-says (read-at group s 0) refl)
