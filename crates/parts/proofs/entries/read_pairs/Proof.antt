@@ -1,34 +1,33 @@
--- `parts::entries::read_part2` meets its contract.
+-- `parts::entries::read_pairs` meets its contract.
 -- Assumes nothing.
 use Prim.Native.Nat.{_-_}
-use mathlib.Core.Path.{refl, sym, _∙_}
-use Rattle.model.specs.Messages.{part2}
-use Rattle.parts.specs.Entries.{code2, index2}
-use Rattle.parts.proofs.Reading.{Reading, reading-start, reading-more, reading-bad, reading-end, no-part2, half-part2, took-part2}
-use Rattle.memory.proofs.Labels.{code-label}
+use mathlib.Core.Path.{sym, _∙_}
+use Rattle.parts.specs.Entries.{pair, first, index}
+use Rattle.parts.proofs.Reading.{Reading, reading-start, reading-more, reading-bad, reading-end, no-first, no-index, took-pair}
 use native.Mathlib.Omega.{arith}
 use borrow.Author.Needs.{needs}
-use Rattle.parts.proofs.entries.read_part2.Statement.{statement}
-use Rattle.parts.proofs.entries.read_part2.Tie as tie
+use Rattle.parts.proofs.entries.read_pairs.Statement.{statement}
+use Rattle.parts.proofs.entries.read_pairs.Tie as tie
 
 abbrev Inv-loop : tie.InvT-loop
-Inv-loop s at count codes₀ indices₀ i₀ p₀ codes indices i p =
-    Reading part2 code2 index2 s at count codes indices i p
+Inv-loop s at part count firsts₀ indices₀ i₀ p₀ firsts indices i p =
+    Reading (pair part) (first part) (index part) s at count firsts indices i p
 
 abbrev μ-loop : tie.MeasureT-loop
-μ-loop s at count codes₀ indices₀ i₀ p₀ codes indices i p =
+μ-loop s at part count firsts₀ indices₀ i₀ p₀ firsts indices i p =
     count - i
 
 loop-holds : tie.Need-loop-holds Inv-loop μ-loop
 loop-holds c =
     let start : tie.Start Inv-loop μ-loop = search in
-    reading-start part2 code2 index2 _ _ _ _ (start .pre .0) (start .pre .2) (start .pre .3)
+    let part = start .args .part in
+    reading-start (pair part) (first part) (index part) _ _ _ _ (start .pre .0) (start .pre .2) (start .pre .3)
 
-read-label-requires : tie.Need-read-label-requires Inv-loop μ-loop
-read-label-requires c κs = search needs
+read-first-requires : tie.Need-read-first-requires Inv-loop μ-loop
+read-first-requires c κs = search needs
 
-enum-known-code : tie.Need-enum-known-code Inv-loop μ-loop
-enum-known-code c = search needs
+enum-known-first : tie.Need-enum-known-first Inv-loop μ-loop
+enum-known-first c = search needs
 
 enum-told : tie.Need-enum-told Inv-loop μ-loop
 enum-told c = search needs
@@ -47,10 +46,12 @@ same-length-2 c =
 
 returns : tie.Need-returns Inv-loop μ-loop
 returns c =
+    let start : tie.Start Inv-loop μ-loop = search in
+    let part = start .args .part in
     let loop-inv = (let p : tie.At-loop Inv-loop μ-loop = search in p .loop .inv) in
     let loop-test-taken = (let p : tie.In-loop Inv-loop μ-loop = search in p .loop-test .taken) in
-    let read-label-ensures = (let p : tie.After-read-label Inv-loop μ-loop = search in p .read-label .ensures) in
-    reading-bad part2 code2 index2 loop-inv loop-test-taken (no-part2 _ _ (sym (c .enum-told .given .1) ∙ read-label-ensures))
+    let read-first-ensures = (let p : tie.After-read-first Inv-loop μ-loop = search in p .read-first .ensures) in
+    reading-bad (pair part) (first part) (index part) loop-inv loop-test-taken (no-first part _ _ (sym (c .enum-told .given .1) ∙ read-first-ensures))
 
 read-group-requires : tie.Need-read-group-requires Inv-loop μ-loop
 read-group-requires c κs = search needs
@@ -75,19 +76,21 @@ same-length-4 c =
 
 returns-2 : tie.Need-returns-2 Inv-loop μ-loop
 returns-2 c =
+    let start : tie.Start Inv-loop μ-loop = search in
+    let part = start .args .part in
     let loop-inv = (let p : tie.At-loop Inv-loop μ-loop = search in p .loop .inv) in
     let loop-test-taken = (let p : tie.In-loop Inv-loop μ-loop = search in p .loop-test .taken) in
-    let read-label-ensures = (let p : tie.After-read-label Inv-loop μ-loop = search in p .read-label .ensures) in
-    let code-given = (let p : tie.After-code Inv-loop μ-loop = search in p .code .given) in
+    let read-first-ensures = (let p : tie.After-read-first Inv-loop μ-loop = search in p .read-first .ensures) in
+    let first-given = (let p : tie.After-first Inv-loop μ-loop = search in p .first .given) in
     let read-group-ensures = (let p : tie.After-read-group Inv-loop μ-loop = search in p .read-group .ensures) in
-    reading-bad part2 code2 index2 loop-inv loop-test-taken
-    (half-part2 _ _ _ _ (sym (code-given .1) ∙ read-label-ensures) (sym (c .enum-told2 .given .1) ∙ read-group-ensures))
+    reading-bad (pair part) (first part) (index part) loop-inv loop-test-taken
+    (no-index part _ _ _ _ (sym (first-given .1) ∙ read-first-ensures) (sym (c .enum-told2 .given .1) ∙ read-group-ensures))
 
-mul-codes : tie.Need-mul-codes Inv-loop μ-loop
-mul-codes c = omega arith
+mul-firsts : tie.Need-mul-firsts Inv-loop μ-loop
+mul-firsts c = omega arith
 
-slice-write-codes : tie.Need-slice-write-codes Inv-loop μ-loop
-slice-write-codes c = omega arith
+slice-write-firsts : tie.Need-slice-write-firsts Inv-loop μ-loop
+slice-write-firsts c = omega arith
 
 mul-indices : tie.Need-mul-indices Inv-loop μ-loop
 mul-indices c = omega arith
@@ -104,14 +107,15 @@ loop-less c = omega arith
 loop-again : tie.Need-loop-again Inv-loop μ-loop
 loop-again c =
     let start : tie.Start Inv-loop μ-loop = search in
+    let part = start .args .part in
     let loop-inv = (let p : tie.At-loop Inv-loop μ-loop = search in p .loop .inv) in
     let loop-test-taken = (let p : tie.In-loop Inv-loop μ-loop = search in p .loop-test .taken) in
-    let read-label-ensures = (let p : tie.After-read-label Inv-loop μ-loop = search in p .read-label .ensures) in
-    let code-given = (let p : tie.After-code Inv-loop μ-loop = search in p .code .given) in
+    let read-first-ensures = (let p : tie.After-read-first Inv-loop μ-loop = search in p .read-first .ensures) in
+    let first-given = (let p : tie.After-first Inv-loop μ-loop = search in p .first .given) in
     let read-group-ensures = (let p : tie.After-read-group Inv-loop μ-loop = search in p .read-group .ensures) in
     let index-given = (let p : tie.After-index Inv-loop μ-loop = search in p .index .given) in
-    reading-more part2 code2 index2 loop-inv loop-test-taken (start .pre .1)
-    (took-part2 (sym (code-given .1) ∙ read-label-ensures) (sym (index-given .1) ∙ read-group-ensures)) (sym (code-label _)) refl
+    let there = took-pair part (sym (first-given .1) ∙ read-first-ensures) (sym (index-given .1) ∙ read-group-ensures) in
+    reading-more (pair part) (first part) (index part) loop-inv loop-test-taken (start .pre .1) (there .took) (there .first-is) (there .index-is)
 
 same-length-5 : tie.Need-same-length-5 Inv-loop μ-loop
 same-length-5 c =
@@ -127,18 +131,20 @@ same-length-6 c =
 
 returns-3 : tie.Need-returns-3 Inv-loop μ-loop
 returns-3 c =
+    let start : tie.Start Inv-loop μ-loop = search in
+    let part = start .args .part in
     let loop-inv = (let p : tie.At-loop Inv-loop μ-loop = search in p .loop .inv) in
-    reading-end part2 code2 index2 loop-inv (c .loop-test .left)
+    reading-end (pair part) (first part) (index part) loop-inv (c .loop-test .left)
 
-pub read-part2-spec : {M : Type 1} → statement M
-read-part2-spec =
+pub read-pairs-spec : {M : Type 1} → statement M
+read-pairs-spec =
     tie.close
     (tie.spec
     Inv-loop
     μ-loop
     loop-holds
-    read-label-requires
-    enum-known-code
+    read-first-requires
+    enum-known-first
     enum-told
     same-length
     same-length-2
@@ -149,8 +155,8 @@ read-part2-spec =
     same-length-3
     same-length-4
     returns-2
-    mul-codes
-    slice-write-codes
+    mul-firsts
+    slice-write-firsts
     mul-indices
     slice-write-indices
     add-i
