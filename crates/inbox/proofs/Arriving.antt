@@ -1,5 +1,6 @@
 -- What a slice is as a message, from what its readers say. Assumes nothing.
-use mathlib.Core.Path.{_≡_, refl, _∙_, subst}
+use mathlib.Core.Path.{_≡_, refl, sym, _∙_, subst}
+use mathlib.Core.Logic.{_≢_}
 use mathlib.Core.List.{List}
 use mathlib.Core.Option.{none, some}
 use Prim.Native.Nat.{ℕ, _≤_}
@@ -10,8 +11,9 @@ use borrow.Author.Tests.{leb-true}
 use Rattle.model.specs.Layouts.{whole, unframed}
 use Rattle.model.specs.Messages.{Transfer, transfer, Update, update, a-transfer, an-update, no-message, message-in, size-all}
 use Rattle.laws.proofs.Tests.{and-right}
-use Rattle.groups.specs.declared.Read.{Read as Answer}
-use Rattle.groups.specs.declared.Read.the-variants.{Value, Bad}
+use Rattle.reader.specs.declared.Head.{Head}
+use Rattle.reader.specs.declared.HeadOrNot.{HeadOrNot}
+use Rattle.reader.specs.declared.HeadOrNot.the-variants as head
 use Rattle.inbox.specs.declared.message.Front.{Front}
 use Rattle.inbox.specs.declared.message.FrontOrNot.{FrontOrNot}
 use Rattle.inbox.specs.declared.message.FrontOrNot.the-variants as front
@@ -21,20 +23,11 @@ use Rattle.inbox.specs.declared.message.TailOrNot.the-variants as tail
 use Rattle.inbox.specs.declared.message.Update.{Update as UpdateOutline}
 use Rattle.inbox.specs.declared.message.UpdateOrNot.{UpdateOrNot}
 use Rattle.inbox.specs.declared.message.UpdateOrNot.the-variants as outline
-use Rattle.inbox.specs.declared.received.Received.{Received}
 use Rattle.inbox.specs.declared.received.Received.the-variants as received
 use Rattle.inbox.specs.Inbox.{Sides, Sized, points-in}
-use Rattle.inbox.specs.Outlines.{FrameSaid, FrameRead, Fronted, FrontSaid, FrontRead, Tailed, TailSaid, TailRead, OutlineSaid, UpdateRead}
-use Rattle.inbox.specs.Arrived.{UpdateSaid, UpdateTold, MessageSaid, MessageRead}
-use Rattle.inbox.proofs.Outlining.{no-front, no-tail, transfer-took}
-
--- AN UPDATE
-module _ {s : List ℕ} {at : ℕ} {r : UpdateOrNot} (w : UpdateRead s at r) where
-  pub told-none : r ≡ outline.Not → UpdateTold s at received.Nothing
-  told-none e = record { said = subst (OutlineSaid s at) e (w .said) }
-
-  pub told-update : {o : UpdateOutline} → r ≡ outline.Update o → UpdateTold s at (received.Update o)
-  told-update e = record { said = subst (OutlineSaid s at) e (w .said) }
+use Rattle.inbox.specs.Outlines.{Headed, Framed, HeadSaid, HeadRead, Fronted, FrontSaid, FrontRead, Tailed, TailSaid, TailRead, OutlineSaid, UpdateRead}
+use Rattle.inbox.specs.Arrived.{MessageRead}
+use Rattle.inbox.proofs.Outlining.{took-kind, no-front, no-tail, transfer-took, not-transfer, not-update}
 
 -- THE KIND, from both layouts
 module _ (s : List ℕ) where
@@ -50,9 +43,12 @@ module _ (s : List ℕ) where
   unfolding message-in
   is-none e f = rw (e, f)
 
--- no frame, no message
-pub no-frame : {s v x b z : List ℕ} {r : Answer} → Sides v x b z → r ≡ Bad → FrameRead s r → MessageRead s v x b z received.Nothing
-no-frame {s} w e d = let f = subst (FrameSaid s) e (d .said) in record { sides = w; said = is-none s (f .0) (f .1) }
+-- no head, no message
+pub no-head : {s v x b z : List ℕ} {r : HeadOrNot} → Sides v x b z → r ≡ head.Not → HeadRead s r → MessageRead s v x b z received.Nothing
+no-head {s} w e d = let f = subst (HeadSaid s) e (d .said) in record { sides = w; said = is-none s (f .0) (f .1) }
+
+pub head-there : {s : List ℕ} {r : HeadOrNot} {h : Head} → r ≡ head.Head h → HeadRead s r → Framed s h
+head-there {s} e d = subst (HeadSaid s) e (d .said)
 
 -- BOTH HALVES OF A TRANSFER
 module _ {s : List ℕ} {p : ℕ} {v x b z : List ℕ} {r : FrontOrNot} (w : FrontRead s p v x b z r) where
@@ -77,27 +73,51 @@ module _ {s : List ℕ} {p : ℕ} {v x b z : List ℕ} {f : Front} (w : Fronted 
     pub tail-there : {t : Tail} → r ≡ tail.Tail t → Tailed (w .fs) s (f .next) t
     tail-there e = subst (TailSaid (w .fs) s (f .next)) e (l .said)
 
--- IN A FRAME
-module _ {s : List ℕ} {n p : ℕ} {r : Answer} (e : r ≡ Value n p) (d : FrameRead s r) where
-  framed : FrameSaid s (Value n p)
-  framed = subst (FrameSaid s) e (d .said)
+-- AN UPDATE
+module _ {s : List ℕ} {p : ℕ} {r : UpdateOrNot} (w : UpdateRead s p r) where
+  pub update-missing : r ≡ outline.Not → whole update (drop p s) ≡ none
+  update-missing e = subst (OutlineSaid s p) e (w .said)
 
-  -- no transfer: an update or nothing
-  other-said : (v x b z : List ℕ) → whole transfer (drop p s) ≡ none → (a : Received) → UpdateSaid s p a → MessageSaid s v x b z a
-  other-said v x b z none-there (received.Transfer f l) k = absurd k
-  other-said v x b z none-there (received.Update o) k = (k .0, is-update s (framed .0 ∙ none-there) (framed .1 ∙ k .1), k .2)
-  other-said v x b z none-there received.Nothing k = is-none s (framed .0 ∙ none-there) (framed .1 ∙ k)
+  update-there : {o : UpdateOutline} → r ≡ outline.Update o → OutlineSaid s p (outline.Update o)
+  update-there e = subst (OutlineSaid s p) e (w .said)
 
-  pub other-read : {v x b z : List ℕ} {a : Received} → Sides v x b z → whole transfer (drop p s) ≡ none → UpdateTold s p a → MessageRead s v x b z a
-  other-read {v} {x} {b} {z} {a} w none-there k = record { sides = w; said = other-said v x b z none-there a (k .said) }
+-- BY THE KIND
+one-two : _≢_ {A = ℕ} 1 2
+one-two e = absurd (omega arith)
 
-  pub transfer-read : {v x b z : List ℕ} {f : Front} {l : Tail} → Sides v x b z → (w : Fronted s p v x b z f) → Tailed (w .fs) s (f .next) l
-      → MessageRead s v x b z (received.Transfer f l)
-  transfer-read {v} {x} {b} {z} {f} {l} sides w y = record {
+module _ {s : List ℕ} {h : Head} (f : Framed s h) where
+  pub headed-as : {k : ℕ} → h .kind ≡ k → Headed k s (h .body) (h .from) (h .to) (h .next)
+  headed-as e = record { past = f .past; after = f .after; kind-read = took-kind (f .kind-read) e; from-read = f .from-read; to-read = f .to-read }
+
+  pub other-than-transfer : h .kind ≢ 1 → whole transfer (drop (h .body) s) ≡ none
+  other-than-transfer e = not-transfer (f .kind-read) (λ k. e (sym k))
+
+  other-than-update : h .kind ≢ 2 → whole update (drop (h .body) s) ≡ none
+  other-than-update e = not-update (f .kind-read) (λ k. e (sym k))
+
+  -- a transfer is no update
+  pub not-both : h .kind ≡ 1 → whole update (drop (h .body) s) ≡ none
+  not-both e = other-than-update (λ k. one-two (sym e ∙ k))
+
+  pub nothing-read : {v x b z : List ℕ} → Sides v x b z → whole transfer (drop (h .body) s) ≡ none → whole update (drop (h .body) s) ≡ none → MessageRead s v x b z received.Nothing
+  nothing-read w t u = record { sides = w; said = is-none s (f .transfer-as ∙ t) (f .update-as ∙ u) }
+
+  pub update-read : {v x b z : List ℕ} {r : UpdateOrNot} {o : UpdateOutline} → Sides v x b z → h .kind ≡ 2 → r ≡ outline.Update o → UpdateRead s (h .body) r
+      → MessageRead s v x b z (received.Update o)
+  update-read w k e d =
+      let u = update-there d e in
+      record { sides = w; said = (u .0, is-update s (f .transfer-as ∙ other-than-transfer (λ j. one-two (sym j ∙ k))) (f .update-as ∙ u .1), u .2) }
+
+  pub neither-read : {v x b z : List ℕ} → Sides v x b z → h .kind ≢ 1 → h .kind ≢ 2 → MessageRead s v x b z received.Nothing
+  neither-read w d e = nothing-read w (other-than-transfer d) (other-than-update e)
+
+  pub transfer-read : {v x b z : List ℕ} {g : Front} {l : Tail} → Sides v x b z → (w : Fronted s (h .body) v x b z g) → Tailed (w .fs) s (g .next) l
+      → MessageRead s v x b z (received.Transfer g l)
+  transfer-read {v} {x} {b} {z} {g} {l} sides w y = record {
     sides = sides;
     said = (
-      record { from = f .from; to = f .to; points = points-in s (f .points) (f .vertices); faces = w .fs; part2 = y .second; part3 = y .third; part4 = y .fourth },
-      is-transfer s (framed .0 ∙ transfer-took w y),
+      record { from = g .from; to = g .to; points = points-in s (g .points) (g .vertices); faces = w .fs; part2 = y .second; part3 = y .third; part4 = y .fourth },
+      is-transfer s (f .transfer-as ∙ transfer-took w y),
       record {
         from-is = refl;
         to-is = refl;

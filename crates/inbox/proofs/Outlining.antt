@@ -3,25 +3,26 @@ use mathlib.Core.Path.{_≡_, refl, sym, _∙_, ap, subst}
 use mathlib.Core.Logic.{_≢_}
 use mathlib.Core.Bool.{false, cond}
 use mathlib.Core.List.{List, [], _∷_}
-use mathlib.Core.Option.{Option, none, some, Option·none-ne-some}
-use Prim.Native.Nat.{ℕ, _+_, _*_, _-_}
+use mathlib.Core.Option.{none, some, Option·none-ne-some}
+use Prim.Native.Nat.{ℕ, _+_, _*_, _-_, _≤_, _<_}
 use native.Mathlib.Omega.{arith}
-use lib.Dec.{eqb}
+use lib.Dec.{eqb, leb}
 use lib.ListN.{length, drop, length-drop}
-use borrow.Author.Tests.{eq-eqb, ne-eqb}
+use borrow.Author.Tests.{eq-eqb, ne-eqb, le-leb, lt-leb, leb-true, leb-false}
 use Rattle.model.specs.Layouts.{Layout, Read, then, when, group, at-most, exactly, such-that, as-type, _⊗_, _⊕_, times, get-all, counted, at-end, ended, whole, unframed}
 use Rattle.model.specs.Messages.{FaceDart, face-dart, point, label, Part1, part1, Part2, part2, Part3, part3, Part4, part4, Transfer, transfer, update}
 use Rattle.laws.proofs.Lists.{drop-end}
 use Rattle.theory.proofs.LayoutLaws.{same-value, then-some}
 use Rattle.groups.specs.declared.Read.{Read as Answer}
 use Rattle.groups.specs.declared.Read.the-variants.{Value, Bad}
+use Rattle.laws.proofs.Tests.{by-cases}
 use Rattle.groups.proofs.Labels.{at-most-bound}
 use Rattle.inbox.specs.declared.faces.Faces.{Faces}
 use Rattle.inbox.specs.declared.faces.FacesOrNot.{FacesOrNot}
 use Rattle.inbox.specs.declared.faces.FacesOrNot.the-variants as faces
-use Rattle.inbox.specs.declared.message.Head.{Head}
-use Rattle.inbox.specs.declared.message.HeadOrNot.{HeadOrNot}
-use Rattle.inbox.specs.declared.message.HeadOrNot.the-variants as head
+use Rattle.reader.specs.declared.Head.{Head}
+use Rattle.reader.specs.declared.HeadOrNot.the-variants as head
+use Rattle.reader.proofs.Heads.{Missing, no-length, no-kind, no-from, no-to, Four}
 use Rattle.inbox.specs.declared.message.Counted.{Counted}
 use Rattle.inbox.specs.declared.message.CountedOrNot.{CountedOrNot}
 use Rattle.inbox.specs.declared.message.CountedOrNot.the-variants as entries
@@ -31,8 +32,9 @@ use Rattle.inbox.specs.declared.message.Tail.{Tail}
 use Rattle.inbox.specs.declared.message.TailOrNot.the-variants as tail
 use Rattle.inbox.specs.declared.message.UpdateOrNot.the-variants as outline
 use Rattle.inbox.specs.Inbox.{Took, Sides, FacesSaid, FacesRead, PointsSaid, PointsRead, PassSaid, Passes, points-in, some-darts}
-use Rattle.inbox.specs.Outlines.{FrameRead, NoHead, no-kind, no-from, no-to, Headed, HeadSaid, HeadRead, Entries, CountedSaid, CountedRead, Fronted, FrontRead, tail-layout, Tailed, TailRead, UpdateRead}
-use Rattle.inbox.proofs.Taking.{pair-none, pair-took, both-none, both-half, both-took, as-none, as-took, such-none, such-refused, such-took, counted-none, counted-half, counted-took}
+use Rattle.inbox.specs.Outlines.{Headed, HeadRead, Entries, CountedSaid, CountedRead, Fronted, FrontRead, tail-layout, Tailed, TailRead, UpdateRead}
+use Rattle.inbox.proofs.Taking.{took-reads, pair-none, pair-took, both-none, both-half, both-took, as-none}
+use Rattle.inbox.proofs.Taking.{as-took, such-none, such-refused, such-took, counted-none, counted-half, counted-took}
 
 -- TO THE LAST BYTE
 module _ {A : Type 0} (l : Layout A) where
@@ -52,48 +54,47 @@ module _ {A : Type 0} (l : Layout A) where
       go [] k = absurd (e (let h = w .within in omega arith))
       go (b ∷ bs) k = refl
 
--- THE FRAME
-frame-as : {A : Type 0} (l : Layout A) {s : List ℕ} {n p : ℕ} → Took group s 0 n p → unframed l s ≡ cond (eqb (length s - p) n) (whole l (drop p s)) none
-unfolding unframed
-frame-as l {s} {n} {p} w = rw (w .value, length-drop p s)
-
-pub frame-none : (s : List ℕ) → group .get (drop 0 s) ≡ none → FrameRead s Bad
-unfolding unframed
-frame-none s e = record { said = (rw e, rw e) }
-
-pub frame-wrong : {s : List ℕ} {n p : ℕ} → Took group s 0 n p → length s - p ≢ n → FrameRead s Bad
-frame-wrong {s} {n} {p} w h = let e = ne-eqb (length s - p) n h in record { said = (frame-as transfer w ∙ rw e, frame-as update w ∙ rw e) }
-
-pub frame-right : {s : List ℕ} {n p : ℕ} → Took group s 0 n p → length s - p ≡ n → FrameRead s (Value n p)
-frame-right {s} {n} {p} w h = let e = eq-eqb (length s - p) n h in record { said = (frame-as transfer w ∙ rw e, frame-as update w ∙ rw e, w .within) }
-
 -- THE HEAD
-pub kind-none : (k : ℕ) (s : List ℕ) (at : ℕ) → group .get (drop at s) ≡ none → NoHead k s at
-unfolding exactly
-kind-none k s at e = no-kind (such-none group (eqb k) (drop at s) e)
-
-pub kind-other : (k : ℕ) {s : List ℕ} {at n p : ℕ} → Took group s at n p → k ≢ n → NoHead k s at
-unfolding exactly
-kind-other k {s} {at} {n} w h = no-kind (such-refused group (eqb k) w (ne-eqb k n h))
-
 pub took-kind : {k n : ℕ} {s : List ℕ} {at p : ℕ} → Took group s at n p → n ≡ k → Took (exactly k) s at k p
 unfolding exactly
 took-kind {k} {n} w e = such-took group (eqb k) (rw e at w) (eq-eqb k k refl)
 
-pub head-missing : {k : ℕ} {s : List ℕ} {at : ℕ} {r : HeadOrNot} → r ≡ head.Not → HeadRead k s at r → NoHead k s at
-head-missing {k} {s} {at} e w = subst (HeadSaid k s at) e (w .said)
+pub took-block : {s : List ℕ} {at v p : ℕ} → Took group s at v p → v ≤ 15 → Took (at-most 15) s at v p
+unfolding at-most
+took-block {s} {at} {v} w h = such-took group (λ v. leb v 15) w (le-leb v 15 h)
 
-pub head-there : {k : ℕ} {s : List ℕ} {at : ℕ} {r : HeadOrNot} {h : Head} → r ≡ head.Head h → HeadRead k s at r → Headed k s at (h .from) (h .to) (h .next)
-head-there {k} {s} {at} e w = subst (HeadSaid k s at) e (w .said)
+pub no-block-read : (s : List ℕ) (at : ℕ) → group .get (drop at s) ≡ none → at-most 15 .get (drop at s) ≡ none
+unfolding at-most
+no-block-read s at e = such-none group (λ v. leb v 15) (drop at s) e
+
+pub no-such-block : {s : List ℕ} {at v p : ℕ} → Took group s at v p → 15 < v → at-most 15 .get (drop at s) ≡ none
+unfolding at-most
+no-such-block {s} {at} {v} w h = such-refused group (λ v. leb v 15) w (lt-leb v 15 h)
 
 module _ {B : Type 0} (k : ℕ) (m : Layout B) where
   abbrev headed-by : Layout (ℕ × (ℕ × (ℕ × B)))
   headed-by = exactly k ⊕ at-most 15 ⊕ at-most 15 ⊕ m
 
-  pub head-none : {s : List ℕ} {at : ℕ} → NoHead k s at → headed-by .get (drop at s) ≡ none
-  head-none {s} {at} (no-kind e) = both-none (exactly k) (at-most 15 ⊕ at-most 15 ⊕ m) (drop at s) e
-  head-none {s} {at} (no-from p w e) = both-half (exactly k) (at-most 15 ⊕ at-most 15 ⊕ m) w (both-none (at-most 15) (at-most 15 ⊕ m) (drop p s) e)
-  head-none {s} {at} (no-to p q f w x e) = both-half (exactly k) (at-most 15 ⊕ at-most 15 ⊕ m) w (both-half (at-most 15) (at-most 15 ⊕ m) x (both-none (at-most 15) m (drop q s) e))
+  lacks-kind : (s : List ℕ) (at : ℕ) → group .get (drop at s) ≡ none → headed-by .get (drop at s) ≡ none
+  unfolding exactly
+  lacks-kind s at e = both-none (exactly k) (at-most 15 ⊕ at-most 15 ⊕ m) (drop at s) (such-none group (eqb k) (drop at s) e)
+
+  module _ {s : List ℕ} {at n p : ℕ} (w : Took group s at n p) where
+    other-kind : k ≢ n → headed-by .get (drop at s) ≡ none
+    unfolding exactly
+    other-kind h = both-none (exactly k) (at-most 15 ⊕ at-most 15 ⊕ m) (drop at s) (such-refused group (eqb k) w (ne-eqb k n h))
+
+    lacks-rest : (at-most 15 ⊕ at-most 15 ⊕ m) .get (drop p s) ≡ none → headed-by .get (drop at s) ≡ none
+    unfolding exactly
+    lacks-rest e = by-cases (eqb k n)
+        (λ t. both-half (exactly k) (at-most 15 ⊕ at-most 15 ⊕ m) (such-took group (eqb k) w t) e)
+        (λ t. both-none (exactly k) (at-most 15 ⊕ at-most 15 ⊕ m) (drop at s) (such-refused group (eqb k) w t))
+
+    lacks-from : at-most 15 .get (drop p s) ≡ none → headed-by .get (drop at s) ≡ none
+    lacks-from e = lacks-rest (both-none (at-most 15) (at-most 15 ⊕ m) (drop p s) e)
+
+    lacks-to : {f q : ℕ} → Took (at-most 15) s p f q → at-most 15 .get (drop q s) ≡ none → headed-by .get (drop at s) ≡ none
+    lacks-to {f} {q} x e = lacks-rest (both-half (at-most 15) (at-most 15 ⊕ m) x (both-none (at-most 15) m (drop q s) e))
 
   module _ {s : List ℕ} {at from to p : ℕ} (h : Headed k s at from to p) where
     pub head-half : m .get (drop p s) ≡ none → headed-by .get (drop at s) ≡ none
@@ -153,10 +154,6 @@ faces-no {s} {at} {n} {p} w h = go (counted (counted face-dart) .get (drop at s)
 -- PART 1 OF A TRANSFER
 pub front-bad : {s : List ℕ} {at : ℕ} {v x b z : List ℕ} → Sides v x b z → part1 .get (drop at s) ≡ none → FrontRead s at v x b z front.Not
 front-bad w n = record { sides = w; said = n }
-
-pub no-head : {s : List ℕ} {at : ℕ} → NoHead 1 s at → part1 .get (drop at s) ≡ none
-unfolding part1
-no-head {s} {at} w = head-none 1 (counted point ⊕ faces-layout) w
 
 pub no-points : {s : List ℕ} {at from to p : ℕ} {r : Answer} → Headed 1 s at from to p → r ≡ Bad → PointsRead s p r → part1 .get (drop at s) ≡ none
 unfolding part1
@@ -292,9 +289,6 @@ no-update : (s : List ℕ) (at : ℕ) → headed-by 2 (at-most 15 ⊕ counted la
 unfolding update
 no-update s at e = whole-none update (drop at s) (as-none _ _ _ (drop at s) e)
 
-pub update-no-head : {s : List ℕ} {at : ℕ} → NoHead 2 s at → whole update (drop at s) ≡ none
-update-no-head {s} {at} w = no-update s at (head-none 2 (at-most 15 ⊕ counted label) w)
-
 module _ {s : List ℕ} {at from to p : ℕ} (h : Headed 2 s at from to p) where
   pub no-block : at-most 15 .get (drop p s) ≡ none → whole update (drop at s) ≡ none
   no-block e = no-update s at (head-half 2 (at-most 15 ⊕ counted label) h (both-none (at-most 15) (counted label) (drop p s) e))
@@ -326,4 +320,98 @@ module _ {s : List ℕ} {at from to p : ℕ} (h : Headed 2 s at from to p) where
             labels-in = w .items-read;
           },
         );
+      }
+
+-- NEITHER KIND of message
+pub record Neither (s : List ℕ) (at : ℕ) : Type 0 where
+  pub no-transfer : whole transfer (drop at s) ≡ none
+  pub no-update-there : whole update (drop at s) ≡ none
+
+transfer-lacks : (s : List ℕ) (at : ℕ) → headed-by 1 (counted point ⊕ faces-layout) .get (drop at s) ≡ none → whole transfer (drop at s) ≡ none
+unfolding part1
+transfer-lacks s at e = no-front s at e
+
+pub neither-kind : {s : List ℕ} {at : ℕ} → group .get (drop at s) ≡ none → Neither s at
+neither-kind {s} {at} e = record {
+  no-transfer = transfer-lacks s at (lacks-kind 1 (counted point ⊕ faces-layout) s at e);
+  no-update-there = no-update s at (lacks-kind 2 (at-most 15 ⊕ counted label) s at e);
+}
+
+module _ {s : List ℕ} {at n p : ℕ} (w : Took group s at n p) where
+  pub neither-from : at-most 15 .get (drop p s) ≡ none → Neither s at
+  neither-from e = record {
+    no-transfer = transfer-lacks s at (lacks-from 1 (counted point ⊕ faces-layout) w e);
+    no-update-there = no-update s at (lacks-from 2 (at-most 15 ⊕ counted label) w e);
+  }
+
+  pub neither-to : {f q : ℕ} → Took (at-most 15) s p f q → at-most 15 .get (drop q s) ≡ none → Neither s at
+  neither-to x e = record {
+    no-transfer = transfer-lacks s at (lacks-to 1 (counted point ⊕ faces-layout) w x e);
+    no-update-there = no-update s at (lacks-to 2 (at-most 15 ⊕ counted label) w x e);
+  }
+
+  -- by the kind
+  pub not-transfer : 1 ≢ n → whole transfer (drop at s) ≡ none
+  not-transfer h = transfer-lacks s at (other-kind 1 (counted point ⊕ faces-layout) w h)
+
+  pub not-update : 2 ≢ n → whole update (drop at s) ≡ none
+  not-update h = no-update s at (other-kind 2 (at-most 15 ⊕ counted label) w h)
+
+-- THE FRAME
+frame-as : {A : Type 0} (l : Layout A) {s : List ℕ} {n p : ℕ} → Took group s 0 n p → unframed l s ≡ cond (eqb (length s - p) n) (whole l (drop p s)) none
+unfolding unframed
+frame-as l {s} {n} {p} w = rw (w .value, length-drop p s)
+
+frame-lacks : {A : Type 0} (l : Layout A) {s : List ℕ} {n p : ℕ} → Took group s 0 n p → whole l (drop p s) ≡ none → unframed l s ≡ none
+frame-lacks l {s} {n} {p} w e = frame-as l w ∙ by-cases (eqb (length s - p) n) (λ t. rw t e) (λ t. rw t refl)
+
+pub head-unread : (s : List ℕ) → group .get (drop 0 s) ≡ none → HeadRead s head.Not
+unfolding unframed
+head-unread s e = record { said = (rw e, rw e) }
+
+module _ {s : List ℕ} {n p : ℕ} (w : Took group s 0 n p) where
+  pub head-neither : Neither s p → HeadRead s head.Not
+  head-neither d = record { said = (frame-lacks transfer w (d .no-transfer), frame-lacks update w (d .no-update-there)) }
+
+  pub frame-wrong : length s - p ≢ n → HeadRead s head.Not
+  frame-wrong h = let e = ne-eqb (length s - p) n h in record { said = (frame-as transfer w ∙ rw e, frame-as update w ∙ rw e) }
+
+-- one of the four numbers is missing
+pub head-missing : {s : List ℕ} → Missing s → HeadRead s head.Not
+head-missing {s} (no-length e) = head-unread s e
+head-missing {s} (no-kind n p a e) = head-neither (took-reads a) (neither-kind e)
+head-missing {s} (no-from n p k q a b e) = head-neither (took-reads a) (neither-from (took-reads b) (no-block-read s q e))
+head-missing {s} (no-to n p k q f r a b c e) = by-cases (leb f 15)
+    (λ t. head-neither (took-reads a) (neither-to (took-reads b) (took-block (took-reads c) (leb-true f 15 t)) (no-block-read s r e)))
+    (λ t. head-neither (took-reads a) (neither-from (took-reads b) (no-such-block (took-reads c) (leb-false f 15 t))))
+
+-- all four are there
+module _ {s : List ℕ} {h : Head} (w : Four s h) where
+  pub body-within : h .body ≤ length s
+  body-within = w .length-read .within
+
+  pub head-wrong : length s - h .body ≢ h .length → HeadRead s head.Not
+  head-wrong e = frame-wrong (took-reads (w .length-read)) e
+
+  pub from-none : 16 ≤ h .from → HeadRead s head.Not
+  from-none e = head-neither (took-reads (w .length-read)) (neither-from (took-reads (w .kind-read)) (no-such-block (took-reads (w .from-read)) (omega arith)))
+
+  pub to-none : h .from < 16 → 16 ≤ h .to → HeadRead s head.Not
+  to-none f e =
+      head-neither (took-reads (w .length-read))
+      (neither-to (took-reads (w .kind-read)) (took-block (took-reads (w .from-read)) (omega arith)) (no-such-block (took-reads (w .to-read)) (omega arith)))
+
+  pub head-framed : length s - h .body ≡ h .length → h .from < 16 → h .to < 16 → HeadRead s (head.Head h)
+  head-framed e f t =
+      let k = eq-eqb (length s - h .body) (h .length) e in
+      record {
+        said = record {
+          transfer-as = frame-as transfer (took-reads (w .length-read)) ∙ rw k;
+          update-as = frame-as update (took-reads (w .length-read)) ∙ rw k;
+          past = w .past;
+          after = w .after;
+          kind-read = took-reads (w .kind-read);
+          from-read = took-block (took-reads (w .from-read)) (omega arith);
+          to-read = took-block (took-reads (w .to-read)) (omega arith);
+        };
       }

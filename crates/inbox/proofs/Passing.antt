@@ -19,8 +19,11 @@ use Rattle.groups.specs.declared.Read.{Read}
 use Rattle.groups.specs.declared.Read.the-variants.{Value, Bad}
 use Rattle.groups.proofs.Ends.{bad-at}
 use Rattle.groups.proofs.Labels.{label-at}
+use Rattle.inbox.specs.declared.parts.Part.{Part}
+use Rattle.inbox.specs.Parts.{entry}
 use Rattle.inbox.specs.Inbox.{Took, PassSaid, Passes, Sized, sizes-of}
-use Rattle.inbox.proofs.Taking.{took-reads, took-group, SoFar, so-far-start, so-far-more, so-far-stop, so-far-end, both-none, both-half, both-took, pair-none, pair-half, pair-took, as-none, as-took, such-none, such-refused, such-took}
+use Rattle.inbox.proofs.Taking.{took-reads, took-group, SoFar, so-far-start, so-far-more, so-far-stop, so-far-end, both-none, both-half}
+use Rattle.inbox.proofs.Taking.{both-took, pair-none, pair-half, pair-took, as-none, as-took, such-none, such-refused, such-took}
 use Rattle.inbox.proofs.Arrays.{length-replicate}
 
 -- NUMBERS AND LABELS as they are read
@@ -75,6 +78,10 @@ pub part3-pass : {s : List ℕ} {at p n : ℕ} {r : Read} → Took group s at n 
 unfolding part3
 part3-pass {s} {at} {p} {n} {r} w d = record { said = as-said (λ p. record { number = p .0; index = p .1 }) (λ m. (m .number, m .index)) (group ⊕ group) s at r (both-said group group w r (d .said)) }
 
+-- by the part that an entry is of
+pub entry-as : {p q : Part} {s : List ℕ} {at : ℕ} {r : Read} → p ≡ q → (fs : List (List FaceDart)) → Passes (entry q fs) s at r → Passes (entry p fs) s at r
+entry-as {p} {q} {s} {at} {r} e fs d = subst (λ (x : Part). Passes (entry x fs) s at r) (sym e) d
+
 -- ALL ENTRIES
 module _ {A : Type 0} (l : Layout A) where
   pub record Passing (s : List ℕ) (at count left p : ℕ) : Type 0 where
@@ -122,6 +129,11 @@ pub size-there : {fs : List (List FaceDart)} {darts i : ℕ} {sizes : List ℕ} 
 size-there {fs} {darts} {i} {sizes} w h =
     let small : i < size-all fs = (let a = w .count in omega arith) in
     sym (getD-take (size-all fs) sizes i 0 small) ∙ ap (λ (l : List ℕ). getD l i 0) (w .front) ∙ sizes-at fs i small
+
+-- where there are no faces, any array has their sizes
+pub no-sizes : (sizes : List ℕ) → Sized [] 0 sizes
+unfolding size-all sizes-of
+no-sizes sizes = record { count = refl; front = refl }
 
 module _ (fs : List (List FaceDart)) where
   abbrev inside : Layout ℕ

@@ -1,12 +1,11 @@
 -- What a slice is as a message: the kind that it has, with its outline, or none. Assumes nothing.
 use mathlib.Core.Path.{_≡_}
 use mathlib.Core.List.{List}
-use mathlib.Core.Option.{none, some}
 use mathlib.Core.Bool.{true}
 use Prim.Native.Nat.{ℕ, _+_, _*_, _≤_}
-use lib.ListN.{length, drop}
-use Rattle.model.specs.Layouts.{times, whole}
-use Rattle.model.specs.Messages.{Transfer, Update, update, part2, part3, part4, size-all, a-transfer, an-update, no-message, message-in}
+use lib.ListN.{length}
+use Rattle.model.specs.Layouts.{times}
+use Rattle.model.specs.Messages.{Transfer, Update, part2, part3, part4, size-all, a-transfer, an-update, no-message, message-in}
 use Rattle.inbox.specs.declared.message.Front.{Front}
 use Rattle.inbox.specs.declared.message.Tail.{Tail}
 use Rattle.inbox.specs.declared.received.Received.{Received}
@@ -30,15 +29,6 @@ pub record TransferOutlined (t : Transfer) (s v x b z : List ℕ) (f : Front) (l
   pub part2-in : Took (times (l .count2) part2) s (l .part2) (t .part2) past2
   pub part3-in : Took (times (l .count3) part3) s (l .part3) (t .part3) past3
   pub part4-in : Took (times (l .count4) (part4 (t .faces))) s (l .part4) (t .part4) past4
-
--- AN UPDATE from a place to the last byte, or none there
-abbrev pub UpdateSaid : List ℕ → ℕ → Received → Type 0
-UpdateSaid s at (received.Transfer f l) = ⊥
-UpdateSaid s at (received.Update o) = (u : Update) × (whole update (drop at s) ≡ some u) × UpdateOutlined u s o
-UpdateSaid s at received.Nothing = whole update (drop at s) ≡ none
-
-pub record UpdateTold (s : List ℕ) (at : ℕ) (r : Received) : Type 0 where
-  pub said : UpdateSaid s at r
 
 -- 16: THE MESSAGE
 abbrev pub MessageSaid : List ℕ → List ℕ → List ℕ → List ℕ → List ℕ → Received → Type 0

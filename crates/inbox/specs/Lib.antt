@@ -1,3 +1,4 @@
 pub mod Inbox
+pub mod Parts
 pub mod Outlines
 pub mod Arrived

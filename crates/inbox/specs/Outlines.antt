@@ -7,10 +7,9 @@ use Prim.Native.Nat.{ℕ, _+_, _*_, _≤_}
 use lib.ListN.{length, drop}
 use Rattle.model.specs.Layouts.{Layout, group, _⊕_, at-most, exactly, times, counted, whole, unframed}
 use Rattle.model.specs.Messages.{FaceDart, Part2, Part3, Part4, Update, transfer, update, label, part1, part2, part3, part4, size-all}
-use Rattle.groups.specs.declared.Read.{Read}
-use Rattle.groups.specs.declared.Read.the-variants.{Value, Bad}
-use Rattle.inbox.specs.declared.message.HeadOrNot.{HeadOrNot}
-use Rattle.inbox.specs.declared.message.HeadOrNot.the-variants as head
+use Rattle.reader.specs.declared.Head.{Head}
+use Rattle.reader.specs.declared.HeadOrNot.{HeadOrNot}
+use Rattle.reader.specs.declared.HeadOrNot.the-variants as head
 use Rattle.inbox.specs.declared.message.CountedOrNot.{CountedOrNot}
 use Rattle.inbox.specs.declared.message.CountedOrNot.the-variants as entries
 use Rattle.inbox.specs.declared.message.Front.{Front}
@@ -24,20 +23,7 @@ use Rattle.inbox.specs.declared.message.UpdateOrNot.{UpdateOrNot}
 use Rattle.inbox.specs.declared.message.UpdateOrNot.the-variants as outline
 use Rattle.inbox.specs.Inbox.{Took, Sides, FacesIn, points-in, some-darts, is-hollow}
 
--- THE FRAME: "Its first number is the length of the rest"
-abbrev pub FrameSaid : List ℕ → Read → Type 0
-FrameSaid s Bad = (unframed transfer s ≡ none) × (unframed update s ≡ none)
-FrameSaid s (Value n p) = (unframed transfer s ≡ whole transfer (drop p s)) × (unframed update s ≡ whole update (drop p s)) × (p ≤ length s)
-
-pub record FrameRead (s : List ℕ) (r : Read) : Type 0 where
-  pub said : FrameSaid s r
-
 -- THE HEAD: kind, sender, receiver
-pub data NoHead (k : ℕ) (s : List ℕ) (at : ℕ) : Type 0 where
-  no-kind : exactly k .get (drop at s) ≡ none → NoHead k s at
-  no-from : (p : ℕ) → Took (exactly k) s at k p → at-most 15 .get (drop p s) ≡ none → NoHead k s at
-  no-to : (p q from : ℕ) → Took (exactly k) s at k p → Took (at-most 15) s p from q → at-most 15 .get (drop q s) ≡ none → NoHead k s at
-
 pub record Headed (k : ℕ) (s : List ℕ) (at from to next : ℕ) : Type 0 where
   pub past : ℕ
   pub after : ℕ
@@ -45,12 +31,22 @@ pub record Headed (k : ℕ) (s : List ℕ) (at from to next : ℕ) : Type 0 wher
   pub from-read : Took (at-most 15) s past from after
   pub to-read : Took (at-most 15) s after to next
 
-abbrev pub HeadSaid : ℕ → List ℕ → ℕ → HeadOrNot → Type 0
-HeadSaid k s at head.Not = NoHead k s at
-HeadSaid k s at (head.Head h) = Headed k s at (h .from) (h .to) (h .next)
+-- in its frame, "Its first number is the length of the rest": both kinds of message are read behind that number
+pub record Framed (s : List ℕ) (h : Head) : Type 0 where
+  pub transfer-as : unframed transfer s ≡ whole transfer (drop (h .body) s)
+  pub update-as : unframed update s ≡ whole update (drop (h .body) s)
+  pub past : ℕ
+  pub after : ℕ
+  pub kind-read : Took group s (h .body) (h .kind) past
+  pub from-read : Took (at-most 15) s past (h .from) after
+  pub to-read : Took (at-most 15) s after (h .to) (h .next)
 
-pub record HeadRead (k : ℕ) (s : List ℕ) (at : ℕ) (r : HeadOrNot) : Type 0 where
-  pub said : HeadSaid k s at r
+abbrev pub HeadSaid : List ℕ → HeadOrNot → Type 0
+HeadSaid s head.Not = (unframed transfer s ≡ none) × (unframed update s ≡ none)
+HeadSaid s (head.Head h) = Framed s h
+
+pub record HeadRead (s : List ℕ) (r : HeadOrNot) : Type 0 where
+  pub said : HeadSaid s r
 
 -- A COUNT and so many entries
 pub record Entries {A : Type 0} (l : Layout A) (s : List ℕ) (at count first next : ℕ) : Type 0 where

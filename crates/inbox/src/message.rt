@@ -1,58 +1,38 @@
-// Whole messages: the frame, the head, a transfer and an update. What is read is told by an outline; the rest stays where it stands.
+// Whole messages: the head in its frame, a transfer and an update. What is read is told by an outline; the rest stays where it stands.
 ghost use mathlib.Core.List.{List};
-ghost use Prim.Native.Nat.{_<_, _≤_};
+ghost use Prim.Native.Nat.{_≤_};
 ghost use lib.ListN.{length};
-ghost use Rattle.model.specs.Messages.{FaceDart, label, part2, part3, part4};
+ghost use Rattle.model.specs.Messages.{FaceDart};
 ghost use Rattle.inbox.specs.Inbox.{Sides, Sized};
-ghost use Rattle.inbox.specs.Outlines.{FrameRead, HeadRead, CountedRead, FrontRead, TailRead, UpdateRead};
+ghost use Rattle.inbox.specs.Outlines.{Headed, HeadRead, CountedRead, FrontRead, TailRead, UpdateRead};
+ghost use Rattle.inbox.specs.Parts.{entry};
 use crate::faces;
 use crate::faces::FacesOrNot;
 use crate::parts;
+use crate::parts::Part;
 use groups::Read;
 use memory::header::Header;
+use reader::Head;
+use reader::HeadOrNot;
 
-// The place past the first number, where that is the length of the rest.
-pub fn read_frame(s: &[u8]) -> Read
-    ensures { λ r. ⌜ FrameRead (now (s .entry)) r ⌝ }
+// The head of a slice whose first number is the length of the rest, and whose ends are blocks.
+pub fn framed_head(s: &[u8]) -> HeadOrNot
+    ensures { λ r. ⌜ HeadRead (now (s .entry)) r ⌝ }
 {
-    let Read::Value(n, past) = reader::read_group(s, 0) else {
-        return Read::Bad;
-    };
-    let rest = s.len() - past;
-    if rest as u64 != n {
-        return Read::Bad;
-    }
-    Read::Value(n, past)
-}
-
-// Kind, sender and receiver.
-pub struct Head {
-    pub from: u64,
-    pub to: u64,
-    pub next: usize,
-}
-
-pub enum HeadOrNot {
-    Head(Head),
-    Not,
-}
-
-fn read_head(s: &[u8], at: usize, kind: u64) -> HeadOrNot
-    ensures { λ r. ⌜ HeadRead kind (now (s .entry)) at r ⌝ }
-{
-    let Read::Value(k, past) = reader::read_group(s, at) else {
+    let HeadOrNot::Head(head) = reader::read_head(s) else {
         return HeadOrNot::Not;
     };
-    if k != kind {
+    let rest = s.len() - head.body;
+    if rest as u64 != head.length {
         return HeadOrNot::Not;
     }
-    let Read::Value(from, after) = reader::read_at_most(s, past, Header::BLOCKS - 1) else {
+    if Header::BLOCKS <= head.from {
         return HeadOrNot::Not;
-    };
-    let Read::Value(to, next) = reader::read_at_most(s, after, Header::BLOCKS - 1) else {
+    }
+    if Header::BLOCKS <= head.to {
         return HeadOrNot::Not;
-    };
-    HeadOrNot::Head(Head { from, to, next })
+    }
+    HeadOrNot::Head(head)
 }
 
 // A count, where the first entry stands, and the place past the last.
@@ -67,54 +47,15 @@ pub enum CountedOrNot {
     Not,
 }
 
-// Part 2.
-fn counted2(s: &[u8], at: usize) -> CountedOrNot
-    ensures { λ r. ⌜ CountedRead part2 (now (s .entry)) at r ⌝ }
-{
-    let Read::Value(count, first) = reader::read_group(s, at) else {
-        return CountedOrNot::Not;
-    };
-    let Read::Value(n, next) = parts::pass_parts2(s, first, count) else {
-        return CountedOrNot::Not;
-    };
-    CountedOrNot::Counted(Counted { count, first, next })
-}
-
-// Part 3.
-fn counted3(s: &[u8], at: usize) -> CountedOrNot
-    ensures { λ r. ⌜ CountedRead part3 (now (s .entry)) at r ⌝ }
-{
-    let Read::Value(count, first) = reader::read_group(s, at) else {
-        return CountedOrNot::Not;
-    };
-    let Read::Value(n, next) = parts::pass_parts3(s, first, count) else {
-        return CountedOrNot::Not;
-    };
-    CountedOrNot::Counted(Counted { count, first, next })
-}
-
-// Part 4.
-fn counted4(s: &[u8], at: usize, darts: usize, sizes: &[usize]) -> CountedOrNot
+// A part, in a message whose darts have faces of these sizes.
+fn counted_part(s: &[u8], at: usize, part: Part, darts: usize, sizes: &[usize]) -> CountedOrNot
     requires { ⌜ darts ≤ length (now sizes) ⌝ }
-    ensures { λ r. ⌜ ((fs : List (List FaceDart)) → Sized fs darts (now (sizes .entry)) → CountedRead (part4 fs) (now (s .entry)) at r) ⌝ }
+    ensures { λ r. ⌜ ((fs : List (List FaceDart)) → Sized fs darts (now (sizes .entry)) → CountedRead (entry part fs) (now (s .entry)) at r) ⌝ }
 {
     let Read::Value(count, first) = reader::read_group(s, at) else {
         return CountedOrNot::Not;
     };
-    let Read::Value(n, next) = parts::pass_parts4(s, first, count, darts, sizes) else {
-        return CountedOrNot::Not;
-    };
-    CountedOrNot::Counted(Counted { count, first, next })
-}
-
-// The labels of an update.
-fn counted_labels(s: &[u8], at: usize) -> CountedOrNot
-    ensures { λ r. ⌜ CountedRead label (now (s .entry)) at r ⌝ }
-{
-    let Read::Value(count, first) = reader::read_group(s, at) else {
-        return CountedOrNot::Not;
-    };
-    let Read::Value(n, next) = parts::pass_labels(s, first, count) else {
+    let Read::Value(n, next) = parts::pass_entries(s, first, part, count, darts, sizes) else {
         return CountedOrNot::Not;
     };
     CountedOrNot::Counted(Counted { count, first, next })
@@ -136,21 +77,18 @@ pub enum FrontOrNot {
     Not,
 }
 
-// Part 1 of a transfer; its darts go into the arrays.
+// Part 1 of a transfer after its head; its darts go into the arrays.
 pub fn read_front(
     s: &[u8],
-    at: usize,
+    head: Head,
     vertex: &mut [u64],
     serial: &mut [u64],
     starts: &mut [usize],
     sizes: &mut [usize],
 ) -> FrontOrNot
-    requires { ⌜ Sides (now vertex) (now serial) (now starts) (now sizes) ⌝ }
-    ensures { λ r. ⌜ FrontRead (now (s .entry)) at (now (vertex .exit)) (now (serial .exit)) (now (starts .exit)) (now (sizes .exit)) r ⌝ }
+    requires { ⌜ Headed 1 (now s) (head .body) (head .from) (head .to) (head .next) × Sides (now vertex) (now serial) (now starts) (now sizes) ⌝ }
+    ensures { λ r. ⌜ FrontRead (now (s .entry)) (head .body) (now (vertex .exit)) (now (serial .exit)) (now (starts .exit)) (now (sizes .exit)) r ⌝ }
 {
-    let HeadOrNot::Head(head) = read_head(s, at, 1) else {
-        return FrontOrNot::Not;
-    };
     let Read::Value(vertices, points) = faces::read_points(s, head.next) else {
         return FrontOrNot::Not;
     };
@@ -192,13 +130,15 @@ pub fn read_tail(s: &[u8], at: usize, darts: usize, sizes: &[usize]) -> TailOrNo
     requires { ⌜ darts ≤ length (now sizes) ⌝ }
     ensures { λ r. ⌜ ((fs : List (List FaceDart)) → Sized fs darts (now (sizes .entry)) → TailRead fs (now (s .entry)) at r) ⌝ }
 {
-    let CountedOrNot::Counted(second) = counted2(s, at) else {
+    let CountedOrNot::Counted(second) = counted_part(s, at, Part::Second, darts, sizes) else {
         return TailOrNot::Not;
     };
-    let CountedOrNot::Counted(third) = counted3(s, second.next) else {
+    let CountedOrNot::Counted(third) = counted_part(s, second.next, Part::Third, darts, sizes)
+    else {
         return TailOrNot::Not;
     };
-    let CountedOrNot::Counted(fourth) = counted4(s, third.next, darts, sizes) else {
+    let CountedOrNot::Counted(fourth) = counted_part(s, third.next, Part::Fourth, darts, sizes)
+    else {
         return TailOrNot::Not;
     };
     if fourth.next != s.len() {
@@ -228,17 +168,17 @@ pub enum UpdateOrNot {
     Not,
 }
 
-// An update from a place to the last byte.
-pub fn read_update(s: &[u8], at: usize) -> UpdateOrNot
-    ensures { λ r. ⌜ UpdateRead (now (s .entry)) at r ⌝ }
+// An update after its head, to the last byte.
+pub fn read_update(s: &[u8], head: Head) -> UpdateOrNot
+    requires { ⌜ Headed 2 (now s) (head .body) (head .from) (head .to) (head .next) ⌝ }
+    ensures { λ r. ⌜ UpdateRead (now (s .entry)) (head .body) r ⌝ }
 {
-    let HeadOrNot::Head(head) = read_head(s, at, 2) else {
-        return UpdateOrNot::Not;
-    };
     let Read::Value(block, past) = reader::read_at_most(s, head.next, Header::BLOCKS - 1) else {
         return UpdateOrNot::Not;
     };
-    let CountedOrNot::Counted(labels) = counted_labels(s, past) else {
+    // An update has no faces, so no sizes.
+    let none = [0usize; 1];
+    let CountedOrNot::Counted(labels) = counted_part(s, past, Part::Labels, 0, &none[0..1]) else {
         return UpdateOrNot::Not;
     };
     if labels.next != s.len() {

@@ -1,11 +1,11 @@
 // Parts 2 to 4 of a transfer and the labels of an update, passed over entry by entry; they stay where they stand.
-ghost use mathlib.Core.Path.{_≡_};
 ghost use mathlib.Core.List.{List};
 ghost use Prim.Native.Nat.{_≤_};
 ghost use lib.ListN.{length};
 ghost use Rattle.model.specs.Layouts.{times};
 ghost use Rattle.model.specs.Messages.{FaceDart, label, part2, part3, part4};
 ghost use Rattle.inbox.specs.Inbox.{Passes, Sized};
+ghost use Rattle.inbox.specs.Parts.{entry};
 use groups::Read;
 use memory::header::Header;
 use memory::record::MessageIndex;
@@ -28,42 +28,6 @@ pub fn pass_part3(s: &[u8], at: usize) -> Read
         return Read::Bad;
     };
     reader::read_group(s, past)
-}
-
-// So many entries of part 2.
-pub fn pass_parts2(s: &[u8], at: usize, count: u64) -> Read
-    requires { ⌜ at ≤ length (now s) ⌝ }
-    ensures { λ r. ⌜ Passes (times count part2) (now (s .entry)) at r ⌝ }
-{
-    // All but the last `left` are passed.
-    let mut left = count;
-    let mut p = at;
-    while 0 < left {
-        let Read::Value(index, next) = pass_part2(s, p) else {
-            return Read::Bad;
-        };
-        p = next;
-        left -= 1;
-    }
-    Read::Value(count, p)
-}
-
-// So many entries of part 3.
-pub fn pass_parts3(s: &[u8], at: usize, count: u64) -> Read
-    requires { ⌜ at ≤ length (now s) ⌝ }
-    ensures { λ r. ⌜ Passes (times count part3) (now (s .entry)) at r ⌝ }
-{
-    // All but the last `left` are passed.
-    let mut left = count;
-    let mut p = at;
-    while 0 < left {
-        let Read::Value(index, next) = pass_part3(s, p) else {
-            return Read::Bad;
-        };
-        p = next;
-        left -= 1;
-    }
-    Read::Value(count, p)
 }
 
 // So many labels.
@@ -102,16 +66,52 @@ pub fn pass_part4(s: &[u8], at: usize, darts: usize, sizes: &[usize]) -> Read
     pass_labels(s, from, size as u64)
 }
 
-// So many entries of part 4.
-pub fn pass_parts4(s: &[u8], at: usize, count: u64, darts: usize, sizes: &[usize]) -> Read
+// A part of a message: a count, and so many entries.
+pub enum Part {
+    Second,
+    Third,
+    Fourth,
+    Labels,
+}
+
+// An entry of a part, in a message whose darts have faces of these sizes.
+fn pass_entry(s: &[u8], at: usize, part: Part, darts: usize, sizes: &[usize]) -> Read
+    requires { ⌜ darts ≤ length (now sizes) ⌝ }
+    ensures { λ r. ⌜ ((fs : List (List FaceDart)) → Sized fs darts (now (sizes .entry)) → Passes (entry part fs) (now (s .entry)) at r) ⌝ }
+{
+    match part {
+        Part::Second => {
+            return pass_part2(s, at);
+        }
+        Part::Third => {
+            return pass_part3(s, at);
+        }
+        Part::Fourth => {
+            return pass_part4(s, at, darts, sizes);
+        }
+        Part::Labels => {
+            return reader::read_label(s, at);
+        }
+    }
+}
+
+// So many entries of a part.
+pub fn pass_entries(
+    s: &[u8],
+    at: usize,
+    part: Part,
+    count: u64,
+    darts: usize,
+    sizes: &[usize],
+) -> Read
     requires { ⌜ (at ≤ length (now s)) × (darts ≤ length (now sizes)) ⌝ }
-    ensures { λ r. ⌜ ((fs : List (List FaceDart)) → Sized fs darts (now (sizes .entry)) → Passes (times count (part4 fs)) (now (s .entry)) at r) ⌝ }
+    ensures { λ r. ⌜ ((fs : List (List FaceDart)) → Sized fs darts (now (sizes .entry)) → Passes (times count (entry part fs)) (now (s .entry)) at r) ⌝ }
 {
     // All but the last `left` are passed.
     let mut left = count;
     let mut p = at;
     while 0 < left {
-        let Read::Value(index, next) = pass_part4(s, p, darts, sizes) else {
+        let Read::Value(index, next) = pass_entry(s, p, part, darts, sizes) else {
             return Read::Bad;
         };
         p = next;

@@ -1,6 +1,6 @@
 // What a slice is: one message of a kind, to the last byte, or none. Question 16.
 ghost use Rattle.inbox.specs.Inbox.{Sides};
-ghost use Rattle.inbox.specs.Arrived.{UpdateTold, MessageRead};
+ghost use Rattle.inbox.specs.Arrived.{MessageRead};
 use crate::message;
 use crate::message::Front;
 use crate::message::FrontOrNot;
@@ -8,22 +8,12 @@ use crate::message::Tail;
 use crate::message::TailOrNot;
 use crate::message::Update;
 use crate::message::UpdateOrNot;
-use groups::Read;
+use reader::HeadOrNot;
 
 pub enum Received {
     Transfer(Front, Tail),
     Update(Update),
     Nothing,
-}
-
-// The update from a place to the last byte.
-fn update_from(s: &[u8], at: usize) -> Received
-    ensures { λ r. ⌜ UpdateTold (now (s .entry)) at r ⌝ }
-{
-    let UpdateOrNot::Update(update) = message::read_update(s, at) else {
-        return Received::Nothing;
-    };
-    Received::Update(update)
 }
 
 // The message that a slice is; the darts of a transfer go into the arrays.
@@ -37,14 +27,24 @@ pub fn message_in(
     requires { ⌜ Sides (now vertex) (now serial) (now starts) (now sizes) ⌝ }
     ensures { λ r. ⌜ MessageRead (now (s .entry)) (now (vertex .exit)) (now (serial .exit)) (now (starts .exit)) (now (sizes .exit)) r ⌝ }
 {
-    let Read::Value(n, at) = message::read_frame(s) else {
+    let HeadOrNot::Head(head) = message::framed_head(s) else {
         return Received::Nothing;
     };
-    let FrontOrNot::Front(front) = message::read_front(s, at, vertex, serial, starts, sizes) else {
-        return update_from(s, at);
-    };
-    let TailOrNot::Tail(tail) = message::read_tail(s, front.next, front.darts, sizes) else {
-        return update_from(s, at);
-    };
-    Received::Transfer(front, tail)
+    if head.kind == 1 {
+        let FrontOrNot::Front(front) = message::read_front(s, head, vertex, serial, starts, sizes)
+        else {
+            return Received::Nothing;
+        };
+        let TailOrNot::Tail(tail) = message::read_tail(s, front.next, front.darts, sizes) else {
+            return Received::Nothing;
+        };
+        return Received::Transfer(front, tail);
+    }
+    if head.kind == 2 {
+        let UpdateOrNot::Update(update) = message::read_update(s, head) else {
+            return Received::Nothing;
+        };
+        return Received::Update(update);
+    }
+    Received::Nothing
 }

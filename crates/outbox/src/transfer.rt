@@ -15,6 +15,7 @@ ghost use Rattle.outbox.specs.Whole.{Sized, first-bytes, parts-bytes, tr
 use crate::first;
 use crate::parts;
 use departure::Counts;
+use memory::header::Header;
 
 // How many entries parts 2 and 4 have, the bytes of the message after its first number, and those of the whole message.
 pub struct Sizes {
@@ -42,7 +43,7 @@ fn put_part1(
     ensures { λ r. ⌜ Stored (now (out .entry)) at (first-bytes (now (block .entry)) to counts (now (order .entry)) (now (starts .entry)) (now (numbers .entry)) (now (firsts .entry))) (now (out .exit)) r ⌝ }
 {
     let past_kind = groups::put_group(out, at, 1);
-    let past_from = groups::put_group(out, past_kind, block[0] as u32);
+    let past_from = groups::put_group(out, past_kind, block[Header::NUMBER] as u32);
     let past_to = groups::put_group(out, past_from, to as u32);
     let vertices = counts.vertices;
     let past_count = groups::put_group(out, past_to, vertices as u32);
@@ -80,7 +81,7 @@ fn put_parts(
     requires { ⌜ (getD (now block) 1 0 + counts .sewn < 2 ^ 32) × (at + length (parts-bytes (now block) to counts (now marks) (now order) (now starts)) < 2 ^ 63) ⌝ }
     ensures { λ r. ⌜ Stored (now (out .entry)) at (parts-bytes (now (block .entry)) to counts (now (marks .entry)) (now (order .entry)) (now (starts .entry))) (now (out .exit)) r ⌝ }
 {
-    let n = block[2] as usize;
+    let n = block[Header::COUNT] as usize;
     let faces = counts.faces;
     let past_two = groups::put_group(out, at, part2 as u32);
     let past_part2 = parts::put_part2s(block, to, order, starts, faces, out, past_two);
@@ -89,7 +90,7 @@ fn put_parts(
         block,
         n,
         marks,
-        block[1],
+        block[Header::COUNTER],
         order,
         starts,
         faces,

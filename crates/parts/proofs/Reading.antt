@@ -26,7 +26,7 @@ use Rattle.model.specs.Layouts.{Layout, group, times}
 use Rattle.model.specs.Messages.{label, part2, part3}
 use Rattle.laws.proofs.Members.{map-append}
 use Rattle.theory.proofs.LayoutLaws.{same-value}
-use Rattle.groups.specs.Slices.{read-at, label-code}
+use Rattle.groups.specs.Slices.{read-at}
 use Rattle.groups.specs.declared.Read.the-variants.{Value, Bad}
 use Rattle.groups.proofs.Ends.{bad-at}
 use Rattle.groups.proofs.Labels.{at-most-bound}
@@ -34,7 +34,10 @@ use Rattle.groups.specs.declared.Read.{Read as Answer}
 use Rattle.inbox.specs.Inbox.{most, Took, PassSaid, Passes, Sized}
 use Rattle.inbox.proofs.Taking.{took-group, such-took, pair-took, both-none, both-half, both-took, as-none, as-took, SoFar, so-far-start, so-far-more, so-far-stop, so-far-end}
 use Rattle.inbox.proofs.Passing.{no-label, took-label, size-there, part4-pass}
-use Rattle.parts.specs.Entries.{EntriesRead}
+use Rattle.memory.proofs.Labels.{code-label}
+use Rattle.parts.specs.declared.entries.Paired.{Paired}
+use Rattle.parts.specs.declared.entries.Paired.the-variants as paired
+use Rattle.parts.specs.Entries.{EntriesRead, Pair, pair, first, index, first-layout}
 
 -- an array has the numbers f of the entries so far
 front-more : {A : Type 0} (f : A → ℕ) (items : List A) (m : A) (a : List ℕ) (i y : ℕ) → length a ≡ most → i < most → take i a ≡ map f items
@@ -91,31 +94,41 @@ module _ {A : Type 0} (l : Layout A) (f g : A → ℕ) where
           seconds-are = λ ms past u. ap (λ (k : ℕ). take k b) (sym all-read) ∙ w .seconds-are ∙ ap (map g) (same-value (sym (t .value) ∙ u .value));
         }
 
--- AN ENTRY of part 2
-pub no-part2 : (s : List ℕ) (p : ℕ) → Bad ≡ read-at label-code s p → part2 .get (drop p s) ≡ none
-unfolding part2
-no-part2 s p e = as-none _ _ _ (drop p s) (both-none label group (drop p s) (no-label s p e))
+-- AN ENTRY of two numbers, by its part
+pub first-read : (s : List ℕ) (at : ℕ) {p q : Paired} {r : Answer} → p ≡ q → r ≡ read-at (first-layout q) s at → r ≡ read-at (first-layout p) s at
+first-read s at e d = d ∙ ap (λ (x : Paired). read-at (first-layout x) s at) (sym e)
 
-pub half-part2 : (s : List ℕ) (p a q : ℕ) → Value a q ≡ read-at label-code s p → Bad ≡ read-at group s q → part2 .get (drop p s) ≡ none
-unfolding part2
-half-part2 s p a q e d = as-none _ _ _ (drop p s) (both-half label group (took-label e) (bad-at group s q d))
+pub no-first : (p : Paired) (s : List ℕ) (at : ℕ) → Bad ≡ read-at (first-layout p) s at → pair p .get (drop at s) ≡ none
+unfolding part2 part3
+no-first paired.Second s at e = as-none _ _ _ (drop at s) (both-none label group (drop at s) (no-label s at e))
+no-first paired.Third s at e = as-none _ _ _ (drop at s) (both-none group group (drop at s) (bad-at group s at e))
 
-pub took-part2 : {s : List ℕ} {p a q i r : ℕ} → Value a q ≡ read-at label-code s p → Value i r ≡ read-at group s q → Took part2 s p (record { label = label-in a; index = i }) r
-unfolding part2
-took-part2 e d = as-took _ _ _ (both-took label group (took-label e) (took-group d))
+pub no-index : (p : Paired) (s : List ℕ) (at a q : ℕ) → Value a q ≡ read-at (first-layout p) s at → Bad ≡ read-at group s q → pair p .get (drop at s) ≡ none
+unfolding part2 part3
+no-index paired.Second s at a q e d = as-none _ _ _ (drop at s) (both-half label group (took-label e) (bad-at group s q d))
+no-index paired.Third s at a q e d = as-none _ _ _ (drop at s) (both-half group group (took-group e) (bad-at group s q d))
 
--- AN ENTRY of part 3
-pub no-part3 : (s : List ℕ) (p : ℕ) → Bad ≡ read-at group s p → part3 .get (drop p s) ≡ none
-unfolding part3
-no-part3 s p e = as-none _ _ _ (drop p s) (both-none group group (drop p s) (bad-at group s p e))
+-- the entry, with its two numbers
+pub record PairTook (p : Paired) (s : List ℕ) (at a i next : ℕ) : Type 0 where
+  pub pair-there : Pair p
+  pub took : Took (pair p) s at pair-there next
+  pub first-is : a ≡ first p pair-there
+  pub index-is : i ≡ index p pair-there
 
-pub half-part3 : (s : List ℕ) (p a q : ℕ) → Value a q ≡ read-at group s p → Bad ≡ read-at group s q → part3 .get (drop p s) ≡ none
-unfolding part3
-half-part3 s p a q e d = as-none _ _ _ (drop p s) (both-half group group (took-group e) (bad-at group s q d))
-
-pub took-part3 : {s : List ℕ} {p a q i r : ℕ} → Value a q ≡ read-at group s p → Value i r ≡ read-at group s q → Took part3 s p (record { number = a; index = i }) r
-unfolding part3
-took-part3 e d = as-took _ _ _ (both-took group group (took-group e) (took-group d))
+pub took-pair : (p : Paired) {s : List ℕ} {at a q i r : ℕ} → Value a q ≡ read-at (first-layout p) s at → Value i r ≡ read-at group s q → PairTook p s at a i r
+unfolding part2 part3
+took-pair paired.Second {a = a} {i = i} e d = record {
+  pair-there = record { label = label-in a; index = i };
+  took = as-took _ _ _ (both-took label group (took-label e) (took-group d));
+  first-is = sym (code-label a);
+  index-is = refl;
+}
+took-pair paired.Third {a = a} {i = i} e d = record {
+  pair-there = record { number = a; index = i };
+  took = as-took _ _ _ (both-took group group (took-group e) (took-group d));
+  first-is = refl;
+  index-is = refl;
+}
 
 -- AN ENTRY of part 4
 pub labels-are : (n : ℕ) {s : List ℕ} {at past : ℕ} {ls : List Label} → Took (times n label) s at ls past → labels-at s at n ≡ ls

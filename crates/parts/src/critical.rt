@@ -8,6 +8,7 @@ ghost use Rattle.model.specs.Image.{holds-block};
 ghost use Rattle.model.specs.Messages.{Transfer};
 ghost use Rattle.parts.specs.Critical.{few-entries, entries-fit, Arrives, CriticalRight};
 use crate::entries;
+use crate::entries::Paired;
 use crate::faces;
 use crate::fresh;
 use crate::indices;
@@ -78,8 +79,15 @@ pub fn critical_right(
     let mut fourth = [0u64; Header::VOLUME];
     let mut others = [0u64; Header::VOLUME];
     let mut places = [0usize; Header::VOLUME];
-    entries::read_part2(message, tail.part2, c2, codes, indices);
-    entries::read_part3(message, tail.part3, c3, &mut numbers, &mut third);
+    entries::read_pairs(message, tail.part2, Paired::Second, c2, codes, indices);
+    entries::read_pairs(
+        message,
+        tail.part3,
+        Paired::Third,
+        c3,
+        &mut numbers,
+        &mut third,
+    );
     entries::read_part4(
         message,
         tail.part4,

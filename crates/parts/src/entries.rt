@@ -3,51 +3,57 @@ ghost use mathlib.Core.Path.{_≡_};
 ghost use mathlib.Core.List.{List};
 ghost use Prim.Native.Nat.{_≤_};
 ghost use lib.ListN.{length};
-ghost use Rattle.model.specs.Messages.{FaceDart, part2, part3};
+ghost use Rattle.model.specs.Messages.{FaceDart};
+ghost use Rattle.groups.specs.Slices.{read-at};
 ghost use Rattle.inbox.specs.Inbox.{most, Sized};
-ghost use Rattle.parts.specs.Entries.{EntriesRead, EntryRead, Part4Read, code2, index2, number3, index3};
+ghost use Rattle.parts.specs.Entries.{EntriesRead, EntryRead, Part4Read, pair, first, index, first-layout};
 use groups::Read;
 use memory::header::Header;
 use memory::record::MessageIndex;
 
-// The codes of the labels of part 2, and its indices.
-pub fn read_part2(s: &[u8], at: usize, count: usize, codes: &mut [u64], indices: &mut [u64])
-    requires { ⌜ (at ≤ length (now s)) × (count ≤ most) × (length (now codes) ≡ most) × (length (now indices) ≡ most) ⌝ }
-    ensures { λ _. ⌜ EntriesRead part2 code2 index2 (now (s .entry)) at count (now (codes .exit)) (now (indices .exit)) ⌝ }
+// A part whose entries are two numbers: a label's code or a number, then an index.
+pub enum Paired {
+    Second,
+    Third,
+}
+
+// The first number of an entry.
+fn read_first(s: &[u8], at: usize, part: Paired) -> Read
+    ensures { λ r. ⌜ r ≡ read-at (first-layout part) (now (s .entry)) at ⌝ }
 {
-    // The entries below i are read.
-    let mut i = 0;
-    let mut p = at;
-    while i < count {
-        let Read::Value(code, past) = reader::read_label(s, p) else {
-            return;
-        };
-        let Read::Value(index, next) = reader::read_group(s, past) else {
-            return;
-        };
-        codes[i] = code;
-        indices[i] = index;
-        p = next;
-        i += 1;
+    match part {
+        Paired::Second => {
+            return reader::read_label(s, at);
+        }
+        Paired::Third => {
+            return reader::read_group(s, at);
+        }
     }
 }
 
-// The numbers of part 3, and its indices.
-pub fn read_part3(s: &[u8], at: usize, count: usize, numbers: &mut [u64], indices: &mut [u64])
-    requires { ⌜ (at ≤ length (now s)) × (count ≤ most) × (length (now numbers) ≡ most) × (length (now indices) ≡ most) ⌝ }
-    ensures { λ _. ⌜ EntriesRead part3 number3 index3 (now (s .entry)) at count (now (numbers .exit)) (now (indices .exit)) ⌝ }
+// The first numbers of a part's entries, and their indices.
+pub fn read_pairs(
+    s: &[u8],
+    at: usize,
+    part: Paired,
+    count: usize,
+    firsts: &mut [u64],
+    indices: &mut [u64],
+)
+    requires { ⌜ (at ≤ length (now s)) × (count ≤ most) × (length (now firsts) ≡ most) × (length (now indices) ≡ most) ⌝ }
+    ensures { λ _. ⌜ EntriesRead (pair part) (first part) (index part) (now (s .entry)) at count (now (firsts .exit)) (now (indices .exit)) ⌝ }
 {
     // The entries below i are read.
     let mut i = 0;
     let mut p = at;
     while i < count {
-        let Read::Value(number, past) = reader::read_group(s, p) else {
+        let Read::Value(first, past) = read_first(s, p, part) else {
             return;
         };
         let Read::Value(index, next) = reader::read_group(s, past) else {
             return;
         };
-        numbers[i] = number;
+        firsts[i] = first;
         indices[i] = index;
         p = next;
         i += 1;

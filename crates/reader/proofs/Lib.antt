@@ -1,2 +1,5 @@
+pub mod Heads
+pub mod Held
 pub mod Next
+pub mod Kept
 pub mod At

@@ -6,6 +6,7 @@ ghost use Rattle.model.specs.Image.{words-for, column};
 ghost use Rattle.savefile.specs.Named.{Small, third-named};
 use memory::record;
 use memory::record::Place;
+use memory::record::Record;
 
 // The serial of the dart whose place is word f of the dart at place p.
 pub fn serial_along(block: &[u64], p: Place, f: usize) -> u64
@@ -13,7 +14,7 @@ pub fn serial_along(block: &[u64], p: Place, f: usize) -> u64
     ensures { λ r. ⌜ r ≡ column (now (block .entry)) 0 (column (now (block .entry)) f (p .0)) ⌝ }
 {
     let q = record::field(block, p, f) as usize;
-    record::field(block, Place(q), 0)
+    record::field(block, Place(q), Record::SERIAL)
 }
 
 // What the third link of the dart at place p names: the serial of a sewn dart, the code of a label.
@@ -21,11 +22,11 @@ pub fn third_along(block: &[u64], p: Place) -> u64
     requires { ⌜ Small (now block) (p .0) ⌝ }
     ensures { λ r. ⌜ r ≡ third-named (now (block .entry)) (p .0) ⌝ }
 {
-    let k = record::field(block, p, 3);
+    let k = record::field(block, p, Record::KIND);
     if k % 4 == 1 {
         return serial_along(block, p, 4);
     }
-    record::field(block, p, 4)
+    record::field(block, p, Record::LINK)
 }
 
 // A word that holds a number below 2^32.

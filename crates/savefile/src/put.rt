@@ -13,16 +13,18 @@ ghost use Rattle.savefile.specs.Named.{link-bytes, header-bytes, Small, 
 use crate::links;
 use codec::entry;
 use codec::third;
+use memory::header::Header;
 use memory::point;
 use memory::record;
 use memory::record::Place;
+use memory::record::Record;
 
 // Serial, next and opposite of the dart at place p.
 fn put_links(block: &[u64], p: Place, out: &mut [u8], at: usize) -> usize
     requires { ⌜ Small (now block) (p .0) × (at + length (link-bytes (now block) (p .0)) < 2 ^ 63) ⌝ }
     ensures { λ r. ⌜ Stored (now (out .entry)) at (link-bytes (now (block .entry)) (p .0)) (now (out .exit)) r ⌝ }
 {
-    let past_serial = groups::put_serial(out, at, record::field(block, p, 0));
+    let past_serial = groups::put_serial(out, at, record::field(block, p, Record::SERIAL));
     let past_next = groups::put_serial(out, past_serial, links::serial_along(block, p, 1));
     groups::put_serial(out, past_next, links::serial_along(block, p, 2))
 }
@@ -33,7 +35,7 @@ fn put_dart(block: &[u64], p: Place, out: &mut [u8], at: usize) -> usize
     ensures { λ r. ⌜ Stored (now (out .entry)) at (a-dart .put (dart-in (now (block .entry)) (p .0))) (now (out .exit)) r ⌝ }
 {
     let past_links = put_links(block, p, out, at);
-    let kind = record::field(block, p, 3);
+    let kind = record::field(block, p, Record::KIND);
     let past_third = third::put_third(kind, links::third_along(block, p), out, past_links);
     entry::put_point(out, past_third, point::point_at(block, p))
 }
@@ -58,9 +60,9 @@ fn put_header(block: &[u64], out: &mut [u8]) -> usize
     requires { ⌜ holds-block (now block) ≡ true ⌝ }
     ensures { λ r. ⌜ Stored (now (out .entry)) 0 (header-bytes (now (block .entry))) (now (out .exit)) r ⌝ }
 {
-    let past_number = groups::put_group(out, 0, links::narrow(block[0]));
-    let past_counter = groups::put_group(out, past_number, links::narrow(block[1]));
-    groups::put_group(out, past_counter, links::narrow(block[2]))
+    let past_number = groups::put_group(out, 0, links::narrow(block[Header::NUMBER]));
+    let past_counter = groups::put_group(out, past_number, links::narrow(block[Header::COUNTER]));
+    groups::put_group(out, past_counter, links::narrow(block[Header::COUNT]))
 }
 
 // The whole file, from the output's first byte.
@@ -69,5 +71,5 @@ pub fn put_file(block: &[u64], out: &mut [u8]) -> usize
     ensures { λ r. ⌜ Stored (now (out .entry)) 0 (file rack .put (block-in (now (block .entry)))) (now (out .exit)) r ⌝ }
 {
     let past_header = put_header(block, out);
-    put_darts(block, block[2] as usize, out, past_header)
+    put_darts(block, block[Header::COUNT] as usize, out, past_header)
 }

@@ -9,6 +9,7 @@ ghost use Rattle.outbox.specs.Runs.{run, tally};
 ghost use Rattle.outbox.specs.Bytes.{Listed, Started, in-part2};
 ghost use Rattle.updates.specs.ByBlocks.{head-bytes, least-put, rest-for, size-for, update-bytes};
 use crate::labels;
+use memory::header::Header;
 
 // Whether block k is told, when the volume goes to block `to`: it shares `n` faces.
 pub fn relative(to: u64, k: u64, n: usize) -> bool
@@ -53,7 +54,7 @@ fn put_head(
 {
     let past_length = groups::put_group(out, at, rest as u32);
     let past_kind = groups::put_group(out, past_length, 2);
-    let past_from = groups::put_group(out, past_kind, block[0] as u32);
+    let past_from = groups::put_group(out, past_kind, block[Header::NUMBER] as u32);
     let past_to = groups::put_group(out, past_from, k as u32);
     let past_new = groups::put_group(out, past_to, to as u32);
     groups::put_group(out, past_new, n as u32)

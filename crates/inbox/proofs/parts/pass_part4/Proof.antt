@@ -1,6 +1,6 @@
 -- `inbox::parts::pass_part4` meets its contract: an index of a dart, a block, and as many labels as the face has darts.
 -- Assumes nothing.
-use mathlib.Core.Path.{refl, sym, _∙_}
+use mathlib.Core.Path.{sym, _∙_}
 use Rattle.model.specs.Layouts.{group, at-most}
 use Rattle.groups.proofs.Ends.{bad-at}
 use Rattle.inbox.proofs.Taking.{took-group, took-at-most}

@@ -1,15 +1,16 @@
--- `inbox::received::message_in` meets its contract: each answer is what the frame and the two layouts say.
+-- `inbox::received::message_in` meets its contract: each answer is what the head and the layout of its kind say.
 -- Assumes nothing.
-use Rattle.inbox.proofs.Arriving.{no-frame, front-missing, front-there, front-sized, front-fits, tail-missing, tail-there, other-read, transfer-read}
+use Rattle.inbox.proofs.Arriving.{no-head, head-there, front-missing, front-there, front-sized, front-fits, tail-missing, tail-there, update-missing, headed-as}
+use Rattle.inbox.proofs.Arriving.{other-than-transfer, not-both, nothing-read, neither-read, update-read, transfer-read}
 use borrow.Author.Needs.{needs}
 use Rattle.inbox.proofs.received.message_in.Statement.{statement}
 use Rattle.inbox.proofs.received.message_in.Tie as tie
 
-read-frame-requires : tie.Need-read-frame-requires
-read-frame-requires c κs = search needs
+framed-head-requires : tie.Need-framed-head-requires
+framed-head-requires c κs = search needs
 
-enum-known-n : tie.Need-enum-known-n
-enum-known-n c = search needs
+enum-known-head : tie.Need-enum-known-head
+enum-known-head c = search needs
 
 enum-told : tie.Need-enum-told
 enum-told c = search needs
@@ -17,20 +18,23 @@ enum-told c = search needs
 returns : tie.Need-returns
 returns c =
     let start : tie.Start = search in
-    let read-frame-ensures = (let p : tie.After-read-frame = search in p .read-frame .ensures) in
-    no-frame (start .pre) (c .enum-told .given .1) read-frame-ensures
+    let framed-head-ensures = (let p : tie.After-framed-head = search in p .framed-head .ensures) in
+    no-head (start .pre) (c .enum-told .given .1) framed-head-ensures
 
 read-front-requires : tie.Need-read-front-requires
-read-front-requires c κs = search needs
+read-front-requires c κs =
+    let start : tie.Start = search in
+    let framed-head-ensures = (let p : tie.After-framed-head = search in p .framed-head .ensures) in
+    let head-given = (let p : tie.After-head = search in p .head .given) in
+    let kind-one = (let p : tie.Then1 = search in p .if1 .taken) in
+    let framed = head-there (head-given .1) framed-head-ensures in
+    (headed-as framed kind-one, start .pre)
 
 enum-known-front : tie.Need-enum-known-front
 enum-known-front c = search needs
 
 enum-told-2 : tie.Need-enum-told-2
 enum-told-2 c = search needs
-
-update-from-requires : tie.Need-update-from-requires
-update-from-requires c κs = search needs
 
 same-length : tie.Need-same-length
 same-length c = search needs
@@ -46,11 +50,14 @@ same-length-4 c = search needs
 
 returns-2 : tie.Need-returns-2
 returns-2 c =
-    let read-frame-ensures = (let p : tie.After-read-frame = search in p .read-frame .ensures) in
-    let n-given = (let p : tie.After-n = search in p .n .given) in
-    let told = (let p : tie.After-enum-told2 = search in p .enum-told2 .given .1) in
     let read-front-ensures = (let p : tie.After-read-front = search in p .read-front .ensures) in
-    other-read (n-given .1) read-frame-ensures (read-front-ensures .sides) (front-missing read-front-ensures told) (c .update-from .ensures)
+    let told = (let p : tie.After-enum-told2 = search in p .enum-told2 .given .1) in
+    let c : tie.After-read-front = search in
+    let framed-head-ensures = (let p : tie.After-framed-head = search in p .framed-head .ensures) in
+    let head-given = (let p : tie.After-head = search in p .head .given) in
+    let kind-one = (let p : tie.Then1 = search in p .if1 .taken) in
+    let framed = head-there (head-given .1) framed-head-ensures in
+    nothing-read framed (read-front-ensures .sides) (front-missing read-front-ensures told) (not-both framed kind-one)
 
 read-tail-requires : tie.Need-read-tail-requires
 read-tail-requires c κs =
@@ -63,9 +70,6 @@ enum-known-tail c = search needs
 
 enum-told-3 : tie.Need-enum-told-3
 enum-told-3 c = search needs
-
-update-from-requires-2 : tie.Need-update-from-requires-2
-update-from-requires-2 c κs = search needs
 
 same-length-5 : tie.Need-same-length-5
 same-length-5 c = search needs
@@ -81,17 +85,17 @@ same-length-8 c = search needs
 
 returns-3 : tie.Need-returns-3
 returns-3 c =
-    let update-from2-ensures = (let p : tie.After-update-from2 = search in p .update-from2 .ensures) in
     let told = (let p : tie.After-enum-told3 = search in p .enum-told3 .given .1) in
     let read-tail-ensures = (let p : tie.After-read-tail = search in p .read-tail .ensures) in
     let front-given = (let p : tie.After-front = search in p .front .given) in
     let read-front-ensures = (let p : tie.After-read-front = search in p .read-front .ensures) in
     let c : tie.After-read-front = search in
-    let n-given = (let p : tie.After-n = search in p .n .given) in
-    let read-frame-ensures = (let p : tie.After-read-frame = search in p .read-frame .ensures) in
+    let framed-head-ensures = (let p : tie.After-framed-head = search in p .framed-head .ensures) in
+    let head-given = (let p : tie.After-head = search in p .head .given) in
+    let kind-one = (let p : tie.Then1 = search in p .if1 .taken) in
+    let framed = head-there (head-given .1) framed-head-ensures in
     let there = front-there read-front-ensures (front-given .1) in
-    other-read (n-given .1) read-frame-ensures (read-front-ensures .sides)
-    (tail-missing there (read-tail-ensures (there .fs) (front-sized there)) told) update-from2-ensures
+    nothing-read framed (read-front-ensures .sides) (tail-missing there (read-tail-ensures (there .fs) (front-sized there)) told) (not-both framed kind-one)
 
 same-length-9 : tie.Need-same-length-9
 same-length-9 c = search needs
@@ -112,24 +116,67 @@ returns-4 c =
     let front-given = (let p : tie.After-front = search in p .front .given) in
     let read-front-ensures = (let p : tie.After-read-front = search in p .read-front .ensures) in
     let c : tie.After-read-front = search in
-    let n-given = (let p : tie.After-n = search in p .n .given) in
-    let read-frame-ensures = (let p : tie.After-read-frame = search in p .read-frame .ensures) in
+    let framed-head-ensures = (let p : tie.After-framed-head = search in p .framed-head .ensures) in
+    let head-given = (let p : tie.After-head = search in p .head .given) in
+    let framed = head-there (head-given .1) framed-head-ensures in
     let there = front-there read-front-ensures (front-given .1) in
-    transfer-read (n-given .1) read-frame-ensures (read-front-ensures .sides) there
-    (tail-there there (read-tail-ensures (there .fs) (front-sized there)) (tail-given .1))
+    transfer-read framed (read-front-ensures .sides) there (tail-there there (read-tail-ensures (there .fs) (front-sized there)) (tail-given .1))
+
+read-update-requires : tie.Need-read-update-requires
+read-update-requires c κs =
+    let framed-head-ensures = (let p : tie.After-framed-head = search in p .framed-head .ensures) in
+    let head-given = (let p : tie.After-head = search in p .head .given) in
+    let kind-two = (let p : tie.Then2 = search in p .if2 .taken) in
+    let framed = head-there (head-given .1) framed-head-ensures in
+    headed-as framed kind-two
+
+enum-known-update : tie.Need-enum-known-update
+enum-known-update c = search needs
+
+enum-told-4 : tie.Need-enum-told-4
+enum-told-4 c = search needs
+
+returns-5 : tie.Need-returns-5
+returns-5 c =
+    let start : tie.Start = search in
+    let framed-head-ensures = (let p : tie.After-framed-head = search in p .framed-head .ensures) in
+    let head-given = (let p : tie.After-head = search in p .head .given) in
+    let read-update-ensures = (let p : tie.After-read-update = search in p .read-update .ensures) in
+    let if1-left = (let p : tie.Else1 = search in p .if1 .left) in
+    let framed = head-there (head-given .1) framed-head-ensures in
+    nothing-read framed (start .pre) (other-than-transfer framed if1-left) (update-missing read-update-ensures (c .enum-told4 .given .1))
+
+returns-6 : tie.Need-returns-6
+returns-6 c =
+    let start : tie.Start = search in
+    let framed-head-ensures = (let p : tie.After-framed-head = search in p .framed-head .ensures) in
+    let head-given = (let p : tie.After-head = search in p .head .given) in
+    let read-update-ensures = (let p : tie.After-read-update = search in p .read-update .ensures) in
+    let update-given = (let p : tie.After-update = search in p .update .given) in
+    let kind-two = (let p : tie.Then2 = search in p .if2 .taken) in
+    let framed = head-there (head-given .1) framed-head-ensures in
+    update-read framed (start .pre) kind-two (update-given .1) read-update-ensures
+
+returns-7 : tie.Need-returns-7
+returns-7 c =
+    let start : tie.Start = search in
+    let framed-head-ensures = (let p : tie.After-framed-head = search in p .framed-head .ensures) in
+    let head-given = (let p : tie.After-head = search in p .head .given) in
+    let if1-left = (let p : tie.Else1 = search in p .if1 .left) in
+    let framed = head-there (head-given .1) framed-head-ensures in
+    neither-read framed (start .pre) if1-left (c .if2 .left)
 
 pub message-in-spec : {M : Type 1} → statement M
 message-in-spec =
     tie.close
     (tie.spec
-    read-frame-requires
-    enum-known-n
+    framed-head-requires
+    enum-known-head
     enum-told
     returns
     read-front-requires
     enum-known-front
     enum-told-2
-    update-from-requires
     same-length
     same-length-2
     same-length-3
@@ -138,7 +185,6 @@ message-in-spec =
     read-tail-requires
     enum-known-tail
     enum-told-3
-    update-from-requires-2
     same-length-5
     same-length-6
     same-length-7
@@ -148,4 +194,10 @@ message-in-spec =
     same-length-10
     same-length-11
     same-length-12
-    returns-4)
+    returns-4
+    read-update-requires
+    enum-known-update
+    enum-told-4
+    returns-5
+    returns-6
+    returns-7)

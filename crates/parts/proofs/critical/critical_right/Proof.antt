@@ -32,8 +32,8 @@ returns c =
       (ap length (start .pre .0 .6) ∙ refl),
     )
 
-read-part2-requires : tie.Need-read-part2-requires
-read-part2-requires c κs =
+read-pairs-requires : tie.Need-read-pairs-requires
+read-pairs-requires c κs =
     let start : tie.Start = search in
     let tail = start .args .tail in
     let few-ensures = (let p : tie.After-few = search in p .few .ensures) in
@@ -44,14 +44,14 @@ read-part2-requires c κs =
       start .pre .0 .4,
     )
 
-slice-aggregate-read-part3 : tie.Need-slice-aggregate-read-part3
-slice-aggregate-read-part3 c = search needs
+slice-aggregate-read-pairs : tie.Need-slice-aggregate-read-pairs
+slice-aggregate-read-pairs c = search needs
 
-slice-aggregate-read-part3-2 : tie.Need-slice-aggregate-read-part3-2
-slice-aggregate-read-part3-2 c = search needs
+slice-aggregate-read-pairs-2 : tie.Need-slice-aggregate-read-pairs-2
+slice-aggregate-read-pairs-2 c = search needs
 
-read-part3-requires : tie.Need-read-part3-requires
-read-part3-requires c κs =
+read-pairs-requires-2 : tie.Need-read-pairs-requires-2
+read-pairs-requires-2 c κs =
     let start : tie.Start = search in
     let tail = start .args .tail in
     let few-ensures = (let p : tie.After-few = search in p .few .ensures) in
@@ -101,17 +101,17 @@ slice-aggregate-entries-fit-4 c = search needs
 entries-fit-requires : tie.Need-entries-fit-requires
 entries-fit-requires c κs =
     let read-part4-ensures = (let p : tie.After-read-part4 = search in p .read-part4 .ensures) in
-    let read-part3-ensures = (let p : tie.After-read-part3 = search in p .read-part3 .ensures) in
-    let c : tie.After-read-part3 = search in
-    let read-part2-ensures = (let p : tie.After-read-part2 = search in p .read-part2 .ensures) in
+    let read-pairs2-ensures = (let p : tie.After-read-pairs2 = search in p .read-pairs2 .ensures) in
+    let c : tie.After-read-pairs2 = search in
+    let read-pairs-ensures = (let p : tie.After-read-pairs = search in p .read-pairs .ensures) in
     let if1-left = (let p : tie.Else1 = search in p .if1 .left) in
     let few-ensures = (let p : tie.After-few = search in p .few .ensures) in
     let start : tie.Start = search in
     let tail = start .args .tail in
     let few-yes = sym few-ensures ∙ not-false _ if1-left in (
-      read-part2-ensures .second-size,
-      read-part3-ensures .second-size,
-      read-part3-ensures .first-size,
+      read-pairs-ensures .second-size,
+      read-pairs2-ensures .second-size,
+      read-pairs2-ensures .first-size,
       read-part4-ensures .0,
       read-part4-ensures .1,
       start .pre .0 .1,
@@ -132,9 +132,9 @@ returns-2 c =
     let if2-taken = (let p : tie.Then2 = search in p .if2 .taken) in
     let entries-fit-ensures = (let p : tie.After-entries-fit = search in p .entries-fit .ensures) in
     let read-part4-ensures = (let p : tie.After-read-part4 = search in p .read-part4 .ensures) in
-    let read-part3-ensures = (let p : tie.After-read-part3 = search in p .read-part3 .ensures) in
-    let c : tie.After-read-part3 = search in
-    let read-part2-ensures = (let p : tie.After-read-part2 = search in p .read-part2 .ensures) in
+    let read-pairs2-ensures = (let p : tie.After-read-pairs2 = search in p .read-pairs2 .ensures) in
+    let c : tie.After-read-pairs2 = search in
+    let read-pairs-ensures = (let p : tie.After-read-pairs = search in p .read-pairs .ensures) in
     let if1-left = (let p : tie.Else1 = search in p .if1 .left) in
     let few-ensures = (let p : tie.After-few = search in p .few .ensures) in
     let start : tie.Start = search in
@@ -143,10 +143,10 @@ returns-2 c =
     let from = start .args .from in
     let to = start .args .to in
     let tail = start .args .tail in (
-      entries-no block starts from to tail (sym few-ensures ∙ not-false _ if1-left) read-part2-ensures read-part3-ensures
+      entries-no block starts from to tail (sym few-ensures ∙ not-false _ if1-left) read-pairs-ensures read-pairs2-ensures
           read-part4-ensures (sym entries-fit-ensures ∙ not-true _ if2-taken),
-      read-part2-ensures .first-size,
-      read-part2-ensures .second-size,
+      read-pairs-ensures .first-size,
+      read-pairs-ensures .second-size,
       (ap length (start .pre .0 .5) ∙ refl),
       (ap length (start .pre .0 .6) ∙ refl),
     )
@@ -162,9 +162,9 @@ put-part3-requires c κs =
     let if2-left = (let p : tie.Else2 = search in p .if2 .left) in
     let entries-fit-ensures = (let p : tie.After-entries-fit = search in p .entries-fit .ensures) in
     let read-part4-ensures = (let p : tie.After-read-part4 = search in p .read-part4 .ensures) in
-    let read-part3-ensures = (let p : tie.After-read-part3 = search in p .read-part3 .ensures) in
-    let c : tie.After-read-part3 = search in
-    let read-part2-ensures = (let p : tie.After-read-part2 = search in p .read-part2 .ensures) in
+    let read-pairs2-ensures = (let p : tie.After-read-pairs2 = search in p .read-pairs2 .ensures) in
+    let c : tie.After-read-pairs2 = search in
+    let read-pairs-ensures = (let p : tie.After-read-pairs = search in p .read-pairs .ensures) in
     let if1-left = (let p : tie.Else1 = search in p .if1 .left) in
     let few-ensures = (let p : tie.After-few = search in p .few .ensures) in
     let start : tie.Start = search in
@@ -176,18 +176,18 @@ put-part3-requires c κs =
     let few-yes = sym few-ensures ∙ not-false _ if1-left in
     let entries-fit-yes = sym entries-fit-ensures ∙ not-false _ if2-left in (
       (
-        read-part3-ensures .second-size,
-        read-part3-ensures .first-size,
+        read-pairs2-ensures .second-size,
+        read-pairs2-ensures .first-size,
         start .pre .0 .2,
         (ap length (start .pre .0 .5) ∙ refl),
         (ap length (start .pre .0 .6) ∙ refl),
       ),
       (
-        put-spans3 block starts from to tail few-yes read-part2-ensures read-part3-ensures read-part4-ensures (start .pre .0 .8)
+        put-spans3 block starts from to tail few-yes read-pairs-ensures read-pairs2-ensures read-part4-ensures (start .pre .0 .8)
             entries-fit-yes (start .pre .1 .3),
         few3 tail few-yes,
         start .pre .0 .9,
-        put-numbers block starts from to tail few-yes read-part2-ensures read-part3-ensures read-part4-ensures (start .pre .0 .8)
+        put-numbers block starts from to tail few-yes read-pairs-ensures read-pairs2-ensures read-part4-ensures (start .pre .0 .8)
             entries-fit-yes (start .pre .1 .3),
       ),
     )
@@ -208,9 +208,9 @@ put-part4-requires c κs =
     let entries-fit-ensures = (let p : tie.After-entries-fit = search in p .entries-fit .ensures) in
     let c : tie.After-entries-fit = search in
     let read-part4-ensures = (let p : tie.After-read-part4 = search in p .read-part4 .ensures) in
-    let read-part3-ensures = (let p : tie.After-read-part3 = search in p .read-part3 .ensures) in
-    let c : tie.After-read-part3 = search in
-    let read-part2-ensures = (let p : tie.After-read-part2 = search in p .read-part2 .ensures) in
+    let read-pairs2-ensures = (let p : tie.After-read-pairs2 = search in p .read-pairs2 .ensures) in
+    let c : tie.After-read-pairs2 = search in
+    let read-pairs-ensures = (let p : tie.After-read-pairs = search in p .read-pairs .ensures) in
     let if1-left = (let p : tie.Else1 = search in p .if1 .left) in
     let few-ensures = (let p : tie.After-few = search in p .few .ensures) in
     let start : tie.Start = search in
@@ -230,12 +230,12 @@ put-part4-requires c κs =
         put-part3-ensures .1 .size,
       ),
       (
-        put-spans4 block starts from to tail few-yes read-part2-ensures read-part3-ensures read-part4-ensures (start .pre .0 .8)
+        put-spans4 block starts from to tail few-yes read-pairs-ensures read-pairs2-ensures read-part4-ensures (start .pre .0 .8)
             entries-fit-yes (start .pre .1 .3),
         few4 tail few-yes,
-        put-others block starts from to tail few-yes read-part2-ensures read-part3-ensures read-part4-ensures (start .pre .0 .8)
+        put-others block starts from to tail few-yes read-pairs-ensures read-pairs2-ensures read-part4-ensures (start .pre .0 .8)
             entries-fit-yes (start .pre .1 .3),
-        put-labels block starts from to tail few-yes read-part2-ensures read-part3-ensures read-part4-ensures (start .pre .0 .8)
+        put-labels block starts from to tail few-yes read-pairs-ensures read-pairs2-ensures read-part4-ensures (start .pre .0 .8)
             entries-fit-yes (start .pre .1 .3),
       ),
     )
@@ -256,8 +256,8 @@ labels-fit-requires c κs =
     let entries-fit-ensures = (let p : tie.After-entries-fit = search in p .entries-fit .ensures) in
     let read-part4-ensures = (let p : tie.After-read-part4 = search in p .read-part4 .ensures) in
     let c : tie.After-read-part4 = search in
-    let read-part3-ensures = (let p : tie.After-read-part3 = search in p .read-part3 .ensures) in
-    let read-part2-ensures = (let p : tie.After-read-part2 = search in p .read-part2 .ensures) in
+    let read-pairs2-ensures = (let p : tie.After-read-pairs2 = search in p .read-pairs2 .ensures) in
+    let read-pairs-ensures = (let p : tie.After-read-pairs = search in p .read-pairs .ensures) in
     let if1-left = (let p : tie.Else1 = search in p .if1 .left) in
     let few-ensures = (let p : tie.After-few = search in p .few .ensures) in
     let c : tie.After-few = search in
@@ -275,7 +275,7 @@ labels-fit-requires c κs =
         start .pre .0 .7,
         start .pre .0 .8,
       ),
-      put-small block starts from to tail (sym few-ensures ∙ not-false _ if1-left) read-part2-ensures read-part3-ensures
+      put-small block starts from to tail (sym few-ensures ∙ not-false _ if1-left) read-pairs-ensures read-pairs2-ensures
           read-part4-ensures (start .pre .0 .8) (sym entries-fit-ensures ∙ not-false _ if2-left) (start .pre .0 .9) (start .pre .0 .5)
           (start .pre .0 .6) (put-part3-ensures .0) (put-part4-ensures .0) (put-part3-ensures .1) (put-part4-ensures .1)
           (start .pre .1 .3),
@@ -285,17 +285,17 @@ same-length-3 : tie.Need-same-length-3
 same-length-3 c =
     let c : tie.After-numbers4 = search in
     let c : tie.After-slice-known6 = search in
-    let read-part2-ensures = (let p : tie.After-read-part2 = search in p .read-part2 .ensures) in
+    let read-pairs-ensures = (let p : tie.After-read-pairs = search in p .read-pairs .ensures) in
     let start : tie.Start = search in
-    read-part2-ensures .first-size ∙ sym (start .pre .0 .3)
+    read-pairs-ensures .first-size ∙ sym (start .pre .0 .3)
 
 same-length-4 : tie.Need-same-length-4
 same-length-4 c =
     let c : tie.After-numbers4 = search in
     let c : tie.After-slice-known6 = search in
-    let read-part2-ensures = (let p : tie.After-read-part2 = search in p .read-part2 .ensures) in
+    let read-pairs-ensures = (let p : tie.After-read-pairs = search in p .read-pairs .ensures) in
     let start : tie.Start = search in
-    read-part2-ensures .second-size ∙ sym (start .pre .0 .4)
+    read-pairs-ensures .second-size ∙ sym (start .pre .0 .4)
 
 same-length-5 : tie.Need-same-length-5
 same-length-5 c = search needs
@@ -313,8 +313,8 @@ returns-3 c =
     let entries-fit-ensures = (let p : tie.After-entries-fit = search in p .entries-fit .ensures) in
     let read-part4-ensures = (let p : tie.After-read-part4 = search in p .read-part4 .ensures) in
     let c : tie.After-read-part4 = search in
-    let read-part3-ensures = (let p : tie.After-read-part3 = search in p .read-part3 .ensures) in
-    let read-part2-ensures = (let p : tie.After-read-part2 = search in p .read-part2 .ensures) in
+    let read-pairs2-ensures = (let p : tie.After-read-pairs2 = search in p .read-pairs2 .ensures) in
+    let read-pairs-ensures = (let p : tie.After-read-pairs = search in p .read-pairs .ensures) in
     let if1-left = (let p : tie.Else1 = search in p .if1 .left) in
     let few-ensures = (let p : tie.After-few = search in p .few .ensures) in
     let c : tie.After-few = search in
@@ -324,12 +324,12 @@ returns-3 c =
     let from = start .args .from in
     let to = start .args .to in
     let tail = start .args .tail in (
-      labels-tell block starts from to tail (sym few-ensures ∙ not-false _ if1-left) read-part2-ensures read-part3-ensures
+      labels-tell block starts from to tail (sym few-ensures ∙ not-false _ if1-left) read-pairs-ensures read-pairs2-ensures
           read-part4-ensures (start .pre .0 .8) (sym entries-fit-ensures ∙ not-false _ if2-left) (start .pre .0 .9) (start .pre .0 .5)
           (start .pre .0 .6) (put-part3-ensures .0) (put-part4-ensures .0) (put-part3-ensures .1) (put-part4-ensures .1)
           (start .pre .0 .0) labels-fit-ensures,
-      read-part2-ensures .first-size,
-      read-part2-ensures .second-size,
+      read-pairs-ensures .first-size,
+      read-pairs-ensures .second-size,
       put-part4-ensures .0 .size,
       put-part4-ensures .1 .size,
     )
@@ -340,10 +340,10 @@ critical-right-spec =
     (tie.spec
     few-requires
     returns
-    read-part2-requires
-    slice-aggregate-read-part3
-    slice-aggregate-read-part3-2
-    read-part3-requires
+    read-pairs-requires
+    slice-aggregate-read-pairs
+    slice-aggregate-read-pairs-2
+    read-pairs-requires-2
     slice-aggregate-read-part4
     slice-aggregate-read-part4-2
     slice-aggregate-read-part4-3
