@@ -53,7 +53,7 @@ enum Found {
 fn from_donor(
     mesh: &[u64],
     o: Oracle,
-    surplus: [i32; surplus::BLOCKS],
+    surplus: [i32; memory::header::BLOCKS],
     d: usize,
     sizes: &mut [usize],
 ) -> Found
@@ -84,7 +84,7 @@ fn from_donor(
 fn first_move(
     mesh: &[u64],
     o: Oracle,
-    surplus: [i32; surplus::BLOCKS],
+    surplus: [i32; memory::header::BLOCKS],
     sizes: &mut [usize],
 ) -> NextMove
     requires { ⌜ SoundParts (now mesh) × Surpluses (oracle-of o) (now mesh) surplus × (length (now sizes) ≡ room) ⌝ }

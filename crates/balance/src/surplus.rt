@@ -8,11 +8,9 @@ ghost use Rattle.model.specs.Balance.{is-above as above-zero, is-below as below
 ghost use Rattle.oracle.specs.Oracle.{oracle-of};
 ghost use Rattle.mesh.specs.Parts.{blocks};
 ghost use Rattle.balance.specs.Moves.{SoundParts, count-at, Counted, Surpluses};
+use memory::header::BLOCKS;
 use memory::header::Header;
 use oracle::Oracle;
-
-// Blocks that a mesh may have, as the length of an array.
-pub const BLOCKS: usize = Header::BLOCKS as usize;
 
 // How many volumes of block i are picked.
 fn count_part(mesh: &[u64], i: usize, o: Oracle) -> u32

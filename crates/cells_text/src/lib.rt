@@ -1,7 +1,6 @@
 // The cells of a block, a line for each: least serial, darts, faces, critical faces by the other block, mean of the corners.
 use corners::Mean;
 use corners::thousandths::Thousandths;
-use memory::header::Header;
 use stats::rows::Told;
 use store::say;
 
@@ -71,7 +70,7 @@ fn show_border(told: bool, o: usize, n: u64) -> bool {
 fn show_borders(row: &[u64]) {
     let mut told = false;
     let mut o: usize = 0;
-    while o < Header::BLOCKS as usize {
+    while o < memory::header::BLOCKS {
         told = show_border(told, o, word(row, 3 + o));
         o += 1;
     }

@@ -103,7 +103,7 @@ fn first_with_kind(kind: u64, mesh: &[u64]) -> usize {
 fn say_missing(mesh: &[u64]) -> bool {
     let k = mesh.len() / Header::WORDS;
     let mut m = k;
-    while m < Header::BLOCKS as usize {
+    while m < memory::header::BLOCKS {
         // critical with block m
         let b = first_with_kind(2 + 4 * (m as u64), mesh);
         if b < k {

@@ -48,6 +48,13 @@ const COUNTS: [u8; 33] = [
     5,
 ];
 
+// Numbers and positions of a label lie below these; makers are blocks.
+const NUMBERS: u64 = 4294967296;
+
+const POSITIONS: u64 = 4096;
+
+const MAKERS: u64 = 16;
+
 // The value that was read and the place past it, or that no value stands there.
 pub enum Read {
     Value(u64, usize),
@@ -333,23 +340,23 @@ pub fn put_label(out: &mut [u8], at: usize, code: u64) -> usize
     requires { ⌜ at + length (label .put (label-in code)) < 2 ^ 63 ⌝ }
     ensures { λ r. ⌜ Stored (now (out .entry)) at (label .put (label-in code)) (now (out .exit)) r ⌝ }
 {
-    let past_maker = put_group(out, at, (code / 4096 / 4294967296) as u32);
-    let past_number = put_group(out, past_maker, (code / 4096 % 4294967296) as u32);
-    put_group(out, past_number, (code % 4096) as u32)
+    let past_maker = put_group(out, at, (code / POSITIONS / NUMBERS) as u32);
+    let past_number = put_group(out, past_maker, (code / POSITIONS % NUMBERS) as u32);
+    put_group(out, past_number, (code % POSITIONS) as u32)
 }
 
 // A label, as its code.
 pub fn read_label(s: &[u8], at: usize) -> Read
     ensures { λ r. ⌜ r ≡ read-at label-code (now (s .entry)) at ⌝ }
 {
-    let Read::Value(maker, past_maker) = read_at_most(s, at, 15) else {
+    let Read::Value(maker, past_maker) = read_at_most(s, at, MAKERS - 1) else {
         return Read::Bad;
     };
     let Read::Value(number, past_number) = read_group(s, past_maker) else {
         return Read::Bad;
     };
-    let Read::Value(position, next) = read_at_most(s, past_number, 4095) else {
+    let Read::Value(position, next) = read_at_most(s, past_number, POSITIONS - 1) else {
         return Read::Bad;
     };
-    Read::Value((maker * 4294967296 + number) * 4096 + position, next)
+    Read::Value((maker * NUMBERS + number) * POSITIONS + position, next)
 }

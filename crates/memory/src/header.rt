@@ -11,6 +11,9 @@ ghost use Rattle.memory.specs.Header.{empty-header, header-in, header-wo
 use answers::Answer;
 use answers::Refusal;
 
+// Blocks that a mesh may have, as the length of an array.
+pub const BLOCKS: usize = Header::BLOCKS as usize;
+
 // The header by value. A block's sizes are its constants.
 pub struct Header {
     pub number: u64,

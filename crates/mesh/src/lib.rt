@@ -99,7 +99,7 @@ pub fn blocks_right(mesh: &[u64]) -> bool
     if k < 1 {
         return false;
     }
-    if (Header::BLOCKS as usize) < k {
+    if memory::header::BLOCKS < k {
         return false;
     }
     numbered(mesh, k)

@@ -4,7 +4,6 @@ ghost use mathlib.Core.Bool.{false};
 ghost use lib.ListN.{getD};
 ghost use Rattle.saving.specs.Plan.{save-step, writing-step, placing-step, mend-step, tidied};
 use commands::names::File;
-use memory::header::Header;
 
 // Write a file; give it another name; take it away; have the disk keep the folder's names.
 pub enum Step {
@@ -105,10 +104,10 @@ pub fn mend(k: usize, there: &[bool], i: usize) -> Step
         return Step::Keep;
     }
     let b = i - 1;
-    if b < Header::BLOCKS as usize {
+    if b < memory::header::BLOCKS {
         return tidy(k, there, b);
     }
-    if b == Header::BLOCKS as usize {
+    if b == memory::header::BLOCKS {
         if says(there, 16) {
             return Step::Remove(File::NewCommit);
         }

@@ -108,7 +108,7 @@ fn put_commit(mesh: &[u64], room: &mut [u8]) -> Made
     if k < 1 {
         return Made::Cannot;
     }
-    if (Header::BLOCKS as usize) < k {
+    if memory::header::BLOCKS < k {
         return Made::Cannot;
     }
     let n = 8 + 16 * k;

@@ -28,8 +28,8 @@ pub fn send(block: &[u64], to: u64, serial: u64, outbox: &mut [u8]) -> Written
     let mut numbers = [0usize; Header::DARTS];
     let mut firsts = [0usize; Header::DARTS];
     let mut stamps = [0usize; Header::VOLUME];
-    let mut labels = [0usize; 16];
-    let mut bytes = [0usize; 16];
+    let mut labels = [0usize; memory::header::BLOCKS];
+    let mut bytes = [0usize; memory::header::BLOCKS];
     volume::send_volume(
         block,
         Limits::rack(),

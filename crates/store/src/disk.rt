@@ -168,7 +168,7 @@ fn are_right(bytes: &[u8], k: usize, room: &mut [u8]) -> bool {
 fn new_files() -> [bool; 17] {
     let mut there = [false; 17];
     let mut b = 0;
-    while b < Header::BLOCKS as usize {
+    while b < memory::header::BLOCKS {
         there[b] = is_there(File::NewBlock(b));
         b += 1;
     }

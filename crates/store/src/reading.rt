@@ -93,7 +93,7 @@ fn take_named(b: usize, held: &mut [i32], mesh: &mut [u64], room: &mut [u8]) -> 
 // The first block from k on whose file is there; 16 where there is none.
 fn next_there(k: usize) -> usize {
     let mut b = k;
-    while b < Header::BLOCKS as usize {
+    while b < memory::header::BLOCKS {
         if files::is_there(&names::block(b)) {
             return b;
         }
@@ -105,7 +105,7 @@ fn next_there(k: usize) -> usize {
 // The blocks once block k is not found.
 fn counted(k: usize) -> Seen {
     let behind = next_there(k);
-    if behind < Header::BLOCKS as usize {
+    if behind < memory::header::BLOCKS {
         return Seen::Gap(k, behind);
     }
     Seen::Blocks(k)
@@ -114,7 +114,7 @@ fn counted(k: usize) -> Seen {
 // The files under the names, from block 0 on.
 fn take_names(held: &mut [i32], mesh: &mut [u64], room: &mut [u8]) -> Seen {
     let mut b = 0;
-    while b < Header::BLOCKS as usize {
+    while b < memory::header::BLOCKS {
         match take_named(b, held, mesh, room) {
             Part::Block => {
                 b += 1;
@@ -127,7 +127,7 @@ fn take_names(held: &mut [i32], mesh: &mut [u64], room: &mut [u8]) -> Seen {
             }
         }
     }
-    Seen::Blocks(Header::BLOCKS as usize)
+    Seen::Blocksmemory::header::BLOCKS
 }
 
 // Whether block b's name still leads to the file that is held, if one is.
@@ -145,7 +145,7 @@ fn stands(b: usize, held: &[i32]) -> bool {
 // Whether each name still leads to the file that is held.
 fn all_stand(held: &[i32]) -> bool {
     let mut b = 0;
-    while b < Header::BLOCKS as usize {
+    while b < memory::header::BLOCKS {
         if !stands(b, held) {
             return false;
         }
@@ -171,7 +171,7 @@ fn has_commit() -> bool {
 
 // What stands under the names, if it stood there at one moment without a commit.
 fn see_names(mesh: &mut [u64], room: &mut [u8]) -> Seen {
-    let mut held = [-1i32; Header::BLOCKS as usize];
+    let mut held = [-1i32; memory::header::BLOCKS];
     let seen = take_names(&mut held, mesh, room);
     let quiet = !has_commit();
     let steady = all_stand(&held);

@@ -26,7 +26,7 @@ fn sum_sizes(to: u64, labels: &[usize], bytes: &[usize]) -> usize
     // The messages before block k take `size` bytes.
     let mut size = 0;
     let mut k = 0;
-    while k < 16 {
+    while k < memory::header::BLOCKS {
         size += message::update_size(to, k as u64, labels[k], bytes[k]);
         k += 1;
     }
@@ -82,7 +82,7 @@ pub fn put_updates(
     // The messages before block k are put, up to `at`.
     let mut at = from;
     let mut k = 0;
-    while k < 16 {
+    while k < memory::header::BLOCKS {
         let other = k as u64;
         let n = labels[k];
         let b = bytes[k];

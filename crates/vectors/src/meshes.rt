@@ -17,7 +17,7 @@ fn word_at(mesh: &[u64], at: usize) -> u64 {
 
 // Word i of block b.
 fn word_of(mesh: &[u64], b: usize, i: usize) -> u64 {
-    if b < Header::BLOCKS as usize {
+    if b < memory::header::BLOCKS {
         if i < Header::WORDS {
             return word_at(mesh, b * Header::WORDS + i);
         }
