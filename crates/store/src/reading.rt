@@ -127,7 +127,7 @@ fn take_names(held: &mut [i32], mesh: &mut [u64], room: &mut [u8]) -> Seen {
             }
         }
     }
-    Seen::Blocksmemory::header::BLOCKS
+    Seen::Blocks(memory::header::BLOCKS)
 }
 
 // Whether block b's name still leads to the file that is held, if one is.
