@@ -5,7 +5,7 @@ pub mod PairLaws
 pub mod DraftLaws
 pub mod NewDarts
 pub mod VolumeLaws
-pub mod CoupleLaws
+pub mod EdgeLaws
 pub mod Steps
 pub mod Drafting
 pub mod Nineteen

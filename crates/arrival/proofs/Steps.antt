@@ -14,9 +14,9 @@ use Rattle.laws.proofs.Tests.{by-cases, last-or-below, and-false}
 use Rattle.laws.proofs.Maps.{tab-more}
 use Rattle.laws.proofs.Tables.{getD-tab, tab-all, all-tab}
 use Rattle.ranking.specs.Ranks.{Ranked}
-use Rattle.arrival.specs.Sides.{next-index, order-at, pair-at, couple-at, ends-differ, Segments, Small}
-use Rattle.arrival.specs.Draft.{Coupled, Paired}
-use Rattle.arrival.proofs.CoupleLaws.{couple-small, distinct-couples, coupled-is, coupled-opposed}
+use Rattle.arrival.specs.Sides.{next-index, order-at, pair-at, edge-at, ends-differ, Segments, Small}
+use Rattle.arrival.specs.Draft.{Edged, Paired}
+use Rattle.arrival.proofs.EdgeLaws.{edge-small, distinct-edges, edged-is, edged-opposed}
 use Rattle.arrival.proofs.SegmentLaws.{next-below}
 
 -- A TEST OF EACH INDEX: those before i pass
@@ -83,25 +83,25 @@ all-one-more p (y ∷ l) x = by-cases (p y) (λ e. rw e (all-one-more p l x)) (�
 pub record Pairing (v b z : List ℕ) (k : ℕ) (pairs : List ℕ) (ok : Bool) (i : ℕ) : Type 0 where
   pub le : i ≤ k
   pub len : length pairs ≡ 512
-  pub front : take i pairs ≡ tab (couple-at v b z) i
+  pub front : take i pairs ≡ tab (edge-at v b z) i
   pub ok-is : ok ≡ all (ends-differ v b z) (tab (λ j. j) i)
 
 pub pairing-none : (v b z : List ℕ) (k : ℕ) {pairs : List ℕ} → length pairs ≡ 512 → Pairing v b z k pairs true 0
 pairing-none v b z k e = record { le = omega arith; len = e; front = refl; ok-is = refl }
 
 pub pairing-more : {v b z : List ℕ} {k : ℕ} {pairs : List ℕ} {ok : Bool} {i c : ℕ} {more : Bool} → Pairing v b z k pairs ok i → k ≤ 512 → i < k
-    → c ≡ couple-at v b z i → more ≡ (ok && ends-differ v b z i) → Pairing v b z k (set pairs i c) more (i + 1)
+    → c ≡ edge-at v b z i → more ≡ (ok && ends-differ v b z i) → Pairing v b z k (set pairs i c) more (i + 1)
 pairing-more {v} {b} {z} {k} {pairs} {ok} {i} {c} w few h e o =
     let s : i + 1 ≡ suc i = omega arith in
     record {
       le = omega arith;
       len = length-set pairs i c ∙ w .len;
-      front = rw s (take-suc-set pairs i c (omega (arith, w .len)) ∙ ap (λ (l : List ℕ). l ++ c ∷ []) (w .front) ∙ rw e (tab-more (couple-at v b z) i));
+      front = rw s (take-suc-set pairs i c (omega (arith, w .len)) ∙ ap (λ (l : List ℕ). l ++ c ∷ []) (w .front) ∙ rw e (tab-more (edge-at v b z) i));
       ok-is = rw s (o ∙ ap (λ (a : Bool). a && ends-differ v b z i) (w .ok-is) ∙ sym (all-one-more (ends-differ v b z) (tab (λ j. j) i) i) ∙ ap (all (ends-differ v b z)) (tab-more (λ j. j) i));
     }
 
 pub pairing-all : {v b z : List ℕ} {k : ℕ} {pairs : List ℕ} {ok : Bool} {i : ℕ} → Pairing v b z k pairs ok i → k ≤ i
-    → (ok ≡ all (ends-differ v b z) (tab (λ j. j) k)) × (take k pairs ≡ tab (couple-at v b z) k) × (length pairs ≡ 512)
+    → (ok ≡ all (ends-differ v b z) (tab (λ j. j) k)) × (take k pairs ≡ tab (edge-at v b z) k) × (length pairs ≡ 512)
 pairing-all {v} {b} {z} {k} {pairs} {ok} {i} w h = let e : i ≡ k = omega (arith, w .le, h) in (rw (sym e) (w .ok-is), rw (sym e) (w .front), w .len)
 
 -- ALL OF THE PAIRS
@@ -109,16 +109,16 @@ module _ (v b z : List ℕ) (k : ℕ) where
   pub paired-ends : {q : List ℕ} → all (ends-differ v b z) (tab (λ i. i) k) ≡ false → Paired v b z k q false
   paired-ends e = record { is = rw e refl; opposed = λ y. absurd (true≢false (sym y)) }
 
-  module _ (seg : Segments b z k) (small : Small v k) (pairs : List ℕ) (are : take k pairs ≡ tab (couple-at v b z) k) where
+  module _ (seg : Segments b z k) (small : Small v k) (pairs : List ℕ) (are : take k pairs ≡ tab (edge-at v b z) k) where
     once : distinct (take k pairs) ≡ distinct (tab (pair-at v b z) k)
-    once = ap distinct are ∙ distinct-couples v seg small
+    once = ap distinct are ∙ distinct-edges v seg small
 
     pub paired-twice : {q : List ℕ} → distinct (take k pairs) ≡ false → Paired v b z k q false
     paired-twice e = record { is = rw (sym once ∙ e, and-false (all (ends-differ v b z) (tab (λ i. i) k))) refl; opposed = λ y. absurd (true≢false (sym y)) }
 
     pub paired-found : {keys ranks q : List ℕ} {r : Bool} → all (ends-differ v b z) (tab (λ i. i) k) ≡ true → distinct (take k pairs) ≡ true
-        → Ranked pairs k keys ranks → Coupled keys k q r → Paired v b z k q r
-    paired-found {keys} {ranks} {q} {r} e d w c = record { is = rw (e, sym once ∙ d) (coupled-is v seg small are w c apart); opposed = coupled-opposed v seg small are w c }
+        → Ranked pairs k keys ranks → Edged keys k q r → Paired v b z k q r
+    paired-found {keys} {ranks} {q} {r} e d w c = record { is = rw (e, sym once ∙ d) (edged-is v seg small are w c apart); opposed = edged-opposed v seg small are w c }
       where
         apart : (i : ℕ) → i < k → getD v i 0 ≡ getD v (next-index b z i) 0 → ⊥
         apart i h s = true≢false (sym (all-tab (ends-differ v b z) (λ i. i) k e i h) ∙ rw (eq-eqb (getD v i 0) (getD v (next-index b z i) 0) s) refl)
@@ -126,6 +126,6 @@ module _ (v b z : List ℕ) (k : ℕ) where
     -- a pair is a small number
     pub pair-fits : (i : ℕ) → i < k → getD pairs i 0 < 2 ^ 54
     pair-fits i h =
-        let e : getD pairs i 0 ≡ couple-at v b z i = sym (getD-take k pairs i 0 h) ∙ ap (λ (l : List ℕ). getD l i 0) are ∙ getD-tab (couple-at v b z) k i 0 h in
-        let most = couple-small (getD v i 0) (getD v (next-index b z i) 0) (small i h) (small (next-index b z i) (next-below seg i h)) in
+        let e : getD pairs i 0 ≡ edge-at v b z i = sym (getD-take k pairs i 0 h) ∙ ap (λ (l : List ℕ). getD l i 0) are ∙ getD-tab (edge-at v b z) k i 0 h in
+        let most = edge-small (getD v i 0) (getD v (next-index b z i) 0) (small i h) (small (next-index b z i) (next-below seg i h)) in
         omega (arith, e, most)

@@ -21,8 +21,8 @@ use Rattle.arrival.specs.declared.serials.Gap.{Gap}
 use Rattle.arrival.specs.declared.serials.Gap.the-variants.{Below, NotNew}
 use Rattle.arrival.specs.Sides.{next-index, pair-at, reverse-at, ends-differ, Segments, Small}
 
--- whether the values of the first k keys, which ascend, are couples that differ in the last bit; then q has the index of each one's other
-pub record Coupled (keys : List ℕ) (k : ℕ) (q : List ℕ) (r : Bool) : Type 0 where
+-- whether the values of the first k keys, which ascend, are edges that differ in the last bit; then q has the index of each one's other
+pub record Edged (keys : List ℕ) (k : ℕ) (q : List ℕ) (r : Bool) : Type 0 where
   pub yes : r ≡ true → (p : ℕ) → p < k → (s : ℕ) × (s < k) × (value-at keys p / 2 ≡ value-at keys s / 2) × (value-at keys p ≢ value-at keys s) × (getD q (index-at keys p) 0 ≡ index-at keys s)
   pub no : r ≡ false → (p : ℕ) × (p < k) × ((s : ℕ) → s < k → value-at keys p / 2 ≡ value-at keys s / 2 → value-at keys p ≡ value-at keys s)
 

@@ -41,11 +41,11 @@ abbrev pub reverse-at : List ℕ → List ℕ → List ℕ → ℕ → ℕ
 reverse-at v b z i = pair-code (getD v (next-index b z i) 0) (getD v i 0)
 
 -- the same as one number for a pair and its reverse, but for the last bit: the lesser end first, and 1 where that turned it round
-abbrev pub couple-code : ℕ → ℕ → ℕ
-couple-code a c = cond (ltb c a) ((c * 1024 + a) * 2 + 1) ((a * 1024 + c) * 2)
+abbrev pub edge-code : ℕ → ℕ → ℕ
+edge-code a c = cond (ltb c a) ((c * 1024 + a) * 2 + 1) ((a * 1024 + c) * 2)
 
-abbrev pub couple-at : List ℕ → List ℕ → List ℕ → ℕ → ℕ
-couple-at v b z i = couple-code (getD v i 0) (getD v (next-index b z i) 0)
+abbrev pub edge-at : List ℕ → List ℕ → List ℕ → ℕ → ℕ
+edge-at v b z i = edge-code (getD v i 0) (getD v (next-index b z i) 0)
 
 -- both ends of a dart differ
 abbrev pub ends-differ : List ℕ → List ℕ → List ℕ → ℕ → Bool

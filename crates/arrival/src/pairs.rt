@@ -5,8 +5,8 @@ ghost use lib.ListN.{length, getD, take};
 ghost use Rattle.laws.specs.Order.{Ascending};
 ghost use Rattle.model.specs.Lists.{all, tab};
 ghost use Rattle.ranking.specs.Ranks.{value-at, index-at};
-ghost use Rattle.arrival.specs.Sides.{next-index, couple-code, couple-at, ends-differ, Segments, Small};
-ghost use Rattle.arrival.specs.Draft.{Coupled, Paired};
+ghost use Rattle.arrival.specs.Sides.{next-index, edge-code, edge-at, ends-differ, Segments, Small};
+ghost use Rattle.arrival.specs.Draft.{Edged, Paired};
 use memory::header::Header;
 use memory::record::MessageIndex;
 
@@ -25,9 +25,9 @@ pub fn next_index(starts: &[usize], sizes: &[usize], i: MessageIndex) -> Message
 }
 
 // A pair as one number: twice that of its ends, the lesser first, and 1 more where that turned it round.
-fn couple(a: u64, c: u64) -> u64
+fn edge(a: u64, c: u64) -> u64
     requires { ⌜ (a ≤ 512) × (c ≤ 512) ⌝ }
-    ensures { λ r. ⌜ r ≡ couple-code a c ⌝ }
+    ensures { λ r. ⌜ r ≡ edge-code a c ⌝ }
 {
     if c < a {
         return (c * 1024 + a) * 2 + 1;
@@ -45,7 +45,7 @@ pub fn put_pairs(
 ) -> bool
     requires { ⌜ (length (now vertex) ≡ 512) × (length (now starts) ≡ 512) × (length (now sizes) ≡ 512) × (length (now pairs) ≡ 512) × (k ≤ 512) ⌝ }
     requires { ⌜ Segments (now starts) (now sizes) k × Small (now vertex) k ⌝ }
-    ensures { λ r. ⌜ (r ≡ all (ends-differ (now (vertex .entry)) (now (starts .entry)) (now (sizes .entry))) (tab (λ i. i) k)) × (take k (now (pairs .exit)) ≡ tab (couple-at (now (vertex .entry)) (now (starts .entry)) (now (sizes .entry))) k) × (length (now (pairs .exit)) ≡ 512) ⌝ }
+    ensures { λ r. ⌜ (r ≡ all (ends-differ (now (vertex .entry)) (now (starts .entry)) (now (sizes .entry))) (tab (λ i. i) k)) × (take k (now (pairs .exit)) ≡ tab (edge-at (now (vertex .entry)) (now (starts .entry)) (now (sizes .entry))) k) × (length (now (pairs .exit)) ≡ 512) ⌝ }
 {
     // The pairs before i are put; `ok` says whether their ends differ.
     let mut ok = true;
@@ -54,17 +54,17 @@ pub fn put_pairs(
         let next = next_index(starts, sizes, MessageIndex(i));
         let j = next.0;
         ok = ok & (vertex[i] != vertex[j]);
-        pairs[i] = couple(vertex[i], vertex[j]);
+        pairs[i] = edge(vertex[i], vertex[j]);
         i += 1;
     }
     ok
 }
 
-// Whether the first k keys, whose values ascend, are couples, two by two; then `opposite` has the index of each one's other.
-fn couples(keys: &[u64], k: usize, opposite: &mut [usize]) -> bool
+// Whether the first k keys, whose values ascend, are edges, two by two; then `opposite` has the index of each one's other.
+fn edges(keys: &[u64], k: usize, opposite: &mut [usize]) -> bool
     requires { ⌜ (k ≤ 512) × (length (now keys) ≡ 512) × (length (now opposite) ≡ 512) × Ascending k (value-at (now keys)) ⌝ }
     requires { ⌜ ((p s : ℕ) → p < k → s < k → index-at (now keys) p ≡ index-at (now keys) s → p ≡ s) ⌝ }
-    ensures { λ r. ⌜ Coupled (now (keys .entry)) k (now (opposite .exit)) r × (length (now (opposite .exit)) ≡ 512) ⌝ }
+    ensures { λ r. ⌜ Edged (now (keys .entry)) k (now (opposite .exit)) r × (length (now (opposite .exit)) ≡ 512) ⌝ }
 {
     // The keys below r are.
     let mut r = 0;
@@ -107,5 +107,5 @@ pub fn paired(
     if !ranking::rank(&pairs, k, &mut keys, &mut scratch, &mut ranks) {
         return false;
     }
-    couples(&keys, k, opposite)
+    edges(&keys, k, opposite)
 }

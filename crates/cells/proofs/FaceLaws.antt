@@ -19,7 +19,7 @@ use Rattle.laws.proofs.Tests.{by-cases, and-left, and-right}
 use Rattle.laws.proofs.Members.{In, in-here, in-there, in-keep, keep-in, all-in, keep-ascending, ascending-distinct, distinct-not, pigeonhole, map-append, none-kept, distinct-fewer, getD-in}
 use Rattle.laws.proofs.Faces.{face-sym, face-stays, face-start, start-in, start-starts, in-faces, faces-only, faces-distinct, order-has, order-only, along-face}
 use Rattle.laws.proofs.Tables.{length-tab, tab-ascending, tab-more}
-use Rattle.cells.specs.Places.{Within, Apart, Clear, Closed, InOrder, Marked, Painted, Put, bit, marked}
+use Rattle.cells.specs.Places.{Within, Apart, Clear, Closed, InOrder, Marked, Assigned, Put, bit, marked}
 use Rattle.cells.proofs.Walks.{eq-or-ne}
 use Rattle.cells.proofs.Reached.{places, in-places, places-below, within-places}
 use Rattle.cells.proofs.Paths.{apart-places, few-places, mem-append, round}
@@ -261,7 +261,7 @@ module _ (n : ℕ) (f : ℕ → ℕ) (marks : List ℕ) (few : n ≤ room) (wf :
         marked-few,
       )
 
-      pub ordering-put : {end : ℕ} {out′ seen′ : List ℕ} → Put (cycle f p) darts out out′ end → Painted 1 (cycle f p) seen seen′
+      pub ordering-put : {end : ℕ} {out′ seen′ : List ℕ} → Put (cycle f p) darts out out′ end → Assigned 1 (cycle f p) seen seen′
           → Ordering n f marks (p + 1) out′ (set starts count darts) seen′ end (count + 1)
       ordering-put {end} {out′} {seen′} w s = record {
         so-far = record {

@@ -1,4 +1,4 @@
--- Along a cycle: the steps that lead back, a walk that writes what it meets, and one that paints it in a table. Assumes nothing.
+-- Along a cycle: the steps that lead back, a walk that writes what it meets, and one that assigns it in a table. Assumes nothing.
 use mathlib.Core.Path.{_≡_, refl, sym, _∙_, ap, subst}
 use mathlib.Core.Logic.{_≢_}
 use mathlib.Core.Bool.{Bool, true, false, cond, _||_}
@@ -17,7 +17,7 @@ use Rattle.laws.proofs.Tests.{by-cases}
 use Rattle.laws.proofs.Members.{In}
 use Rattle.laws.proofs.Orbits.{iter, iter-out, path, around-path, path-length}
 use Rattle.laws.proofs.Tables.{length-tab}
-use Rattle.cells.specs.Places.{Within, Apart, Painted, Put}
+use Rattle.cells.specs.Places.{Within, Apart, Assigned, Put}
 use Rattle.cells.proofs.Walks.{eq-or-ne}
 use Rattle.cells.proofs.Reached.{places, in-places, places-below, within-places}
 
@@ -51,8 +51,8 @@ pub mem-append : (p : ℕ) (l r : List ℕ) → mem p (l ++ r) ≡ (mem p l || m
 mem-append p [] r = refl
 mem-append p (x ∷ l) r = by-cases (eqb p x) (λ e. rw e) (λ e. rw (e, mem-append p l r))
 
-pub paint-more : {c : ℕ} {l t t′ : List ℕ} {p : ℕ} → Painted c l t t′ → p < length t → Painted c (l ++ p ∷ []) t (set t′ p c)
-paint-more {c} {l} {t} {t′} {p} w h = record {
+pub assign-more : {c : ℕ} {l t t′ : List ℕ} {p : ℕ} → Assigned c l t t′ → p < length t → Assigned c (l ++ p ∷ []) t (set t′ p c)
+assign-more {c} {l} {t} {t′} {p} w h = record {
   size = simp length-set (w .size);
   value = λ q. rw (mem-append q l (p ∷ [])) (eq-or-ne q p (λ e. here q e) (λ e. there q e));
 }
@@ -71,8 +71,8 @@ paint-more {c} {l} {t} {t′} {p} w h = record {
     there : (q : ℕ) → (q ≡ p → ⊥) → getD (set t′ p c) q 0 ≡ cond (mem q l || mem q (p ∷ [])) c (getD t q 0)
     there q e = rw (ne-eqb q p e, neither (mem q l)) (getD-set-other t′ p q c 0 e ∙ w .value q)
 
-pub paint-none : (c : ℕ) (t : List ℕ) → Painted c [] t t
-paint-none c t = record { size = refl; value = λ q. refl }
+pub assign-none : (c : ℕ) (t : List ℕ) → Assigned c [] t t
+assign-none c t = record { size = refl; value = λ q. refl }
 
 -- WALKS ROUND: at place p after k steps, of c
 pub record Going (n : ℕ) (f : ℕ → ℕ) (x c k p : ℕ) : Type 0 where
@@ -105,11 +105,11 @@ module _ {n : ℕ} {f : ℕ → ℕ} {x c k p : ℕ} (wf : Within n f) (r : Roun
   pub going-next : {q : ℕ} → q ≡ f p → (q ≡ x → ⊥) → Going n f x c (k + 1) q
   going-next a b = let more : k + 1 ≡ suc k = omega arith in rw more (going-on a b)
 
-  pub paint-next : {v : ℕ} {t t′ : List ℕ} → Painted v (path f k x) t t′ → p < length t → Painted v (path f (k + 1) x) t (set t′ p v)
-  paint-next m h = let more : k + 1 ≡ suc k = omega arith in rw (more, path-next) (paint-more m h)
+  pub assign-next : {v : ℕ} {t t′ : List ℕ} → Assigned v (path f k x) t t′ → p < length t → Assigned v (path f (k + 1) x) t (set t′ p v)
+  assign-next m h = let more : k + 1 ≡ suc k = omega arith in rw (more, path-next) (assign-more m h)
 
-  pub paint-last : {v q : ℕ} {t t′ : List ℕ} → Painted v (path f k x) t t′ → p < length t → q ≡ f p → q ≡ x → Painted v (cycle f x) t (set t′ p v)
-  paint-last m h a b = let more : k + 1 ≡ c = omega (arith, going-end a b) in rw (r .cycle-is, ← more) (paint-next m h)
+  pub assign-last : {v q : ℕ} {t t′ : List ℕ} → Assigned v (path f k x) t t′ → p < length t → q ≡ f p → q ≡ x → Assigned v (cycle f x) t (set t′ p v)
+  assign-last m h a b = let more : k + 1 ≡ c = omega (arith, going-end a b) in rw (r .cycle-is, ← more) (assign-next m h)
 
 -- a walk that has written what it met into o from index i on
 pub record Writing (f : ℕ → ℕ) (x i : ℕ) (o o′ : List ℕ) (e : ℕ) : Type 0 where
@@ -144,19 +144,19 @@ module _ {n : ℕ} {f : ℕ → ℕ} {x c i e p : ℕ} {o o′ : List ℕ} (wf :
         end = omega (arith, w .from, going-end wf r g a b, size);
       }
 
-  -- and has painted it in a table
-  pub painting-on : {v : ℕ} {t t′ : List ℕ} → Painted v (path f (e - i) x) t t′ → p < length t → Painted v (path f ((e + 1) - i) x) t (set t′ p v)
-  painting-on m h =
+  -- and has assigned it in a table
+  pub assigning-on : {v : ℕ} {t t′ : List ℕ} → Assigned v (path f (e - i) x) t t′ → p < length t → Assigned v (path f ((e + 1) - i) x) t (set t′ p v)
+  assigning-on m h =
       let more : (e + 1) - i ≡ suc (e - i) = omega (arith, w .from) in
-      rw (more, path-next wf r g) (paint-more m h)
+      rw (more, path-next wf r g) (assign-more m h)
 
-  pub painting-end : {v q : ℕ} {t t′ : List ℕ} → Painted v (path f (e - i) x) t t′ → p < length t → q ≡ f p → q ≡ x → Painted v (cycle f x) t (set t′ p v)
-  painting-end m h a b =
+  pub assigning-end : {v q : ℕ} {t t′ : List ℕ} → Assigned v (path f (e - i) x) t t′ → p < length t → q ≡ f p → q ≡ x → Assigned v (cycle f x) t (set t′ p v)
+  assigning-end m h a b =
       let more : (e + 1) - i ≡ c = omega (arith, w .from, going-end wf r g a b) in
-      rw (r .cycle-is, ← more) (painting-on m h)
+      rw (r .cycle-is, ← more) (assigning-on m h)
 
 pub going-begin : {n : ℕ} {f : ℕ → ℕ} {x c : ℕ} → Round f x c → x < n → (i : ℕ) → Going n f x c (i - i) x
 going-begin r h i = let z : i - i ≡ 0 = omega arith in rw z (going-start r h)
 
-pub painting-start : (f : ℕ → ℕ) (x v i : ℕ) (t : List ℕ) → Painted v (path f (i - i) x) t t
-painting-start f x v i t = let z : i - i ≡ 0 = omega arith in rw z (paint-none v t)
+pub assigning-start : (f : ℕ → ℕ) (x v i : ℕ) (t : List ℕ) → Assigned v (path f (i - i) x) t t
+assigning-start f x v i t = let z : i - i ≡ 0 = omega arith in rw z (assign-none v t)

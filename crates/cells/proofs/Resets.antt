@@ -1,4 +1,4 @@
--- Tables made ready again at the places of a list: painting by a list, marks taken away, the least of a list. Assumes nothing.
+-- Tables made ready again at the places of a list: assigning by a list, marks taken away, the least of a list. Assumes nothing.
 use mathlib.Core.Path.{_≡_, refl, sym, _∙_, ap, subst}
 use mathlib.Core.Bool.{Bool, true≢false, cond}
 use mathlib.Core.List.{List, [], _∷_, _++_}
@@ -10,21 +10,21 @@ use Rattle.model.specs.Lists.{least, mem}
 use Rattle.laws.proofs.Tests.{by-cases}
 use Rattle.laws.proofs.Lists.{getD-zeros, take-more}
 use Rattle.laws.proofs.Members.{In, in-getD, least-in, least-below, least-more}
-use Rattle.cells.specs.Places.{Clear, Listed, Marked, Painted, bit, marked}
-use Rattle.cells.proofs.Paths.{paint-more}
+use Rattle.cells.specs.Places.{Clear, Listed, Marked, Assigned, bit, marked}
+use Rattle.cells.proofs.Paths.{assign-more}
 use Rattle.cells.proofs.FaceLaws.{in-marked, marked-in}
 
 -- PAINTED BY A LIST: one place more
-pub paint-listed : (order : List ℕ) (i : ℕ) {c : ℕ} {t t′ : List ℕ} → Painted c (take i order) t t′ → i < length order
-    → getD order i 0 < length t → Painted c (take (i + 1) order) t (set t′ (getD order i 0) c)
-paint-listed order i w h l = rw (take-more order i h) (paint-more w l)
+pub assign-listed : (order : List ℕ) (i : ℕ) {c : ℕ} {t t′ : List ℕ} → Assigned c (take i order) t t′ → i < length order
+    → getD order i 0 < length t → Assigned c (take (i + 1) order) t (set t′ (getD order i 0) c)
+assign-listed order i w h l = rw (take-more order i h) (assign-more w l)
 
 -- what is marked is in the volume
 pub marks-in : {v marks : List ℕ} → Marked v marks → (p : ℕ) → getD marks p 0 ≡ 1 → In p v
 marks-in {v} m p e = by-cases (mem p v) (λ i. i) (λ i. absurd (omega (arith, e, m .mark p ∙ ap bit i)))
 
 -- UNMARKED: where every mark is in the list, none is left
-pub unmarked : {v l marks marks′ : List ℕ} → Marked v marks → ((p : ℕ) → In p v → In p l) → Painted 0 l marks marks′ → Clear marks′
+pub unmarked : {v l marks marks′ : List ℕ} → Marked v marks → ((p : ℕ) → In p v → In p l) → Assigned 0 l marks marks′ → Clear marks′
 unmarked {v} {l} {marks} {marks′} m has w p = w .value p ∙ none p
   where
     none : (p : ℕ) → cond (mem p l) 0 (getD marks p 0) ≡ 0
@@ -89,13 +89,13 @@ least-small {n} {t} {v} {order} l h = by-first (take t order) refl
 pub listed-some : {n t : ℕ} {v order : List ℕ} (p : ℕ) → Listed n v order t → In p v → 0 < t
 listed-some {n} {t} {v} {order} p l i = let r = in-getD (take t order) p (l .has p i) in omega (arith, r .1, length-take-le t order (omega (arith, l .few, l .size)))
 
--- all of the list is painted
-pub painted-all : (order : List ℕ) (i count : ℕ) {c : ℕ} {t t′ : List ℕ} → i ≤ count → count ≤ i → Painted c (take i order) t t′ → Painted c (take count order) t t′
-painted-all order i count {c} {t} {t′} a b w = let e : i ≡ count = omega arith in subst (λ (k : ℕ). Painted c (take k order) t t′) e w
+-- all of the list is assigned
+pub assigned-all : (order : List ℕ) (i count : ℕ) {c : ℕ} {t t′ : List ℕ} → i ≤ count → count ≤ i → Assigned c (take i order) t t′ → Assigned c (take count order) t t′
+assigned-all order i count {c} {t} {t′} a b w = let e : i ≡ count = omega arith in subst (λ (k : ℕ). Assigned c (take k order) t t′) e w
 
--- what is painted has the value
-pub painted-in : {c : ℕ} {l t t′ : List ℕ} → Painted c l t t′ → (q : ℕ) → In q l → getD t′ q 0 ≡ c
-painted-in {c} {l} {t} w q k = w .value q ∙ ap (λ (b : Bool). cond b c (getD t q 0)) k
+-- what is assigned has the value
+pub assigned-in : {c : ℕ} {l t t′ : List ℕ} → Assigned c l t t′ → (q : ℕ) → In q l → getD t′ q 0 ≡ c
+assigned-in {c} {l} {t} w q k = w .value q ∙ ap (λ (b : Bool). cond b c (getD t q 0)) k
 
 -- a part that is cleared
 pub part-cleared : (l : List ℕ) (n : ℕ) {x : List ℕ} → n ≤ length l → x ≡ replicate (length (take (n - 0) (drop 0 l))) 0 → x ≡ replicate n 0

@@ -17,7 +17,7 @@ use Rattle.laws.proofs.Tests.{by-cases}
 use Rattle.laws.proofs.Members.{In, in-here, in-eq, in-getD, in-append-left, in-append-right, in-map, map-append, mem-keep, least-below, least-among}
 use Rattle.laws.proofs.Faces.{face-self, face-stays, face-sym, face-trans}
 use Rattle.theory.proofs.ImageLaws.{place-back}
-use Rattle.cells.specs.Places.{Within, Apart, Painted, Numbered}
+use Rattle.cells.specs.Places.{Within, Apart, Assigned, Numbered}
 use Rattle.cells.proofs.Walks.{eq-or-ne, in-take, last-or-below}
 use Rattle.cells.proofs.Reached.{places, in-places, places-below, within-places}
 use Rattle.cells.proofs.Paths.{apart-places, few-places, mem-append}
@@ -165,7 +165,7 @@ module _ {n p count : ℕ} {nx op : ℕ → ℕ} {l done numbers first : List �
     grown = vertices-more nx op done p ∙ ap (λ (b : Bool). vertices nx op done ++ cond b [] (vertex nx op p ∷ [])) unnumbered
 
     pub numbering-new : {numbers′ : List ℕ} → count < length first → ((x y : ℕ) → x < n → y < n → mem y (ring nx op x) ≡ eqb (vertex nx op y) (vertex nx op x))
-        → Painted count (ring nx op p) numbers numbers′ → Numbering n nx op l (done ++ p ∷ []) numbers′ (set first count p) (count + 1)
+        → Assigned count (ring nx op p) numbers numbers′ → Numbering n nx op l (done ++ p ∷ []) numbers′ (set first count p) (count + 1)
     numbering-new {numbers′} fits test m = record {
       numbers-size = omega (arith, m .size, w .numbers-size);
       first-size = simp length-set (omega arith);
@@ -225,7 +225,7 @@ module _ {n darts i count p : ℕ} {nx op : ℕ → ℕ} {order numbers first : 
   }
 
   pub passing-new : {numbers′ : List ℕ} → getD numbers p 0 ≡ room → ((x y : ℕ) → x < n → y < n → mem y (ring nx op x) ≡ eqb (vertex nx op y) (vertex nx op x))
-      → Painted count (ring nx op p) numbers numbers′ → Passing n nx op order darts (i + 1) numbers′ (set first count p) (count + 1)
+      → Assigned count (ring nx op p) numbers numbers′ → Passing n nx op order darts (i + 1) numbers′ (set first count p) (count + 1)
   passing-new none test m = record {
     i-le = omega arith;
     passed = rw one-more (numbering-new (w .passed) place-below place-in short none (omega (arith, w .few, w .first-long)) test m);

@@ -84,7 +84,7 @@ pub record Visited (p : ℕ) (m o : List ℕ) (t : ℕ) (m′ o′ : List ℕ) (
   pub tail : t′ ≡ cond (eqb (getD m p 0) 0) (t + 1) t
 
 -- a table in which the places of a list have the value c, and the others what they had
-pub record Painted (c : ℕ) (l t t′ : List ℕ) : Type 0 where
+pub record Assigned (c : ℕ) (l t t′ : List ℕ) : Type 0 where
   pub size : length t′ ≡ length t
   pub value : (p : ℕ) → getD t′ p 0 ≡ cond (mem p l) c (getD t p 0)
 

@@ -7,7 +7,7 @@ ghost use Rattle.model.specs.Lists.{mem};
 ghost use Rattle.model.specs.Cells.{ring};
 ghost use Rattle.model.specs.Image.{column};
 ghost use Rattle.model.specs.Values.{room};
-ghost use Rattle.cells.specs.Places.{Linked, Numbered, Painted};
+ghost use Rattle.cells.specs.Places.{Linked, Numbered, Assigned};
 use crate::reset;
 use memory::record;
 use memory::record::Place;
@@ -24,9 +24,9 @@ pub fn ring_step(block: &[u64], n: usize, p: Place) -> Place
 }
 
 // Gives the darts of the ring of the dart at place `start` a number.
-fn paint_ring(block: &[u64], n: usize, start: Place, number: usize, numbers: &mut [usize])
+fn assign_ring(block: &[u64], n: usize, start: Place, number: usize, numbers: &mut [usize])
     requires { ⌜ Linked (now block) n × (start .0 < n) × (n ≤ length (now numbers)) ⌝ }
-    ensures { λ _. ⌜ Painted number (ring (column (now (block .entry)) 1) (column (now (block .entry)) 2) (start .0)) (now (numbers .entry)) (now (numbers .exit)) ⌝ }
+    ensures { λ _. ⌜ Assigned number (ring (column (now (block .entry)) 1) (column (now (block .entry)) 2) (start .0)) (now (numbers .entry)) (now (numbers .exit)) ⌝ }
 {
     // The darts from `start` up to the one before p, `steps` of them, have the number.
     let first = start.0;
@@ -64,7 +64,7 @@ fn number_all(
         if numbers[p] != 4096 {
             continue;
         }
-        paint_ring(block, n, Place(p), count, numbers);
+        assign_ring(block, n, Place(p), count, numbers);
         firsts[count] = p;
         count += 1;
     }

@@ -312,7 +312,7 @@ fn read_and_do(
 }
 
 // The same while this process alone writes, and once a save that was cut short is finished or forgotten.
-fn mend_and_do(
+fn recover_and_do(
     task: Task,
     o: Options,
     input: &[u8],
@@ -323,7 +323,7 @@ fn mend_and_do(
     outbox: &mut [u8],
     room: &mut [u8],
 ) -> Status {
-    if !disk::mend(room) {
+    if !disk::recover(room) {
         return Status::Error;
     }
     read_and_do(
@@ -366,7 +366,7 @@ pub fn run(
     }
     match lock::take(room) {
         Taken::Held => {
-            let s = mend_and_do(
+            let s = recover_and_do(
                 task,
                 o,
                 input,

@@ -12,7 +12,7 @@ use Rattle.model.specs.Calls.{Answer, served, refused, Result, number-of}
 use Rattle.model.specs.Demands.{Unchanged, Demand1}
 use Rattle.laws.proofs.Tests.{by-cases}
 use Rattle.theory.proofs.CallLaws.{demand1}
-use Rattle.dmap.specs.Door.{Numbered, Counted, written-over, four-first, moved-over, Moved, DoorKeeps}
+use Rattle.dmap.specs.CInterface.{Numbered, Counted, written-over, four-first, moved-over, Moved, CKeeps}
 
 module _ {A : Type 0} (before : List ℕ) (result : Result A) (u : Unchanged before result) where
   lent-kept : number-of (result .answer) ≢ 0 → result .lent ≡ before
@@ -60,8 +60,8 @@ four-unchanged words scratch result u = by-cases (eqb (length words) 4)
         one : _≡_ {A = ℕ} 1 0 → ⊥
         one e = omega arith
 
-pub door-keeps : DoorKeeps
-door-keeps =
+pub c-keeps : CKeeps
+c-keeps =
     let d : Demand1 rack all-rack = demand1 rack all-rack in
     record {
       empty-keeps = λ n m. numbered-keeps m _ (d .empty-keeps n m);

@@ -20,7 +20,7 @@ use Rattle.answers.specs.declared.NextMove.the-variants as next
 use Rattle.answers.specs.declared.Refusal.{Refusal}
 use Rattle.answers.specs.declared.Written.{Written}
 use Rattle.answers.specs.declared.Written.the-variants as written
-use Rattle.dmap.specs.Door.{Numbered, Told, Counted, written-over, four-first, moved-over, ToldMove, Moved}
+use Rattle.dmap.specs.CInterface.{Numbered, Told, Counted, written-over, four-first, moved-over, ToldMove, Moved}
 
 pub told-served : {w : Written} {before n : ℕ} → w ≡ written.Served n → Told (written-of w) before 0 n
 told-served {before = b} e = record {

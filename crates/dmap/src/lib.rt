@@ -6,7 +6,7 @@ ghost use lib.ListN.{length};
 ghost use Rattle.model.specs.Values.{rack};
 ghost use Rattle.model.specs.Calls as calls;
 ghost use Rattle.answers.specs.Answers.{written-of, move-of};
-ghost use Rattle.dmap.specs.Door.{Numbered, Told, Counted, point-words, next-move-told, ToldMove, Moved};
+ghost use Rattle.dmap.specs.CInterface.{Numbered, Told, Counted, point-words, next-move-told, ToldMove, Moved};
 pub use answers::Answer;
 pub use answers::NextMove;
 pub use answers::Refusal;

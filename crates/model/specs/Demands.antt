@@ -3,7 +3,7 @@
 --
 -- HOW TO READ THIS. Words in quotation marks are the dispatcher's or the paper's. Each claim is a type, and holds because a proof of it for
 -- the rack's limits is closed, with no hypothesis left over:
---   Demand1                       agreement, Agreement.rack-demand1; of all that C lends: dmap, Keeps.door-keeps
+--   Demand1                       agreement, Agreement.rack-demand1; of all that C lends: dmap, Keeps.c-keeps
 --   Demand2                       agreement, Agreement.rack-demand2
 --   Demand3, SameNumbers          agreement, Agreement.rack-agreement, rack-same-numbers
 --   LeavesSound, OutboxSuffices   soundness, Served.rack-leaves-sound, OutboxLength.rack-outbox-suffices
@@ -60,7 +60,7 @@ use Rattle.model.specs.UndividedRun.{State, start, whole-map, holder, Un
 use Rattle.model.specs.DividedRun.{memory-at, messages-in, Step, last-steps, sent-messages, Round, round}
 
 -- DEMAND 1: "A refused call returns that number only and changes no byte that was lent to it". What is lent by `&` stays because such a slice
--- cannot be written, so it is not among what a call returns. Through its C names a call is also lent a count or four words: dmap, Door.DoorKeeps
+-- cannot be written, so it is not among what a call returns. Through its C names a call is also lent a count or four words: dmap, CInterface.CKeeps
 pub record Unchanged {A : Type 0} (lent : List ℕ) (r : Result A) : Type 0 where
   pub kept : (n : ℕ) → r .answer ≡ refused n → r .lent ≡ lent
   pub numbered : (n : ℕ) → r .answer ≡ refused n → n ≢ 0

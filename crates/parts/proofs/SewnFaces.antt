@@ -15,8 +15,8 @@ use Rattle.model.specs.Image.{column}
 use Rattle.model.specs.Values.{room}
 use Rattle.laws.proofs.Tests.{and-left}
 use Rattle.laws.proofs.Lists.{getD-zeros}
-use Rattle.cells.specs.Places.{Painted}
-use Rattle.cells.proofs.Paths.{paint-more}
+use Rattle.cells.specs.Places.{Assigned}
+use Rattle.cells.proofs.Paths.{assign-more}
 use Rattle.parts.specs.Faces.{Over}
 use Rattle.parts.specs.Meets.{Meetable, Trailed, met-at, entry-right, EntryRight}
 use Rattle.parts.specs.Sewing.{Entered, SeenBy, Part2Told, clear-of, face-size, passes-at}
@@ -31,13 +31,13 @@ pub a-place : (y n : ℕ) (b : Bool) → y < n → b ≡ (ltb y n && b)
 a-place y n b h = rw (lt-ltb y n h) refl
 
 -- PAINTING a trail
-pub paint-trail : (trail : List ℕ) {t t′ : List ℕ} (j : ℕ) → Painted 1 (take j trail) t t′ → j < length trail → getD trail j 0 < length t
-    → {p : ℕ} → p ≡ getD trail j 0 → Painted 1 (take (j + 1) trail) t (set t′ p 1)
-paint-trail trail {t} {t′} j w h l {p} e = subst (λ (x : ℕ). Painted 1 (take (j + 1) trail) t (set t′ x 1)) (sym e)
-    (subst (λ (k : List ℕ). Painted 1 k t (set t′ (getD trail j 0) 1)) (sym (take-suc trail j 0 h) ∙ ap (λ (k : ℕ). take k trail) (sym (add-one j))) (paint-more w l))
+pub assign-trail : (trail : List ℕ) {t t′ : List ℕ} (j : ℕ) → Assigned 1 (take j trail) t t′ → j < length trail → getD trail j 0 < length t
+    → {p : ℕ} → p ≡ getD trail j 0 → Assigned 1 (take (j + 1) trail) t (set t′ p 1)
+assign-trail trail {t} {t′} j w h l {p} e = subst (λ (x : ℕ). Assigned 1 (take (j + 1) trail) t (set t′ x 1)) (sym e)
+    (subst (λ (k : List ℕ). Assigned 1 k t (set t′ (getD trail j 0) 1)) (sym (take-suc trail j 0 h) ∙ ap (λ (k : ℕ). take k trail) (sym (add-one j))) (assign-more w l))
 
-pub painted-all : (trail : List ℕ) {t t′ : List ℕ} (j size : ℕ) → Painted 1 (take j trail) t t′ → j ≤ size → size ≤ j → Painted 1 (take size trail) t t′
-painted-all trail {t} {t′} j size w h k = let e : j ≡ size = omega arith in subst (λ (c : ℕ). Painted 1 (take c trail) t t′) e w
+pub assigned-all : (trail : List ℕ) {t t′ : List ℕ} (j size : ℕ) → Assigned 1 (take j trail) t t′ → j ≤ size → size ≤ j → Assigned 1 (take size trail) t t′
+assigned-all trail {t} {t′} j size w h k = let e : j ≡ size = omega arith in subst (λ (c : ℕ). Assigned 1 (take c trail) t t′) e w
 
 -- ONE ENTRY
 over-as : {at n : ℕ} {f g : ℕ → ℕ} {o o′ : List ℕ} → ((i : ℕ) → i < n → f i ≡ g i) → Over at n f o o′ → Over at n g o o′
@@ -90,7 +90,7 @@ module _ {m d ranks : List ℕ} {n : ℕ} (from y at size : ℕ) {trail seen : L
   }
 
   pub entered-yes : {seen′ kinds kinds′ links links′ : List ℕ} → length seen ≡ room → (ltb y n && eqb (getD seen y 0) 0) ≡ true → EntryRight m d ranks from y at size trail true
-      → Over at size (λ j. 1) kinds kinds′ → Over at size (met-at trail size) links links′ → Painted 1 (take size trail) seen seen′
+      → Over at size (λ j. 1) kinds kinds′ → Over at size (met-at trail size) links links′ → Assigned 1 (take size trail) seen seen′
       → Entered m d ranks n from y at size trail seen seen′ kinds kinds′ links links′ true
   entered-yes {seen′} b e w ks ls p = record {
     len = w .len;
@@ -98,7 +98,7 @@ module _ {m d ranks : List ℕ} {n : ℕ} (from y at size : ℕ) {trail seen : L
     kinds-size = ks .size;
     links-size = ls .size;
     said = wrong (ltb y n) (eqb (getD seen y 0) 0) (entry-right m d ranks from y at size) e (w .said);
-    seen-are = λ t. subst (λ (l : List ℕ). Painted 1 l seen seen′) (w .front refl) p;
+    seen-are = λ t. subst (λ (l : List ℕ). Assigned 1 l seen seen′) (w .front refl) p;
     kinds-are = λ t. ks;
     links-are = λ t. over-as (λ j h. met-same trail (cycle (column m 1) y) size j h (λ i l. sym (getD-take size trail i 0 l) ∙ ap (λ (l : List ℕ). getD l i 0) (w .front refl))) ls;
   }
@@ -114,7 +114,7 @@ seen-is {m} {places} {seen} {e} w q = ap (λ (v : ℕ). eqb v 0) (w .each q) ∙
     bit true = refl
     bit false = refl
 
-pub seen-more : {m places seen seen′ : List ℕ} (e : ℕ) → SeenBy m places e seen → Painted 1 (cycle (column m 1) (getD places e 0)) seen seen′ → SeenBy m places (e + 1) seen′
+pub seen-more : {m places seen seen′ : List ℕ} (e : ℕ) → SeenBy m places e seen → Assigned 1 (cycle (column m 1) (getD places e 0)) seen seen′ → SeenBy m places (e + 1) seen′
 seen-more {m} {places} {seen} {seen′} e w p = record {
   size = p .size ∙ w .size;
   each = λ q.

@@ -9,7 +9,7 @@ use Rattle.model.specs.Lists.{all, mem, tab}
 use Rattle.model.specs.Cells.{cycle}
 use Rattle.model.specs.Image.{column}
 use Rattle.model.specs.Values.{room}
-use Rattle.cells.specs.Places.{Painted}
+use Rattle.cells.specs.Places.{Assigned}
 use Rattle.parts.specs.Faces.{Over, Spans, Faced}
 use Rattle.parts.specs.Meets.{Meetable, met-at, entry-right}
 
@@ -20,7 +20,7 @@ pub record Entered (m d ranks : List ℕ) (n from y at size : ℕ) (trail seen s
   pub kinds-size : length kinds′ ≡ 512
   pub links-size : length links′ ≡ 512
   pub said : r ≡ (ltb y n && eqb (getD seen y 0) 0 && entry-right m d ranks from y at size)
-  pub seen-are : r ≡ true → Painted 1 (cycle (column m 1) y) seen seen′
+  pub seen-are : r ≡ true → Assigned 1 (cycle (column m 1) y) seen seen′
   pub kinds-are : r ≡ true → Over at size (λ j. 1) kinds kinds′
   pub links-are : r ≡ true → Over at size (met-at (cycle (column m 1) y) size) links links′
 

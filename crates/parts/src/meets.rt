@@ -6,7 +6,7 @@ ghost use lib.Dec.{ltb, eqb};
 ghost use lib.ListN.{length, getD, replicate, take};
 ghost use Rattle.model.specs.Lists.{all, tab};
 ghost use Rattle.model.specs.Values.{room};
-ghost use Rattle.cells.specs.Places.{Linked, Painted};
+ghost use Rattle.cells.specs.Places.{Linked, Assigned};
 ghost use Rattle.parts.specs.Meets.{Walked, Meetable, Trailed, met-at, meets-at, EntryRight};
 ghost use Rattle.parts.specs.Faces.{Over};
 ghost use Rattle.parts.specs.Sewing.{Entered, Sewable, Part2Told};
@@ -147,12 +147,12 @@ fn put_met(trail: &[usize], size: usize, links: &mut [u64], at: MessageIndex)
     }
 }
 
-// Paints the first `size` places of a trail.
-fn paint(trail: &[usize], size: usize, seen: &mut [u8])
+// Assigns the first `size` places of a trail.
+fn assign(trail: &[usize], size: usize, seen: &mut [u8])
     requires { ⌜ Trailed room size (now trail) × (size ≤ 512) × (length (now seen) ≡ room) ⌝ }
-    ensures { λ _. ⌜ Painted 1 (take size (now (trail .entry))) (now (seen .entry)) (now (seen .exit)) ⌝ }
+    ensures { λ _. ⌜ Assigned 1 (take size (now (trail .entry))) (now (seen .entry)) (now (seen .exit)) ⌝ }
 {
-    // The first j are painted.
+    // The first j are assigned.
     let mut j = 0;
     while j < size {
         let place = place::place_at(trail, j);
@@ -201,7 +201,7 @@ fn enter(
     }
     faces::fill(kinds, at, size, 1);
     put_met(trail, size, links, at);
-    paint(trail, size, seen);
+    assign(trail, size, seen);
     true
 }
 

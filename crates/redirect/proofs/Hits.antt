@@ -13,7 +13,7 @@ use Rattle.laws.proofs.Tests.{by-cases, and-intro, and-left, and-right, same-tr
 use Rattle.laws.proofs.Tables.{tab-any, any-tab, index-place, index-held, tab-take}
 use Rattle.columns.specs.Columns.{all-below}
 use Rattle.columns.proofs.Below.{all-tests}
-use Rattle.cells.specs.Places.{Clear, Painted}
+use Rattle.cells.specs.Places.{Clear, Assigned}
 use Rattle.cells.proofs.Walks.{eq-or-ne}
 use Rattle.departure.specs.ByPlaces.{critical-with}
 use Rattle.redirect.specs.ByPlaces.{face-code, names-at, Ready, code-index, Unset, Indexed, HitsAre, all-hit, EachNamed}
@@ -31,7 +31,7 @@ hitting-start index {n} {table} {hits} unset clear = record {
 
 -- a face gets its index, which is marked
 pub hitting-face : {index : ℕ → ℕ} {n p k : ℕ} {f table table′ hits : List ℕ} → Hitting index n table hits → p < n → k ≡ index p → k < length hits
-    → Painted k f table table′ → Hitting index n table′ (set hits k 1)
+    → Assigned k f table table′ → Hitting index n table′ (set hits k 1)
 hitting-face {index} {n} {p} {k} {f} {table} {table′} {hits} w below e h d = record {
   only = λ j t. eq-or-ne j k (λ s. (p, below, sym e ∙ sym s)) (λ s. w .only j (sym (getD-set-other hits k j 1 0 s) ∙ t));
   marked = λ q l less. by-cases (mem q f)

@@ -15,7 +15,7 @@ use Rattle.laws.proofs.Tests.{by-cases}
 use Rattle.laws.proofs.Members.{In, in-eq}
 use Rattle.laws.proofs.Tables.{length-tab}
 use Rattle.columns.proofs.Question.{image-passed}
-use Rattle.cells.specs.Places.{Linked, Painted}
+use Rattle.cells.specs.Places.{Linked, Assigned}
 use Rattle.cells.proofs.Walks.{eq-or-ne}
 use Rattle.cells.proofs.Sited.{sited}
 use Rattle.departure.specs.ByPlaces.{critical-with}
@@ -90,7 +90,7 @@ module _ {index : ℕ → ℕ} {n p : ℕ} {t : List ℕ} (w : Indexing index n 
       go q (inr e) = eq-or-ne p q (λ s. inl (e .1 ∙ sym none ∙ ap index s)) (λ s. inr (above s (e .0), e .1))
 
   -- the face of one
-  pub indexing-face : {f t′ : List ℕ} {v : ℕ} → v ≡ index p → In p f → ((q : ℕ) → In q f → index q ≡ index p) → Painted v f t t′ → Indexing index n (p + 1) t′
+  pub indexing-face : {f t′ : List ℕ} {v : ℕ} → v ≡ index p → In p f → ((q : ℕ) → In q f → index q ≡ index p) → Assigned v f t t′ → Indexing index n (p + 1) t′
   indexing-face {f} {t′} {v} e self along d =
       record {
         size = omega (arith, d .size, w .size);
@@ -115,6 +115,6 @@ module _ (m : List ℕ) (ok : holds-block m ≡ true) {n : ℕ} (same : n ≡ ge
   linked-by = subst (Linked m) (sym same) (sited m ok .linked)
 
   pub indexing-whole : (from : ℕ) (codes : List ℕ) (c : ℕ) {p v : ℕ} {t t′ : List ℕ} → Indexing (code-index m from codes c) n p t → p < n
-      → v ≡ code-index m from codes c p → Painted v (cycle (column m 1) p) t t′
+      → v ≡ code-index m from codes c p → Assigned v (cycle (column m 1) p) t t′
       → Indexing (code-index m from codes c) n (p + 1) t′
   indexing-whole from codes c {p} w h e d = indexing-face w h e (self-in linked-by p h) (λ q i. index-along m ok from codes c p q (omega arith) i) d

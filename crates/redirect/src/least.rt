@@ -4,7 +4,7 @@ ghost use Prim.Native.Nat.{_≤_, _<_, min};
 ghost use lib.ListN.{length};
 ghost use Rattle.model.specs.Cells.{cycle};
 ghost use Rattle.model.specs.Image.{column};
-ghost use Rattle.cells.specs.Places.{Linked, Painted};
+ghost use Rattle.cells.specs.Places.{Linked, Assigned};
 ghost use Rattle.redirect.specs.ByPlaces.{face-code};
 use memory::record;
 use memory::record::Place;
@@ -41,9 +41,9 @@ pub fn face_code(block: &[u64], n: usize, start: Place) -> u64
 }
 
 // Gives the darts of the face of the dart at place `start` a number.
-pub fn paint_face(block: &[u64], n: usize, start: Place, number: u16, table: &mut [u16])
+pub fn assign_face(block: &[u64], n: usize, start: Place, number: u16, table: &mut [u16])
     requires { ⌜ Linked (now block) n × (start .0 < n) × (n ≤ length (now table)) ⌝ }
-    ensures { λ _. ⌜ Painted number (cycle (column (now (block .entry)) 1) (start .0)) (now (table .entry)) (now (table .exit)) ⌝ }
+    ensures { λ _. ⌜ Assigned number (cycle (column (now (block .entry)) 1) (start .0)) (now (table .entry)) (now (table .exit)) ⌝ }
 {
     // The darts from `start` up to the one before p, `steps` of them, have the number.
     let first = start.0;

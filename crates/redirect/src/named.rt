@@ -44,7 +44,7 @@ pub fn index_faces(
         }
         let code = least::face_code(block, n, Place(p));
         let k = codes::index_of(codes, c, code);
-        least::paint_face(block, n, Place(p), k as u16, table);
+        least::assign_face(block, n, Place(p), k as u16, table);
         hits[k] = 1;
         p += 1;
     }

@@ -8,5 +8,5 @@ pub mod Folders
 pub mod Seen
 pub mod Looked
 pub mod Kept
-pub mod Mended
+pub mod Recovered
 pub mod Meshes

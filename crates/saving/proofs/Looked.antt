@@ -1,4 +1,4 @@
--- What a mending looks at: the files that a save cut anywhere leaves look right, and so do those that mendings cut anywhere leave; where
+-- What a recovery looks at: the files that a save cut anywhere leaves look right, and so do those that recoveries cut anywhere leave; where
 -- they look right, what is seen has the committed length and digest. Assumes nothing.
 use mathlib.Core.Path.{_≡_, refl, sym, ap, subst, _∙_}
 use mathlib.Core.Bool.{Bool, true, false, cond, _&&_}

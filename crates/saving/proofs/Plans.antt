@@ -10,7 +10,7 @@ use Rattle.model.specs.Lists.{tab}
 use Rattle.commands.specs.declared.names.File.the-variants as file
 use Rattle.saving.specs.declared.plan.Step.{Step}
 use Rattle.saving.specs.declared.plan.Step.the-variants as step
-use Rattle.saving.specs.Plan.{steps, writing, committing, placing, ending, save-stages, save-step, tidied, tidying, mend-stages, mend-step, writing-step, placing-step}
+use Rattle.saving.specs.Plan.{steps, writing, committing, placing, ending, save-stages, save-step, tidied, tidying, recover-stages, recover-step, writing-step, placing-step}
 
 -- A TABLE, AND WHAT STANDS BEHIND IT
 pub in-table : {A : Type 0} (f : ℕ → A) (n i : ℕ) (rest : List A) (d : A) → i < n → f i ≡ getD (tab f n ++ rest) i d
@@ -78,41 +78,41 @@ pub save-later : (k i : ℕ) → 0 < i → writing-step k (i - 1) ≡ save-step 
 unfolding save-step writing-step save-stages steps
 save-later k i h = behind-first step.Keep (steps (writing k ∷ committing ∷ placing k ∷ ending ∷ [])) i h
 
--- A MENDING: a Keep, then
+-- A RECOVERY: a Keep, then
 abbrev pub after-blocks : ℕ → List Bool → List Step
 after-blocks k there =
     cond (getD there 16 false) (step.Remove file.NewCommit) step.Nothing ∷ step.Keep
     ∷ cond (ltb 0 k) (step.Remove file.Commit) step.Nothing ∷ step.Keep ∷ []
 
-mend-is : (k : ℕ) (there : List Bool) → steps (mend-stages k there) ≡ step.Keep ∷ (tab (tidied k there) 16 ++ after-blocks k there)
-unfolding mend-stages tidying steps
-mend-is k there = rw append-assoc
+recover-is : (k : ℕ) (there : List Bool) → steps (recover-stages k there) ≡ step.Keep ∷ (tab (tidied k there) 16 ++ after-blocks k there)
+unfolding recover-stages tidying steps
+recover-is k there = rw append-assoc
 
-pub mend-first : (k : ℕ) (there : List Bool) (i : ℕ) → i ≡ 0 → step.Keep ≡ mend-step k there i
-unfolding mend-step
-mend-first k there i e = rw (mend-is k there, e)
+pub recover-first : (k : ℕ) (there : List Bool) (i : ℕ) → i ≡ 0 → step.Keep ≡ recover-step k there i
+unfolding recover-step
+recover-first k there i e = rw (recover-is k there, e)
 
 module _ (k : ℕ) (there : List Bool) (i : ℕ) where
-  mend-behind : 0 < i → getD (tab (tidied k there) 16 ++ after-blocks k there) (i - 1) step.Nothing ≡ mend-step k there i
-  unfolding mend-step
-  mend-behind h = rw (mend-is k there) (behind-first step.Keep (tab (tidied k there) 16 ++ after-blocks k there) i h)
+  recover-behind : 0 < i → getD (tab (tidied k there) 16 ++ after-blocks k there) (i - 1) step.Nothing ≡ recover-step k there i
+  unfolding recover-step
+  recover-behind h = rw (recover-is k there) (behind-first step.Keep (tab (tidied k there) 16 ++ after-blocks k there) i h)
 
-  pub mend-below : 0 < i → i - 1 < 16 → tidied k there (i - 1) ≡ mend-step k there i
-  mend-below s h = in-table (tidied k there) 16 (i - 1) (after-blocks k there) step.Nothing h ∙ mend-behind s
+  pub recover-below : 0 < i → i - 1 < 16 → tidied k there (i - 1) ≡ recover-step k there i
+  recover-below s h = in-table (tidied k there) 16 (i - 1) (after-blocks k there) step.Nothing h ∙ recover-behind s
 
-  pub mend-above : (j : ℕ) → i ≡ 17 + j → getD (after-blocks k there) j step.Nothing ≡ mend-step k there i
-  mend-above j e =
+  pub recover-above : (j : ℕ) → i ≡ 17 + j → getD (after-blocks k there) j step.Nothing ≡ recover-step k there i
+  recover-above j e =
       let d : i - 1 - 16 ≡ j = omega arith in
-      ap (λ (n : ℕ). getD (after-blocks k there) n step.Nothing) (sym d) ∙ past-table (tidied k there) 16 (i - 1) (after-blocks k there) step.Nothing (omega arith) ∙ mend-behind (omega arith)
+      ap (λ (n : ℕ). getD (after-blocks k there) n step.Nothing) (sym d) ∙ past-table (tidied k there) 16 (i - 1) (after-blocks k there) step.Nothing (omega arith) ∙ recover-behind (omega arith)
 
-  pub mend-new-commit : (t : Bool) → i ≡ 17 → getD there 16 false ≡ t → cond t (step.Remove file.NewCommit) step.Nothing ≡ mend-step k there i
-  mend-new-commit t e h = rw (← h) (mend-above 0 e)
+  pub recover-new-commit : (t : Bool) → i ≡ 17 → getD there 16 false ≡ t → cond t (step.Remove file.NewCommit) step.Nothing ≡ recover-step k there i
+  recover-new-commit t e h = rw (← h) (recover-above 0 e)
 
-  pub mend-commit : (t : Bool) → i ≡ 19 → ltb 0 k ≡ t → cond t (step.Remove file.Commit) step.Nothing ≡ mend-step k there i
-  mend-commit t e h = rw (← h) (mend-above 2 e)
+  pub recover-commit : (t : Bool) → i ≡ 19 → ltb 0 k ≡ t → cond t (step.Remove file.Commit) step.Nothing ≡ recover-step k there i
+  recover-commit t e h = rw (← h) (recover-above 2 e)
 
-  pub mend-end : 21 ≤ i → step.Nothing ≡ mend-step k there i
-  mend-end h = sym (List·getD-eq-default (after-blocks k there) step.Nothing (four i h)) ∙ mend-above (i - 17) (omega arith)
+  pub recover-end : 21 ≤ i → step.Nothing ≡ recover-step k there i
+  recover-end h = sym (List·getD-eq-default (after-blocks k there) step.Nothing (four i h)) ∙ recover-above (i - 17) (omega arith)
     where
       four : (i : ℕ) → 21 ≤ i → 4 ≤ i - 17
       four i h = omega arith

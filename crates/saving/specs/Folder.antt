@@ -3,7 +3,7 @@
 --   does, all-of    a step, several steps
 --   Cut             what a loss of power, or of the program alone, may leave of a plan
 --   seen            the files of a basin, as a reader has them
---   SaveKeeps, MendKeeps, Reading    the claims; the proof is Kept (proofs)
+--   SaveKeeps, RecoverKeeps, Reading    the claims; the proof is Kept (proofs)
 use mathlib.Core.Path.{_≡_}
 use mathlib.Core.Bool.{Bool, true, false, cond, _||_}
 use mathlib.Core.List.{List, [], _∷_, _++_}
@@ -22,7 +22,7 @@ use Rattle.saving.specs.declared.look.Found.{Found}
 use Rattle.saving.specs.declared.look.Found.the-variants as found
 use Rattle.saving.specs.declared.look.Look.{Look}
 use Rattle.saving.specs.declared.look.Look.the-variants as look
-use Rattle.saving.specs.Plan.{steps, writing, committing, placing, ending, save-stages, mend-stages}
+use Rattle.saving.specs.Plan.{steps, writing, committing, placing, ending, save-stages, recover-stages}
 use Rattle.saving.specs.Commit.{entry-of, commit-of, committed, entry-in}
 use Rattle.saving.specs.Looks.{same-entry, look-of}
 
@@ -88,7 +88,7 @@ seen d b = cond (ltb b (blocks-of (d file.Commit))) (first (d (file.NewBlock b))
 abbrev pub Alike : (ℕ → Option (List ℕ)) → (ℕ → Option (List ℕ)) → Type 0
 Alike u v = (b : ℕ) → b < 16 → u b ≡ v b
 
--- WHAT A MENDING LOOKS AT: each block's files and its entry in the commit
+-- WHAT A RECOVERY LOOKS AT: each block's files and its entry in the commit
 abbrev pub found-in : Option (List ℕ) → Found
 found-in none = found.Nothing
 found-in (some bytes) = found.File (entry-of bytes)
@@ -129,7 +129,7 @@ saved k c d = all-of (saves k c) (steps (save-stages k)) d
 
 -- from a folder without a commit, of one block to sixteen: step by step the old basin is seen until step k + 4 has given the commit its
 -- name, and the new one from then on; wherever the save is cut, one of the two, and the new one once a Keep has followed that step; what
--- is left looks right to a mending; a save that ends has the new basin under the blocks' own names, and leaves no other file of its own
+-- is left looks right to a recovery; a save that ends has the new basin under the blocks' own names, and leaves no other file of its own
 pub record SaveKeeps (k : ℕ) (c : ℕ → List ℕ) (d : Folder) : Type 0 where
   pub old : (n : ℕ) → n ≤ k + 3 → Alike (seen (saving k c d n)) (seen d)
   pub new : (n : ℕ) → k + 4 ≤ n → Alike (seen (saving k c d n)) (renewed k c d)
@@ -141,37 +141,37 @@ pub record SaveKeeps (k : ℕ) (c : ℕ → List ℕ) (d : Folder) : Type 0 wher
   pub no-new-commit : saved k c d file.NewCommit ≡ none
   pub no-commit : saved k c d file.Commit ≡ none
 
--- A MENDING, by what it finds
+-- A RECOVERY, by what it finds
 abbrev pub there : Folder → List Bool
 there d = tab (λ b. is-some (d (file.NewBlock b))) 16 ++ is-some (d file.NewCommit) ∷ []
 
-abbrev pub mending : Folder → List (List Step)
-mending d = mend-stages (blocks-of (d file.Commit)) (there d)
+abbrev pub recovery : Folder → List (List Step)
+recovery d = recover-stages (blocks-of (d file.Commit)) (there d)
 
 abbrev pub no-bytes : File → List ℕ
 no-bytes f = []
 
--- mendings one after the other, each cut anywhere or not at all
-pub data Mendings : Folder → Folder → Type 0 where
-  no-mending : {d : Folder} → Mendings d d
-  again : {d e g : Folder} → Cut no-bytes (mending d) d e → Mendings e g → Mendings d g
+-- recoveries one after the other, each cut anywhere or not at all
+pub data Recoveries : Folder → Folder → Type 0 where
+  no-recovery : {d : Folder} → Recoveries d d
+  again : {d e g : Folder} → Cut no-bytes (recovery d) d e → Recoveries e g → Recoveries d g
 
 -- a commit that is there can be read
 abbrev pub Readable : Folder → Type 0
 Readable d = (d file.Commit ≡ none) ⊎ (0 < blocks-of (d file.Commit))
 
-abbrev pub mended : Folder → Folder
-mended d = all-of no-bytes (steps (mending d)) d
+abbrev pub recovered : Folder → Folder
+recovered d = all-of no-bytes (steps (recovery d)) d
 
--- in any folder mendings keep what is seen, however often they are cut; one that ends leaves it under the blocks' own names, and no
+-- in any folder recoveries keep what is seen, however often they are cut; one that ends leaves it under the blocks' own names, and no
 -- other file
-pub record MendKeeps (d : Folder) : Type 0 where
-  pub cut : (e : Folder) → Mendings d e → Alike (seen e) (seen d)
-  pub looks : LooksRight d → (e : Folder) → Mendings d e → LooksRight e
-  pub named : Alike (λ b. mended d (file.Block b)) (seen d)
-  pub no-new : (b : ℕ) → b < 16 → mended d (file.NewBlock b) ≡ none
-  pub no-new-commit : mended d file.NewCommit ≡ none
-  pub no-commit : Readable d → mended d file.Commit ≡ none
+pub record RecoverKeeps (d : Folder) : Type 0 where
+  pub cut : (e : Folder) → Recoveries d e → Alike (seen e) (seen d)
+  pub looks : LooksRight d → (e : Folder) → Recoveries d e → LooksRight e
+  pub named : Alike (λ b. recovered d (file.Block b)) (seen d)
+  pub no-new : (b : ℕ) → b < 16 → recovered d (file.NewBlock b) ≡ none
+  pub no-new-commit : recovered d file.NewCommit ≡ none
+  pub no-commit : Readable d → recovered d file.Commit ≡ none
 
 -- A READER BESIDE A SAVE. It opens the blocks one after the other, at the times `opened`; at a later instant it finds no commit; later, at
 -- the times `again`, each name still has the file that was opened: no step between has put another there or taken it away

@@ -1,4 +1,4 @@
--- The steps of a save, and of the mending after one that was cut short. Assumes nothing.
+-- The steps of a save, and of the recovery after one that was cut short. Assumes nothing.
 -- A plan is stages, each ended by a Keep: within a stage the disk may have one step and not another, whatever their order. The first
 -- stage is empty: after its Keep the disk has what the plan was made for, also where the program before it was stopped in a stage.
 use mathlib.Core.Bool.{Bool, false, cond}
@@ -35,7 +35,7 @@ save-stages k = [] ∷ writing k ∷ committing ∷ placing k ∷ ending ∷ []
 unfoldable pub save-step : ℕ → ℕ → Step
 save-step k i = getD (steps (save-stages k)) i step.Nothing
 
--- A MENDING. Entry b of a list says whether the new file of block b is there, entry 16 whether the new commit is
+-- A RECOVERY. Entry b of a list says whether the new file of block b is there, entry 16 whether the new commit is
 -- with a commit of k blocks the new files of these get their blocks' names; any other new file goes
 unfoldable pub tidied : ℕ → List Bool → ℕ → Step
 tidied k there b =
@@ -45,11 +45,11 @@ unfoldable pub tidying : ℕ → List Bool → List Step
 tidying k there = tab (tidied k there) 16 ++ cond (getD there 16 false) (step.Remove file.NewCommit) step.Nothing ∷ []
 
 -- then the commit goes; k is 0 where there is none
-unfoldable pub mend-stages : ℕ → List Bool → List (List Step)
-mend-stages k there = [] ∷ tidying k there ∷ (cond (ltb 0 k) (step.Remove file.Commit) step.Nothing ∷ []) ∷ []
+unfoldable pub recover-stages : ℕ → List Bool → List (List Step)
+recover-stages k there = [] ∷ tidying k there ∷ (cond (ltb 0 k) (step.Remove file.Commit) step.Nothing ∷ []) ∷ []
 
-unfoldable pub mend-step : ℕ → List Bool → ℕ → Step
-mend-step k there i = getD (steps (mend-stages k there)) i step.Nothing
+unfoldable pub recover-step : ℕ → List Bool → ℕ → Step
+recover-step k there i = getD (steps (recover-stages k there)) i step.Nothing
 
 -- in code, the steps behind the first Keep of a save, and those behind the commit's
 unfoldable pub writing-step : ℕ → ℕ → Step

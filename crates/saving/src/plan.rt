@@ -1,8 +1,8 @@
-// The steps of a save, one after the other, and of the mending after one that was cut short.
+// The steps of a save, one after the other, and of the recovery after one that was cut short.
 ghost use mathlib.Core.Path.{_≡_};
 ghost use mathlib.Core.Bool.{false};
 ghost use lib.ListN.{getD};
-ghost use Rattle.saving.specs.Plan.{save-step, writing-step, placing-step, mend-step, tidied};
+ghost use Rattle.saving.specs.Plan.{save-step, writing-step, placing-step, recover-step, tidied};
 use commands::names::File;
 
 // Write a file; give it another name; take it away; have the disk keep the folder's names.
@@ -14,10 +14,10 @@ pub enum Step {
     Nothing,
 }
 
-// No save of at most sixteen blocks has more steps, and no mending.
+// No save of at most sixteen blocks has more steps, and no recovery.
 pub const SAVE_STEPS: usize = 40;
 
-pub const MEND_STEPS: usize = 21;
+pub const RECOVERY_STEPS: usize = 21;
 
 // From the commit's name on: step j of the rest.
 fn placing(k: usize, j: usize) -> Step
@@ -95,10 +95,10 @@ fn tidy(k: usize, there: &[bool], b: usize) -> Step
     Step::Remove(File::NewBlock(b))
 }
 
-// Step i of a mending with a commit of k blocks, or with none where k is 0: entry b of `there` says whether the new file of block b is
+// Step i of a recovery with a commit of k blocks, or with none where k is 0: entry b of `there` says whether the new file of block b is
 // there, entry 16 whether the new commit is.
-pub fn mend(k: usize, there: &[bool], i: usize) -> Step
-    ensures { λ r. ⌜ r ≡ mend-step k (now (there .entry)) i ⌝ }
+pub fn recover(k: usize, there: &[bool], i: usize) -> Step
+    ensures { λ r. ⌜ r ≡ recover-step k (now (there .entry)) i ⌝ }
 {
     if i == 0 {
         return Step::Keep;

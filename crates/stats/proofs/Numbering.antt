@@ -19,7 +19,7 @@ use Rattle.laws.proofs.Members.{In, pigeonhole, all-in, all-from, keep-le}
 use Rattle.laws.proofs.Maps.{tab-more}
 use Rattle.laws.proofs.Tables.{length-tab}
 use Rattle.laws.proofs.Lists.{getD-zeros}
-use Rattle.cells.specs.Places.{Painted, places-in}
+use Rattle.cells.specs.Places.{Assigned, places-in}
 use Rattle.cells.proofs.Walks.{eq-or-ne, last-or-below}
 use Rattle.cells.proofs.Reached.{places, in-places, in-places-in, places-in-in}
 use Rattle.cells.proofs.FaceLaws.{keep-append}
@@ -295,8 +295,8 @@ module _ {m : List ℕ} (j : Joined m) (third : Bool) {d : ℕ} (dn : d < getD m
         (λ l. subst (λ (x : ℕ). (getD G x 0 ≡ g) × In x v) (b .2) (w .new (b .0) l (b .1)))
         (lt-or-ge (b .0) t₀)
 
-    pub going-painted : Painted g v G₀ G
-    going-painted = record {
+    pub going-assigned : Assigned g v G₀ G
+    going-assigned = record {
       size = w .queue .len-g ∙ sym (q₀ .len-g);
       value = λ y. by-cases (mem y v)
           (λ e. rw e (queued-old y (w .queue .back y (named y e)) (away y e) .0))
@@ -404,18 +404,18 @@ module _ {third : Bool} {m G firsts o : List ℕ} {count t p : ℕ} (j : Joined 
     pub count-few : count < room
     count-few = omega (arith, w .count-is, keep-le (is-first third m) (tab (λ x. x) p), length-tab (λ (x : ℕ). x) p, j .linked .few)
 
-    module _ {G′ o′ : List ℕ} {t′ : ℕ} (q′ : Queued (getD m 2 0) G′ o′ t′) (painted : Painted (count + 1) (group-of third m p) G G′) where
+    module _ {G′ o′ : List ℕ} {t′ : ℕ} (q′ : Queued (getD m 2 0) G′ o′ t′) (assigned : Assigned (count + 1) (group-of third m p) G G′) where
       own : Orbit (links-at third m) p (group-of third m p)
       own = group-linked j third p h
 
       in-new : (y : ℕ) → In y (group-of third m p) → getD G′ y 0 ≡ count + 1
-      in-new y e = painted .value y ∙ rw e refl
+      in-new y e = assigned .value y ∙ rw e refl
 
       in-old : (y : ℕ) → 0 < getD G y 0 → getD G′ y 0 ≡ getD G y 0
-      in-old y k = by-cases (mem y (group-of third m p)) (λ e. absurd (untouched y e k)) (λ e. painted .value y ∙ rw e refl)
+      in-old y k = by-cases (mem y (group-of third m p)) (λ e. absurd (untouched y e k)) (λ e. assigned .value y ∙ rw e refl)
 
       which : {C : Type 0} (y : ℕ) → 0 < getD G′ y 0 → (In y (group-of third m p) → C) → (0 < getD G y 0 → C) → C
-      which y k f g = by-cases (mem y (group-of third m p)) f (λ e. g (omega (arith, painted .value y ∙ ap (λ (b : Bool). cond b (count + 1) (getD G y 0)) e)))
+      which y k f g = by-cases (mem y (group-of third m p)) f (λ e. g (omega (arith, assigned .value y ∙ ap (λ (b : Bool). cond b (count + 1) (getD G y 0)) e)))
 
       there : getD (set firsts count p) count 0 ≡ p
       there = getD-set-same firsts count p 0 (omega (arith, count-few, w .len-f))

@@ -4,7 +4,7 @@ ghost use Prim.Native.Nat.{_+_, _≤_, _<_};
 ghost use lib.ListN.{length, getD, replicate};
 ghost use Rattle.model.specs.Image.{words-for};
 ghost use Rattle.model.specs.Values.{room};
-ghost use Rattle.cells.specs.Places.{Painted};
+ghost use Rattle.cells.specs.Places.{Assigned};
 ghost use Rattle.stats.specs.Groups.{third-link, group-of, Joined, Entered, Queued, LinksEntered, Shut, Grouped};
 use memory::header::Header;
 use memory::record;
@@ -74,7 +74,7 @@ fn add_group(
     requires { ⌜ Queued (getD (now block) 2 0) (now groups) (now order) tail × Shut third (now block) (now groups)
         × (getD (now groups) start 0 ≡ 0) ⌝ }
     ensures queue { λ r. ⌜ Queued (getD (now (block .entry)) 2 0) (now (groups .exit)) (now (order .exit)) r ⌝ }
-    ensures painted { λ r. ⌜ Painted group (group-of third (now (block .entry)) start) (now (groups .entry)) (now (groups .exit)) ⌝ }
+    ensures assigned { λ r. ⌜ Assigned group (group-of third (now (block .entry)) start) (now (groups .entry)) (now (groups .exit)) ⌝ }
 {
     // The links of what stands before `head` lead to what is in a group.
     let mut end = enter(groups, order, tail, start, group);

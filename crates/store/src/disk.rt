@@ -176,12 +176,12 @@ fn new_files() -> [bool; 17] {
     there
 }
 
-// The steps of a mending, with a commit of k blocks or, where k is 0, with none.
-fn mend_steps(k: usize, there: &[bool]) -> bool {
+// The steps of a recovery, with a commit of k blocks or, where k is 0, with none.
+fn recover_steps(k: usize, there: &[bool]) -> bool {
     let mut nothing = [0u8; 1];
     let mut i = 0;
-    while i < plan::MEND_STEPS {
-        let e = carry_out(plan::mend(k, there, i), &[], &mut nothing);
+    while i < plan::RECOVERY_STEPS {
+        let e = carry_out(plan::recover(k, there, i), &[], &mut nothing);
         if e != 0 {
             say::failed(b"cannot finish a save in", b"this folder", e);
             return false;
@@ -204,14 +204,14 @@ fn any(there: &[bool]) -> bool {
 }
 
 // The same with what is there; where nothing is, the folder is left alone.
-fn mend_found(k: usize) -> bool {
+fn recover_found(k: usize) -> bool {
     let there = new_files();
     if k == 0 {
         if !any(&there) {
             return true;
         }
     }
-    mend_steps(k, &there)
+    recover_steps(k, &there)
 }
 
 // The file under the commit's name is none.
@@ -229,7 +229,7 @@ fn finish(bytes: &[u8], room: &mut [u8]) -> bool {
     if !are_right(bytes, k, room) {
         return false;
     }
-    if !mend_found(k) {
+    if !recover_found(k) {
         return false;
     }
     say::text(b"# finished a save that was cut short\n");
@@ -237,7 +237,7 @@ fn finish(bytes: &[u8], room: &mut [u8]) -> bool {
 }
 
 // The same with a commit that was read, or that is not there.
-fn mend_with(committed: Contents, bytes: &[u8], room: &mut [u8]) -> bool {
+fn recover_with(committed: Contents, bytes: &[u8], room: &mut [u8]) -> bool {
     match committed {
         Contents::Bytes(n) => {
             if n <= bytes.len() {
@@ -245,7 +245,7 @@ fn mend_with(committed: Contents, bytes: &[u8], room: &mut [u8]) -> bool {
             }
             false
         }
-        Contents::Missing => mend_found(0),
+        Contents::Missing => recover_found(0),
         Contents::TooLarge => no_commit(),
         Contents::Failed(e) => {
             say_unread(File::Commit, e);
@@ -256,10 +256,10 @@ fn mend_with(committed: Contents, bytes: &[u8], room: &mut [u8]) -> bool {
 
 // Finishes a save that was cut short if it was committed and its files are there, and forgets it if it was not. Whether the basin can
 // be read.
-pub fn mend(room: &mut [u8]) -> bool {
+pub fn recover(room: &mut [u8]) -> bool {
     let mut bytes = [0u8; 512];
     let committed = read(File::Commit, &mut bytes);
-    mend_with(committed, &bytes, room)
+    recover_with(committed, &bytes, room)
 }
 
 // Saves the blocks of a mesh. A save that fails is forgotten, or finished where it was committed.
@@ -270,7 +270,7 @@ fn save_mesh(mesh: &[u64], room: &mut [u8]) -> bool {
         let e = carry_out(plan::save(k, i), mesh, room);
         if e != 0 {
             say::failed(b"cannot save the blocks in", b"this folder", e);
-            mend(room);
+            recover(room);
             return false;
         }
         i += 1;

@@ -99,7 +99,7 @@ fn next_there(k: usize) -> usize {
         }
         b += 1;
     }
-    16
+    memory::header::BLOCKS
 }
 
 // The blocks once block k is not found.

@@ -1,7 +1,7 @@
 -- `dmap::dmap_next_move` meets its contract. Assumes nothing.
 use Rattle.model.specs.Values.{all-rack}
 use Rattle.model.specs.Calls.{next-move-by-number}
-use Rattle.dmap.specs.Door.{point-words}
+use Rattle.dmap.specs.CInterface.{point-words}
 use Rattle.dmap.proofs.Through.{not-four, moved}
 use borrow.Author.Needs.{needs}
 use Rattle.dmap.proofs.dmap_next_move.Statement.{statement}

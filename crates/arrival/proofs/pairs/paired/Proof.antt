@@ -2,7 +2,7 @@
 -- Assumes nothing.
 use mathlib.Core.Path.{sym, _∙_}
 use borrow.Author.Tests.{not-true, not-false}
-use Rattle.arrival.proofs.CoupleLaws.{ranked-apart}
+use Rattle.arrival.proofs.EdgeLaws.{ranked-apart}
 use Rattle.arrival.proofs.Steps.{paired-ends, paired-twice, paired-found, pair-fits}
 use native.Mathlib.Omega.{arith}
 use borrow.Author.Needs.{needs}
@@ -71,11 +71,11 @@ returns-2 c =
       start .pre .0 .3,
     )
 
-slice-aggregate-couples : tie.Need-slice-aggregate-couples
-slice-aggregate-couples c = search needs
+slice-aggregate-edges : tie.Need-slice-aggregate-edges
+slice-aggregate-edges c = search needs
 
-couples-requires : tie.Need-couples-requires
-couples-requires c κs =
+edges-requires : tie.Need-edges-requires
+edges-requires c κs =
     let start : tie.Start = search in
     let rank-ensures = (let p : tie.After-rank = search in p .rank .ensures) in
     let if2-left = (let p : tie.Else2 = search in p .if2 .left) in
@@ -97,11 +97,11 @@ returns-3 c =
     let if1-left = (let p : tie.Else1 = search in p .if1 .left) in
     let rank-ensures = (let p : tie.After-rank = search in p .rank .ensures) in
     let if2-left = (let p : tie.Else2 = search in p .if2 .left) in
-    let couples-ensures = (let p : tie.After-couples = search in p .couples .ensures) in (
+    let edges-ensures = (let p : tie.After-edges = search in p .edges .ensures) in (
       paired-found vertex starts sizes k (start .pre .1 .0) (start .pre .1 .1) (put-pairs-last .1 .1 .1 .1 .0)
           (put-pairs-ensures .1) (sym (put-pairs-ensures .0) ∙ not-false _ if1-left) (sym (rank-ensures .0) ∙ not-false _ if2-left)
-          (rank-ensures .1 .0 (not-false _ if2-left)) (couples-ensures .0),
-      couples-ensures .1,
+          (rank-ensures .1 .0 (not-false _ if2-left)) (edges-ensures .0),
+      edges-ensures .1,
     )
 
 pub paired-spec : {M : Type 1} → statement M
@@ -117,7 +117,7 @@ paired-spec =
     slice-aggregate-rank-4
     rank-requires
     returns-2
-    slice-aggregate-couples
-    couples-requires
+    slice-aggregate-edges
+    edges-requires
     same-length
     returns-3)

@@ -53,28 +53,28 @@ shared-slice-read-ok-2 c =
     let next-index-ensures = (let p : tie.After-next-index Inv-loop μ-loop = search in p .next-index .ensures) in
     let n = next-below (start .pre .1 .0) loop-i (omega arith) in omega (arith, n, next-index-ensures)
 
-mul-couple : tie.Need-mul-couple Inv-loop μ-loop
-mul-couple c = search needs
+mul-edge : tie.Need-mul-edge Inv-loop μ-loop
+mul-edge c = search needs
 
-shared-slice-read-couple : tie.Need-shared-slice-read-couple Inv-loop μ-loop
-shared-slice-read-couple c = search needs
+shared-slice-read-edge : tie.Need-shared-slice-read-edge Inv-loop μ-loop
+shared-slice-read-edge c = search needs
 
-mul-couple-2 : tie.Need-mul-couple-2 Inv-loop μ-loop
-mul-couple-2 c =
+mul-edge-2 : tie.Need-mul-edge-2 Inv-loop μ-loop
+mul-edge-2 c =
     let start : tie.Start Inv-loop μ-loop = search in
     let loop-i = (let p : tie.At-loop Inv-loop μ-loop = search in p .loop .i) in
     let next-index-ensures = (let p : tie.After-next-index Inv-loop μ-loop = search in p .next-index .ensures) in
     let n = next-below (start .pre .1 .0) loop-i (omega arith) in omega (arith, n, next-index-ensures)
 
-shared-slice-read-couple-2 : tie.Need-shared-slice-read-couple-2 Inv-loop μ-loop
-shared-slice-read-couple-2 c =
+shared-slice-read-edge-2 : tie.Need-shared-slice-read-edge-2 Inv-loop μ-loop
+shared-slice-read-edge-2 c =
     let start : tie.Start Inv-loop μ-loop = search in
     let loop-i = (let p : tie.At-loop Inv-loop μ-loop = search in p .loop .i) in
     let next-index-ensures = (let p : tie.After-next-index Inv-loop μ-loop = search in p .next-index .ensures) in
     let n = next-below (start .pre .1 .0) loop-i (omega arith) in omega (arith, n, next-index-ensures)
 
-couple-requires : tie.Need-couple-requires Inv-loop μ-loop
-couple-requires c κs =
+edge-requires : tie.Need-edge-requires Inv-loop μ-loop
+edge-requires c κs =
     let start : tie.Start Inv-loop μ-loop = search in
     let loop-i = (let p : tie.At-loop Inv-loop μ-loop = search in p .loop .i) in
     let loop-test-taken = (let p : tie.In-loop Inv-loop μ-loop = search in p .loop-test .taken) in
@@ -101,7 +101,7 @@ loop-again : tie.Need-loop-again Inv-loop μ-loop
 loop-again c =
     let loop-inv = (let p : tie.At-loop Inv-loop μ-loop = search in p .loop .inv) in
     let next-index-ensures = (let p : tie.After-next-index Inv-loop μ-loop = search in p .next-index .ensures) in
-    pairing-more loop-inv (omega arith) (omega arith) (c .couple .ensures ∙ rw next-index-ensures refl) (rw next-index-ensures refl)
+    pairing-more loop-inv (omega arith) (omega arith) (c .edge .ensures ∙ rw next-index-ensures refl) (rw next-index-ensures refl)
 
 same-length : tie.Need-same-length Inv-loop μ-loop
 same-length c = search needs
@@ -123,11 +123,11 @@ put-pairs-spec =
     shared-slice-read-ok
     mul-ok-2
     shared-slice-read-ok-2
-    mul-couple
-    shared-slice-read-couple
-    mul-couple-2
-    shared-slice-read-couple-2
-    couple-requires
+    mul-edge
+    shared-slice-read-edge
+    mul-edge-2
+    shared-slice-read-edge-2
+    edge-requires
     mul-pairs
     slice-write-pairs
     add-i

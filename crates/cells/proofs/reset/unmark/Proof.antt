@@ -2,9 +2,9 @@
 -- The measure is what is left of the list. Assumes nothing.
 use Prim.Native.Nat.{_-_, _≤_}
 use lib.ListN.{take}
-use Rattle.cells.specs.Places.{Painted}
-use Rattle.cells.proofs.Paths.{paint-none}
-use Rattle.cells.proofs.Resets.{paint-listed, painted-all}
+use Rattle.cells.specs.Places.{Assigned}
+use Rattle.cells.proofs.Paths.{assign-none}
+use Rattle.cells.proofs.Resets.{assign-listed, assigned-all}
 use native.Mathlib.Omega.{arith}
 use borrow.Author.Needs.{needs}
 use Rattle.cells.proofs.reset.unmark.Statement.{statement}
@@ -12,7 +12,7 @@ use Rattle.cells.proofs.reset.unmark.Tie as tie
 
 abbrev Inv-loop : tie.InvT-loop
 Inv-loop order count marks₀ i₀ marks i =
-    (i ≤ count) × Painted 0 (take i order) marks₀ marks
+    (i ≤ count) × Assigned 0 (take i order) marks₀ marks
 
 abbrev μ-loop : tie.MeasureT-loop
 μ-loop order count marks₀ i₀ marks i =
@@ -20,7 +20,7 @@ abbrev μ-loop : tie.MeasureT-loop
 
 loop-holds : tie.Need-loop-holds Inv-loop μ-loop
 loop-holds c =
-    (omega arith, paint-none 0 _)
+    (omega arith, assign-none 0 _)
 
 mul-marks : tie.Need-mul-marks Inv-loop μ-loop
 mul-marks c = search needs
@@ -49,7 +49,7 @@ loop-again c =
     let loop-inv = (let p : tie.At-loop Inv-loop μ-loop = search in p .loop .inv) in
     let loop-test-taken = (let p : tie.In-loop Inv-loop μ-loop = search in p .loop-test .taken) in (
       omega (arith, loop-test-taken),
-      paint-listed order loop-i (loop-inv .1) (omega (arith, loop-test-taken, start .pre .1))
+      assign-listed order loop-i (loop-inv .1) (omega (arith, loop-test-taken, start .pre .1))
           (start .pre .2 _ loop-test-taken),
     )
 
@@ -63,7 +63,7 @@ returns c =
     let start : tie.Start Inv-loop μ-loop = search in
     let loop-i = (let p : tie.At-loop Inv-loop μ-loop = search in p .loop .i) in
     let loop-inv = (let p : tie.At-loop Inv-loop μ-loop = search in p .loop .inv) in
-    painted-all (start .args .order .now) loop-i (start .args .count) (loop-inv .0) (c .loop-test .left) (loop-inv .1)
+    assigned-all (start .args .order .now) loop-i (start .args .count) (loop-inv .0) (c .loop-test .left) (loop-inv .1)
 
 pub unmark-spec : {M : Type 1} → statement M
 unmark-spec =

@@ -3,9 +3,9 @@
 use Prim.Native.Nat.{_-_, _≤_}
 use lib.ListN.{take}
 use Rattle.model.specs.Values.{room}
-use Rattle.cells.specs.Places.{Painted}
-use Rattle.cells.proofs.Paths.{paint-none}
-use Rattle.cells.proofs.Resets.{paint-listed, painted-all}
+use Rattle.cells.specs.Places.{Assigned}
+use Rattle.cells.proofs.Paths.{assign-none}
+use Rattle.cells.proofs.Resets.{assign-listed, assigned-all}
 use native.Mathlib.Omega.{arith}
 use borrow.Author.Needs.{needs}
 use Rattle.cells.proofs.reset.unnumber.Statement.{statement}
@@ -13,7 +13,7 @@ use Rattle.cells.proofs.reset.unnumber.Tie as tie
 
 abbrev Inv-loop : tie.InvT-loop
 Inv-loop order count numbers₀ i₀ numbers i =
-    (i ≤ count) × Painted room (take i order) numbers₀ numbers
+    (i ≤ count) × Assigned room (take i order) numbers₀ numbers
 
 abbrev μ-loop : tie.MeasureT-loop
 μ-loop order count numbers₀ i₀ numbers i =
@@ -21,7 +21,7 @@ abbrev μ-loop : tie.MeasureT-loop
 
 loop-holds : tie.Need-loop-holds Inv-loop μ-loop
 loop-holds c =
-    (omega arith, paint-none room _)
+    (omega arith, assign-none room _)
 
 mul-numbers : tie.Need-mul-numbers Inv-loop μ-loop
 mul-numbers c = search needs
@@ -56,7 +56,7 @@ loop-again c =
     let loop-inv = (let p : tie.At-loop Inv-loop μ-loop = search in p .loop .inv) in
     let loop-test-taken = (let p : tie.In-loop Inv-loop μ-loop = search in p .loop-test .taken) in (
       omega (arith, loop-test-taken),
-      paint-listed order loop-i (loop-inv .1) (omega (arith, loop-test-taken, start .pre .1))
+      assign-listed order loop-i (loop-inv .1) (omega (arith, loop-test-taken, start .pre .1))
           (start .pre .2 _ loop-test-taken .1),
     )
 
@@ -70,7 +70,7 @@ returns c =
     let start : tie.Start Inv-loop μ-loop = search in
     let loop-i = (let p : tie.At-loop Inv-loop μ-loop = search in p .loop .i) in
     let loop-inv = (let p : tie.At-loop Inv-loop μ-loop = search in p .loop .inv) in
-    painted-all (start .args .order .now) loop-i (start .args .count) (loop-inv .0) (c .loop-test .left) (loop-inv .1)
+    assigned-all (start .args .order .now) loop-i (start .args .count) (loop-inv .0) (c .loop-test .left) (loop-inv .1)
 
 pub unnumber-spec : {M : Type 1} → statement M
 unnumber-spec =

@@ -60,8 +60,8 @@ loop-again c =
       lengths .2,
     )
 
-paint-ring-requires : tie.Need-paint-ring-requires Inv-loop μ-loop
-paint-ring-requires c κs =
+assign-ring-requires : tie.Need-assign-ring-requires Inv-loop μ-loop
+assign-ring-requires c κs =
     let start : tie.Start Inv-loop μ-loop = search in
     let loop-inv = (let p : tie.At-loop Inv-loop μ-loop = search in p .loop .inv .0) in
     let loop-test-taken = (let p : tie.In-loop Inv-loop μ-loop = search in p .loop-test .taken) in
@@ -85,12 +85,12 @@ loop-again-2 c =
     let loop-inv = (let p : tie.At-loop Inv-loop μ-loop = search in p .loop .inv .0) in
     let loop-test-taken = (let p : tie.In-loop Inv-loop μ-loop = search in p .loop-test .taken) in
     let if1-left = (let p : tie.Else1 Inv-loop μ-loop = search in p .if1 .left) in
-    let paint-ring-ensures = (let p : tie.After-paint-ring Inv-loop μ-loop = search in p .paint-ring .ensures) in
+    let assign-ring-ensures = (let p : tie.After-assign-ring Inv-loop μ-loop = search in p .assign-ring .ensures) in
     let l = start .pre .0 .0 in
     let lengths = (let p : tie.At-loop Inv-loop μ-loop = search in p .loop .inv) in (
       passing-new loop-inv loop-test-taken (start .pre .0 .1) (start .pre .0 .2) (start .pre .0 .3) refl if1-left
-          (ring-test _ _ _ (l .few) (l .next-within) (l .next-apart) (l .opposite-within) (l .opposite-apart)) paint-ring-ensures,
-      paint-ring-ensures .size ∙ lengths .1,
+          (ring-test _ _ _ (l .few) (l .next-within) (l .next-apart) (l .opposite-within) (l .opposite-apart)) assign-ring-ensures,
+      assign-ring-ensures .size ∙ lengths .1,
       simp length-set (lengths .2),
     )
 
@@ -124,7 +124,7 @@ number-all-spec =
     slice-read-if1
     loop-less
     loop-again
-    paint-ring-requires
+    assign-ring-requires
     mul-firsts
     slice-write-firsts
     add-count

@@ -1,5 +1,5 @@
 -- `cells::vertex::number_vertices` meets its contract: the numbers of its darts are taken away first. Assumes nothing.
-use Rattle.cells.proofs.Resets.{painted-in}
+use Rattle.cells.proofs.Resets.{assigned-in}
 use native.Mathlib.Omega.{arith}
 use borrow.Author.Needs.{needs}
 use Rattle.cells.proofs.vertex.number_vertices.Statement.{statement}
@@ -18,7 +18,7 @@ number-all-requires : tie.Need-number-all-requires
 number-all-requires c κs =
     let start : tie.Start = search in
     let unnumber-ensures = (let p : tie.After-unnumber = search in p .unnumber .ensures) in
-    (start .pre .0, (omega (arith, unnumber-ensures .size, start .pre .1 .0), painted-in unnumber-ensures, start .pre .1 .1))
+    (start .pre .0, (omega (arith, unnumber-ensures .size, start .pre .1 .0), assigned-in unnumber-ensures, start .pre .1 .1))
 
 same-length : tie.Need-same-length
 same-length c = search needs

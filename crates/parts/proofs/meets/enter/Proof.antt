@@ -70,8 +70,8 @@ put-met-requires c κs =
     let entry-right-ensures = (let p : tie.After-entry-right = search in p .entry-right .ensures) in
     (entry-right-ensures .len, start .pre .6, (let f = start .pre .0 .few in let h = start .pre .2 in omega (arith, f, h)))
 
-paint-requires : tie.Need-paint-requires
-paint-requires c κs =
+assign-requires : tie.Need-assign-requires
+assign-requires c κs =
     let if2-left = (let p : tie.Else2 = search in p .if2 .left) in
     let entry-right-ensures = (let p : tie.After-entry-right = search in p .entry-right .ensures) in
     let if1-left = (let p : tie.Else1 = search in p .if1 .left) in
@@ -106,7 +106,7 @@ same-length-7 c = search needs
 
 returns-3 : tie.Need-returns-3
 returns-3 c =
-    let paint-ensures = (let p : tie.After-paint = search in p .paint .ensures) in
+    let assign-ensures = (let p : tie.After-assign = search in p .assign .ensures) in
     let put-met-ensures = (let p : tie.After-put-met = search in p .put-met .ensures) in
     let fill-ensures = (let p : tie.After-fill = search in p .fill .ensures) in
     let if2-left = (let p : tie.Else2 = search in p .if2 .left) in
@@ -124,7 +124,7 @@ returns-3 c =
     let ranks = start .args .ranks .now in
     entered-yes from y at size (start .pre .4) (sym is-new-ensures ∙ not-false _ if1-left)
     (subst (EntryRight block draft ranks from y at size _) (not-false _ if2-left) entry-right-ensures) fill-ensures
-    put-met-ensures paint-ensures
+    put-met-ensures assign-ensures
 
 pub enter-spec : {M : Type 1} → statement M
 enter-spec =
@@ -139,7 +139,7 @@ enter-spec =
     returns-2
     fill-requires
     put-met-requires
-    paint-requires
+    assign-requires
     same-length-4
     same-length-5
     same-length-6

@@ -90,14 +90,14 @@ index-of-requires c κs =
     let start : tie.Start Inv-loop μ-loop = search in
     (start .pre .0 .3 .few, start .pre .0 .3 .size, start .pre .0 .3 .ascends)
 
-cast-paint-face : tie.Need-cast-paint-face Inv-loop μ-loop
-cast-paint-face c =
+cast-assign-face : tie.Need-cast-assign-face Inv-loop μ-loop
+cast-assign-face c =
     let start : tie.Start Inv-loop μ-loop = search in
     let face-code-result = (let p : tie.After-face-code Inv-loop μ-loop = search in p .face-code .result) in
     omega (arith, index-few (start .args .codes .now) (start .args .c) face-code-result (c .index-of .ensures), start .pre .0 .3 .few)
 
-paint-face-requires : tie.Need-paint-face-requires Inv-loop μ-loop
-paint-face-requires c κs =
+assign-face-requires : tie.Need-assign-face-requires Inv-loop μ-loop
+assign-face-requires c κs =
     let start : tie.Start Inv-loop μ-loop = search in
     let loop-inv = (let p : tie.At-loop Inv-loop μ-loop = search in p .loop .inv) in
     let loop-test-taken = (let p : tie.In-loop Inv-loop μ-loop = search in p .loop-test .taken) in
@@ -133,12 +133,12 @@ loop-again-3 c =
     let face-code-ensures = (let p : tie.After-face-code Inv-loop μ-loop = search in p .face-code .ensures) in
     let face-code-result = (let p : tie.After-face-code Inv-loop μ-loop = search in p .face-code .result) in
     let index-of-ensures = (let p : tie.After-index-of Inv-loop μ-loop = search in p .index-of .ensures) in
-    let paint-face-ensures = (let p : tie.After-paint-face Inv-loop μ-loop = search in p .paint-face .ensures) in
+    let assign-face-ensures = (let p : tie.After-assign-face Inv-loop μ-loop = search in p .assign-face .ensures) in
     let there = index-there block from codes c' loop-p field-ensures (if1-left ∙ critical-with-ensures) face-code-ensures index-of-ensures in
     let few = index-few codes c' face-code-result index-of-ensures in (
-      indexing-whole block (start .pre .0 .0) (start .pre .0 .1) from codes c' (loop-inv .0) loop-test-taken there paint-face-ensures,
-      hitting-face (loop-inv .1) loop-test-taken there (omega (arith, few, loop-inv .3, start .pre .1 .2)) paint-face-ensures,
-      paint-face-ensures .size ∙ loop-inv .2,
+      indexing-whole block (start .pre .0 .0) (start .pre .0 .1) from codes c' (loop-inv .0) loop-test-taken there assign-face-ensures,
+      hitting-face (loop-inv .1) loop-test-taken there (omega (arith, few, loop-inv .3, start .pre .1 .2)) assign-face-ensures,
+      assign-face-ensures .size ∙ loop-inv .2,
       simp length-set (loop-inv .3),
     )
 
@@ -177,8 +177,8 @@ index-faces-spec =
     loop-again-2
     face-code-requires
     index-of-requires
-    cast-paint-face
-    paint-face-requires
+    cast-assign-face
+    assign-face-requires
     slice-write-hits
     add-p-3
     loop-less-3

@@ -5,7 +5,7 @@ use mathlib.Core.List.{List}
 use Prim.Native.Nat.{ℕ, _-_}
 use lib.ListN.{getD}
 use Rattle.stats.specs.Groups.{links-at, group-of, Queued, Entered}
-use Rattle.stats.proofs.Numbering.{Going, enter-ready, queue-le, going-start, going-place, going-step, going-painted}
+use Rattle.stats.proofs.Numbering.{Going, enter-ready, queue-le, going-start, going-place, going-step, going-assigned}
 use native.Mathlib.Omega.{arith}
 use Rattle.stats.proofs.groups.add_group.Statement.{statement}
 use Rattle.stats.proofs.groups.add_group.Tie as tie
@@ -101,7 +101,7 @@ returns c =
     let start : tie.Start Inv-loop μ-loop = search in
     let enter-known = (let p : tie.After-enter Inv-loop μ-loop = search in p .enter) in
     let w = loop-known .inv _ _ (start .pre .1 .0) (enter-known .ensures) in
-    (w .queue, going-painted (start .pre .0 .0) (start .args .third) (start .pre .0 .1) (start .pre .0 .2) (start .pre .1 .0) (start .pre .1 .1) (start .pre .1 .2) w (c .loop-test .left))
+    (w .queue, going-assigned (start .pre .0 .0) (start .args .third) (start .pre .0 .1) (start .pre .0 .2) (start .pre .1 .0) (start .pre .1 .1) (start .pre .1 .2) w (c .loop-test .left))
 
 pub add-group-spec : {M : Type 1} → statement M
 add-group-spec =

@@ -32,8 +32,8 @@ slice-aggregate-failed-2 c = search needs
 failed-requires : tie.Need-failed-requires Inv-loop μ-loop
 failed-requires c κs = search needs
 
-mend-requires : tie.Need-mend-requires Inv-loop μ-loop
-mend-requires c κs = search needs
+recover-requires : tie.Need-recover-requires Inv-loop μ-loop
+recover-requires c κs = search needs
 
 same-length : tie.Need-same-length Inv-loop μ-loop
 same-length c = search needs
@@ -68,7 +68,7 @@ save-mesh-spec =
     slice-aggregate-failed
     slice-aggregate-failed-2
     failed-requires
-    mend-requires
+    recover-requires
     same-length
     returns
     add-i

@@ -1,18 +1,18 @@
--- `parts::meets::paint` meets its contract.
+-- `parts::meets::assign` meets its contract.
 -- Assumes nothing.
 use Prim.Native.Nat.{_-_, _≤_}
 use lib.ListN.{take}
-use Rattle.cells.specs.Places.{Painted}
-use Rattle.cells.proofs.Paths.{paint-none}
-use Rattle.parts.proofs.SewnFaces.{paint-trail, painted-all}
+use Rattle.cells.specs.Places.{Assigned}
+use Rattle.cells.proofs.Paths.{assign-none}
+use Rattle.parts.proofs.SewnFaces.{assign-trail, assigned-all}
 use native.Mathlib.Omega.{arith}
 use borrow.Author.Needs.{needs}
-use Rattle.parts.proofs.meets.paint.Statement.{statement}
-use Rattle.parts.proofs.meets.paint.Tie as tie
+use Rattle.parts.proofs.meets.assign.Statement.{statement}
+use Rattle.parts.proofs.meets.assign.Tie as tie
 
 abbrev Inv-loop : tie.InvT-loop
 Inv-loop trail size seen₀ j₀ seen j =
-    Painted 1 (take j trail) seen₀ seen × (j ≤ size)
+    Assigned 1 (take j trail) seen₀ seen × (j ≤ size)
 
 abbrev μ-loop : tie.MeasureT-loop
 μ-loop trail size seen₀ j₀ seen j =
@@ -20,7 +20,7 @@ abbrev μ-loop : tie.MeasureT-loop
 
 loop-holds : tie.Need-loop-holds Inv-loop μ-loop
 loop-holds c =
-    (paint-none 1 _, omega arith)
+    (assign-none 1 _, omega arith)
 
 place-at-requires : tie.Need-place-at-requires Inv-loop μ-loop
 place-at-requires c κs =
@@ -48,7 +48,7 @@ loop-again c =
     let loop-inv = (let p : tie.At-loop Inv-loop μ-loop = search in p .loop .inv) in
     let loop-j = (let p : tie.At-loop Inv-loop μ-loop = search in p .loop .j) in
     let place-at-ensures = (let p : tie.After-place-at Inv-loop μ-loop = search in p .place-at .ensures) in (
-      paint-trail trail loop-j (loop-inv .0) (let l = start .pre .0 .len in omega (arith, l))
+      assign-trail trail loop-j (loop-inv .0) (let l = start .pre .0 .len in omega (arith, l))
           (let b = start .pre .0 .below loop-j (omega arith) in let l = start .pre .2 in omega (arith, b, l))
           place-at-ensures,
       omega arith,
@@ -64,10 +64,10 @@ returns c =
     let start : tie.Start Inv-loop μ-loop = search in
     let loop-inv = (let p : tie.At-loop Inv-loop μ-loop = search in p .loop .inv) in
     let loop-j = (let p : tie.At-loop Inv-loop μ-loop = search in p .loop .j) in
-    painted-all (start .args .trail .now) loop-j (start .args .size) (loop-inv .0) (loop-inv .1) (omega arith)
+    assigned-all (start .args .trail .now) loop-j (start .args .size) (loop-inv .0) (loop-inv .1) (omega arith)
 
-pub paint-spec : {M : Type 1} → statement M
-paint-spec =
+pub assign-spec : {M : Type 1} → statement M
+assign-spec =
     tie.close
     (tie.spec
     Inv-loop

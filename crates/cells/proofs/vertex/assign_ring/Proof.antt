@@ -1,21 +1,21 @@
--- `cells::vertex::paint_ring` meets its contract. The loop's invariant: the darts before p have the number.
+-- `cells::vertex::assign_ring` meets its contract. The loop's invariant: the darts before p have the number.
 -- The measure is what is left of the ring. Assumes nothing.
 use Prim.Native.Nat.{_-_}
 use lib.ListN.{length, length-set}
 use Rattle.model.specs.Cells.{cycle, ring}
 use Rattle.model.specs.Image.{column}
 use Rattle.laws.proofs.Orbits.{path}
-use Rattle.cells.specs.Places.{Painted}
-use Rattle.cells.proofs.Paths.{Going, round, going-start, going-next, paint-none, paint-next, paint-last}
+use Rattle.cells.specs.Places.{Assigned}
+use Rattle.cells.proofs.Paths.{Going, round, going-start, going-next, assign-none, assign-next, assign-last}
 use Rattle.cells.proofs.RingLaws.{step-within, step-apart}
 use native.Mathlib.Omega.{arith}
-use Rattle.cells.proofs.vertex.paint_ring.Statement.{statement}
-use Rattle.cells.proofs.vertex.paint_ring.Tie as tie
+use Rattle.cells.proofs.vertex.assign_ring.Statement.{statement}
+use Rattle.cells.proofs.vertex.assign_ring.Tie as tie
 
 abbrev Inv-loop : tie.InvT-loop
 Inv-loop block n number numbers₀ first steps₀ p₀ numbers steps p =
     Going n (λ d. column block 1 (column block 2 d)) first (length (cycle (λ d. column block 1 (column block 2 d)) first)) steps p
-    × Painted number (path (λ d. column block 1 (column block 2 d)) steps first) numbers₀ numbers
+    × Assigned number (path (λ d. column block 1 (column block 2 d)) steps first) numbers₀ numbers
 
 abbrev μ-loop : tie.MeasureT-loop
 μ-loop block n number numbers₀ first steps₀ p₀ numbers steps p =
@@ -29,7 +29,7 @@ loop-holds c =
           (round (l .few) (step-within _ _ _ (l .few) (l .next-within) (l .next-apart) (l .opposite-within) (l .opposite-apart))
           (step-apart _ _ _ (l .few) (l .next-within) (l .next-apart) (l .opposite-within) (l .opposite-apart)) _ (start .pre .1))
           (start .pre .1),
-      paint-none _ _,
+      assign-none _ _,
     )
 
 mul-numbers : tie.Need-mul-numbers Inv-loop μ-loop
@@ -64,7 +64,7 @@ returns c =
     let ring-step-ensures = (let p : tie.After-ring-step Inv-loop μ-loop = search in p .ring-step .ensures) in
     let l = start .pre .0 in
     let w = step-within _ _ _ (l .few) (l .next-within) (l .next-apart) (l .opposite-within) (l .opposite-apart) in
-    paint-last w
+    assign-last w
     (round (l .few) w (step-apart _ _ _ (l .few) (l .next-within) (l .next-apart) (l .opposite-within) (l .opposite-apart)) _
     (start .pre .1)) (loop-inv .0) (loop-inv .1) (omega (arith, loop-inv .0 .below, start .pre .2)) ring-step-ensures
     (c .if1 .taken)
@@ -81,11 +81,11 @@ loop-again c =
     let w = step-within _ _ _ (l .few) (l .next-within) (l .next-apart) (l .opposite-within) (l .opposite-apart) in
     let r = round (l .few) w (step-apart _ _ _ (l .few) (l .next-within) (l .next-apart) (l .opposite-within) (l .opposite-apart)) _ (start .pre .1) in (
       going-next w r (loop-inv .0) ring-step-ensures (c .if1 .left),
-      paint-next w r (loop-inv .0) (loop-inv .1) (omega (arith, loop-inv .0 .below, start .pre .2)),
+      assign-next w r (loop-inv .0) (loop-inv .1) (omega (arith, loop-inv .0 .below, start .pre .2)),
     )
 
-pub paint-ring-spec : {M : Type 1} → statement M
-paint-ring-spec =
+pub assign-ring-spec : {M : Type 1} → statement M
+assign-ring-spec =
     tie.close
     (tie.spec
     Inv-loop

@@ -1,10 +1,10 @@
--- `store::disk::mend_steps` meets its contract. The loop's invariant: lengths stay. The measure is what is left of the steps. Assumes nothing.
+-- `store::disk::recover_steps` meets its contract. The loop's invariant: lengths stay. The measure is what is left of the steps. Assumes nothing.
 use mathlib.Core.Path.{_≡_}
 use Prim.Native.Nat.{_-_, _≤_}
 use lib.ListN.{length}
 use borrow.Author.Needs.{needs}
-use Rattle.store.proofs.disk.mend_steps.Statement.{statement}
-use Rattle.store.proofs.disk.mend_steps.Tie as tie
+use Rattle.store.proofs.disk.recover_steps.Statement.{statement}
+use Rattle.store.proofs.disk.recover_steps.Tie as tie
 
 abbrev Inv-loop : tie.InvT-loop
 Inv-loop k there nothing₀ i₀ t6 t7 t8 nothing i =
@@ -17,8 +17,8 @@ abbrev μ-loop : tie.MeasureT-loop
 loop-holds : tie.Need-loop-holds Inv-loop μ-loop
 loop-holds c = search needs
 
-mend-requires : tie.Need-mend-requires Inv-loop μ-loop
-mend-requires c κs = search needs
+recover-requires : tie.Need-recover-requires Inv-loop μ-loop
+recover-requires c κs = search needs
 
 slice-aggregate-carry-out : tie.Need-slice-aggregate-carry-out Inv-loop μ-loop
 slice-aggregate-carry-out c = search needs
@@ -53,14 +53,14 @@ loop-again c = search needs
 returns-2 : tie.Need-returns-2 Inv-loop μ-loop
 returns-2 c = search needs
 
-pub mend-steps-spec : {M : Type 1} → statement M
-mend-steps-spec =
+pub recover-steps-spec : {M : Type 1} → statement M
+recover-steps-spec =
     tie.close
     (tie.spec
     Inv-loop
     μ-loop
     loop-holds
-    mend-requires
+    recover-requires
     slice-aggregate-carry-out
     slice-aggregate-carry-out-2
     carry-out-requires

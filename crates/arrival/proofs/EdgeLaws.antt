@@ -1,4 +1,4 @@
--- A pair and its reverse are neighbours among the pairs in order: couples, by the numbers of their ends. Assumes nothing.
+-- A pair and its reverse are neighbours among the pairs in order: edges, by the numbers of their ends. Assumes nothing.
 use mathlib.Core.Path.{_≡_, refl, sym, _∙_, ap}
 use mathlib.Core.Logic.{_≢_, ⊎-elim}
 use mathlib.Core.Bool.{Bool, true, false, true≢false}
@@ -15,26 +15,26 @@ use Rattle.ranking.proofs.Steps.{index-fits}
 use Rattle.laws.proofs.Tests.{by-cases, lt-or-ge, same-truth}
 use Rattle.laws.proofs.Tables.{getD-tab, tab-all, all-tab, mem-place, mem-none, tab-apart, tab-distinct}
 use Rattle.ranking.specs.Ranks.{value-at, index-at, Ranked}
-use Rattle.arrival.specs.Sides.{next-index, pair-code, pair-at, reverse-at, couple-code, couple-at, Segments, Small}
-use Rattle.arrival.specs.Draft.{Opposed, Coupled}
+use Rattle.arrival.specs.Sides.{next-index, pair-code, pair-at, reverse-at, edge-code, edge-at, Segments, Small}
+use Rattle.arrival.specs.Draft.{Opposed, Edged}
 use Rattle.arrival.proofs.SegmentLaws.{next-below}
 
 -- ONE PAIR: its number, by the lesser end
-pub couple-round : (a c : ℕ) → c < a → (c * 1024 + a) * 2 + 1 ≡ couple-code a c
-couple-round a c h = rw (lt-ltb c a h) refl
+pub edge-round : (a c : ℕ) → c < a → (c * 1024 + a) * 2 + 1 ≡ edge-code a c
+edge-round a c h = rw (lt-ltb c a h) refl
 
-pub couple-kept : (a c : ℕ) → a ≤ c → (a * 1024 + c) * 2 ≡ couple-code a c
-couple-kept a c h = rw (le-ltb c a h) refl
+pub edge-kept : (a c : ℕ) → a ≤ c → (a * 1024 + c) * 2 ≡ edge-code a c
+edge-kept a c h = rw (le-ltb c a h) refl
 
 data Turned (a c x : ℕ) : Type 0 where
   kept : a ≤ c → x ≡ (a * 1024 + c) * 2 → Turned a c x
   round : c < a → x ≡ (c * 1024 + a) * 2 + 1 → Turned a c x
 
-turned : (a c : ℕ) → Turned a c (couple-code a c)
-turned a c = ⊎-elim (λ h. round h (sym (couple-round a c h))) (λ h. kept h (sym (couple-kept a c h))) (lt-or-ge c a)
+turned : (a c : ℕ) → Turned a c (edge-code a c)
+turned a c = ⊎-elim (λ h. round h (sym (edge-round a c h))) (λ h. kept h (sym (edge-kept a c h))) (lt-or-ge c a)
 
-pub couple-small : (a c : ℕ) → a ≤ 512 → c ≤ 512 → couple-code a c < 2097152
-couple-small a c la lc = go (turned a c)
+pub edge-small : (a c : ℕ) → a ≤ 512 → c ≤ 512 → edge-code a c < 2097152
+edge-small a c la lc = go (turned a c)
   where
     go : {x : ℕ} → Turned a c x → x < 2097152
     go (kept h e) = omega (arith, e, la, lc)
@@ -59,7 +59,7 @@ module _ {a c d f : ℕ} (la : a ≤ 512) (lc : c ≤ 512) (ld : d ≤ 512) (lf 
   half-same (round h e) (kept k g) s n = let p : c ≡ d = omega (arith, s, la, lf) in (omega (arith, e, g, s, p), λ q. omega (arith, e, g, q))
   half-same (round h e) (round k g) s n = let p : c ≡ d = omega (arith, s, la, lf) in absurd (omega (arith, s, h, k, p))
 
-  ends-same : pair-code a c ≡ pair-code d f → couple-code a c ≡ couple-code d f
+  ends-same : pair-code a c ≡ pair-code d f → edge-code a c ≡ edge-code d f
   ends-same s = let p : a ≡ d = omega (arith, s, la, lc, ld, lf) in let q : c ≡ f = omega (arith, s, la, lc, ld, lf) in rw (p, q) refl
 
 -- PAIRS BY INDEX
@@ -67,21 +67,21 @@ module _ (v : List ℕ) {b z : List ℕ} {k : ℕ} (seg : Segments b z k) (small
   head-small : (i : ℕ) → i < k → getD v (next-index b z i) 0 ≤ 512
   head-small i h = small (next-index b z i) (next-below seg i h)
 
-  pub distinct-couples : distinct (tab (couple-at v b z) k) ≡ distinct (tab (pair-at v b z) k)
-  distinct-couples = same-truth _ _
-      (λ t. tab-distinct (pair-at v b z) k (λ i j h l e. tab-apart (couple-at v b z) k t i j h l (ends-same (small i h) (head-small i h) (small j l) (head-small j l) e)))
-      (λ t. tab-distinct (couple-at v b z) k (λ i j h l e. tab-apart (pair-at v b z) k t i j h l (same-ends (small i h) (head-small i h) (small j l) (head-small j l) (turned _ _) (turned _ _) e)))
+  pub distinct-edges : distinct (tab (edge-at v b z) k) ≡ distinct (tab (pair-at v b z) k)
+  distinct-edges = same-truth _ _
+      (λ t. tab-distinct (pair-at v b z) k (λ i j h l e. tab-apart (edge-at v b z) k t i j h l (ends-same (small i h) (head-small i h) (small j l) (head-small j l) e)))
+      (λ t. tab-distinct (edge-at v b z) k (λ i j h l e. tab-apart (pair-at v b z) k t i j h l (same-ends (small i h) (head-small i h) (small j l) (head-small j l) (turned _ _) (turned _ _) e)))
 
-  -- couples of ranks are darts that are opposite
-  module _ {pairs keys ranks : List ℕ} (are : take k pairs ≡ tab (couple-at v b z) k) (w : Ranked pairs k keys ranks) where
-    value-of : (p : ℕ) → p < k → value-at keys p ≡ couple-at v b z (index-at keys p)
+  -- edges of ranks are darts that are opposite
+  module _ {pairs keys ranks : List ℕ} (are : take k pairs ≡ tab (edge-at v b z) k) (w : Ranked pairs k keys ranks) where
+    value-of : (p : ℕ) → p < k → value-at keys p ≡ edge-at v b z (index-at keys p)
     value-of p h = let l = w .index-below p h in
-        w .value-is p h ∙ sym (getD-take k pairs (index-at keys p) 0 l) ∙ ap (λ (m : List ℕ). getD m (index-at keys p) 0) are ∙ getD-tab (couple-at v b z) k (index-at keys p) 0 l
+        w .value-is p h ∙ sym (getD-take k pairs (index-at keys p) 0 l) ∙ ap (λ (m : List ℕ). getD m (index-at keys p) 0) are ∙ getD-tab (edge-at v b z) k (index-at keys p) 0 l
 
-    value-here : (i : ℕ) → i < k → value-at keys (getD ranks i 0) ≡ couple-at v b z i
-    value-here i h = value-of (getD ranks i 0) (w .rank-below i h) ∙ ap (couple-at v b z) (w .index-rank i h)
+    value-here : (i : ℕ) → i < k → value-at keys (getD ranks i 0) ≡ edge-at v b z i
+    value-here i h = value-of (getD ranks i 0) (w .rank-below i h) ∙ ap (edge-at v b z) (w .index-rank i h)
 
-    module _ {q : List ℕ} {r : Bool} (c : Coupled keys k q r) where
+    module _ {q : List ℕ} {r : Bool} (c : Edged keys k q r) where
       met : r ≡ true → (i : ℕ) → i < k → (getD q i 0 < k) × (reverse-at v b z i ≡ pair-at v b z (getD q i 0))
       met y i h =
           let p = getD ranks i 0 in
@@ -90,15 +90,15 @@ module _ (v : List ℕ) {b z : List ℕ} {k : ℕ} (seg : Segments b z k) (small
           let j = index-at keys s in
           let l : j < k = w .index-below s (t .1) in
           let e : getD q i 0 ≡ j = ap (λ (n : ℕ). getD q n 0) (sym (w .index-rank i h)) ∙ t .4 in
-          let half : couple-at v b z i / 2 ≡ couple-at v b z j / 2 = ap (λ (n : ℕ). n / 2) (sym (value-here i h)) ∙ t .2 ∙ ap (λ (n : ℕ). n / 2) (value-of s (t .1)) in
-          let other : couple-at v b z i ≢ couple-at v b z j = λ n. t .3 (value-here i h ∙ n ∙ sym (value-of s (t .1))) in
+          let half : edge-at v b z i / 2 ≡ edge-at v b z j / 2 = ap (λ (n : ℕ). n / 2) (sym (value-here i h)) ∙ t .2 ∙ ap (λ (n : ℕ). n / 2) (value-of s (t .1)) in
+          let other : edge-at v b z i ≢ edge-at v b z j = λ n. t .3 (value-here i h ∙ n ∙ sym (value-of s (t .1))) in
           rw e (l, other-end (small i h) (head-small i h) (small j l) (head-small j l) (turned _ _) (turned _ _) half other)
 
-      pub coupled-opposed : r ≡ true → Opposed v b z k q
-      coupled-opposed y = record { below = λ i h. met y i h .0; reversed = λ i h. met y i h .1 }
+      pub edged-opposed : r ≡ true → Opposed v b z k q
+      edged-opposed y = record { below = λ i h. met y i h .0; reversed = λ i h. met y i h .1 }
 
-      coupled-yes : r ≡ true → all (λ i. mem (reverse-at v b z i) (tab (pair-at v b z) k)) (tab (λ i. i) k) ≡ true
-      coupled-yes y = tab-all _ (λ i. i) k (λ i h. let t = met y i h in mem-place (pair-at v b z) k (getD q i 0) (reverse-at v b z i) (t .0) (sym (t .1)))
+      edged-yes : r ≡ true → all (λ i. mem (reverse-at v b z i) (tab (pair-at v b z) k)) (tab (λ i. i) k) ≡ true
+      edged-yes y = tab-all _ (λ i. i) k (λ i h. let t = met y i h in mem-place (pair-at v b z) k (getD q i 0) (reverse-at v b z i) (t .0) (sym (t .1)))
 
       module _ (apart : (i : ℕ) → i < k → getD v i 0 ≡ getD v (next-index b z i) 0 → ⊥) where
         alone : r ≡ false → (i : ℕ) × (i < k) × (mem (reverse-at v b z i) (tab (pair-at v b z) k) ≡ false)
@@ -115,8 +115,8 @@ module _ (v : List ℕ) {b z : List ℕ} {k : ℕ} (seg : Segments b z k) (small
                   (sym (value-of p (t .1)) ∙ t .2 (getD ranks j 0) (w .rank-below j l) (ap (λ (m : ℕ). m / 2) (value-of p (t .1)) ∙ n .0 ∙ ap (λ (m : ℕ). m / 2) (sym (value-here j l))) ∙ value-here j l)),
             )
 
-        pub coupled-is : r ≡ all (λ i. mem (reverse-at v b z i) (tab (pair-at v b z) k)) (tab (λ i. i) k)
-        coupled-is = same-truth _ _ coupled-yes (λ t. by-cases r (λ e. e) (λ e. let n = alone e in absurd (true≢false (sym (all-tab _ (λ i. i) k t (n .0) (n .1)) ∙ n .2))))
+        pub edged-is : r ≡ all (λ i. mem (reverse-at v b z i) (tab (pair-at v b z) k)) (tab (λ i. i) k)
+        edged-is = same-truth _ _ edged-yes (λ t. by-cases r (λ e. e) (λ e. let n = alone e in absurd (true≢false (sym (all-tab _ (λ i. i) k t (n .0) (n .1)) ∙ n .2))))
 
 -- keys of different ranks are of different indices
 pub ranked-apart : {pairs : List ℕ} {k : ℕ} {keys ranks : List ℕ} → Ranked pairs k keys ranks → (p s : ℕ) → p < k → s < k → index-at keys p ≡ index-at keys s → p ≡ s
@@ -138,7 +138,7 @@ module _ {keys : List ℕ} {k : ℕ} {q : List ℕ} {r : ℕ} (up : Ascending k 
   up-to p s l m = ⊎-elim (λ e. omega (arith, ap (value-at keys) e)) (λ n. omega (arith, up p s n m)) (eq-or-lt-of-le l)
 
   -- the key at r has no other: the answer is no
-  pub coupling-not : {t : List ℕ} → (r + 1 < k → value-at keys r / 2 ≢ value-at keys (r + 1) / 2) → Coupled keys k t false
+  pub coupling-not : {t : List ℕ} → (r + 1 < k → value-at keys r / 2 ≢ value-at keys (r + 1) / 2) → Edged keys k t false
   coupling-not differ = record { yes = λ e. absurd (true≢false (sym e)); no = λ e. (r, h, only) }
     where
       only : (s : ℕ) → s < k → value-at keys r / 2 ≡ value-at keys s / 2 → value-at keys r ≡ value-at keys s
@@ -158,7 +158,7 @@ module _ {keys : List ℕ} {k : ℕ} {q : List ℕ} {r : ℕ} (up : Ascending k 
               let c = up (r - 2) (r - 1) (omega (arith, n)) (omega (arith, h)) in
               omega (arith, a, b, c, e, w .last n)
 
-  -- one couple more
+  -- one edge more
   module _ (more : r + 1 < k) (apart : (p s : ℕ) → p < k → s < k → index-at keys p ≡ index-at keys s → p ≡ s) (same : value-at keys r / 2 ≡ value-at keys (r + 1) / 2) where
     pub coupling-more : {a c : ℕ} → a ≡ index-at keys r → c ≡ index-at keys (r + 1) → Coupling keys k (set (set q a c) c a) (r + 2)
     coupling-more {a} {c} ea ec = record {
@@ -211,7 +211,7 @@ module _ {keys : List ℕ} {k : ℕ} {q : List ℕ} {r : ℕ} (up : Ascending k 
           ap (λ (j : ℕ). getD (set (set q a c) c a) j 0) (sym ec) ∙ getD-set-same (set q a c) c a 0 (omega (arith, ec, length-set q a c, w .len, index-fits keys (r + 1))) ∙ ea,
         )
 
-pub coupling-all : {keys : List ℕ} {k : ℕ} {q : List ℕ} {r : ℕ} → Coupling keys k q r → k ≤ r → Coupled keys k q true
+pub coupling-all : {keys : List ℕ} {k : ℕ} {q : List ℕ} {r : ℕ} → Coupling keys k q r → k ≤ r → Edged keys k q true
 coupling-all {keys} {k} {q} {r} w h = record {
   yes = λ _ p l. let m = w .met p (omega (arith, l, h)) in (m .0, omega (arith, m .1, w .le), m .2, m .3, m .4);
   no = λ e. absurd (true≢false e);

@@ -1,4 +1,4 @@
--- A mending, however often it is cut, keeps what is seen of any folder; one that ends leaves it under the blocks' own names, and no other
+-- A recovery, however often it is cut, keeps what is seen of any folder; one that ends leaves it under the blocks' own names, and no other
 -- file. Assumes nothing.
 use mathlib.Core.Path.{_≡_, refl, sym, ap, subst, _∙_}
 use mathlib.Core.Bool.{Bool, true, false, true≢false, cond}
@@ -17,8 +17,8 @@ use Rattle.laws.proofs.Tests.{by-cases, eq-or-ne}
 use Rattle.commands.specs.declared.names.File.the-variants as file
 use Rattle.saving.specs.declared.plan.Step.{Step}
 use Rattle.saving.specs.declared.plan.Step.the-variants as step
-use Rattle.saving.specs.Plan.{steps, tidied, tidying, mend-stages}
-use Rattle.saving.specs.Folder.{Folder, does, all-of, Cut, blocks-of, seen, Alike, LooksRight, there, mending, no-bytes, Mendings, no-mending, again, Readable, mended, MendKeeps}
+use Rattle.saving.specs.Plan.{steps, tidied, tidying, recover-stages}
+use Rattle.saving.specs.Folder.{Folder, does, all-of, Cut, blocks-of, seen, Alike, LooksRight, there, recovery, no-bytes, Recoveries, no-recovery, again, Readable, recovered, RecoverKeeps}
 use Rattle.saving.proofs.Plans.{in-table, past-table}
 use Rattle.saving.proofs.Folders.{Steady, some-keeps, all-keeps, all-append, cut-first, cut-none, some-end}
 use Rattle.saving.proofs.Looked.{sees-right, looks-committed}
@@ -155,8 +155,8 @@ module _ (d : Folder) where
   unfolding end-step
   end-steady = (by-cases (ltb 0 k) (λ e. rw e (steady-step no-bytes Rests (step.Remove file.Commit) refl (rest-ends no-bytes))) (λ e. rw e (steady-nothing no-bytes Rests)), tt)
 
-  stages-are : mending d ≡ [] ∷ tidying k (there d) ∷ (end-step ∷ []) ∷ []
-  unfolding mend-stages end-step
+  stages-are : recovery d ≡ [] ∷ tidying k (there d) ∷ (end-step ∷ []) ∷ []
+  unfolding recover-stages end-step
   stages-are = refl
 
   -- WHAT A CUT LEAVES
@@ -169,16 +169,16 @@ module _ (d : Folder) where
       (cut-first s)))
       (cut-first t)
 
-  cut-held : (e : Folder) → Cut no-bytes (mending d) d e → Held (d file.Commit) (seen d) e
+  cut-held : (e : Folder) → Cut no-bytes (recovery d) d e → Held (d file.Commit) (seen d) e
   cut-held e t = ⊎-elim
       (λ s. subst (Held (d file.Commit) (seen d)) (sym (some-end s)) (inl (sees-itself d)))
       (from-tidying e)
       (cut-first (subst (λ (stages : List (List Step)). Cut no-bytes stages d e) stages-are t))
 
   -- WHAT IS LEFT AT THE END
-  mended-is : mended d ≡ does no-bytes end-step all-tidied
+  recovered-is : recovered d ≡ does no-bytes end-step all-tidied
   unfolding does steps
-  mended-is = ap (λ (stages : List (List Step)). all-of no-bytes (steps stages) d) stages-are ∙ all-append no-bytes (tidying k (there d)) (step.Keep ∷ end-step ∷ step.Keep ∷ []) d
+  recovered-is = ap (λ (stages : List (List Step)). all-of no-bytes (steps stages) d) stages-are ∙ all-append no-bytes (tidying k (there d)) (step.Keep ∷ end-step ∷ step.Keep ∷ []) d
 
   end-new : (e : Folder) (b : ℕ) → b < 16 → does no-bytes end-step e (file.NewBlock b) ≡ e (file.NewBlock b)
   unfolding does end-step
@@ -198,24 +198,24 @@ module _ (d : Folder) where
       free : d file.Commit ≡ none → k ≤ 0
       free q = rw q (omega arith)
 
-  mended-rests : Rests (mended d)
-  mended-rests = subst Rests (sym mended-is) (all-keeps no-bytes Rests (end-step ∷ []) all-tidied end-steady tidied-rests)
+  recovered-rests : Rests (recovered d)
+  recovered-rests = subst Rests (sym recovered-is) (all-keeps no-bytes Rests (end-step ∷ []) all-tidied end-steady tidied-rests)
 
--- ANY NUMBER OF MENDINGS
-mendings-alike : {d e : Folder} → Mendings d e → Alike (seen e) (seen d)
-mendings-alike no-mending b h = refl
-mendings-alike (again {d = d} {e = e} t m) b h = mendings-alike m b h ∙ held-alike (cut-held d e t) b h
+-- ANY NUMBER OF RECOVERIES
+recoveries-alike : {d e : Folder} → Recoveries d e → Alike (seen e) (seen d)
+recoveries-alike no-recovery b h = refl
+recoveries-alike (again {d = d} {e = e} t m) b h = recoveries-alike m b h ∙ held-alike (cut-held d e t) b h
 
-mendings-right : {d e : Folder} → Mendings d e → LooksRight d → LooksRight e
-mendings-right no-mending r = r
-mendings-right (again {d = d} {e = e} t m) r = mendings-right m (sees-right (looks-committed d r) (cut-held d e t))
+recoveries-right : {d e : Folder} → Recoveries d e → LooksRight d → LooksRight e
+recoveries-right no-recovery r = r
+recoveries-right (again {d = d} {e = e} t m) r = recoveries-right m (sees-right (looks-committed d r) (cut-held d e t))
 
-pub mend-keeps : (d : Folder) → MendKeeps d
-mend-keeps d = record {
-  cut = λ e m. mendings-alike m;
-  looks = λ r e m. mendings-right m r;
-  named = mended-rests d .named;
-  no-new = λ b h. ap (λ (e : Folder). e (file.NewBlock b)) (mended-is d) ∙ end-new d (all-tidied d) b h ∙ no-new-there d b h;
-  no-new-commit = ap (λ (e : Folder). e file.NewCommit) (mended-is d) ∙ end-newcommit d (all-tidied d) ∙ no-newcommit-there d;
-  no-commit = λ r. ap (λ (e : Folder). e file.Commit) (mended-is d) ∙ end-commit d r (all-tidied d) (tidied-sees d .commit);
+pub recover-keeps : (d : Folder) → RecoverKeeps d
+recover-keeps d = record {
+  cut = λ e m. recoveries-alike m;
+  looks = λ r e m. recoveries-right m r;
+  named = recovered-rests d .named;
+  no-new = λ b h. ap (λ (e : Folder). e (file.NewBlock b)) (recovered-is d) ∙ end-new d (all-tidied d) b h ∙ no-new-there d b h;
+  no-new-commit = ap (λ (e : Folder). e file.NewCommit) (recovered-is d) ∙ end-newcommit d (all-tidied d) ∙ no-newcommit-there d;
+  no-commit = λ r. ap (λ (e : Folder). e file.Commit) (recovered-is d) ∙ end-commit d r (all-tidied d) (tidied-sees d .commit);
 }

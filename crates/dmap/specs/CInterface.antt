@@ -1,4 +1,4 @@
--- What a call gives through the C door: its number, what was lent, and the bytes written or the next move. Assumes nothing.
+-- What a call gives through its C name: its number, what was lent, and the bytes written or the next move. Assumes nothing.
 use mathlib.Core.Path.{_≡_}
 use mathlib.Core.Logic.{_≢_}
 use mathlib.Core.Bool.{cond}
@@ -58,11 +58,11 @@ pub record Moved (result : Result NextMove) (before : List ℕ) (number : ℕ) (
   pub told : ToldMove (result .answer) before number words
   pub left : lent ≡ result .lent
 
--- DEMAND 1 THROUGH THE DOOR: "A refused call returns that number only and changes no byte that was lent to it". Lent to be written are the
+-- DEMAND 1 OF ALL THAT C LENDS: "A refused call returns that number only and changes no byte that was lent to it". Lent to be written are the
 -- block's memory, the output, the outbox or the scratch, the count behind `written` and the words of `answer`: a call whose number is not 0
 -- leaves all of them. Files, messages and meshes, and the block of a save or a send, are lent by `&`: such a slice cannot be written, so it
 -- is not among what a call returns.
-pub record DoorKeeps : Type 0 where
+pub record CKeeps : Type 0 where
   pub empty-keeps : (n : ℕ) (m : List ℕ) (number : ℕ) (lent : List ℕ) → Numbered (empty rack n m) number lent → number ≢ 0 → lent ≡ m
   pub read-file-keeps : (file m : List ℕ) (number : ℕ) (lent : List ℕ) → Numbered (read-file rack file m) number lent → number ≢ 0 → lent ≡ m
   pub save-file-keeps : (m out : List ℕ) (before number : ℕ) (lent : List ℕ) (written : ℕ) → Counted (save-file rack m out) before number lent written

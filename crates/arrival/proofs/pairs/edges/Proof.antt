@@ -1,13 +1,13 @@
--- `arrival::pairs::couples` meets its contract. The loop's invariant: the keys below r are couples, two by two.
+-- `arrival::pairs::edges` meets its contract. The loop's invariant: the keys below r are edges, two by two.
 -- The measure is what is left of the keys. Assumes nothing.
 use Prim.Native.Nat.{_-_}
 use mathlib.Core.Path.{refl, sym, _∙_}
 use lib.ListN.{length-set}
-use Rattle.arrival.proofs.CoupleLaws.{Coupling, coupling-none, coupling-not, coupling-more, coupling-all}
+use Rattle.arrival.proofs.EdgeLaws.{Coupling, coupling-none, coupling-not, coupling-more, coupling-all}
 use native.Mathlib.Omega.{arith}
 use borrow.Author.Needs.{needs}
-use Rattle.arrival.proofs.pairs.couples.Statement.{statement}
-use Rattle.arrival.proofs.pairs.couples.Tie as tie
+use Rattle.arrival.proofs.pairs.edges.Statement.{statement}
+use Rattle.arrival.proofs.pairs.edges.Tie as tie
 
 abbrev Inv-loop : tie.InvT-loop
 Inv-loop keys k opposite₀ r₀ opposite r =
@@ -104,8 +104,8 @@ returns-3 c =
     let loop-inv = (let p : tie.At-loop Inv-loop μ-loop = search in p .loop .inv) in
     (coupling-all loop-inv (c .loop-test .left), loop-inv .len)
 
-pub couples-spec : {M : Type 1} → statement M
-couples-spec =
+pub edges-spec : {M : Type 1} → statement M
+edges-spec =
     tie.close
     (tie.spec
     Inv-loop

@@ -1,10 +1,10 @@
--- `arrival::pairs::couple` meets its contract.
+-- `arrival::pairs::edge` meets its contract.
 -- Assumes nothing.
-use Rattle.arrival.proofs.CoupleLaws.{couple-round, couple-kept}
+use Rattle.arrival.proofs.EdgeLaws.{edge-round, edge-kept}
 use native.Mathlib.Omega.{arith}
 use borrow.Author.Needs.{needs}
-use Rattle.arrival.proofs.pairs.couple.Statement.{statement}
-use Rattle.arrival.proofs.pairs.couple.Tie as tie
+use Rattle.arrival.proofs.pairs.edge.Statement.{statement}
+use Rattle.arrival.proofs.pairs.edge.Tie as tie
 
 mul-result : tie.Need-mul-result
 mul-result c = search needs
@@ -21,7 +21,7 @@ add-result-2 c = search needs
 returns : tie.Need-returns
 returns c =
     let start : tie.Start = search in
-    couple-round (start .args .a) (start .args .c) (c .if1 .taken)
+    edge-round (start .args .a) (start .args .c) (c .if1 .taken)
 
 mul-result-3 : tie.Need-mul-result-3
 mul-result-3 c = search needs
@@ -35,10 +35,10 @@ mul-result-4 c = search needs
 returns-2 : tie.Need-returns-2
 returns-2 c =
     let start : tie.Start = search in
-    couple-kept (start .args .a) (start .args .c) (omega (arith, c .if1 .left))
+    edge-kept (start .args .a) (start .args .c) (omega (arith, c .if1 .left))
 
-pub couple-spec : {M : Type 1} → statement M
-couple-spec =
+pub edge-spec : {M : Type 1} → statement M
+edge-spec =
     tie.close
     (tie.spec
     mul-result
