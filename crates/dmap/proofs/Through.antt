@@ -1,4 +1,4 @@
--- From what a call gives to what goes through the C door. Assumes nothing.
+-- From what a call gives to what goes through a C name. Assumes nothing.
 --   told-served, told-refused    the number and the bytes written, by the answer's case
 --   numbered, counted            these, and what was lent, are the model's
 --   four-words                   the four words of an answer, stored
