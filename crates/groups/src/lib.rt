@@ -48,12 +48,15 @@ const COUNTS: [u8; 33] = [
     5,
 ];
 
-// Numbers and positions of a label lie below these; makers are blocks.
+// Numbers and positions of a label lie below these.
 const NUMBERS: u64 = 4294967296;
 
 const POSITIONS: u64 = 4096;
 
-const MAKERS: u64 = 16;
+// The greatest maker and the greatest position of a label.
+const LAST_MAKER: u64 = 15;
+
+const LAST_POSITION: u64 = 4095;
 
 // The value that was read and the place past it, or that no value stands there.
 pub enum Read {
@@ -349,13 +352,13 @@ pub fn put_label(out: &mut [u8], at: usize, code: u64) -> usize
 pub fn read_label(s: &[u8], at: usize) -> Read
     ensures { λ r. ⌜ r ≡ read-at label-code (now (s .entry)) at ⌝ }
 {
-    let Read::Value(maker, past_maker) = read_at_most(s, at, MAKERS - 1) else {
+    let Read::Value(maker, past_maker) = read_at_most(s, at, LAST_MAKER) else {
         return Read::Bad;
     };
     let Read::Value(number, past_number) = read_group(s, past_maker) else {
         return Read::Bad;
     };
-    let Read::Value(position, next) = read_at_most(s, past_number, POSITIONS - 1) else {
+    let Read::Value(position, next) = read_at_most(s, past_number, LAST_POSITION) else {
         return Read::Bad;
     };
     Read::Value((maker * NUMBERS + number) * POSITIONS + position, next)

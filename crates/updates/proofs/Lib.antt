@@ -1,3 +1,4 @@
+pub mod Rest
 pub mod LeastLaws
 pub mod SharesLaws
 pub mod UpdateLaws
