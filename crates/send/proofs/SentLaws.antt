@@ -2,12 +2,13 @@
 use mathlib.Core.Path.{_≡_, refl, sym, _∙_, ap, subst}
 use mathlib.Core.Bool.{true, false}
 use mathlib.Core.List.{List, [], _∷_, _++_, map}
-use Prim.Native.Nat.{ℕ, _+_, _≤_, _<_}
+use Prim.Native.Nat.{ℕ, _+_, _-_, _≤_, _<_}
 use native.Mathlib.Nat.{zero-add}
 use native.Mathlib.Omega.{arith}
-use lib.ListN.{length, drop, length-append}
+use lib.ListN.{length, take, drop, length-append}
 use lib.Seq.{sets-eq}
 use borrow.Author.Tests.{eq-eqb, ne-eqb, le-leb, lt-leb}
+use borrow.Rule.Slice.PartMut.{putMid}
 use Rattle.model.specs.Values.{Limits, rack}
 use Rattle.model.specs.Lists.{concat}
 use Rattle.model.specs.Layouts.{framed}
@@ -18,6 +19,7 @@ use Rattle.model.specs.Calls.{Answer, served, refused, writing, send}
 use Rattle.answers.specs.Answers.{Gives, answered}
 use Rattle.answers.proofs.Questions.{gives, ask-no, ask-yes, ask-end, ask-all, ask-first}
 use Rattle.groups.specs.Slices.{Stored}
+use Rattle.groups.proofs.Writing.{stored-then, stored-length}
 use Rattle.cells.proofs.Sited.{sited}
 use Rattle.columns.proofs.Question.{image-passed}
 use Rattle.departure.specs.ByPlaces.{updates-at}
@@ -28,8 +30,17 @@ use Rattle.outbox.specs.Runs.{run}
 use Rattle.outbox.specs.Whole.{Sized, transfer-for}
 use Rattle.outbox.specs.declared.transfer.Sizes.{Sizes}
 use Rattle.updates.specs.ByBlocks.{told-put}
+use Rattle.updates.proofs.Rest.{rest-length, stored-rest}
 use Rattle.updates.proofs.Relatives.{updates-bytes}
 use Rattle.send.specs.Sent.{messages-at}
+
+-- INTO WHAT IS LEFT after a first part
+module _ {l m a : List ℕ} {at mid : ℕ} (first : Stored l at a m mid) where
+  pub rest-room : (k : ℕ) → at + (length a + k) ≤ length l → k ≤ length (take (length m - mid) (drop mid m))
+  rest-room k h = omega (arith, rest-length m mid, stored-length first, first .past)
+
+  pub stored-both : {ys b : List ℕ} {n : ℕ} → mid ≤ length m → Stored (take (length m - mid) (drop mid m)) 0 b ys n → Stored l at (a ++ b) (putMid mid (length m - mid) m ys) (mid + n)
+  stored-both {ys} h s = stored-then first (stored-rest m ys mid h s)
 
 -- THE BYTES
 pub messages-of : (m : List ℕ) (j : ℕ) (c : Counts) (marks numbers firsts : List ℕ)

@@ -1,16 +1,17 @@
-// The messages of a surveyed volume: counted, then the transfer put, and the updates after it.
+// The messages of a surveyed volume: counted, then the transfer put, and the updates into what is left of the outbox.
 ghost use mathlib.Core.Path.{_≡_};
 ghost use mathlib.Core.Bool.{true};
 ghost use mathlib.Core.List.{[]};
 ghost use Prim.Native.Nat.{_+_, _≤_, _<_, _^_};
-ghost use lib.ListN.{getD, replicate};
+ghost use lib.ListN.{length, getD, replicate};
 ghost use Rattle.model.specs.Image.{holds-block};
 ghost use Rattle.model.specs.Calls.{writing};
 ghost use Rattle.answers.specs.Answers.{Gives, written-of};
 ghost use Rattle.groups.specs.Slices.{Stored};
 ghost use Rattle.departure.specs.Asked.{Surveyed};
+ghost use Rattle.outbox.specs.Runs.{run};
 ghost use Rattle.outbox.specs.Whole.{Sized, transfer-for};
-ghost use Rattle.updates.specs.ByBlocks.{Shares};
+ghost use Rattle.updates.specs.ByBlocks.{Shares, told-put};
 ghost use Rattle.send.specs.Sent.{messages-at};
 use answers::Refusal;
 use answers::Written;
@@ -19,7 +20,7 @@ use outbox::transfer;
 use outbox::transfer::Sizes;
 use updates::every;
 
-// The transfer from the first byte on, then the updates.
+// The transfer from the first byte on, the updates into what is left.
 fn put_both(
     block: &[u64],
     to: u64,
@@ -38,6 +39,7 @@ fn put_both(
     requires { ⌜ Surveyed (now block) counts (now marks) (now order) (now starts) (now numbers) (now firsts) ⌝ }
     requires { ⌜ (to ≤ 15) × (getD (now block) 1 0 + counts .sewn < 2 ^ 32) ⌝ }
     requires { ⌜ Sized (transfer-for (now block) to counts (now marks) (now numbers) (now firsts)) sizes × Shares (now block) (now order) (now starts) (counts .darts) (counts .faces) (counts .faces) (now labels) (now bytes) ⌝ }
+    requires { ⌜ sizes .whole + length (run (told-put (now block) to (now order) (now starts) (counts .darts) (counts .faces)) 16) ≤ length (now outbox) ⌝ }
     ensures { λ r. ⌜ Stored (now (outbox .entry)) 0 (messages-at (now (block .entry)) to counts (now (marks .entry)) (now (numbers .entry)) (now (firsts .entry))) (now (outbox .exit)) r ⌝ }
 {
     let past = transfer::put_transfer(
@@ -53,17 +55,8 @@ fn put_both(
         outbox,
         0,
     );
-    every::put_updates(
-        block,
-        to,
-        order,
-        starts,
-        counts,
-        labels,
-        bytes,
-        outbox,
-        past,
-    )
+    let rest = &mut outbox[past..];
+    past + every::put_updates(block, to, order, starts, counts, labels, bytes, rest)
 }
 
 // 15: is the outbox long enough? A refusal leaves it.

@@ -1,4 +1,5 @@
 pub mod LeastLaws
 pub mod SharesLaws
 pub mod UpdateLaws
+pub mod Rest
 pub mod Relatives

@@ -1,8 +1,8 @@
-// An update for each relative, by ascending block, one after the other.
+// An update for each relative, by ascending block, each into what is left of the outbox.
 ghost use mathlib.Core.Path.{_≡_};
 ghost use mathlib.Core.Bool.{true};
 ghost use mathlib.Core.List.{List, map};
-ghost use Prim.Native.Nat.{ℕ, _+_, _≤_, _<_, _^_};
+ghost use Prim.Native.Nat.{ℕ, _≤_, _<_, _^_};
 ghost use lib.ListN.{length, getD, replicate};
 ghost use Rattle.model.specs.Lists.{concat};
 ghost use Rattle.model.specs.Layouts.{framed};
@@ -59,7 +59,7 @@ pub fn updates_size(
     sum_sizes(to, labels, bytes)
 }
 
-// The updates of a surveyed volume that goes to block `to`, one after the other.
+// The updates of a surveyed volume that goes to block `to`, one after the other from the first byte of what is lent on.
 pub fn put_updates(
     block: &[u64],
     to: u64,
@@ -69,18 +69,17 @@ pub fn put_updates(
     labels: &[usize],
     bytes: &[usize],
     out: &mut [u8],
-    from: usize,
 ) -> usize
     requires { ⌜ (holds-block (now block) ≡ true) × (to ≤ 15) ⌝ }
     requires { ⌜ Listed (now block) (now order) (counts .darts) × Started (now starts) (counts .darts) (counts .faces) ⌝ }
     requires { ⌜ Shares (now block) (now order) (now starts) (counts .darts) (counts .faces) (counts .faces) (now labels) (now bytes) ⌝ }
-    requires { ⌜ from + length (run (told-put (now block) to (now order) (now starts) (counts .darts) (counts .faces)) 16) < 2 ^ 63 ⌝ }
-    ensures { λ r. ⌜ ((marks numbers firsts : List ℕ) → Surveyed (now (block .entry)) counts marks (now (order .entry)) (now (starts .entry)) numbers firsts → Stored (now (out .entry)) from (concat (map (framed update) (updates-at (now (block .entry)) to (faces-at (now (block .entry)) marks)))) (now (out .exit)) r) ⌝ }
+    requires { ⌜ length (run (told-put (now block) to (now order) (now starts) (counts .darts) (counts .faces)) 16) ≤ length (now out) ⌝ }
+    ensures { λ r. ⌜ ((marks numbers firsts : List ℕ) → Surveyed (now (block .entry)) counts marks (now (order .entry)) (now (starts .entry)) numbers firsts → Stored (now (out .entry)) 0 (concat (map (framed update) (updates-at (now (block .entry)) to (faces-at (now (block .entry)) marks)))) (now (out .exit)) r) ⌝ }
 {
     let darts = counts.darts;
     let faces = counts.faces;
     // The messages before block k are put, up to `at`.
-    let mut at = from;
+    let mut at = 0;
     let mut k = 0;
     while k < 16 {
         let other = k as u64;
@@ -90,7 +89,8 @@ pub fn put_updates(
         if !message::relative(to, other, n) {
             continue;
         }
-        at = message::put_update(block, to, other, order, starts, darts, faces, n, b, out, at);
+        let rest = &mut out[at..];
+        at += message::put_update(block, to, other, order, starts, darts, faces, n, b, rest, 0);
     }
     at
 }
