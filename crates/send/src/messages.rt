@@ -1,4 +1,4 @@
-// The messages of a surveyed volume: counted, then the transfer put, and the updates after it.
+// The messages of a surveyed volume: counted, then the transfer put, and the updates into what is left of the outbox.
 ghost use mathlib.Core.Path.{_≡_};
 ghost use mathlib.Core.Bool.{true};
 ghost use mathlib.Core.List.{[]};

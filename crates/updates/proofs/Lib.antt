@@ -2,4 +2,5 @@ pub mod Rest
 pub mod LeastLaws
 pub mod SharesLaws
 pub mod UpdateLaws
+pub mod Rest
 pub mod Relatives

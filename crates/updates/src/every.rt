@@ -1,8 +1,8 @@
-// An update for each relative, by ascending block, one after the other.
+// An update for each relative, by ascending block, each into what is left of the outbox.
 ghost use mathlib.Core.Path.{_≡_};
 ghost use mathlib.Core.Bool.{true};
 ghost use mathlib.Core.List.{List, map};
-ghost use Prim.Native.Nat.{ℕ, _+_, _≤_, _<_, _^_};
+ghost use Prim.Native.Nat.{ℕ, _≤_, _<_, _^_};
 ghost use lib.ListN.{length, getD, replicate};
 ghost use Rattle.model.specs.Lists.{concat};
 ghost use Rattle.model.specs.Layouts.{framed};
@@ -59,8 +59,7 @@ pub fn updates_size(
     sum_sizes(to, labels, bytes)
 }
 
-// The updates of a surveyed volume that goes to block `to`, one after the other from the first byte of what is lent on. Each is written into
-// what is left.
+// The updates of a surveyed volume that goes to block `to`, one after the other from the first byte of what is lent on.
 pub fn put_updates(
     block: &[u64],
     to: u64,

@@ -16,8 +16,7 @@ use Rattle.send.proofs.messages.put_both.Tie as tie
 put-transfer-requires : tie.Need-put-transfer-requires
 put-transfer-requires c κs =
     let start : tie.Start = search in
-    let z = start .pre .1 .1 .1 .0 .0 in
-    (start .pre .0, (start .pre .1 .0, (start .pre .1 .1 .0, (z, omega (arith, z .small)))))
+    (start .pre .0, (start .pre .1 .0, (start .pre .1 .1 .0, (start .pre .1 .1 .1 .0 .0, omega (arith, start .pre .1 .1 .1 .0 .0 .small)))))
 
 sub-rest : tie.Need-sub-rest
 sub-rest c =

@@ -50,8 +50,10 @@ put-both-requires c κs =
     let transfer-sizes-ensures = (let p : tie.After-transfer-sizes = search in p .transfer-sizes .ensures) in
     let updates-size-ensures = (let p : tie.After-updates-size = search in p .updates-size .ensures) in
     let if1-left = (let p : tie.Else1 = search in p .if1 .left) in
-    let start : tie.Start = search in
-    (start .pre .0, (start .pre .1 .0, (start .pre .1 .1 .0, ((transfer-sizes-ensures, updates-size-ensures .2), omega (arith, if1-left, updates-size-ensures .0)))))
+    let start : tie.Start = search in (
+      start .pre .0,
+      (start .pre .1 .0, (start .pre .1 .1 .0, ((transfer-sizes-ensures, updates-size-ensures .2), omega (arith, if1-left, updates-size-ensures .0)))),
+    )
 
 same-length-3 : tie.Need-same-length-3
 same-length-3 c = search needs

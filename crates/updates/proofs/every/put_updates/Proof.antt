@@ -1,5 +1,5 @@
--- `updates::every::put_updates` meets its contract. The loop's invariant: the messages before block k are put, and there is room for
--- all. The measure is what is left of the blocks. Assumes nothing.
+-- `updates::every::put_updates` meets its contract. The loop's invariant: the messages before block k are put.
+-- The measure is what is left of the blocks. Assumes nothing.
 use mathlib.Core.Path.{ap}
 use Prim.Native.Nat.{_-_}
 use lib.ListN.{length}
@@ -10,7 +10,7 @@ use Rattle.outbox.proofs.Running.{Running, run-fits, running-start, running-siz
 use Rattle.updates.specs.ByBlocks.{told-put}
 use Rattle.updates.proofs.SharesLaws.{shares-few}
 use Rattle.updates.proofs.UpdateLaws.{told-none, told-small, told-some}
-use Rattle.updates.proofs.Rest.{rest-length, stored-rest}
+use Rattle.updates.proofs.Rest.{stored-rest}
 use Rattle.updates.proofs.Relatives.{updates-bytes}
 use native.Mathlib.Omega.{arith}
 use borrow.Author.Needs.{needs}
@@ -28,8 +28,13 @@ abbrev μ-loop : tie.MeasureT-loop
 loop-holds : tie.Need-loop-holds Inv-loop μ-loop
 loop-holds c =
     let start : tie.Start Inv-loop μ-loop = search in
-    let small = told-small (start .pre .1 .1 .0) (start .pre .1 .0 .1 .few) (start .args .to) (ranges-in (start .args .block .now) (start .pre .0 .0) .number-small) (start .pre .0 .1) in
-    running-start _ _ _ _ (omega (arith, small))
+    let a = start .args in
+    running-start _ _ _ _
+    (omega (
+      arith,
+      told-small (start .pre .1 .1 .0) (start .pre .1 .0 .1 .few) (a .to)
+          (ranges-in (a .block .now) (start .pre .0 .0) .number-small) (start .pre .0 .1),
+    ))
 
 mul-n : tie.Need-mul-n Inv-loop μ-loop
 mul-n c = omega arith
@@ -83,9 +88,7 @@ part-rest-end c = search needs
 
 put-update-requires : tie.Need-put-update-requires Inv-loop μ-loop
 put-update-requires c κs =
-    let loop-at = (let p : tie.At-loop Inv-loop μ-loop = search in p .loop .at) in
     let loop-inv = (let p : tie.At-loop Inv-loop μ-loop = search in p .loop .inv) in
-    let loop-out = (let p : tie.At-loop Inv-loop μ-loop = search in p .loop .out) in
     let relative-ensures = (let p : tie.After-relative Inv-loop μ-loop = search in p .relative .ensures) in
     let if1-left = (let p : tie.Else1 Inv-loop μ-loop = search in p .if1 .left) in
     let start : tie.Start Inv-loop μ-loop = search in
@@ -157,7 +160,10 @@ loop-again-2 c =
     told-some (a .block .now) (a .to) (a .order .now) (a .starts .now) (a .counts .darts) (a .counts .faces) k
     (start .pre .1 .1 .0 .labels-are k t) (said-yes relative-ensures if1-left)
     in
-    running-step loop-inv t (stored-as some (stored-rest loop-out _ loop-at (omega (arith, running-within loop-inv t, running-size loop-inv, start .pre .1 .1 .1)) put-update-ensures))
+    running-step loop-inv t
+    (stored-as some
+    (stored-rest loop-out _ loop-at (omega (arith, running-within loop-inv t, running-size loop-inv, start .pre .1 .1 .1))
+    put-update-ensures))
 
 same-length : tie.Need-same-length Inv-loop μ-loop
 same-length c =
