@@ -2,5 +2,4 @@ pub mod Rest
 pub mod LeastLaws
 pub mod SharesLaws
 pub mod UpdateLaws
-pub mod Rest
 pub mod Relatives
