@@ -2,18 +2,21 @@
 use mathlib.Core.Path.{_≡_, refl, sym, _∙_, ap}
 use mathlib.Core.List.{List, [], _∷_}
 use mathlib.Core.Logic.{⊎-elim, _⊎_, inl, inr}
-use mathlib.Core.Option.{none, some}
+use mathlib.Core.Option.{Option, none, some, Option·none-ne-some}
 use Prim.Native.Nat.{ℕ, zero, suc, _+_, _-_, _≤_, _<_, min}
 use native.Mathlib.Omega.{arith}
 use lib.ListN.{length, getD, take, drop, length-drop, length-take, drop-of-length-le}
 use lib.Seq.{length-take-le, take-nil, drop-nil, take-all, take-length, drop-length, drop-drop}
-use Rattle.model.specs.Layouts.{Layout, Read, group, _⊕_}
+use Rattle.model.specs.Layouts.{Read, group, _⊕_}
 use Rattle.model.specs.DividedRun.{message-length, cut, messages-in, to-number, addressee}
 use Rattle.laws.proofs.Tests.{lt-or-ge}
 use Rattle.laws.proofs.Lists.{rest-whole}
 use Rattle.groups.proofs.Ends.{group-ends}
 use Rattle.inbox.specs.Inbox.{Took}
-use Rattle.inbox.proofs.Taking.{both-none, both-half, both-took}
+use Rattle.reader.specs.Heads.{Four, four, head-told, head-in}
+use Rattle.reader.specs.declared.HeadOrNot.{HeadOrNot}
+use Rattle.reader.specs.declared.HeadOrNot.the-variants as head
+use Rattle.inbox.proofs.Taking.{both-none}
 use Rattle.rounds.specs.Post.{first-in, rest-in}
 
 le-or-ge : (a b : ℕ) → (a ≤ b) ⊎ (b ≤ a)
@@ -109,34 +112,19 @@ pub first-some : (bs : List ℕ) → 0 < length bs → 0 < length (first-in bs)
 first-some bs h = let l = length-take (message-length bs (group .get bs)) bs in let p = some-bytes bs h in omega (arith, l, p, h)
 
 -- TO WHOM IT GOES
-abbrev two : Layout (ℕ × ℕ)
-two = group ⊕ group
+abbrev to-of : HeadOrNot → ℕ
+to-of head.Not = 0
+to-of (head.Head h) = h .to
 
-abbrev three : Layout (ℕ × (ℕ × ℕ))
-three = group ⊕ two
+to-told : (n : ℕ) (a : Option (ℕ × List ℕ)) (r : Option (Four × List ℕ)) → (a ≡ none → r ≡ none) → to-of (head-told n a r) ≡ to-number r
+to-told n none none f = refl
+to-told n none (some r) f = absurd (Option·none-ne-some r (sym (f refl)))
+to-told n (some a) none f = refl
+to-told n (some a) (some r) f = refl
 
-to-nobody : (s : List ℕ) → (group ⊕ three) .get (drop 0 s) ≡ none → 0 ≡ addressee s
-unfolding addressee
-to-nobody s e = sym (ap to-number e)
-
-pub no-size : (s : List ℕ) → group .get (drop 0 s) ≡ none → 0 ≡ addressee s
-no-size s e = to-nobody s (both-none group three (drop 0 s) e)
-
-module _ {s : List ℕ} {a p : ℕ} (w : Took group s 0 a p) where
-  pub no-kind : group .get (drop p s) ≡ none → 0 ≡ addressee s
-  no-kind e = to-nobody s (both-half group three w (both-none group two (drop p s) e))
-
-  module _ {b q : ℕ} (x : Took group s p b q) where
-    pub no-from : group .get (drop q s) ≡ none → 0 ≡ addressee s
-    no-from e = to-nobody s (both-half group three w (both-half group two x (both-none group group (drop q s) e)))
-
-    module _ {d r : ℕ} (y : Took group s q d r) where
-      pub no-to : group .get (drop r s) ≡ none → 0 ≡ addressee s
-      no-to e = to-nobody s (both-half group three w (both-half group two x (both-half group group y e)))
-
-      pub to-there : {t u : ℕ} → Took group s r t u → t ≡ addressee s
-      unfolding addressee
-      to-there z = sym (ap to-number (both-took group three w (both-took group two x (both-took group group y z)) .value))
+pub goes-to : (s : List ℕ) {r : HeadOrNot} → r ≡ head-in s → to-of r ≡ addressee s
+unfolding head-in four addressee
+goes-to s e = ap to-of e ∙ to-told (length s) (group .get s) (four .get s) (λ n. both-none group (group ⊕ group ⊕ group) s n)
 
 -- THE FIRST AND THE OTHERS, by getD and drop
 pub first-is : (bs : List ℕ) → getD (messages-in bs) 0 [] ≡ first-in bs

@@ -4,6 +4,7 @@ ghost use lib.ListN.{length};
 ghost use Rattle.model.specs.DividedRun.{addressee as to-block};
 ghost use Rattle.rounds.specs.Post.{first-in};
 use groups::Read;
+use reader::HeadOrNot;
 
 // The bytes of the first message: a number, and as many as it says; all, where there are fewer or it cannot be read.
 pub fn first_message(bytes: &[u8]) -> usize
@@ -22,17 +23,8 @@ pub fn first_message(bytes: &[u8]) -> usize
 pub fn addressee(message: &[u8]) -> u64
     ensures { λ r. ⌜ r ≡ to-block (now (message .entry)) ⌝ }
 {
-    let Read::Value(size, kind_at) = reader::read_group(message, 0) else {
+    let HeadOrNot::Head(head) = reader::read_head(message) else {
         return 0;
     };
-    let Read::Value(kind, from_at) = reader::read_group(message, kind_at) else {
-        return 0;
-    };
-    let Read::Value(from, to_at) = reader::read_group(message, from_at) else {
-        return 0;
-    };
-    let Read::Value(to, end) = reader::read_group(message, to_at) else {
-        return 0;
-    };
-    to
+    head.to
 }
