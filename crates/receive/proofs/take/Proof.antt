@@ -74,9 +74,10 @@ join-requires c κs =
     let c : tie.After-questions = search in
     let start : tie.Start = search in
     let y = asked-yes (questions-ensures .0) (enum-told-given .1) in
-    let long = (let l = start .pre .2 .serial-size in let f = told-of (start .pre .3 .2) .few in omega (arith, l, f)) in
-    let joins = may-join (start .pre .0) (start .pre .1) long y (start .pre .3 .0) (start .pre .3 .1) (start .pre .3 .2) in
-    let few = few-new (start .pre .0) (start .pre .1) long y (start .pre .3 .0) (start .pre .3 .1) (start .pre .3 .2) in
+    let joins = may-join (start .pre .0) (start .pre .1)
+    (let l = start .pre .2 .serial-size in let f = told-of (start .pre .3 .2) .few in omega (arith, l, f)) y (start .pre .3 .0) (start .pre .3 .1) (start .pre .3 .2) in
+    let few = few-new (start .pre .0) (start .pre .1)
+    (let l = start .pre .2 .serial-size in let f = told-of (start .pre .3 .2) .few in omega (arith, l, f)) y (start .pre .3 .0) (start .pre .3 .1) (start .pre .3 .2) in
     ((omega (arith, joins .drafted .weaves .fits, questions-ensures .1), omega (arith, few, questions-ensures .2)), (y .3, y .4, y .5, joins, few))
 
 same-length : tie.Need-same-length
