@@ -193,7 +193,7 @@ fn tell_word(
     }
     match arguments::number_at(2) {
         Number::Is(b) => {
-            if memory::header::BLOCKS <= b {
+            if Header::BLOCKS <= b {
                 say::error(b"a block's number is 0 to 15");
                 return Status::Error;
             }
@@ -340,7 +340,7 @@ fn blocks_word(usage: &[u8]) -> Blocks {
     }
     match arguments::number_at(2) {
         Number::Is(n) => {
-            if (n < 1) | (memory::header::BLOCKS < n) {
+            if (n < 1) | (Header::BLOCKS < n) {
                 say::error(b"a basin has 1 to 16 blocks");
                 return Blocks::Told;
             }
