@@ -1,12 +1,13 @@
 -- The whole file of a sound block's image: how long it is, and what the call gives. Assumes nothing.
-use mathlib.Core.Path.{_≡_, refl, _∙_, ap}
+use mathlib.Core.Path.{_≡_, refl, _∙_, ap, sym}
 use mathlib.Core.Bool.{true, false}
 use mathlib.Core.List.{List, _++_}
 use Prim.Native.Nat.{ℕ, _+_, _*_, _≤_, _<_}
 use native.Mathlib.Omega.{arith}
+use lib.Dec.{leb}
 use lib.ListN.{length, getD, drop, length-append}
 use lib.Seq.{sets-eq}
-use borrow.Author.Tests.{eq-eqb, ne-eqb, le-leb, lt-leb}
+use borrow.Author.Tests.{eq-eqb, ne-eqb, le-leb, leb-true}
 use Rattle.model.specs.Lists.{tab}
 use Rattle.model.specs.Values.{rack}
 use Rattle.model.specs.Layouts.{put-all}
@@ -32,12 +33,23 @@ header-most m e =
     let count = group-most (getD m 2 0) (omega (arith, count-small m e)) in
     omega (arith, header-length m)
 
-pub file-most : (m : List ℕ) → holds-block m ≡ true → length (file rack .put (block-in m)) ≤ 245775
-file-most m e =
-    let few = count-small m e in
+pub file-within : (m : List ℕ) → holds-block m ≡ true → length (file rack .put (block-in m)) ≤ 15 + getD m 2 0 * 60
+file-within m e =
     let short = darts-most (image-small m e) in
     let most : length (put-all a-dart (tab (dart-in m) (getD m 2 0))) ≤ getD m 2 0 * 60 = rw (darts-put m (getD m 2 0)) short in
     omega (arith, file-length m, header-most m e)
+
+pub file-most : (m : List ℕ) → holds-block m ≡ true → length (file rack .put (block-in m)) ≤ 245775
+file-most m e = omega (arith, file-within m e, count-small m e)
+
+-- 15, where it is sure and where the file was counted
+pub fits-surely : (m : List ℕ) (room : ℕ) → holds-block m ≡ true → 15 + getD m 2 0 * 60 ≤ room → true ≡ leb (length (file rack .put (block-in m))) room
+fits-surely m room e h = sym (le-leb (length (file rack .put (block-in m))) room (omega (arith, file-within m e, h)))
+
+pub fits-counted : (m : List ℕ) (room : ℕ) {n : ℕ} → n ≡ 0 + length (file rack .put (block-in m)) → leb n room ≡ leb (length (file rack .put (block-in m))) room
+fits-counted m room {n} c =
+    let same : n ≡ length (file rack .put (block-in m)) = omega (arith, c) in
+    ap (λ (k : ℕ). leb k room) same
 
 -- THE CALL, question by question
 pub refused-size : (m out : List ℕ) → (length m ≡ words → ⊥) → Gives (save-file rack m out) (refused 1) out
@@ -48,16 +60,16 @@ pub refused-image : (m out : List ℕ) → length m ≡ words → holds-block m 
 unfolding save-file writing memory-checks
 refused-image m out h e = gives _ _ _ _ (ask-yes (eq-eqb (length m) words h) (ask-no refl e refl))
 
-module _ (m out : List ℕ) (h : length m ≡ words) (e : holds-block m ≡ true) {n : ℕ} (c : n ≡ 0 + length (file rack .put (block-in m))) where
-  pub refused-output : length out < n → Gives (save-file rack m out) (refused 15) out
+module _ (m out : List ℕ) (h : length m ≡ words) (e : holds-block m ≡ true) where
+  pub refused-output : leb (length (file rack .put (block-in m))) (length out) ≡ false → Gives (save-file rack m out) (refused 15) out
   unfolding save-file writing memory-checks
-  refused-output l =
-      gives _ _ _ _ (ask-yes (eq-eqb (length m) words h) (ask-yes e (ask-no refl (lt-leb (length (file rack .put (block-in m))) (length out) (omega arith)) refl)))
+  refused-output l = gives _ _ _ _ (ask-yes (eq-eqb (length m) words h) (ask-yes e (ask-no refl l refl)))
 
-  pub served-file : n ≤ length out → {after : List ℕ} {past : ℕ} → Stored out 0 (file rack .put (block-in m)) after past → Gives (save-file rack m out) (served n) after
+  pub served-file : leb (length (file rack .put (block-in m))) (length out) ≡ true → {after : List ℕ} {n : ℕ} → Stored out 0 (file rack .put (block-in m)) after n
+      → Gives (save-file rack m out) (served n) after
   unfolding save-file writing memory-checks
   served-file l {after} s =
       let bytes = file rack .put (block-in m) in
       let z : 0 + length bytes ≡ length bytes = omega arith in
-      let same : after ≡ bytes ++ drop (length bytes) out = s .slice ∙ sets-eq bytes out 0 (omega arith) ∙ ap (λ (k : ℕ). bytes ++ drop k out) z in
-      rw (c ∙ z) (gives _ _ _ _ (ask-yes (eq-eqb (length m) words h) (ask-yes e (ask-yes (le-leb (length bytes) (length out) (omega arith)) (ask-end same)))))
+      let same : after ≡ bytes ++ drop (length bytes) out = s .slice ∙ sets-eq bytes out 0 (omega (arith, leb-true (length bytes) (length out) l)) ∙ ap (λ (k : ℕ). bytes ++ drop k out) z in
+      rw (s .past ∙ z) (gives _ _ _ _ (ask-yes (eq-eqb (length m) words h) (ask-yes e (ask-yes l (ask-end same)))))

@@ -19,11 +19,8 @@ returns-2 c =
     let is-sound-ensures = (let p : tie.After-is-sound = search in p .is-sound .ensures) in
     refused-image _ _ if1-left (said-no is-sound-ensures (c .if2 .taken))
 
-slice-aggregate-put-file : tie.Need-slice-aggregate-put-file
-slice-aggregate-put-file c = search needs
-
-put-file-requires : tie.Need-put-file-requires
-put-file-requires c κs =
+long-enough-requires : tie.Need-long-enough-requires
+long-enough-requires c κs =
     let is-sound-ensures = (let p : tie.After-is-sound = search in p .is-sound .ensures) in
     let if2-left = (let p : tie.Else2 = search in p .if2 .left) in
     said-yes is-sound-ensures if2-left
@@ -33,11 +30,11 @@ returns-3 c =
     let if1-left = (let p : tie.Else1 = search in p .if1 .left) in
     let is-sound-ensures = (let p : tie.After-is-sound = search in p .is-sound .ensures) in
     let if2-left = (let p : tie.Else2 = search in p .if2 .left) in
-    let put-file-ensures = (let p : tie.After-put-file = search in p .put-file .ensures) in
-    refused-output _ _ if1-left (said-yes is-sound-ensures if2-left) (put-file-ensures .past) (c .if3 .taken)
+    let long-enough-ensures = (let p : tie.After-long-enough = search in p .long-enough .ensures) in
+    refused-output _ _ if1-left (said-yes is-sound-ensures if2-left) (said-no long-enough-ensures (c .if3 .taken))
 
-put-file-requires-2 : tie.Need-put-file-requires-2
-put-file-requires-2 c κs =
+put-file-requires : tie.Need-put-file-requires
+put-file-requires c κs =
     let is-sound-ensures = (let p : tie.After-is-sound = search in p .is-sound .ensures) in
     let if2-left = (let p : tie.Else2 = search in p .if2 .left) in
     said-yes is-sound-ensures if2-left
@@ -50,10 +47,10 @@ returns-4 c =
     let if1-left = (let p : tie.Else1 = search in p .if1 .left) in
     let is-sound-ensures = (let p : tie.After-is-sound = search in p .is-sound .ensures) in
     let if2-left = (let p : tie.Else2 = search in p .if2 .left) in
-    let put-file-ensures = (let p : tie.After-put-file = search in p .put-file .ensures) in
+    let long-enough-ensures = (let p : tie.After-long-enough = search in p .long-enough .ensures) in
     let if3-left = (let p : tie.Else3 = search in p .if3 .left) in
-    let put-file2-ensures = (let p : tie.After-put-file2 = search in p .put-file2 .ensures) in
-    served-file _ _ if1-left (said-yes is-sound-ensures if2-left) (put-file-ensures .past) if3-left put-file2-ensures
+    let put-file-ensures = (let p : tie.After-put-file = search in p .put-file .ensures) in
+    served-file _ _ if1-left (said-yes is-sound-ensures if2-left) (said-yes long-enough-ensures if3-left) put-file-ensures
 
 pub save-file-spec : {M : Type 1} → statement M
 save-file-spec =
@@ -62,9 +59,8 @@ save-file-spec =
     returns
     is-sound-requires
     returns-2
-    slice-aggregate-put-file
-    put-file-requires
+    long-enough-requires
     returns-3
-    put-file-requires-2
+    put-file-requires
     same-length
     returns-4)
