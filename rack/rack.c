@@ -140,10 +140,11 @@ static uint64_t play_round(uint64_t from, uint64_t to, uint64_t serial) {
 
 /* A round that did not end as it must keeps all from being saved. */
 static bool is_broken(uint64_t outcome) {
+    const char *more = options.every > 0 ? " more" : "";
     if (outcome == ALTERED)
-        fprintf(stderr, "error: round %llu: a message was altered on the way: nothing is saved\n", (unsigned long long)rounds);
+        fprintf(stderr, "error: round %llu: a message was altered on the way: nothing%s is saved\n", (unsigned long long)rounds, more);
     if (outcome == UNFINISHED)
-        fprintf(stderr, "error: round %llu did not finish: nothing is saved\n", (unsigned long long)rounds);
+        fprintf(stderr, "error: round %llu did not finish: nothing%s is saved\n", (unsigned long long)rounds, more);
     return outcome == ALTERED || outcome == UNFINISHED;
 }
 
@@ -441,8 +442,10 @@ static int command(int count, char **words) {
     if (is_word(words[0], "play"))
         return count == 1 ? play_words(PLAY) : wrong_words("play [--dry-run] [--all-or-nothing] [--every N] [--log FILE]");
     if (is_word(words[0], "measure")) {
+        if (count != 1 || options.whole || options.every > 0)
+            return wrong_words("measure [--log FILE]");
         options.dry = true;
-        return count == 1 ? play_words(MEASURE) : wrong_words("measure [--log FILE]");
+        return play_words(MEASURE);
     }
     if (options.whole) {
         fputs("error: only play takes --all-or-nothing\n", stderr);
@@ -457,8 +460,7 @@ static int command(int count, char **words) {
 int main(int argc, char **argv) {
     int rank, ranks, status = DONE;
     MPI_Init(&argc, &argv);
-    MPI_Comm_rank(MPI_COMM_WORLD, &rank);
-    MPI_Comm_size(MPI_COMM_WORLD, &ranks);
+    open_wire(&rank, &ranks);
     blocks = (uint64_t)ranks - 1;
     if (rank == 0) {
         open_nodes(blocks);

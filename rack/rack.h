@@ -53,6 +53,8 @@ struct packet {
     size_t count;
 };
 
+/* By all ranks, first: who this is, and how many there are. */
+void open_wire(int *rank, int *ranks);
 void put(int rank, enum kind kind, uint64_t a, uint64_t b, uint64_t c, const void *bytes, size_t count);
 /* The next packet of a rank, or of any where it is below 0. */
 struct packet take(int rank);
@@ -102,6 +104,7 @@ void serve(uint64_t number, uint64_t blocks);
 
 enum found { BLOCKS, REFUSED, TROUBLE };
 
+/* First: how many nodes there are. */
 void open_nodes(uint64_t blocks);
 bool lock_basin(void);
 void unlock_basin(void);

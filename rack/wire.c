@@ -5,6 +5,7 @@
 #include <stdlib.h>
 #include <string.h>
 #include <time.h>
+#include <unistd.h>
 
 struct head { uint64_t sum, a, b, c; };
 
@@ -46,11 +47,35 @@ void put(int rank, enum kind kind, uint64_t a, uint64_t b, uint64_t c, const voi
     MPI_Send(sent, (int)(sizeof head + count), MPI_BYTE, rank, (int)kind, MPI_COMM_WORLD);
 }
 
+static bool crowded; /* whether this machine has more ranks of the run than processors */
+
+void open_wire(int *rank, int *ranks) {
+    MPI_Comm here;
+    int count;
+    MPI_Comm_rank(MPI_COMM_WORLD, rank);
+    MPI_Comm_size(MPI_COMM_WORLD, ranks);
+    MPI_Comm_split_type(MPI_COMM_WORLD, MPI_COMM_TYPE_SHARED, 0, MPI_INFO_NULL, &here);
+    MPI_Comm_size(here, &count);
+    MPI_Comm_free(&here);
+    crowded = count > sysconf(_SC_NPROCESSORS_ONLN);
+}
+
+/* Waits for a packet. On a crowded machine who has looked for a while sleeps between two looks, so that the others run. */
+static void wait_for(int rank, MPI_Status *status) {
+    int there = 0;
+    for (int looks = 0; crowded && !there; looks++) {
+        MPI_Iprobe(rank, MPI_ANY_TAG, MPI_COMM_WORLD, &there, status);
+        if (!there && looks > 200)
+            nanosleep(&(struct timespec){0, 20000}, NULL);
+    }
+    MPI_Probe(rank, MPI_ANY_TAG, MPI_COMM_WORLD, status);
+}
+
 struct packet take(int rank) {
     MPI_Status status;
     int count;
     struct head head;
-    MPI_Probe(rank < 0 ? MPI_ANY_SOURCE : rank, MPI_ANY_TAG, MPI_COMM_WORLD, &status);
+    wait_for(rank < 0 ? MPI_ANY_SOURCE : rank, &status);
     MPI_Get_count(&status, MPI_BYTE, &count);
     MPI_Recv(taken, ROOM, MPI_BYTE, status.MPI_SOURCE, status.MPI_TAG, MPI_COMM_WORLD, &status);
     struct packet p = {.rank = status.MPI_SOURCE, .kind = (enum kind)status.MPI_TAG};

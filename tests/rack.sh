@@ -97,13 +97,16 @@ rack 15 check >"$work/said" 2>&1 && fail 'fifteen nodes took sixteen blocks'
 grep -q '^error: the basin has 16 blocks' "$work/said" && same . "$work/start" || fail 'fifteen nodes with sixteen blocks'
 
 # A message that is altered on the way, by kind: a request, a transfer, an update, the answers to them. It is told, and nothing is saved.
+of_blocks four 4; cp -r . "$work/unaltered"
 for kind in 0 1 2 3 4 5; do
-    for place in 30 32; do
-        LD_PRELOAD="$work/alter.so" ALTER_KIND=$kind ALTER=1 ALTER_PLACE=$place rack 16 play <"$work/start.list" >"$work/said" 2>&1 && fail "a packet of kind $kind that was altered is taken"
-        grep -q '^error: .*altered' "$work/said" && same . "$work/start" || fail "a packet of kind $kind that was altered is not told, or something was saved"
+    for place in 20 -1; do
+        LD_PRELOAD="$work/alter.so" ALTER_KIND=$kind ALTER=1 ALTER_PLACE=$place rack 4 play <"$work/four.list" >"$work/said" 2>&1 && fail "a packet of kind $kind that was altered is taken"
+        grep -q '^error: .*altered' "$work/said" || fail "a packet of kind $kind that was altered is not told"
+        same . "$work/unaltered" || fail "a packet of kind $kind was altered, and something was saved"
         [ $kind = 1 ] || [ $kind = 2 ] || break
     done
 done
+cd "$work/run"
 
 # Each node in its folder.
 part; each_alone check; "${alone[@]}" | diff - <(cd "$work/start"; "$dispatch" check) || fail 'another check with a folder for each node'
@@ -112,12 +115,11 @@ each_alone play; "${alone[@]}" <"$work/start.list" >/dev/null; gather
 same . "$work/end16" || fail 'other files with a folder for each node'
 
 # Killed while it saves after every round: the states are those after each round of the list, and no other may be left.
-head -n 24 "$work/start.list" >"$work/list"
 cp -r "$work/start" "$work/state.0"; n=0
 while read -r request; do
     cp -r "$work/state.$n" "$work/state.$((n + 1))"; n=$((n + 1)); cd "$work/state.$n"
     echo "$request" | "$dispatch" play >/dev/null || fail "no move: $request"
-done <"$work/list"
+done <"$work/start.list"
 for ((i = 0; i <= n; i++)); do (cd "$work/state.$i"; "$dispatch" check >"$work/check.$i"); done
 # Which state a reader sees, and which one this folder is, from a number on.
 checked() { for ((i = 0; i <= n; i++)); do cmp -s "$work/told" "$work/check.$i" && return; done; return 1; }
@@ -141,11 +143,15 @@ for ((kill = 0; kill < kills; kill++)); do
     rm -rf "$work/run"; cp -r "$work/start" "$work/run"; cd "$work/run"
     alone=("${mpi[@]}" -n 17 "$rack" play --every 1) apart=$((kill / 4 % 3 == 1))
     if ((apart)); then part; each_alone play --every 1; fi
-    "${alone[@]}" <"$work/list" >"$work/said" 2>/dev/null &
+    "${alone[@]}" <"$work/start.list" >"$work/said" 2>/dev/null &
     job=$!
     # A moment of the run: from the lock on, a quarter of them before it.
-    if ((RANDOM % 4)); then for ((t = 0; t < 500; t++)); do ls | grep -q lock || [ -e at/basin.lock ] && break; sleep 0.01; done; fi
-    sleep "$((RANDOM % 900))e-3"
+    most=1500
+    if ((RANDOM % 4)); then
+        most=400
+        for ((t = 0; t < 500; t++)); do [ -e basin.lock ] || [ -e at/basin.lock ] && break; sleep 0.01; done
+    fi
+    sleep "$((RANDOM % most))e-3"
     mapfile -t ranks < <(pgrep -P $job || true)
     # A node, all at once, the coordinator, mpirun alone.
     case $((kill % 4)) in

@@ -10,6 +10,7 @@ int MPI_Send(const void *bytes, int count, MPI_Datatype type, int to, int tag, M
     if (kind == NULL || which == NULL || tag != atoi(kind) || ++sent != atoi(which) || (size_t)count > sizeof copy)
         return PMPI_Send(bytes, count, type, to, tag, comm);
     memcpy(copy, bytes, (size_t)count);
-    copy[(place == NULL ? count - 1 : atoi(place)) % count] ^= 4;
+    int at = place == NULL ? -1 : atoi(place); /* from the end where it is below 0 */
+    copy[(at < 0 ? count + at : at) % count] ^= 4;
     return PMPI_Send(copy, count, type, to, tag, comm);
 }
