@@ -219,17 +219,17 @@ bool save_basin(void) {
 
 /* Whether a block's file was read; else what is wrong with it. */
 static enum found say_fault(uint64_t b, const struct reply *r) {
-    const char *name = block_name(b).text;
+    struct name name = block_name(b);
     if (r->error == 0) {
-        printf("refused %u: %s: %s\n", (unsigned)r->b, name, meaning((uint32_t)r->b));
+        printf("refused %u: %s: %s\n", (unsigned)r->b, name.text, meaning((uint32_t)r->b));
         return REFUSED;
     }
     if (r->error == EFBIG)
-        fprintf(stderr, "error: too large for a block: %s\n", name);
+        fprintf(stderr, "error: too large for a block: %s\n", name.text);
     else if (r->error == ESPIPE)
-        fprintf(stderr, "error: not a file but a pipe: %s\n", name);
+        fprintf(stderr, "error: not a file but a pipe: %s\n", name.text);
     else
-        failed("cannot read", name, r->error);
+        failed("cannot read", name.text, r->error);
     return TROUBLE;
 }
 

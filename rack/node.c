@@ -238,7 +238,10 @@ static void unmark(void) {
     answer(error, 0, 0);
 }
 
-static void unlock(void) { answer(leads ? release_lock() : 0, 0, 0); }
+static void unlock(void) {
+    answer(leads ? release_lock() : 0, 0, 0);
+    leads = false;
+}
 
 /* The words up to the last dart; behind it all are zero. */
 static void image(void) { put(0, ANSWER, 0, 0, 0, block, 8 * (8 + 8 * (size_t)block[2])); }

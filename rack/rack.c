@@ -148,20 +148,26 @@ static bool is_broken(uint64_t outcome) {
     return outcome == ALTERED || outcome == UNFINISHED;
 }
 
-/* Saves where as many rounds were played as --every tells. */
-static bool save_now_and_then(void) {
-    if (options.every == 0 || rounds % options.every != 0 || unsaved == 0)
-        return true;
+static bool save(void) {
+    if (!save_basin())
+        return false;
     unsaved = 0;
-    return save_basin();
+    if (journal != NULL) {
+        fputs("# saved\n", journal);
+        fflush(journal);
+    }
+    return true;
 }
+
+/* Saves where as many rounds were played as --every tells. */
+static bool save_now_and_then(void) { return options.every == 0 || rounds % options.every != 0 || unsaved == 0 || save(); }
 
 static bool save_at_end(void) {
     if (options.dry) {
         puts("# dry run: nothing saved");
         return true;
     }
-    return unsaved == 0 || save_basin();
+    return unsaved == 0 || save();
 }
 
 /* PLAY */
@@ -304,34 +310,42 @@ static int ascending(const void *one, const void *other) {
     return (a > b) - (a < b);
 }
 
+/* Times of one kind, and the one below which a part of them lies, in microseconds. */
+struct times { uint64_t of[MOST_REQUESTS], sum; size_t count; };
+
+static void add(struct times *t, uint64_t time) { t->of[t->count++] = time, t->sum += time; }
+
+static double below(struct times *t, size_t part, size_t of) {
+    qsort(t->of, t->count, sizeof t->of[0], ascending);
+    return t->count == 0 ? 0.0 : (double)t->of[t->count * part / of] / 1e3;
+}
+
 static int measure(size_t count) {
-    static uint64_t times[MOST_REQUESTS];
-    uint64_t all = 0, path = 0, calls = 0, floor = 0, transfer = 0, updates = 0, update = 0;
-    size_t n = 0;
+    static struct times whole, path, asking, sending, telling;
+    uint64_t transfer = 0, updates = 0, update = 0;
     if (!is_sound())
         return NO;
     for (size_t i = 0; i < count; i++) {
         uint64_t from = requests[i][0], to = requests[i][1];
         if (play_round(from, to, requests[i][2]) != 0)
             continue;
-        times[n++] = last.time;
-        all += last.time, path += last.spent.path, calls += last.spent.calls;
+        add(&whole, last.time), add(&path, last.spent.path);
         transfer += last.spent.transfer, updates += last.spent.updates, update += last.spent.update;
-        floor += asked_and_answered(from) + there_and_back(from, to, last.spent.transfer);
+        add(&asking, asked_and_answered(from));
+        add(&sending, there_and_back(from, to, last.spent.transfer));
         uint64_t relatives = last.changed & ~((uint64_t)1 << from) & ~((uint64_t)1 << to);
-        for (uint64_t b = 0; b < blocks; b++)
+        for (uint64_t b = 0; b < blocks && last.spent.updates > 0; b++)
             if (relatives >> b & 1) {
-                floor += there_and_back(from, b, last.spent.update / last.spent.updates);
+                add(&telling, there_and_back(from, b, last.spent.update / last.spent.updates));
                 break;
             }
     }
-    if (n == 0)
+    if (whole.count == 0)
         return wrong_words("measure, with requests of which one at least is served");
-    qsort(times, n, sizeof times[0], ascending);
-    double r = (double)n;
-    printf("| %u | %zu | %.0f | %.1f | %.1f | %.1f | %.1f | %.0f %% | %.1f | %.0f | %.1f | %.0f |\n", (unsigned)blocks, n, 1e9 * r / (double)all,
-           (double)times[n / 2] / 1e3, (double)times[n * 9 / 10] / 1e3, (double)all / r / 1e3, (double)path / r / 1e3, 100.0 * (double)path / (double)all,
-           (double)floor / r / 1e3, (double)transfer / r, (double)updates / r, updates == 0 ? 0.0 : (double)update / (double)updates);
+    double rounds = (double)whole.count, middle = below(&whole, 1, 2), calls = below(&path, 1, 2);
+    printf("| %u | %zu | %.0f | %.0f | %.0f | %.0f | %.0f %% | %.0f | %.0f | %.0f | %.0f | %.1f | %.0f |\n", (unsigned)blocks, whole.count,
+           1e9 * rounds / (double)whole.sum, middle, below(&whole, 9, 10), calls, 100.0 * calls / middle, below(&asking, 1, 2), below(&sending, 1, 2),
+           below(&telling, 1, 2), (double)transfer / rounds, (double)updates / rounds, updates == 0 ? 0.0 : (double)update / (double)updates);
     return DONE;
 }
 

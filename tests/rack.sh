@@ -4,22 +4,26 @@
 set -euo pipefail
 cd "$(dirname "$0")/.."
 root=$PWD
-kills=${1:-6}
+kills=${1:-5}
 command -v mpicc >/dev/null && command -v mpirun >/dev/null || { echo 'rack: left out, there is no MPI here (libopenmpi-dev and openmpi-bin, or mpich)'; exit 0; }
 dispatch=$PWD/target/bin/dispatch
 basin=$PWD/examples/basin
 stored=$PWD/tests/dispatch
 work=$(mktemp -d)
-trap 'rm -rf "$work"' EXIT
+# Runs that are killed leave files of the MPI behind, which go with these folders.
+shared=$(mktemp -d -p /dev/shm 2>/dev/null || mktemp -d)
+export TMPDIR=$work
+trap 'rm -rf "$work" "$shared"' EXIT
 source "$stored/folders.sh"
 fail() { echo "rack: $*"; exit 1; }
 rack=$(rack/build.sh)
 mpicc -shared -fPIC -O1 -Wall -Werror -o "$work/alter.so" tests/rack/alter.c
+cc -shared -fPIC -O1 -Wall -Werror -o "$work/stop-rank.so" tests/rack/stop.c -ldl
 
 # Open MPI: more ranks than processors, as any user, and quiet where a status is not 0. Other MPIs need none of it.
 mpi=(mpirun)
 if mpirun --version | grep -q 'Open MPI'; then
-    mpi+=(-q --oversubscribe --mca mpi_yield_when_idle 1 --mca odls_base_sigkill_timeout 0)
+    mpi+=(-q --oversubscribe --mca mpi_yield_when_idle 1 --mca odls_base_sigkill_timeout 0 --mca btl_vader_backing_directory "$shared")
     [ "$(id -u)" != 0 ] || mpi+=(--allow-run-as-root)
 fi
 # K nodes, words; in this folder.
@@ -51,7 +55,7 @@ both() {
     same "$work/one" "$work/two" || fail "$k nodes, $*: other files"
     ran=$((ran + 1))
 }
-for k in 4 16; do
+for k in 16 4; do
     of_blocks one $k; rm -rf "$work/two"; cp -r "$work/one" "$work/two"
     : >"$work/input"
     both $k check
@@ -59,15 +63,15 @@ for k in 4 16; do
     awk '{ print } NR % 5 == 0 { print $1, $1, $3 } NR % 7 == 0 { print $1, 99, $3; print 16, 0, 1; print 2, 1, 9999 } NR % 11 == 0 { print "# a remark"; print "" }' \
         "$work/one.list" >"$work/input"
     both $k play
-    cp "$work/one.list" "$work/input"
-    both $k play --dry-run
     : >"$work/input"
     both $k balance plane 2 1.5
     both $k balance all
 done
-printf '0 1\n' >"$work/input"; both 16 play
-: >"$work/input"; both 16 balance plane 7 1
-rm "$work"/{one,two}/block-15.dmap; printf x >"$work/one/block-15.dmap"; cp "$work"/{one,two}/block-15.dmap; both 16 check
+cp "$work/one.list" "$work/input"; both 4 play --dry-run; both 4 play --all-or-nothing
+printf '0 1\n' >"$work/input"; both 4 play
+: >"$work/input"; both 4 balance plane 7 1; both 4 balance box 0 0 0 1 1e23 1; both 4 balance box -0.25 0 0 2.5e-1 1 1
+printf x >"$work/one/block-03.dmap"; cp "$work"/{one,two}/block-03.dmap; both 4 check
+cp "$work/one/block-02.dmap" "$work/one/block-03.dmap"; cp "$work"/{one,two}/block-03.dmap; both 4 check
 
 # Begun by one, ended by the other: a balance saved after every move and left in the middle, a save that dispatch left cut, a log that is played again.
 fresh end; "$dispatch" split 4 >"$work/moves"
@@ -108,6 +112,27 @@ for kind in 0 1 2 3 4 5; do
 done
 cd "$work/run"
 
+# The coordinator, and a node, stopped at each of its calls on files, a write cut in half: a reader sees the old basin or the new one, and it is mended.
+cp -r "$work/unaltered" "$work/new"
+(cd "$work/unaltered"; "$dispatch" check >"$work/old.check"; cd "$work/new"; "$dispatch" play <"$work/four.list" >/dev/null; "$dispatch" check >"$work/new.check")
+stops=0
+stopped() {
+    rm -rf "$work/run"; cp -r "$work/unaltered" "$work/run"; cd "$work/run"
+    LD_PRELOAD="$work/stop-rank.so" STOP_RANK=$1 STOP_AT=$2 rack 4 play <"$work/four.list" >/dev/null 2>&1 && { same . "$work/new" || fail 'other files'; return 1; }
+    "$dispatch" check >"$work/told" 2>&1 || true
+    cmp -s "$work/told" "$work/old.check" || cmp -s "$work/told" "$work/new.check" || { cat "$work/told"; fail "a reader sees neither basin, rank $1 stopped at call $2"; }
+    if (($2 % 2)); then "$dispatch" play </dev/null >/dev/null; else rack 4 play </dev/null >/dev/null || fail "not mended, rank $1 stopped at call $2"; fi
+    "$dispatch" check | cmp -s - "$work/told" || fail "mending changed what a reader sees, rank $1 stopped at call $2"
+    same . "$work/unaltered" || same . "$work/new" || fail "neither the old basin nor the new one, rank $1 stopped at call $2"
+    stops=$((stops + 1))
+}
+for node in 0 2; do
+    call=1
+    while stopped $node $call; do call=$((call + 1)); done
+done
+[ "$stops" -gt 15 ] || fail "stopped at $stops calls only"
+rm -rf "$work/run"; cp -r "$work/start" "$work/run"; cd "$work/run"
+
 # Each node in its folder.
 part; each_alone check; "${alone[@]}" | diff - <(cd "$work/start"; "$dispatch" check) || fail 'another check with a folder for each node'
 each_alone play; "${alone[@]}" <"$work/start.list" >/dev/null; gather
@@ -141,7 +166,7 @@ gone() {
 cut=0 committed=0 between=0
 for ((kill = 0; kill < kills; kill++)); do
     rm -rf "$work/run"; cp -r "$work/start" "$work/run"; cd "$work/run"
-    alone=("${mpi[@]}" -n 17 "$rack" play --every 1) apart=$((kill / 4 % 3 == 1))
+    alone=("${mpi[@]}" -n 17 "$rack" play --every 1) apart=$((kill % 5 == 4))
     if ((apart)); then part; each_alone play --every 1; fi
     "${alone[@]}" <"$work/start.list" >"$work/said" 2>/dev/null &
     job=$!
@@ -163,6 +188,7 @@ for ((kill = 0; kill < kills; kill++)); do
     [ ${#dead[@]} = 0 ] || kill -9 "${dead[@]}" 2>/dev/null || true
     wait $job 2>/dev/null || true
     gone "${ranks[@]}"
+    rm -rf "$shared"/* "$work"/ompi.*
     [ -z "$(find . -name '*.new' -o -name 'basin.*')" ] || cut=$((cut + 1))
     [ -z "$(find . -name basin.commit)" ] || committed=$((committed + 1))
     saved=$(grep -c '^# saved' "$work/said" || true)
@@ -180,4 +206,4 @@ for ((kill = 0; kill < kills; kill++)); do
     [ "$i" -ge "$saved" ] || fail "kill $kill lost a save that was told"
     [ "$i" = 0 ] || [ "$i" = "$n" ] || between=$((between + 1))
 done
-echo "rack: $ran commands with 4 and 16 nodes print and leave what dispatch does; $kills runs killed ($cut left files of a save or a lock, $committed a commit, $between between the first save and the last): no mix"
+echo "rack: $ran commands with 4 and 16 nodes print and leave what dispatch does; stopped at $stops calls on files, and $kills runs killed ($cut left files of a save or a lock, $committed a commit, $between between the first save and the last): no mix"
