@@ -78,7 +78,7 @@ struct packet take(int rank) {
     wait_for(rank < 0 ? MPI_ANY_SOURCE : rank, &status);
     MPI_Get_count(&status, MPI_BYTE, &count);
     MPI_Recv(taken, ROOM, MPI_BYTE, status.MPI_SOURCE, status.MPI_TAG, MPI_COMM_WORLD, &status);
-    struct packet p = {.rank = status.MPI_SOURCE, .kind = (enum kind)status.MPI_TAG};
+    struct packet p = {.rank = status.MPI_SOURCE, .kind = (enum kind)status.MPI_TAG, .bytes = taken};
     if ((size_t)count < sizeof head)
         return p;
     memcpy(&head, taken, sizeof head);

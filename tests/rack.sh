@@ -150,6 +150,21 @@ for ((i = 0; i <= n; i++)); do (cd "$work/state.$i"; "$dispatch" check >"$work/c
 checked() { for ((i = 0; i <= n; i++)); do cmp -s "$work/told" "$work/check.$i" && return; done; return 1; }
 state_of() { for ((i = $1; i <= n; i++)); do same . "$work/state.$i" && return; done; return 1; }
 
+# Beside a run that saves after every round dispatch reads one of the states, and who writes is turned away.
+rm -rf "$work/run"; cp -r "$work/start" "$work/run"; cd "$work/run"
+rack 16 play --every 1 <"$work/start.list" >/dev/null 2>&1 &
+job=$! readers=0 turned=0
+while kill -0 $job 2>/dev/null; do
+    "$dispatch" check >"$work/told" 2>&1 || true
+    checked || { cat "$work/told"; fail 'a reader beside a run sees a mix'; }
+    readers=$((readers + 1))
+    LD_PRELOAD="$work/stop.so" SHORT_WAIT=1 "$dispatch" play </dev/null >"$work/told" 2>&1 || true
+    if grep -q 'is writing this basin' "$work/told"; then turned=$((turned + 1)); fi
+done
+wait $job || fail 'a run beside others was not ended'
+same . "$work/state.$n" || fail 'a run beside others leaves other files'
+[ "$turned" -gt 0 ] || fail 'nobody was turned away beside a run'
+
 # Ends when none of these processes runs.
 gone() {
     local p t
@@ -177,7 +192,8 @@ for ((kill = 0; kill < kills; kill++)); do
         for ((t = 0; t < 500; t++)); do [ -e basin.lock ] || [ -e at/basin.lock ] && break; sleep 0.01; done
     fi
     sleep "$((RANDOM % most))e-3"
-    mapfile -t ranks < <(pgrep -P $job || true)
+    ranks=()
+    for p in $(pgrep -x "${rack##*/}" || true); do case $(readlink "/proc/$p/cwd") in "$work"/run*) ranks+=("$p") ;; esac; done
     # A node, all at once, the coordinator, mpirun alone.
     case $((kill % 4)) in
     0) dead=("${ranks[@]:RANDOM % 16 + 1:1}") ;;
@@ -206,4 +222,4 @@ for ((kill = 0; kill < kills; kill++)); do
     [ "$i" -ge "$saved" ] || fail "kill $kill lost a save that was told"
     [ "$i" = 0 ] || [ "$i" = "$n" ] || between=$((between + 1))
 done
-echo "rack: $ran commands with 4 and 16 nodes print and leave what dispatch does; stopped at $stops calls on files, and $kills runs killed ($cut left files of a save or a lock, $committed a commit, $between between the first save and the last): no mix"
+echo "rack: $ran commands with 4 and 16 nodes print and leave what dispatch does; $readers readers beside a run see one state; stopped at $stops calls on files, and $kills runs killed ($cut left files of a save or a lock, $committed a commit, $between between the first save and the last): no mix"
