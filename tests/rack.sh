@@ -150,20 +150,33 @@ for ((i = 0; i <= n; i++)); do (cd "$work/state.$i"; "$dispatch" check >"$work/c
 checked() { for ((i = 0; i <= n; i++)); do cmp -s "$work/told" "$work/check.$i" && return; done; return 1; }
 state_of() { for ((i = $1; i <= n; i++)); do same . "$work/state.$i" && return; done; return 1; }
 
-# Beside a run that saves after every round dispatch reads one of the states, and who writes is turned away.
+# The processes of the run in a folder of this test, the coordinator first.
+find_ranks() {
+    ranks=()
+    for p in $(pgrep -x "${rack##*/}" || true); do case $(readlink "/proc/$p/cwd") in "$work"/run*) ranks+=("$p") ;; esac; done
+}
+
+# Beside a run that saves after every round dispatch reads one of the states; while its coordinator is held, who writes is turned away.
 rm -rf "$work/run"; cp -r "$work/start" "$work/run"; cd "$work/run"
 rack 16 play --every 1 <"$work/start.list" >/dev/null 2>&1 &
 job=$! readers=0 turned=0
 while kill -0 $job 2>/dev/null; do
+    if [ $turned = 0 ] && [ -e basin.lock ]; then
+        find_ranks
+        kill -STOP "${ranks[@]:0:1}" 2>/dev/null || true
+        if [ -e basin.lock ]; then
+            LD_PRELOAD="$work/stop.so" SHORT_WAIT=1 "$dispatch" play </dev/null >"$work/told" 2>&1 || true
+            grep -q 'is writing this basin' "$work/told" || fail 'a writer was not turned away beside a run'
+            turned=1
+        fi
+        kill -CONT "${ranks[@]:0:1}" 2>/dev/null || true
+    fi
     "$dispatch" check >"$work/told" 2>&1 || true
     checked || { cat "$work/told"; fail 'a reader beside a run sees a mix'; }
     readers=$((readers + 1))
-    LD_PRELOAD="$work/stop.so" SHORT_WAIT=1 "$dispatch" play </dev/null >"$work/told" 2>&1 || true
-    if grep -q 'is writing this basin' "$work/told"; then turned=$((turned + 1)); fi
 done
 wait $job || fail 'a run beside others was not ended'
 same . "$work/state.$n" || fail 'a run beside others leaves other files'
-[ "$turned" -gt 0 ] || fail 'nobody was turned away beside a run'
 
 # Ends when none of these processes runs.
 gone() {
@@ -192,8 +205,7 @@ for ((kill = 0; kill < kills; kill++)); do
         for ((t = 0; t < 500; t++)); do [ -e basin.lock ] || [ -e at/basin.lock ] && break; sleep 0.01; done
     fi
     sleep "$((RANDOM % most))e-3"
-    ranks=()
-    for p in $(pgrep -x "${rack##*/}" || true); do case $(readlink "/proc/$p/cwd") in "$work"/run*) ranks+=("$p") ;; esac; done
+    find_ranks
     # A node, all at once, the coordinator, mpirun alone.
     case $((kill % 4)) in
     0) dead=("${ranks[@]:RANDOM % 16 + 1:1}") ;;
