@@ -3,7 +3,6 @@
 #include "rack.h"
 
 #include <errno.h>
-#include <sched.h>
 #include <string.h>
 
 struct reply {
@@ -306,8 +305,7 @@ enum found read_basin(void) {
         int found = look_once();
         if (found != AGAIN)
             return (enum found)found;
-        for (int i = 0; i < 1000; i++)
-            sched_yield();
+        pause_briefly();
     }
     fputs("error: the files are not those that basin.commit tells of\n", stderr);
     return TROUBLE;

@@ -5,7 +5,6 @@
 
 #include <errno.h>
 #include <fcntl.h>
-#include <sched.h>
 #include <stdlib.h>
 #include <string.h>
 #include <time.h>
@@ -129,8 +128,7 @@ enum taken take_lock(const char *own, const char *lines, bool *leads, char *othe
             second = now;
             if (changes > 2)
                 return BUSY;
-            for (int i = 0; i < 1000; i++)
-                sched_yield();
+            pause_briefly();
         }
     }
 }

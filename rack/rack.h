@@ -59,6 +59,7 @@ void put(int rank, enum kind kind, uint64_t a, uint64_t b, uint64_t c, const voi
 /* The next packet of a rank, or of any where it is below 0. */
 struct packet take(int rank);
 uint64_t nanoseconds(void);
+void pause_briefly(void);
 
 /* disk.c: files of the folder that a rank was started in. What is written gives 0, or the error of the system. */
 

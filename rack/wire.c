@@ -19,6 +19,8 @@ uint64_t nanoseconds(void) {
     return (uint64_t)t.tv_sec * 1000000000u + (uint64_t)t.tv_nsec;
 }
 
+void pause_briefly(void) { nanosleep(&(struct timespec){0, 1000000}, NULL); }
+
 /* Each step maps sums one to one, and words too: packets that differ in one word of eight bytes always differ in their sum. */
 static uint64_t mix(uint64_t sum, uint64_t word) {
     sum = (sum ^ word) * 0x9e3779b97f4a7c15u;

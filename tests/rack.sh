@@ -103,12 +103,9 @@ grep -q '^error: the basin has 16 blocks' "$work/said" && same . "$work/start" |
 # A message that is altered on the way, by kind: a request, a transfer, an update, the answers to them. It is told, and nothing is saved.
 of_blocks four 4; cp -r . "$work/unaltered"
 for kind in 0 1 2 3 4 5; do
-    for place in 20 -1; do
-        LD_PRELOAD="$work/alter.so" ALTER_KIND=$kind ALTER=1 ALTER_PLACE=$place rack 4 play <"$work/four.list" >"$work/said" 2>&1 && fail "a packet of kind $kind that was altered is taken"
-        grep -q '^error: .*altered' "$work/said" || fail "a packet of kind $kind that was altered is not told"
-        same . "$work/unaltered" || fail "a packet of kind $kind was altered, and something was saved"
-        [ $kind = 1 ] || [ $kind = 2 ] || break
-    done
+    LD_PRELOAD="$work/alter.so" ALTER_KIND=$kind ALTER=1 rack 4 play <"$work/four.list" >"$work/said" 2>&1 && fail "a packet of kind $kind that was altered is taken"
+    grep -q '^error: .*altered' "$work/said" || fail "a packet of kind $kind that was altered is not told"
+    same . "$work/unaltered" || fail "a packet of kind $kind was altered, and something was saved"
 done
 cd "$work/run"
 
@@ -121,7 +118,7 @@ stopped() {
     LD_PRELOAD="$work/stop-rank.so" STOP_RANK=$1 STOP_AT=$2 rack 4 play <"$work/four.list" >/dev/null 2>&1 && { same . "$work/new" || fail 'other files'; return 1; }
     "$dispatch" check >"$work/told" 2>&1 || true
     cmp -s "$work/told" "$work/old.check" || cmp -s "$work/told" "$work/new.check" || { cat "$work/told"; fail "a reader sees neither basin, rank $1 stopped at call $2"; }
-    if (($2 % 2)); then "$dispatch" play </dev/null >/dev/null; else rack 4 play </dev/null >/dev/null || fail "not mended, rank $1 stopped at call $2"; fi
+    if (($2 % 3)); then "$dispatch" play </dev/null >/dev/null; else rack 4 play </dev/null >/dev/null || fail "not mended, rank $1 stopped at call $2"; fi
     "$dispatch" check | cmp -s - "$work/told" || fail "mending changed what a reader sees, rank $1 stopped at call $2"
     same . "$work/unaltered" || same . "$work/new" || fail "neither the old basin nor the new one, rank $1 stopped at call $2"
     stops=$((stops + 1))
