@@ -1,7 +1,7 @@
 -- `balance::leaving::first_asked` meets its contract. The loop's invariant: the volumes before i may not go, and nothing is marked.
 -- The measure is what is left of the places. Assumes nothing.
 use Prim.Native.Nat.{ℕ, _-_}
-use mathlib.Core.Path.{_≡_, refl, sym, ap, _∙_}
+use mathlib.Core.Path.{refl, sym, ap, _∙_}
 use lib.ListN.{length-set}
 use Rattle.model.specs.Image.{count-in}
 use Rattle.cells.proofs.Sited.{sited}
