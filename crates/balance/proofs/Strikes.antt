@@ -12,7 +12,7 @@ use lib.Seq.{getD-set-same, getD-set-other}
 use borrow.Author.Tests.{ne-eqb, le-leb, lt-leb, lt-ltb}
 use Rattle.model.specs.Lists.{keep, tab, Check, first-no}
 use Rattle.model.specs.Image.{column, block-in}
-use Rattle.model.specs.Values.{Limits, rack, room}
+use Rattle.model.specs.Values.{Limits, rack}
 use Rattle.model.specs.Departure.{departure-checks}
 use Rattle.model.specs.Calls.{served, refused, Result, asked}
 use Rattle.answers.specs.Answers.{answered}
@@ -57,12 +57,12 @@ module _ (m : List ℕ) (j s : ℕ) (h : j ≤ 15) (e : j ≡ getD m 0 0 → ⊥
   leaves-no n a = one-refused _ n a ∙ leaves-any m j s h e
 
 -- STRUCK OFF
-pub untried-self : (leaves : ℕ → Bool) (n : ℕ) (s : List ℕ) → length s ≡ room → Untried (at s) leaves n s
+pub untried-self : (leaves : ℕ → Bool) (n : ℕ) (s : List ℕ) → n ≤ length s → Untried (at s) leaves n s
 untried-self leaves n s e = record { len = e; entry = λ p h. inl refl }
 
 module _ {z : ℕ → ℕ} {leaves : ℕ → Bool} {n : ℕ} {s : List ℕ} (u : Untried z leaves n s) where
-  pub untried-strike : (p : ℕ) → n ≤ room → p < n → leaves p ≡ false → Untried z leaves n (set s p 0)
-  untried-strike p few h e = record {
+  pub untried-strike : (p : ℕ) → p < n → leaves p ≡ false → Untried z leaves n (set s p 0)
+  untried-strike p h e = record {
     len = simp length-set (u .len);
     entry = λ q l. ⊎-elim
         (λ same. inr (rw same (getD-set-same s p 0 0 (omega (arith, u .len))), rw same e))
@@ -142,7 +142,7 @@ pub record Trying (z : ℕ → ℕ) (m : List ℕ) (left : ℕ) (s : List ℕ) (
   pub i-le : i ≤ getD m 2 0
   pub before : (q : ℕ) → q < i → fits z (leaves-at m) left q ≡ false
 
-pub trying-start : (m : List ℕ) (left : ℕ) (s : List ℕ) → length s ≡ room → Trying (at s) m left s 0
+pub trying-start : (m : List ℕ) (left : ℕ) (s : List ℕ) → getD m 2 0 ≤ length s → Trying (at s) m left s 0
 trying-start m left s e = record { untried = untried-self (leaves-at m) (getD m 2 0) s e; i-le = omega arith; before = λ q l. absurd (omega arith) }
 
 module _ {z : ℕ → ℕ} {m : List ℕ} {left : ℕ} {s : List ℕ} {i : ℕ} (w : Trying z m left s i) where
@@ -155,8 +155,8 @@ module _ {z : ℕ → ℕ} {m : List ℕ} {left : ℕ} {s : List ℕ} {i : ℕ} 
   pub trying-large : i < getD m 2 0 → {x : ℕ} → x ≡ getD s i 0 → left < x → Trying z m left s (i + 1)
   trying-large h v e = record { untried = w .untried; i-le = omega arith; before = passed h (skip-large (w .untried) left i h v e) }
 
-  pub trying-strike : getD m 2 0 ≤ room → i < getD m 2 0 → leaves-at m i ≡ false → Trying z m left (set s i 0) (i + 1)
-  trying-strike few h e = record { untried = untried-strike (w .untried) i few h e; i-le = omega arith; before = passed h (skip-stays (w .untried) left i h e) }
+  pub trying-strike : i < getD m 2 0 → leaves-at m i ≡ false → Trying z m left (set s i 0) (i + 1)
+  trying-strike h e = record { untried = untried-strike (w .untried) i h e; i-le = omega arith; before = passed h (skip-stays (w .untried) left i h e) }
 
   pub tried-found : i < getD m 2 0 → {x : ℕ} → x ≡ getD s i 0 → (x ≡ 0 → ⊥) → x ≤ left → leaves-at m i ≡ true → Volume (column m 0 i) ≡ candidate-of (going z m left)
   unfolding going
@@ -167,3 +167,14 @@ module _ {z : ℕ → ℕ} {m : List ℕ} {left : ℕ} {s : List ℕ} {i : ℕ} 
   pub tried-all : getD m 2 0 ≤ i → Nothing ≡ candidate-of (going z m left)
   unfolding going
   tried-all l = sym (ap (λ (c : List ℕ). candidate-of (map (column m 0) c)) (kept-none (fits z (leaves-at m) left) (λ p. p) (getD m 2 0) (λ q k. w .before q (omega arith))))
+
+-- the arrays of the loop are as long as they were
+pub record SameLengths (s m o t e n f p s₀ m₀ o₀ t₀ e₀ n₀ f₀ p₀ : List ℕ) : Type 0 where
+  pub sizes : length s ≡ length s₀
+  pub marks : length m ≡ length m₀
+  pub order : length o ≡ length o₀
+  pub starts : length t ≡ length t₀
+  pub seen : length e ≡ length e₀
+  pub numbers : length n ≡ length n₀
+  pub firsts : length f ≡ length f₀
+  pub stamps : length p ≡ length p₀

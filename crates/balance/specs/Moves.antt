@@ -8,7 +8,7 @@ use lib.Dec.{leb, ltb, eqb}
 use lib.ListN.{length, getD, drop}
 use lib.IntN.{ℤ, pos}
 use Rattle.model.specs.Lists.{keep, tab, concat-map, first-no}
-use Rattle.model.specs.Values.{Block, all-rack, room}
+use Rattle.model.specs.Values.{Block, all-rack}
 use Rattle.model.specs.Sound.{block-at}
 use Rattle.model.specs.Image.{column, block-in, holds-block}
 use Rattle.model.specs.Departure.{departure-checks}
@@ -24,17 +24,17 @@ use Rattle.balance.specs.declared.leaving.Candidate.the-variants as cand
 unfoldable pub can-leave : List ℕ → ℕ → Bool
 can-leave m s = eqb (first-no (drop 1 (departure-checks 512 (block-in m) 0 s))) 0
 
--- the arrays that questions 9 to 14 are asked with: nothing is marked, and the others may hold anything
-pub record Asking (marks order starts seen numbers firsts stamps : List ℕ) : Type 0 where
-  pub marks-size : length marks ≡ room
+-- the arrays that questions 9 to 14 of a block of n darts are asked with: nothing is marked, and the others may hold anything
+pub record Asking (n : ℕ) (marks order starts seen numbers firsts stamps : List ℕ) : Type 0 where
+  pub marks-size : n ≤ length marks
   pub unmarked : Clear marks
-  pub order-size : length order ≡ room
-  pub starts-size : length starts ≡ room
-  pub seen-size : length seen ≡ room
+  pub order-size : n ≤ length order
+  pub starts-size : n ≤ length starts
+  pub seen-size : n ≤ length seen
   pub unseen : Clear seen
-  pub numbers-size : length numbers ≡ room
-  pub firsts-size : length firsts ≡ room
-  pub stamps-size : length stamps ≡ 512
+  pub numbers-size : n ≤ length numbers
+  pub firsts-size : n ≤ length firsts
+  pub stamps-size : 512 ≤ length stamps
 
 -- of a place, by the size of the picked volume that it starts: there is one, it is at most `left`, and it may leave
 abbrev pub fits : (ℕ → ℕ) → (ℕ → Bool) → ℕ → ℕ → Bool
@@ -42,7 +42,7 @@ fits size leaves left p = ltb 0 (size p) && leb (size p) left && leaves p
 
 -- sizes of which some are struck off, of volumes that may not leave
 pub record Untried (size : ℕ → ℕ) (leaves : ℕ → Bool) (n : ℕ) (sizes : List ℕ) : Type 0 where
-  pub len : length sizes ≡ room
+  pub len : n ≤ length sizes
   pub entry : (p : ℕ) → p < n → (getD sizes p 0 ≡ size p) ⊎ ((getD sizes p 0 ≡ 0) × (leaves p ≡ false))
 
 -- of a block

@@ -6,13 +6,13 @@ pub mod nextmove; // nextmove.rt: the questions of a whole mesh and an oracle, t
 ghost use mathlib.Core.Path.{_≡_};
 ghost use mathlib.Core.Bool.{true};
 ghost use mathlib.Core.List.{map};
-ghost use Prim.Native.Nat.{_-_, _<_};
+ghost use Prim.Native.Nat.{ℕ, _-_, _≤_, _<_};
 ghost use lib.ListN.{length, getD};
 ghost use lib.IntN.{pos};
 ghost use Rattle.model.specs.Lists.{all};
-ghost use Rattle.model.specs.Values.{all-rack, room};
+ghost use Rattle.model.specs.Values.{all-rack};
 ghost use Rattle.model.specs.Sound.{blocks-right};
-ghost use Rattle.model.specs.Image.{block-in, holds-block};
+ghost use Rattle.model.specs.Image.{count-in, block-in, holds-block};
 ghost use Rattle.model.specs.Calls.{memories, served};
 ghost use Rattle.model.specs.Balance.{blocked, first-or, is-above, next-of as model-next};
 ghost use Rattle.answers.specs.Answers.{move-of};
@@ -27,7 +27,7 @@ use oracle::Oracle;
 
 // The sizes of the picked volumes of block i.
 fn sizes_at(mesh: &[u64], i: usize, o: Oracle, sizes: &mut [usize])
-    requires { ⌜ SoundParts (now mesh) × (i < blocks (now mesh)) × (length (now sizes) ≡ room) ⌝ }
+    requires { ⌜ SoundParts (now mesh) × (i < blocks (now mesh)) × (count-in (part (now mesh) i) ≤ length (now sizes)) ⌝ }
     ensures { λ _. ⌜ Sizes (oracle-of o) (part (now (mesh .entry)) i) (now (sizes .exit)) ⌝ }
 {
     selection::sizes_of(mesh::part_of(mesh, i), o, sizes)
@@ -35,7 +35,7 @@ fn sizes_at(mesh: &[u64], i: usize, o: Oracle, sizes: &mut [usize])
 
 // The first volume that may go from block d to block `to`.
 fn between(mesh: &[u64], d: usize, to: usize, sizes: &mut [usize]) -> Candidate
-    requires { ⌜ SoundParts (now mesh) × (d < blocks (now mesh)) × (to < blocks (now mesh)) × (to ≡ d → ⊥) × (length (now sizes) ≡ room) ⌝ }
+    requires { ⌜ SoundParts (now mesh) × (d < blocks (now mesh)) × (to < blocks (now mesh)) × (to ≡ d → ⊥) × (count-in (part (now mesh) d) ≤ length (now sizes)) ⌝ }
     ensures candidate { λ r. ⌜ r ≡ candidate-of (going (at (now (sizes .entry))) (part (now (mesh .entry)) d) (4096 - getD (part (now (mesh .entry)) to) 2 0)) ⌝ }
     ensures untried { λ r. ⌜ Untried-in (at (now (sizes .entry))) (part (now (mesh .entry)) d) (now (sizes .exit)) ⌝ }
 {
@@ -57,9 +57,9 @@ fn from_donor(
     d: usize,
     sizes: &mut [usize],
 ) -> Found
-    requires { ⌜ SoundParts (now mesh) × (d < blocks (now mesh)) × (length (now sizes) ≡ room) ⌝ }
+    requires { ⌜ SoundParts (now mesh) × (d < blocks (now mesh)) × (count-in (part (now mesh) d) ≤ length (now sizes)) ⌝ }
     requires { ⌜ Surpluses (oracle-of o) (now mesh) surplus × (is-above (getD surplus d (pos 0)) ≡ true) ⌝ }
-    ensures { λ r. ⌜ (found-of d r ≡ first-or blocked (moves-from (oracle-of o) (now (mesh .entry)) d)) × (length (now (sizes .exit)) ≡ room) ⌝ }
+    ensures { λ r. ⌜ found-of d r ≡ first-or blocked (moves-from (oracle-of o) (now (mesh .entry)) d) ⌝ }
 {
     sizes_at(mesh, d, o, sizes);
     let k = mesh.len() / Header::WORDS;
@@ -87,7 +87,8 @@ fn first_move(
     surplus: [i32; memory::header::BLOCKS],
     sizes: &mut [usize],
 ) -> NextMove
-    requires { ⌜ SoundParts (now mesh) × Surpluses (oracle-of o) (now mesh) surplus × (length (now sizes) ≡ room) ⌝ }
+    requires { ⌜ SoundParts (now mesh) × Surpluses (oracle-of o) (now mesh) surplus
+        × ((i : ℕ) → i < blocks (now mesh) → count-in (part (now mesh) i) ≤ length (now sizes)) ⌝ }
     ensures { λ r. ⌜ move-of r ≡ served (first-or blocked (all-moves (oracle-of o) (now (mesh .entry)))) ⌝ }
 {
     let k = mesh.len() / Header::WORDS;

@@ -11,7 +11,6 @@ use lib.Seq.{getD-set-same}
 use borrow.Author.Tests.{eqb-true}
 use Rattle.model.specs.Lists.{keep, mem, tab, sum}
 use Rattle.model.specs.Image.{column}
-use Rattle.model.specs.Values.{room}
 use Rattle.laws.proofs.Tests.{by-cases, lt-or-ge}
 use Rattle.laws.proofs.Members.{In}
 use Rattle.laws.proofs.Volumes.{Volume}
@@ -38,10 +37,10 @@ sum-more q (x ∷ l₀) (y ∷ l) (suc n) h len few low high =
     by-cases (q (h 0)) (λ e. let one : y ≡ x + 1 = rw e at first in rw e (omega arith)) (λ e. let none : y ≡ x + 0 = rw e at first in rw e (omega arith))
 
 -- MARKS AS A QUEUE of places below n
-pub as-queue : {n : ℕ} {f g : ℕ → ℕ} {m o : List ℕ} {t : ℕ} → n ≤ room → Marking n f g m o t → Queue n (places n) m o t
-as-queue {n} {f} {g} {m} {o} few k = record {
-  len-m = omega (arith, k .len-marks);
-  len-o = omega (arith, k .len-order);
+pub as-queue : {n : ℕ} {f g : ℕ → ℕ} {m o : List ℕ} {t : ℕ} → Marking n f g m o t → Queue n (places n) m o t
+as-queue {n} {f} {g} {m} {o} k = record {
+  len-m = k .len-marks;
+  len-o = k .len-order;
   fits = k .fits;
   bits = k .bits;
   count = k .count;
@@ -60,11 +59,11 @@ pushed {n} {p} {t} {t′} {v} {m} {o} {m′} {o′} q h x k a b = by-cases (eqb 
     rw (o-is, k-is) (getD-set-same o t p 0 (omega (arith, queue-room q p h z, q .len-o))))
     (λ e. let t-is : t′ ≡ t = rw e at (x .tail) in absurd (omega arith))
 
--- THE WALK from queue length t₀ and marks m₀ on: h places of the queue are done
-pub record Going (n : ℕ) (f g : ℕ → ℕ) (d : ℕ) (v m₀ : List ℕ) (t₀ : ℕ) (m o : List ℕ) (t h : ℕ) : Type 0 where
+-- THE WALK from queue o₀ of length t₀ and marks m₀ on: h places of the queue are done
+pub record Going (n : ℕ) (f g : ℕ → ℕ) (d : ℕ) (v m₀ o₀ : List ℕ) (t₀ : ℕ) (m o : List ℕ) (t h : ℕ) : Type 0 where
   pub queue : Queue n (places n) m o t
-  pub len-marks : length m ≡ room
-  pub len-order : length o ≡ room
+  pub same-marks : length m ≡ length m₀
+  pub same-order : length o ≡ length o₀
   pub from-le : t₀ ≤ h
   pub h-le : h ≤ t
   pub old : (q : ℕ) → getD m₀ q 0 ≡ 1 → getD m q 0 ≡ 1
@@ -73,15 +72,15 @@ pub record Going (n : ℕ) (f g : ℕ → ℕ) (d : ℕ) (v m₀ : List ℕ) (t�
   pub done : (k : ℕ) → k < h → (getD m (f (getD o k 0)) 0 ≡ 1) × (getD m (g (getD o k 0)) 0 ≡ 1)
   pub new-in : (k : ℕ) → t₀ ≤ k → k < t → In (getD o k 0) v
 
-module _ (n : ℕ) (f g : ℕ → ℕ) (d : ℕ) (v : List ℕ) (vol : Volume f g d v) (few : n ≤ room) {m₀ o₀ : List ℕ} {t₀ : ℕ} (mk : Marking n f g m₀ o₀ t₀) where
-  pub going-start : {t : ℕ} {m o : List ℕ} → d < n → Visited d m₀ o₀ t₀ m o t → Going n f g d v m₀ t₀ m o t t₀
+module _ (n : ℕ) (f g : ℕ → ℕ) (d : ℕ) (v : List ℕ) (vol : Volume f g d v) {m₀ o₀ : List ℕ} {t₀ : ℕ} (mk : Marking n f g m₀ o₀ t₀) where
+  pub going-start : {t : ℕ} {m o : List ℕ} → d < n → Visited d m₀ o₀ t₀ m o t → Going n f g d v m₀ o₀ t₀ m o t t₀
   going-start {t} {m} {o} dn x =
-      let q = as-queue few mk in
+      let q = as-queue mk in
       let w = visit-queue q dn (in-places n d dn) x in
       record {
         queue = w .0;
-        len-marks = visited-lengths x .0 ∙ mk .len-marks;
-        len-order = visited-lengths x .1 ∙ mk .len-order;
+        same-marks = visited-lengths x .0;
+        same-order = visited-lengths x .1;
         from-le = omega arith;
         h-le = w .1 .longer;
         old = w .1 .grows;
@@ -91,7 +90,7 @@ module _ (n : ℕ) (f g : ℕ → ℕ) (d : ℕ) (v : List ℕ) (vol : Volume f 
         new-in = λ k a b. rw (pushed q dn x k a b) (vol .here);
       }
 
-  module _ {m o : List ℕ} {t h : ℕ} (w : Going n f g d v m₀ t₀ m o t h) (wf : Within n f) (wg : Within n g) (ht : h < t) where
+  module _ {m o : List ℕ} {t h : ℕ} (w : Going n f g d v m₀ o₀ t₀ m o t h) (wf : Within n f) (wg : Within n g) (ht : h < t) where
     at-h : (getD o h 0 < n) × In (getD o h 0) v
     at-h = (w .queue .queued h ht .0, w .new-in h (w .from-le) ht)
 
@@ -127,11 +126,11 @@ module _ (n : ℕ) (f g : ℕ → ℕ) (d : ℕ) (v : List ℕ) (vol : Volume f 
             (lt-or-ge k t₁))
             (lt-or-ge k t)
 
-        pub going-step : Going n f g d v m₀ t₀ m₂ o₂ t₂ (h + 1)
+        pub going-step : Going n f g d v m₀ o₀ t₀ m₂ o₂ t₂ (h + 1)
         going-step = record {
           queue = two .0;
-          len-marks = visited-lengths y .0 ∙ visited-lengths x .0 ∙ w .len-marks;
-          len-order = visited-lengths y .1 ∙ visited-lengths x .1 ∙ w .len-order;
+          same-marks = visited-lengths y .0 ∙ visited-lengths x .0 ∙ w .same-marks;
+          same-order = visited-lengths y .1 ∙ visited-lengths x .1 ∙ w .same-order;
           from-le = omega (arith, w .from-le);
           h-le = omega (arith, one .1 .longer, two .1 .longer);
           old = λ q e. grows q (w .old q e);
@@ -145,14 +144,14 @@ module _ (n : ℕ) (f g : ℕ → ℕ) (d : ℕ) (v : List ℕ) (vol : Volume f 
         }
 
   -- NOTHING IS LEFT to do
-  module _ {m o : List ℕ} {t h : ℕ} (w : Going n f g d v m₀ t₀ m o t h) (over : t ≤ h) where
+  module _ {m o : List ℕ} {t h : ℕ} (w : Going n f g d v m₀ o₀ t₀ m o t h) (over : t ≤ h) where
     closed : (x : ℕ) → getD m x 0 ≡ 1 → (getD m (f x) 0 ≡ 1) × (getD m (g x) 0 ≡ 1)
     closed x e = let b = w .queue .back x e in rw (← b .2) (w .done (b .0) (omega (arith, b .1)))
 
     pub going-marks : Marking n f g m o t
     going-marks = record {
-      len-marks = w .len-marks;
-      len-order = w .len-order;
+      len-marks = w .queue .len-m;
+      len-order = w .queue .len-o;
       fits = w .queue .fits;
       bits = w .queue .bits;
       count = w .queue .count;
@@ -191,7 +190,7 @@ module _ (n : ℕ) (f g : ℕ → ℕ) (d : ℕ) (v : List ℕ) (vol : Volume f 
       size-is : t ≡ t₀ + length (places-in n v)
       unfolding places-in
       size-is =
-          let s = sum-more (λ p. mem p v) m₀ m n (λ p. p) (mk .len-marks ∙ sym (w .len-marks)) (w .queue .len-m)
+          let s = sum-more (λ p. mem p v) m₀ m n (λ p. p) (sym (w .same-marks)) (w .queue .len-m)
           (λ p l. by-cases (mem p v)
           (λ e. rw e (omega (arith, reached p e, away p e)))
           (λ e. rw e (omega (arith, stays p e))))

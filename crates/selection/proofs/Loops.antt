@@ -3,14 +3,14 @@ use mathlib.Core.Path.{_≡_, refl, sym, ap, subst, _∙_}
 use mathlib.Core.Bool.{Bool, true, false, true≢false, _&&_}
 use mathlib.Core.List.{List, [], _∷_}
 use mathlib.Core.Logic.{⊎-elim}
-use Prim.Native.Nat.{ℕ, zero, suc, _+_, _≤_, _<_}
+use Prim.Native.Nat.{ℕ, zero, _+_, _≤_, _<_}
 use native.Mathlib.Numerals.{add-one}
 use native.Mathlib.Omega.{arith}
 use lib.Dec.{ltb}
-use lib.ListN.{length, getD, set, replicate, length-append, length-map, length-replicate, length-set}
+use lib.ListN.{length, getD, set, length-append, length-map, length-set}
 use lib.Seq.{getD-set-same, getD-set-other}
 use borrow.Author.Tests.{lt-ltb}
-use Rattle.model.specs.Lists.{keep, tab, sum}
+use Rattle.model.specs.Lists.{keep, tab}
 use Rattle.model.specs.Values.{finite-bits, finite, room}
 use Rattle.model.specs.Balance.{Oracle, picked}
 use Rattle.model.specs.Image.{column, dart-in, block-in, holds-block}
@@ -18,13 +18,14 @@ use Rattle.laws.proofs.Tests.{last-or-below, and-left, and-right}
 use Rattle.laws.proofs.Members.{keep-le, keep-cong}
 use Rattle.laws.proofs.Maps.{tab-more}
 use Rattle.laws.proofs.Tables.{length-tab}
-use Rattle.laws.proofs.Lists.{getD-zeros, sum-zeros}
 use Rattle.memory.specs.Point.{point-of, patterns, FiniteAt}
 use Rattle.memory.specs.declared.point.Point.{Point}
 use Rattle.memory.proofs.Points.{point-patterns}
 use Rattle.oracle.specs.Oracle.{holds}
 use Rattle.columns.proofs.Question.{image-passed}
+use Rattle.cells.specs.Places.{Clear}
 use Rattle.cells.proofs.Reached.{places, places-below}
+use Rattle.cells.proofs.Walks.{sum-marks}
 use Rattle.cells.proofs.Sited.{sited}
 use Rattle.cells.proofs.FaceLaws.{keep-append}
 use Rattle.selection.specs.Picked.{size-at, Sizes, Walkable, Some, holds-at, Marking, Through}
@@ -89,38 +90,39 @@ is-zero s p x e h = let z : getD s p 0 ≡ 0 = sym e ∙ h in rw z refl
 pub record Measuring (o : Oracle) (m : List ℕ) (sizes marks order : List ℕ) (tail p : ℕ) : Type 0 where
   pub through : Through m p marks order tail
   pub p-le : p ≤ getD m 2 0
-  pub len : length sizes ≡ room
+  pub len : getD m 2 0 ≤ length sizes
   pub told : (q : ℕ) → q < p → getD sizes q 0 ≡ size-at o m q
 
-no-marks : (n : ℕ) (f g : ℕ → ℕ) (marks order : List ℕ) → marks ≡ replicate room 0 → length order ≡ room → Marking n f g marks order 0
-no-marks n f g marks order e len = rw e (record {
-  len-marks = length-replicate {A = ℕ} room 0;
-  len-order = len;
+no-marks : (n : ℕ) (f g : ℕ → ℕ) (marks order : List ℕ) → n ≤ length marks → Clear marks → n ≤ length order → Marking n f g marks order 0
+no-marks n f g marks order lm clear lo = record {
+  len-marks = lm;
+  len-order = lo;
   fits = omega arith;
-  bits = λ p. omega (arith, getD-zeros room p);
-  count = sym (sum-zeros room);
+  bits = λ p. omega (arith, clear p);
+  count = sym (sum-marks [] marks zero (λ p. p) (omega arith) (λ p l. absurd (omega arith)) (λ p l. clear p));
   once = refl;
   queued = λ k h. absurd (omega arith);
-  back = λ p h. absurd (omega (arith, getD-zeros room p));
-  closed-f = λ p l h. absurd (omega (arith, getD-zeros room p));
-  closed-g = λ p l h. absurd (omega (arith, getD-zeros room p));
-})
+  back = λ p h. absurd (omega (arith, clear p));
+  closed-f = λ p l h. absurd (omega (arith, clear p));
+  closed-g = λ p l h. absurd (omega (arith, clear p));
+}
 
-pub measuring-start : (o : Oracle) (m sizes marks order : List ℕ) → length sizes ≡ room → marks ≡ replicate room 0 → length order ≡ room → Measuring o m sizes marks order 0 0
-measuring-start o m sizes marks order ls e lo = record {
+pub measuring-start : (o : Oracle) (m sizes marks order : List ℕ) → getD m 2 0 ≤ length sizes → getD m 2 0 ≤ length marks → Clear marks → getD m 2 0 ≤ length order
+    → Measuring o m sizes marks order 0 0
+measuring-start o m sizes marks order ls lm clear lo = record {
   through = record {
-    marking = no-marks (getD m 2 0) (column m 1) (column m 2) marks order e lo;
+    marking = no-marks (getD m 2 0) (column m 1) (column m 2) marks order lm clear lo;
     covered = λ q l. absurd (omega arith);
-    behind = λ q h. absurd (omega (arith, ap (λ (l : List ℕ). getD l q 0) e, getD-zeros room q));
+    behind = λ q h. absurd (omega (arith, clear q));
   };
   p-le = omega arith;
   len = ls;
   told = λ q l. absurd (omega arith);
 }
 
-pub measuring-next : {o : Oracle} {m sizes marks order : List ℕ} {tail p : ℕ} → Measuring o m sizes marks order tail p → getD m 2 0 ≤ room → p < getD m 2 0
+pub measuring-next : {o : Oracle} {m sizes marks order : List ℕ} {tail p : ℕ} → Measuring o m sizes marks order tail p → p < getD m 2 0
     → {marks′ order′ : List ℕ} {tail′ : ℕ} → Through m (p + 1) marks′ order′ tail′ → {x : ℕ} → x ≡ size-at o m p → Measuring o m (set sizes p x) marks′ order′ tail′ (p + 1)
-measuring-next {o} {m} {sizes} {marks} {order} {tail} {p} w few h t {x} e = record {
+measuring-next {o} {m} {sizes} {marks} {order} {tail} {p} w h t {x} e = record {
   through = t;
   p-le = omega arith;
   len = simp length-set (w .len);

@@ -8,7 +8,6 @@ use lib.ListN.{length, getD, take}
 use Rattle.model.specs.Lists.{all, distinct, mem, sum}
 use Rattle.model.specs.Balance.{Oracle, picks}
 use Rattle.model.specs.Image.{column, dart-in}
-use Rattle.model.specs.Values.{room}
 use Rattle.oracle.specs.Oracle.{holds}
 use Rattle.memory.specs.Point.{FiniteAt}
 use Rattle.cells.specs.Places.{Linked, Closed, places-in, volume-of}
@@ -31,7 +30,7 @@ size-at o m p = cond (is-start m p && is-picked o m p) (length (volume-at m p)) 
 
 -- these sizes in a table
 pub record Sizes (o : Oracle) (m sizes : List ℕ) : Type 0 where
-  pub len : length sizes ≡ room
+  pub len : getD m 2 0 ≤ length sizes
   pub entry : (p : ℕ) → p < getD m 2 0 → getD sizes p 0 ≡ size-at o m p
 
 -- a block's memory that can be walked, with finite points
@@ -50,8 +49,8 @@ pub record Some (t : ℕ → Bool) (order : List ℕ) (from to : ℕ) (r : Bool)
 
 -- marked places in a queue; no link leads out of them
 pub record Marking (n : ℕ) (f g : ℕ → ℕ) (marks order : List ℕ) (tail : ℕ) : Type 0 where
-  pub len-marks : length marks ≡ room
-  pub len-order : length order ≡ room
+  pub len-marks : n ≤ length marks
+  pub len-order : n ≤ length order
   pub fits : tail ≤ n
   pub bits : (p : ℕ) → getD marks p 0 ≤ 1
   pub count : tail ≡ sum marks

@@ -3,13 +3,13 @@ ghost use mathlib.Core.Path.{_≡_};
 ghost use mathlib.Core.Bool.{true};
 ghost use Prim.Native.Nat.{ℕ, _+_, _≤_, _<_};
 ghost use lib.Dec.{ltb};
-ghost use lib.ListN.{length, getD, replicate};
+ghost use lib.ListN.{length, getD};
 ghost use Rattle.model.specs.Lists.{keep, tab};
 ghost use Rattle.model.specs.Values.{room};
-ghost use Rattle.model.specs.Image.{words-for, column, block-in, holds-block};
+ghost use Rattle.model.specs.Image.{words-for, column, count-in, block-in, holds-block};
 ghost use Rattle.model.specs.Balance.{picked as model-picked};
 ghost use Rattle.oracle.specs.Oracle.{oracle-of};
-ghost use Rattle.cells.specs.Places.{Linked, Visited, volume-of};
+ghost use Rattle.cells.specs.Places.{Clear, Linked, Visited, volume-of};
 ghost use Rattle.selection.specs.Picked.{Walkable, Some, holds-at, Marking, Added, Through, Measures, Sizes};
 use memory::header::Header;
 use memory::point;
@@ -19,7 +19,7 @@ use oracle::Oracle;
 
 // The place at index k of the queue.
 fn place_at(order: &[usize], k: usize) -> Place
-    requires { ⌜ (k < length (now order)) × (length (now order) ≡ room) ⌝ }
+    requires { ⌜ (k < room) × (k < length (now order)) ⌝ }
     ensures { λ r. ⌜ r .0 ≡ getD (now (order .entry)) k 0 ⌝ }
 {
     Place(order[k])
@@ -35,7 +35,7 @@ fn along(block: &[u64], p: Place, f: usize) -> Place
 
 // A place that is not marked is marked and put at the end of the queue. Returns the queue's new length.
 fn visit(marks: &mut [u8], order: &mut [usize], tail: usize, p: Place) -> usize
-    requires { ⌜ (length (now marks) ≡ room) × (length (now order) ≡ room) × (p .0 < room) × (tail ≤ room) × (getD (now marks) (p .0) 0 ≡ 0 → tail < room) ⌝ }
+    requires { ⌜ (p .0 < length (now marks)) × (tail ≤ room) × (getD (now marks) (p .0) 0 ≡ 0 → tail < length (now order)) ⌝ }
     ensures { λ r. ⌜ Visited (p .0) (now (marks .entry)) (now (order .entry)) tail (now (marks .exit)) (now (order .exit)) r ⌝ }
 {
     let i = p.0;
@@ -76,7 +76,7 @@ fn add_volume(
 
 // Whether the oracle's test holds at some of the places that stand in the queue from one index on up to another.
 fn some(block: &[u64], o: Oracle, second: bool, order: &[usize], from: usize, to: usize) -> bool
-    requires { ⌜ Walkable (now block) × (to ≤ room) × (length (now order) ≡ room) × ((k : ℕ) → k < to → getD (now order) k 0 < getD (now block) 2 0) ⌝ }
+    requires { ⌜ Walkable (now block) × (to ≤ room) × (to ≤ length (now order)) × ((k : ℕ) → k < to → getD (now order) k 0 < getD (now block) 2 0) ⌝ }
     ensures { λ r. ⌜ Some (holds-at (oracle-of o) second (now (block .entry))) (now (order .entry)) from to r ⌝ }
 {
     // It holds at none before i.
@@ -130,7 +130,8 @@ fn measure(
 
 // The same for all places.
 fn measure_all(block: &[u64], o: Oracle, sizes: &mut [usize], order: &mut [usize], marks: &mut [u8])
-    requires { ⌜ Walkable (now block) × (length (now sizes) ≡ room) × (length (now order) ≡ room) × (now marks ≡ replicate room 0) ⌝ }
+    requires { ⌜ Walkable (now block) × (count-in (now block) ≤ length (now sizes)) × (count-in (now block) ≤ length (now order)) ⌝ }
+    requires { ⌜ (count-in (now block) ≤ length (now marks)) × Clear (now marks) ⌝ }
     ensures { λ _. ⌜ Sizes (oracle-of o) (now (block .entry)) (now (sizes .exit)) ⌝ }
 {
     let n = block[2] as usize;
@@ -147,7 +148,7 @@ fn measure_all(block: &[u64], o: Oracle, sizes: &mut [usize], order: &mut [usize
 
 // The sizes of a block's picked volumes, each at the least place of the volume.
 pub fn sizes_of(block: &[u64], o: Oracle, sizes: &mut [usize])
-    requires { ⌜ (holds-block (now block) ≡ true) × (length (now sizes) ≡ room) ⌝ }
+    requires { ⌜ (holds-block (now block) ≡ true) × (count-in (now block) ≤ length (now sizes)) ⌝ }
     ensures { λ _. ⌜ Sizes (oracle-of o) (now (block .entry)) (now (sizes .exit)) ⌝ }
 {
     let mut order = [0usize; Header::DARTS];
@@ -157,7 +158,7 @@ pub fn sizes_of(block: &[u64], o: Oracle, sizes: &mut [usize])
 
 // How many of the first n sizes are not 0.
 pub fn count_of(sizes: &[usize], n: usize) -> usize
-    requires { ⌜ (n ≤ room) × (length (now sizes) ≡ room) ⌝ }
+    requires { ⌜ (n ≤ room) × (n ≤ length (now sizes)) ⌝ }
     ensures { λ r. ⌜ r ≡ length (keep (λ p. ltb 0 (getD (now (sizes .entry)) p 0)) (tab (λ p. p) n)) ⌝ }
 {
     // Of those below p, c are not 0.

@@ -7,13 +7,12 @@ use Prim.Native.Nat.{ℕ, _+_, _≤_, _<_}
 use native.Mathlib.Omega.{arith}
 use native.Mathlib.Numerals.{add-one}
 use lib.Dec.{ltb, eqb}
-use lib.ListN.{length, getD, set, take, replicate, length-set, length-replicate}
+use lib.ListN.{length, getD, set, take, length-set}
 use lib.Seq.{getD-set-same, getD-set-other, take-suc-set}
 use borrow.Author.Tests.{eqb-true, eqb-false, ltb-true, ltb-false, lt-ltb, le-ltb}
 use Rattle.model.specs.Image.{column}
 use Rattle.sound.specs.Kept.{Kept}
 use Rattle.laws.proofs.Tests.{by-cases, eq-or-ne, last-or-below, and-left, and-right}
-use Rattle.laws.proofs.Lists.{getD-zeros}
 use Rattle.columns.specs.Columns.{all-below, before, place-test, kind-test, dart-test, link-test, codes, OneToOne, Links, Darts}
 use Rattle.columns.proofs.Below.{below-at, below-none, below-more, below-false}
 use Rattle.columns.proofs.Links.{linked}
@@ -69,23 +68,23 @@ module _ {t : ℕ → Bool} {n i : ℕ} (w : Going t n i) where
   pub going-end : n ≤ i → true ≡ all-below t n
   going-end h = let e : i ≡ n = omega (arith, w .i-le) in w .all ∙ ap (all-below t) e
 
--- MARKS: the values of f below i, no two the same
-pub record Marked (f : ℕ → ℕ) (seen : List ℕ) (i : ℕ) : Type 0 where
-  pub len : length seen ≡ 4096
+-- MARKS: the values of f below i, no two the same, in a table for the places below n
+pub record Marked (f : ℕ → ℕ) (n : ℕ) (seen : List ℕ) (i : ℕ) : Type 0 where
+  pub len : n ≤ length seen
   pub marked : (k : ℕ) → k < i → getD seen (f k) 0 ≡ 1
   pub only : (x : ℕ) → (getD seen x 0 ≡ 0 → ⊥) → (k : ℕ) × (k < i) × (f k ≡ x)
   pub apart : OneToOne f i
 
-pub none-marked : (f : ℕ → ℕ) (seen : List ℕ) → seen ≡ replicate 4096 0 → Marked f seen 0
-none-marked f seen e = record {
-  len = ap length e ∙ length-replicate {A = ℕ} 4096 0;
+pub none-marked : (f : ℕ → ℕ) (n : ℕ) (seen : List ℕ) → n ≤ length seen → ((p : ℕ) → getD seen p 0 ≡ 0) → Marked f n seen 0
+none-marked f n seen long clear = record {
+  len = long;
   marked = λ k h. absurd (omega arith);
-  only = λ x h. absurd (h (ap (λ (l : List ℕ). getD l x 0) e ∙ getD-zeros 4096 x));
+  only = λ x h. absurd (h (clear x));
   apart = λ p q hp. absurd (omega arith);
 }
 
-module _ {f : ℕ → ℕ} {seen : List ℕ} {i : ℕ} (w : Marked f seen i) where
-  pub one-more : f i < 4096 → getD seen (f i) 0 ≡ 0 → Marked f (set seen (f i) 1) (i + 1)
+module _ {f : ℕ → ℕ} {n : ℕ} {seen : List ℕ} {i : ℕ} (w : Marked f n seen i) where
+  pub one-more : f i < n → getD seen (f i) 0 ≡ 0 → Marked f n (set seen (f i) 1) (i + 1)
   one-more lt e = record {
     len = simp length-set (w .len);
     marked = λ k h. ⊎-elim (λ q. rw q hit) (λ l. rw (miss (f k) (λ q. fresh k l q)) (w .marked k l)) (last-or-below h);
@@ -108,16 +107,16 @@ module _ {f : ℕ → ℕ} {seen : List ℕ} {i : ℕ} (w : Marked f seen i) whe
       go p q (inr a) (inl b) same = absurd (fresh p a (same ∙ ap f b))
       go p q (inr a) (inr b) same = w .apart p q a b same
 
-  pub met-again : (n : ℕ) → i < n → (getD seen (f i) 0 ≡ 0 → ⊥) → OneToOne f n → ⊥
-  met-again n h e one = let r = w .only (f i) e in let same = one (r .0) i (omega (arith, r .1)) h (r .2) in omega (arith, r .1, same)
+  pub met-again : i < n → (getD seen (f i) 0 ≡ 0 → ⊥) → OneToOne f n → ⊥
+  met-again h e one = let r = w .only (f i) e in let same = one (r .0) i (omega (arith, r .1)) h (r .2) in omega (arith, r .1, same)
 
 -- A TEST AND A MARK for each place below i
 pub record Passing (t : ℕ → Bool) (f : ℕ → ℕ) (n : ℕ) (seen : List ℕ) (i : ℕ) : Type 0 where
   pub tests : Going t n i
-  pub marks : Marked f seen i
+  pub marks : Marked f n seen i
 
-pub passing-none : (t : ℕ → Bool) (f : ℕ → ℕ) (n : ℕ) (seen : List ℕ) → seen ≡ replicate 4096 0 → Passing t f n seen 0
-passing-none t f n seen e = record { tests = going-none t n; marks = none-marked f seen e }
+pub passing-none : (t : ℕ → Bool) (f : ℕ → ℕ) (n : ℕ) (seen : List ℕ) → n ≤ length seen → ((p : ℕ) → getD seen p 0 ≡ 0) → Passing t f n seen 0
+passing-none t f n seen long clear = record { tests = going-none t n; marks = none-marked f n seen long clear }
 
 abbrev pub Passed : (ℕ → Bool) → (ℕ → ℕ) → ℕ → Type 0
 Passed t f n = ((p : ℕ) → p < n → t p ≡ true) × OneToOne f n
@@ -127,9 +126,9 @@ module _ {t : ℕ → Bool} {f : ℕ → ℕ} {n : ℕ} {seen : List ℕ} {i : �
   test-no h er e = no-iff (λ d. false≢true (sym e ∙ er ∙ d .0 i h))
 
   pub mark-no : i < n → {a x : ℕ} → a ≡ f i → x ≡ getD seen a 0 → (x ≡ 0 → ⊥) → (_≡_ {A = Bool} false true) ↔ Passed t f n
-  mark-no h ea ex e = no-iff (λ d. met-again (w .marks) n h (λ z. e (ex ∙ ap (λ (x : ℕ). getD seen x 0) ea ∙ z)) (d .1))
+  mark-no h ea ex e = no-iff (λ d. met-again (w .marks) h (λ z. e (ex ∙ ap (λ (x : ℕ). getD seen x 0) ea ∙ z)) (d .1))
 
-  pub passing-more : i < n → {r : Bool} → r ≡ t i → r ≡ true → f i < 4096 → {a : ℕ} → a ≡ f i → getD seen a 0 ≡ 0 → Passing t f n (set seen a 1) (i + 1)
+  pub passing-more : i < n → {r : Bool} → r ≡ t i → r ≡ true → f i < n → {a : ℕ} → a ≡ f i → getD seen a 0 ≡ 0 → Passing t f n (set seen a 1) (i + 1)
   passing-more h er e lt ea et = rw ea (record {
     tests = going-more (w .tests) h er e;
     marks = one-more (w .marks) lt (ap (λ (x : ℕ). getD seen x 0) (sym ea) ∙ et);
@@ -170,10 +169,10 @@ link-below m n i ey e = linked m n i (sym ey ∙ e) .next-lt
 pub record Gathering (m : List ℕ) (n : ℕ) (out : List ℕ) (c i : ℕ) : Type 0 where
   pub i-le : i ≤ n
   pub c-le : c ≤ i
-  pub len : length out ≡ 4096
+  pub len : n ≤ length out
   pub done : take c out ≡ codes m i
 
-pub gather-none : (m : List ℕ) (n : ℕ) (out : List ℕ) → length out ≡ 4096 → Gathering m n out 0 0
+pub gather-none : (m : List ℕ) (n : ℕ) (out : List ℕ) → n ≤ length out → Gathering m n out 0 0
 unfolding codes
 gather-none m n out h = record { i-le = omega arith; c-le = omega arith; len = h; done = refl }
 
@@ -187,9 +186,9 @@ module _ {m : List ℕ} {n : ℕ} {out : List ℕ} {c i : ℕ} (w : Gathering m 
     done = rw (add-one, le-ltb 1 (column m 3 i) (omega arith)) (w .done);
   })
 
-  pub gather-take : n ≤ 4096 → 1 < k → {l : ℕ} → l ≡ column m 4 i → {out′ : List ℕ} {c′ : ℕ} → out′ ≡ set out c l → c′ ≡ c + 1 → Gathering m n out′ c′ (i + 1)
+  pub gather-take : 1 < k → {l : ℕ} → l ≡ column m 4 i → {out′ : List ℕ} {c′ : ℕ} → out′ ≡ set out c l → c′ ≡ c + 1 → Gathering m n out′ c′ (i + 1)
   unfolding codes
-  gather-take nl l el e f = rw (e, f) (record {
+  gather-take l el e f = rw (e, f) (record {
     i-le = omega arith;
     c-le = omega (arith, w .c-le);
     len = simp length-set (w .len);
@@ -197,12 +196,12 @@ module _ {m : List ℕ} {n : ℕ} {out : List ℕ} {c i : ℕ} (w : Gathering m 
   })
 
 -- one dart more, as it is kept
-pub gather-more : {m : List ℕ} {n : ℕ} {out : List ℕ} {c i : ℕ} → Gathering m n out c i → i < n → n ≤ 4096 → {out′ : List ℕ} {c′ : ℕ} → Kept m i out c out′ c′ → Gathering m n out′ c′ (i + 1)
-gather-more {m} {n} {out} {c} {i} w h few {out′} {c′} k = by-cases (ltb 1 (column m 3 i))
-    (λ e. gather-take w h refl few (ltb-true 1 (column m 3 i) e) refl (k .keys-are ∙ ap (λ (b : Bool). cond b (set out c (column m 4 i)) out) e) (k .count-is ∙ ap (λ (b : Bool). cond b (c + 1) c) e))
+pub gather-more : {m : List ℕ} {n : ℕ} {out : List ℕ} {c i : ℕ} → Gathering m n out c i → i < n → {out′ : List ℕ} {c′ : ℕ} → Kept m i out c out′ c′ → Gathering m n out′ c′ (i + 1)
+gather-more {m} {n} {out} {c} {i} w h {out′} {c′} k = by-cases (ltb 1 (column m 3 i))
+    (λ e. gather-take w h refl (ltb-true 1 (column m 3 i) e) refl (k .keys-are ∙ ap (λ (b : Bool). cond b (set out c (column m 4 i)) out) e) (k .count-is ∙ ap (λ (b : Bool). cond b (c + 1) c) e))
     (λ e. gather-skip w h refl (ltb-false 1 (column m 3 i) e) (k .keys-are ∙ ap (λ (b : Bool). cond b (set out c (column m 4 i)) out) e) (k .count-is ∙ ap (λ (b : Bool). cond b (c + 1) c) e))
 
-pub gather-end : {m : List ℕ} {n : ℕ} {out : List ℕ} {c i : ℕ} → Gathering m n out c i → n ≤ i → (c ≤ n) × (length out ≡ 4096) × (take c out ≡ codes m n)
+pub gather-end : {m : List ℕ} {n : ℕ} {out : List ℕ} {c i : ℕ} → Gathering m n out c i → n ≤ i → (c ≤ n) × (take c out ≡ codes m n)
 gather-end {m} {n} {out} {c} {i} w h =
     let e : i ≡ n = omega (arith, w .i-le) in
-    (omega (arith, w .c-le), w .len, w .done ∙ ap (codes m) e)
+    (omega (arith, w .c-le), w .done ∙ ap (codes m) e)

@@ -6,7 +6,7 @@ ghost use mathlib.Core.Path.{_≡_};
 ghost use mathlib.Core.Bool.{true};
 ghost use mathlib.Core.Logic.{_↔_};
 ghost use Prim.Native.Nat.{ℕ, _≤_, _<_};
-ghost use lib.ListN.{length, getD, replicate, take};
+ghost use lib.ListN.{length, getD, take};
 ghost use Rattle.model.specs.Values.{room};
 ghost use Rattle.model.specs.Image.{words-for, holds-block};
 ghost use Rattle.columns.specs.Columns.{all-below, codes, header-test, far-test, Darts};
@@ -46,8 +46,8 @@ fn zeros(block: &[u64], a: usize) -> bool
 }
 
 // Whether each dart by itself is right, and no two have the same next.
-fn darts_right(block: &[u64], n: usize, seen: &mut [u8; Header::DARTS]) -> bool
-    requires { ⌜ (n ≤ room) × (words-for n ≤ length (now block)) × (now seen ≡ replicate 4096 0) ⌝ }
+fn darts_right(block: &[u64], n: usize, seen: &mut [u8]) -> bool
+    requires { ⌜ (n ≤ room) × (words-for n ≤ length (now block)) × (n ≤ length (now seen)) × ((p : ℕ) → getD (now seen) p 0 ≡ 0) ⌝ }
     ensures { λ r. ⌜ (r ≡ true) ↔ Darts (now (block .entry)) n ⌝ }
 {
     let me = block[Header::NUMBER];
@@ -82,10 +82,10 @@ struct Far {
 }
 
 // Looks at each dart and at those that it links to, and keeps the labels of the critical ones in order.
-fn far_right(block: &[u64], n: usize, keys: &mut [u64; Header::DARTS]) -> Far
-    requires { ⌜ (n ≤ room) × (words-for n ≤ length (now block)) × Darts (now block) n × (length (now keys) ≡ 4096) ⌝ }
+fn far_right(block: &[u64], n: usize, keys: &mut [u64]) -> Far
+    requires { ⌜ (n ≤ room) × (words-for n ≤ length (now block)) × Darts (now block) n × (n ≤ length (now keys)) ⌝ }
     ensures right { λ r. ⌜ r .right ≡ all-below (far-test (now (block .entry))) n ⌝ }
-    ensures labels { λ r. ⌜ (r .right ≡ true → (r .critical ≤ n) × (take (r .critical) (now (keys .exit)) ≡ codes (now (block .entry)) n)) × (length (now (keys .exit)) ≡ 4096) ⌝ }
+    ensures labels { λ r. ⌜ (r .right ≡ true → (r .critical ≤ n) × (take (r .critical) (now (keys .exit)) ≡ codes (now (block .entry)) n)) ⌝ }
 {
     // The darts below i are right, and the first c keys are their labels.
     let mut c = 0;

@@ -2,8 +2,8 @@
 ghost use mathlib.Core.Path.{_≡_};
 ghost use mathlib.Core.Bool.{true};
 ghost use mathlib.Core.Logic.{_↔_};
-ghost use Prim.Native.Nat.{_+_, _≤_, _<_};
-ghost use lib.ListN.{length, take, replicate};
+ghost use Prim.Native.Nat.{ℕ, _+_, _≤_, _<_};
+ghost use lib.ListN.{length, getD, take};
 ghost use Rattle.model.specs.Lists.{distinct};
 ghost use Rattle.model.specs.Sound.{coordinates-finite, links-right as right-links, thirds-right as right-thirds, labels-right as right-labels, points-agree as agreeing-points};
 ghost use Rattle.model.specs.Image.{words-for, block-in};
@@ -17,8 +17,8 @@ use memory::record::Place;
 use memory::record::Record;
 
 // The label of the dart at place i, if it is critical, goes after the first c keys. Returns how many there are then.
-pub fn put_label(block: &[u64], i: usize, keys: &mut [u64; Header::DARTS], c: usize) -> usize
-    requires { ⌜ (i < room) × (words-for (i + 1) ≤ length (now block)) × (length (now keys) ≡ 4096) × (c < 4096) ⌝ }
+pub fn put_label(block: &[u64], i: usize, keys: &mut [u64], c: usize) -> usize
+    requires { ⌜ (i < room) × (words-for (i + 1) ≤ length (now block)) × (c < room) × (c < length (now keys)) ⌝ }
     ensures { λ r. ⌜ Kept (now (block .entry)) i (now (keys .entry)) c (now (keys .exit)) r ⌝ }
 {
     let k = record::field(block, Place(i), Record::KIND);
@@ -30,9 +30,9 @@ pub fn put_label(block: &[u64], i: usize, keys: &mut [u64; Header::DARTS], c: us
 }
 
 // The labels of the critical darts, in order; how many there are.
-fn gather(block: &[u64], n: usize, keys: &mut [u64; Header::DARTS]) -> usize
-    requires { ⌜ (n ≤ room) × (words-for n ≤ length (now block)) × (length (now keys) ≡ 4096) ⌝ }
-    ensures { λ r. ⌜ (r ≤ n) × (length (now (keys .exit)) ≡ 4096) × (take r (now (keys .exit)) ≡ codes (now (block .entry)) n) ⌝ }
+fn gather(block: &[u64], n: usize, keys: &mut [u64]) -> usize
+    requires { ⌜ (n ≤ room) × (words-for n ≤ length (now block)) × (n ≤ length (now keys)) ⌝ }
+    ensures { λ r. ⌜ (r ≤ n) × (take r (now (keys .exit)) ≡ codes (now (block .entry)) n) ⌝ }
 {
     // The first c keys are the labels of the darts below i.
     let mut c = 0;
@@ -46,7 +46,7 @@ fn gather(block: &[u64], n: usize, keys: &mut [u64; Header::DARTS]) -> usize
 
 // Whether no key stands twice among the first c, by order.
 fn differ(keys: &mut [u64], scratch: &mut [u64], c: usize) -> bool
-    requires { ⌜ (c ≤ 4096) × (length (now keys) ≡ 4096) × (length (now scratch) ≡ 4096) ⌝ }
+    requires { ⌜ (c ≤ room) × (c ≤ length (now keys)) × (c ≤ length (now scratch)) ⌝ }
     ensures { λ r. ⌜ r ≡ distinct (take c (now (keys .entry))) ⌝ }
 {
     sort::distinct(&mut keys[..c], &mut scratch[..c])
@@ -54,7 +54,7 @@ fn differ(keys: &mut [u64], scratch: &mut [u64], c: usize) -> bool
 
 // The same, by slots as far as they tell; labels that crowd a few slots are put in order.
 pub fn apart(keys: &mut [u64], c: usize) -> bool
-    requires { ⌜ (c ≤ 4096) × (length (now keys) ≡ 4096) ⌝ }
+    requires { ⌜ (c ≤ length (now keys)) × (length (now keys) ≤ room) ⌝ }
     ensures { λ r. ⌜ r ≡ distinct (take c (now (keys .entry))) ⌝ }
 {
     let mut table = [0u16; 8256];
@@ -97,8 +97,8 @@ pub fn coordinates_finite(block: &[u64]) -> bool
 }
 
 // The test of links, with a mark for each next.
-fn links_pass(block: &[u64], n: usize, seen: &mut [u8; Header::DARTS]) -> bool
-    requires { ⌜ (n ≤ room) × (words-for n ≤ length (now block)) × (now seen ≡ replicate 4096 0) ⌝ }
+fn links_pass(block: &[u64], n: usize, seen: &mut [u8]) -> bool
+    requires { ⌜ (n ≤ room) × (words-for n ≤ length (now block)) × (n ≤ length (now seen)) × ((p : ℕ) → getD (now seen) p 0 ≡ 0) ⌝ }
     ensures { λ r. ⌜ (r ≡ true) ↔ Links (now (block .entry)) n ⌝ }
 {
     // The links below i are right, and the nexts, marked in `seen`, differ.

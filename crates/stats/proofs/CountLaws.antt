@@ -56,8 +56,8 @@ places-more p = ap (tab (λ q. q)) (add-one p) ∙ sym (tab-more (λ x. x) p)
 
 -- WHAT COUNTING ASKS
 module _ {m G T : List ℕ} (c : Countable (2 ^ 33) m G T) (few : getD m 2 0 ≤ room) {q : ℕ} (h : q < getD m 2 0) where
-  pub word-ready : (j : ℕ) → j < 19 → (q < room) × (length G ≡ room) × (0 < getD G q 0) × (getD G q 0 ≤ room) × (j < 19)
-  word-ready j l = (omega arith, c .len, c .within q h .0, c .within q h .1, l)
+  pub word-ready : (j : ℕ) → j < 19 → (q < room) × (q < length G) × (0 < getD G q 0) × (getD G q 0 ≤ room) × (j < 19)
+  word-ready j l = (omega arith, omega (arith, c .len), c .within q h .0, c .within q h .1, l)
 
   pub add-ready : {index : ℕ → ℕ} {l T′ : List ℕ} → Counted index l T T′ → length l ≤ room → (j i : ℕ) → j < 19 → i ≡ cell-word G j q
       → (i < length T′) × (i < 19 * room) × (getD T′ i 0 ≤ 2 ^ 34)

@@ -8,7 +8,7 @@ use Prim.Native.Nat.{ℕ, suc, _+_, _≤_, _<_}
 use native.Mathlib.Numerals.{add-one}
 use native.Mathlib.Omega.{arith}
 use lib.Dec.{leb, eqb}
-use lib.ListN.{length, getD, set, take, replicate, length-set, length-append, length-replicate}
+use lib.ListN.{length, getD, set, take, length-set, length-append}
 use lib.Seq.{getD-set-same, getD-set-other, take-suc-set}
 use borrow.Author.Tests.{eqb-true, eqb-false, eq-eqb, ne-eqb, leb-true, le-leb}
 use Rattle.model.specs.Lists.{all, keep, mem, tab}
@@ -18,8 +18,7 @@ use Rattle.laws.proofs.Tests.{by-cases, lt-or-ge, same-truth}
 use Rattle.laws.proofs.Members.{In, pigeonhole, all-in, all-from, keep-le}
 use Rattle.laws.proofs.Maps.{tab-more}
 use Rattle.laws.proofs.Tables.{length-tab}
-use Rattle.laws.proofs.Lists.{getD-zeros}
-use Rattle.cells.specs.Places.{Assigned, places-in}
+use Rattle.cells.specs.Places.{Clear, Assigned, places-in}
 use Rattle.cells.proofs.Walks.{eq-or-ne, last-or-below}
 use Rattle.cells.proofs.Reached.{places, in-places, in-places-in, places-in-in}
 use Rattle.cells.proofs.FaceLaws.{keep-append}
@@ -28,7 +27,7 @@ use Rattle.stats.proofs.Orbits.{Orbit}
 use Rattle.stats.proofs.GroupLaws.{link-cases, group-linked, group-sym, group-away, links-within, next-in-links, opposite-in-links, third-in-links}
 
 -- ROOM: what is queued differs, so there is room for what is not
-module _ {n : ℕ} {G o : List ℕ} {t : ℕ} (q : Queued n G o t) (few : n ≤ room) where
+module _ {n : ℕ} {G o : List ℕ} {t : ℕ} (q : Queued n G o t) where
   pub queue-room : (p : ℕ) → p < n → getD G p 0 ≡ 0 → t < n
   queue-room p h z = omega (
     arith,
@@ -50,9 +49,6 @@ module _ {n : ℕ} {G o : List ℕ} {t : ℕ} (q : Queued n G o t) (few : n ≤ 
   pub queue-le : t ≤ n
   queue-le = omega (arith, length-tab (λ (x : ℕ). x) n, pigeonhole t (λ k. getD o k 0) (places n) (λ k l. in-places n (getD o k 0) (q .below k l)) (q .once))
 
-  pub room-if : (p : ℕ) → p < n → getD G p 0 ≡ 0 → t < room
-  room-if p h z = omega (arith, queue-room p h z)
-
 -- ENTERING
 pub record Grown (p g : ℕ) (G o : List ℕ) (t : ℕ) (G′ o′ : List ℕ) (t′ : ℕ) : Type 0 where
   pub keeps : (x : ℕ) → 0 < getD G x 0 → getD G′ x 0 ≡ getD G x 0
@@ -61,7 +57,7 @@ pub record Grown (p g : ℕ) (G o : List ℕ) (t : ℕ) (G′ o′ : List ℕ) (
   pub longer : t ≤ t′
   pub pushed : (k : ℕ) → t ≤ k → k < t′ → (getD o′ k 0 ≡ p) × (getD G′ p 0 ≡ g)
 
-module _ {n : ℕ} {G o : List ℕ} {t : ℕ} (q : Queued n G o t) (few : n ≤ room) {p g : ℕ} (pn : p < n) (gp : 0 < g) where
+module _ {n : ℕ} {G o : List ℕ} {t : ℕ} (q : Queued n G o t) {p g : ℕ} (pn : p < n) (gp : 0 < g) where
   module _ (z : getD G p 0 ≡ 0) where
     same : getD (set G p g) p 0 ≡ g
     same = getD-set-same G p g 0 (omega (arith, q .len-g))
@@ -76,7 +72,7 @@ module _ {n : ℕ} {G o : List ℕ} {t : ℕ} (q : Queued n G o t) (few : n ≤ 
     kept′ k h = getD-set-other o t k p 0 (λ e. omega arith)
 
     last′ : getD (set o t p) t 0 ≡ p
-    last′ = getD-set-same o t p 0 (omega (arith, queue-room q few p pn z, q .len-o))
+    last′ = getD-set-same o t p 0 (omega (arith, queue-room q p pn z, q .len-o))
 
     push : Queued n (set G p g) (set o t p) (t + 1)
     push = record {
@@ -142,10 +138,10 @@ pub record Entering (n : ℕ) (links : List ℕ) (g : ℕ) (G o : List ℕ) (t :
 none-yet : {n g : ℕ} {links G o : List ℕ} {t : ℕ} → Queued n G o t → Entering n links g G o t G o t
 none-yet q = record { queue = q; keeps = λ x k. refl; kept = λ k l. refl; longer = omega arith; new = λ k l r. absurd (omega arith) }
 
-one-more : {n g : ℕ} {links G o G₁ o₁ : List ℕ} {t t₁ : ℕ} → n ≤ room → 0 < g → Entering n links g G o t G₁ o₁ t₁ → (a : ℕ) → a < n → In a links
+one-more : {n g : ℕ} {links G o G₁ o₁ : List ℕ} {t t₁ : ℕ} → 0 < g → Entering n links g G o t G₁ o₁ t₁ → (a : ℕ) → a < n → In a links
     → {G₂ o₂ : List ℕ} {t₂ : ℕ} → Entered a g G₁ o₁ t₁ G₂ o₂ t₂ → Entering n links g G o t G₂ o₂ t₂ × (0 < getD G₂ a 0) × ((x : ℕ) → 0 < getD G₁ x 0 → 0 < getD G₂ x 0)
-one-more {n} {g} {links} {G} {o} {G₁} {o₁} {t} {t₁} few gp e a an i {G₂} {o₂} {t₂} x =
-    let r = enter-queue (e .queue) few an gp x in (
+one-more {n} {g} {links} {G} {o} {G₁} {o₁} {t} {t₁} gp e a an i {G₂} {o₂} {t₂} x =
+    let r = enter-queue (e .queue) an gp x in (
       record {
         queue = r .0;
         keeps = λ y k. r .1 .keeps y (stays-named G G₁ (e .keeps) y k) ∙ e .keeps y k;
@@ -173,7 +169,7 @@ module _ {m : List ℕ} (j : Joined m) (third : Bool) {p g : ℕ} (pn : p < getD
 
     module _ {G₁ o₁ : List ℕ} {t₁ : ℕ} (x₁ : Entered a g G o t G₁ o₁ t₁) where
       step₁ : Entering (getD m 2 0) links g G o t G₁ o₁ t₁ × (0 < getD G₁ a 0) × ((x : ℕ) → 0 < getD G x 0 → 0 < getD G₁ x 0)
-      step₁ = one-more (j .linked .few) gp (none-yet q) a next-below next-link x₁
+      step₁ = one-more gp (none-yet q) a next-below next-link x₁
 
       pub after-next : Queued (getD m 2 0) G₁ o₁ t₁
       after-next = step₁ .0 .queue
@@ -187,7 +183,7 @@ module _ {m : List ℕ} (j : Joined m) (third : Bool) {p g : ℕ} (pn : p < getD
 
         module _ {G₂ o₂ : List ℕ} {t₂ : ℕ} (x₂ : Entered b g G₁ o₁ t₁ G₂ o₂ t₂) where
           step₂ : Entering (getD m 2 0) links g G o t G₂ o₂ t₂ × (0 < getD G₂ b 0) × ((x : ℕ) → 0 < getD G₁ x 0 → 0 < getD G₂ x 0)
-          step₂ = one-more (j .linked .few) gp (step₁ .0) b opposite-below opposite-link x₂
+          step₂ = one-more gp (step₁ .0) b opposite-below opposite-link x₂
 
           pub after-opposite : Queued (getD m 2 0) G₂ o₂ t₂
           after-opposite = step₂ .0 .queue
@@ -201,7 +197,7 @@ module _ {m : List ℕ} (j : Joined m) (third : Bool) {p g : ℕ} (pn : p < getD
 
             pub links-entered : {G₃ o₃ : List ℕ} {t₃ : ℕ} → Entered c g G₂ o₂ t₂ G₃ o₃ t₃ → LinksEntered third m p g G o t G₃ o₃ t₃
             links-entered {G₃} x₃ =
-                let r = one-more (j .linked .few) gp (step₂ .0) c third-below third-one x₃ in
+                let r = one-more gp (step₂ .0) c third-below third-one x₃ in
                 record {
                   queue = r .0 .queue;
                   keeps = r .0 .keeps;
@@ -232,15 +228,12 @@ module _ {m : List ℕ} (j : Joined m) (third : Bool) {d : ℕ} (dn : d < getD m
   abbrev v : List ℕ
   v = group-of third m d
 
-  abbrev few : n ≤ room
-  few = j .linked .few
-
   abbrev orbit : Orbit (links-at third m) d v
   orbit = group-linked j third d dn
 
   pub going-start : {t : ℕ} {G o : List ℕ} → Entered d g G₀ o₀ t₀ G o t → Going n (links-at third m) g d v G₀ t₀ G o t t₀
   going-start {t} {G} {o} x =
-      let w = enter-queue q₀ few dn gp x in
+      let w = enter-queue q₀ dn gp x in
       record {
         queue = w .0;
         from-le = omega arith;
@@ -295,9 +288,9 @@ module _ {m : List ℕ} (j : Joined m) (third : Bool) {d : ℕ} (dn : d < getD m
         (λ l. subst (λ (x : ℕ). (getD G x 0 ≡ g) × In x v) (b .2) (w .new (b .0) l (b .1)))
         (lt-or-ge (b .0) t₀)
 
-    pub going-assigned : Assigned g v G₀ G
-    going-assigned = record {
-      size = w .queue .len-g ∙ sym (q₀ .len-g);
+    pub going-assigned : length G ≡ length G₀ → Assigned g v G₀ G
+    going-assigned same-size = record {
+      size = same-size;
       value = λ y. by-cases (mem y v)
           (λ e. rw e (queued-old y (w .queue .back y (named y e)) (away y e) .0))
           (λ e. rw e (eq-or-ne (getD G₀ y 0) 0
@@ -308,14 +301,14 @@ module _ {m : List ℕ} (j : Joined m) (third : Bool) {d : ℕ} (dn : d < getD m
 
 -- WHAT ENTERING ASKS
 pub enter-ready : {n : ℕ} {G o : List ℕ} {t : ℕ} → Queued n G o t → n ≤ room → (p : ℕ) → p < n
-    → ((length G ≡ room) × (length o ≡ room)) × ((p < room) × (t ≤ room) × (getD G p 0 ≡ 0 → t < room))
-enter-ready q few p h = ((q .len-g, q .len-o), (omega arith, omega (arith, queue-le q few), room-if q few p h))
+    → (p < room) × (p < length G) × (t ≤ room) × (getD G p 0 ≡ 0 → t < length o)
+enter-ready q few p h = (omega arith, omega (arith, q .len-g), omega (arith, queue-le q), λ z. omega (arith, queue-room q p h z, q .len-o))
 
 -- ALL GROUPS: those of the places below p have their numbers
 pub record Through (third : Bool) (m G firsts o : List ℕ) (count t p : ℕ) : Type 0 where
   pub queue : Queued (getD m 2 0) G o t
   pub p-le : p ≤ getD m 2 0
-  pub len-f : length firsts ≡ room
+  pub len-f : getD m 2 0 ≤ length firsts
   pub shut : Shut third m G
   pub covered : (q : ℕ) → q < p → 0 < getD G q 0
   pub count-is : count ≡ length (firsts-below third m p)
@@ -324,27 +317,26 @@ pub record Through (third : Bool) (m G firsts o : List ℕ) (count t p : ℕ) : 
   pub number : (i q : ℕ) → i < count → In q (group-of third m (getD firsts i 0)) → getD G q 0 ≡ suc i
   pub range : (q : ℕ) → 0 < getD G q 0 → (i : ℕ) × (i < count) × In q (group-of third m (getD firsts i 0))
 
-pub through-start : (third : Bool) (m G firsts o : List ℕ) → G ≡ replicate room 0 → length firsts ≡ room → length o ≡ room → Through third m G firsts o 0 0 0
-through-start third m G firsts o e lf lo =
-    let zero-at : (x : ℕ) → getD G x 0 ≡ 0 = λ x. ap (λ (l : List ℕ). getD l x 0) e ∙ getD-zeros room x in
+pub through-start : (third : Bool) (m G firsts o : List ℕ) → getD m 2 0 ≤ length G → Clear G → getD m 2 0 ≤ length firsts → getD m 2 0 ≤ length o → Through third m G firsts o 0 0 0
+through-start third m G firsts o lg clear lf lo =
     record {
       queue = record {
-        len-g = ap length e ∙ length-replicate {A = ℕ} room 0;
+        len-g = lg;
         len-o = lo;
         below = λ k l. absurd (omega arith);
         named = λ k l. absurd (omega arith);
         once = λ a b l r. absurd (omega arith);
-        back = λ x h. absurd (omega (arith, zero-at x));
+        back = λ x h. absurd (omega (arith, clear x));
       };
       p-le = omega arith;
       len-f = lf;
-      shut = λ x z h i. absurd (omega (arith, zero-at x));
+      shut = λ x z h i. absurd (omega (arith, clear x));
       covered = λ q l. absurd (omega arith);
       count-is = refl;
       firsts-are = refl;
       first-below = λ i l. absurd (omega arith);
       number = λ i q l. absurd (omega arith);
-      range = λ q h. absurd (omega (arith, zero-at q));
+      range = λ q h. absurd (omega (arith, clear q));
     }
 
 -- one place more
@@ -401,8 +393,8 @@ module _ {third : Bool} {m G firsts o : List ℕ} {count t p : ℕ} (j : Joined 
     new-firsts : firsts-below third m (p + 1) ≡ firsts-below third m p ++ p ∷ []
     new-firsts = firsts-more third m p ∙ rw first refl
 
-    pub count-few : count < room
-    count-few = omega (arith, w .count-is, keep-le (is-first third m) (tab (λ x. x) p), length-tab (λ (x : ℕ). x) p, j .linked .few)
+    pub count-few : count < getD m 2 0
+    count-few = omega (arith, w .count-is, keep-le (is-first third m) (tab (λ x. x) p), length-tab (λ (x : ℕ). x) p)
 
     module _ {G′ o′ : List ℕ} {t′ : ℕ} (q′ : Queued (getD m 2 0) G′ o′ t′) (assigned : Assigned (count + 1) (group-of third m p) G G′) where
       own : Orbit (links-at third m) p (group-of third m p)

@@ -31,7 +31,7 @@ critical-word m G p = cell-word G (3 + column m 3 p / 4) p
 
 -- the rows of all cells are there, with numbers of at most `most` in them
 pub record Countable (most : ℕ) (m G T : List ℕ) : Type 0 where
-  pub len : length G ≡ room
+  pub len : getD m 2 0 ≤ length G
   pub within : (q : ℕ) → q < getD m 2 0 → (0 < getD G q 0) × (getD G q 0 ≤ room) × (19 * getD G q 0 ≤ length T)
   pub small : (q j : ℕ) → q < getD m 2 0 → j < 19 → getD T (cell-word G j q) 0 ≤ most
 

@@ -8,7 +8,6 @@ use lib.Dec.{leb, eqb}
 use lib.ListN.{length, getD, set, take}
 use Rattle.model.specs.Lists.{all, keep, mem, tab}
 use Rattle.model.specs.Image.{column}
-use Rattle.model.specs.Values.{room}
 use Rattle.cells.specs.Places.{Linked, places-in}
 use Rattle.stats.specs.Pieces.{piece}
 
@@ -46,8 +45,8 @@ pub record Entered (p g : ℕ) (G o : List ℕ) (t : ℕ) (G′ o′ : List ℕ)
 
 -- what is in a group stands in the queue, once, and lies below n
 pub record Queued (n : ℕ) (G o : List ℕ) (t : ℕ) : Type 0 where
-  pub len-g : length G ≡ room
-  pub len-o : length o ≡ room
+  pub len-g : n ≤ length G
+  pub len-o : n ≤ length o
   pub below : (k : ℕ) → k < t → getD o k 0 < n
   pub named : (k : ℕ) → k < t → 0 < getD G (getD o k 0) 0
   pub once : (a b : ℕ) → a < b → b < t → getD o a 0 ≢ getD o b 0
@@ -68,8 +67,8 @@ Shut third m G = (x z : ℕ) → 0 < getD G x 0 → mem z (links-at third m x) �
 
 -- each group has a number from 1 on, by its least place
 pub record Grouped (third : Bool) (m G firsts : List ℕ) (count : ℕ) : Type 0 where
-  pub len-g : length G ≡ room
-  pub len-f : length firsts ≡ room
+  pub len-g : getD m 2 0 ≤ length G
+  pub len-f : getD m 2 0 ≤ length firsts
   pub count-is : count ≡ length (firsts-below third m (getD m 2 0))
   pub firsts-are : take count firsts ≡ firsts-below third m (getD m 2 0)
   pub within : (q : ℕ) → q < getD m 2 0 → (0 < getD G q 0) × (getD G q 0 ≤ count)

@@ -1,10 +1,10 @@
 // The darts of a block in groups: its cells; or its pieces, cells that are joined where a dart of one is sewn to a dart of another.
 ghost use mathlib.Core.Path.{_≡_};
 ghost use Prim.Native.Nat.{_+_, _≤_, _<_};
-ghost use lib.ListN.{length, getD, replicate};
-ghost use Rattle.model.specs.Image.{words-for};
+ghost use lib.ListN.{length, getD};
+ghost use Rattle.model.specs.Image.{words-for, count-in};
 ghost use Rattle.model.specs.Values.{room};
-ghost use Rattle.cells.specs.Places.{Assigned};
+ghost use Rattle.cells.specs.Places.{Clear, Assigned};
 ghost use Rattle.stats.specs.Groups.{third-link, group-of, Joined, Entered, Queued, LinksEntered, Shut, Grouped};
 use memory::header::Header;
 use memory::record;
@@ -24,8 +24,7 @@ fn third_link(block: &[u64], third: bool, p: usize) -> usize
 
 // A place that is in no group yet is put into one, and at the end of the queue. Returns the queue's new length.
 fn enter(groups: &mut [usize], order: &mut [usize], tail: usize, p: usize, group: usize) -> usize
-    requires { ⌜ (length (now groups) ≡ room) × (length (now order) ≡ room) ⌝ }
-    requires { ⌜ (p < room) × (tail ≤ room) × (getD (now groups) p 0 ≡ 0 → tail < room) ⌝ }
+    requires { ⌜ (p < room) × (p < length (now groups)) × (tail ≤ room) × (getD (now groups) p 0 ≡ 0 → tail < length (now order)) ⌝ }
     ensures { λ r. ⌜ Entered p group (now (groups .entry)) (now (order .entry)) tail (now (groups .exit)) (now (order .exit)) r ⌝ }
 {
     if groups[p] != 0 {
@@ -95,7 +94,8 @@ pub fn number(
     firsts: &mut [usize],
     order: &mut [usize],
 ) -> usize
-    requires { ⌜ Joined (now block) × (now groups ≡ replicate room 0) × (length (now firsts) ≡ room) × (length (now order) ≡ room) ⌝ }
+    requires { ⌜ Joined (now block) × (count-in (now block) ≤ length (now groups)) × Clear (now groups) ⌝ }
+    requires { ⌜ (count-in (now block) ≤ length (now firsts)) × (count-in (now block) ≤ length (now order)) ⌝ }
     ensures { λ r. ⌜ Grouped third (now (block .entry)) (now (groups .exit)) (now (firsts .exit)) r ⌝ }
 {
     let n = block[Header::COUNT] as usize;

@@ -29,7 +29,7 @@ pub enum Told {
 
 // Word i of the rows before anything is counted: a cell's least serial at the start of its row, 0 elsewhere.
 fn first_word(block: &[u64], firsts: &[usize], i: usize) -> u64
-    requires { ⌜ (i < 19 * room) × (length (now firsts) ≡ room) × (words-for (getD (now firsts) (i / 19) 0 + 1) ≤ length (now block)) ⌝ }
+    requires { ⌜ (i < 19 * room) × (i < 19 * length (now firsts)) × (words-for (getD (now firsts) (i / 19) 0 + 1) ≤ length (now block)) ⌝ }
     ensures { λ r. ⌜ r ≡ head-word (now (block .entry)) (now (firsts .entry)) i ⌝ }
 {
     if i % 19 != 0 {
@@ -42,7 +42,7 @@ fn first_word(block: &[u64], firsts: &[usize], i: usize) -> u64
 
 // Starts the rows: the first `end` words.
 fn start_rows(block: &[u64], firsts: &[usize], end: usize, rows: &mut [u64])
-    requires { ⌜ (end ≤ 19 * room) × (length (now firsts) ≡ room) × (end ≤ length (now rows)) ⌝ }
+    requires { ⌜ (end ≤ 19 * room) × (end ≤ 19 * length (now firsts)) × (end ≤ length (now rows)) ⌝ }
     requires { ⌜ ((i : ℕ) → i < end → words-for (getD (now firsts) (i / 19) 0 + 1) ≤ length (now block)) ⌝ }
     ensures { λ _. ⌜ Headed (now (block .entry)) (now (firsts .entry)) end (now (rows .entry)) (now (rows .exit)) ⌝ }
 {
@@ -65,7 +65,7 @@ fn add_one(rows: &mut [u64], i: usize)
 
 // Where word j of the row of the cell of place p stands.
 fn word_at(numbers: &[usize], p: usize, j: usize) -> usize
-    requires { ⌜ (p < room) × (length (now numbers) ≡ room) × (0 < getD (now numbers) p 0)
+    requires { ⌜ (p < room) × (p < length (now numbers)) × (0 < getD (now numbers) p 0)
         × (getD (now numbers) p 0 ≤ room) × (j < 19) ⌝ }
     ensures { λ r. ⌜ r ≡ cell-word (now (numbers .entry)) j p ⌝ }
 {

@@ -1,6 +1,6 @@
 -- `balance::first_move` meets its contract. Assumes nothing.
 use Prim.Native.Nat.{_-_}
-use mathlib.Core.Path.{_≡_, sym, ap, _∙_}
+use mathlib.Core.Path.{_≡_, refl, sym, ap, _∙_}
 use lib.IntN.{pos}
 use lib.ListN.{length, getD}
 use mir.ValLaws.{toZ-ofZ}
@@ -8,7 +8,6 @@ use mir.Val.{toZ, ofZ}
 use mir.Syntax.{w32}
 use borrow.Author.Tests.{not-true, not-false}
 use Rattle.model.specs.Balance.{is-above}
-use Rattle.model.specs.Values.{room}
 use Rattle.oracle.specs.Oracle.{oracle-of}
 use Rattle.mesh.specs.Parts.{blocks}
 use Rattle.balance.specs.Moves.{moves-from}
@@ -21,7 +20,7 @@ use Rattle.balance.proofs.first_move.Tie as tie
 
 abbrev Inv-loop : tie.InvT-loop
 Inv-loop mesh o sizes₀ surplus k d₀ sizes d =
-    (length sizes ≡ room) × Searching (λ b. is-above (surplus-at (oracle-of o) mesh b)) (moves-from (oracle-of o) mesh) (blocks mesh) d
+    (length sizes ≡ length sizes₀) × Searching (λ b. is-above (surplus-at (oracle-of o) mesh b)) (moves-from (oracle-of o) mesh) (blocks mesh) d
 
 abbrev μ-loop : tie.MeasureT-loop
 μ-loop mesh o sizes₀ surplus k d₀ sizes d =
@@ -29,8 +28,7 @@ abbrev μ-loop : tie.MeasureT-loop
 
 loop-holds : tie.Need-loop-holds Inv-loop μ-loop
 loop-holds c =
-    let start : tie.Start Inv-loop μ-loop = search in
-    (start .pre .2, searching-start _ _ _)
+    (refl, searching-start _ _ _)
 
 add-d : tie.Need-add-d Inv-loop μ-loop
 add-d c = omega arith
@@ -71,7 +69,7 @@ from-donor-requires c κs =
     let is-above-ensures = (let p : tie.After-is-above Inv-loop μ-loop = search in p .is-above .ensures) in
     let if1-left = (let p : tie.Else1 Inv-loop μ-loop = search in p .if1 .left) in
     let e : toZ w32 (ofZ w32 (getD t3 loop-d (pos 0))) ≡ getD t3 loop-d (pos 0) = toZ-ofZ w32 (getD t3 loop-d (pos 0)) (search needs) in
-    ((start .pre .0, loop-test-taken, loop-inv .0), (start .pre .1, ap is-above (sym e) ∙ sym is-above-ensures ∙ not-false _ if1-left))
+    ((start .pre .0, loop-test-taken, omega (arith, loop-inv .0, start .pre .2 loop-d loop-test-taken)), (start .pre .1, ap is-above (sym e) ∙ sym is-above-ensures ∙ not-false _ if1-left))
 
 enum-known-to : tie.Need-enum-known-to Inv-loop μ-loop
 enum-known-to c = search needs
@@ -87,19 +85,20 @@ loop-again-2 c =
     let loop-inv = (let p : tie.At-loop Inv-loop μ-loop = search in p .loop .inv) in
     let loop-test-taken = (let p : tie.In-loop Inv-loop μ-loop = search in p .loop-test .taken) in
     let from-donor-ensures = (let p : tie.After-from-donor Inv-loop μ-loop = search in p .from-donor .ensures) in
+    let from-donor-kept = (let p : tie.After-from-donor Inv-loop μ-loop = search in p .from-donor .kept) in
     let start : tie.Start Inv-loop μ-loop = search in
     let loop-d = (let p : tie.At-loop Inv-loop μ-loop = search in p .loop .d) in
-    let none = donor-none (oracle-of (start .args .o)) (start .args .mesh .now) loop-d (from-donor-ensures .0) (c .enum-told .given .1) in
-    (from-donor-ensures .1, searching-none (loop-inv .1) loop-test-taken none)
+    let none = donor-none (oracle-of (start .args .o)) (start .args .mesh .now) loop-d from-donor-ensures (c .enum-told .given .1) in
+    (omega (arith, from-donor-kept, loop-inv .0), searching-none (loop-inv .1) loop-test-taken none)
 
 cast-t23 : tie.Need-cast-t23 Inv-loop μ-loop
 cast-t23 c = omega arith
 
 same-length : tie.Need-same-length Inv-loop μ-loop
 same-length c =
-    let start : tie.Start Inv-loop μ-loop = search in
-    let from-donor-ensures = (let p : tie.After-from-donor Inv-loop μ-loop = search in p .from-donor .ensures) in
-    from-donor-ensures .1 ∙ sym (start .pre .2)
+    let loop-inv = (let p : tie.At-loop Inv-loop μ-loop = search in p .loop .inv) in
+    let from-donor-kept = (let p : tie.After-from-donor Inv-loop μ-loop = search in p .from-donor .kept) in
+    omega (arith, from-donor-kept, loop-inv .0)
 
 returns : tie.Need-returns Inv-loop μ-loop
 returns c =
@@ -116,14 +115,13 @@ returns c =
     let to-given = (let p : tie.After-to Inv-loop μ-loop = search in p .to .given) in
     let e : toZ w32 (ofZ w32 (getD t3 loop-d (pos 0))) ≡ getD t3 loop-d (pos 0) = toZ-ofZ w32 (getD t3 loop-d (pos 0)) (search needs) in
     donor-found (oracle-of o) mesh (loop-inv .1) loop-test-taken
-    (sym (above-told (start .pre .1) loop-d loop-test-taken e is-above-ensures) ∙ not-false _ if1-left) (from-donor-ensures .0)
+    (sym (above-told (start .pre .1) loop-d loop-test-taken e is-above-ensures) ∙ not-false _ if1-left) from-donor-ensures
     (to-given .1)
 
 same-length-2 : tie.Need-same-length-2 Inv-loop μ-loop
 same-length-2 c =
-    let start : tie.Start Inv-loop μ-loop = search in
     let loop-inv = (let p : tie.At-loop Inv-loop μ-loop = search in p .loop .inv) in
-    loop-inv .0 ∙ sym (start .pre .2)
+    loop-inv .0
 
 returns-2 : tie.Need-returns-2 Inv-loop μ-loop
 returns-2 c =

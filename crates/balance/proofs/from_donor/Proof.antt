@@ -1,8 +1,8 @@
 -- `balance::from_donor` meets its contract. Assumes nothing.
 use Prim.Native.Nat.{_-_}
-use mathlib.Core.Path.{_≡_, sym, _∙_}
+use mathlib.Core.Path.{_≡_, refl, sym, _∙_}
 use lib.IntN.{pos}
-use lib.ListN.{getD}
+use lib.ListN.{length, getD}
 use mir.ValLaws.{toZ-ofZ}
 use mir.Val.{toZ, ofZ}
 use mir.Syntax.{w32}
@@ -20,7 +20,7 @@ use Rattle.balance.proofs.from_donor.Tie as tie
 
 abbrev Inv-loop : tie.InvT-loop
 Inv-loop mesh d sizes₀ surplus k r₀ sizes r =
-    (o : Oracle) → Sizes o (part mesh d) sizes₀ → Surpluses o mesh surplus → Giving o mesh d sizes r
+    (length sizes ≡ length sizes₀) × ((o : Oracle) → Sizes o (part mesh d) sizes₀ → Surpluses o mesh surplus → Giving o mesh d sizes r)
 
 abbrev μ-loop : tie.MeasureT-loop
 μ-loop mesh d sizes₀ surplus k r₀ sizes r =
@@ -33,7 +33,7 @@ sizes-at-requires c κs =
 
 loop-holds : tie.Need-loop-holds Inv-loop μ-loop
 loop-holds c =
-    λ o z s. giving-start z
+    (refl, λ o z s. giving-start z)
 
 add-r : tie.Need-add-r Inv-loop μ-loop
 add-r c = omega arith
@@ -59,7 +59,7 @@ loop-again c =
     let loop-test-taken = (let p : tie.In-loop Inv-loop μ-loop = search in p .loop-test .taken) in
     let is-below-ensures = (let p : tie.After-is-below Inv-loop μ-loop = search in p .is-below .ensures) in
     let e : toZ w32 (ofZ w32 (getD t3 loop-r (pos 0))) ≡ getD t3 loop-r (pos 0) = toZ-ofZ w32 (getD t3 loop-r (pos 0)) (search needs) in
-    λ o z s. giving-skip (loop-inv o z s) loop-test-taken (sym (below-told s loop-r loop-test-taken e is-below-ensures) ∙ not-true _ (c .if1 .taken))
+    (loop-inv .0, λ o z s. giving-skip (loop-inv .1 o z s) loop-test-taken (sym (below-told s loop-r loop-test-taken e is-below-ensures) ∙ not-true _ (c .if1 .taken)))
 
 between-requires : tie.Need-between-requires Inv-loop μ-loop
 between-requires c κs =
@@ -78,7 +78,7 @@ between-requires c κs =
       start .pre .0 .1,
       loop-test-taken,
       blocks-apart t3 d loop-r (start .pre .1 .1) e is-below-ensures (not-false _ if1-left),
-      (loop-inv (oracle-of o) sizes-at-ensures (start .pre .1 .0)) .untried .len,
+      (loop-inv .1 (oracle-of o) sizes-at-ensures (start .pre .1 .0)) .untried .len,
     )
 
 enum-known-serial : tie.Need-enum-known-serial Inv-loop μ-loop
@@ -102,9 +102,12 @@ loop-again-2 c =
     let if1-left = (let p : tie.Else1 Inv-loop μ-loop = search in p .if1 .left) in
     let between-ensures = (let p : tie.After-between Inv-loop μ-loop = search in p .between .ensures) in
     let e : toZ w32 (ofZ w32 (getD t3 loop-r (pos 0))) ≡ getD t3 loop-r (pos 0) = toZ-ofZ w32 (getD t3 loop-r (pos 0)) (search needs) in
-    λ o z s. giving-none (loop-inv o z s) loop-test-taken (start .pre .0 .0) (start .pre .0 .1)
-    (blocks-apart t3 d loop-r (start .pre .1 .1) e is-below-ensures (not-false _ if1-left)) (between-ensures .0) (c .enum-told .given .1)
-    (between-ensures .1)
+    let between-kept = (let p : tie.After-between Inv-loop μ-loop = search in p .between .kept) in (
+      omega (arith, between-kept, loop-inv .0),
+      λ o z s. giving-none (loop-inv .1 o z s) loop-test-taken (start .pre .0 .0) (start .pre .0 .1)
+          (blocks-apart t3 d loop-r (start .pre .1 .1) e is-below-ensures (not-false _ if1-left)) (between-ensures .0) (c .enum-told .given .1)
+          (between-ensures .1),
+    )
 
 cast-t25 : tie.Need-cast-t25 Inv-loop μ-loop
 cast-t25 c =
@@ -114,9 +117,10 @@ cast-t25 c =
 
 same-length : tie.Need-same-length Inv-loop μ-loop
 same-length c =
-    let start : tie.Start Inv-loop μ-loop = search in
-    let between-ensures = (let p : tie.After-between Inv-loop μ-loop = search in p .between .ensures) in
-    between-ensures .1 .len ∙ sym (start .pre .0 .2)
+    let sizes-at-kept = (let p : tie.After-sizes-at Inv-loop μ-loop = search in p .sizes-at .kept) in
+    let loop-inv = (let p : tie.At-loop Inv-loop μ-loop = search in p .loop .inv) in
+    let between-kept = (let p : tie.After-between Inv-loop μ-loop = search in p .between .kept) in
+    omega (arith, sizes-at-kept, loop-inv .0, between-kept)
 
 returns : tie.Need-returns Inv-loop μ-loop
 returns c =
@@ -132,30 +136,25 @@ returns c =
     let if1-left = (let p : tie.Else1 Inv-loop μ-loop = search in p .if1 .left) in
     let between-ensures = (let p : tie.After-between Inv-loop μ-loop = search in p .between .ensures) in
     let serial-given = (let p : tie.After-serial Inv-loop μ-loop = search in p .serial .given) in
-    let e : toZ w32 (ofZ w32 (getD t3 loop-r (pos 0))) ≡ getD t3 loop-r (pos 0) = toZ-ofZ w32 (getD t3 loop-r (pos 0)) (search needs) in (
-      giving-found (loop-inv (oracle-of o) sizes-at-ensures (start .pre .1 .0)) loop-test-taken (start .pre .0 .0)
-          (start .pre .0 .1) (blocks-apart t3 d loop-r (start .pre .1 .1) e is-below-ensures (not-false _ if1-left))
-          (between-ensures .0) (serial-given .1)
-          (sym (below-told (start .pre .1 .0) loop-r loop-test-taken e is-below-ensures) ∙ not-false _ if1-left),
-      between-ensures .1 .len,
-    )
+    let e : toZ w32 (ofZ w32 (getD t3 loop-r (pos 0))) ≡ getD t3 loop-r (pos 0) = toZ-ofZ w32 (getD t3 loop-r (pos 0)) (search needs) in
+    giving-found (loop-inv .1 (oracle-of o) sizes-at-ensures (start .pre .1 .0)) loop-test-taken (start .pre .0 .0)
+    (start .pre .0 .1) (blocks-apart t3 d loop-r (start .pre .1 .1) e is-below-ensures (not-false _ if1-left))
+    (between-ensures .0) (serial-given .1)
+    (sym (below-told (start .pre .1 .0) loop-r loop-test-taken e is-below-ensures) ∙ not-false _ if1-left)
 
 same-length-2 : tie.Need-same-length-2 Inv-loop μ-loop
 same-length-2 c =
-    let start : tie.Start Inv-loop μ-loop = search in
-    let sizes-at-ensures = (let p : tie.After-sizes-at Inv-loop μ-loop = search in p .sizes-at .ensures) in
+    let sizes-at-kept = (let p : tie.After-sizes-at Inv-loop μ-loop = search in p .sizes-at .kept) in
     let loop-inv = (let p : tie.At-loop Inv-loop μ-loop = search in p .loop .inv) in
-    (loop-inv (oracle-of (start .args .o)) sizes-at-ensures (start .pre .1 .0)) .untried .len ∙ sym (start .pre .0 .2)
+    omega (arith, sizes-at-kept, loop-inv .0)
 
 returns-2 : tie.Need-returns-2 Inv-loop μ-loop
 returns-2 c =
     let start : tie.Start Inv-loop μ-loop = search in
     let o = start .args .o in
     let sizes-at-ensures = (let p : tie.After-sizes-at Inv-loop μ-loop = search in p .sizes-at .ensures) in
-    let loop-inv = (let p : tie.At-loop Inv-loop μ-loop = search in p .loop .inv) in (
-      giving-end (loop-inv (oracle-of o) sizes-at-ensures (start .pre .1 .0)) (c .loop-test .left),
-      (loop-inv (oracle-of o) sizes-at-ensures (start .pre .1 .0)) .untried .len,
-    )
+    let loop-inv = (let p : tie.At-loop Inv-loop μ-loop = search in p .loop .inv) in
+    giving-end (loop-inv .1 (oracle-of o) sizes-at-ensures (start .pre .1 .0)) (c .loop-test .left)
 
 pub from-donor-spec : {M : Type 1} → statement M
 from-donor-spec =

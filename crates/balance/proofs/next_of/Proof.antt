@@ -1,6 +1,10 @@
 -- `balance::next_of` meets its contract. Assumes nothing.
 use mathlib.Core.Path.{refl, _∙_}
+use Rattle.model.specs.Values.{room}
 use Rattle.oracle.specs.Oracle.{oracle-of}
+use Rattle.cells.proofs.Resets.{zeros-long}
+use Rattle.cells.proofs.Sited.{sited}
+use Rattle.mesh.specs.Parts.{part}
 use Rattle.balance.proofs.MovesLaws.{sound-parts, nobody-above, nobody-below, some-of-both, model-mesh}
 use borrow.Author.Needs.{needs}
 use Rattle.balance.proofs.next_of.Statement.{statement}
@@ -46,7 +50,9 @@ first-move-requires : tie.Need-first-move-requires
 first-move-requires c κs =
     let start : tie.Start = search in
     let surpluses-ensures = (let p : tie.After-surpluses = search in p .surpluses .ensures) in
-    (sound-parts (start .args .mesh .now) (start .pre .0) (start .pre .1), surpluses-ensures, refl)
+    let mesh = start .args .mesh .now in
+    let sound = sound-parts mesh (start .pre .0) (start .pre .1) in
+    (sound, surpluses-ensures, λ i h. zeros-long _ room refl (sited (part mesh i) (sound .image i h) .linked .few))
 
 returns-3 : tie.Need-returns-3
 returns-3 c =

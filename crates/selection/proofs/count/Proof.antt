@@ -1,5 +1,8 @@
 -- `selection::count` meets its contract. Assumes nothing.
+use mathlib.Core.Path.{refl}
+use Rattle.model.specs.Values.{room}
 use Rattle.oracle.specs.Oracle.{oracle-of}
+use Rattle.cells.proofs.Resets.{zeros-long}
 use Rattle.cells.proofs.Sited.{sited}
 use Rattle.selection.proofs.Loops.{picked-count}
 use native.Mathlib.Omega.{arith}
@@ -11,7 +14,9 @@ slice-aggregate-sizes-of : tie.Need-slice-aggregate-sizes-of
 slice-aggregate-sizes-of c = search needs
 
 sizes-of-requires : tie.Need-sizes-of-requires
-sizes-of-requires c κs = search needs
+sizes-of-requires c κs =
+    let start : tie.Start = search in
+    (start .pre, zeros-long _ room refl (sited (start .args .block .now) (start .pre) .linked .few))
 
 shared-slice-read-n : tie.Need-shared-slice-read-n
 shared-slice-read-n c =

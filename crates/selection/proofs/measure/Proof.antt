@@ -1,5 +1,4 @@
 -- `selection::measure` meets its contract. Assumes nothing.
-use mathlib.Core.Path.{sym, _∙_}
 use Rattle.oracle.specs.Oracle.{oracle-of}
 use Rattle.selection.proofs.Measuring.{measured-none, measured-first, measured-second, measured}
 use native.Mathlib.Omega.{arith}
@@ -28,19 +27,17 @@ some-requires c κs =
     let start : tie.Start = search in
     let add-volume-ensures = (let p : tie.After-add-volume = search in p .add-volume .ensures) in
     let mk = add-volume-ensures .0 in
-    (start .pre .0, omega (arith, mk .fits, start .pre .0 .linked .few), mk .len-order, λ k l. mk .queued k l .0)
+    (start .pre .0, omega (arith, mk .fits, start .pre .0 .linked .few), omega (arith, mk .fits, mk .len-order), λ k l. mk .queued k l .0)
 
 same-length : tie.Need-same-length
 same-length c =
-    let start : tie.Start = search in
-    let add-volume-ensures = (let p : tie.After-add-volume = search in p .add-volume .ensures) in
-    add-volume-ensures .0 .len-order ∙ sym (start .pre .2 .marking .len-order)
+    let add-volume-kept = (let p : tie.After-add-volume = search in p .add-volume .kept) in
+    omega (arith, add-volume-kept)
 
 same-length-2 : tie.Need-same-length-2
 same-length-2 c =
-    let start : tie.Start = search in
-    let add-volume-ensures = (let p : tie.After-add-volume = search in p .add-volume .ensures) in
-    add-volume-ensures .0 .len-marks ∙ sym (start .pre .2 .marking .len-marks)
+    let add-volume-kept = (let p : tie.After-add-volume = search in p .add-volume .kept) in
+    omega (arith, add-volume-kept)
 
 returns-2 : tie.Need-returns-2
 returns-2 c =
@@ -57,19 +54,17 @@ some-requires-2 c κs =
     let start : tie.Start = search in
     let add-volume-ensures = (let p : tie.After-add-volume = search in p .add-volume .ensures) in
     let mk = add-volume-ensures .0 in
-    (start .pre .0, omega (arith, mk .fits, start .pre .0 .linked .few), mk .len-order, λ k l. mk .queued k l .0)
+    (start .pre .0, omega (arith, mk .fits, start .pre .0 .linked .few), omega (arith, mk .fits, mk .len-order), λ k l. mk .queued k l .0)
 
 same-length-3 : tie.Need-same-length-3
 same-length-3 c =
-    let start : tie.Start = search in
-    let add-volume-ensures = (let p : tie.After-add-volume = search in p .add-volume .ensures) in
-    add-volume-ensures .0 .len-order ∙ sym (start .pre .2 .marking .len-order)
+    let add-volume-kept = (let p : tie.After-add-volume = search in p .add-volume .kept) in
+    omega (arith, add-volume-kept)
 
 same-length-4 : tie.Need-same-length-4
 same-length-4 c =
-    let start : tie.Start = search in
-    let add-volume-ensures = (let p : tie.After-add-volume = search in p .add-volume .ensures) in
-    add-volume-ensures .0 .len-marks ∙ sym (start .pre .2 .marking .len-marks)
+    let add-volume-kept = (let p : tie.After-add-volume = search in p .add-volume .kept) in
+    omega (arith, add-volume-kept)
 
 returns-3 : tie.Need-returns-3
 returns-3 c =
@@ -88,15 +83,13 @@ sub-t24 c = omega arith
 
 same-length-5 : tie.Need-same-length-5
 same-length-5 c =
-    let start : tie.Start = search in
-    let add-volume-ensures = (let p : tie.After-add-volume = search in p .add-volume .ensures) in
-    add-volume-ensures .0 .len-order ∙ sym (start .pre .2 .marking .len-order)
+    let add-volume-kept = (let p : tie.After-add-volume = search in p .add-volume .kept) in
+    omega (arith, add-volume-kept)
 
 same-length-6 : tie.Need-same-length-6
 same-length-6 c =
-    let start : tie.Start = search in
-    let add-volume-ensures = (let p : tie.After-add-volume = search in p .add-volume .ensures) in
-    add-volume-ensures .0 .len-marks ∙ sym (start .pre .2 .marking .len-marks)
+    let add-volume-kept = (let p : tie.After-add-volume = search in p .add-volume .kept) in
+    omega (arith, add-volume-kept)
 
 returns-4 : tie.Need-returns-4
 returns-4 c =

@@ -22,7 +22,7 @@ mul-order c = search needs
 slice-write-order : tie.Need-slice-write-order
 slice-write-order c =
     let start : tie.Start = search in
-    omega (arith, start .pre .4 (c .if1 .left))
+    omega (arith, start .pre .2 (c .if1 .left))
 
 add-result : tie.Need-add-result
 add-result c = search needs

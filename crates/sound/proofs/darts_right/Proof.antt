@@ -1,9 +1,9 @@
 -- `sound::darts_right` meets its contract: the darts below i are right by themselves, and their nexts are marked, no two the same.
 -- Assumes nothing.
-use mathlib.Core.Path.{_≡_, refl}
+use mathlib.Core.Path.{_≡_, refl, _∙_}
 use native.Mathlib.Numerals.{add-one}
 use Prim.Native.Nat.{_-_}
-use lib.ListN.{getD}
+use lib.ListN.{length, getD, length-set}
 use borrow.Author.Tests.{not-true, not-false}
 use Rattle.model.specs.Image.{column}
 use Rattle.columns.specs.Columns.{before, dart-test}
@@ -16,6 +16,7 @@ use Rattle.sound.proofs.darts_right.Tie as tie
 abbrev Inv-loop : tie.InvT-loop
 Inv-loop block n seen₀ me counter last₀ i₀ seen last i =
     Passing (dart-test block n) (column block 1) n seen i × (last ≡ before (column block 0) i) × (me ≡ getD block 0 0) × (counter ≡ getD block 1 0)
+    × (length seen ≡ length seen₀)
 
 abbrev μ-loop : tie.MeasureT-loop
 μ-loop block n seen₀ me counter last₀ i₀ seen last i =
@@ -30,10 +31,15 @@ shared-slice-read-counter c = search needs
 loop-holds : tie.Need-loop-holds Inv-loop μ-loop
 loop-holds c =
     let start : tie.Start Inv-loop μ-loop = search in
-    (passing-none _ _ _ _ (start .pre .2), refl, refl, refl)
+    (passing-none _ _ _ _ (start .pre .2) (start .pre .3), refl, refl, refl, refl)
 
 place-at-requires : tie.Need-place-at-requires Inv-loop μ-loop
 place-at-requires c κs = search needs
+
+same-length : tie.Need-same-length Inv-loop μ-loop
+same-length c =
+    let loop-inv = (let p : tie.At-loop Inv-loop μ-loop = search in p .loop .inv) in
+    loop-inv .4
 
 returns : tie.Need-returns Inv-loop μ-loop
 returns c =
@@ -50,6 +56,11 @@ field-requires-2 c κs = search needs
 
 kind-right-requires : tie.Need-kind-right-requires Inv-loop μ-loop
 kind-right-requires c κs = search needs
+
+same-length-2 : tie.Need-same-length-2 Inv-loop μ-loop
+same-length-2 c =
+    let loop-inv = (let p : tie.At-loop Inv-loop μ-loop = search in p .loop .inv) in
+    loop-inv .4
 
 returns-2 : tie.Need-returns-2 Inv-loop μ-loop
 returns-2 c =
@@ -68,8 +79,8 @@ returns-2 c =
 field-requires-3 : tie.Need-field-requires-3 Inv-loop μ-loop
 field-requires-3 c κs = search needs
 
-element-copy-out-if3 : tie.Need-element-copy-out-if3 Inv-loop μ-loop
-element-copy-out-if3 c =
+slice-read-if3 : tie.Need-slice-read-if3 Inv-loop μ-loop
+slice-read-if3 c =
     let loop-inv = (let p : tie.At-loop Inv-loop μ-loop = search in p .loop .inv) in
     let place-at-ensures = (let p : tie.After-place-at Inv-loop μ-loop = search in p .place-at .ensures) in
     let if1-left = (let p : tie.Else1 Inv-loop μ-loop = search in p .if1 .left) in
@@ -77,12 +88,18 @@ element-copy-out-if3 c =
     let field2-ensures = (let p : tie.After-field2 Inv-loop μ-loop = search in p .field2 .ensures) in
     let kind-right-ensures = (let p : tie.After-kind-right Inv-loop μ-loop = search in p .kind-right .ensures) in
     let if2-left = (let p : tie.Else2 Inv-loop μ-loop = search in p .if2 .left) in
+    let field3-ensures = (let p : tie.After-field3 Inv-loop μ-loop = search in p .field3 .ensures) in
     let dart =
     kind-is _ _ _ place-at-ensures (loop-inv .1) (not-false _ if1-left) kind-right-ensures field-ensures field2-ensures
     (loop-inv .2) (loop-inv .3)
     in
     let lt = next-below _ _ _ dart (not-false _ if2-left) in
-    omega (arith, lt, c .field3 .ensures)
+    omega (arith, lt, field3-ensures, loop-inv .0 .marks .len)
+
+same-length-3 : tie.Need-same-length-3 Inv-loop μ-loop
+same-length-3 c =
+    let loop-inv = (let p : tie.At-loop Inv-loop μ-loop = search in p .loop .inv) in
+    loop-inv .4
 
 returns-3 : tie.Need-returns-3 Inv-loop μ-loop
 returns-3 c =
@@ -91,8 +108,8 @@ returns-3 c =
     let field3-ensures = (let p : tie.After-field3 Inv-loop μ-loop = search in p .field3 .ensures) in
     as-darts (mark-no (loop-inv .0) loop-test-taken field3-ensures refl (c .if3 .taken))
 
-element-write-seen : tie.Need-element-write-seen Inv-loop μ-loop
-element-write-seen c =
+slice-write-seen : tie.Need-slice-write-seen Inv-loop μ-loop
+slice-write-seen c =
     let loop-inv = (let p : tie.At-loop Inv-loop μ-loop = search in p .loop .inv) in
     let place-at-ensures = (let p : tie.After-place-at Inv-loop μ-loop = search in p .place-at .ensures) in
     let if1-left = (let p : tie.Else1 Inv-loop μ-loop = search in p .if1 .left) in
@@ -106,7 +123,7 @@ element-write-seen c =
     (loop-inv .2) (loop-inv .3)
     in
     let lt = next-below _ _ _ dart (not-false _ if2-left) in
-    omega (arith, lt, field3-ensures)
+    omega (arith, lt, field3-ensures, loop-inv .0 .marks .len)
 
 field-requires-4 : tie.Need-field-requires-4 Inv-loop μ-loop
 field-requires-4 c κs = search needs
@@ -119,6 +136,7 @@ loop-less c = search needs
 
 loop-again : tie.Need-loop-again Inv-loop μ-loop
 loop-again c =
+    let loop-seen = (let p : tie.At-loop Inv-loop μ-loop = search in p .loop .seen) in
     let loop-inv = (let p : tie.At-loop Inv-loop μ-loop = search in p .loop .inv) in
     let loop-test-taken = (let p : tie.In-loop Inv-loop μ-loop = search in p .loop-test .taken) in
     let place-at-ensures = (let p : tie.After-place-at Inv-loop μ-loop = search in p .place-at .ensures) in
@@ -134,11 +152,17 @@ loop-again c =
     (loop-inv .2) (loop-inv .3)
     in
     let lt = next-below _ _ _ dart (not-false _ if2-left) in (
-      passing-more (loop-inv .0) loop-test-taken dart (not-false _ if2-left) (omega (arith, lt)) field3-ensures if3-left,
+      passing-more (loop-inv .0) loop-test-taken dart (not-false _ if2-left) lt field3-ensures if3-left,
       rw add-one (c .field4 .ensures),
       loop-inv .2,
       loop-inv .3,
+      length-set loop-seen _ _ ∙ loop-inv .4,
     )
+
+same-length-4 : tie.Need-same-length-4 Inv-loop μ-loop
+same-length-4 c =
+    let loop-inv = (let p : tie.At-loop Inv-loop μ-loop = search in p .loop .inv) in
+    loop-inv .4
 
 returns-4 : tie.Need-returns-4 Inv-loop μ-loop
 returns-4 c =
@@ -155,17 +179,21 @@ darts-right-spec =
     shared-slice-read-counter
     loop-holds
     place-at-requires
+    same-length
     returns
     field-requires
     field-requires-2
     kind-right-requires
+    same-length-2
     returns-2
     field-requires-3
-    element-copy-out-if3
+    slice-read-if3
+    same-length-3
     returns-3
-    element-write-seen
+    slice-write-seen
     field-requires-4
     add-i
     loop-less
     loop-again
+    same-length-4
     returns-4)

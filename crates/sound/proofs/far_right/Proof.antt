@@ -1,6 +1,8 @@
 -- `sound::far_right` meets its contract: the darts below i are right with those that they link to, and the first c keys are their labels.
 -- Assumes nothing.
-use mathlib.Core.Path.{sym, _∙_}
+use mathlib.Core.Path.{_≡_, refl}
+use lib.ListN.{length}
+use native.Mathlib.Omega.{arith}
 use mathlib.Core.Bool.{false≢true}
 use Prim.Native.Nat.{_-_}
 use borrow.Author.Tests.{not-true, not-false}
@@ -12,7 +14,7 @@ use Rattle.sound.proofs.far_right.Tie as tie
 
 abbrev Inv-loop : tie.InvT-loop
 Inv-loop block n keys₀ c₀ i₀ keys c i =
-    Going (far-test block) n i × Gathering block n keys c i
+    Going (far-test block) n i × Gathering block n keys c i × (length keys ≡ length keys₀)
 
 abbrev μ-loop : tie.MeasureT-loop
 μ-loop block n keys₀ c₀ i₀ keys c i =
@@ -21,17 +23,22 @@ abbrev μ-loop : tie.MeasureT-loop
 loop-holds : tie.Need-loop-holds Inv-loop μ-loop
 loop-holds c =
     let start : tie.Start Inv-loop μ-loop = search in
-    (going-none _ _, gather-none _ _ _ (start .pre .3))
+    (going-none _ _, gather-none _ _ _ (start .pre .3), refl)
 
 far-at-requires : tie.Need-far-at-requires Inv-loop μ-loop
 far-at-requires c κs = search needs
+
+same-length : tie.Need-same-length Inv-loop μ-loop
+same-length c =
+    let loop-inv = (let p : tie.At-loop Inv-loop μ-loop = search in p .loop .inv) in
+    loop-inv .2
 
 returns : tie.Need-returns Inv-loop μ-loop
 returns c =
     let loop-inv = (let p : tie.At-loop Inv-loop μ-loop = search in p .loop .inv) in
     let loop-test-taken = (let p : tie.In-loop Inv-loop μ-loop = search in p .loop-test .taken) in
     let far-at-ensures = (let p : tie.After-far-at Inv-loop μ-loop = search in p .far-at .ensures) in
-    (going-no (loop-inv .0) loop-test-taken far-at-ensures (not-true _ (c .if1 .taken)), ((λ e. absurd (false≢true e)), loop-inv .1 .len))
+    (going-no (loop-inv .0) loop-test-taken far-at-ensures (not-true _ (c .if1 .taken)), λ e. absurd (false≢true e))
 
 put-label-requires : tie.Need-put-label-requires Inv-loop μ-loop
 put-label-requires c κs = search needs
@@ -44,20 +51,27 @@ loop-less c = search needs
 
 loop-again : tie.Need-loop-again Inv-loop μ-loop
 loop-again c =
-    let start : tie.Start Inv-loop μ-loop = search in
     let loop-inv = (let p : tie.At-loop Inv-loop μ-loop = search in p .loop .inv) in
     let loop-test-taken = (let p : tie.In-loop Inv-loop μ-loop = search in p .loop-test .taken) in
     let far-at-ensures = (let p : tie.After-far-at Inv-loop μ-loop = search in p .far-at .ensures) in
+    let put-label-ensures = (let p : tie.After-put-label Inv-loop μ-loop = search in p .put-label .ensures) in
+    let put-label-kept = (let p : tie.After-put-label Inv-loop μ-loop = search in p .put-label .kept) in
     let if1-left = (let p : tie.Else1 Inv-loop μ-loop = search in p .if1 .left) in (
       going-more (loop-inv .0) loop-test-taken far-at-ensures (not-false _ if1-left),
-      gather-more (loop-inv .1) loop-test-taken (start .pre .0) (c .put-label .ensures),
+      gather-more (loop-inv .1) loop-test-taken put-label-ensures,
+      omega (arith, put-label-kept, loop-inv .2),
     )
+
+same-length-2 : tie.Need-same-length-2 Inv-loop μ-loop
+same-length-2 c =
+    let loop-inv = (let p : tie.At-loop Inv-loop μ-loop = search in p .loop .inv) in
+    loop-inv .2
 
 returns-2 : tie.Need-returns-2 Inv-loop μ-loop
 returns-2 c =
     let loop-inv = (let p : tie.At-loop Inv-loop μ-loop = search in p .loop .inv) in
     let e = gather-end (loop-inv .1) (c .loop-test .left) in
-    (going-end (loop-inv .0) (c .loop-test .left), ((λ _. (e .0, e .2)), e .1))
+    (going-end (loop-inv .0) (c .loop-test .left), λ _. e)
 
 pub far-right-spec : {M : Type 1} → statement M
 far-right-spec =
@@ -67,9 +81,11 @@ far-right-spec =
     μ-loop
     loop-holds
     far-at-requires
+    same-length
     returns
     put-label-requires
     add-i
     loop-less
     loop-again
+    same-length-2
     returns-2)

@@ -1,10 +1,9 @@
 -- `sound::is_sound` meets its contract: a no to any part is a no, and a yes to all is a yes.
 -- Assumes nothing.
-use mathlib.Core.Path.{refl, ap, _∙_}
-use Prim.Native.Nat.{ℕ}
-use lib.ListN.{length-replicate}
+use mathlib.Core.Path.{ap, _∙_}
 use borrow.Author.Tests.{not-true, not-false}
 use Rattle.model.specs.Lists.{distinct}
+use Rattle.laws.proofs.Lists.{getD-zeros}
 use Rattle.sound.proofs.Whole.{too-short, header-few, no-header, no-zeros, no-darts, no-far, labels-last}
 use native.Mathlib.Omega.{arith}
 use borrow.Author.Needs.{needs}
@@ -61,17 +60,24 @@ returns-4 c =
     let zeros-ensures = (let p : tie.After-zeros = search in p .zeros .ensures) in
     no-zeros _ zeros-ensures (not-true _ (c .if4 .taken))
 
+slice-aggregate-darts-right : tie.Need-slice-aggregate-darts-right
+slice-aggregate-darts-right c = search needs
+
 darts-right-requires : tie.Need-darts-right-requires
 darts-right-requires c κs =
     let if3-left = (let p : tie.Else3 = search in p .if3 .left) in
     let header-right-ensures = (let p : tie.After-header-right = search in p .header-right .ensures) in
     let if2-left = (let p : tie.Else2 = search in p .if2 .left) in
-    (header-few _ header-right-ensures (not-false _ if2-left), omega (arith, if3-left), refl)
+    let few = header-few _ header-right-ensures (not-false _ if2-left) in
+    (few, omega (arith, if3-left), few, getD-zeros 4096)
 
 returns-5 : tie.Need-returns-5
 returns-5 c =
     let darts-right-ensures = (let p : tie.After-darts-right = search in p .darts-right .ensures) in
     no-darts _ darts-right-ensures (not-true _ (c .if5 .taken))
+
+slice-aggregate-far-right : tie.Need-slice-aggregate-far-right
+slice-aggregate-far-right c = search needs
 
 far-right-requires : tie.Need-far-right-requires
 far-right-requires c κs =
@@ -80,7 +86,8 @@ far-right-requires c κs =
     let if2-left = (let p : tie.Else2 = search in p .if2 .left) in
     let darts-right-ensures = (let p : tie.After-darts-right = search in p .darts-right .ensures) in
     let if5-left = (let p : tie.Else5 = search in p .if5 .left) in
-    (header-few _ header-right-ensures (not-false _ if2-left), omega (arith, if3-left), darts-right-ensures .0 (not-false _ if5-left), length-replicate {A = ℕ} 4096 0)
+    let few = header-few _ header-right-ensures (not-false _ if2-left) in
+    (few, omega (arith, if3-left), darts-right-ensures .0 (not-false _ if5-left), few)
 
 returns-6 : tie.Need-returns-6
 returns-6 c =
@@ -96,8 +103,9 @@ apart-requires c κs =
     let if2-left = (let p : tie.Else2 = search in p .if2 .left) in
     let far-right-ensures = (let p : tie.After-far-right = search in p .far-right .ensures) in
     let if6-left = (let p : tie.Else6 = search in p .if6 .left) in
-    let k = far-right-ensures .1 in
-    (omega (arith, k .0 (not-false _ if6-left) .0, header-few _ header-right-ensures (not-false _ if2-left)), k .1)
+    let far-right-kept = (let p : tie.After-far-right = search in p .far-right .kept) in
+    let few = header-few _ header-right-ensures (not-false _ if2-left) in
+    (omega (arith, far-right-ensures .1 (not-false _ if6-left) .0, few, far-right-kept), omega (arith, far-right-kept))
 
 returns-7 : tie.Need-returns-7
 returns-7 c =
@@ -113,7 +121,7 @@ returns-7 c =
     let apart-ensures = (let p : tie.After-apart = search in p .apart .ensures) in
     labels-last _ (omega (arith, if3-left)) header-right-ensures (not-false _ if2-left) zeros-ensures (not-false _ if4-left) darts-right-ensures
     (not-false _ if5-left) (far-right-ensures .0) (not-false _ if6-left)
-    (apart-ensures ∙ ap distinct (far-right-ensures .1 .0 (not-false _ if6-left) .1))
+    (apart-ensures ∙ ap distinct (far-right-ensures .1 (not-false _ if6-left) .1))
 
 pub is-sound-spec : {M : Type 1} → statement M
 is-sound-spec =
@@ -130,8 +138,10 @@ is-sound-spec =
     add-zeros
     zeros-requires
     returns-4
+    slice-aggregate-darts-right
     darts-right-requires
     returns-5
+    slice-aggregate-far-right
     far-right-requires
     returns-6
     slice-aggregate-apart

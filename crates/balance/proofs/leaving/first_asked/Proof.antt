@@ -1,12 +1,13 @@
 -- `balance::leaving::first_asked` meets its contract. The loop's invariant: the volumes before i may not go, and nothing is marked.
 -- The measure is what is left of the places. Assumes nothing.
 use Prim.Native.Nat.{ℕ, _-_}
-use mathlib.Core.Path.{_≡_, refl, sym, ap, _∙_}
-use lib.ListN.{length}
+use mathlib.Core.Path.{refl, sym, ap, _∙_}
+use lib.ListN.{length-set}
+use Rattle.model.specs.Image.{count-in}
 use Rattle.cells.proofs.Sited.{sited}
 use Rattle.balance.specs.Moves.{Asking, can-leave, at}
 use Rattle.balance.specs.declared.leaving.Candidate.the-variants.{Volume}
-use Rattle.balance.proofs.Strikes.{Trying, trying-start, trying-none, trying-large, trying-strike, tried-found, tried-all}
+use Rattle.balance.proofs.Strikes.{Trying, trying-start, trying-none, trying-large, trying-strike, tried-found, tried-all, SameLengths}
 use native.Mathlib.Omega.{arith}
 use borrow.Author.Needs.{needs}
 use Rattle.balance.proofs.leaving.first_asked.Statement.{statement}
@@ -14,7 +15,8 @@ use Rattle.balance.proofs.leaving.first_asked.Tie as tie
 
 abbrev Inv-loop : tie.InvT-loop
 Inv-loop block to left sizes₀ marks₀ order₀ starts₀ seen₀ numbers₀ firsts₀ stamps₀ n i₀ sizes marks order starts seen numbers firsts stamps i =
-    Trying (at sizes₀) block left sizes i × Asking marks order starts seen numbers firsts stamps
+    Trying (at sizes₀) block left sizes i × Asking (count-in block) marks order starts seen numbers firsts stamps
+    × SameLengths sizes marks order starts seen numbers firsts stamps sizes₀ marks₀ order₀ starts₀ seen₀ numbers₀ firsts₀ stamps₀
 
 abbrev μ-loop : tie.MeasureT-loop
 μ-loop block to left sizes₀ marks₀ order₀ starts₀ seen₀ numbers₀ firsts₀ stamps₀ n i₀ sizes marks order starts seen numbers firsts stamps i =
@@ -27,8 +29,11 @@ shared-slice-read-n c =
 
 loop-holds : tie.Need-loop-holds Inv-loop μ-loop
 loop-holds c =
-    let start : tie.Start Inv-loop μ-loop = search in
-    (trying-start _ _ _ (start .pre .0 .3), start .pre .1)
+    let start : tie.Start Inv-loop μ-loop = search in (
+      trying-start _ _ _ (start .pre .0 .3),
+      start .pre .1,
+      record { sizes = refl; marks = refl; order = refl; starts = refl; seen = refl; numbers = refl; firsts = refl; stamps = refl },
+    )
 
 add-i : tie.Need-add-i Inv-loop μ-loop
 add-i c =
@@ -42,10 +47,9 @@ mul-s c =
 
 slice-read-s : tie.Need-slice-read-s Inv-loop μ-loop
 slice-read-s c =
-    let start : tie.Start Inv-loop μ-loop = search in
     let loop-inv = (let p : tie.At-loop Inv-loop μ-loop = search in p .loop .inv) in
     let loop-test-taken = (let p : tie.In-loop Inv-loop μ-loop = search in p .loop-test .taken) in
-    omega (arith, loop-test-taken, sited (start .args .block .now) (start .pre .0 .0) .linked .few, loop-inv .0 .untried .len)
+    omega (arith, loop-test-taken, loop-inv .0 .untried .len)
 
 loop-less : tie.Need-loop-less Inv-loop μ-loop
 loop-less c = omega arith
@@ -54,7 +58,7 @@ loop-again : tie.Need-loop-again Inv-loop μ-loop
 loop-again c =
     let loop-inv = (let p : tie.At-loop Inv-loop μ-loop = search in p .loop .inv) in
     let loop-test-taken = (let p : tie.In-loop Inv-loop μ-loop = search in p .loop-test .taken) in
-    (trying-none (loop-inv .0) loop-test-taken refl (c .if1 .taken), loop-inv .1)
+    (trying-none (loop-inv .0) loop-test-taken refl (c .if1 .taken), loop-inv .1, loop-inv .2)
 
 loop-less-2 : tie.Need-loop-less-2 Inv-loop μ-loop
 loop-less-2 c = omega arith
@@ -63,7 +67,7 @@ loop-again-2 : tie.Need-loop-again-2 Inv-loop μ-loop
 loop-again-2 c =
     let loop-inv = (let p : tie.At-loop Inv-loop μ-loop = search in p .loop .inv) in
     let loop-test-taken = (let p : tie.In-loop Inv-loop μ-loop = search in p .loop-test .taken) in
-    (trying-large (loop-inv .0) loop-test-taken refl (c .if2 .taken), loop-inv .1)
+    (trying-large (loop-inv .0) loop-test-taken refl (c .if2 .taken), loop-inv .1, loop-inv .2)
 
 field-requires : tie.Need-field-requires Inv-loop μ-loop
 field-requires c κs =
@@ -83,44 +87,35 @@ same-length : tie.Need-same-length Inv-loop μ-loop
 same-length c =
     let c : tie.After-may-leave-arg2 Inv-loop μ-loop = search in
     let loop-inv = (let p : tie.At-loop Inv-loop μ-loop = search in p .loop .inv) in
-    let start : tie.Start Inv-loop μ-loop = search in
-    loop-inv .0 .untried .len ∙ sym (start .pre .0 .3)
+    loop-inv .2 .sizes
 
 same-length-2 : tie.Need-same-length-2 Inv-loop μ-loop
 same-length-2 c =
     let marks-given = (let p : tie.After-marks Inv-loop μ-loop = search in p .marks .given) in
     let c : tie.After-marks Inv-loop μ-loop = search in
     let loop-inv = (let p : tie.At-loop Inv-loop μ-loop = search in p .loop .inv) in
-    let c : tie.At-loop Inv-loop μ-loop = search in
-    let start : tie.Start Inv-loop μ-loop = search in
-    marks-given ∙ loop-inv .1 .marks-size ∙ sym (start .pre .1 .marks-size)
+    marks-given ∙ loop-inv .2 .marks
 
 same-length-3 : tie.Need-same-length-3 Inv-loop μ-loop
 same-length-3 c =
     let order-given = (let p : tie.After-order Inv-loop μ-loop = search in p .order .given) in
     let c : tie.After-order Inv-loop μ-loop = search in
     let loop-inv = (let p : tie.At-loop Inv-loop μ-loop = search in p .loop .inv) in
-    let c : tie.At-loop Inv-loop μ-loop = search in
-    let start : tie.Start Inv-loop μ-loop = search in
-    order-given ∙ loop-inv .1 .order-size ∙ sym (start .pre .1 .order-size)
+    order-given ∙ loop-inv .2 .order
 
 same-length-4 : tie.Need-same-length-4 Inv-loop μ-loop
 same-length-4 c =
     let starts-given = (let p : tie.After-starts Inv-loop μ-loop = search in p .starts .given) in
     let c : tie.After-starts Inv-loop μ-loop = search in
     let loop-inv = (let p : tie.At-loop Inv-loop μ-loop = search in p .loop .inv) in
-    let c : tie.At-loop Inv-loop μ-loop = search in
-    let start : tie.Start Inv-loop μ-loop = search in
-    starts-given ∙ loop-inv .1 .starts-size ∙ sym (start .pre .1 .starts-size)
+    starts-given ∙ loop-inv .2 .starts
 
 same-length-5 : tie.Need-same-length-5 Inv-loop μ-loop
 same-length-5 c =
     let seen-given = (let p : tie.After-seen Inv-loop μ-loop = search in p .seen .given) in
     let c : tie.After-seen Inv-loop μ-loop = search in
     let loop-inv = (let p : tie.At-loop Inv-loop μ-loop = search in p .loop .inv) in
-    let c : tie.At-loop Inv-loop μ-loop = search in
-    let start : tie.Start Inv-loop μ-loop = search in
-    seen-given ∙ loop-inv .1 .seen-size ∙ sym (start .pre .1 .seen-size)
+    seen-given ∙ loop-inv .2 .seen
 
 same-length-6 : tie.Need-same-length-6 Inv-loop μ-loop
 same-length-6 c =
@@ -128,8 +123,7 @@ same-length-6 c =
     let c : tie.After-numbers Inv-loop μ-loop = search in
     let c : tie.In-loop Inv-loop μ-loop = search in
     let loop-inv = (let p : tie.At-loop Inv-loop μ-loop = search in p .loop .inv) in
-    let start : tie.Start Inv-loop μ-loop = search in
-    numbers-given ∙ loop-inv .1 .numbers-size ∙ sym (start .pre .1 .numbers-size)
+    numbers-given ∙ loop-inv .2 .numbers
 
 same-length-7 : tie.Need-same-length-7 Inv-loop μ-loop
 same-length-7 c =
@@ -137,8 +131,7 @@ same-length-7 c =
     let c : tie.After-firsts Inv-loop μ-loop = search in
     let c : tie.Else1 Inv-loop μ-loop = search in
     let loop-inv = (let p : tie.At-loop Inv-loop μ-loop = search in p .loop .inv) in
-    let start : tie.Start Inv-loop μ-loop = search in
-    firsts-given ∙ loop-inv .1 .firsts-size ∙ sym (start .pre .1 .firsts-size)
+    firsts-given ∙ loop-inv .2 .firsts
 
 same-length-8 : tie.Need-same-length-8 Inv-loop μ-loop
 same-length-8 c =
@@ -146,8 +139,7 @@ same-length-8 c =
     let c : tie.After-stamps Inv-loop μ-loop = search in
     let c : tie.After-field Inv-loop μ-loop = search in
     let loop-inv = (let p : tie.At-loop Inv-loop μ-loop = search in p .loop .inv) in
-    let start : tie.Start Inv-loop μ-loop = search in
-    stamps-given ∙ loop-inv .1 .stamps-size ∙ sym (start .pre .1 .stamps-size)
+    stamps-given ∙ loop-inv .2 .stamps
 
 returns : tie.Need-returns Inv-loop μ-loop
 returns c =
@@ -177,8 +169,7 @@ slice-write-sizes c =
     let c : tie.After-may-leave-arg2 Inv-loop μ-loop = search in
     let loop-test-taken = (let p : tie.In-loop Inv-loop μ-loop = search in p .loop-test .taken) in
     let loop-inv = (let p : tie.At-loop Inv-loop μ-loop = search in p .loop .inv) in
-    let start : tie.Start Inv-loop μ-loop = search in
-    omega (arith, loop-test-taken, sited (start .args .block .now) (start .pre .0 .0) .linked .few, loop-inv .0 .untried .len)
+    omega (arith, loop-test-taken, loop-inv .0 .untried .len)
 
 loop-less-3 : tie.Need-loop-less-3 Inv-loop μ-loop
 loop-less-3 c = omega arith
@@ -190,10 +181,22 @@ loop-again-3 c =
     let loop-inv = (let c : tie.After-may-leave Inv-loop μ-loop = search in let p : tie.At-loop Inv-loop μ-loop = search in p .loop .inv) in
     let loop-test-taken = (let c : tie.After-may-leave Inv-loop μ-loop = search in let p : tie.In-loop Inv-loop μ-loop = search in p .loop-test .taken) in
     let field-ensures = (let c : tie.After-may-leave Inv-loop μ-loop = search in let p : tie.After-field Inv-loop μ-loop = search in p .field .ensures) in
+    let loop-sizes = (let c : tie.After-may-leave Inv-loop μ-loop = search in let p : tie.At-loop Inv-loop μ-loop = search in p .loop .sizes) in
+    let may-leave-kept = (let p : tie.After-may-leave Inv-loop μ-loop = search in p .may-leave .kept) in
     let may-leave-ensures = (let p : tie.After-may-leave Inv-loop μ-loop = search in p .may-leave .ensures) in (
-      trying-strike (loop-inv .0) (sited block (start .pre .0 .0) .linked .few) loop-test-taken
+      trying-strike (loop-inv .0) loop-test-taken
           (ap (can-leave block) (sym field-ensures) ∙ sym (may-leave-ensures .0) ∙ c .if3 .left),
       may-leave-ensures .1 (c .if3 .left),
+      record {
+        sizes = length-set loop-sizes _ _ ∙ loop-inv .2 .sizes;
+        marks = omega (arith, may-leave-kept, loop-inv .2 .marks);
+        order = omega (arith, may-leave-kept, loop-inv .2 .order);
+        starts = omega (arith, may-leave-kept, loop-inv .2 .starts);
+        seen = omega (arith, may-leave-kept, loop-inv .2 .seen);
+        numbers = omega (arith, may-leave-kept, loop-inv .2 .numbers);
+        firsts = omega (arith, may-leave-kept, loop-inv .2 .firsts);
+        stamps = omega (arith, may-leave-kept, loop-inv .2 .stamps);
+      },
     )
 
 same-length-9 : tie.Need-same-length-9 Inv-loop μ-loop

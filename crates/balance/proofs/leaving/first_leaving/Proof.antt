@@ -2,7 +2,9 @@
 -- Assumes nothing.
 use mathlib.Core.Path.{refl}
 use Rattle.model.specs.Values.{room}
-use Rattle.cells.proofs.Resets.{zeros-clear}
+use native.Mathlib.Omega.{arith}
+use Rattle.cells.proofs.Resets.{zeros-clear, zeros-long}
+use Rattle.cells.proofs.Sited.{sited}
 use borrow.Author.Needs.{needs}
 use Rattle.balance.proofs.leaving.first_leaving.Statement.{statement}
 use Rattle.balance.proofs.leaving.first_leaving.Tie as tie
@@ -30,18 +32,19 @@ slice-aggregate-first-asked-7 c = search needs
 
 first-asked-requires : tie.Need-first-asked-requires
 first-asked-requires c κs =
-    let start : tie.Start = search in (
+    let start : tie.Start = search in
+    let few = sited (start .args .block .now) (start .pre .0) .linked .few in (
       start .pre,
       record {
-        marks-size = refl;
+        marks-size = zeros-long _ room refl few;
         unmarked = zeros-clear room refl;
-        order-size = refl;
-        starts-size = refl;
-        seen-size = refl;
+        order-size = zeros-long _ room refl few;
+        starts-size = zeros-long _ room refl few;
+        seen-size = zeros-long _ room refl few;
         unseen = zeros-clear room refl;
-        numbers-size = refl;
-        firsts-size = refl;
-        stamps-size = refl;
+        numbers-size = zeros-long _ room refl few;
+        firsts-size = zeros-long _ room refl few;
+        stamps-size = zeros-long _ 512 refl (omega arith);
       },
     )
 

@@ -4,7 +4,6 @@ use mathlib.Core.Path.{ap, _∙_}
 use native.Mathlib.Omega.{arith}
 use Rattle.model.specs.Values.{Limits}
 use Rattle.departure.proofs.Told.{departs-told, refused-told, forgotten-told}
-use Rattle.cells.proofs.Sited.{sited}
 use Rattle.balance.proofs.Strikes.{by-rack, leaves-yes, leaves-no}
 use borrow.Author.Needs.{needs}
 use Rattle.balance.proofs.leaving.may_leave.Statement.{statement}
@@ -18,15 +17,11 @@ leaves-requires c κs =
     let rack-ensures = (let p : tie.After-rack = search in p .rack .ensures) in
     let start : tie.Start = search in
     let a = start .pre .1 in
-    let few = sited (start .args .block .now) (start .pre .0 .0) .linked .few in
     let volume = ap (λ (l : Limits). l .volume-darts) rack-ensures in (
       (start .pre .0 .0, omega (arith, volume)),
       (
-        (omega (arith, few, a .marks-size), a .unmarked, omega (arith, few, a .seen-size), a .unseen),
-        (
-          (omega (arith, few, a .order-size), omega (arith, few, a .starts-size), omega (arith, few, a .numbers-size)),
-          (omega (arith, few, a .firsts-size), omega (arith, volume, a .stamps-size)),
-        ),
+        (a .marks-size, a .unmarked, a .seen-size, a .unseen),
+        ((a .order-size, a .starts-size, a .numbers-size), (a .firsts-size, omega (arith, volume, a .stamps-size))),
       ),
     )
 

@@ -6,6 +6,9 @@ use borrow.Author.Needs.{needs}
 use Rattle.sound.proofs.questions.labels_differ.Statement.{statement}
 use Rattle.sound.proofs.questions.labels_differ.Tie as tie
 
+slice-aggregate-gather : tie.Need-slice-aggregate-gather
+slice-aggregate-gather c = search needs
+
 gather-requires : tie.Need-gather-requires
 gather-requires c κs = search needs
 
@@ -19,8 +22,8 @@ returns : tie.Need-returns
 returns c =
     let gather-ensures = (let p : tie.After-gather = search in p .gather .ensures) in
     let apart-ensures = (let p : tie.After-apart = search in p .apart .ensures) in
-    apart-ensures ∙ ap distinct (gather-ensures .2)
+    apart-ensures ∙ ap distinct (gather-ensures .1)
 
 pub labels-differ-spec : {M : Type 1} → statement M
 labels-differ-spec =
-    tie.close (tie.spec gather-requires slice-aggregate-apart apart-requires returns)
+    tie.close (tie.spec slice-aggregate-gather gather-requires slice-aggregate-apart apart-requires returns)

@@ -1,7 +1,8 @@
 -- `sound::questions::links_pass` meets its contract: the links below i are right, and the nexts are marked, no two the same.
 -- Assumes nothing.
-use mathlib.Core.Path.{refl}
+use mathlib.Core.Path.{_≡_, refl, _∙_}
 use Prim.Native.Nat.{_-_}
+use lib.ListN.{length, length-set}
 use borrow.Author.Tests.{not-true, not-false}
 use Rattle.model.specs.Image.{column}
 use Rattle.columns.specs.Columns.{link-test}
@@ -13,7 +14,7 @@ use Rattle.sound.proofs.questions.links_pass.Tie as tie
 
 abbrev Inv-loop : tie.InvT-loop
 Inv-loop block n seen₀ i₀ seen i =
-    Passing (link-test block n) (column block 1) n seen i
+    Passing (link-test block n) (column block 1) n seen i × (length seen ≡ length seen₀)
 
 abbrev μ-loop : tie.MeasureT-loop
 μ-loop block n seen₀ i₀ seen i =
@@ -22,42 +23,55 @@ abbrev μ-loop : tie.MeasureT-loop
 loop-holds : tie.Need-loop-holds Inv-loop μ-loop
 loop-holds c =
     let start : tie.Start Inv-loop μ-loop = search in
-    passing-none _ _ _ _ (start .pre .2)
+    (passing-none _ _ _ _ (start .pre .2) (start .pre .3), refl)
 
 link-at-requires : tie.Need-link-at-requires Inv-loop μ-loop
 link-at-requires c κs = search needs
+
+same-length : tie.Need-same-length Inv-loop μ-loop
+same-length c =
+    let loop-inv = (let p : tie.At-loop Inv-loop μ-loop = search in p .loop .inv) in
+    loop-inv .1
 
 returns : tie.Need-returns Inv-loop μ-loop
 returns c =
     let loop-inv = (let p : tie.At-loop Inv-loop μ-loop = search in p .loop .inv) in
     let loop-test-taken = (let p : tie.In-loop Inv-loop μ-loop = search in p .loop-test .taken) in
     let link-at-ensures = (let p : tie.After-link-at Inv-loop μ-loop = search in p .link-at .ensures) in
-    as-links (test-no loop-inv loop-test-taken link-at-ensures (not-true _ (c .if1 .taken)))
+    as-links (test-no (loop-inv .0) loop-test-taken link-at-ensures (not-true _ (c .if1 .taken)))
 
 field-requires : tie.Need-field-requires Inv-loop μ-loop
 field-requires c κs = search needs
 
-element-copy-out-if2 : tie.Need-element-copy-out-if2 Inv-loop μ-loop
-element-copy-out-if2 c =
+slice-read-if2 : tie.Need-slice-read-if2 Inv-loop μ-loop
+slice-read-if2 c =
+    let loop-inv = (let p : tie.At-loop Inv-loop μ-loop = search in p .loop .inv) in
     let link-at-ensures = (let p : tie.After-link-at Inv-loop μ-loop = search in p .link-at .ensures) in
     let if1-left = (let p : tie.Else1 Inv-loop μ-loop = search in p .if1 .left) in
+    let field-ensures = (let p : tie.After-field Inv-loop μ-loop = search in p .field .ensures) in
     let lt = link-below _ _ _ link-at-ensures (not-false _ if1-left) in
-    omega (arith, lt, c .field .ensures)
+    omega (arith, lt, field-ensures, loop-inv .0 .marks .len)
+
+same-length-2 : tie.Need-same-length-2 Inv-loop μ-loop
+same-length-2 c =
+    let loop-inv = (let p : tie.At-loop Inv-loop μ-loop = search in p .loop .inv) in
+    loop-inv .1
 
 returns-2 : tie.Need-returns-2 Inv-loop μ-loop
 returns-2 c =
     let loop-inv = (let p : tie.At-loop Inv-loop μ-loop = search in p .loop .inv) in
     let loop-test-taken = (let p : tie.In-loop Inv-loop μ-loop = search in p .loop-test .taken) in
     let field-ensures = (let p : tie.After-field Inv-loop μ-loop = search in p .field .ensures) in
-    as-links (mark-no loop-inv loop-test-taken field-ensures refl (c .if2 .taken))
+    as-links (mark-no (loop-inv .0) loop-test-taken field-ensures refl (c .if2 .taken))
 
-element-write-seen : tie.Need-element-write-seen Inv-loop μ-loop
-element-write-seen c =
+slice-write-seen : tie.Need-slice-write-seen Inv-loop μ-loop
+slice-write-seen c =
+    let loop-inv = (let p : tie.At-loop Inv-loop μ-loop = search in p .loop .inv) in
     let link-at-ensures = (let p : tie.After-link-at Inv-loop μ-loop = search in p .link-at .ensures) in
     let if1-left = (let p : tie.Else1 Inv-loop μ-loop = search in p .if1 .left) in
     let field-ensures = (let p : tie.After-field Inv-loop μ-loop = search in p .field .ensures) in
     let lt = link-below _ _ _ link-at-ensures (not-false _ if1-left) in
-    omega (arith, lt, field-ensures)
+    omega (arith, lt, field-ensures, loop-inv .0 .marks .len)
 
 add-i : tie.Need-add-i Inv-loop μ-loop
 add-i c = search needs
@@ -73,12 +87,18 @@ loop-again c =
     let if1-left = (let p : tie.Else1 Inv-loop μ-loop = search in p .if1 .left) in
     let field-ensures = (let p : tie.After-field Inv-loop μ-loop = search in p .field .ensures) in
     let lt = link-below _ _ _ link-at-ensures (not-false _ if1-left) in
-    passing-more loop-inv loop-test-taken link-at-ensures (not-false _ if1-left) (omega (arith, lt)) field-ensures (c .if2 .left)
+    let loop-seen = (let p : tie.At-loop Inv-loop μ-loop = search in p .loop .seen) in
+    (passing-more (loop-inv .0) loop-test-taken link-at-ensures (not-false _ if1-left) lt field-ensures (c .if2 .left), length-set loop-seen _ _ ∙ loop-inv .1)
+
+same-length-3 : tie.Need-same-length-3 Inv-loop μ-loop
+same-length-3 c =
+    let loop-inv = (let p : tie.At-loop Inv-loop μ-loop = search in p .loop .inv) in
+    loop-inv .1
 
 returns-3 : tie.Need-returns-3 Inv-loop μ-loop
 returns-3 c =
     let loop-inv = (let p : tie.At-loop Inv-loop μ-loop = search in p .loop .inv) in
-    as-links (passing-end loop-inv (c .loop-test .left))
+    as-links (passing-end (loop-inv .0) (c .loop-test .left))
 
 pub links-pass-spec : {M : Type 1} → statement M
 links-pass-spec =
@@ -88,12 +108,15 @@ links-pass-spec =
     μ-loop
     loop-holds
     link-at-requires
+    same-length
     returns
     field-requires
-    element-copy-out-if2
+    slice-read-if2
+    same-length-2
     returns-2
-    element-write-seen
+    slice-write-seen
     add-i
     loop-less
     loop-again
+    same-length-3
     returns-3)

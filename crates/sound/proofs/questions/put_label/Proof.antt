@@ -23,19 +23,23 @@ field-requires-2 c κs = search needs
 mul-keys : tie.Need-mul-keys
 mul-keys c = search needs
 
-element-write-keys : tie.Need-element-write-keys
-element-write-keys c = search needs
+slice-write-keys : tie.Need-slice-write-keys
+slice-write-keys c = search needs
 
 add-result : tie.Need-add-result
 add-result c = search needs
+
+same-length : tie.Need-same-length
+same-length c = search needs
 
 returns-2 : tie.Need-returns-2
 returns-2 c =
     let start : tie.Start = search in
     let field-ensures = (let p : tie.After-field = search in p .field .ensures) in
     let if1-left = (let p : tie.Else1 = search in p .if1 .left) in
+    let field2-ensures = (let p : tie.After-field2 = search in p .field2 .ensures) in
     let e = lt-ltb 1 (column (start .args .block .now) 3 (start .args .i)) (omega (arith, if1-left, field-ensures)) in
-    record { keys-are = rw (e, c .field2 .ensures) refl; count-is = rw e refl }
+    record { keys-are = rw (e, field2-ensures) refl; count-is = rw e refl }
 
 pub put-label-spec : {M : Type 1} → statement M
 put-label-spec =
@@ -45,6 +49,7 @@ put-label-spec =
     returns
     field-requires-2
     mul-keys
-    element-write-keys
+    slice-write-keys
     add-result
+    same-length
     returns-2)

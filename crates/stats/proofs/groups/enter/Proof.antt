@@ -28,7 +28,7 @@ mul-order c = search needs
 slice-write-order : tie.Need-slice-write-order
 slice-write-order c =
     let start : tie.Start = search in
-    omega (arith, start .pre .1 .2 (c .if1 .left))
+    omega (arith, start .pre .3 (c .if1 .left))
 
 add-result : tie.Need-add-result
 add-result c = search needs

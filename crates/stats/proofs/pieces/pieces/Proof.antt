@@ -1,9 +1,8 @@
 -- `stats::pieces::pieces` meets its contract: the groups of the block's darts, third links counted, are its pieces. Assumes nothing.
 use mathlib.Core.Path.{refl, _∙_}
 use mathlib.Core.Bool.{true}
-use Prim.Native.Nat.{ℕ}
-use lib.ListN.{length-replicate}
 use Rattle.model.specs.Values.{room}
+use Rattle.cells.proofs.Resets.{zeros-clear, zeros-long}
 use Rattle.stats.proofs.GroupLaws.{joined, group-count}
 use borrow.Author.Needs.{needs}
 use Rattle.stats.proofs.pieces.pieces.Statement.{statement}
@@ -21,7 +20,9 @@ slice-aggregate-number-3 c = search needs
 number-requires : tie.Need-number-requires
 number-requires c κs =
     let start : tie.Start = search in
-    (joined (start .args .block .now) (start .pre), refl, length-replicate {A = ℕ} room 0, length-replicate {A = ℕ} room 0)
+    let j = joined (start .args .block .now) (start .pre) in
+    let few = j .linked .few in
+    ((j, zeros-long _ room refl few, zeros-clear room refl), (zeros-long _ room refl few, zeros-long _ room refl few))
 
 returns : tie.Need-returns
 returns c =

@@ -1,9 +1,8 @@
 -- `stats::rows::cell_figures` meets its contract. Assumes nothing.
 use mathlib.Core.Path.{refl, sym, _∙_}
-use Prim.Native.Nat.{ℕ}
-use lib.ListN.{length-replicate}
 use borrow.Author.Tests.{not-true, not-false}
 use Rattle.model.specs.Values.{room}
+use Rattle.cells.proofs.Resets.{zeros-clear, zeros-long}
 use Rattle.cells.proofs.Sited.{sited}
 use Rattle.stats.proofs.GroupLaws.{joined}
 use Rattle.stats.proofs.RowLaws.{count-few, count-is, told-unsound, told-short, told-cells}
@@ -35,7 +34,9 @@ number-requires c κs =
     let start : tie.Start = search in
     let is-sound-known = (let p : tie.After-is-sound = search in p .is-sound) in
     let if1-known = (let p : tie.Else1 = search in p .if1) in
-    (joined (start .args .block .now) (sym (is-sound-known .ensures) ∙ not-false _ (if1-known .left)), refl, length-replicate {A = ℕ} room 0, length-replicate {A = ℕ} room 0)
+    let j = joined (start .args .block .now) (sym (is-sound-known .ensures) ∙ not-false _ (if1-known .left)) in
+    let few = j .linked .few in
+    ((j, zeros-long _ room refl few, zeros-clear room refl), (zeros-long _ room refl few, zeros-long _ room refl few))
 
 mul-if2 : tie.Need-mul-if2
 mul-if2 c =

@@ -21,7 +21,7 @@ loop-holds c =
 first-word-requires : tie.Need-first-word-requires Inv-loop μ-loop
 first-word-requires c κs =
     let start : tie.Start Inv-loop μ-loop = search in
-    (omega arith, start .pre .0 .1, start .pre .1 _ (c .loop-test .taken))
+    (omega arith, omega arith, start .pre .1 _ (c .loop-test .taken))
 
 mul-rows : tie.Need-mul-rows Inv-loop μ-loop
 mul-rows c =

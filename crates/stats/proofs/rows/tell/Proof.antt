@@ -20,7 +20,7 @@ start-rows-requires c κs =
     let g = start .pre .0 .1 in
     let linked = sited m ok .linked in
     let few = count-few m ok g in
-    ((omega (arith, linked .few), g .len-f, start .pre .1), λ i h. omega (arith, first-below m ok g (i / 19) (omega arith), linked .size))
+    ((omega (arith, linked .few), omega (arith, few, g .len-f), start .pre .1), λ i h. omega (arith, first-below m ok g (i / 19) (omega arith), linked .size))
 
 count-darts-requires : tie.Need-count-darts-requires
 count-darts-requires c κs =
