@@ -34,7 +34,7 @@ use Rattle.groups.specs.declared.Read.{Read as Answer}
 use Rattle.inbox.specs.Inbox.{most, Took, PassSaid, Passes, Sized}
 use Rattle.inbox.proofs.Taking.{took-group, such-took, pair-took, both-none, both-half, both-took, as-none, as-took, SoFar, so-far-start, so-far-more, so-far-stop, so-far-end}
 use Rattle.inbox.proofs.Passing.{no-label, took-label, size-there, part4-pass}
-use Rattle.memory.proofs.Labels.{code-label}
+use Rattle.laws.proofs.Labels.{code-in}
 use Rattle.parts.specs.declared.entries.Paired.{Paired}
 use Rattle.parts.specs.declared.entries.Paired.the-variants as paired
 use Rattle.parts.specs.Entries.{EntriesRead, Pair, pair, first, index, first-layout}
@@ -120,7 +120,7 @@ unfolding part2 part3
 took-pair paired.Second {a = a} {i = i} e d = record {
   pair-there = record { label = label-in a; index = i };
   took = as-took _ _ _ (both-took label group (took-label e) (took-group d));
-  first-is = sym (code-label a);
+  first-is = sym (code-in a);
   index-is = refl;
 }
 took-pair paired.Third {a = a} {i = i} e d = record {
