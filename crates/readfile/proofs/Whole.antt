@@ -123,7 +123,8 @@ module _ (lim : Limits) where
         unfolding climbing such-that times
         by-climbing h w f = go (get-all a-dart n (drop c s)) refl ∙ ap (λ (v : Read (List Dart)). at-end (then v (λ ds rest. some (block-of ds, rest)))) f
           where
-            tested : (ds : List Dart) (rest : List ℕ) → length ds ≡ n → when (leb (length ds) (lim .block-darts) && all (λ d. leb 1 (d .serial)) ds && ascending (serials ds)) (some (block-of ds, rest))
+            tested : (ds : List Dart) (rest : List ℕ) → length ds ≡ n
+                → when (leb (length ds) (lim .block-darts) && all (λ d. leb 1 (d .serial)) ds && ascending (serials ds)) (some (block-of ds, rest))
                 ≡ then (when (climbs 0 (serials ds)) (some (ds, rest))) (λ es rest. some (block-of es, rest))
             tested ds rest l = rw (le-leb (length ds) (lim .block-darts) (omega arith), ← in-order-is ds) (by-cases (climbs 0 (serials ds)) (λ t. rw t refl) (λ t. rw t refl))
 

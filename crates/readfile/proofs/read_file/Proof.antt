@@ -1,7 +1,6 @@
 -- `readfile::read_file` meets its contract: the rack's limits.
 -- Assumes nothing.
 use mathlib.Core.Path.{ap, sym}
-use Prim.Native.Nat.{ℕ}
 use lib.ListN.{replicate}
 use Rattle.model.specs.Values.{Limits}
 use Rattle.model.specs.Image.{words-of}
