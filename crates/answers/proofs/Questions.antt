@@ -1,6 +1,6 @@
 -- Questions in a row: a chain of yes, ended by a no or by the last yes, gives what the model's `asked` gives on the list of checks.
 -- A call's proof is such a chain: `gives _ _ _ _ (ask-yes e (ask-yes f (ask-no refl g refl)))`. Assumes nothing.
-use mathlib.Core.Path.{_≡_, refl, sym, _∙_}
+use mathlib.Core.Path.{_≡_, refl, sym, _∙_, subst}
 use mathlib.Core.Bool.{Bool, true, false, cond, not}
 use mathlib.Core.List.{List, [], _∷_, _++_}
 use Prim.Native.Nat.{ℕ}
@@ -8,6 +8,7 @@ use native.Mathlib.Omega.{arith}
 use lib.Dec.{eqb}
 use borrow.Author.Tests.{not-true, not-false, eq-eqb, eqb-true}
 use Rattle.model.specs.Lists.{all, Check, first-no}
+use Rattle.model.specs.Values.{Limits}
 use Rattle.model.specs.Calls.{Answer, served, refused, Result, asked}
 use Rattle.laws.proofs.Tests.{and-left, and-right}
 use Rattle.answers.specs.Answers.{Gives, answered}
@@ -19,6 +20,10 @@ pub record Asks {A : Type 0} (qs : List Check) (before : List ℕ) (value : A) (
 pub gives : {A : Type 0} (qs : List Check) (before : List ℕ) (value : A) (after : List ℕ) {given : Answer A} {lent : List ℕ}
     → Asks qs before value after given lent → Gives (asked qs before value after) given lent
 gives qs before value after a = a .result
+
+-- a call by limits with another name
+pub by-limits : {A : Type 0} (call : Limits → Result A) {lim other : Limits} {given : Answer A} {lent : List ℕ} → lim ≡ other → Gives (call lim) given lent → Gives (call other) given lent
+by-limits call {given = given} {lent = lent} e = subst (λ (l : Limits). Gives (call l) given lent) e
 
 -- questions alone
 pub alone : (qs : List Check) {given : Answer (Unit {0})} → Asks qs [] tt [] given [] → given ≡ answered qs

@@ -10,10 +10,11 @@ use borrow.Author.Tests.{eq-eqb, ne-eqb, le-leb, lt-leb}
 use Rattle.laws.proofs.Lists.{drop-zeros}
 use Rattle.model.specs.Lists.{concat}
 use Rattle.model.specs.Cells.{labels}
-use Rattle.model.specs.Image.{words, image, new-block}
-use Rattle.model.specs.Values.{rack}
-use Rattle.memory.specs.Header.{empty-header, header-words}
+use Rattle.model.specs.Image.{words-of, image, new-block}
+use Rattle.model.specs.Values.{room, Limits, rack}
+use Rattle.memory.specs.Header.{empty-header, header-words, limits-of}
 use Rattle.memory.specs.declared.header.Header.{Header}
+use Rattle.memory.specs.declared.header.Limits as header
 use Rattle.model.specs.Calls.{served, refused, storing, empty}
 use Rattle.answers.specs.Answers.{Gives}
 use Rattle.answers.proofs.Questions.{gives, ask-no, ask-yes, ask-end}
@@ -55,15 +56,21 @@ empty-image n m {x} {y} {h} l e g f =
     ∙ ap (λ (k : List ℕ). header-words (empty-header n) ++ k) (ap (drop 8) e ∙ drop-zeros 8 (length m - 8) (length m) (omega arith))
     ∙ sym (image-of-empty (length m) n)
 
--- the questions of an empty block
-pub refused-size : (n : ℕ) (m : List ℕ) → (length m ≡ words → ⊥) → Gives (empty rack n m) (refused 1) m
-unfolding empty storing
-refused-size n m h = gives _ _ _ _ (ask-no refl (ne-eqb (length m) words h) refl)
+-- the rack's blocks are the widest
+pub rack-fits : (l : header.Limits) → limits-of l ≡ rack → l .block ≤ room
+rack-fits l e = omega (arith, ap (λ (x : Limits). x .block-darts) e)
 
-pub refused-number : (n : ℕ) (m : List ℕ) → length m ≡ words → 15 < n → Gives (empty rack n m) (refused 9) m
-unfolding empty storing
-refused-number n m h k = gives _ _ _ _ (ask-yes (eq-eqb (length m) words h) (ask-no refl (lt-leb n 15 k) refl))
+-- the questions of an empty block, by any limits
+module _ (lim : Limits) (n : ℕ) (m : List ℕ) where
+  pub refused-size : (length m ≡ words-of lim → ⊥) → Gives (empty lim n m) (refused 1) m
+  unfolding empty storing
+  refused-size h = gives _ _ _ _ (ask-no refl (ne-eqb (length m) (words-of lim) h) refl)
 
-pub served-empty : (n : ℕ) (m : List ℕ) {x : List ℕ} → length m ≡ words → n ≤ 15 → x ≡ image (length m) (new-block n []) → Gives (empty rack n m) (served tt) x
-unfolding empty storing
-served-empty n m h k e = gives _ _ _ _ (ask-yes (eq-eqb (length m) words h) (ask-yes (le-leb n 15 k) (ask-end (e ∙ ap (λ (size : ℕ). image size (new-block n [])) h))))
+  pub refused-number : length m ≡ words-of lim → 15 < n → Gives (empty lim n m) (refused 9) m
+  unfolding empty storing
+  refused-number h k = gives _ _ _ _ (ask-yes (eq-eqb (length m) (words-of lim) h) (ask-no refl (lt-leb n 15 k) refl))
+
+  pub served-empty : {x : List ℕ} → length m ≡ words-of lim → n ≤ 15 → x ≡ image (length m) (new-block n []) → Gives (empty lim n m) (served tt) x
+  unfolding empty storing
+  served-empty h k e =
+      gives _ _ _ _ (ask-yes (eq-eqb (length m) (words-of lim) h) (ask-yes (le-leb n 15 k) (ask-end (e ∙ ap (λ (size : ℕ). image size (new-block n [])) h))))

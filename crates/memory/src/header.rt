@@ -5,8 +5,8 @@ ghost use Prim.Native.Nat.{_+_, _≤_, _<_};
 ghost use lib.ListN.{length, drop, replicate};
 ghost use Rattle.model.specs.Calls as calls;
 ghost use Rattle.answers.specs.Answers.{answer-of, Gives};
-ghost use Rattle.model.specs.Image.{image, new-block};
-ghost use Rattle.model.specs.Values.{rack};
+ghost use Rattle.model.specs.Image.{words-of, image, new-block};
+ghost use Rattle.model.specs.Values.{room, rack};
 ghost use Rattle.memory.specs.Header.{empty-header, header-in, header-words, limits-of};
 use answers::Answer;
 use answers::Refusal;
@@ -116,6 +116,14 @@ impl Limits {
             volume: Header::VOLUME,
         }
     }
+
+    // Words of a block's memory.
+    pub fn words(self) -> usize
+        requires { ⌜ self .block ≤ room ⌝ }
+        ensures { λ r. ⌜ r ≡ words-of (limits-of self) ⌝ }
+    {
+        Header::SIZE + 8 * self.block
+    }
 }
 
 // Sets every word to zero.
@@ -139,11 +147,12 @@ pub fn make_empty(number: u64, block: &mut [u64])
     Header::empty(number).write(block);
 }
 
-// Makes an empty block. 1: is the memory of a block's size? 9: is the number at most 15? A refused call leaves the memory.
-pub fn empty(number: u64, block: &mut [u64]) -> Answer
-    ensures { λ r. ⌜ Gives (calls.empty rack number (now (block .entry))) (answer-of r) (now (block .exit)) ⌝ }
+// Makes an empty block by limits. 1: is the memory of a block's size? 9: is the number at most 15? A refused call leaves the memory.
+pub fn empty_by(limits: Limits, number: u64, block: &mut [u64]) -> Answer
+    requires { ⌜ limits .block ≤ room ⌝ }
+    ensures { λ r. ⌜ Gives (calls.empty (limits-of limits) number (now (block .entry))) (answer-of r) (now (block .exit)) ⌝ }
 {
-    if block.len() != Header::WORDS {
+    if block.len() != limits.words() {
         return Answer::Refused(Refusal::MemorySize);
     }
     if Header::BLOCKS <= number {
@@ -151,4 +160,11 @@ pub fn empty(number: u64, block: &mut [u64]) -> Answer
     }
     make_empty(number, block);
     Answer::Served
+}
+
+// Makes an empty block of the rack.
+pub fn empty(number: u64, block: &mut [u64]) -> Answer
+    ensures { λ r. ⌜ Gives (calls.empty rack number (now (block .entry))) (answer-of r) (now (block .exit)) ⌝ }
+{
+    empty_by(Limits::rack(), number, block)
 }

@@ -11,11 +11,11 @@ use borrow.Author.Tests.{le-leb, lt-leb, lt-ltb, ltb-true}
 use Rattle.laws.proofs.Tests.{by-cases, and-intro, and-left, and-right, same-truth}
 use Rattle.laws.proofs.Members.{all-map}
 use Rattle.model.specs.Lists.{all, ascending}
-use Rattle.model.specs.Values.{Dart, Block, rack}
+use Rattle.model.specs.Values.{Dart, Block, Limits}
 use Rattle.model.specs.Cells.{serials}
 use Rattle.model.specs.Layouts.{Layout, Read, then, when, group, _⊗_, _⊕_, as-type, such-that, at-most, get-all, times, counted, ended, at-end, whole}
 use Rattle.model.specs.Messages.{a-dart, file}
-use Rattle.model.specs.Image.{words}
+use Rattle.model.specs.Image.{words-of}
 use Rattle.theory.proofs.LayoutLaws.{get-all-length, then-some, when-some}
 use Rattle.memory.specs.Header.{header-words}
 use Rattle.groups.proofs.Ends.{Ends, Reads, same-rest}
@@ -75,124 +75,127 @@ climbing-all n bs ds rest e =
 abbrev inner : Layout (ℕ × (ℕ × List Dart))
 inner = at-most 15 ⊕ group ⊕ counted a-dart
 
-unread : {s : List ℕ} → Lacks inner s 0 → whole (file rack) s ≡ none
-unfolding whole file such-that as-type
-unread e = rw (e .value)
-
 counted-lacks : {s : List ℕ} {at : ℕ} → Lacks (group ⊗ (λ n. times n a-dart)) s at → Lacks (counted a-dart) s at
 unfolding counted
 counted-lacks e = as-lacks (λ p. p .1) (λ v. (length v, v)) (group ⊗ (λ n. times n a-dart)) e
 
-pub no-number : {s : List ℕ} → Lacks (at-most 15) s 0 → whole (file rack) s ≡ none
-no-number e = unread (pair-lacks (at-most 15) (group ⊕ counted a-dart) e)
+-- by any limits
+module _ (lim : Limits) where
+  unread : {s : List ℕ} → Lacks inner s 0 → whole (file lim) s ≡ none
+  unfolding whole file such-that as-type
+  unread e = rw (e .value)
 
-module _ {s : List ℕ} {number a : ℕ} (p : Reads (at-most 15) s 0 number a) where
-  pub no-counter : Lacks group s a → whole (file rack) s ≡ none
-  no-counter e = unread (pair-then-lacks (at-most 15) (group ⊕ counted a-dart) p (pair-lacks group (counted a-dart) e))
+  pub no-number : {s : List ℕ} → Lacks (at-most 15) s 0 → whole (file lim) s ≡ none
+  no-number e = unread (pair-lacks (at-most 15) (group ⊕ counted a-dart) e)
 
-  module _ {counter b : ℕ} (q : Reads group s a counter b) where
-    pub no-count : Lacks group s b → whole (file rack) s ≡ none
-    no-count e = unread (pair-then-lacks (at-most 15) (group ⊕ counted a-dart) p (pair-then-lacks group (counted a-dart) q (counted-lacks (dependent-lacks group (λ n. times n a-dart) e))))
+  module _ {s : List ℕ} {number a : ℕ} (p : Reads (at-most 15) s 0 number a) where
+    pub no-counter : Lacks group s a → whole (file lim) s ≡ none
+    no-counter e = unread (pair-then-lacks (at-most 15) (group ⊕ counted a-dart) p (pair-lacks group (counted a-dart) e))
 
-    module _ {n c : ℕ} (r : Reads group s b n c) where
-      abbrev block-of : List Dart → Block
-      block-of ds = record { number = number; counter = counter; darts = ds }
+    module _ {counter b : ℕ} (q : Reads group s a counter b) where
+      pub no-count : Lacks group s b → whole (file lim) s ≡ none
+      no-count e = unread (pair-then-lacks (at-most 15) (group ⊕ counted a-dart) p (pair-then-lacks group (counted a-dart) q (counted-lacks (dependent-lacks group (λ n. times n a-dart) e))))
 
-      abbrev kept : Read (List Dart) → Read Block
-      kept w = then w (λ ds rest. when (leb (length ds) 4096 && all (λ d. leb 1 (d .serial)) ds && ascending (serials ds)) (some (block-of ds, rest)))
+      module _ {n c : ℕ} (r : Reads group s b n c) where
+        abbrev block-of : List Dart → Block
+        block-of ds = record { number = number; counter = counter; darts = ds }
 
-      by-darts : (w : Read (List Dart)) → get-all a-dart n (drop c s) ≡ w → whole (file rack) s ≡ at-end (kept w)
-      by-darts none e = unread (pair-then-lacks (at-most 15) (group ⊕ counted a-dart) p (pair-then-lacks group (counted a-dart) q
-          (counted-lacks (dependent-then-lacks group (λ n. times n a-dart) r (record { value = unfold times in e })))))
-      by-darts (some w) e = unfold whole file such-that as-type _⊕_ _⊗_ counted times in (rw (p .value, q .value, r .value, e) refl)
+        abbrev kept : Read (List Dart) → Read Block
+        kept w = then w (λ ds rest. when (leb (length ds) (lim .block-darts) && all (λ d. leb 1 (d .serial)) ds && ascending (serials ds)) (some (block-of ds, rest)))
 
-      -- "at most 4,096 darts"
-      pub too-many : 4096 < n → whole (file rack) s ≡ none
-      too-many h = go (get-all a-dart n (drop c s)) refl
-        where
-          go : (w : Read (List Dart)) → get-all a-dart n (drop c s) ≡ w → whole (file rack) s ≡ none
-          go none e = by-darts none e
-          go (some w) e =
-              let l = get-all-length a-dart n (drop c s) (w .0) (w .1) e in
-              by-darts (some w) e ∙ rw (lt-leb (length (w .0)) 4096 (omega arith)) refl
+        by-darts : (w : Read (List Dart)) → get-all a-dart n (drop c s) ≡ w → whole (file lim) s ≡ at-end (kept w)
+        by-darts none e = unread (pair-then-lacks (at-most 15) (group ⊕ counted a-dart) p (pair-then-lacks group (counted a-dart) q
+            (counted-lacks (dependent-then-lacks group (λ n. times n a-dart) r (record { value = unfold times in e })))))
+        by-darts (some w) e = unfold whole file such-that as-type _⊕_ _⊗_ counted times in (rw (p .value, q .value, r .value, e) refl)
 
-      -- darts in order, and nothing after them
-      by-climbing : n ≤ 4096 → (w : Read (List Dart)) → climbing n .get (drop c s) ≡ w → whole (file rack) s ≡ at-end (then w (λ ds rest. some (block-of ds, rest)))
-      unfolding climbing such-that times
-      by-climbing h w f = go (get-all a-dart n (drop c s)) refl ∙ ap (λ (v : Read (List Dart)). at-end (then v (λ ds rest. some (block-of ds, rest)))) f
-        where
-          tested : (ds : List Dart) (rest : List ℕ) → length ds ≡ n → when (leb (length ds) 4096 && all (λ d. leb 1 (d .serial)) ds && ascending (serials ds)) (some (block-of ds, rest))
-              ≡ then (when (climbs 0 (serials ds)) (some (ds, rest))) (λ es rest. some (block-of es, rest))
-          tested ds rest l = rw (le-leb (length ds) 4096 (omega arith), ← in-order-is ds) (by-cases (climbs 0 (serials ds)) (λ t. rw t refl) (λ t. rw t refl))
+        -- no more darts than the limits say
+        pub too-many : lim .block-darts < n → whole (file lim) s ≡ none
+        too-many h = go (get-all a-dart n (drop c s)) refl
+          where
+            go : (w : Read (List Dart)) → get-all a-dart n (drop c s) ≡ w → whole (file lim) s ≡ none
+            go none e = by-darts none e
+            go (some w) e =
+                let l = get-all-length a-dart n (drop c s) (w .0) (w .1) e in
+                by-darts (some w) e ∙ rw (lt-leb (length (w .0)) (lim .block-darts) (omega arith)) refl
 
-          go : (v : Read (List Dart)) → get-all a-dart n (drop c s) ≡ v
-              → whole (file rack) s ≡ at-end (then (then (get-all a-dart n (drop c s)) (λ ds rest. when (climbs 0 (serials ds)) (some (ds, rest)))) (λ ds rest. some (block-of ds, rest)))
-          go none e = rw e (by-darts none e)
-          go (some v) e = rw e (by-darts (some v) e ∙ ap at-end (tested (v .0) (v .1) (get-all-length a-dart n (drop c s) (v .0) (v .1) e)))
+        -- darts in order, and nothing after them
+        by-climbing : n ≤ lim .block-darts → (w : Read (List Dart)) → climbing n .get (drop c s) ≡ w → whole (file lim) s ≡ at-end (then w (λ ds rest. some (block-of ds, rest)))
+        unfolding climbing such-that times
+        by-climbing h w f = go (get-all a-dart n (drop c s)) refl ∙ ap (λ (v : Read (List Dart)). at-end (then v (λ ds rest. some (block-of ds, rest)))) f
+          where
+            tested : (ds : List Dart) (rest : List ℕ) → length ds ≡ n
+                → when (leb (length ds) (lim .block-darts) && all (λ d. leb 1 (d .serial)) ds && ascending (serials ds)) (some (block-of ds, rest))
+                ≡ then (when (climbs 0 (serials ds)) (some (ds, rest))) (λ es rest. some (block-of es, rest))
+            tested ds rest l = rw (le-leb (length ds) (lim .block-darts) (omega arith), ← in-order-is ds) (by-cases (climbs 0 (serials ds)) (λ t. rw t refl) (λ t. rw t refl))
 
-      pub no-darts : n ≤ 4096 → end.Bad ≡ placed-end (length s) (climbing n .get (drop c s)) → whole (file rack) s ≡ none
-      no-darts h k = go (climbing n .get (drop c s)) refl k
-        where
-          go : (w : Read (List Dart)) → climbing n .get (drop c s) ≡ w → end.Bad ≡ placed-end (length s) w → whole (file rack) s ≡ none
-          go none e q = by-climbing h none e
-          go (some w) e q = let z : _≡_ {A = ℕ} 0 1 = cc in absurd (omega arith)
+            go : (v : Read (List Dart)) → get-all a-dart n (drop c s) ≡ v
+                → whole (file lim) s ≡ at-end (then (then (get-all a-dart n (drop c s)) (λ ds rest. when (climbs 0 (serials ds)) (some (ds, rest)))) (λ ds rest. some (block-of ds, rest)))
+            go none e = rw e (by-darts none e)
+            go (some v) e = rw e (by-darts (some v) e ∙ ap at-end (tested (v .0) (v .1) (get-all-length a-dart n (drop c s) (v .0) (v .1) e)))
 
-      record Darts (next : ℕ) : Type 0 where
-        darts : List Dart
-        rest : List ℕ
-        value : climbing n .get (drop c s) ≡ some (darts, rest)
-        next-is : next ≡ length s - length rest
+        pub no-darts : n ≤ lim .block-darts → end.Bad ≡ placed-end (length s) (climbing n .get (drop c s)) → whole (file lim) s ≡ none
+        no-darts h k = go (climbing n .get (drop c s)) refl k
+          where
+            go : (w : Read (List Dart)) → climbing n .get (drop c s) ≡ w → end.Bad ≡ placed-end (length s) w → whole (file lim) s ≡ none
+            go none e q = by-climbing h none e
+            go (some w) e q = let z : _≡_ {A = ℕ} 0 1 = cc in absurd (omega arith)
 
-      some-darts : {next : ℕ} → end.At next ≡ placed-end (length s) (climbing n .get (drop c s)) → Darts next
-      some-darts {next} k = go (climbing n .get (drop c s)) refl k
-        where
-          go : (w : Read (List Dart)) → climbing n .get (drop c s) ≡ w → end.At next ≡ placed-end (length s) w → Darts next
-          go none e q = let z : _≡_ {A = ℕ} 0 1 = cc in absurd (omega arith)
-          go (some w) e q = let en : next ≡ length s - length (w .1) = cc in record { darts = w .0; rest = w .1; value = e; next-is = en }
+        record Darts (next : ℕ) : Type 0 where
+          darts : List Dart
+          rest : List ℕ
+          value : climbing n .get (drop c s) ≡ some (darts, rest)
+          next-is : next ≡ length s - length rest
 
-      rest-short : {next : ℕ} (d : Darts next) → length (d .rest) ≤ length s
-      rest-short d = omega (arith, all-short a-dart dart-ends n (drop c s) (d .darts) (d .rest) (climbing-all n (drop c s) (d .darts) (d .rest) (d .value)), length-drop c s)
+        some-darts : {next : ℕ} → end.At next ≡ placed-end (length s) (climbing n .get (drop c s)) → Darts next
+        some-darts {next} k = go (climbing n .get (drop c s)) refl k
+          where
+            go : (w : Read (List Dart)) → climbing n .get (drop c s) ≡ w → end.At next ≡ placed-end (length s) w → Darts next
+            go none e q = let z : _≡_ {A = ℕ} 0 1 = cc in absurd (omega arith)
+            go (some w) e q = let en : next ≡ length s - length (w .1) = cc in record { darts = w .0; rest = w .1; value = e; next-is = en }
 
-      pub left-over : n ≤ 4096 → {next : ℕ} → end.At next ≡ placed-end (length s) (climbing n .get (drop c s)) → (next ≡ length s → ⊥) → whole (file rack) s ≡ none
-      left-over h k ne = let d = some-darts k in by-climbing h (some (d .darts, d .rest)) (d .value) ∙ more (d .darts) (d .rest) (λ e. ne (d .next-is ∙ e))
-        where
-          more : (ds : List Dart) (rest : List ℕ) → (length s - length rest ≡ length s → ⊥) → ended (block-of ds) rest ≡ none
-          more ds [] f = absurd (f (omega arith))
-          more ds (y ∷ ys) f = refl
+        rest-short : {next : ℕ} (d : Darts next) → length (d .rest) ≤ length s
+        rest-short d = omega (arith, all-short a-dart dart-ends n (drop c s) (d .darts) (d .rest) (climbing-all n (drop c s) (d .darts) (d .rest) (d .value)), length-drop c s)
 
-      pub record AllRead : Type 0 where
-        pub darts : List Dart
-        pub rest : List ℕ
-        pub value : climbing n .get (drop c s) ≡ some (darts, rest)
-        pub count : length darts ≡ n
-        pub whole-is : whole (file rack) s ≡ some (block-of darts)
+        pub left-over : n ≤ lim .block-darts → {next : ℕ} → end.At next ≡ placed-end (length s) (climbing n .get (drop c s)) → (next ≡ length s → ⊥) → whole (file lim) s ≡ none
+        left-over h k ne = let d = some-darts k in by-climbing h (some (d .darts, d .rest)) (d .value) ∙ more (d .darts) (d .rest) (λ e. ne (d .next-is ∙ e))
+          where
+            more : (ds : List Dart) (rest : List ℕ) → (length s - length rest ≡ length s → ⊥) → ended (block-of ds) rest ≡ none
+            more ds [] f = absurd (f (omega arith))
+            more ds (y ∷ ys) f = refl
 
-      pub all-read : n ≤ 4096 → {next : ℕ} → end.At next ≡ placed-end (length s) (climbing n .get (drop c s)) → next ≡ length s → AllRead
-      all-read h k e =
-          let d = some-darts k in
-          record {
-            darts = d .darts;
-            rest = d .rest;
-            value = d .value;
-            count = get-all-length a-dart n (drop c s) (d .darts) (d .rest) (climbing-all n (drop c s) (d .darts) (d .rest) (d .value));
-            whole-is = by-climbing h (some (d .darts, d .rest)) (d .value) ∙ none-left (d .darts) (d .rest) (omega (arith, rest-short d, d .next-is, e));
-          }
-        where
-          none-left : (ds : List Dart) (rest : List ℕ) → length rest ≡ 0 → ended (block-of ds) rest ≡ some (block-of ds)
-          none-left ds [] f = refl
-          none-left ds (y ∷ ys) f = absurd (omega arith)
+        pub record AllRead : Type 0 where
+          pub darts : List Dart
+          pub rest : List ℕ
+          pub value : climbing n .get (drop c s) ≡ some (darts, rest)
+          pub count : length darts ≡ n
+          pub whole-is : whole (file lim) s ≡ some (block-of darts)
+
+        pub all-read : n ≤ lim .block-darts → {next : ℕ} → end.At next ≡ placed-end (length s) (climbing n .get (drop c s)) → next ≡ length s → AllRead
+        all-read h k e =
+            let d = some-darts k in
+            record {
+              darts = d .darts;
+              rest = d .rest;
+              value = d .value;
+              count = get-all-length a-dart n (drop c s) (d .darts) (d .rest) (climbing-all n (drop c s) (d .darts) (d .rest) (d .value));
+              whole-is = by-climbing h (some (d .darts, d .rest)) (d .value) ∙ none-left (d .darts) (d .rest) (omega (arith, rest-short d, d .next-is, e));
+            }
+          where
+            none-left : (ds : List Dart) (rest : List ℕ) → length rest ≡ 0 → ended (block-of ds) rest ≡ some (block-of ds)
+            none-left ds [] f = refl
+            none-left ds (y ∷ ys) f = absurd (omega arith)
 
 -- THE ANSWER
-pub raw-refused : {s after : List ℕ} → whole (file rack) s ≡ none → RawRead s after false
+pub raw-refused : {lim : Limits} {s after : List ℕ} → whole (file lim) s ≡ none → RawRead lim s after false
 raw-refused e = record { answer = rw e; memory = λ b q. absurd (Option·none-ne-some b (sym e ∙ q)) }
 
-pub raw-served : {s : List ℕ} {number a counter b n c : ℕ} (p : Reads (at-most 15) s 0 number a) (q : Reads group s a counter b) (r : Reads group s b n c)
-    → n ≤ 4096 → (m : List ℕ) → m ≡ replicate words 0 → {x y : List ℕ} {next : ℕ} → DartsStored s c n m x (end.At next) → next ≡ length s
-    → y ≡ header-words (record { number = number; counter = counter; darts = n }) ++ drop 8 x → RawRead s y true
-raw-served {s} {number} {a} {counter} {b} {n} {c} p q r h m em {x} {y} {next} k e f =
-    let t = all-read p q r h (k .answer) e in
+pub raw-served : (lim : Limits) {s : List ℕ} {number a counter b n c : ℕ} (p : Reads (at-most 15) s 0 number a) (q : Reads group s a counter b) (r : Reads group s b n c)
+    → n ≤ lim .block-darts → (m : List ℕ) → m ≡ replicate (words-of lim) 0 → {x y : List ℕ} {next : ℕ} → DartsStored s c n m x (end.At next) → next ≡ length s
+    → y ≡ header-words (record { number = number; counter = counter; darts = n }) ++ drop 8 x → RawRead lim s y true
+raw-served lim {s} {number} {a} {counter} {b} {n} {c} p q r h m em {x} {y} {next} k e f =
+    let t = all-read lim p q r h (k .answer) e in
     let whole-block : Block = record { number = number; counter = counter; darts = t .darts } in
-    let filled : y ≡ raw words whole-block = f ∙ ap (λ (i : ℕ). header-words (record { number = number; counter = counter; darts = i }) ++ drop 8 x) (sym (t .count))
+    let filled : y ≡ raw (words-of lim) whole-block = f ∙ ap (λ (i : ℕ). header-words (record { number = number; counter = counter; darts = i }) ++ drop 8 x) (sym (t .count))
     ∙ ap (λ (l : List ℕ). header-words (record { number = number; counter = counter; darts = length (t .darts) }) ++ drop 8 l) (k .memory (t .darts) (t .rest) (t .value))
-    ∙ stored-raw words m whole-block em (omega (arith, t .count)) in
-    record { answer = rw (t .whole-is); memory = λ d g. filled ∙ ap (raw words) (Option·some-injective whole-block d (sym (t .whole-is) ∙ g)) }
+    ∙ stored-raw (words-of lim) m whole-block em (omega (arith, t .count)) in
+    record { answer = rw (t .whole-is); memory = λ d g. filled ∙ ap (raw (words-of lim)) (Option·some-injective whole-block d (sym (t .whole-is) ∙ g)) }

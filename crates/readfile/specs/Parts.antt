@@ -7,11 +7,11 @@ use Prim.Native.Nat.{ℕ, _-_}
 use lib.Dec.{ltb}
 use lib.ListN.{length, drop}
 use Rattle.model.specs.Lists.{is-some}
-use Rattle.model.specs.Values.{Point, Third, Dart, Block, rack}
+use Rattle.model.specs.Values.{Point, Third, Dart, Block, Limits}
 use Rattle.model.specs.Cells.{serials}
 use Rattle.model.specs.Layouts.{Layout, _⊗_, as-type, such-that, at-most, times, whole}
 use Rattle.model.specs.Messages.{kind-of, third, point, a-dart, file}
-use Rattle.model.specs.Image.{words, kind-word}
+use Rattle.model.specs.Image.{words-of, kind-word}
 use Rattle.memory.specs.Record.{put}
 use Rattle.groups.specs.declared.Read.{Read}
 use Rattle.groups.specs.declared.Read.the-variants as read
@@ -87,7 +87,7 @@ pub record DartsStored (s : List ℕ) (from n : ℕ) (m after : List ℕ) (r : E
   pub answer : r ≡ placed-end (length s) (climbing n .get (drop from s))
   pub memory : (ds : List Dart) (rest : List ℕ) → climbing n .get (drop from s) ≡ some (ds, rest) → after ≡ stored-all m ds
 
--- WHOLE FILES
-pub record RawRead (s after : List ℕ) (r : Bool) : Type 0 where
-  pub answer : r ≡ is-some (whole (file rack) s)
-  pub memory : (b : Block) → whole (file rack) s ≡ some b → after ≡ raw words b
+-- WHOLE FILES, by the block's limits
+pub record RawRead (lim : Limits) (s after : List ℕ) (r : Bool) : Type 0 where
+  pub answer : r ≡ is-some (whole (file lim) s)
+  pub memory : (b : Block) → whole (file lim) s ≡ some b → after ≡ raw (words-of lim) b

@@ -1,7 +1,12 @@
 // Reads a block from a file into its memory.
-ghost use Rattle.model.specs.Values.{rack};
+ghost use mathlib.Core.Path.{_≡_};
+ghost use Prim.Native.Nat.{_≤_};
+ghost use lib.ListN.{replicate};
+ghost use Rattle.model.specs.Values.{room, rack};
+ghost use Rattle.model.specs.Image.{words-of};
 ghost use Rattle.model.specs.Calls.{read-file};
 ghost use Rattle.answers.specs.Answers.{answer-of, Gives};
+ghost use Rattle.memory.specs.Header.{limits-of};
 
 mod dart; // dart.rt: one dart of a file
 mod raw; // raw.rt: the whole file, with serials where memory has places
@@ -9,18 +14,27 @@ mod raw; // raw.rt: the whole file, with serials where memory has places
 use answers::Answer;
 use answers::Refusal;
 use memory::header::Header;
+use memory::header::Limits;
 
-// Reads a file. 1: is the memory of a block's size? 3: the layout, to the last byte, and the ranges? 4 to 8: is the block sound?
-// A refused call leaves the memory.
+// Reads a file by limits. 1: is the memory of a block's size? 3: the layout, to the last byte, and the ranges? 4 to 8: is the block
+// sound? A refused call leaves the memory. `made` is lent to work in.
+pub fn read_file_by(file: &[u8], limits: Limits, made: &mut [u64], block: &mut [u64]) -> Answer
+    requires { ⌜ (limits .block ≤ room) × (now made ≡ replicate (words-of (limits-of limits)) 0) ⌝ }
+    ensures { λ r. ⌜ Gives (read-file (limits-of limits) (now (file .entry)) (now (block .entry))) (answer-of r) (now (block .exit)) ⌝ }
+{
+    if block.len() != limits.words() {
+        return Answer::Refused(Refusal::MemorySize);
+    }
+    if !raw::read_raw(file, limits, made) {
+        return Answer::Refused(Refusal::FileLayout);
+    }
+    newblock::put_block(made, block)
+}
+
+// Reads a file into a block of the rack.
 pub fn read_file(file: &[u8], block: &mut [u64]) -> Answer
     ensures { λ r. ⌜ Gives (read-file rack (now (file .entry)) (now (block .entry))) (answer-of r) (now (block .exit)) ⌝ }
 {
-    if block.len() != Header::WORDS {
-        return Answer::Refused(Refusal::MemorySize);
-    }
     let mut made = [0u64; Header::WORDS];
-    if !raw::read_raw(file, &mut made) {
-        return Answer::Refused(Refusal::FileLayout);
-    }
-    newblock::put_block(&mut made, block)
+    read_file_by(file, Limits::rack(), &mut made, block)
 }

@@ -2,12 +2,14 @@
 ghost use mathlib.Core.Path.{_≡_};
 ghost use Prim.Native.Nat.{_+_, _≤_};
 ghost use lib.ListN.{length, replicate};
-ghost use Rattle.model.specs.Image.{words-for, words};
+ghost use Rattle.model.specs.Image.{words-for, words-of};
+ghost use Rattle.memory.specs.Header.{limits-of};
 ghost use Rattle.readfile.specs.Parts.{DartStored, DartsStored, RawRead};
 use crate::dart;
 use crate::dart::Parsed;
 use groups::Read;
 use memory::header::Header;
+use memory::header::Limits;
 use memory::record::Place;
 
 // Where the darts of a file end.
@@ -52,10 +54,10 @@ fn read_darts(file: &[u8], from: usize, n: usize, block: &mut [u64]) -> End
     End::At(at)
 }
 
-// Reads a file to its last byte: block, counter, dart count, darts. Whether it could be read.
-pub fn read_raw(file: &[u8], block: &mut [u64]) -> bool
-    requires { ⌜ now block ≡ replicate words 0 ⌝ }
-    ensures { λ r. ⌜ RawRead (now (file .entry)) (now (block .exit)) r ⌝ }
+// Reads a file to its last byte: block, counter, dart count, darts. Whether it could be read, with no more darts than the limits say.
+pub fn read_raw(file: &[u8], limits: Limits, block: &mut [u64]) -> bool
+    requires { ⌜ now block ≡ replicate (words-of (limits-of limits)) 0 ⌝ }
+    ensures { λ r. ⌜ RawRead (limits-of limits) (now (file .entry)) (now (block .exit)) r ⌝ }
 {
     let Read::Value(number, past_number) = groups::read_at_most(file, 0, Header::BLOCKS - 1) else {
         return false;
@@ -66,7 +68,7 @@ pub fn read_raw(file: &[u8], block: &mut [u64]) -> bool
     let Read::Value(count, past_count) = groups::read_group(file, past_counter) else {
         return false;
     };
-    if (Header::DARTS as u64) < count {
+    if (limits.block as u64) < count {
         return false;
     }
     let n = count as usize;

@@ -8,15 +8,16 @@ use lib.Dec.{leb}
 use lib.ListN.{length, getD}
 use borrow.Author.Tests.{not-true}
 use Rattle.model.specs.Lists.{all, mem, tab}
-use Rattle.model.specs.Values.{finite, room}
+use Rattle.model.specs.Values.{Limits, finite, room}
 use Rattle.model.specs.Cells.{held}
-use Rattle.model.specs.Image.{words, column, block-in, holds-block}
+use Rattle.model.specs.Image.{words-of, column, block-in, holds-block}
 use Rattle.model.specs.Messages.{Transfer, a-transfer, message-in, transfer}
 use Rattle.model.specs.Demands.{Bytes}
 use Rattle.model.specs.Arrival.{transfer-links}
 use Rattle.model.specs.Calls.{served}
 use Rattle.laws.proofs.Tests.{and-left, and-right}
 use Rattle.laws.proofs.Tables.{all-tab, mem-place}
+use Rattle.theory.proofs.ImageLaws.{image-by-size}
 use Rattle.memory.proofs.Lookups.{serials-tab}
 use Rattle.answers.specs.Answers.{Gives}
 use Rattle.inbox.specs.declared.message.Front.{Front}
@@ -35,8 +36,8 @@ use Rattle.answers.specs.declared.Answer.the-variants as answer
 use Rattle.receive.proofs.TakenImage.{indexed, weaves, taken-image}
 use Rattle.receive.proofs.Answered.{transfer-served, none-no}
 
-module _ {m s v x b z : List ℕ} {f : Front} {l : Tail} {keys ranks q c kinds links : List ℕ} (size : length m ≡ words) (ok : holds-block m ≡ true)
-    (fit : f .darts ≤ length x) (h : AskedSaid m s v x b z f l keys ranks q c kinds links answer.Served)
+module _ (lim : Limits) (bound : lim .block-darts ≤ room) {m s v x b z : List ℕ} {f : Front} {l : Tail} {keys ranks q c kinds links : List ℕ} (size : length m ≡ words-of lim)
+    (ok : holds-block m ≡ true) (fit : f .darts ≤ length x) (h : AskedSaid lim m s v x b z f l keys ranks q c kinds links answer.Served)
     (t : Transfer) (e : message-in s ≡ a-transfer t) (w : TransferOutlined t s v x b z f l) where
   d : Draft v x b z keys ranks q s (f .points) (f .darts) c
   d = h .1
@@ -52,11 +53,11 @@ module _ {m s v x b z : List ℕ} {f : Front} {l : Tail} {keys ranks q c kinds l
       let here : held (block-in m .darts) (getD x i 0) ≡ true = ap (mem (getD x i 0)) (serials-tab m) ∙ mem-place (column m 0) (getD m 2 0) p (getD x i 0) hp g in
       true≢false (sym here ∙ gone)
 
-  small : getD m 2 0 + f .darts ≤ room
+  small : getD m 2 0 + f .darts ≤ lim .block-darts
   small = h .2
 
   abbrev weaving : Drafted m c (getD m 2 0) (getD c 2 0)
-  weaving = weaves d m size ok absent small
+  weaving = weaves d lim bound m size ok absent small
 
   linked : Linking m (getD m 2 0) (getD c 2 0) x kinds links (transfer-links (block-in m .darts) t)
   linked = subst (λ (k : ℕ). Linking m (getD m 2 0) k x kinds links (transfer-links (block-in m .darts) t)) (sym (d .drafted .count-is)) (h .0 t e w .1)
@@ -73,6 +74,6 @@ module _ {m s v x b z : List ℕ} {f : Front} {l : Tail} {keys ranks q c kinds l
   pub few-new : getD c 2 0 ≤ 512
   few-new = omega (arith, d .few, d .drafted .count-is)
 
-  pub served-image : Bytes s → {y : List ℕ} → Joins m c (getD m 2 0) (getD c 2 0) kinds links ranks y → Gives (receive-by m (a-transfer t)) (served tt) y
-  served-image bytes j = transfer-served m size ok t (h .0 t e w .0)
-      (taken-image d m size ok absent small (told-of w) (transfer-read s bytes t e) (none-no m t (h .0 t e w .0)) (h .0 t e w .0 .volume) linked j)
+  pub served-image : Bytes s → {y : List ℕ} → Joins m c (getD m 2 0) (getD c 2 0) kinds links ranks y → Gives (receive-by lim m (a-transfer t)) (served tt) y
+  served-image bytes j = transfer-served lim m size (sym (image-by-size lim m bound size) ∙ ok) t (h .0 t e w .0)
+      (taken-image d lim bound m size ok absent small (told-of w) (transfer-read s bytes t e) (none-no lim m t (h .0 t e w .0)) (h .0 t e w .0 .volume) linked j)

@@ -6,14 +6,14 @@ use Prim.Native.Nat.{ℕ, _+_, _≤_, _<_}
 use native.Mathlib.Omega.{arith}
 use lib.ListN.{length, getD}
 use Rattle.model.specs.Lists.{first-no, distinct, tab}
-use Rattle.model.specs.Values.{Dart, Block, rack, room}
-use Rattle.model.specs.Image.{words, count-in, image, column, dart-in, block-in, holds-block}
+use Rattle.model.specs.Values.{Dart, Block, Limits, room}
+use Rattle.model.specs.Image.{words-of, count-in, image, column, dart-in, block-in, is-image, holds-block}
 use Rattle.model.specs.Messages.{Transfer, a-transfer, transfer}
 use Rattle.model.specs.Links.{relink}
 use Rattle.model.specs.Arrival.{new-darts, insert-all, received, transfer-links, volume-right, receive-checks}
 use Rattle.laws.proofs.Members.{In}
 use Rattle.laws.proofs.Tables.{length-tab, map-tab, tab-cong, place-mem, tab-distinct}
-use Rattle.theory.proofs.ImageLaws.{image-is, is-image-of}
+use Rattle.theory.proofs.ImageLaws.{image-is, is-image-of, image-by-size}
 use Rattle.columns.specs.Columns.{Places}
 use Rattle.columns.proofs.Question.{image-passed}
 use Rattle.columns.proofs.Links.{places}
@@ -48,18 +48,18 @@ module _ {v x b z keys ranks q s : List ℕ} {from k : ℕ} {c : List ℕ} (d : 
   }
 
   -- beside a block that holds none of its serials
-  module _ (m : List ℕ) (size : length m ≡ words) (ok : holds-block m ≡ true)
-      (absent : (p i : ℕ) → p < count-in m → i < k → column m 0 p ≡ getD x i 0 → ⊥) (fit : count-in m + k ≤ room) where
+  module _ (lim : Limits) (small : lim .block-darts ≤ room) (m : List ℕ) (size : length m ≡ words-of lim) (ok : holds-block m ≡ true)
+      (absent : (p i : ℕ) → p < count-in m → i < k → column m 0 p ≡ getD x i 0 → ⊥) (fit : count-in m + k ≤ lim .block-darts) where
     pub weaves : Drafted m c (count-in m) (count-in c)
     weaves = drafted m c ok (sited d .linked) (sited d .ascends)
         (λ p h. indexed .free p (omega (arith, h, d .drafted .count-is)))
         (λ p r hp hr e. let l : r < k = omega (arith, hr, d .drafted .count-is) in let i = indexed .index-of r l in absent p (i .0)
         hp (i .1) (e ∙ ap (column c 0) (sym (i .2)) ∙ serial-of d (i .0) (i .1)))
-        (omega (arith, fit, d .drafted .count-is)) (omega (arith, fit, size, d .drafted .count-is))
+        (omega (arith, fit, small, d .drafted .count-is)) (omega (arith, fit, size, d .drafted .count-is))
 
     -- with the links that a transfer brings
     module _ {n : ℕ} {hollow : Bool} {t : Transfer} (told : Told t v x b z s from n k hollow) (fine : transfer .ok t ≡ true)
-        (yes : first-no (receive-checks rack (block-in m) (a-transfer t)) ≡ 0) (right : volume-right t ≡ true) where
+        (yes : first-no (receive-checks lim (block-in m) (a-transfer t)) ≡ 0) (right : volume-right t ≡ true) where
       below : (i : ℕ) → i < k → getD v i 0 < n
       below = each-below told (vertices-fit told (is-numbered told right))
 
@@ -96,9 +96,12 @@ module _ {v x b z keys ranks q s : List ℕ} {from k : ℕ} {c : List ℕ} (d : 
           ∙ woven-image weaves order order-once order-size order-low
 
       woven-sound : holds-block w ≡ true
-      woven-sound = subst (λ (l : List ℕ). holds-block l ≡ true) woven-is
-          (is-image-of rack (length m) (record { number = getD m 0 0; counter = getD m 1 0; darts = all-darts }) (omega (arith, size))
-          (unlinked-sound rack (block-in m) t (omega arith) (image-is rack m ok .1) (fits t fine) (passed rack (block-in m) t yes)))
+      woven-sound =
+          let here = sym (image-by-size lim m small size) ∙ ok in
+          let all : Block = record { number = getD m 0 0; counter = getD m 1 0; darts = all-darts } in
+          let sound = unlinked-sound lim (block-in m) t small (image-is lim m here .1) (fits t fine) (passed lim (block-in m) t yes) in
+          image-by-size lim w small (size-is weaves ∙ size)
+          ∙ subst (λ (l : List ℕ). is-image lim l ≡ true) woven-is (is-image-of lim (length m) all (omega (arith, size)) sound)
 
       darts-woven : tab (dart-in w) (count-in m + count-in c) ≡ all-darts
       darts-woven =
@@ -107,12 +110,12 @@ module _ {v x b z keys ranks q s : List ℕ} {from k : ℕ} {c : List ℕ} (d : 
           ∙ ap (λ (l : List Dart). insert-all l (block-in m .darts)) (sym new-are)
 
       pub taken-image : {kinds links y : List ℕ} → Linking m (count-in m) (count-in c) x kinds links (transfer-links (block-in m .darts) t)
-          → Joins m c (count-in m) (count-in c) kinds links ranks y → y ≡ image words (received (block-in m) t)
+          → Joins m c (count-in m) (count-in c) kinds links ranks y → y ≡ image (words-of lim) (received (block-in m) t)
       taken-image {kinds} {links} {y} ln j =
           let p = image-passed w woven-sound in
           let count : getD w 2 0 ≡ count-in m + count-in c = count-is weaves in
-          let len : length y ≡ words = j .sewn .size ∙ size-is weaves ∙ size in
-          sym (ap (image words) (received-is (block-in m) t)
+          let len : length y ≡ words-of lim = j .sewn .size ∙ size-is weaves ∙ size in
+          sym (ap (image (words-of lim)) (received-is (block-in m) t)
           ∙ (λ i. image (sym len i) (record { number = sym (number-is weaves) i; counter = sym (counter-is weaves) i; darts = map (relink (transfer-links (block-in m .darts) t)) all-darts }))
           ∙ image-joined (weaves .weaves .fits) (omega (arith, d .few, d .drafted .count-is)) (j .stand) (subst (Indexed c x ranks) (sym (d .drafted .count-is)) indexed) ln (j .sewn)
           (p .range) (omega (arith, size-is weaves, weaves .weaves .holds)) count (subst (Places w) count (places w (count-in w) (p .links)))

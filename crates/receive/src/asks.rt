@@ -3,10 +3,10 @@ ghost use mathlib.Core.Path.{_≡_};
 ghost use mathlib.Core.Bool.{true};
 ghost use Prim.Native.Nat.{_≤_};
 ghost use lib.ListN.{length, replicate};
-ghost use Rattle.model.specs.Values.{room};
 ghost use Rattle.model.specs.Image.{words-for, holds-block, block-in};
 ghost use Rattle.model.specs.Messages.{Transfer, a-transfer, message-in};
 ghost use Rattle.model.specs.Arrival.{addressed};
+ghost use Rattle.memory.specs.Header.{limits-of};
 ghost use Rattle.inbox.specs.Inbox.{Sides};
 ghost use Rattle.inbox.specs.Arrived.{TransferOutlined};
 ghost use Rattle.receive.specs.Taken.{AskedAll};
@@ -15,6 +15,7 @@ use answers::Refusal;
 use inbox::message::Front;
 use inbox::message::Tail;
 use memory::header::Header;
+use memory::header::Limits;
 
 // 17: addressed here, from elsewhere.
 fn for_here(block: &[u64], from: u64, to: u64) -> bool
@@ -27,6 +28,7 @@ fn for_here(block: &[u64], from: u64, to: u64) -> bool
 // All of them, in their order: the first no, or served. `queue` and `firsts` are lent to work in.
 pub fn questions(
     block: &[u64],
+    limits: Limits,
     message: &[u8],
     front: Front,
     tail: Tail,
@@ -44,8 +46,8 @@ pub fn questions(
     firsts: &mut [usize],
 ) -> Answer
     requires { ⌜ (holds-block (now block) ≡ true) × Sides (now vertex) (now serial) (now starts) (now sizes) × ((t : Transfer) × (message-in (now message) ≡ a-transfer t) × TransferOutlined t (now message) (now vertex) (now serial) (now starts) (now sizes) front tail) ⌝ }
-    requires { ⌜ (length (now keys) ≡ 512) × (length (now ranks) ≡ 512) × (length (now opposite) ≡ 512) × (words-for (front .darts) ≤ length (now draft)) × (now kinds ≡ replicate 512 0) × (now links ≡ replicate 512 0) × (length (now queue) ≡ room) × (length (now firsts) ≡ room) ⌝ }
-    ensures { λ r. ⌜ AskedAll (now (block .entry)) (now (message .entry)) (now (vertex .entry)) (now (serial .entry)) (now (starts .entry)) (now (sizes .entry)) front tail (now (keys .exit)) (now (ranks .exit)) (now (opposite .exit)) (now (draft .exit)) (now (kinds .exit)) (now (links .exit)) r × (length (now (queue .exit)) ≡ room) × (length (now (firsts .exit)) ≡ room) ⌝ }
+    requires { ⌜ (length (now keys) ≡ 512) × (length (now ranks) ≡ 512) × (length (now opposite) ≡ 512) × (words-for (front .darts) ≤ length (now draft)) × (now kinds ≡ replicate 512 0) × (now links ≡ replicate 512 0) × (front .darts ≤ length (now queue)) × (front .darts ≤ length (now firsts)) ⌝ }
+    ensures { λ r. ⌜ AskedAll (limits-of limits) (now (block .entry)) (now (message .entry)) (now (vertex .entry)) (now (serial .entry)) (now (starts .entry)) (now (sizes .entry)) front tail (now (keys .exit)) (now (ranks .exit)) (now (opposite .exit)) (now (draft .exit)) (now (kinds .exit)) (now (links .exit)) r ⌝ }
 {
     if !for_here(block, front.from, front.to) {
         return Answer::Refused(Refusal::NotForHere);
@@ -98,7 +100,7 @@ pub fn questions(
     ) {
         return Answer::Refused(Refusal::PartsWrong);
     }
-    if Header::DARTS < n + k {
+    if limits.block < n + k {
         return Answer::Refused(Refusal::BlockFull);
     }
     Answer::Served

@@ -3,12 +3,14 @@ mod asks; // asks.rt: questions 17 to 21
 
 ghost use mathlib.Core.Path.{_≡_};
 ghost use mathlib.Core.Bool.{true};
-ghost use lib.ListN.{length};
-ghost use Rattle.model.specs.Values.{rack};
-ghost use Rattle.model.specs.Image.{words, holds-block};
+ghost use Prim.Native.Nat.{_≤_};
+ghost use lib.ListN.{length, replicate};
+ghost use Rattle.model.specs.Values.{room, rack};
+ghost use Rattle.model.specs.Image.{words-for, words-of, holds-block};
 ghost use Rattle.model.specs.Messages.{Transfer, a-transfer, message-in};
 ghost use Rattle.model.specs.Calls as calls;
 ghost use Rattle.answers.specs.Answers.{answer-of, Gives};
+ghost use Rattle.memory.specs.Header.{limits-of};
 ghost use Rattle.inbox.specs.Inbox.{Sides};
 ghost use Rattle.inbox.specs.Arrived.{TransferOutlined};
 ghost use Rattle.receive.specs.Taken.{Takes};
@@ -18,13 +20,15 @@ use inbox::message::Front;
 use inbox::message::Tail;
 use inbox::received::Received;
 use memory::header::Header;
+use memory::header::Limits;
 
 // Words of a draft: those of a header, 8 for each dart that a message may bring.
 const DRAFT: usize = 4104;
 
-// A transfer whose darts are in the arrays.
+// A transfer whose darts are in the arrays. The others are lent: of its darts, `old` of the block's places too.
 fn take(
     block: &mut [u64],
+    limits: Limits,
     message: &[u8],
     front: Front,
     tail: Tail,
@@ -32,21 +36,24 @@ fn take(
     serial: &[u64],
     starts: &[usize],
     sizes: &[usize],
+    keys: &mut [u64],
+    ranks: &mut [usize],
+    opposite: &mut [usize],
+    draft: &mut [u64],
+    kinds: &mut [u64],
+    links: &mut [u64],
+    old: &mut [usize],
+    new: &mut [usize],
 ) -> Answer
-    requires { ⌜ (length (now block) ≡ words) × (holds-block (now block) ≡ true) × Sides (now vertex) (now serial) (now starts) (now sizes) × ((t : Transfer) × (message-in (now message) ≡ a-transfer t) × TransferOutlined t (now message) (now vertex) (now serial) (now starts) (now sizes) front tail) ⌝ }
-    ensures { λ r. ⌜ Takes (now (block .entry)) (now (message .entry)) (now (vertex .entry)) (now (serial .entry)) (now (starts .entry)) (now (sizes .entry)) front tail (answer-of r) (now (block .exit)) ⌝ }
+    requires { ⌜ (limits .block ≤ room) × (length (now block) ≡ words-of (limits-of limits)) × (holds-block (now block) ≡ true) × Sides (now vertex) (now serial) (now starts) (now sizes) × ((t : Transfer) × (message-in (now message) ≡ a-transfer t) × TransferOutlined t (now message) (now vertex) (now serial) (now starts) (now sizes) front tail) ⌝ }
+    requires { ⌜ (length (now keys) ≡ 512) × (length (now ranks) ≡ 512) × (length (now opposite) ≡ 512) × (words-for 512 ≤ length (now draft)) × (now kinds ≡ replicate 512 0) × (now links ≡ replicate 512 0) ⌝ }
+    requires { ⌜ (512 ≤ length (now old)) × (limits .block ≤ length (now old)) × (512 ≤ length (now new)) ⌝ }
+    ensures { λ r. ⌜ Takes (limits-of limits) (now (block .entry)) (now (message .entry)) (now (vertex .entry)) (now (serial .entry)) (now (starts .entry)) (now (sizes .entry)) front tail (answer-of r) (now (block .exit)) ⌝ }
 {
-    let mut keys = [0u64; Header::VOLUME];
-    let mut ranks = [0usize; Header::VOLUME];
-    let mut opposite = [0usize; Header::VOLUME];
-    let mut draft = [0u64; DRAFT];
-    let mut kinds = [0u64; Header::VOLUME];
-    let mut links = [0u64; Header::VOLUME];
-    // The questions work in both; then they are for the places of all darts.
-    let mut old = [0usize; Header::DARTS];
-    let mut new = [0usize; Header::DARTS];
+    // The questions work in `old` and `new`; then they are for the places of all darts.
     match asks::questions(
         block,
+        limits,
         message,
         front,
         tail,
@@ -54,6 +61,103 @@ fn take(
         serial,
         starts,
         sizes,
+        keys,
+        ranks,
+        opposite,
+        draft,
+        kinds,
+        links,
+        old,
+        new,
+    ) {
+        Answer::Refused(r) => Answer::Refused(r),
+        Answer::Served => {
+            join::join(block, draft, kinds, links, ranks, old, new);
+            Answer::Served
+        }
+    }
+}
+
+// Takes the volume that a transfer brings, by limits. 1: is the memory of a block's size? 2: is it a sound block's image? 16: is the
+// slice a message? 17: a transfer, addressed here, from elsewhere? 18 to 21: is what it brings new, a volume, right in its parts, and is
+// there room? A refused call leaves the memory. The arrays are lent: of a message's darts, `old` of the block's places too.
+pub fn receive_by(
+    block: &mut [u64],
+    limits: Limits,
+    message: &[u8],
+    vertex: &mut [u64],
+    serial: &mut [u64],
+    starts: &mut [usize],
+    sizes: &mut [usize],
+    keys: &mut [u64],
+    ranks: &mut [usize],
+    opposite: &mut [usize],
+    draft: &mut [u64],
+    kinds: &mut [u64],
+    links: &mut [u64],
+    old: &mut [usize],
+    new: &mut [usize],
+) -> Answer
+    requires { ⌜ (limits .block ≤ room) × Sides (now vertex) (now serial) (now starts) (now sizes) ⌝ }
+    requires { ⌜ (length (now keys) ≡ 512) × (length (now ranks) ≡ 512) × (length (now opposite) ≡ 512) × (words-for 512 ≤ length (now draft)) × (now kinds ≡ replicate 512 0) × (now links ≡ replicate 512 0) ⌝ }
+    requires { ⌜ (512 ≤ length (now old)) × (limits .block ≤ length (now old)) × (512 ≤ length (now new)) ⌝ }
+    ensures { λ r. ⌜ Gives (calls.receive (limits-of limits) (now (block .entry)) (now (message .entry))) (answer-of r) (now (block .exit)) ⌝ }
+{
+    if block.len() != limits.words() {
+        return Answer::Refused(Refusal::MemorySize);
+    }
+    if !sound::is_sound(block) {
+        return Answer::Refused(Refusal::NotAnImage);
+    }
+    match inbox::received::message_in(message, vertex, serial, starts, sizes) {
+        Received::Transfer(f, t) => take(
+            block,
+            limits,
+            message,
+            f,
+            t,
+            vertex,
+            serial,
+            starts,
+            sizes,
+            keys,
+            ranks,
+            opposite,
+            draft,
+            kinds,
+            links,
+            old,
+            new,
+        ),
+        Received::Update(u) => Answer::Refused(Refusal::NotForHere),
+        Received::Nothing => Answer::Refused(Refusal::MessageLayout),
+    }
+}
+
+// Takes the volume that a transfer brings into a block of the rack.
+pub fn receive(block: &mut [u64], message: &[u8]) -> Answer
+    ensures { λ r. ⌜ Gives (calls.receive rack (now (block .entry)) (now (message .entry))) (answer-of r) (now (block .exit)) ⌝ }
+{
+    let mut vertex = [0u64; Header::MESSAGE];
+    let mut serial = [0u64; Header::MESSAGE];
+    let mut starts = [0usize; Header::MESSAGE];
+    let mut sizes = [0usize; Header::MESSAGE];
+    let mut keys = [0u64; Header::MESSAGE];
+    let mut ranks = [0usize; Header::MESSAGE];
+    let mut opposite = [0usize; Header::MESSAGE];
+    let mut draft = [0u64; DRAFT];
+    let mut kinds = [0u64; Header::MESSAGE];
+    let mut links = [0u64; Header::MESSAGE];
+    let mut old = [0usize; Header::DARTS];
+    let mut new = [0usize; Header::MESSAGE];
+    receive_by(
+        block,
+        Limits::rack(),
+        message,
+        &mut vertex,
+        &mut serial,
+        &mut starts,
+        &mut sizes,
         &mut keys,
         &mut ranks,
         &mut opposite,
@@ -62,34 +166,5 @@ fn take(
         &mut links,
         &mut old,
         &mut new,
-    ) {
-        Answer::Refused(r) => Answer::Refused(r),
-        Answer::Served => {
-            join::join(block, &draft, &kinds, &links, &ranks, &mut old, &mut new);
-            Answer::Served
-        }
-    }
-}
-
-// Takes the volume that a transfer brings. 1: is the memory of a block's size? 2: is it a sound block's image? 16: is the slice a
-// message? 17: a transfer, addressed here, from elsewhere? 18 to 21: is what it brings new, a volume, right in its parts, and is there
-// room? A refused call leaves the memory.
-pub fn receive(block: &mut [u64], message: &[u8]) -> Answer
-    ensures { λ r. ⌜ Gives (calls.receive rack (now (block .entry)) (now (message .entry))) (answer-of r) (now (block .exit)) ⌝ }
-{
-    if block.len() != Header::WORDS {
-        return Answer::Refused(Refusal::MemorySize);
-    }
-    if !sound::is_sound(block) {
-        return Answer::Refused(Refusal::NotAnImage);
-    }
-    let mut vertex = [0u64; Header::VOLUME];
-    let mut serial = [0u64; Header::VOLUME];
-    let mut starts = [0usize; Header::VOLUME];
-    let mut sizes = [0usize; Header::VOLUME];
-    match inbox::received::message_in(message, &mut vertex, &mut serial, &mut starts, &mut sizes) {
-        Received::Transfer(f, t) => take(block, message, f, t, &vertex, &serial, &starts, &sizes),
-        Received::Update(u) => Answer::Refused(Refusal::NotForHere),
-        Received::Nothing => Answer::Refused(Refusal::MessageLayout),
-    }
+    )
 }

@@ -8,8 +8,8 @@ use lib.Dec.{ltb, eqb}
 use lib.ListN.{length, getD}
 use borrow.Author.Tests.{eq-eqb, ne-eqb, not-true, not-false}
 use Rattle.model.specs.Lists.{all, distinct}
-use Rattle.model.specs.Values.{rack, code}
-use Rattle.model.specs.Image.{words, image, block-in, holds-block, memory-checks}
+use Rattle.model.specs.Values.{Limits, code}
+use Rattle.model.specs.Image.{words-of, image, block-in, is-image, holds-block, memory-checks}
 use Rattle.model.specs.Messages.{Transfer, Update, Message, a-transfer, an-update, no-message, message-in}
 use Rattle.model.specs.Arrival.{addressed, names-face, update-right, redirect-checks, redirected, redirected-from}
 use Rattle.model.specs.Calls.{Answer, served, refused, storing, redirect}
@@ -38,67 +38,68 @@ kind-said s v x b z received.Nothing k = k
 pub kind-read : {s v x b z : List ℕ} {r : Received} → MessageRead s v x b z r → KindRead s r
 kind-read {s} {v} {x} {b} {z} {r} w = record { said = kind-said s v x b z r (w .said) }
 
--- QUESTIONS 1 AND 2
-module _ (m s : List ℕ) where
-  pub size-refused : (length m ≡ words → ⊥) → Gives (redirect rack m s) (refused 1) m
+-- QUESTIONS 1 AND 2, by any limits
+module _ (lim : Limits) (m s : List ℕ) where
+  pub size-refused : (length m ≡ words-of lim → ⊥) → Gives (redirect lim m s) (refused 1) m
   unfolding redirect storing memory-checks
-  size-refused h = gives _ _ _ _ (ask-no refl (ne-eqb (length m) words h) refl)
+  size-refused h = gives _ _ _ _ (ask-no refl (ne-eqb (length m) (words-of lim) h) refl)
 
-  pub image-refused : length m ≡ words → holds-block m ≡ false → Gives (redirect rack m s) (refused 2) m
+  pub image-refused : length m ≡ words-of lim → is-image lim m ≡ false → Gives (redirect lim m s) (refused 2) m
   unfolding redirect storing memory-checks
-  image-refused len h = gives _ _ _ _ (ask-yes (eq-eqb (length m) words len) (ask-no refl h refl))
+  image-refused len h = gives _ _ _ _ (ask-yes (eq-eqb (length m) (words-of lim) len) (ask-no refl h refl))
 
-  by-message : (r : Message) {given : Answer (Unit {0})} {lent : List ℕ} → message-in s ≡ r → Gives (redirect-by m r) given lent → Gives (redirect rack m s) given lent
+  by-message : (r : Message) {given : Answer (Unit {0})} {lent : List ℕ} → message-in s ≡ r → Gives (redirect-by lim m r) given lent → Gives (redirect lim m s) given lent
   unfolding redirect redirect-by
   by-message r e g = rw e g
 
-module _ (m : List ℕ) (size : length m ≡ words) (ok : holds-block m ≡ true) where
+module _ (lim : Limits) (m : List ℕ) (size : length m ≡ words-of lim) (ok : is-image lim m ≡ true) where
   asked-by : (r : Message) {given : Answer (Unit {0})} {lent : List ℕ}
-      → Asks (redirect-checks (block-in m) r) m tt (image words (redirected-from (block-in m) r)) given lent
-      → Gives (redirect-by m r) given lent
+      → Asks (redirect-checks (block-in m) r) m tt (image (words-of lim) (redirected-from (block-in m) r)) given lent
+      → Gives (redirect-by lim m r) given lent
   unfolding redirect-by storing memory-checks
-  asked-by r a = gives _ _ _ _ (ask-yes (eq-eqb (length m) words size) (ask-yes ok a))
+  asked-by r a = gives _ _ _ _ (ask-yes (eq-eqb (length m) (words-of lim) size) (ask-yes ok a))
 
   -- QUESTION 16, and 17 of a transfer
-  pub layout-refused : (s : List ℕ) {r : Received} → r ≡ received.Nothing → KindRead s r → Gives (redirect rack m s) (refused 16) m
+  pub layout-refused : (s : List ℕ) {r : Received} → r ≡ received.Nothing → KindRead s r → Gives (redirect lim m s) (refused 16) m
   unfolding redirect-checks
-  layout-refused s e k = by-message m s no-message (subst (KindSaid s) e (k .said)) (asked-by no-message (ask-no refl refl refl))
+  layout-refused s e k = by-message lim m s no-message (subst (KindSaid s) e (k .said)) (asked-by no-message (ask-no refl refl refl))
 
-  pub transfer-refused : (s : List ℕ) {r : Received} {f : _} {l : _} → r ≡ received.Transfer f l → KindRead s r → Gives (redirect rack m s) (refused 17) m
+  pub transfer-refused : (s : List ℕ) {r : Received} {f : _} {l : _} → r ≡ received.Transfer f l → KindRead s r → Gives (redirect lim m s) (refused 17) m
   unfolding redirect-checks
   transfer-refused s {r} {f} {l} e k = go (subst (KindSaid s) e (k .said))
     where
-      go : KindSaid s (received.Transfer f l) → Gives (redirect rack m s) (refused 17) m
-      go t = by-message m s (a-transfer (t .0)) (t .1) (asked-by (a-transfer (t .0)) (ask-no refl refl refl))
+      go : KindSaid s (received.Transfer f l) → Gives (redirect lim m s) (refused 17) m
+      go t = by-message lim m s (a-transfer (t .0)) (t .1) (asked-by (a-transfer (t .0)) (ask-no refl refl refl))
 
   -- AN UPDATE
   module _ (u : Update) where
-    here-no : addressed (u .from) (u .to) (block-in m) ≡ false → Gives (redirect-by m (an-update u)) (refused 17) m
+    here-no : addressed (u .from) (u .to) (block-in m) ≡ false → Gives (redirect-by lim m (an-update u)) (refused 17) m
     unfolding redirect-checks
     here-no e = asked-by (an-update u) (ask-no refl e refl)
 
-    right-no : addressed (u .from) (u .to) (block-in m) ≡ true → update-right (block-in m) u ≡ false → Gives (redirect-by m (an-update u)) (refused 22) m
+    right-no : addressed (u .from) (u .to) (block-in m) ≡ true → update-right (block-in m) u ≡ false → Gives (redirect-by lim m (an-update u)) (refused 22) m
     unfolding redirect-checks
     right-no h e = asked-by (an-update u) (ask-yes h (ask-no refl e refl))
 
     all-yes : addressed (u .from) (u .to) (block-in m) ≡ true → update-right (block-in m) u ≡ true → {m′ : List ℕ}
-        → m′ ≡ image words (redirected (block-in m) u) → Gives (redirect-by m (an-update u)) (served tt) m′
+        → m′ ≡ image (words-of lim) (redirected (block-in m) u) → Gives (redirect-by lim m (an-update u)) (served tt) m′
     unfolding redirect-checks
     all-yes h e q = asked-by (an-update u) (ask-yes h (ask-yes e (ask-end q)))
 
-    right-is : update-right (block-in m) u
-        ≡ ((not (eqb (u .block) (u .from)) && not (eqb (u .block) (u .to)))
-        && (all (names-at m (u .from)) (map code (u .labels)) && distinct (map code (u .labels))))
-    unfolding update-right
-    right-is =
-        ap
-        (λ (b : Bool). (not (eqb (u .block) (u .from)) && not (eqb (u .block) (u .to))) && b && distinct (map code (u .labels)))
-        (names-all (sited m ok) (image-passed m ok) (u .from) (u .labels))
-        ∙ together (not (eqb (u .block) (u .from)) && not (eqb (u .block) (u .to))) (all (names-at m (u .from)) (map code (u .labels))) (distinct (map code (u .labels)))
-      where
-        together : (a b c : Bool) → ((a && b) && c) ≡ (a && (b && c))
-        together true b c = refl
-        together false b c = refl
+module _ (m : List ℕ) (ok : holds-block m ≡ true) where
+  right-is : (u : Update) → update-right (block-in m) u
+      ≡ ((not (eqb (u .block) (u .from)) && not (eqb (u .block) (u .to)))
+      && (all (names-at m (u .from)) (map code (u .labels)) && distinct (map code (u .labels))))
+  unfolding update-right
+  right-is u =
+      ap
+      (λ (b : Bool). (not (eqb (u .block) (u .from)) && not (eqb (u .block) (u .to))) && b && distinct (map code (u .labels)))
+      (names-all (sited m ok) (image-passed m ok) (u .from) (u .labels))
+      ∙ together (not (eqb (u .block) (u .from)) && not (eqb (u .block) (u .to))) (all (names-at m (u .from)) (map code (u .labels))) (distinct (map code (u .labels)))
+    where
+      together : (a b c : Bool) → ((a && b) && c) ≡ (a && (b && c))
+      together true b c = refl
+      together false b c = refl
 
   -- from its outline
   module _ {s : List ℕ} {o : UpdateOutline} {here : Bool} (asks-here : here ≡ addressed (o .from) (o .to) (block-in m)) where
@@ -106,7 +107,7 @@ module _ (m : List ℕ) (size : length m ≡ words) (ok : holds-block m ≡ true
     here-is u w = asks-here ∙ ap (λ (a : ℕ). addressed a (o .to) (block-in m)) (w .from-is) ∙ ap (λ (a : ℕ). addressed (u .from) a (block-in m)) (w .to-is)
 
     pub redirects-elsewhere : not here ≡ true → Redirects m s o (refused 17) m
-    redirects-elsewhere e = record { gives = λ u w. here-no u (said-no (here-is u w) e) }
+    redirects-elsewhere e = record { gives = λ lim size is u w. here-no lim m size is u (said-no (here-is u w) e) }
 
     module _ (yes-here : not here ≡ false) {ends : Bool} (asks-ends : ends ≡ (not (eqb (o .block) (o .from)) && not (eqb (o .block) (o .to)))) where
       ends-are : (u : Update) → UpdateOutlined u s o → ends ≡ (not (eqb (u .block) (u .from)) && not (eqb (u .block) (u .to)))
@@ -118,10 +119,10 @@ module _ (m : List ℕ) (size : length m ≡ words) (ok : holds-block m ≡ true
           ∙ ap (λ (a : ℕ). ends && (all (names-at m a) (map code (u .labels)) && distinct (map code (u .labels)))) (sym (w .from-is))
 
       pub redirects-to-an-end : not ends ≡ true → Redirects m s o (refused 22) m
-      redirects-to-an-end e = record { gives = λ u w. right-no u (said-yes (here-is u w) yes-here) (right-by u w ∙ rw (not-true ends e)) }
+      redirects-to-an-end e = record { gives = λ lim size is u w. right-no lim m size is u (said-yes (here-is u w) yes-here) (right-by u w ∙ rw (not-true ends e)) }
 
       labels-no : ((u : Update) → UpdateOutlined u s o → (all (names-at m (o .from)) (map code (u .labels)) && distinct (map code (u .labels))) ≡ false) → Redirects m s o (refused 22) m
-      labels-no k = record { gives = λ u w. right-no u (said-yes (here-is u w) yes-here) (right-by u w ∙ and-no ends _ (k u w)) }
+      labels-no k = record { gives = λ lim size is u w. right-no lim m size is u (said-yes (here-is u w) yes-here) (right-by u w ∙ and-no ends _ (k u w)) }
 
       pub redirects-too-many : getD m 2 0 < o .count → Redirects m s o (refused 22) m
       redirects-too-many h = labels-no (λ u w. too-many (sited m ok .linked) refl (o .from) (u .labels) (w .labels-in) h)
@@ -133,16 +134,16 @@ module _ (m : List ℕ) (size : length m ≡ words) (ok : holds-block m ≡ true
         pub redirects-served : not ends ≡ false → not named ≡ false → Follows s o → {m′ : List ℕ}
             → Rewritten m m′ (λ p. ltb (getD table p 0) (o .count)) (2 + 4 * o .block) (getD m 2 0)
             → Redirects m s o (served tt) m′
-        redirects-served e k small {m′} r = record { gives = λ u w. go u w }
+        redirects-served e k small {m′} r = record { gives = go }
           where
-            go : (u : Update) → UpdateOutlined u s o → Gives (redirect-by m (an-update u)) (served tt) m′
-            go u w =
+            go : (lim : Limits) → length m ≡ words-of lim → is-image lim m ≡ true → (u : Update) → UpdateOutlined u s o → Gives (redirect-by lim m (an-update u)) (served tt) m′
+            go lim size is u w =
                 let site = sited m ok in
                 let said = sym (n .said (u .labels) (w .past) (w .labels-in)) ∙ not-false named k in
                 let names : all (names-face (darts-in m) (u .from)) (u .labels) ≡ true = names-all site (image-passed m ok) (u .from) (u .labels)
                 ∙ ap (λ (a : ℕ). all (names-at m a) (map code (u .labels))) (sym (w .from-is)) ∙ and-left (all (names-at m (o .from)) (map code (u .labels))) (distinct (map code (u .labels))) said in
                 let by-labels = rewritten-by (λ p h. n .tells (not-false named k) (u .labels) (w .past) (w .labels-in) p h) r in
-                all-yes u (said-yes (here-is u w) yes-here) (right-by u w ∙ and-intro (not-false ends e) said)
+                all-yes lim m size is u (said-yes (here-is u w) yes-here) (right-by u w ∙ and-intro (not-false ends e) said)
                 (memory-now site (image-passed m ok) u names (let a = w .block-is in let b = w .block-small in omega arith) (by-outline u w by-labels) (site .linked .size)
                 ∙ ap (λ (k : ℕ). image k (redirected (block-in m) u)) size)
               where
@@ -163,9 +164,9 @@ follows {s} {r} {o} e k = go (subst (KindSaid s) e (k .said))
     go t = let w = t .2 in record { from-small = w .from-small; block-small = w .block-small; labels-within = (let a = w .labels-in .onward in let b = w .labels-in .within in omega arith) }
 
 -- and the call on it is the call on the message
-pub update-told : (m s : List ℕ) {r : Received} {o : UpdateOutline} {given : Answer (Unit {0})} {lent : List ℕ} → r ≡ received.Update o
-    → KindRead s r → Redirects m s o given lent → Gives (redirect rack m s) given lent
-update-told m s {r} {o} {given} {lent} e k d = go (subst (KindSaid s) e (k .said))
+pub update-told : (lim : Limits) (m s : List ℕ) → length m ≡ words-of lim → is-image lim m ≡ true → {r : Received} {o : UpdateOutline} {given : Answer (Unit {0})} {lent : List ℕ}
+    → r ≡ received.Update o → KindRead s r → Redirects m s o given lent → Gives (redirect lim m s) given lent
+update-told lim m s size is {r} {o} {given} {lent} e k d = go (subst (KindSaid s) e (k .said))
   where
-    go : KindSaid s (received.Update o) → Gives (redirect rack m s) given lent
-    go t = by-message m s (an-update (t .0)) (t .1) (d .gives (t .0) (t .2))
+    go : KindSaid s (received.Update o) → Gives (redirect lim m s) given lent
+    go t = by-message lim m s (an-update (t .0)) (t .1) (d .gives lim size is (t .0) (t .2))

@@ -1,10 +1,11 @@
 -- What the parts of the call answer: the kind of a message, and what an update does to a block's memory. Assumes nothing.
 use mathlib.Core.Path.{_≡_}
+use mathlib.Core.Bool.{true}
 use mathlib.Core.List.{List, _++_}
 use Prim.Native.Nat.{ℕ, _≤_}
 use lib.ListN.{length}
-use Rattle.model.specs.Values.{rack}
-use Rattle.model.specs.Image.{block-in, memory-checks}
+use Rattle.model.specs.Values.{Limits}
+use Rattle.model.specs.Image.{words-of, block-in, is-image, memory-checks}
 use Rattle.model.specs.Messages.{Transfer, Update, Message, a-transfer, an-update, no-message, message-in}
 use Rattle.model.specs.Arrival.{redirect-checks, redirected-from}
 use Rattle.model.specs.Calls.{Answer, Result, storing}
@@ -29,10 +30,10 @@ pub record Follows (s : List ℕ) (o : UpdateOutline) : Type 0 where
   pub block-small : o .block ≤ 15
   pub labels-within : o .labels ≤ length s
 
--- the call on a message that was read
-unfoldable pub redirect-by : List ℕ → Message → Result (Unit {0})
-redirect-by m received = storing rack (memory-checks rack m ++ redirect-checks (block-in m) received) m (redirected-from (block-in m) received)
+-- the call on a message that was read, by the block's limits
+unfoldable pub redirect-by : Limits → List ℕ → Message → Result (Unit {0})
+redirect-by lim m received = storing lim (memory-checks lim m ++ redirect-checks (block-in m) received) m (redirected-from (block-in m) received)
 
--- the call on the update that an outline tells
+-- the call on the update that an outline tells, by any limits that the memory is right for
 pub record Redirects (m s : List ℕ) (o : UpdateOutline) (given : Answer (Unit {0})) (lent : List ℕ) : Type 0 where
-  pub gives : (u : Update) → UpdateOutlined u s o → Gives (redirect-by m (an-update u)) given lent
+  pub gives : (lim : Limits) → length m ≡ words-of lim → is-image lim m ≡ true → (u : Update) → UpdateOutlined u s o → Gives (redirect-by lim m (an-update u)) given lent

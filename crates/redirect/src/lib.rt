@@ -9,10 +9,11 @@ ghost use Prim.Native.Nat.{_≤_, _<_};
 ghost use lib.Dec.{eqb};
 ghost use lib.ListN.{length, getD};
 ghost use Rattle.model.specs.Values.{rack, room};
-ghost use Rattle.model.specs.Image.{words, count-in, block-in, holds-block};
+ghost use Rattle.model.specs.Image.{count-in, block-in, holds-block};
 ghost use Rattle.model.specs.Arrival.{addressed};
 ghost use Rattle.model.specs.Calls as calls;
 ghost use Rattle.answers.specs.Answers.{answer-of, Gives};
+ghost use Rattle.memory.specs.Header.{limits-of};
 ghost use Rattle.cells.specs.Places.{Clear};
 ghost use Rattle.redirect.specs.ByPlaces.{Ready, Unset, EachNamed, AllNamed};
 ghost use Rattle.redirect.specs.Told.{KindRead, Follows, Redirects};
@@ -21,6 +22,7 @@ use answers::Refusal;
 use inbox::message::Update;
 use inbox::received::Received;
 use memory::header::Header;
+use memory::header::Limits;
 use memory::kind;
 
 // 16: the message that a slice is.
@@ -107,7 +109,7 @@ fn redirect_update(
     scratch: &mut [u64],
     hits: &mut [u8],
 ) -> Answer
-    requires { ⌜ (length (now block) ≡ words) × (holds-block (now block) ≡ true) × Follows (now s) u ⌝ }
+    requires { ⌜ (holds-block (now block) ≡ true) × Follows (now s) u ⌝ }
     requires { ⌜ (count-in (now block) ≤ length (now table)) × Unset (count-in (now block)) (now table) × (count-in (now block) < length (now hits)) × Clear (now hits) ⌝ }
     requires { ⌜ (count-in (now block) ≤ length (now codes)) × (count-in (now block) ≤ length (now scratch)) ⌝ }
     ensures { λ r. ⌜ Redirects (now (block .entry)) (now (s .entry)) u (answer-of r) (now (block .exit)) ⌝ }
@@ -145,18 +147,45 @@ fn redirect_update(
     Answer::Served
 }
 
-// Redirects the faces that an update names. 1: is the memory of a block's size? 2: is it a sound block's image? 16: is the slice a
-// message? 17: an update, addressed here, from elsewhere? 22: is the new block neither end, and does each label name a face of its own?
-// A refused call leaves the memory.
-pub fn redirect(block: &mut [u64], message: &[u8]) -> Answer
-    ensures { λ r. ⌜ Gives (calls.redirect rack (now (block .entry)) (now (message .entry))) (answer-of r) (now (block .exit)) ⌝ }
+// Redirects the faces that an update names, by limits. 1: is the memory of a block's size? 2: is it a sound block's image? 16: is the
+// slice a message? 17: an update, addressed here, from elsewhere? 22: is the new block neither end, and does each label name a face of
+// its own? A refused call leaves the memory. The arrays are lent: four of a message's darts, four of a block's places.
+pub fn redirect_by(
+    block: &mut [u64],
+    limits: Limits,
+    message: &[u8],
+    vertex: &mut [u64],
+    serial: &mut [u64],
+    starts: &mut [usize],
+    sizes: &mut [usize],
+    table: &mut [u16],
+    codes: &mut [u64],
+    scratch: &mut [u64],
+    hits: &mut [u8],
+) -> Answer
+    requires { ⌜ limits .block ≤ room ⌝ }
+    requires { ⌜ (length (now vertex) ≡ 512) × (length (now serial) ≡ 512) × (length (now starts) ≡ 512) × (length (now sizes) ≡ 512) ⌝ }
+    requires { ⌜ (limits .block ≤ length (now table)) × Unset (limits .block) (now table) × (limits .block < length (now hits)) × Clear (now hits) ⌝ }
+    requires { ⌜ (limits .block ≤ length (now codes)) × (limits .block ≤ length (now scratch)) ⌝ }
+    ensures { λ r. ⌜ Gives (calls.redirect (limits-of limits) (now (block .entry)) (now (message .entry))) (answer-of r) (now (block .exit)) ⌝ }
 {
-    if block.len() != Header::WORDS {
+    if block.len() != limits.words() {
         return Answer::Refused(Refusal::MemorySize);
     }
     if !sound::is_sound(block) {
         return Answer::Refused(Refusal::NotAnImage);
     }
+    match received(message, vertex, serial, starts, sizes) {
+        Received::Transfer(f, t) => Answer::Refused(Refusal::NotForHere),
+        Received::Update(u) => redirect_update(block, message, u, table, codes, scratch, hits),
+        Received::Nothing => Answer::Refused(Refusal::MessageLayout),
+    }
+}
+
+// Redirects the faces that an update names, in a block of the rack.
+pub fn redirect(block: &mut [u64], message: &[u8]) -> Answer
+    ensures { λ r. ⌜ Gives (calls.redirect rack (now (block .entry)) (now (message .entry))) (answer-of r) (now (block .exit)) ⌝ }
+{
     let mut vertex = [0u64; Header::MESSAGE];
     let mut serial = [0u64; Header::MESSAGE];
     let mut starts = [0usize; Header::MESSAGE];
@@ -165,17 +194,17 @@ pub fn redirect(block: &mut [u64], message: &[u8]) -> Answer
     let mut codes = [0u64; Header::DARTS];
     let mut scratch = [0u64; Header::DARTS];
     let mut hits = [0u8; 4097];
-    match received(message, &mut vertex, &mut serial, &mut starts, &mut sizes) {
-        Received::Transfer(f, t) => Answer::Refused(Refusal::NotForHere),
-        Received::Update(u) => redirect_update(
-            block,
-            message,
-            u,
-            &mut table,
-            &mut codes,
-            &mut scratch,
-            &mut hits,
-        ),
-        Received::Nothing => Answer::Refused(Refusal::MessageLayout),
-    }
+    redirect_by(
+        block,
+        Limits::rack(),
+        message,
+        &mut vertex,
+        &mut serial,
+        &mut starts,
+        &mut sizes,
+        &mut table,
+        &mut codes,
+        &mut scratch,
+        &mut hits,
+    )
 }

@@ -99,10 +99,6 @@ module _ (m : List ℕ) (j s : ℕ) where
     unfolding release storing memory-checks
     image-refused e h = gives _ _ _ _ (ask-yes (eq-eqb (length m) words size) (ask-no refl (said-no e h) refl))
 
-  -- limits by another name
-  pub by-limits : {lim lim′ : Limits} {given : Answer (Unit {0})} {lent : List ℕ} → lim ≡ lim′ → Gives (release lim m j s) given lent → Gives (release lim′ m j s) given lent
-  by-limits {given = given} {lent = lent} e = subst (λ (l : Limits). Gives (release l m j s) given lent) e
-
   -- by any limits
   module _ (lim : Limits) (size : length m ≡ words-of lim) (ok : is-image lim m ≡ true) where
     -- 1 and 2 before

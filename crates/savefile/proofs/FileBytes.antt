@@ -7,7 +7,7 @@ use native.Mathlib.Omega.{arith}
 use lib.Dec.{eqb}
 use lib.ListN.{length, getD, length-append}
 use Rattle.model.specs.Lists.{tab, concat-map}
-use Rattle.model.specs.Values.{Third, rack}
+use Rattle.model.specs.Values.{Third, Limits}
 use Rattle.model.specs.Layouts.{Layout, group, serial, _⊗_, _⊕_, as-type, such-that, at-most, put-all, times, counted}
 use Rattle.model.specs.Image.{column, third-in, dart-in, block-in}
 use Rattle.model.specs.Messages.{point, kind-of, third, a-dart, file}
@@ -96,9 +96,9 @@ pub darts-most : {m : List ℕ} {n : ℕ} → AllSmall m n → length (pieces (d
 darts-most {m} {n} s = length-most (dart-bytes m) 60 n (λ p h. dart-most m p (s .each p h))
 
 -- THE FILE
-pub file-put : (m : List ℕ) → file rack .put (block-in m) ≡ header-bytes m ++ put-all a-dart (tab (dart-in m) (getD m 2 0))
+pub file-put : (lim : Limits) (m : List ℕ) → file lim .put (block-in m) ≡ header-bytes m ++ put-all a-dart (tab (dart-in m) (getD m 2 0))
 unfolding file such-that as-type counted _⊕_ _⊗_ at-most times header-bytes
-file-put m =
+file-put lim m =
     let n = getD m 2 0 in
     let ds = put-all a-dart (tab (dart-in m) n) in
     ap (λ (k : ℕ). group .put (getD m 0 0) ++ (group .put (getD m 1 0) ++ (group .put k ++ ds))) (length-tab (dart-in m) n)

@@ -4,7 +4,7 @@ ghost use mathlib.Core.Path.{_≡_};
 ghost use Prim.Native.Nat.{_+_, _<_, _^_};
 ghost use lib.ListN.{length};
 ghost use Rattle.model.specs.Lists.{tab};
-ghost use Rattle.model.specs.Values.{rack};
+ghost use Rattle.model.specs.Values.{Limits};
 ghost use Rattle.model.specs.Layouts.{put-all};
 ghost use Rattle.model.specs.Image.{dart-in, block-in, holds-block};
 ghost use Rattle.model.specs.Messages.{a-dart, file};
@@ -65,10 +65,10 @@ fn put_header(block: &[u64], out: &mut [u8]) -> usize
     groups::put_group(out, past_counter, links::narrow(block[Header::COUNT]))
 }
 
-// The whole file, from the output's first byte.
+// The whole file, from the output's first byte: the same by any limits.
 pub fn put_file(block: &[u64], out: &mut [u8]) -> usize
     requires { ⌜ holds-block (now block) ≡ true ⌝ }
-    ensures { λ r. ⌜ Stored (now (out .entry)) 0 (file rack .put (block-in (now (block .entry)))) (now (out .exit)) r ⌝ }
+    ensures { λ r. ⌜ ((lim : Limits) → Stored (now (out .entry)) 0 (file lim .put (block-in (now (block .entry)))) (now (out .exit)) r) ⌝ }
 {
     let past_header = put_header(block, out);
     put_darts(block, block[Header::COUNT] as usize, out, past_header)

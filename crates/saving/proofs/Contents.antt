@@ -86,7 +86,7 @@ file-short m b e =
     let p : List ℕ = part m b in
     let one = yes-first 1 (eqb (length p) words) ((2, holds-block p) ∷ []) (λ z. omega arith) (eqb-true (first-no ((1, eqb (length p) words) ∷ (2, holds-block p) ∷ [])) 0 e) in
     let two = yes-first 2 (holds-block p) [] (λ z. omega arith) (one .1) in
-    omega (arith, file-most p (two .0))
+    omega (arith, file-most rack p (two .0))
 
 -- A ROOM AFTERWARDS
 -- bytes were put: they are all there, and stand first

@@ -102,10 +102,6 @@ pub refused-image : (m out : List ℕ) (j s : ℕ) → length m ≡ words → ho
 unfolding send writing memory-checks
 refused-image m out j s h e = gives _ _ _ _ (ask-yes (eq-eqb (length m) words h) (ask-no refl e refl))
 
--- limits by another name
-pub by-limits : (m out : List ℕ) (j s : ℕ) {lim lim′ : Limits} {given : Answer ℕ} {after : List ℕ} → lim ≡ lim′ → Gives (send lim m j s out) given after → Gives (send lim′ m j s out) given after
-by-limits m out j s {given = given} {after = after} e = subst (λ (l : Limits). Gives (send l m j s out) given after) e
-
 -- by any limits
 module _ (m out : List ℕ) (j s : ℕ) (lim : Limits) (size : length m ≡ words-of lim) (ok : is-image lim m ≡ true) where
   pub refused-leaving : {n : ℕ} → refused n ≡ answered (departure-checks (lim .volume-darts) (block-in m) j s) → Gives (send lim m j s out) (refused n) out

@@ -11,11 +11,12 @@ use lib.ListN.{length, getD, replicate, length-append, length-replicate, length-
 use lib.Seq.{getD-append-add}
 use borrow.Author.Tests.{eqb-true, ne-eqb, leb-true, ltb-true, le-leb, lt-ltb}
 use Rattle.model.specs.Lists.{all, any, mem, tab, ascending, concat, index-of, same-list}
-use Rattle.model.specs.Values.{Label, Third, free, sewn, critical, Dart, no-dart, Block, Limits, serial-bound, code}
+use Rattle.model.specs.Values.{room, Label, Third, free, sewn, critical, Dart, no-dart, Block, Limits, widest, serial-bound, code}
 use Rattle.model.specs.Cells.{serials, held}
 use Rattle.model.specs.Sound.{third-in-range, dart-in-range, ranges-right, links-right, link-right, thirds-right, third-right, coordinates-finite, labels-right, points-agree, block-checks, sound-block}
-use Rattle.model.specs.Image.{words-for, words-of, count-in, kind-word, link-word, dart-words, image, column, label-in, third-in, dart-in, block-in, is-image}
-use Rattle.laws.proofs.Tests.{by-cases, and-left, and-right, and-intro, all-at, same-list-is, same-list-self}
+use Rattle.model.specs.Image.{words-for, words-of, count-in, kind-word, link-word, dart-words, image, column, label-in, third-in, dart-in, block-in, is-image, holds-block}
+use Rattle.laws.proofs.Tests.{by-cases, and-left, and-right, and-intro, same-truth, all-at, same-list-is, same-list-self}
+use Rattle.laws.proofs.Tables.{length-tab}
 
 -- LABELS AND PLACES
 pub label-back : (l : Label) → l .number < 2 ^ 32 → l .position ≤ 4095 → label-in (code l) ≡ l
@@ -266,23 +267,43 @@ is-image-of lim size b fits s =
     is-image-by lim (image size b) (omega (arith, image-count size b, long, few)) (ap (λ (n : ℕ). image n (block-in (image size b))) long ∙ ap (image size) back)
     (ap (sound-block lim) back ∙ s)
 
--- wider limits
-pub sound-wider : (lim wide : Limits) (b : Block) → lim .block-darts ≤ wide .block-darts → sound-block lim b ≡ true → sound-block wide b ≡ true
+-- other limits, where its darts fit
+pub ranges-fit : (lim other : Limits) (b : Block) → length (b .darts) ≤ other .block-darts → ranges-right lim b ≡ true → ranges-right other b ≡ true
 unfolding ranges-right
-sound-wider lim wide b h s =
+ranges-fit lim other b few e =
+    let r = ranges-of lim b e in
+    rw (
+      le-leb (b .number) 15 (r .number-small),
+      lt-ltb (b .counter) (2 ^ 32) (r .counter-small),
+      le-leb (length (b .darts)) (other .block-darts) few,
+      r .each-dart,
+      r .in-order,
+    )
+
+pub sound-fits : (lim other : Limits) (b : Block) → length (b .darts) ≤ other .block-darts → sound-block lim b ≡ true → sound-block other b ≡ true
+sound-fits lim other b few s =
     let q = parts-of lim b s in
-    let r = ranges-of lim b (q .ranges) in
-    parts-sound wide b (record {
-      ranges = rw (
-        le-leb (b .number) 15 (r .number-small),
-        lt-ltb (b .counter) (2 ^ 32) (r .counter-small),
-        le-leb (length (b .darts)) (wide .block-darts) (omega (arith, r .few-darts)),
-        r .each-dart,
-        r .in-order,
-      );
+    parts-sound other b (record {
+      ranges = ranges-fit lim other b few (q .ranges);
       finite = q .finite;
       links = q .links;
       thirds = q .thirds;
       labels = q .labels;
       points = q .points;
     })
+
+-- wider limits
+pub sound-wider : (lim wide : Limits) (b : Block) → lim .block-darts ≤ wide .block-darts → sound-block lim b ≡ true → sound-block wide b ≡ true
+sound-wider lim wide b h s = sound-fits lim wide b (omega (arith, ranges-of lim b (parts-of lim b s .ranges) .few-darts)) s
+
+-- QUESTION 2 BY OTHER LIMITS
+pub image-fits : (lim other : Limits) (m : List ℕ) → count-in m ≤ other .block-darts → is-image lim m ≡ true → is-image other m ≡ true
+image-fits lim other m few e =
+    let t = image-is lim m e in
+    is-image-by other m (count-fits lim m e) (t .0) (sound-fits lim other (block-in m) (omega (arith, length-tab (dart-in m) (count-in m))) (t .1))
+
+-- in memory of the size that the limits say it asks for a sound block alone
+pub image-by-size : (lim : Limits) (m : List ℕ) → lim .block-darts ≤ room → length m ≡ words-of lim → holds-block m ≡ is-image lim m
+image-by-size lim m small size = same-truth (holds-block m) (is-image lim m)
+    (λ e. image-fits widest lim m (omega (arith, count-fits widest m e)) e)
+    (λ e. image-fits lim widest m (omega (arith, count-fits lim m e)) e)

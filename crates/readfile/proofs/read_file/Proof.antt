@@ -1,65 +1,43 @@
--- `readfile::read_file` meets its contract: each answer is that of the first question that is answered no.
+-- `readfile::read_file` meets its contract: the rack's limits.
 -- Assumes nothing.
-use mathlib.Core.Path.{refl, sym, _∙_}
-use Rattle.theory.proofs.LayoutLaws.{byte-list}
-use Rattle.readfile.proofs.Answered.{size-refused, layout-refused, raw-long, raw-ready, block-put}
+use mathlib.Core.Path.{ap, sym}
+use lib.ListN.{replicate}
+use Rattle.model.specs.Values.{Limits}
+use Rattle.model.specs.Image.{words-of}
+use Rattle.model.specs.Calls as calls
+use Rattle.answers.proofs.Questions.{by-limits}
+use Rattle.memory.proofs.Headers.{rack-fits}
 use borrow.Author.Needs.{needs}
 use Rattle.readfile.proofs.read_file.Statement.{statement}
 use Rattle.readfile.proofs.read_file.Tie as tie
 
-returns : tie.Need-returns
-returns c =
-    size-refused _ _ (c .if1 .taken)
+rack-requires : tie.Need-rack-requires
+rack-requires c κs = search needs
 
-slice-aggregate-read-raw : tie.Need-slice-aggregate-read-raw
-slice-aggregate-read-raw c = search needs
+slice-aggregate-read-file-by : tie.Need-slice-aggregate-read-file-by
+slice-aggregate-read-file-by c = search needs
 
-read-raw-requires : tie.Need-read-raw-requires
-read-raw-requires c κs =
-    refl
-
-returns-2 : tie.Need-returns-2
-returns-2 c =
-    let if1-left = (let p : tie.Else1 = search in p .if1 .left) in
-    let read-raw-ensures = (let p : tie.After-read-raw = search in p .read-raw .ensures) in
-    layout-refused _ _ if1-left read-raw-ensures (c .if2 .taken)
-
-slice-aggregate-put-block : tie.Need-slice-aggregate-put-block
-slice-aggregate-put-block c = search needs
-
-put-block-requires : tie.Need-put-block-requires
-put-block-requires c κs =
-    let start : tie.Start = search in
-    let block = start .args .block .now in
-    let shared-slice-known-given = (let p : tie.After-shared-slice-known = search in p .shared-slice-known .given) in
-    let if1-left = (let p : tie.Else1 = search in p .if1 .left) in
-    let read-raw-ensures = (let p : tie.After-read-raw = search in p .read-raw .ensures) in
-    let if2-left = (let p : tie.Else2 = search in p .if2 .left) in
-    let bytes = byte-list (start .args .file .now) (λ i. shared-slice-known-given i .fits) in
-    (if1-left ∙ sym (raw-long _ block if1-left read-raw-ensures if2-left bytes), raw-ready _ block if1-left read-raw-ensures if2-left bytes)
+read-file-by-requires : tie.Need-read-file-by-requires
+read-file-by-requires c κs =
+    let rack-ensures = (let p : tie.After-rack = search in p .rack .ensures) in
+    (rack-fits _ rack-ensures, ap (λ (l : Limits). replicate (words-of l) 0) (sym rack-ensures))
 
 same-length : tie.Need-same-length
 same-length c = search needs
 
-returns-3 : tie.Need-returns-3
-returns-3 c =
+returns : tie.Need-returns
+returns c =
     let start : tie.Start = search in
-    let shared-slice-known-given = (let p : tie.After-shared-slice-known = search in p .shared-slice-known .given) in
-    let if1-left = (let p : tie.Else1 = search in p .if1 .left) in
-    let read-raw-ensures = (let p : tie.After-read-raw = search in p .read-raw .ensures) in
-    let if2-left = (let p : tie.Else2 = search in p .if2 .left) in
-    let put-block-ensures = (let p : tie.After-put-block = search in p .put-block .ensures) in
-    block-put _ _ if1-left read-raw-ensures if2-left (byte-list (start .args .file .now) (λ i. shared-slice-known-given i .fits)) put-block-ensures
+    let rack-ensures = (let p : tie.After-rack = search in p .rack .ensures) in
+    let read-file-by-ensures = (let p : tie.After-read-file-by = search in p .read-file-by .ensures) in
+    by-limits (λ (l : Limits). calls.read-file l (start .args .file .now) (start .args .block .now)) rack-ensures read-file-by-ensures
 
 pub read-file-spec : {M : Type 1} → statement M
 read-file-spec =
     tie.close
     (tie.spec
-    returns
-    slice-aggregate-read-raw
-    read-raw-requires
-    returns-2
-    slice-aggregate-put-block
-    put-block-requires
+    rack-requires
+    slice-aggregate-read-file-by
+    read-file-by-requires
     same-length
-    returns-3)
+    returns)

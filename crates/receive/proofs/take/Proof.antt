@@ -1,46 +1,37 @@
 -- `receive::take` meets its contract.
 -- Assumes nothing.
-use mathlib.Core.Path.{refl}
+use mathlib.Core.Path.{sym, _∙_}
+use Prim.Native.Nat.{_≤_}
 use mir.Facts.{fits-lt-pow}
-use Rattle.theory.proofs.LayoutLaws.{byte-list}
-use Rattle.cells.proofs.Resets.{zeros-long}
-use Rattle.receive.proofs.Answered.{asked-no, asked-yes, transfer-refused}
-use Rattle.fitting.proofs.Outlined.{told-of}
-use Rattle.receive.proofs.Served.{may-join, few-new, served-image}
 use native.Mathlib.Omega.{arith}
+use lib.ListN.{length}
+use Rattle.theory.proofs.LayoutLaws.{byte-list}
+use Rattle.theory.proofs.ImageLaws.{image-by-size}
+use Rattle.memory.specs.Header.{limits-of}
+use Rattle.fitting.proofs.Outlined.{told-of}
+use Rattle.receive.proofs.Answered.{asked-no, asked-yes, transfer-refused}
+use Rattle.receive.proofs.Served.{may-join, few-new, served-image}
 use borrow.Author.Needs.{needs}
 use Rattle.receive.proofs.take.Statement.{statement}
 use Rattle.receive.proofs.take.Tie as tie
 
-slice-aggregate-questions : tie.Need-slice-aggregate-questions
-slice-aggregate-questions c = search needs
-
-slice-aggregate-questions-2 : tie.Need-slice-aggregate-questions-2
-slice-aggregate-questions-2 c = search needs
-
-slice-aggregate-questions-3 : tie.Need-slice-aggregate-questions-3
-slice-aggregate-questions-3 c = search needs
-
-slice-aggregate-questions-4 : tie.Need-slice-aggregate-questions-4
-slice-aggregate-questions-4 c = search needs
-
-slice-aggregate-questions-5 : tie.Need-slice-aggregate-questions-5
-slice-aggregate-questions-5 c = search needs
-
-slice-aggregate-questions-6 : tie.Need-slice-aggregate-questions-6
-slice-aggregate-questions-6 c = search needs
-
-slice-aggregate-questions-7 : tie.Need-slice-aggregate-questions-7
-slice-aggregate-questions-7 c = search needs
-
-slice-aggregate-questions-8 : tie.Need-slice-aggregate-questions-8
-slice-aggregate-questions-8 c = search needs
-
 questions-requires : tie.Need-questions-requires
 questions-requires c κs =
-    let start : tie.Start = search in (
-      (start .pre .1, start .pre .2, start .pre .3),
-      (refl, refl, refl, zeros-long _ 4104 refl (omega (arith, told-of (start .pre .3 .2) .few)), refl, refl, refl, refl),
+    let start : tie.Start = search in
+    let few = told-of (start .pre .0 .4 .2) .few in
+    let of-darts = start .pre .1 .0 in
+    let of-places = start .pre .1 .1 in (
+      (start .pre .0 .2, start .pre .0 .3, start .pre .0 .4),
+      (
+        of-darts .0,
+        of-darts .1,
+        of-darts .2,
+        omega (arith, few, of-darts .3),
+        of-darts .4,
+        of-darts .5,
+        omega (arith, few, of-places .0),
+        omega (arith, few, of-places .2),
+      ),
     )
 
 enum-known-r : tie.Need-enum-known-r
@@ -49,39 +40,48 @@ enum-known-r c = search needs
 enum-told : tie.Need-enum-told
 enum-told c = search needs
 
-slice-aggregate-join : tie.Need-slice-aggregate-join
-slice-aggregate-join c = search needs
-
-slice-aggregate-join-2 : tie.Need-slice-aggregate-join-2
-slice-aggregate-join-2 c = search needs
-
-slice-aggregate-join-3 : tie.Need-slice-aggregate-join-3
-slice-aggregate-join-3 c = search needs
-
-slice-aggregate-join-4 : tie.Need-slice-aggregate-join-4
-slice-aggregate-join-4 c = search needs
-
-slice-aggregate-join-5 : tie.Need-slice-aggregate-join-5
-slice-aggregate-join-5 c = search needs
-
-slice-aggregate-join-6 : tie.Need-slice-aggregate-join-6
-slice-aggregate-join-6 c = search needs
-
 join-requires : tie.Need-join-requires
 join-requires c κs =
     let enum-told-given = (let p : tie.After-enum-told = search in p .enum-told .given) in
     let questions-ensures = (let p : tie.After-questions = search in p .questions .ensures) in
+    let questions-kept = (let p : tie.After-questions = search in p .questions .kept) in
     let c : tie.After-questions = search in
     let start : tie.Start = search in
-    let y = asked-yes (questions-ensures .0) (enum-told-given .1) in
-    let joins = may-join (start .pre .0) (start .pre .1)
-    (let l = start .pre .2 .serial-size in let f = told-of (start .pre .3 .2) .few in omega (arith, l, f)) y (start .pre .3 .0) (start .pre .3 .1) (start .pre .3 .2) in
-    let few = few-new (start .pre .0) (start .pre .1)
-    (let l = start .pre .2 .serial-size in let f = told-of (start .pre .3 .2) .few in omega (arith, l, f)) y (start .pre .3 .0) (start .pre .3 .1) (start .pre .3 .2) in
-    ((omega (arith, joins .drafted .weaves .fits, questions-ensures .1), omega (arith, few, questions-ensures .2)), (y .3, y .4, y .5, joins, few))
+    let lim = limits-of (start .args .limits) in
+    let here = start .pre .0 in
+    let of-places = start .pre .1 .1 in
+    let y = asked-yes questions-ensures (enum-told-given .1) in
+    let long : start .args .front .darts ≤ length (start .args .serial .now) = omega (arith, here .3 .serial-size, told-of (here .4 .2) .few) in
+    let joins = may-join lim (here .0) (here .1) (here .2) long y (here .4 .0) (here .4 .1) (here .4 .2) in
+    let few = few-new lim (here .0) (here .1) (here .2) long y (here .4 .0) (here .4 .1) (here .4 .2) in
+    ((omega (arith, y .2, questions-kept, of-places .1), omega (arith, few, questions-kept, of-places .2)), (y .3, y .4, y .5, joins, few))
 
 same-length : tie.Need-same-length
 same-length c = search needs
+
+same-length-2 : tie.Need-same-length-2
+same-length-2 c = search needs
+
+same-length-3 : tie.Need-same-length-3
+same-length-3 c = search needs
+
+same-length-4 : tie.Need-same-length-4
+same-length-4 c = search needs
+
+same-length-5 : tie.Need-same-length-5
+same-length-5 c = search needs
+
+same-length-6 : tie.Need-same-length-6
+same-length-6 c = search needs
+
+same-length-7 : tie.Need-same-length-7
+same-length-7 c = search needs
+
+same-length-8 : tie.Need-same-length-8
+same-length-8 c = search needs
+
+same-length-9 : tie.Need-same-length-9
+same-length-9 c = search needs
 
 returns : tie.Need-returns
 returns c =
@@ -89,10 +89,38 @@ returns c =
     let questions-ensures = (let p : tie.After-questions = search in p .questions .ensures) in
     let c : tie.After-questions = search in
     let start : tie.Start = search in
-    record { gives = λ t e w. transfer-refused (start .args .block .now) (start .pre .0) (start .pre .1) t (asked-no (questions-ensures .0) (r-given .1) t e w) }
+    let lim = limits-of (start .args .limits) in
+    let block = start .args .block .now in
+    let here = start .pre .0 in
+    let is = sym (image-by-size lim block (here .0) (here .1)) ∙ here .2 in
+    record { gives = λ t e w. transfer-refused lim block (here .1) is t (asked-no questions-ensures (r-given .1) t e w) }
 
-same-length-2 : tie.Need-same-length-2
-same-length-2 c = search needs
+same-length-10 : tie.Need-same-length-10
+same-length-10 c = search needs
+
+same-length-11 : tie.Need-same-length-11
+same-length-11 c = search needs
+
+same-length-12 : tie.Need-same-length-12
+same-length-12 c = search needs
+
+same-length-13 : tie.Need-same-length-13
+same-length-13 c = search needs
+
+same-length-14 : tie.Need-same-length-14
+same-length-14 c = search needs
+
+same-length-15 : tie.Need-same-length-15
+same-length-15 c = search needs
+
+same-length-16 : tie.Need-same-length-16
+same-length-16 c = search needs
+
+same-length-17 : tie.Need-same-length-17
+same-length-17 c = search needs
+
+same-length-18 : tie.Need-same-length-18
+same-length-18 c = search needs
 
 returns-2 : tie.Need-returns-2
 returns-2 c =
@@ -104,11 +132,12 @@ returns-2 c =
     let shared-slice-known-given = (let p : tie.After-shared-slice-known = search in p .shared-slice-known .given) in
     let start : tie.Start = search in
     let message = start .args .message .now in
-    let y = asked-yes (questions-ensures .0) (enum-told-given .1) in
+    let here = start .pre .0 in
+    let y = asked-yes questions-ensures (enum-told-given .1) in
     record {
       gives =
-          λ t e w. served-image (start .pre .0) (start .pre .1)
-          (let l = start .pre .2 .serial-size in let f = told-of w .few in omega (arith, l, f)) y t e w
+          λ t e w. served-image (limits-of (start .args .limits)) (here .0) (here .1) (here .2)
+          (omega (arith, here .3 .serial-size, told-of w .few)) y t e w
           (byte-list message (λ i. fits-lt-pow (shared-slice-known-given i))) join-ensures;
     }
 
@@ -116,25 +145,27 @@ pub take-spec : {M : Type 1} → statement M
 take-spec =
     tie.close
     (tie.spec
-    slice-aggregate-questions
-    slice-aggregate-questions-2
-    slice-aggregate-questions-3
-    slice-aggregate-questions-4
-    slice-aggregate-questions-5
-    slice-aggregate-questions-6
-    slice-aggregate-questions-7
-    slice-aggregate-questions-8
     questions-requires
     enum-known-r
     enum-told
-    slice-aggregate-join
-    slice-aggregate-join-2
-    slice-aggregate-join-3
-    slice-aggregate-join-4
-    slice-aggregate-join-5
-    slice-aggregate-join-6
     join-requires
     same-length
-    returns
     same-length-2
+    same-length-3
+    same-length-4
+    same-length-5
+    same-length-6
+    same-length-7
+    same-length-8
+    same-length-9
+    returns
+    same-length-10
+    same-length-11
+    same-length-12
+    same-length-13
+    same-length-14
+    same-length-15
+    same-length-16
+    same-length-17
+    same-length-18
     returns-2)

@@ -11,7 +11,7 @@ use Rattle.redirect.proofs.redirect_update.Tie as tie
 for-here-requires : tie.Need-for-here-requires
 for-here-requires c κs =
     let start : tie.Start = search in
-    omega (arith, start .pre .0 .0)
+    omega (arith, sited (start .args .block .now) (start .pre .0 .0) .linked .size)
 
 same-length : tie.Need-same-length
 same-length c = search needs
@@ -20,7 +20,7 @@ returns : tie.Need-returns
 returns c =
     let start : tie.Start = search in
     let for-here-ensures = (let p : tie.After-for-here = search in p .for-here .ensures) in
-    redirects-elsewhere _ (start .pre .0 .0) (start .pre .0 .1) for-here-ensures (c .if1 .taken)
+    redirects-elsewhere _ (start .pre .0 .0) for-here-ensures (c .if1 .taken)
 
 neither-requires : tie.Need-neither-requires
 neither-requires c κs = search needs
@@ -34,12 +34,12 @@ returns-2 c =
     let for-here-ensures = (let p : tie.After-for-here = search in p .for-here .ensures) in
     let if1-left = (let p : tie.Else1 = search in p .if1 .left) in
     let neither-ensures = (let p : tie.After-neither = search in p .neither .ensures) in
-    redirects-to-an-end _ (start .pre .0 .0) (start .pre .0 .1) for-here-ensures if1-left neither-ensures (c .if2 .taken)
+    redirects-to-an-end _ (start .pre .0 .0) for-here-ensures if1-left neither-ensures (c .if2 .taken)
 
 slice-read-darts : tie.Need-slice-read-darts
 slice-read-darts c =
     let start : tie.Start = search in
-    omega (arith, sited (start .args .block .now) (start .pre .0 .1) .linked .size)
+    omega (arith, sited (start .args .block .now) (start .pre .0 .0) .linked .size)
 
 same-length-3 : tie.Need-same-length-3
 same-length-3 c = search needs
@@ -50,15 +50,15 @@ returns-3 c =
     let for-here-ensures = (let p : tie.After-for-here = search in p .for-here .ensures) in
     let if1-left = (let p : tie.Else1 = search in p .if1 .left) in
     let neither-ensures = (let p : tie.After-neither = search in p .neither .ensures) in
-    redirects-too-many _ (start .pre .0 .0) (start .pre .0 .1) for-here-ensures if1-left neither-ensures (c .if3 .taken)
+    redirects-too-many _ (start .pre .0 .0) for-here-ensures if1-left neither-ensures (c .if3 .taken)
 
 all-named-requires : tie.Need-all-named-requires
 all-named-requires c κs =
     let if3-left = (let p : tie.Else3 = search in p .if3 .left) in
     let c : tie.After-for-here = search in
     let start : tie.Start = search in
-    let few = sited (start .args .block .now) (start .pre .0 .1) .linked .few in (
-      (start .pre .0 .1, refl, start .pre .0 .2 .from-small, start .pre .0 .2 .labels-within, omega (arith, if3-left, few)),
+    let few = sited (start .args .block .now) (start .pre .0 .0) .linked .few in (
+      (start .pre .0 .0, refl, start .pre .0 .1 .from-small, start .pre .0 .1 .labels-within, omega (arith, if3-left, few)),
       (
         (start .pre .1 .0 .0, start .pre .1 .0 .1, omega (arith, if3-left, start .pre .1 .0 .2), start .pre .1 .0 .3),
         (omega (arith, if3-left, start .pre .1 .1 .0), omega (arith, if3-left, start .pre .1 .1 .1)),
@@ -90,14 +90,14 @@ returns-4 c =
     let for-here-ensures = (let p : tie.After-for-here = search in p .for-here .ensures) in
     let if1-left = (let p : tie.Else1 = search in p .if1 .left) in
     let start : tie.Start = search in
-    redirects-unnamed _ (start .pre .0 .0) (start .pre .0 .1) for-here-ensures if1-left neither-ensures all-named-ensures if4-taken
+    redirects-unnamed _ (start .pre .0 .0) for-here-ensures if1-left neither-ensures all-named-ensures if4-taken
 
 critical-with-requires : tie.Need-critical-with-requires
 critical-with-requires c κs =
     let c : tie.After-all-named = search in
     let c : tie.After-neither = search in
     let start : tie.Start = search in
-    omega (arith, start .pre .0 .2 .block-small)
+    omega (arith, start .pre .0 .1 .block-small)
 
 rewrite-requires : tie.Need-rewrite-requires
 rewrite-requires c κs =
@@ -105,7 +105,7 @@ rewrite-requires c κs =
     let c : tie.After-all-named = search in
     let c : tie.After-neither = search in
     let start : tie.Start = search in
-    let l = sited (start .args .block .now) (start .pre .0 .1) .linked in
+    let l = sited (start .args .block .now) (start .pre .0 .0) .linked in
     (l .few, l .size, omega (arith, all-named-kept, start .pre .1 .0 .0))
 
 same-length-9 : tie.Need-same-length-9
@@ -136,8 +136,8 @@ returns-5 c =
     let if1-left = (let p : tie.Else1 = search in p .if1 .left) in
     let for-here-ensures = (let p : tie.After-for-here = search in p .for-here .ensures) in
     let start : tie.Start = search in
-    redirects-served _ (start .pre .0 .0) (start .pre .0 .1) for-here-ensures if1-left neither-ensures all-named-ensures if2-left if4-left
-    (start .pre .0 .2) (rewritten-word critical-with-ensures rewrite-ensures)
+    redirects-served _ (start .pre .0 .0) for-here-ensures if1-left neither-ensures all-named-ensures if2-left if4-left
+    (start .pre .0 .1) (rewritten-word critical-with-ensures rewrite-ensures)
 
 pub redirect-update-spec : {M : Type 1} → statement M
 redirect-update-spec =

@@ -3,10 +3,11 @@ use mathlib.Core.Path.{refl, sym, ap, _∙_}
 use native.Mathlib.Omega.{arith}
 use Rattle.model.specs.Values.{Limits, room}
 use Rattle.model.specs.Image.{words-of, is-image}
+use Rattle.model.specs.Calls as calls
 use Rattle.cells.proofs.Sited.{sited}
 use Rattle.cells.proofs.Resets.{zeros-clear, zeros-long}
-use Rattle.answers.proofs.Questions.{said-yes}
-use Rattle.release.proofs.LettingGo.{size-refused, image-refused, by-limits}
+use Rattle.answers.proofs.Questions.{by-limits, said-yes}
+use Rattle.release.proofs.LettingGo.{size-refused, image-refused}
 use borrow.Author.Needs.{needs}
 use Rattle.release.proofs.release.Statement.{statement}
 use Rattle.release.proofs.release.Tie as tie
@@ -87,7 +88,7 @@ returns-3 c =
     let rack-ensures = (let p : tie.After-rack = search in p .rack .ensures) in
     let release-asked-ensures = (let p : tie.After-release-asked = search in p .release-asked .ensures) in
     let start : tie.Start = search in
-    by-limits (start .args .block .now) (start .args .to) (start .args .serial) rack-ensures release-asked-ensures
+    by-limits (λ (l : Limits). calls.release l (start .args .block .now) (start .args .to) (start .args .serial)) rack-ensures release-asked-ensures
 
 pub release-spec : {M : Type 1} → statement M
 release-spec =

@@ -3,10 +3,11 @@ use mathlib.Core.Path.{refl, sym, ap, _∙_}
 use native.Mathlib.Omega.{arith}
 use Rattle.model.specs.Values.{Limits, room}
 use Rattle.model.specs.Image.{words-of, is-image}
-use Rattle.answers.proofs.Questions.{said-no, said-yes}
+use Rattle.model.specs.Calls as calls
+use Rattle.answers.proofs.Questions.{by-limits, said-no, said-yes}
 use Rattle.cells.proofs.Sited.{sited}
 use Rattle.cells.proofs.Resets.{zeros-clear, zeros-long}
-use Rattle.send.proofs.SentLaws.{refused-size, refused-image, by-limits}
+use Rattle.send.proofs.SentLaws.{refused-size, refused-image}
 use borrow.Author.Needs.{needs}
 use Rattle.send.proofs.send.Statement.{statement}
 use Rattle.send.proofs.send.Tie as tie
@@ -90,7 +91,7 @@ returns-3 c =
     let rack-ensures = (let p : tie.After-rack = search in p .rack .ensures) in
     let c : tie.After-rack = search in
     let start : tie.Start = search in
-    by-limits (start .args .block .now) (start .args .outbox .now) (start .args .to) (start .args .serial) rack-ensures send-volume-ensures
+    by-limits (λ (l : Limits). calls.send l (start .args .block .now) (start .args .to) (start .args .serial) (start .args .outbox .now)) rack-ensures send-volume-ensures
 
 pub send-spec : {M : Type 1} → statement M
 send-spec =

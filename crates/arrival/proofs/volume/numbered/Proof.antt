@@ -15,7 +15,7 @@ number-vertices-requires c κs =
         (let l = start .pre .2 in let f = start .pre .3 in omega (arith, l, f)),
         start .pre .4,
       ),
-      (omega (arith, start .pre .0 .few, start .pre .5), omega (arith, start .pre .3, start .pre .6)),
+      (start .pre .5, start .pre .6),
     )
 
 numbers-same-requires : tie.Need-numbers-same-requires
@@ -31,19 +31,14 @@ returns : tie.Need-returns
 returns c =
     let number-vertices-ensures = (let p : tie.After-number-vertices = search in p .number-vertices .ensures) in
     let number-vertices-last = (let p : tie.After-number-vertices = search in p .number-vertices .last) in
-    let number-vertices-kept = (let p : tie.After-number-vertices = search in p .number-vertices .kept) in
-    let start : tie.Start = search in
-    let number-vertices-result = (let p : tie.After-number-vertices = search in p .number-vertices .result) in (
-      record {
-        numbers = number-vertices-last .1 .1 .1 .1 .0;
-        firsts = number-vertices-last .1 .1 .1 .1 .1 .0;
-        count = number-vertices-result;
-        numbered = number-vertices-ensures;
-        result = rw (c .numbers-same .ensures) refl;
-      },
-      omega (arith, number-vertices-kept, start .pre .5),
-      omega (arith, number-vertices-kept, start .pre .6),
-    )
+    let number-vertices-result = (let p : tie.After-number-vertices = search in p .number-vertices .result) in
+    record {
+      numbers = number-vertices-last .1 .1 .1 .1 .0;
+      firsts = number-vertices-last .1 .1 .1 .1 .1 .0;
+      count = number-vertices-result;
+      numbered = number-vertices-ensures;
+      result = rw (c .numbers-same .ensures) refl;
+    }
 
 pub numbered-spec : {M : Type 1} → statement M
 numbered-spec =

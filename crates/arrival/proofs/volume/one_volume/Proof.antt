@@ -1,8 +1,6 @@
 -- `arrival::volume::one_volume` meets its contract.
 -- Assumes nothing.
 use mathlib.Core.Path.{refl}
-use native.Mathlib.Omega.{arith}
-use Rattle.model.specs.Values.{room}
 use Rattle.cells.proofs.Resets.{zeros-clear, zeros-long}
 use borrow.Author.Needs.{needs}
 use Rattle.arrival.proofs.volume.one_volume.Statement.{statement}
@@ -14,8 +12,7 @@ slice-aggregate-volume c = search needs
 volume-requires : tie.Need-volume-requires
 volume-requires c κs =
     let start : tie.Start = search in
-    let few = start .pre .0 .few in
-    (start .pre .0, start .pre .1, omega (arith, few, start .pre .2), zeros-long _ room refl few, zeros-clear room refl)
+    (start .pre .0, start .pre .1, start .pre .2, zeros-long _ 512 refl (start .pre .3), zeros-clear 512 refl)
 
 same-length : tie.Need-same-length
 same-length c = search needs
@@ -23,9 +20,7 @@ same-length c = search needs
 returns : tie.Need-returns
 returns c =
     let volume-ensures = (let p : tie.After-volume = search in p .volume .ensures) in
-    let volume-kept = (let p : tie.After-volume = search in p .volume .kept) in
-    let start : tie.Start = search in
-    (rw (volume-ensures .1 .0) refl, omega (arith, volume-kept, start .pre .2))
+    rw (volume-ensures .1 .0) refl
 
 pub one-volume-spec : {M : Type 1} → statement M
 one-volume-spec = tie.close (tie.spec slice-aggregate-volume volume-requires same-length returns)

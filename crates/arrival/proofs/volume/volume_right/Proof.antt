@@ -13,7 +13,7 @@ use Rattle.arrival.proofs.volume.volume_right.Tie as tie
 returns : tie.Need-returns
 returns c =
     let start : tie.Start = search in
-    ((λ t w. hollow-no w (c .if1 .taken)), ((λ y. absurd (true≢false (sym y))), start .pre .0 .6, refl, start .pre .0 .8, start .pre .0 .9))
+    ((λ t w. hollow-no w (c .if1 .taken)), ((λ y. absurd (true≢false (sym y))), start .pre .0 .6, refl))
 
 ordered-requires : tie.Need-ordered-requires
 ordered-requires c κs =
@@ -25,7 +25,7 @@ returns-2 c =
     let start : tie.Start = search in
     let ordered-ensures = (let p : tie.After-ordered = search in p .ordered .ensures) in (
       (λ t w. order-no w (sym ordered-ensures ∙ not-true _ (c .if2 .taken))),
-      ((λ y. absurd (true≢false (sym y))), start .pre .0 .6, refl, start .pre .0 .8, start .pre .0 .9),
+      ((λ y. absurd (true≢false (sym y))), start .pre .0 .6, refl),
     )
 
 vertices-fit-requires : tie.Need-vertices-fit-requires
@@ -38,7 +38,7 @@ returns-3 c =
     let start : tie.Start = search in
     let vertices-fit-ensures = (let p : tie.After-vertices-fit = search in p .vertices-fit .ensures) in (
       (λ t w. fit-no w (sym vertices-fit-ensures ∙ not-true _ (c .if3 .taken))),
-      ((λ y. absurd (true≢false (sym y))), start .pre .0 .6, refl, start .pre .0 .8, start .pre .0 .9),
+      ((λ y. absurd (true≢false (sym y))), start .pre .0 .6, refl),
     )
 
 paired-requires : tie.Need-paired-requires
@@ -67,7 +67,7 @@ returns-4 c =
     let if3-left = (let p : tie.Else3 = search in p .if3 .left) in
     let paired-ensures = (let p : tie.After-paired = search in p .paired .ensures) in (
       (λ t w. paired-no w (sym vertices-fit-ensures ∙ not-false _ if3-left) (paired-ensures .0) (not-true _ (c .if4 .taken))),
-      ((λ y. absurd (true≢false (sym y))), paired-ensures .1, refl, start .pre .0 .8, start .pre .0 .9),
+      ((λ y. absurd (true≢false (sym y))), paired-ensures .1, refl),
     )
 
 put-draft-requires : tie.Need-put-draft-requires
@@ -112,6 +112,7 @@ one-volume-requires c κs =
           (not-false _ if4-left) put-draft-ensures),
       omega (arith, rank-at-ensures, start .pre .1 .0 .rank-below 0 ((start .pre .1 .2 .1) .some-darts)),
       start .pre .0 .8,
+      (start .pre .1 .2 .1) .few,
     )
 
 same-length-2 : tie.Need-same-length-2
@@ -139,13 +140,13 @@ returns-5 c =
     let vertices-fit-yes = sym vertices-fit-ensures ∙ not-false _ if3-left in (
       (λ t w. volume-no w vertices-fit-yes
           (draft-of w vertices-fit-yes (start .pre .1 .0) (paired-ensures .0) (not-false _ if4-left) put-draft-ensures)
-          rank-at-ensures (sym (one-volume-ensures .0) ∙ not-true _ if5-taken)),
-      ((λ y. absurd (true≢false (sym y))), paired-ensures .1, omega (arith, put-draft-kept), one-volume-ensures .1, start .pre .0 .9),
+          rank-at-ensures (sym one-volume-ensures ∙ not-true _ if5-taken)),
+      ((λ y. absurd (true≢false (sym y))), paired-ensures .1, omega (arith, put-draft-kept)),
     )
 
 numbered-requires : tie.Need-numbered-requires
 numbered-requires c κs =
-    let one-volume-ensures = (let p : tie.After-one-volume = search in p .one-volume .ensures) in
+    let one-volume-kept = (let p : tie.After-one-volume = search in p .one-volume .kept) in
     let put-draft-ensures = (let p : tie.After-put-draft = search in p .put-draft .ensures) in
     let if4-left = (let p : tie.Else4 = search in p .if4 .left) in
     let paired-ensures = (let p : tie.After-paired = search in p .paired .ensures) in
@@ -160,7 +161,7 @@ numbered-requires c κs =
       start .pre .0 .5,
       (start .pre .1 .2 .1) .few,
       start .pre .1 .0 .rank-below,
-      one-volume-ensures .1,
+      omega (arith, one-volume-kept, start .pre .0 .8),
       start .pre .0 .9,
     )
 
@@ -195,20 +196,18 @@ returns-6 c =
     let c : tie.Else1 = search in
     let start : tie.Start = search in
     let vertices-fit-yes = sym vertices-fit-ensures ∙ not-false _ if3-left in (
-      (λ t w. numbered-ensures .0 .result ∙ numbers-tell w vertices-fit-yes
+      (λ t w. numbered-ensures .result ∙ numbers-tell w vertices-fit-yes
           (draft-of w vertices-fit-yes (start .pre .1 .0) (paired-ensures .0) (not-false _ if4-left) put-draft-ensures)
-          rank-at-ensures (let l = start .pre .0 .5 in let f = w .few in omega (arith, l, f)) (numbered-ensures .0 .numbered)
+          rank-at-ensures (let l = start .pre .0 .5 in let f = w .few in omega (arith, l, f)) (numbered-ensures .numbered)
           (order-yes w if1-left (sym ordered-ensures ∙ not-false _ if2-left))
           (paired-yes w vertices-fit-yes (start .pre .1 .0) (paired-ensures .0) (not-false _ if4-left))
-          (sym (one-volume-ensures .0) ∙ not-false _ if5-left)),
+          (sym one-volume-ensures ∙ not-false _ if5-left)),
       (
         (λ y.
             (draft-of (start .pre .1 .2 .1) vertices-fit-yes (start .pre .1 .0) (paired-ensures .0) (not-false _ if4-left)
             put-draft-ensures)),
         paired-ensures .1,
         omega (arith, put-draft-kept),
-        numbered-ensures .1,
-        numbered-ensures .2,
       ),
     )
 

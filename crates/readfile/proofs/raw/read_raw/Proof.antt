@@ -2,7 +2,8 @@
 -- Assumes nothing.
 use mathlib.Core.Path.{sym, _∙_}
 use Rattle.model.specs.Layouts.{group, at-most}
-use Rattle.model.specs.Image.{words}
+use Rattle.model.specs.Image.{words-of}
+use Rattle.memory.specs.Header.{limits-of}
 use Rattle.groups.proofs.Ends.{bad-at, group-at, at-most-at}
 use Rattle.readfile.proofs.Whole.{no-number, no-counter, no-count, too-many, no-darts, left-over, raw-refused, raw-served}
 use Rattle.newblock.proofs.Stored.{zeros-length}
@@ -25,8 +26,9 @@ enum-told c = search needs
 
 returns : tie.Need-returns
 returns c =
+    let start : tie.Start = search in
     let read-at-most-ensures = (let p : tie.After-read-at-most = search in p .read-at-most .ensures) in
-    raw-refused (no-number (record { value = bad-at (at-most 15) _ _ (sym (c .enum-told .given .1) ∙ read-at-most-ensures) }))
+    raw-refused (no-number (limits-of (start .args .limits)) (record { value = bad-at (at-most 15) _ _ (sym (c .enum-told .given .1) ∙ read-at-most-ensures) }))
 
 read-group-requires : tie.Need-read-group-requires
 read-group-requires c κs = search needs
@@ -39,11 +41,12 @@ enum-told-2 c = search needs
 
 returns-2 : tie.Need-returns-2
 returns-2 c =
+    let start : tie.Start = search in
     let read-at-most-ensures = (let p : tie.After-read-at-most = search in p .read-at-most .ensures) in
     let number-given = (let p : tie.After-number = search in p .number .given) in
     let read-group-ensures = (let p : tie.After-read-group = search in p .read-group .ensures) in
     raw-refused
-    (no-counter (at-most-at 15 (sym (number-given .1) ∙ read-at-most-ensures))
+    (no-counter (limits-of (start .args .limits)) (at-most-at 15 (sym (number-given .1) ∙ read-at-most-ensures))
     (record { value = bad-at group _ _ (sym (c .enum-told2 .given .1) ∙ read-group-ensures) }))
 
 read-group-requires-2 : tie.Need-read-group-requires-2
@@ -57,23 +60,25 @@ enum-told-3 c = search needs
 
 returns-3 : tie.Need-returns-3
 returns-3 c =
+    let start : tie.Start = search in
     let read-at-most-ensures = (let p : tie.After-read-at-most = search in p .read-at-most .ensures) in
     let number-given = (let p : tie.After-number = search in p .number .given) in
     let read-group-ensures = (let p : tie.After-read-group = search in p .read-group .ensures) in
     let counter-given = (let p : tie.After-counter = search in p .counter .given) in
     let read-group2-ensures = (let p : tie.After-read-group2 = search in p .read-group2 .ensures) in
-    raw-refused (no-count (at-most-at 15 (sym (number-given .1) ∙ read-at-most-ensures))
+    raw-refused (no-count (limits-of (start .args .limits)) (at-most-at 15 (sym (number-given .1) ∙ read-at-most-ensures))
     (group-at (sym (counter-given .1) ∙ read-group-ensures)) (record { value = bad-at group _ _ (sym (c .enum-told3 .given .1) ∙ read-group2-ensures) }))
 
 returns-4 : tie.Need-returns-4
 returns-4 c =
+    let start : tie.Start = search in
     let read-at-most-ensures = (let p : tie.After-read-at-most = search in p .read-at-most .ensures) in
     let number-given = (let p : tie.After-number = search in p .number .given) in
     let read-group-ensures = (let p : tie.After-read-group = search in p .read-group .ensures) in
     let counter-given = (let p : tie.After-counter = search in p .counter .given) in
     let read-group2-ensures = (let p : tie.After-read-group2 = search in p .read-group2 .ensures) in
     let count-given = (let p : tie.After-count = search in p .count .given) in
-    raw-refused (too-many (at-most-at 15 (sym (number-given .1) ∙ read-at-most-ensures))
+    raw-refused (too-many (limits-of (start .args .limits)) (at-most-at 15 (sym (number-given .1) ∙ read-at-most-ensures))
     (group-at (sym (counter-given .1) ∙ read-group-ensures))
     (group-at (sym (count-given .1) ∙ read-group2-ensures)) (c .if1 .taken))
 
@@ -82,7 +87,7 @@ read-darts-requires c κs =
     let start : tie.Start = search in
     let read-group2-ensures = (let p : tie.After-read-group2 = search in p .read-group2 .ensures) in
     let count-given = (let p : tie.After-count = search in p .count .given) in
-    (group-at (sym (count-given .1) ∙ read-group2-ensures) .within, omega (arith, zeros-length words _ (start .pre)))
+    (group-at (sym (count-given .1) ∙ read-group2-ensures) .within, omega (arith, zeros-length (words-of (limits-of (start .args .limits))) _ (start .pre)))
 
 enum-known-past : tie.Need-enum-known-past
 enum-known-past c = search needs
@@ -95,6 +100,7 @@ same-length c = search needs
 
 returns-5 : tie.Need-returns-5
 returns-5 c =
+    let start : tie.Start = search in
     let read-at-most-ensures = (let p : tie.After-read-at-most = search in p .read-at-most .ensures) in
     let number-given = (let p : tie.After-number = search in p .number .given) in
     let read-group-ensures = (let p : tie.After-read-group = search in p .read-group .ensures) in
@@ -102,7 +108,7 @@ returns-5 c =
     let read-group2-ensures = (let p : tie.After-read-group2 = search in p .read-group2 .ensures) in
     let count-given = (let p : tie.After-count = search in p .count .given) in
     let read-darts-ensures = (let p : tie.After-read-darts = search in p .read-darts .ensures) in
-    raw-refused (no-darts (at-most-at 15 (sym (number-given .1) ∙ read-at-most-ensures))
+    raw-refused (no-darts (limits-of (start .args .limits)) (at-most-at 15 (sym (number-given .1) ∙ read-at-most-ensures))
     (group-at (sym (counter-given .1) ∙ read-group-ensures))
     (group-at (sym (count-given .1) ∙ read-group2-ensures)) (omega arith)
     (sym (c .enum-told4 .given .1) ∙ read-darts-ensures .answer))
@@ -112,6 +118,7 @@ same-length-2 c = search needs
 
 returns-6 : tie.Need-returns-6
 returns-6 c =
+    let start : tie.Start = search in
     let read-at-most-ensures = (let p : tie.After-read-at-most = search in p .read-at-most .ensures) in
     let number-given = (let p : tie.After-number = search in p .number .given) in
     let read-group-ensures = (let p : tie.After-read-group = search in p .read-group .ensures) in
@@ -120,7 +127,7 @@ returns-6 c =
     let count-given = (let p : tie.After-count = search in p .count .given) in
     let read-darts-ensures = (let p : tie.After-read-darts = search in p .read-darts .ensures) in
     let past-given = (let p : tie.After-past = search in p .past .given) in
-    raw-refused (left-over (at-most-at 15 (sym (number-given .1) ∙ read-at-most-ensures))
+    raw-refused (left-over (limits-of (start .args .limits)) (at-most-at 15 (sym (number-given .1) ∙ read-at-most-ensures))
     (group-at (sym (counter-given .1) ∙ read-group-ensures))
     (group-at (sym (count-given .1) ∙ read-group2-ensures)) (omega arith)
     (sym (past-given .1) ∙ read-darts-ensures .answer) (c .if2 .taken))
@@ -130,7 +137,7 @@ write-requires c κs =
     let read-darts-kept = (let p : tie.After-read-darts = search in p .read-darts .kept) in
     let c : tie.After-read-darts = search in
     let start : tie.Start = search in
-    omega (arith, read-darts-kept .1 .1 .1 .0, zeros-length words _ (start .pre))
+    omega (arith, read-darts-kept .1 .1 .1 .0, zeros-length (words-of (limits-of (start .args .limits))) _ (start .pre))
 
 same-length-3 : tie.Need-same-length-3
 same-length-3 c = search needs
@@ -147,7 +154,7 @@ returns-7 c =
     let read-darts-ensures = (let p : tie.After-read-darts = search in p .read-darts .ensures) in
     let past-given = (let p : tie.After-past = search in p .past .given) in
     let write-ensures = (let p : tie.After-write = search in p .write .ensures) in
-    raw-served (at-most-at 15 (sym (number-given .1) ∙ read-at-most-ensures))
+    raw-served (limits-of (start .args .limits)) (at-most-at 15 (sym (number-given .1) ∙ read-at-most-ensures))
     (group-at (sym (counter-given .1) ∙ read-group-ensures))
     (group-at (sym (count-given .1) ∙ read-group2-ensures)) (omega arith) _ (start .pre)
     (rw (past-given .1) at read-darts-ensures) (omega arith) write-ensures

@@ -4,6 +4,7 @@ use mathlib.Core.Path.{refl}
 use mir.Facts.{fits-lt-pow}
 use borrow.Author.Tests.{not-false}
 use Rattle.theory.proofs.LayoutLaws.{byte-list}
+use Rattle.memory.specs.Header.{limits-of}
 use Rattle.cells.proofs.Sited.{sited}
 use Rattle.columns.proofs.Question.{image-passed}
 use Rattle.fitting.proofs.Outlined.{told-of}
@@ -23,7 +24,7 @@ returns : tie.Need-returns
 returns c =
     let start : tie.Start = search in
     let for-here-ensures = (let p : tie.After-for-here = search in p .for-here .ensures) in
-    (no-17 (start .args .block .now) for-here-ensures (c .if1 .taken), start .pre .1 .6, start .pre .1 .7)
+    no-17 (limits-of (start .args .limits)) (start .args .block .now) for-here-ensures (c .if1 .taken)
 
 shared-slice-read-n : tie.Need-shared-slice-read-n
 shared-slice-read-n c =
@@ -70,13 +71,10 @@ returns-2 c =
     let for-here-ensures = (let p : tie.After-for-here = search in p .for-here .ensures) in
     let c : tie.After-for-here = search in
     let start : tie.Start = search in
-    let block = start .args .block .now in (
-      no-18 block for-here-ensures if1-left
-          (let l = start .pre .0 .1 .serial-size in let f = (told-of (start .pre .0 .2 .2)) .few in omega (arith, l, f))
-          (new-serials-ensures .0) if2-taken,
-      start .pre .1 .6,
-      start .pre .1 .7,
-    )
+    let block = start .args .block .now in
+    no-18 (limits-of (start .args .limits)) block for-here-ensures if1-left
+    (let l = start .pre .0 .1 .serial-size in let f = (told-of (start .pre .0 .2 .2)) .few in omega (arith, l, f))
+    (new-serials-ensures .0) if2-taken
 
 volume-right-requires : tie.Need-volume-right-requires
 volume-right-requires c κs =
@@ -131,13 +129,10 @@ returns-3 c =
     let if1-left = (let p : tie.Else1 = search in p .if1 .left) in
     let for-here-ensures = (let p : tie.After-for-here = search in p .for-here .ensures) in
     let start : tie.Start = search in
-    let block = start .args .block .now in (
-      no-19 block for-here-ensures if1-left
-          (let l = start .pre .0 .1 .serial-size in let f = (told-of (start .pre .0 .2 .2)) .few in omega (arith, l, f))
-          (new-serials-ensures .0) if2-left (volume-right-ensures .0) if3-taken,
-      volume-right-ensures .1 .3,
-      volume-right-ensures .1 .4,
-    )
+    let block = start .args .block .now in
+    no-19 (limits-of (start .args .limits)) block for-here-ensures if1-left
+    (let l = start .pre .0 .1 .serial-size in let f = (told-of (start .pre .0 .2 .2)) .few in omega (arith, l, f))
+    (new-serials-ensures .0) if2-left (volume-right-ensures .0) if3-taken
 
 parts-right-requires : tie.Need-parts-right-requires
 parts-right-requires c κs =
@@ -209,16 +204,13 @@ returns-4 c =
     let start : tie.Start = search in
     let block = start .args .block .now in
     let vertex = start .args .vertex .now in
-    let serial = start .args .serial .now in (
-      no-20 block for-here-ensures if1-left
-          (let l = start .pre .0 .1 .serial-size in let f = (told-of (start .pre .0 .2 .2)) .few in omega (arith, l, f))
-          (new-serials-ensures .0) if2-left (volume-right-ensures .0) if3-left
-          (parts-right-ensures .0 vertex serial
-          (new-volume (new-serials-ensures .0) if2-left (volume-right-ensures .0) if3-left
-          (volume-right-ensures .1 .0 (not-false _ if3-left)) (start .pre .0 .2 .2))) if4-taken,
-      volume-right-ensures .1 .3,
-      volume-right-ensures .1 .4,
-    )
+    let serial = start .args .serial .now in
+    no-20 (limits-of (start .args .limits)) block for-here-ensures if1-left
+    (let l = start .pre .0 .1 .serial-size in let f = (told-of (start .pre .0 .2 .2)) .few in omega (arith, l, f))
+    (new-serials-ensures .0) if2-left (volume-right-ensures .0) if3-left
+    (parts-right-ensures .0 vertex serial
+    (new-volume (new-serials-ensures .0) if2-left (volume-right-ensures .0) if3-left
+    (volume-right-ensures .1 .0 (not-false _ if3-left)) (start .pre .0 .2 .2))) if4-taken
 
 add-if5 : tie.Need-add-if5
 add-if5 c =
@@ -228,7 +220,13 @@ add-if5 c =
     let l = (sited (start .args .block .now) (start .pre .0 .0)) .linked .few in let f = (told-of (start .pre .0 .2 .2)) .few in omega (arith, l, f)
 
 same-length-17 : tie.Need-same-length-17
-same-length-17 c = search needs
+same-length-17 c =
+    let c : tie.After-parts-right = search in
+    let c : tie.Else3 = search in
+    let c : tie.After-draft = search in
+    let c : tie.After-volume-right = search in
+    let new-serials-kept = (let p : tie.After-new-serials = search in p .new-serials .kept) in
+    omega (arith, new-serials-kept)
 
 same-length-18 : tie.Need-same-length-18
 same-length-18 c = search needs
@@ -267,19 +265,22 @@ returns-5 c =
     let start : tie.Start = search in
     let block = start .args .block .now in
     let vertex = start .args .vertex .now in
-    let serial = start .args .serial .now in (
-      no-21 block for-here-ensures if1-left
-          (let l = start .pre .0 .1 .serial-size in let f = (told-of (start .pre .0 .2 .2)) .few in omega (arith, l, f))
-          (new-serials-ensures .0) if2-left (volume-right-ensures .0) if3-left
-          (parts-right-ensures .0 vertex serial
-          (new-volume (new-serials-ensures .0) if2-left (volume-right-ensures .0) if3-left
-          (volume-right-ensures .1 .0 (not-false _ if3-left)) (start .pre .0 .2 .2))) if4-left if5-taken,
-      volume-right-ensures .1 .3,
-      volume-right-ensures .1 .4,
-    )
+    let serial = start .args .serial .now in
+    no-21 (limits-of (start .args .limits)) block for-here-ensures if1-left
+    (let l = start .pre .0 .1 .serial-size in let f = (told-of (start .pre .0 .2 .2)) .few in omega (arith, l, f))
+    (new-serials-ensures .0) if2-left (volume-right-ensures .0) if3-left
+    (parts-right-ensures .0 vertex serial
+    (new-volume (new-serials-ensures .0) if2-left (volume-right-ensures .0) if3-left
+    (volume-right-ensures .1 .0 (not-false _ if3-left)) (start .pre .0 .2 .2))) if4-left if5-taken
 
 same-length-25 : tie.Need-same-length-25
-same-length-25 c = search needs
+same-length-25 c =
+    let c : tie.After-parts-right = search in
+    let c : tie.Else3 = search in
+    let c : tie.After-draft = search in
+    let c : tie.After-volume-right = search in
+    let new-serials-kept = (let p : tie.After-new-serials = search in p .new-serials .kept) in
+    omega (arith, new-serials-kept)
 
 same-length-26 : tie.Need-same-length-26
 same-length-26 c = search needs
@@ -338,18 +339,15 @@ returns-6 c =
     in
     let if3-left = (let c : tie.After-parts-right = search in let p : tie.Else3 = search in p .if3 .left) in
     let parts-right-ensures = (let p : tie.After-parts-right = search in p .parts-right .ensures) in
-    let if4-left = (let p : tie.Else4 = search in p .if4 .left) in (
-      yes-all block for-here-ensures if1-left
-          (let l = start .pre .0 .1 .serial-size in let f = (told-of (start .pre .0 .2 .2)) .few in omega (arith, l, f))
-          (new-serials-ensures .0) if2-left (volume-right-ensures .0) if3-left
-          (parts-right-ensures .0 vertex serial
-          (new-volume (new-serials-ensures .0) if2-left (volume-right-ensures .0) if3-left
-          (volume-right-ensures .1 .0 (not-false _ if3-left)) (start .pre .0 .2 .2))) if4-left (omega arith)
-          (volume-right-ensures .1 .0 (not-false _ if3-left)) (parts-right-ensures .1) (parts-right-ensures .2)
-          (new-serials-ensures .2),
-      volume-right-ensures .1 .3,
-      volume-right-ensures .1 .4,
-    )
+    let if4-left = (let p : tie.Else4 = search in p .if4 .left) in
+    yes-all (limits-of (start .args .limits)) block for-here-ensures if1-left
+    (let l = start .pre .0 .1 .serial-size in let f = (told-of (start .pre .0 .2 .2)) .few in omega (arith, l, f))
+    (new-serials-ensures .0) if2-left (volume-right-ensures .0) if3-left
+    (parts-right-ensures .0 vertex serial
+    (new-volume (new-serials-ensures .0) if2-left (volume-right-ensures .0) if3-left
+    (volume-right-ensures .1 .0 (not-false _ if3-left)) (start .pre .0 .2 .2))) if4-left (omega arith)
+    (volume-right-ensures .1 .0 (not-false _ if3-left)) (parts-right-ensures .1) (parts-right-ensures .2)
+    (new-serials-ensures .2)
 
 pub questions-spec : {M : Type 1} → statement M
 questions-spec =

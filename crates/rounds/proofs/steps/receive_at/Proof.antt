@@ -1,5 +1,6 @@
 -- `rounds::steps::receive_at` meets its contract.
 -- Assumes nothing.
+use Rattle.model.specs.Values.{rack}
 use Rattle.model.specs.DividedRun.{receiving}
 use Rattle.receive.proofs.Answered.{size-refused}
 use Rattle.rounds.proofs.Stepping.{nowhere, receive-does}
@@ -14,7 +15,7 @@ returns c =
     let mesh = start .args .mesh .now in
     let b = start .args .b in
     let message = start .args .message .now in
-    nowhere mesh b (receiving message) _ (c .if1 .taken) (receive-does _ _) (size-refused _ _ (λ e. absurd (omega (arith, e))))
+    nowhere mesh b (receiving message) _ (c .if1 .taken) (receive-does _ _) (size-refused rack _ _ (λ e. absurd (omega (arith, e))))
 
 receive-part-requires : tie.Need-receive-part-requires
 receive-part-requires c κs = search needs

@@ -1,5 +1,6 @@
 -- `rounds::steps::redirect_at` meets its contract.
 -- Assumes nothing.
+use Rattle.model.specs.Values.{rack}
 use Rattle.model.specs.DividedRun.{redirecting}
 use Rattle.redirect.proofs.Answered.{size-refused}
 use Rattle.rounds.proofs.Stepping.{nowhere, redirect-does}
@@ -14,7 +15,7 @@ returns c =
     let mesh = start .args .mesh .now in
     let b = start .args .b in
     let message = start .args .message .now in
-    nowhere mesh b (redirecting message) _ (c .if1 .taken) (redirect-does _ _) (size-refused _ _ (λ e. absurd (omega (arith, e))))
+    nowhere mesh b (redirecting message) _ (c .if1 .taken) (redirect-does _ _) (size-refused rack _ _ (λ e. absurd (omega (arith, e))))
 
 redirect-part-requires : tie.Need-redirect-part-requires
 redirect-part-requires c κs = search needs

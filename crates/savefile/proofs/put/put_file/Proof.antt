@@ -1,5 +1,6 @@
 -- `savefile::put::put_file` meets its contract: header and darts, one stored after the other.
 -- Assumes nothing.
+use Rattle.model.specs.Values.{widest}
 use Rattle.groups.proofs.Writing.{stored-then}
 use Rattle.savefile.proofs.FileBytes.{file-put}
 use Rattle.savefile.proofs.Sizes.{header-here, image-small}
@@ -24,7 +25,7 @@ put-darts-requires c κs =
     let start : tie.Start = search in
     let block = start .args .block .now in
     let s = (let p : tie.After-put-header = search in p .put-header .ensures) in
-    (image-small block (start .pre), omega (arith, file-length block, file-most block (start .pre), s .past))
+    (image-small block (start .pre), omega (arith, file-length widest block, file-most widest block (start .pre), s .past))
 
 same-length : tie.Need-same-length
 same-length c = search needs
@@ -34,7 +35,7 @@ returns c =
     let start : tie.Start = search in
     let put-header-ensures = (let p : tie.After-put-header = search in p .put-header .ensures) in
     let put-darts-ensures = (let p : tie.After-put-darts = search in p .put-darts .ensures) in
-    rw (file-put (start .args .block .now)) (stored-then put-header-ensures put-darts-ensures)
+    λ lim. rw (file-put lim (start .args .block .now)) (stored-then put-header-ensures put-darts-ensures)
 
 pub put-file-spec : {M : Type 1} → statement M
 put-file-spec =
