@@ -10,7 +10,9 @@ use Rattle.model.specs.Lists.{mem, distinct}
 use Rattle.laws.proofs.Tests.{by-cases, and-intro, and-right}
 use Rattle.laws.proofs.Members.{In, in-here, in-there, distinct-not, getD-in}
 use Rattle.theory.proofs.ImageLaws.{place-back}
-use Rattle.keyset.specs.Slots.{Apart, Told}
+use Rattle.keyset.specs.Slots.{Apart, Searched}
+use Rattle.keyset.specs.declared.Search.{Search}
+use Rattle.keyset.specs.declared.Search.the-variants.{Distinct, Repeated}
 
 apart-distinct : (l : List ℕ) → Apart l (length l) → distinct l ≡ true
 apart-distinct [] a = refl
@@ -29,11 +31,12 @@ module _ (keys : List ℕ) (n : ℕ) (fits : n ≤ length keys) where
   long : length (take n keys) ≡ n
   long = length-take-le n keys fits
 
-  pub told-yes : {r : ℕ} → Told keys n r → r ≡ 0 → true ≡ distinct (take n keys)
-  told-yes t e = sym (apart-distinct (take n keys) (λ p q h k f. t .if-apart e p q h (omega (arith, long))
+  pub searched-yes : {r : Search} → Searched keys n r → r ≡ Distinct → true ≡ distinct (take n keys)
+  searched-yes t e = let a = rw e at t in
+      sym (apart-distinct (take n keys) (λ p q h k f. a p q h (omega (arith, long))
       (sym (getD-take n keys p 0 (omega (arith, long))) ∙ f ∙ getD-take n keys q 0 (omega (arith, long)))))
 
-  pub told-no : {r : ℕ} → Told keys n r → r ≡ 1 → false ≡ distinct (take n keys)
-  told-no t e = by-cases (distinct (take n keys))
-      (λ d. absurd (t .if-twice e (λ p q h k f. distinct-apart (take n keys) d p q h (omega (arith, long)) (getD-take n keys p 0 (omega arith) ∙ f ∙ sym (getD-take n keys q 0 (omega arith))))))
+  pub searched-no : {r : Search} → Searched keys n r → r ≡ Repeated → false ≡ distinct (take n keys)
+  searched-no t e = let twice = rw e at t in by-cases (distinct (take n keys))
+      (λ d. absurd (twice (λ p q h k f. distinct-apart (take n keys) d p q h (omega (arith, long)) (getD-take n keys p 0 (omega arith) ∙ f ∙ sym (getD-take n keys q 0 (omega arith))))))
       (λ d. sym d)

@@ -9,7 +9,8 @@ use lib.ListN.{length, getD, set, replicate, length-set, length-replicate}
 use lib.Seq.{getD-set-same, getD-set-other}
 use Rattle.laws.proofs.Tests.{lt-or-ge, eq-or-ne, last-or-below}
 use Rattle.laws.proofs.Lists.{getD-zeros}
-use Rattle.keyset.specs.Slots.{slot-of, key-at, Probed, Apart, Told}
+use Rattle.keyset.specs.Slots.{slot-of, key-at, Probed, Apart, Searched}
+use Rattle.keyset.specs.declared.Search.the-variants.{Distinct, Repeated}
 
 -- A SEARCH that has come to t
 pub record Going (keys table : List ℕ) (x h t : ℕ) : Type 0 where
@@ -63,13 +64,10 @@ module _ {keys table : List ℕ} {i : ℕ} (w : Spread keys table i) {x h s : �
   here = eh ∙ ap slot-of ex
 
   -- the slot holds a key
-  pub twice : (n : ℕ) → i < n → (s ≡ h + 64 → ⊥) → (getD table s 0 ≡ 0 → ⊥) → Told keys n 1
+  pub twice : (n : ℕ) → i < n → (s ≡ h + 64 → ⊥) → (getD table s 0 ≡ 0 → ⊥) → Searched keys n Repeated
   twice n l b z =
-      record {
-        if-apart = λ e. absurd (omega arith);
-        if-twice = λ _ a. ⊎-elim (λ e. z e) (λ e. a (getD table s 0 - 1) i (omega (arith, w .only s, positive)) l (e ∙ ex))
-            (p .found (⊎-elim (λ q. absurd (b q)) (λ q. q) (eq-or-lt-of-le (p .to))));
-      }
+      λ a. ⊎-elim (λ e. z e) (λ e. a (getD table s 0 - 1) i (omega (arith, w .only s, positive)) l (e ∙ ex))
+          (p .found (⊎-elim (λ q. absurd (b q)) (λ q. q) (eq-or-lt-of-le (p .to))))
     where
       positive : 0 < getD table s 0
       positive = ⊎-elim (λ q. q) (λ q. absurd (z (omega arith))) (lt-or-ge 0 (getD table s 0))
@@ -118,8 +116,5 @@ module _ {keys table : List ℕ} {i : ℕ} (w : Spread keys table i) {x h s : �
           different-lt : (a b : ℕ) → b ≤ a → (a ≡ b → ⊥) → b < a
           different-lt a b q d = ⊎-elim (λ l. l) (λ l. absurd (d (omega arith))) (lt-or-ge b a)
 
-pub all-spread : {keys table : List ℕ} {i n : ℕ} → Spread keys table i → n ≤ i → Told keys n 0
-all-spread w l = record { if-apart = λ _ p q a b. w .apart p q a (omega arith); if-twice = λ e. absurd (omega arith) }
-
-pub gave-up : (keys : List ℕ) (n : ℕ) → Told keys n 2
-gave-up keys n = record { if-apart = λ e. absurd (omega arith); if-twice = λ e. absurd (omega arith) }
+pub all-spread : {keys table : List ℕ} {i n : ℕ} → Spread keys table i → n ≤ i → Searched keys n Distinct
+all-spread w l = λ p q a b. w .apart p q a (omega arith)

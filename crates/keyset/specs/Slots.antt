@@ -4,6 +4,8 @@ use mathlib.Core.List.{List}
 use mathlib.Core.Logic.{_⊎_}
 use Prim.Native.Nat.{ℕ, _+_, _*_, _-_, _/_, _%_, _≤_, _<_, _^_}
 use lib.ListN.{getD}
+use Rattle.keyset.specs.declared.Search.{Search}
+use Rattle.keyset.specs.declared.Search.the-variants.{Distinct, Repeated, GaveUp}
 
 -- the low and the high 32 bits of a key, each spread over the slots
 unfoldable pub low-part : ℕ → ℕ
@@ -31,7 +33,8 @@ pub record Probed (keys table : List ℕ) (x h r : ℕ) : Type 0 where
 abbrev pub Apart : List ℕ → ℕ → Type 0
 Apart keys n = (p q : ℕ) → p < q → q < n → getD keys p 0 ≡ getD keys q 0 → ⊥
 
--- what is told of the first n keys: 0, no two are the same; 1, two are; another number, nothing
-pub record Told (keys : List ℕ) (n r : ℕ) : Type 0 where
-  pub if-apart : r ≡ 0 → Apart keys n
-  pub if-twice : r ≡ 1 → Apart keys n → ⊥
+-- what a search found of the first n keys; one that gave up says nothing
+abbrev pub Searched : List ℕ → ℕ → Search → Type 0
+Searched keys n Distinct = Apart keys n
+Searched keys n Repeated = Apart keys n → ⊥
+Searched keys n GaveUp = Unit {0}

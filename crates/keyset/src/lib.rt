@@ -2,7 +2,7 @@
 ghost use mathlib.Core.Path.{_≡_};
 ghost use Prim.Native.Nat.{ℕ, _≤_, _<_};
 ghost use lib.ListN.{length, getD, replicate};
-ghost use Rattle.keyset.specs.Slots.{low-part, high-part, slot-of, Probed, Told};
+ghost use Rattle.keyset.specs.Slots.{low-part, high-part, slot-of, Probed, Searched};
 
 // The low and the high 32 bits of a key, each spread over the slots.
 fn low_part(x: u64) -> u64
@@ -52,10 +52,17 @@ fn probe(keys: &[u64], table: &[u16; 8256], x: u64, h: usize) -> usize
     t
 }
 
-// Of the first n keys: 0 if no two are the same, 1 if two are, 2 if a search gave up.
-pub fn told(keys: &[u64], n: usize, table: &mut [u16; 8256]) -> u64
+// What a search through the slots finds: no two keys are the same, two are, or it gave up.
+pub enum Search {
+    Distinct,
+    Repeated,
+    GaveUp,
+}
+
+// Searches for each of the first n keys, and puts it into a slot.
+pub fn search_slots(keys: &[u64], n: usize, table: &mut [u16; 8256]) -> Search
     requires { ⌜ (n ≤ length (now keys)) × (length (now keys) ≤ 4096) × (now table ≡ replicate 8256 0) ⌝ }
-    ensures { λ r. ⌜ Told (now (keys .entry)) n r ⌝ }
+    ensures { λ r. ⌜ Searched (now (keys .entry)) n r ⌝ }
 {
     // The keys below i differ, and each is in a slot.
     let mut i = 0;
@@ -64,13 +71,13 @@ pub fn told(keys: &[u64], n: usize, table: &mut [u16; 8256]) -> u64
         let h = slot_of(x);
         let s = probe(keys, table, x, h);
         if s == h + 64 {
-            return 2;
+            return Search::GaveUp;
         }
         if table[s] != 0 {
-            return 1;
+            return Search::Repeated;
         }
         table[s] = (i + 1) as u16;
         i += 1;
     }
-    0
+    Search::Distinct
 }

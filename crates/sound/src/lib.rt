@@ -56,7 +56,7 @@ fn darts_right(block: &[u64], n: usize, seen: &mut [u8]) -> bool
     let mut last = 0;
     let mut i = 0;
     while i < n {
-        if !dart::place_at(block, n, i, last) {
+        if !dart::place_at(block, n, Place(i), last) {
             return false;
         }
         let k = record::field(block, Place(i), Record::KIND);
@@ -91,13 +91,13 @@ fn far_right(block: &[u64], n: usize, keys: &mut [u64]) -> Far
     let mut c = 0;
     let mut i = 0;
     while i < n {
-        if !dart::far_at(block, n, i) {
+        if !dart::far_at(block, n, Place(i)) {
             return Far {
                 right: false,
                 critical: 0,
             };
         }
-        c = questions::put_label(block, i, keys, c);
+        c = questions::put_label(block, Place(i), keys, c);
         i += 1;
     }
     Far {

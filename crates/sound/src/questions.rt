@@ -11,21 +11,22 @@ ghost use Rattle.model.specs.Values.{room};
 ghost use Rattle.columns.specs.Columns.{all-below, count, own-test, codes, Ranged, Links};
 ghost use Rattle.sound.specs.Kept.{Kept};
 use crate::dart;
+use keyset::Search;
 use memory::header::Header;
 use memory::record;
 use memory::record::Place;
 use memory::record::Record;
 
-// The label of the dart at place i, if it is critical, goes after the first c keys. Returns how many there are then.
-pub fn put_label(block: &[u64], i: usize, keys: &mut [u64], c: usize) -> usize
-    requires { ⌜ (i < room) × (words-for (i + 1) ≤ length (now block)) × (c < room) × (c < length (now keys)) ⌝ }
-    ensures { λ r. ⌜ Kept (now (block .entry)) i (now (keys .entry)) c (now (keys .exit)) r ⌝ }
+// The label of the dart at place p, if it is critical, goes after the first c keys. Returns how many there are then.
+pub fn put_label(block: &[u64], p: Place, keys: &mut [u64], c: usize) -> usize
+    requires { ⌜ (p .0 < room) × (words-for (p .0 + 1) ≤ length (now block)) × (c < room) × (c < length (now keys)) ⌝ }
+    ensures { λ r. ⌜ Kept (now (block .entry)) (p .0) (now (keys .entry)) c (now (keys .exit)) r ⌝ }
 {
-    let k = record::field(block, Place(i), Record::KIND);
+    let k = record::field(block, p, Record::KIND);
     if k < 2 {
         return c;
     }
-    keys[c] = record::field(block, Place(i), Record::LINK);
+    keys[c] = record::field(block, p, Record::LINK);
     c + 1
 }
 
@@ -38,7 +39,7 @@ fn gather(block: &[u64], n: usize, keys: &mut [u64]) -> usize
     let mut c = 0;
     let mut i = 0;
     while i < n {
-        c = put_label(block, i, keys, c);
+        c = put_label(block, Place(i), keys, c);
         i += 1;
     }
     c
@@ -58,15 +59,14 @@ pub fn apart(keys: &mut [u64], c: usize) -> bool
     ensures { λ r. ⌜ r ≡ distinct (take c (now (keys .entry))) ⌝ }
 {
     let mut table = [0u16; 8256];
-    let told = keyset::told(keys, c, &mut table);
-    if told == 0 {
-        return true;
+    match keyset::search_slots(keys, c, &mut table) {
+        Search::Distinct => true,
+        Search::Repeated => false,
+        Search::GaveUp => {
+            let mut scratch = [0u64; Header::DARTS];
+            differ(keys, &mut scratch, c)
+        }
     }
-    if told == 1 {
-        return false;
-    }
-    let mut scratch = [0u64; Header::DARTS];
-    differ(keys, &mut scratch, c)
 }
 
 // 7: whether no label stands twice.
@@ -88,7 +88,7 @@ pub fn coordinates_finite(block: &[u64]) -> bool
     // The points below i are finite.
     let mut i = 0;
     while i < n {
-        if !dart::finite_at(block, i) {
+        if !dart::finite_at(block, Place(i)) {
             return false;
         }
         i += 1;
@@ -104,7 +104,7 @@ fn links_pass(block: &[u64], n: usize, seen: &mut [u8]) -> bool
     // The links below i are right, and the nexts, marked in `seen`, differ.
     let mut i = 0;
     while i < n {
-        if !dart::link_at(block, n, i) {
+        if !dart::link_at(block, n, Place(i)) {
             return false;
         }
         let a = record::field(block, Place(i), Record::NEXT) as usize;
@@ -136,7 +136,7 @@ pub fn thirds_right(block: &[u64]) -> bool
     // The third links below i are right.
     let mut i = 0;
     while i < n {
-        if !dart::third_at(block, n, i) {
+        if !dart::third_at(block, n, Place(i)) {
             return false;
         }
         i += 1;
@@ -185,7 +185,7 @@ pub fn points_agree(block: &[u64]) -> bool
     // The points below i agree.
     let mut i = 0;
     while i < n {
-        if !dart::points_at(block, n, i) {
+        if !dart::points_at(block, n, Place(i)) {
             return false;
         }
         i += 1;

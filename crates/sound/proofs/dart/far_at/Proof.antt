@@ -88,7 +88,7 @@ sewn-at-requires : tie.Need-sewn-at-requires
 sewn-at-requires c κs =
     let start : tie.Start = search in
     let block = start .args .block .now in
-    let p' = start .args .p in
+    let p' = start .args .p .0 in
     let field-ensures = (let p : tie.After-field = search in p .field .ensures) in
     let field2-ensures = (let p : tie.After-field2 = search in p .field2 .ensures) in
     let field3-ensures = (let p : tie.After-field3 = search in p .field3 .ensures) in

@@ -20,7 +20,8 @@ unfolding sewn-test
 returns c =
     let field-ensures = (let p : tie.After-field = search in p .field .ensures) in
     let field2-ensures = (let p : tie.After-field2 = search in p .field2 .ensures) in
-    rw (field-ensures, field2-ensures, c .field3 .ensures) refl
+    let field3-ensures = (let p : tie.After-field3 = search in p .field3 .ensures) in
+    rw (field-ensures, field2-ensures, field3-ensures) refl
 
 pub sewn-at-spec : {M : Type 1} → statement M
 sewn-at-spec = tie.close (tie.spec field-requires field-requires-2 field-requires-3 returns)

@@ -14,7 +14,7 @@ returns : tie.Need-returns
 returns c =
     let start : tie.Start = search in
     let field-ensures = (let p : tie.After-field = search in p .field .ensures) in
-    let e = le-ltb 1 (column (start .args .block .now) 3 (start .args .i)) (omega (arith, c .if1 .taken, field-ensures)) in
+    let e = le-ltb 1 (column (start .args .block .now) 3 (start .args .p .0)) (omega (arith, c .if1 .taken, field-ensures)) in
     record { keys-are = rw e refl; count-is = rw e refl }
 
 field-requires-2 : tie.Need-field-requires-2
@@ -38,7 +38,7 @@ returns-2 c =
     let field-ensures = (let p : tie.After-field = search in p .field .ensures) in
     let if1-left = (let p : tie.Else1 = search in p .if1 .left) in
     let field2-ensures = (let p : tie.After-field2 = search in p .field2 .ensures) in
-    let e = lt-ltb 1 (column (start .args .block .now) 3 (start .args .i)) (omega (arith, if1-left, field-ensures)) in
+    let e = lt-ltb 1 (column (start .args .block .now) 3 (start .args .p .0)) (omega (arith, if1-left, field-ensures)) in
     record { keys-are = rw (e, field2-ensures) refl; count-is = rw e refl }
 
 pub put-label-spec : {M : Type 1} → statement M

@@ -1,12 +1,12 @@
--- `keyset::told` meets its contract: the keys below i differ, and each is in a slot.
+-- `keyset::search_slots` meets its contract: the keys below i differ, and each is in a slot.
 -- Assumes nothing.
 use Prim.Native.Nat.{_-_, _≤_}
 use mathlib.Core.Path.{refl}
-use Rattle.keyset.proofs.Spread.{Spread, none-spread, twice, one-more, all-spread, gave-up}
+use Rattle.keyset.proofs.Spread.{Spread, none-spread, twice, one-more, all-spread}
 use native.Mathlib.Omega.{arith}
 use borrow.Author.Needs.{needs}
-use Rattle.keyset.proofs.told.Statement.{statement}
-use Rattle.keyset.proofs.told.Tie as tie
+use Rattle.keyset.proofs.search_slots.Statement.{statement}
+use Rattle.keyset.proofs.search_slots.Tie as tie
 
 abbrev Inv-loop : tie.InvT-loop
 Inv-loop keys n table₀ i₀ table i =
@@ -42,8 +42,7 @@ add-if1 : tie.Need-add-if1 Inv-loop μ-loop
 add-if1 c = search needs
 
 returns : tie.Need-returns Inv-loop μ-loop
-returns c =
-    gave-up _ _
+returns c = search needs
 
 mul-if2 : tie.Need-mul-if2 Inv-loop μ-loop
 mul-if2 c = search needs
@@ -94,8 +93,8 @@ returns-3 c =
     let loop-inv = (let p : tie.At-loop Inv-loop μ-loop = search in p .loop .inv) in
     all-spread (loop-inv .0) (c .loop-test .left)
 
-pub told-spec : {M : Type 1} → statement M
-told-spec =
+pub search-slots-spec : {M : Type 1} → statement M
+search-slots-spec =
     tie.close
     (tie.spec
     Inv-loop
