@@ -6,10 +6,11 @@ ghost use mathlib.Core.Path.{_≡_};
 ghost use mathlib.Core.Bool.{true};
 ghost use mathlib.Core.Logic.{_↔_};
 ghost use Prim.Native.Nat.{ℕ, _≤_, _<_};
-ghost use lib.ListN.{length, getD, take};
+ghost use lib.ListN.{length, getD};
 ghost use Rattle.model.specs.Values.{room};
 ghost use Rattle.model.specs.Image.{words-for, holds-block};
-ghost use Rattle.columns.specs.Columns.{all-below, codes, header-test, far-test, Darts};
+ghost use Rattle.columns.specs.Columns.{header-test, Darts};
+ghost use Rattle.sound.specs.Kept.{FarSaid};
 use memory::header::Header;
 use memory::record;
 use memory::record::Place;
@@ -76,34 +77,27 @@ fn darts_right(block: &[u64], n: usize, seen: &mut [u8]) -> bool
 }
 
 // Whether each dart is right with the darts that it links to; then how many of them are critical.
-struct Far {
-    right: bool,
-    critical: usize,
+enum Far {
+    Right(usize),
+    Wrong,
 }
 
 // Looks at each dart and at those that it links to, and keeps the labels of the critical ones in order.
 fn far_right(block: &[u64], n: usize, keys: &mut [u64]) -> Far
     requires { ⌜ (n ≤ room) × (words-for n ≤ length (now block)) × Darts (now block) n × (n ≤ length (now keys)) ⌝ }
-    ensures right { λ r. ⌜ r .right ≡ all-below (far-test (now (block .entry))) n ⌝ }
-    ensures labels { λ r. ⌜ (r .right ≡ true → (r .critical ≤ n) × (take (r .critical) (now (keys .exit)) ≡ codes (now (block .entry)) n)) ⌝ }
+    ensures { λ r. ⌜ FarSaid (now (block .entry)) n (now (keys .exit)) r ⌝ }
 {
     // The darts below i are right, and the first c keys are their labels.
     let mut c = 0;
     let mut i = 0;
     while i < n {
         if !dart::far_at(block, n, Place(i)) {
-            return Far {
-                right: false,
-                critical: 0,
-            };
+            return Far::Wrong;
         }
         c = questions::put_label(block, Place(i), keys, c);
         i += 1;
     }
-    Far {
-        right: true,
-        critical: c,
-    }
+    Far::Right(c)
 }
 
 // 2: is the memory a sound block's image?
@@ -128,9 +122,8 @@ pub fn is_sound(block: &[u64]) -> bool
         return false;
     }
     let mut keys = [0u64; Header::DARTS];
-    let far = far_right(block, n, &mut keys);
-    if !far.right {
+    let Far::Right(critical) = far_right(block, n, &mut keys) else {
         return false;
-    }
-    questions::apart(&mut keys, far.critical)
+    };
+    questions::apart(&mut keys, critical)
 }

@@ -1,9 +1,8 @@
 -- `sound::far_right` meets its contract: the darts below i are right with those that they link to, and the first c keys are their labels.
 -- Assumes nothing.
-use mathlib.Core.Path.{_≡_, refl}
+use mathlib.Core.Path.{_≡_, refl, sym}
 use lib.ListN.{length}
 use native.Mathlib.Omega.{arith}
-use mathlib.Core.Bool.{false≢true}
 use Prim.Native.Nat.{_-_}
 use borrow.Author.Tests.{not-true, not-false}
 use Rattle.columns.specs.Columns.{far-test}
@@ -38,7 +37,7 @@ returns c =
     let loop-inv = (let p : tie.At-loop Inv-loop μ-loop = search in p .loop .inv) in
     let loop-test-taken = (let p : tie.In-loop Inv-loop μ-loop = search in p .loop-test .taken) in
     let far-at-ensures = (let p : tie.After-far-at Inv-loop μ-loop = search in p .far-at .ensures) in
-    (going-no (loop-inv .0) loop-test-taken far-at-ensures (not-true _ (c .if1 .taken)), λ e. absurd (false≢true e))
+    sym (going-no (loop-inv .0) loop-test-taken far-at-ensures (not-true _ (c .if1 .taken)))
 
 put-label-requires : tie.Need-put-label-requires Inv-loop μ-loop
 put-label-requires c κs = search needs
@@ -70,8 +69,8 @@ same-length-2 c =
 returns-2 : tie.Need-returns-2 Inv-loop μ-loop
 returns-2 c =
     let loop-inv = (let p : tie.At-loop Inv-loop μ-loop = search in p .loop .inv) in
-    let e = gather-end (loop-inv .1) (c .loop-test .left) in
-    (going-end (loop-inv .0) (c .loop-test .left), λ _. e)
+    let labels = gather-end (loop-inv .1) (c .loop-test .left) in
+    (sym (going-end (loop-inv .0) (c .loop-test .left)), labels .0, labels .1)
 
 pub far-right-spec : {M : Type 1} → statement M
 far-right-spec =

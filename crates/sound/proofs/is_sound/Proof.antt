@@ -1,6 +1,6 @@
 -- `sound::is_sound` meets its contract: a no to any part is a no, and a yes to all is a yes.
 -- Assumes nothing.
-use mathlib.Core.Path.{ap, _∙_}
+use mathlib.Core.Path.{refl, sym, ap, _∙_}
 use borrow.Author.Tests.{not-true, not-false}
 use Rattle.model.specs.Lists.{distinct}
 use Rattle.laws.proofs.Lists.{getD-zeros}
@@ -89,10 +89,18 @@ far-right-requires c κs =
     let few = header-few _ header-right-ensures (not-false _ if2-left) in
     (few, omega (arith, if3-left), darts-right-ensures .0 (not-false _ if5-left), few)
 
+enum-known-critical : tie.Need-enum-known-critical
+enum-known-critical c = search needs
+
+enum-told : tie.Need-enum-told
+enum-told c = search needs
+
 returns-6 : tie.Need-returns-6
 returns-6 c =
     let far-right-ensures = (let p : tie.After-far-right = search in p .far-right .ensures) in
-    no-far _ (far-right-ensures .0) (not-true _ (c .if6 .taken))
+    let told = (let p : tie.After-enum-told = search in p .enum-told .given) in
+    let wrong = rw (told .1) at far-right-ensures in
+    no-far _ (sym wrong) refl
 
 slice-aggregate-apart : tie.Need-slice-aggregate-apart
 slice-aggregate-apart c = search needs
@@ -102,10 +110,11 @@ apart-requires c κs =
     let header-right-ensures = (let p : tie.After-header-right = search in p .header-right .ensures) in
     let if2-left = (let p : tie.Else2 = search in p .if2 .left) in
     let far-right-ensures = (let p : tie.After-far-right = search in p .far-right .ensures) in
-    let if6-left = (let p : tie.Else6 = search in p .if6 .left) in
+    let known = (let p : tie.After-critical = search in p .critical .given) in
+    let right = rw (known .1) at far-right-ensures in
     let far-right-kept = (let p : tie.After-far-right = search in p .far-right .kept) in
     let few = header-few _ header-right-ensures (not-false _ if2-left) in
-    (omega (arith, far-right-ensures .1 (not-false _ if6-left) .0, few, far-right-kept), omega (arith, far-right-kept))
+    (omega (arith, right .1, few, far-right-kept), omega (arith, far-right-kept))
 
 returns-7 : tie.Need-returns-7
 returns-7 c =
@@ -117,11 +126,11 @@ returns-7 c =
     let darts-right-ensures = (let p : tie.After-darts-right = search in p .darts-right .ensures) in
     let if5-left = (let p : tie.Else5 = search in p .if5 .left) in
     let far-right-ensures = (let p : tie.After-far-right = search in p .far-right .ensures) in
-    let if6-left = (let p : tie.Else6 = search in p .if6 .left) in
+    let known = (let p : tie.After-critical = search in p .critical .given) in
+    let right = rw (known .1) at far-right-ensures in
     let apart-ensures = (let p : tie.After-apart = search in p .apart .ensures) in
     labels-last _ (omega (arith, if3-left)) header-right-ensures (not-false _ if2-left) zeros-ensures (not-false _ if4-left) darts-right-ensures
-    (not-false _ if5-left) (far-right-ensures .0) (not-false _ if6-left)
-    (apart-ensures ∙ ap distinct (far-right-ensures .1 (not-false _ if6-left) .1))
+    (not-false _ if5-left) (sym (right .0)) refl (apart-ensures ∙ ap distinct (right .2))
 
 pub is-sound-spec : {M : Type 1} → statement M
 is-sound-spec =
@@ -143,6 +152,8 @@ is-sound-spec =
     returns-5
     slice-aggregate-far-right
     far-right-requires
+    enum-known-critical
+    enum-told
     returns-6
     slice-aggregate-apart
     apart-requires
