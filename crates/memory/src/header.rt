@@ -46,6 +46,9 @@ impl Header {
     // Darts that a message may bring.
     pub const MESSAGE: usize = 512;
 
+    // Serials lie below this.
+    pub const SERIALS: u64 = 4294967296;
+
     // Numbers of labels and counters lie below this.
     pub const NUMBERS: u64 = 4294967296;
 

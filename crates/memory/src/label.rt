@@ -3,28 +3,32 @@ ghost use mathlib.Core.Path.{_≡_};
 ghost use Prim.Native.Nat.{_<_, _^_};
 ghost use Rattle.model.specs.Values.{code};
 ghost use Rattle.model.specs.Image.{label-in};
+use crate::header::Header;
+
+// Codes lie below this: makers below 16, numbers below 2^32, positions below 4,096.
+pub const CODES: u64 = 281474976710656;
 
 pub fn maker_of(word: u64) -> u64
     ensures { λ r. ⌜ r ≡ label-in word .maker ⌝ }
 {
-    word / 4096 / 4294967296
+    word / Header::POSITIONS / Header::NUMBERS
 }
 
 pub fn number_of(word: u64) -> u64
     ensures { λ r. ⌜ r ≡ label-in word .number ⌝ }
 {
-    word / 4096 % 4294967296
+    word / Header::POSITIONS % Header::NUMBERS
 }
 
 pub fn position_of(word: u64) -> u64
     ensures { λ r. ⌜ r ≡ label-in word .position ⌝ }
 {
-    word % 4096
+    word % Header::POSITIONS
 }
 
 pub fn code_of(maker: u64, number: u64, position: u64) -> u64
     requires { ⌜ (maker < 16) × (number < 2 ^ 32) × (position < 4096) ⌝ }
     ensures { λ r. ⌜ r ≡ code (record { maker = maker; number = number; position = position }) ⌝ }
 {
-    (maker * 4294967296 + number) * 4096 + position
+    (maker * Header::NUMBERS + number) * Header::POSITIONS + position
 }

@@ -78,7 +78,8 @@ pub fn label_right(me: u64, counter: u64, k: u64, a: u64) -> bool
 {
     let maker = label::maker_of(a);
     let number = label::number_of(a);
-    (k < 2) | ((k / 4 != me) & ((maker != me) | (number < counter)))
+    let other = kind::other_of(k);
+    (k < kind::CRITICAL) | ((other != me) & ((maker != me) | (number < counter)))
 }
 
 // 8: the points at p and v are one.
@@ -119,7 +120,7 @@ pub fn place_at(block: &[u64], n: usize, p: Place, last: u64) -> bool
     let f = finite_at(block, p);
     let a = record::field(block, p, Record::NEXT);
     let b = record::field(block, p, Record::OPPOSITE);
-    (last < s) & (s < 4294967296) & f & (a < n as u64) & (b < n as u64) & (b != p.0 as u64)
+    (last < s) & (s < Header::SERIALS) & f & (a < n as u64) & (b < n as u64) & (b != p.0 as u64)
 }
 
 // 2, by itself: the words of a critical dart of block `me`.
@@ -128,10 +129,12 @@ fn critical_right(me: u64, counter: u64, k: u64, a: u64) -> bool
 {
     let maker = label::maker_of(a);
     let number = label::number_of(a);
-    (k % 4 == 2)
-        & (k / 4 < Header::BLOCKS)
-        & (a < 281474976710656)
-        & (k / 4 != me)
+    let critical = kind::is_critical(k);
+    let other = kind::other_of(k);
+    critical
+        & (other < Header::BLOCKS)
+        & (a < label::CODES)
+        & (other != me)
         & ((maker != me) | (number < counter))
 }
 
@@ -139,8 +142,8 @@ fn critical_right(me: u64, counter: u64, k: u64, a: u64) -> bool
 pub fn kind_right(me: u64, counter: u64, n: usize, k: u64, a: u64) -> bool
     ensures { λ r. ⌜ r ≡ kind-test me counter n k a ⌝ }
 {
-    if k < 2 {
-        return ((k == 0) & (a == 0)) | ((k == 1) & (a < n as u64));
+    if k < kind::CRITICAL {
+        return ((k == kind::FREE) & (a == 0)) | ((k == kind::SEWN) & (a < n as u64));
     }
     critical_right(me, counter, k, a)
 }

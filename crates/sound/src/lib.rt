@@ -22,7 +22,7 @@ fn header_right(block: &[u64]) -> bool
     ensures { λ r. ⌜ r ≡ header-test (now (block .entry)) ⌝ }
 {
     (block[Header::NUMBER] < Header::BLOCKS)
-        & (block[Header::COUNTER] < 4294967296)
+        & (block[Header::COUNTER] < Header::NUMBERS)
         & (block[Header::COUNT] <= Header::DARTS as u64)
         & (block[3] == 0)
         & (block[4] == 0)

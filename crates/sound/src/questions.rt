@@ -13,6 +13,7 @@ ghost use Rattle.sound.specs.Kept.{Kept};
 use crate::dart;
 use keyset::Search;
 use memory::header::Header;
+use memory::kind;
 use memory::record;
 use memory::record::Place;
 use memory::record::Record;
@@ -23,7 +24,7 @@ pub fn put_label(block: &[u64], p: Place, keys: &mut [u64], c: usize) -> usize
     ensures { λ r. ⌜ Kept (now (block .entry)) (p .0) (now (keys .entry)) c (now (keys .exit)) r ⌝ }
 {
     let k = record::field(block, p, Record::KIND);
-    if k < 2 {
+    if k < kind::CRITICAL {
         return c;
     }
     keys[c] = record::field(block, p, Record::LINK);

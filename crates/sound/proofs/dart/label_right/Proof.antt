@@ -12,11 +12,15 @@ maker-of-requires c κs = search needs
 number-of-requires : tie.Need-number-of-requires
 number-of-requires c κs = search needs
 
+other-of-requires : tie.Need-other-of-requires
+other-of-requires c κs = search needs
+
 returns : tie.Need-returns
 unfolding label-test
 returns c =
     let maker-of-ensures = (let p : tie.After-maker-of = search in p .maker-of .ensures) in
-    rw (maker-of-ensures, c .number-of .ensures) refl
+    let number-of-ensures = (let p : tie.After-number-of = search in p .number-of .ensures) in
+    rw (maker-of-ensures, number-of-ensures, c .other-of .ensures) refl
 
 pub label-right-spec : {M : Type 1} → statement M
-label-right-spec = tie.close (tie.spec maker-of-requires number-of-requires returns)
+label-right-spec = tie.close (tie.spec maker-of-requires number-of-requires other-of-requires returns)
