@@ -2,16 +2,17 @@
 use mathlib.Core.Path.{_≡_}
 use mathlib.Core.Logic.{⊎-elim}
 use mathlib.Core.List.{_++_, append-nil}
-use Prim.Native.Nat.{ℕ, _+_, _/_, _%_, _≤_, _<_}
+use Prim.Native.Nat.{ℕ, _+_, _*_, _/_, _%_, _^_, _≤_, _<_}
 use native.Mathlib.Omega.{arith}
+use lib.Dec.{ltb}
 use lib.ListN.{length, length-append}
 use borrow.Author.Tests.{eq-eqb, ne-eqb, lt-ltb}
 use Rattle.model.specs.Layouts.{group, serial, _⊗_, _⊕_, such-that, at-most, groups, group-below}
 use Rattle.model.specs.Image.{label-in, third-in}
 use Rattle.model.specs.Messages.{label, critical-link, third-put, third}
-use Rattle.laws.proofs.Tests.{eq-or-ne}
+use Rattle.laws.proofs.Tests.{by-cases, eq-or-ne}
 use Rattle.theory.proofs.GroupLaws.{group-most}
-use Rattle.groups.proofs.Labels.{label-most}
+use Rattle.groups.proofs.Labels.{label-length}
 use Rattle.codec.specs.Thirds.{ThirdSmall, third-bytes}
 use Rattle.codec.proofs.EntryLaws.{serial-most}
 
@@ -27,9 +28,14 @@ pub critical-bytes : (k a : ℕ) → (k % 4 ≡ 0 → ⊥) → (k % 4 ≡ 1 → 
 unfolding third-bytes third-in third-put third at-most such-that _⊗_ critical-link _⊕_
 critical-bytes k a e f = rw (ne-eqb (k % 4) 0 e, ne-eqb (k % 4) 1 f)
 
-pub one-group : (v : ℕ) → v < 3 → length (group .put v) ≡ 1
+-- numbers of one group and of two
+pub one-group : (v : ℕ) → v < 128 → length (group .put v) ≡ 1
 unfolding group group-below groups
-one-group v h = rw (lt-ltb v 128 (omega arith))
+one-group v h = rw (lt-ltb v 128 h)
+
+pub two-groups : (v : ℕ) → v < 128 * 128 → length (group .put v) ≤ 2
+unfolding group group-below groups
+two-groups v h = by-cases (ltb v 128) (λ e. rw e (omega arith)) (λ e. rw (e, lt-ltb (v / 128) 128 (omega arith)) (omega arith))
 
 pub free-length : (k a : ℕ) → k % 4 ≡ 0 → length (third-bytes k a) ≡ 1
 free-length k a e = rw (free-bytes k a e) (one-group 0 (omega arith))
@@ -45,11 +51,21 @@ critical-length k a e f = rw (
   length-append (group .put (k / 4)) (label .put (label-in a)),
 )
 
-pub third-most : (k a : ℕ) → ThirdSmall k a → length (third-bytes k a) ≤ 21
+-- a maker, a number and a position
+label-within : (a : ℕ) → a < 2 ^ 48 → length (label .put (label-in a)) ≤ 8
+label-within a h = omega (
+  arith,
+  label-length a,
+  one-group (a / 4096 / 2 ^ 32) (omega arith),
+  group-most (a / 4096 % 2 ^ 32) (omega arith),
+  two-groups (a % 4096) (omega arith),
+)
+
+pub third-most : (k a : ℕ) → ThirdSmall k a → length (third-bytes k a) ≤ 10
 third-most k a s = ⊎-elim
     (λ e. omega (arith, free-length k a e))
     (λ e. ⊎-elim
     (λ f. omega (arith, sewn-length k a f, serial-most a (s .sewn-small f)))
-    (λ f. omega (arith, critical-length k a e f, group-most (k / 4) (omega (arith, s .other-small)), label-most a (omega (arith, s .named-small))))
+    (λ f. omega (arith, critical-length k a e f, one-group (k / 4) (omega (arith, s .other-small)), label-within a (s .named-small)))
     (eq-or-ne (k % 4) 1))
     (eq-or-ne (k % 4) 0)

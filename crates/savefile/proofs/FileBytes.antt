@@ -70,7 +70,7 @@ dart-length m p =
     let q = point .put (dart-in m p .point) in
     rw (dart-put m p) (omega (arith, length-append (link-bytes m p) (t ++ q), length-append t q, link-length m p, point-length (dart-in m p .point)))
 
-pub dart-most : (m : List ℕ) (p : ℕ) → Small m p → length (a-dart .put (dart-in m p)) ≤ 60
+pub dart-most : (m : List ℕ) (p : ℕ) → Small m p → length (a-dart .put (dart-in m p)) ≤ 49
 dart-most m p s = omega (
   arith,
   dart-length m p,
@@ -92,8 +92,8 @@ put-each l (x ∷ xs) = ap (λ (t : List ℕ). l .put x ++ t) (put-each l xs)
 pub darts-put : (m : List ℕ) (n : ℕ) → put-all a-dart (tab (dart-in m) n) ≡ pieces (dart-bytes m) n
 darts-put m n = put-each a-dart (tab (dart-in m) n) ∙ in-pieces (a-dart .put) (dart-in m) n
 
-pub darts-most : {m : List ℕ} {n : ℕ} → AllSmall m n → length (pieces (dart-bytes m) n) ≤ n * 60
-darts-most {m} {n} s = length-most (dart-bytes m) 60 n (λ p h. dart-most m p (s .each p h))
+pub darts-most : {m : List ℕ} {n : ℕ} → AllSmall m n → length (pieces (dart-bytes m) n) ≤ n * 49
+darts-most {m} {n} s = length-most (dart-bytes m) 49 n (λ p h. dart-most m p (s .each p h))
 
 -- THE FILE
 pub file-put : (lim : Limits) (m : List ℕ) → file lim .put (block-in m) ≡ header-bytes m ++ put-all a-dart (tab (dart-in m) (getD m 2 0))

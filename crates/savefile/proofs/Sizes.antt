@@ -6,7 +6,7 @@ use Prim.Native.Nat.{ℕ, _%_, _^_, _≤_, _<_}
 use native.Mathlib.Omega.{arith}
 use lib.ListN.{length, getD}
 use borrow.Author.Tests.{eq-eqb, ne-eqb}
-use Rattle.model.specs.Values.{widest, serial-bound, room}
+use Rattle.model.specs.Values.{widest, serial-bound, room, blocks}
 use Rattle.model.specs.Image.{words-for, column, holds-block}
 use Rattle.theory.proofs.ImageLaws.{count-fits}
 use Rattle.columns.specs.Columns.{count, Kind, kind-free, kind-sewn, kind-critical, Ranged, Places, SewnPlaces, Finite}
@@ -78,8 +78,8 @@ module _ (m : List ℕ) (e : holds-block m ≡ true) where
       record { few = q .range .few; each = λ p h. small-at m p (count-fits widest m e) (q .range) (places m n (q .links)) (sewn-places m n (q .thirds)) (q .finite-points) h }
 
   -- the header's words
-  pub number-small : getD m 0 0 < 2 ^ 32
-  number-small = omega (arith, image-passed m e .range .number-small)
+  pub number-small : getD m 0 0 < blocks
+  number-small = image-passed m e .range .number-small
 
   pub counter-small : getD m 1 0 < 2 ^ 32
   counter-small = image-passed m e .range .counter-small

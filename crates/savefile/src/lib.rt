@@ -1,15 +1,41 @@
-// Saves a block as a file: it is written into no output first, which counts its bytes, so that a refusal leaves the output as it was.
+// Saves a block as a file: where the output could be too short it is put into no output first, which counts its bytes, so that a refusal leaves the output as it was.
 pub mod links; // links.rt: what a dart's links name, by serial
 pub mod put; // put.rt: its bytes counted and written
 
+ghost use mathlib.Core.Path.{_≡_};
+ghost use mathlib.Core.Bool.{true};
 ghost use Prim.Native.Nat.{_≤_};
-ghost use Rattle.model.specs.Values.{room, rack};
+ghost use lib.Dec.{leb};
+ghost use lib.ListN.{length};
+ghost use Rattle.model.specs.Values.{room, rack, Limits as AnyLimits};
+ghost use Rattle.model.specs.Image.{block-in, holds-block};
+ghost use Rattle.model.specs.Messages.{file};
 ghost use Rattle.model.specs.Calls.{save-file};
 ghost use Rattle.answers.specs.Answers.{Gives, written-of};
 ghost use Rattle.memory.specs.Header.{limits-of};
 use answers::Refusal;
 use answers::Written;
+use memory::header::Header;
 use memory::header::Limits;
+
+// Bytes that a file has at the most: before its darts, and for each dart.
+const BEFORE: usize = 8;
+
+const EACH: usize = 49;
+
+// 15: is an output of so many bytes long enough? The file is counted only where it could be too short.
+fn long_enough(block: &[u64], room: usize) -> bool
+    requires { ⌜ holds-block (now block) ≡ true ⌝ }
+    ensures { λ r. ⌜ ((lim : AnyLimits) → r ≡ leb (length (file lim .put (block-in (now (block .entry))))) room) ⌝ }
+{
+    let darts = block[Header::COUNT] as usize;
+    if BEFORE + darts * EACH <= room {
+        return true;
+    }
+    let mut none = [0u8; 0];
+    let size = put::put_file(block, &mut none);
+    size <= room
+}
 
 // Saves a block by limits. 1: is the memory of a block's size? 2: is it a sound block's image? 15: is the output long enough?
 // Bytes past those written stay; a refused call leaves the output.
@@ -23,12 +49,10 @@ pub fn save_file_by(block: &[u64], limits: Limits, out: &mut [u8]) -> Written
     if !sound::is_sound(block) {
         return Written::Refused(Refusal::NotAnImage);
     }
-    let mut none = [0u8; 0];
-    let n = put::put_file(block, &mut none);
-    if out.len() < n {
+    if !long_enough(block, out.len()) {
         return Written::Refused(Refusal::OutputTooShort);
     }
-    put::put_file(block, out);
+    let n = put::put_file(block, out);
     Written::Served(n)
 }
 

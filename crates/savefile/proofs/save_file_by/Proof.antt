@@ -30,11 +30,8 @@ returns-2 c =
     let is-sound-ensures = (let p : tie.After-is-sound = search in p .is-sound .ensures) in
     refused-image lim _ _ (start .pre) (if1-left ∙ words-ensures) (said-no is-sound-ensures (c .if2 .taken))
 
-slice-aggregate-put-file : tie.Need-slice-aggregate-put-file
-slice-aggregate-put-file c = search needs
-
-put-file-requires : tie.Need-put-file-requires
-put-file-requires c κs =
+long-enough-requires : tie.Need-long-enough-requires
+long-enough-requires c κs =
     let is-sound-ensures = (let p : tie.After-is-sound = search in p .is-sound .ensures) in
     let if2-left = (let p : tie.Else2 = search in p .if2 .left) in
     said-yes is-sound-ensures if2-left
@@ -47,11 +44,11 @@ returns-3 c =
     let if1-left = (let p : tie.Else1 = search in p .if1 .left) in
     let is-sound-ensures = (let p : tie.After-is-sound = search in p .is-sound .ensures) in
     let if2-left = (let p : tie.Else2 = search in p .if2 .left) in
-    let put-file-ensures = (let p : tie.After-put-file = search in p .put-file .ensures) in
-    refused-output lim _ _ (start .pre) (if1-left ∙ words-ensures) (said-yes is-sound-ensures if2-left) (put-file-ensures lim .past) (c .if3 .taken)
+    let long-enough-ensures = (let p : tie.After-long-enough = search in p .long-enough .ensures) in
+    refused-output lim _ _ (start .pre) (if1-left ∙ words-ensures) (said-yes is-sound-ensures if2-left) (said-no (long-enough-ensures lim) (c .if3 .taken))
 
-put-file-requires-2 : tie.Need-put-file-requires-2
-put-file-requires-2 c κs =
+put-file-requires : tie.Need-put-file-requires
+put-file-requires c κs =
     let is-sound-ensures = (let p : tie.After-is-sound = search in p .is-sound .ensures) in
     let if2-left = (let p : tie.Else2 = search in p .if2 .left) in
     said-yes is-sound-ensures if2-left
@@ -67,11 +64,11 @@ returns-4 c =
     let if1-left = (let p : tie.Else1 = search in p .if1 .left) in
     let is-sound-ensures = (let p : tie.After-is-sound = search in p .is-sound .ensures) in
     let if2-left = (let p : tie.Else2 = search in p .if2 .left) in
-    let put-file-ensures = (let p : tie.After-put-file = search in p .put-file .ensures) in
+    let long-enough-ensures = (let p : tie.After-long-enough = search in p .long-enough .ensures) in
     let if3-left = (let p : tie.Else3 = search in p .if3 .left) in
-    let put-file2-ensures = (let p : tie.After-put-file2 = search in p .put-file2 .ensures) in
-    served-file lim _ _ (start .pre) (if1-left ∙ words-ensures) (said-yes is-sound-ensures if2-left) (put-file-ensures lim .past)
-    if3-left (put-file2-ensures lim)
+    let put-file-ensures = (let p : tie.After-put-file = search in p .put-file .ensures) in
+    served-file lim _ _ (start .pre) (if1-left ∙ words-ensures) (said-yes is-sound-ensures if2-left)
+    (said-yes (long-enough-ensures lim) if3-left) (put-file-ensures lim)
 
 pub save-file-by-spec : {M : Type 1} → statement M
 save-file-by-spec =
@@ -81,9 +78,8 @@ save-file-by-spec =
     returns
     is-sound-requires
     returns-2
-    slice-aggregate-put-file
-    put-file-requires
+    long-enough-requires
     returns-3
-    put-file-requires-2
+    put-file-requires
     same-length
     returns-4)

@@ -18,7 +18,7 @@ shared-slice-read-narrow c =
 narrow-requires : tie.Need-narrow-requires
 narrow-requires c κs =
     let start : tie.Start = search in
-    number-small (start .args .block .now) (start .pre)
+    omega (arith, number-small (start .args .block .now) (start .pre))
 
 put-group-requires : tie.Need-put-group-requires
 put-group-requires c κs =
