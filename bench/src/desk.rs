@@ -176,7 +176,7 @@ impl Desk {
     }
 
     fn lent(&self) -> Lent {
-        Lent { blocks: self.settings[0].round.images.clone(), bytes: vec![0; 262_144], written: 0 }
+        Lent { blocks: self.settings[0].round.images.clone(), bytes: vec![0; 200_712], written: 0 }
     }
 }
 
@@ -200,7 +200,7 @@ impl Lent {
 
 impl Setting {
     fn of(round: Round) -> Setting {
-        let mut bytes = vec![0; 262_144];
+        let mut bytes = vec![0; 200_712];
         let mut written = 0;
         assert_eq!(Plain.send(&round.images[0], 1, round.serial, &mut bytes, &mut written), 0);
         let messages = message::split(&bytes[..written as usize]).unwrap_or_default();

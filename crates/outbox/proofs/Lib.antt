@@ -5,3 +5,8 @@ pub mod ByFaces
 pub mod Ready
 pub mod Small
 pub mod WholeLaws
+pub mod Rest
+pub mod LeastLaws
+pub mod SharesLaws
+pub mod UpdateLaws
+pub mod Relatives

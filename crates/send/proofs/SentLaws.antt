@@ -29,9 +29,9 @@ use Rattle.departure.proofs.LeavesWith.{transfer-law, updates-law}
 use Rattle.outbox.specs.Runs.{run}
 use Rattle.outbox.specs.Whole.{Sized, transfer-for}
 use Rattle.outbox.specs.declared.transfer.Sizes.{Sizes}
-use Rattle.updates.specs.ByBlocks.{told-put}
-use Rattle.updates.proofs.Rest.{rest-length, stored-rest}
-use Rattle.updates.proofs.Relatives.{updates-bytes}
+use Rattle.outbox.specs.ByBlocks.{told-put}
+use Rattle.outbox.proofs.Rest.{rest-length, stored-rest}
+use Rattle.outbox.proofs.Relatives.{updates-bytes}
 use Rattle.send.specs.Sent.{messages-at}
 
 -- INTO WHAT IS LEFT after a first part

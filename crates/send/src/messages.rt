@@ -11,14 +11,14 @@ ghost use Rattle.groups.specs.Slices.{Stored};
 ghost use Rattle.departure.specs.Asked.{Surveyed};
 ghost use Rattle.outbox.specs.Runs.{run};
 ghost use Rattle.outbox.specs.Whole.{Sized, transfer-for};
-ghost use Rattle.updates.specs.ByBlocks.{Shares, told-put};
+ghost use Rattle.outbox.specs.ByBlocks.{Shares, told-put};
 ghost use Rattle.send.specs.Sent.{messages-at};
 use answers::Refusal;
 use answers::Written;
 use departure::Counts;
 use outbox::transfer;
 use outbox::transfer::Sizes;
-use updates::every;
+use outbox::updates;
 
 // The transfer from the first byte on, the updates into what is left.
 fn put_both(
@@ -56,7 +56,7 @@ fn put_both(
         0,
     );
     let rest = &mut outbox[past..];
-    past + every::put_updates(block, to, order, starts, counts, labels, bytes, rest)
+    past + updates::put_updates(block, to, order, starts, counts, labels, bytes, rest)
 }
 
 // 15: is the outbox long enough? A refusal leaves it.
@@ -80,7 +80,7 @@ pub fn put_messages(
     ensures { λ r. ⌜ Gives (writing [] (now (outbox .entry)) (messages-at (now (block .entry)) to counts (now (marks .entry)) (now (numbers .entry)) (now (firsts .entry)))) (written-of r) (now (outbox .exit)) ⌝ }
 {
     let sizes = transfer::transfer_sizes(block, to, marks, order, starts, numbers, firsts, counts);
-    let more = every::updates_size(block, to, order, starts, counts, labels, bytes);
+    let more = updates::updates_size(block, to, order, starts, counts, labels, bytes);
     if outbox.len() < sizes.whole + more {
         return Written::Refused(Refusal::OutputTooShort);
     }

@@ -5,8 +5,8 @@ use Rattle.groups.proofs.Writing.{stored-length}
 use Rattle.departure.proofs.FirstNo.{ranges-in}
 use Rattle.codec.proofs.EntryLaws.{stored-as}
 use Rattle.outbox.proofs.Ready.{listed, started}
-use Rattle.updates.proofs.UpdateLaws.{told-small}
-use Rattle.updates.proofs.Relatives.{updates-bytes}
+use Rattle.outbox.proofs.UpdateLaws.{told-small}
+use Rattle.outbox.proofs.Relatives.{updates-bytes}
 use Rattle.send.proofs.SentLaws.{messages-of, rest-room, stored-both}
 use native.Mathlib.Omega.{arith}
 use borrow.Author.Needs.{needs}
