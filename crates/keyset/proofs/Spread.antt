@@ -67,7 +67,7 @@ module _ {keys table : List ℕ} {i : ℕ} (w : Spread keys table i) {x h s : �
   pub twice : (n : ℕ) → i < n → (s ≡ h + 64 → ⊥) → (getD table s 0 ≡ 0 → ⊥) → Searched keys n Repeated
   twice n l b z =
       λ a. ⊎-elim (λ e. z e) (λ e. a (getD table s 0 - 1) i (omega (arith, w .only s, positive)) l (e ∙ ex))
-          (p .found (⊎-elim (λ q. absurd (b q)) (λ q. q) (eq-or-lt-of-le (p .to))))
+      (p .found (⊎-elim (λ q. absurd (b q)) (λ q. q) (eq-or-lt-of-le (p .to))))
     where
       positive : 0 < getD table s 0
       positive = ⊎-elim (λ q. q) (λ q. absurd (z (omega arith))) (lt-or-ge 0 (getD table s 0))

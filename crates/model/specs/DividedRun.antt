@@ -72,10 +72,17 @@ cut (suc n) (b ∷ bs) =
 unfoldable pub messages-in : List ℕ → List (List ℕ)
 messages-in bytes = cut (length bytes) bytes
 
--- the block that a message is addressed to: its numbers are length, kind, from, to
-abbrev pub to-number : Read (ℕ × (ℕ × (ℕ × ℕ))) → ℕ
+-- a message's first numbers: length, kind, from, to
+abbrev pub FirstNumbers : Type 0
+FirstNumbers = ℕ × (ℕ × (ℕ × ℕ))
+
+abbrev pub addressed-to : FirstNumbers → ℕ
+addressed-to h = h .1 .1 .1
+
+-- the block that a message is addressed to
+abbrev pub to-number : Read FirstNumbers → ℕ
 to-number none = 0
-to-number (some r) = r .0 .1 .1 .1
+to-number (some r) = addressed-to (r .0)
 
 unfoldable pub addressee : List ℕ → ℕ
 addressee bytes = to-number ((group ⊕ group ⊕ group ⊕ group) .get bytes)

@@ -77,15 +77,36 @@ part4 fs = as-type (λ p. record { index = p .0; other = p .1 .0; labels = p .1 
 abbrev pub Part1 : Type 0
 Part1 = ℕ × (ℕ × (ℕ × (List Point × List (List FaceDart))))
 
+-- its numbers and lists by name: kind, from, to, points, faces
+abbrev pub part1-from : Part1 → ℕ
+part1-from h = h .1 .0
+
+abbrev pub part1-to : Part1 → ℕ
+part1-to h = h .1 .1 .0
+
+abbrev pub part1-points : Part1 → List Point
+part1-points h = h .1 .1 .1 .0
+
+abbrev pub part1-faces : Part1 → List (List FaceDart)
+part1-faces h = h .1 .1 .1 .1
+
 unfoldable pub part1 : Layout Part1
 part1 = exactly 1 ⊕ at-most last-block ⊕ at-most last-block ⊕ counted point
     ⊕ such-that (counted (counted face-dart)) (λ fs. leb 1 (size-all fs) && leb (size-all fs) message-darts)
 
 unfoldable pub transfer : Layout Transfer
 transfer = as-type
-    (λ p. record { from = p .0 .1 .0; to = p .0 .1 .1 .0; points = p .0 .1 .1 .1 .0; faces = p .0 .1 .1 .1 .1; part2 = p .1 .0; part3 = p .1 .1 .0; part4 = p .1 .1 .1 })
+    (λ p. record {
+      from = part1-from (p .0);
+      to = part1-to (p .0);
+      points = part1-points (p .0);
+      faces = part1-faces (p .0);
+      part2 = p .1 .0;
+      part3 = p .1 .1 .0;
+      part4 = p .1 .1 .1;
+    })
     (λ t. ((1, (t .from, (t .to, (t .points, t .faces)))), (t .part2, (t .part3, t .part4))))
-    (part1 ⊗ (λ h. counted part2 ⊕ counted part3 ⊕ counted (part4 (h .1 .1 .1 .1))))
+    (part1 ⊗ (λ h. counted part2 ⊕ counted part3 ⊕ counted (part4 (part1-faces h))))
 
 -- UPDATE: "2, from, to, new block, count, the least label of each face"
 pub record Update : Type 0 where
@@ -94,8 +115,24 @@ pub record Update : Type 0 where
   pub block : ℕ
   pub labels : List Label
 
+-- its numbers and labels by name: kind, from, to, new block, labels
+abbrev pub UpdateParts : Type 0
+UpdateParts = ℕ × (ℕ × (ℕ × (ℕ × List Label)))
+
+abbrev pub update-from : UpdateParts → ℕ
+update-from u = u .1 .0
+
+abbrev pub update-to : UpdateParts → ℕ
+update-to u = u .1 .1 .0
+
+abbrev pub update-block : UpdateParts → ℕ
+update-block u = u .1 .1 .1 .0
+
+abbrev pub update-labels : UpdateParts → List Label
+update-labels u = u .1 .1 .1 .1
+
 unfoldable pub update : Layout Update
-update = as-type (λ p. record { from = p .1 .0; to = p .1 .1 .0; block = p .1 .1 .1 .0; labels = p .1 .1 .1 .1 })
+update = as-type (λ p. record { from = update-from p; to = update-to p; block = update-block p; labels = update-labels p })
     (λ u. (2, (u .from, (u .to, (u .block, u .labels)))))
     (exactly 2 ⊕ at-most last-block ⊕ at-most last-block ⊕ at-most last-block ⊕ counted label)
 
@@ -142,9 +179,22 @@ third-get (suc (suc (suc k))) bs = none
 unfoldable pub third : ℕ → Layout Third
 third k = record { ok = λ t. eqb k (kind-of t) && third-ok t; put = third-put; get = third-get k }
 
+-- a dart's numbers, third link and point by name: serial, next, opposite, kind and third link, point
+abbrev pub DartParts : Type 0
+DartParts = ℕ × (ℕ × (ℕ × ((ℕ × Third) × Point)))
+
+abbrev pub dart-opposite : DartParts → ℕ
+dart-opposite p = p .1 .1 .0
+
+abbrev pub dart-third : DartParts → Third
+dart-third p = p .1 .1 .1 .0 .1
+
+abbrev pub dart-point : DartParts → Point
+dart-point p = p .1 .1 .1 .1
+
 unfoldable pub a-dart : Layout Dart
 a-dart = as-type
-    (λ p. record { serial = p .0; next = p .1 .0; opposite = p .1 .1 .0; third = p .1 .1 .1 .0 .1; point = p .1 .1 .1 .1 })
+    (λ p. record { serial = p .0; next = p .1 .0; opposite = dart-opposite p; third = dart-third p; point = dart-point p })
     (λ d. (d .serial, (d .next, (d .opposite, ((kind-of (d .third), d .third), d .point)))))
     (serial ⊕ serial ⊕ serial ⊕ (at-most 2 ⊗ third) ⊕ point)
 

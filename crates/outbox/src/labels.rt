@@ -8,12 +8,12 @@ ghost use Rattle.groups.specs.Slices.{Stored};
 ghost use Rattle.outbox.specs.Runs.{run};
 ghost use Rattle.outbox.specs.Bytes.{Listed, Started};
 ghost use Rattle.outbox.specs.ByBlocks.{Shares, least-code, least-put};
+use crate::first;
 use memory::kind;
 use memory::record;
 use memory::record::MessageIndex;
 use memory::record::Place;
 use memory::record::Record;
-use crate::first;
 
 fn lesser(a: u64, b: u64) -> u64
     ensures { λ r. ⌜ r ≡ min a b ⌝ }
