@@ -5,7 +5,7 @@ use Prim.Native.Nat.{ℕ}
 use lib.Dec.{leb, ltb}
 use lib.ListN.{take}
 use Rattle.model.specs.Lists.{first-no, Check}
-use Rattle.model.specs.Values.{all-rack}
+use Rattle.model.specs.Values.{all-rack, last-block}
 use Rattle.model.specs.Runs.{Request, Outcome, refused-by}
 use Rattle.model.specs.UndividedRun.{State, request-checks, Undivided, undivided}
 
@@ -16,7 +16,7 @@ named k r = ltb (r .from) k && ltb (r .to) k
 -- what else is asked: 1, whether there is a block to send; 9, whether any block may have the destination's number; the request's own 9 to
 -- 14; then nobody is there to receive, which is a no to 1
 unfoldable pub outside-checks : ℕ → State → Request → List Check
-outside-checks k u r = (1, ltb (r .from) k) ∷ (9, leb (r .to) 15) ∷ (take 6 (request-checks all-rack u r) ++ (1, false) ∷ [])
+outside-checks k u r = (1, ltb (r .from) k) ∷ (9, leb (r .to) last-block) ∷ (take 6 (request-checks all-rack u r) ++ (1, false) ∷ [])
 
 -- a request that names a block outside the mesh is refused and changes nothing
 unfoldable pub any-undivided : ℕ → State → Request → Undivided

@@ -8,7 +8,7 @@ use lib.Dec.{leb, ltb, eqb}
 use lib.ListN.{length, getD, drop}
 use lib.IntN.{ℤ, pos}
 use Rattle.model.specs.Lists.{keep, tab, concat-map, first-no}
-use Rattle.model.specs.Values.{Block, all-rack}
+use Rattle.model.specs.Values.{Block, all-rack, message-darts}
 use Rattle.model.specs.Sound.{block-at}
 use Rattle.model.specs.Image.{column, block-in, holds-block}
 use Rattle.model.specs.Departure.{departure-checks}
@@ -22,7 +22,7 @@ use Rattle.balance.specs.declared.leaving.Candidate.the-variants as cand
 
 -- 10 to 14 of the volume of the dart with this serial: they do not depend on the destination
 unfoldable pub can-leave : List ℕ → ℕ → Bool
-can-leave m s = eqb (first-no (drop 1 (departure-checks 512 (block-in m) 0 s))) 0
+can-leave m s = eqb (first-no (drop 1 (departure-checks message-darts (block-in m) 0 s))) 0
 
 -- the arrays that questions 9 to 14 of a block of n darts are asked with: nothing is marked, and the others may hold anything
 pub record Asking (n : ℕ) (marks order starts seen numbers firsts stamps : List ℕ) : Type 0 where
@@ -34,7 +34,7 @@ pub record Asking (n : ℕ) (marks order starts seen numbers firsts stamps : Lis
   pub unseen : Clear seen
   pub numbers-size : n ≤ length numbers
   pub firsts-size : n ≤ length firsts
-  pub stamps-size : 512 ≤ length stamps
+  pub stamps-size : message-darts ≤ length stamps
 
 -- of a place, by the size of the picked volume that it starts: there is one, it is at most `left`, and it may leave
 abbrev pub fits : (ℕ → ℕ) → (ℕ → Bool) → ℕ → ℕ → Bool

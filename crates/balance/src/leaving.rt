@@ -3,6 +3,7 @@ ghost use mathlib.Core.Path.{_≡_};
 ghost use mathlib.Core.Bool.{true, false};
 ghost use Prim.Native.Nat.{_≤_, _<_};
 ghost use lib.ListN.{length, getD};
+ghost use Rattle.model.specs.Values.{last-block};
 ghost use Rattle.model.specs.Image.{count-in, holds-block};
 ghost use Rattle.balance.specs.Moves.{Asking, can-leave, Untried-in, going, candidate-of, at};
 use departure::Leaving;
@@ -32,7 +33,7 @@ fn may_leave(
     firsts: &mut [usize],
     stamps: &mut [usize],
 ) -> bool
-    requires { ⌜ (holds-block (now block) ≡ true) × (to ≤ 15) × (to ≡ getD (now block) 0 0 → ⊥) ⌝ }
+    requires { ⌜ (holds-block (now block) ≡ true) × (to ≤ last-block) × (to ≡ getD (now block) 0 0 → ⊥) ⌝ }
     requires { ⌜ Asking (count-in (now block)) (now marks) (now order) (now starts) (now seen) (now numbers) (now firsts) (now stamps) ⌝ }
     ensures answer { λ r. ⌜ r ≡ can-leave (now (block .entry)) serial ⌝ }
     ensures again { λ r. ⌜ (r ≡ false → Asking (count-in (now (block .entry))) (now (marks .exit)) (now (order .exit)) (now (starts .exit)) (now (seen .exit)) (now (numbers .exit)) (now (firsts .exit)) (now (stamps .exit))) ⌝ }
@@ -69,7 +70,7 @@ fn first_asked(
     firsts: &mut [usize],
     stamps: &mut [usize],
 ) -> Candidate
-    requires { ⌜ (holds-block (now block) ≡ true) × (to ≤ 15) × (to ≡ getD (now block) 0 0 → ⊥) × (count-in (now block) ≤ length (now sizes)) ⌝ }
+    requires { ⌜ (holds-block (now block) ≡ true) × (to ≤ last-block) × (to ≡ getD (now block) 0 0 → ⊥) × (count-in (now block) ≤ length (now sizes)) ⌝ }
     requires { ⌜ Asking (count-in (now block)) (now marks) (now order) (now starts) (now seen) (now numbers) (now firsts) (now stamps) ⌝ }
     ensures candidate { λ r. ⌜ r ≡ candidate-of (going (at (now (sizes .entry))) (now (block .entry)) left) ⌝ }
     ensures untried { λ r. ⌜ Untried-in (at (now (sizes .entry))) (now (block .entry)) (now (sizes .exit)) ⌝ }
@@ -110,7 +111,7 @@ fn first_asked(
 // The first volume of at most `left` darts that may go. `sizes` has the size of each volume at its least place. One that may not go is
 // struck off.
 pub fn first_leaving(block: &[u64], to: u64, left: usize, sizes: &mut [usize]) -> Candidate
-    requires { ⌜ (holds-block (now block) ≡ true) × (to ≤ 15) × (to ≡ getD (now block) 0 0 → ⊥) × (count-in (now block) ≤ length (now sizes)) ⌝ }
+    requires { ⌜ (holds-block (now block) ≡ true) × (to ≤ last-block) × (to ≡ getD (now block) 0 0 → ⊥) × (count-in (now block) ≤ length (now sizes)) ⌝ }
     ensures candidate { λ r. ⌜ r ≡ candidate-of (going (at (now (sizes .entry))) (now (block .entry)) left) ⌝ }
     ensures untried { λ r. ⌜ Untried-in (at (now (sizes .entry))) (now (block .entry)) (now (sizes .exit)) ⌝ }
 {

@@ -10,7 +10,7 @@ ghost use Prim.Native.Nat.{ℕ, _-_, _≤_, _<_};
 ghost use lib.ListN.{length, getD};
 ghost use lib.IntN.{pos};
 ghost use Rattle.model.specs.Lists.{all};
-ghost use Rattle.model.specs.Values.{all-rack};
+ghost use Rattle.model.specs.Values.{all-rack, room};
 ghost use Rattle.model.specs.Sound.{blocks-right};
 ghost use Rattle.model.specs.Image.{count-in, block-in, holds-block};
 ghost use Rattle.model.specs.Calls.{memories, served};
@@ -36,7 +36,7 @@ fn sizes_at(mesh: &[u64], i: usize, o: Oracle, sizes: &mut [usize])
 // The first volume that may go from block d to block `to`.
 fn between(mesh: &[u64], d: usize, to: usize, sizes: &mut [usize]) -> Candidate
     requires { ⌜ SoundParts (now mesh) × (d < blocks (now mesh)) × (to < blocks (now mesh)) × (to ≡ d → ⊥) × (count-in (part (now mesh) d) ≤ length (now sizes)) ⌝ }
-    ensures candidate { λ r. ⌜ r ≡ candidate-of (going (at (now (sizes .entry))) (part (now (mesh .entry)) d) (4096 - getD (part (now (mesh .entry)) to) 2 0)) ⌝ }
+    ensures candidate { λ r. ⌜ r ≡ candidate-of (going (at (now (sizes .entry))) (part (now (mesh .entry)) d) (room - getD (part (now (mesh .entry)) to) 2 0)) ⌝ }
     ensures untried { λ r. ⌜ Untried-in (at (now (sizes .entry))) (part (now (mesh .entry)) d) (now (sizes .exit)) ⌝ }
 {
     let left = Header::DARTS - mesh[to * Header::WORDS + Header::COUNT] as usize;

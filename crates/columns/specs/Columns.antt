@@ -10,8 +10,8 @@ use mathlib.Core.List.{List, [], _∷_, _++_}
 use Prim.Native.Nat.{ℕ, zero, suc, _+_, _*_, _/_, _%_, _≤_, _<_, _^_}
 use lib.Dec.{leb, ltb, eqb}
 use lib.ListN.{getD}
-use Rattle.model.specs.Values.{same-point, finite, room}
-use Rattle.model.specs.Image.{column, dart-in}
+use Rattle.model.specs.Values.{same-point, finite, room, blocks}
+use Rattle.model.specs.Image.{column, dart-in, label-in, is-critical-word, other-in}
 
 unfoldable pub all-below : (ℕ → Bool) → ℕ → Bool
 all-below t zero = true
@@ -28,7 +28,7 @@ count m = getD m 2 0
 
 -- 3: number, counter, dart count, five zeros
 unfoldable pub header-test : List ℕ → Bool
-header-test m = ltb (getD m 0 0) 16 && ltb (getD m 1 0) (2 ^ 32) && leb (getD m 2 0) room
+header-test m = ltb (getD m 0 0) blocks && ltb (getD m 1 0) (2 ^ 32) && leb (getD m 2 0) room
     && eqb (getD m 3 0) 0 && eqb (getD m 4 0) 0 && eqb (getD m 5 0) 0 && eqb (getD m 6 0) 0 && eqb (getD m 7 0) 0
 
 -- 5, but for next being one to one
@@ -45,7 +45,7 @@ third-test m n p = eqb (column m 3 (column m 1 p)) (column m 3 p)
 
 -- 7, but for labels being different: of block `me`, with its counter
 unfoldable pub label-test : ℕ → ℕ → ℕ → ℕ → Bool
-label-test me counter k a = ltb k 2 || (not (eqb (k / 4) me) && (not (eqb (a / 4096 / 2 ^ 32) me) || ltb (a / 4096 % 2 ^ 32) counter))
+label-test me counter k a = ltb k 2 || (not (eqb (other-in k) me) && (not (eqb (label-in a .maker) me) || ltb (label-in a .number) counter))
 
 abbrev pub own-test : List ℕ → ℕ → Bool
 own-test m p = label-test (getD m 0 0) (getD m 1 0) (column m 3 p) (column m 4 p)
@@ -70,8 +70,8 @@ place-test m n last p = ltb last (column m 0 p) && ltb (column m 0 p) (2 ^ 32) &
 
 -- of block `me`, with its counter: a kind word and a label that are right
 unfoldable pub critical-test : ℕ → ℕ → ℕ → ℕ → Bool
-critical-test me counter k a = eqb (k % 4) 2 && ltb (k / 4) 16 && ltb a (2 ^ 48)
-    && not (eqb (k / 4) me) && (not (eqb (a / 4096 / 2 ^ 32) me) || ltb (a / 4096 % 2 ^ 32) counter)
+critical-test me counter k a = is-critical-word k && ltb (other-in k) blocks && ltb a (2 ^ 48)
+    && not (eqb (other-in k) me) && (not (eqb (label-in a .maker) me) || ltb (label-in a .number) counter)
 
 unfoldable pub kind-test : ℕ → ℕ → ℕ → ℕ → ℕ → Bool
 kind-test me counter n k a = cond (ltb k 2) ((eqb k 0 && eqb a 0) || (eqb k 1 && ltb a n)) (critical-test me counter k a)
@@ -88,10 +88,10 @@ far-test m p = (eqb (column m 2 (column m 2 p)) p && eqb (column m 3 (column m 1
 pub data Kind (k a : ℕ) : Type 0 where
   kind-free : k ≡ 0 → a ≡ 0 → Kind k a
   kind-sewn : k ≡ 1 → Kind k a
-  kind-critical : k % 4 ≡ 2 → k / 4 < 16 → a < 2 ^ 48 → Kind k a
+  kind-critical : k % 4 ≡ 2 → other-in k < blocks → a < 2 ^ 48 → Kind k a
 
 pub record Ranged (m : List ℕ) : Type 0 where
-  pub number-small : getD m 0 0 < 16
+  pub number-small : getD m 0 0 < blocks
   pub counter-small : getD m 1 0 < 2 ^ 32
   pub few : count m ≤ room
   pub head : (getD m 3 0 ≡ 0) × (getD m 4 0 ≡ 0) × (getD m 5 0 ≡ 0) × (getD m 6 0 ≡ 0) × (getD m 7 0 ≡ 0)

@@ -3,6 +3,7 @@ use mathlib.Core.Path.{_≡_}
 use mathlib.Core.List.{List}
 use Prim.Native.Nat.{ℕ, _+_, _≤_, _<_, _^_}
 use lib.ListN.{length, getD, take}
+use Rattle.model.specs.Values.{message-darts, last-block}
 use Rattle.model.specs.Lists.{keep}
 use Rattle.model.specs.Cells.{faces, start-of}
 use Rattle.model.specs.Image.{column, block-in}
@@ -27,14 +28,14 @@ pub record Surveyed (m : List ℕ) (c : Counts) (marks out starts numbers firsts
   pub order : InOrder (faces-at m marks) out starts (c .darts) (c .faces)
   pub numbering : Numbered (column m 1) (column m 2) (take (c .darts) out) numbers firsts (c .vertices)
   pub sewn-is : c .sewn ≡ length (keep (λ f. sewn-out m marks (start-of f)) (faces-at m marks))
-  pub few : c .darts ≤ 512
+  pub few : c .darts ≤ message-darts
 
 -- each answer is yes: the volume of the dart with serial s, of at most `most` darts, may go to block j
 pub record Departs (most : ℕ) (m : List ℕ) (j s : ℕ) (c : Counts) (marks out starts numbers firsts : List ℕ) : Type 0 where
   pub asked : served tt ≡ answered (departure-checks most (block-in m) j s)
   pub survey : Surveyed m c marks out starts numbers firsts
   pub serial-is : column m 0 (survey .place) ≡ s
-  pub to-block : j ≤ 15
+  pub to-block : j ≤ last-block
   pub counter-fits : getD m 1 0 + c .sewn < 2 ^ 32
 
 abbrev pub Leaves : ℕ → List ℕ → ℕ → ℕ → Leaving → List ℕ → List ℕ → List ℕ → List ℕ → List ℕ → Type 0

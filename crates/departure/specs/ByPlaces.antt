@@ -7,7 +7,7 @@ use Prim.Native.Nat.{ℕ, _+_, _*_, _/_}
 use lib.Dec.{ltb, eqb}
 use lib.ListN.{getD, take}
 use Rattle.model.specs.Lists.{keep, collect, least, tab}
-use Rattle.model.specs.Values.{Label}
+use Rattle.model.specs.Values.{Label, blocks}
 use Rattle.model.specs.Cells.{start-of}
 use Rattle.model.specs.Image.{column, dart-in, label-in}
 use Rattle.model.specs.Messages.{FaceDart, Part2, Part4, Transfer, Update}
@@ -61,4 +61,4 @@ update-at m j k (f ∷ fs) = cond (eqb k j) none (some (record { from = getD m 0
 
 -- by ascending k
 unfoldable pub updates-at : List ℕ → ℕ → List (List ℕ) → List Update
-updates-at m j fs = collect (λ k. update-at m j k (keep (λ f. critical-with m k (start-of f)) fs)) (tab (λ k. k) 16)
+updates-at m j fs = collect (λ k. update-at m j k (keep (λ f. critical-with m k (start-of f)) fs)) (tab (λ k. k) blocks)

@@ -5,7 +5,7 @@ ghost use mathlib.Core.Path.{_≡_};
 ghost use mathlib.Core.Bool.{true};
 ghost use Prim.Native.Nat.{ℕ, _≤_, _<_};
 ghost use lib.ListN.{length, getD, take};
-ghost use Rattle.model.specs.Values.{room};
+ghost use Rattle.model.specs.Values.{room, message-darts};
 ghost use Rattle.model.specs.Image.{count-in, holds-block};
 ghost use Rattle.memory.specs.Header.{limits-of};
 ghost use Rattle.cells.specs.Places.{Clear, Marked};
@@ -58,7 +58,7 @@ pub fn leaves(
     firsts: &mut [usize],
     stamps: &mut [usize],
 ) -> Leaving
-    requires { ⌜ (holds-block (now block) ≡ true) × (limits .volume ≤ 512) ⌝ }
+    requires { ⌜ (holds-block (now block) ≡ true) × (limits .volume ≤ message-darts) ⌝ }
     requires { ⌜ (count-in (now block) ≤ length (now marks)) × Clear (now marks) × (count-in (now block) ≤ length (now seen)) × Clear (now seen) ⌝ }
     requires { ⌜ (count-in (now block) ≤ length (now out)) × (count-in (now block) ≤ length (now starts)) × (count-in (now block) ≤ length (now numbers)) ⌝ }
     requires { ⌜ (count-in (now block) ≤ length (now firsts)) × (limits .volume ≤ length (now stamps)) ⌝ }

@@ -6,7 +6,7 @@ ghost use lib.Dec.{leb, eqb};
 ghost use lib.ListN.{length, getD, take};
 ghost use Rattle.laws.specs.Order.{Ascending};
 ghost use Rattle.model.specs.Lists.{any};
-ghost use Rattle.model.specs.Values.{room};
+ghost use Rattle.model.specs.Values.{room, last-block};
 ghost use Rattle.model.specs.Image.{words-for, count-in, column};
 ghost use Rattle.memory.specs.Lookup.{place-in};
 ghost use Rattle.cells.specs.Places.{Clear, InOrder, Linked, Whole, sewn-in};
@@ -38,7 +38,7 @@ pub enum Sewn {
 // 9: is the destination the number of a block, and not of this one?
 pub fn destination_right(block: &[u64], to: u64) -> bool
     requires { ⌜ 8 ≤ length (now block) ⌝ }
-    ensures { λ r. ⌜ r ≡ (leb to 15 && not (eqb to (getD (now (block .entry)) 0 0))) ⌝ }
+    ensures { λ r. ⌜ r ≡ (leb to last-block && not (eqb to (getD (now (block .entry)) 0 0))) ⌝ }
 {
     (to <= Header::BLOCKS - 1) & (to != block[Header::NUMBER])
 }

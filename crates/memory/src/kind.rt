@@ -1,6 +1,7 @@
 // The kind word of a dart: its third link is free, sewn, or critical with another block; kind + 4 × that block.
 ghost use mathlib.Core.Path.{_≡_};
 ghost use Prim.Native.Nat.{_+_, _*_, _<_};
+ghost use Rattle.model.specs.Values.{blocks};
 ghost use Rattle.model.specs.Image.{is-free-word, is-sewn-word, is-critical-word, other-in};
 
 pub const FREE: u64 = 0;
@@ -37,7 +38,7 @@ pub fn other_of(kind: u64) -> u64
 
 // The word of a dart that is critical with a block.
 pub fn critical_with(other: u64) -> u64
-    requires { ⌜ other < 16 ⌝ }
+    requires { ⌜ other < blocks ⌝ }
     ensures { λ r. ⌜ r ≡ 2 + 4 * other ⌝ }
 {
     2 + 4 * other

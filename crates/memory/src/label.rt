@@ -1,7 +1,7 @@
 // A label as one word, its code, which orders labels by maker, number and position; and the parts of a code.
 ghost use mathlib.Core.Path.{_≡_};
 ghost use Prim.Native.Nat.{_<_, _^_};
-ghost use Rattle.model.specs.Values.{code};
+ghost use Rattle.model.specs.Values.{code, blocks, positions};
 ghost use Rattle.model.specs.Image.{label-in};
 use crate::header::Header;
 
@@ -27,7 +27,7 @@ pub fn position_of(word: u64) -> u64
 }
 
 pub fn code_of(maker: u64, number: u64, position: u64) -> u64
-    requires { ⌜ (maker < 16) × (number < 2 ^ 32) × (position < 4096) ⌝ }
+    requires { ⌜ (maker < blocks) × (number < 2 ^ 32) × (position < positions) ⌝ }
     ensures { λ r. ⌜ r ≡ code (record { maker = maker; number = number; position = position }) ⌝ }
 {
     (maker * Header::NUMBERS + number) * Header::POSITIONS + position

@@ -6,6 +6,7 @@ use mathlib.Core.List.{List, [], _++_}
 use Prim.Native.Nat.{ℕ, zero, suc, _+_, _<_, _^_}
 use lib.Dec.{ltb, eqb}
 use lib.ListN.{length, getD}
+use Rattle.model.specs.Values.{blocks}
 use Rattle.model.specs.Lists.{least, tab}
 use Rattle.model.specs.Layouts.{group}
 use Rattle.model.specs.Messages.{label}
@@ -60,14 +61,14 @@ sizes-for j labels bytes (suc c) = sizes-for j labels bytes c + size-for j c (ge
 
 -- the labels of the faces before f are counted: how many there are for each block, and how many bytes they take
 pub record Shares (m order starts : List ℕ) (darts count f : ℕ) (labels bytes : List ℕ) : Type 0 where
-  pub labels-size : length labels ≡ 16
-  pub bytes-size : length bytes ≡ 16
-  pub labels-are : (k : ℕ) → k < 16 → getD labels k 0 ≡ tally (in-part2 m k order starts) f
-  pub bytes-are : (k : ℕ) → k < 16 → getD bytes k 0 ≡ length (run (least-put m k order starts darts count) f)
+  pub labels-size : length labels ≡ blocks
+  pub bytes-size : length bytes ≡ blocks
+  pub labels-are : (k : ℕ) → k < blocks → getD labels k 0 ≡ tally (in-part2 m k order starts) f
+  pub bytes-are : (k : ℕ) → k < blocks → getD bytes k 0 ≡ length (run (least-put m k order starts darts count) f)
 
 -- and are few
 pub record Few (labels bytes : List ℕ) : Type 0 where
-  pub labels-size : length labels ≡ 16
-  pub bytes-size : length bytes ≡ 16
-  pub labels-few : (k : ℕ) → k < 16 → getD labels k 0 < 2 ^ 16
-  pub bytes-few : (k : ℕ) → k < 16 → getD bytes k 0 < 2 ^ 16
+  pub labels-size : length labels ≡ blocks
+  pub bytes-size : length bytes ≡ blocks
+  pub labels-few : (k : ℕ) → k < blocks → getD labels k 0 < 2 ^ 16
+  pub bytes-few : (k : ℕ) → k < blocks → getD bytes k 0 < 2 ^ 16

@@ -5,7 +5,7 @@ use mathlib.Core.List.{List, [], _++_}
 use Prim.Native.Nat.{ℕ, _+_, _-_, _/_, _≤_, _<_, _^_}
 use lib.Dec.{ltb}
 use lib.ListN.{length, getD}
-use Rattle.model.specs.Values.{serial-bound, room}
+use Rattle.model.specs.Values.{serial-bound, room, message-darts}
 use Rattle.model.specs.Layouts.{group}
 use Rattle.model.specs.Messages.{point, label, face-dart, part2, part3}
 use Rattle.model.specs.Image.{words-for, column, dart-in}
@@ -76,7 +76,7 @@ pub record Listed (m order : List ℕ) (darts : ℕ) : Type 0 where
   pub header : 8 ≤ length m
   pub held : (k : ℕ) → k < darts → words-for (getD order k 0 + 1) ≤ length m
   pub order-size : darts ≤ length order
-  pub few : darts ≤ 512
+  pub few : darts ≤ message-darts
   pub below : (k : ℕ) → k < darts → getD order k 0 < room
   pub serial-small : (k : ℕ) → k < darts → column m 0 (getD order k 0) < serial-bound
   pub other-small : (k : ℕ) → k < darts → column m 3 (getD order k 0) < 64
@@ -89,7 +89,7 @@ pub record Vertexed (numbers order : List ℕ) (darts : ℕ) : Type 0 where
 -- faces start and end within the order
 pub record Started (starts : List ℕ) (darts count : ℕ) : Type 0 where
   pub starts-size : count ≤ length starts
-  pub few : count ≤ 512
+  pub few : count ≤ message-darts
   pub below : (f : ℕ) → f < count → getD starts f 0 < darts
   pub ends-after : (f : ℕ) → f < count → getD starts f 0 < end-of starts count darts f
   pub ends-within : (f : ℕ) → f < count → end-of starts count darts f ≤ darts
@@ -98,14 +98,14 @@ pub record Started (starts : List ℕ) (darts count : ℕ) : Type 0 where
 pub record Opened (n : ℕ) (order starts : List ℕ) (count : ℕ) : Type 0 where
   pub order-size : (f : ℕ) → f < count → getD starts f 0 < length order
   pub starts-size : count ≤ length starts
-  pub few : count ≤ 512
-  pub index-small : (f : ℕ) → f < count → getD starts f 0 < 512
+  pub few : count ≤ message-darts
+  pub index-small : (f : ℕ) → f < count → getD starts f 0 < message-darts
   pub place-below : (f : ℕ) → f < count → start-at order starts f < n
 
 -- the first darts of the vertices have finite points
 pub record Pointed (m firsts : List ℕ) (count : ℕ) : Type 0 where
   pub held : (k : ℕ) → k < count → words-for (getD firsts k 0 + 1) ≤ length m
   pub firsts-size : count ≤ length firsts
-  pub few : count ≤ 512
+  pub few : count ≤ message-darts
   pub below : (k : ℕ) → k < count → getD firsts k 0 < room
   pub finite : (k : ℕ) → k < count → FiniteAt m (getD firsts k 0)

@@ -2,6 +2,7 @@
 ghost use mathlib.Core.Path.{_≡_};
 ghost use Prim.Native.Nat.{_+_, _≤_, _<_, _^_, min};
 ghost use lib.ListN.{length, getD, replicate, set};
+ghost use Rattle.model.specs.Values.{blocks, last-block};
 ghost use Rattle.model.specs.Image.{label-in};
 ghost use Rattle.model.specs.Messages.{label};
 ghost use Rattle.groups.specs.Slices.{Stored};
@@ -52,7 +53,7 @@ fn label_size(code: u64) -> usize
 
 // One face more that block k shares, whose least label takes `size` bytes.
 fn add_face(labels: &mut [usize], bytes: &mut [usize], k: usize, size: usize)
-    requires { ⌜ (length (now labels) ≡ 16) × (length (now bytes) ≡ 16) × (k < 16) ⌝ }
+    requires { ⌜ (length (now labels) ≡ 16) × (length (now bytes) ≡ 16) × (k < blocks) ⌝ }
     requires { ⌜ (getD (now labels) k 0 < 2 ^ 32) × (getD (now bytes) k 0 < 2 ^ 32) × (size < 2 ^ 32) ⌝ }
     ensures { λ _. ⌜ (now (labels .exit) ≡ set (now (labels .entry)) k (getD (now (labels .entry)) k 0 + 1)) × (now (bytes .exit) ≡ set (now (bytes .entry)) k (getD (now (bytes .entry)) k 0 + size)) ⌝ }
 {
@@ -104,7 +105,7 @@ pub fn put_leasts(
     out: &mut [u8],
     from: usize,
 ) -> usize
-    requires { ⌜ Listed (now block) (now order) darts × Started (now starts) darts count × (k ≤ 15) ⌝ }
+    requires { ⌜ Listed (now block) (now order) darts × Started (now starts) darts count × (k ≤ last-block) ⌝ }
     requires { ⌜ from + length (run (least-put (now block) k (now order) (now starts) darts count) count) < 2 ^ 63 ⌝ }
     ensures { λ r. ⌜ Stored (now (out .entry)) from (run (least-put (now (block .entry)) k (now (order .entry)) (now (starts .entry)) darts count) count) (now (out .exit)) r ⌝ }
 {

@@ -2,6 +2,7 @@
 ghost use mathlib.Core.Path.{_≡_};
 ghost use Prim.Native.Nat.{_+_, _≤_, _<_, _^_};
 ghost use lib.ListN.{length};
+ghost use Rattle.model.specs.Values.{last-block};
 ghost use Rattle.model.specs.Image.{words-for, count-in};
 ghost use Rattle.groups.specs.Slices.{Stored};
 ghost use Rattle.cells.specs.Places.{Linked};
@@ -19,7 +20,7 @@ use memory::record::Record;
 
 // Whether the dart at place p is critical with block `to`.
 fn critical_with(block: &[u64], to: u64, p: Place) -> bool
-    requires { ⌜ (words-for (p .0 + 1) ≤ length (now block)) × (to ≤ 15) ⌝ }
+    requires { ⌜ (words-for (p .0 + 1) ≤ length (now block)) × (to ≤ last-block) ⌝ }
     ensures { λ r. ⌜ r ≡ critical-with (now (block .entry)) to (p .0) ⌝ }
 {
     record::field(block, p, Record::KIND) == kind::critical_with(to)
@@ -27,7 +28,7 @@ fn critical_with(block: &[u64], to: u64, p: Place) -> bool
 
 // Whether it is critical with another one.
 fn critical_beside(block: &[u64], to: u64, p: Place) -> bool
-    requires { ⌜ (words-for (p .0 + 1) ≤ length (now block)) × (to ≤ 15) ⌝ }
+    requires { ⌜ (words-for (p .0 + 1) ≤ length (now block)) × (to ≤ last-block) ⌝ }
     ensures { λ r. ⌜ r ≡ critical-beside (now (block .entry)) to (p .0) ⌝ }
 {
     let word = record::field(block, p, Record::KIND);
@@ -36,7 +37,7 @@ fn critical_beside(block: &[u64], to: u64, p: Place) -> bool
 
 // How many entries part 2 has.
 pub fn part2_count(block: &[u64], to: u64, order: &[usize], starts: &[usize], count: usize) -> usize
-    requires { ⌜ (words-for (count-in (now block)) ≤ length (now block)) × Opened (count-in (now block)) (now order) (now starts) count × (to ≤ 15) ⌝ }
+    requires { ⌜ (words-for (count-in (now block)) ≤ length (now block)) × Opened (count-in (now block)) (now order) (now starts) count × (to ≤ last-block) ⌝ }
     ensures { λ r. ⌜ r ≡ tally (in-part2 (now (block .entry)) to (now (order .entry)) (now (starts .entry))) count ⌝ }
 {
     // The faces before f have so many entries.
@@ -64,7 +65,7 @@ pub fn put_part2s(
     out: &mut [u8],
     from: usize,
 ) -> usize
-    requires { ⌜ (words-for (count-in (now block)) ≤ length (now block)) × Opened (count-in (now block)) (now order) (now starts) count × (to ≤ 15) ⌝ }
+    requires { ⌜ (words-for (count-in (now block)) ≤ length (now block)) × Opened (count-in (now block)) (now order) (now starts) count × (to ≤ last-block) ⌝ }
     requires { ⌜ from + length (run (part2-put (now block) to (now order) (now starts)) count) < 2 ^ 63 ⌝ }
     ensures { λ r. ⌜ Stored (now (out .entry)) from (run (part2-put (now (block .entry)) to (now (order .entry)) (now (starts .entry))) count) (now (out .exit)) r ⌝ }
 {
@@ -169,7 +170,7 @@ fn put_beside(
 
 // How many entries part 4 has.
 pub fn part4_count(block: &[u64], to: u64, order: &[usize], starts: &[usize], count: usize) -> usize
-    requires { ⌜ (words-for (count-in (now block)) ≤ length (now block)) × Opened (count-in (now block)) (now order) (now starts) count × (to ≤ 15) ⌝ }
+    requires { ⌜ (words-for (count-in (now block)) ≤ length (now block)) × Opened (count-in (now block)) (now order) (now starts) count × (to ≤ last-block) ⌝ }
     ensures { λ r. ⌜ r ≡ tally (in-part4 (now (block .entry)) to (now (order .entry)) (now (starts .entry))) count ⌝ }
 {
     // The faces before f have so many entries.
@@ -198,7 +199,7 @@ pub fn put_part4s(
     out: &mut [u8],
     from: usize,
 ) -> usize
-    requires { ⌜ Listed (now block) (now order) darts × Started (now starts) darts count × (to ≤ 15) ⌝ }
+    requires { ⌜ Listed (now block) (now order) darts × Started (now starts) darts count × (to ≤ last-block) ⌝ }
     requires { ⌜ from + length (run (part4-put (now block) to (now order) (now starts) darts count) count) < 2 ^ 63 ⌝ }
     ensures { λ r. ⌜ Stored (now (out .entry)) from (run (part4-put (now (block .entry)) to (now (order .entry)) (now (starts .entry)) darts count) count) (now (out .exit)) r ⌝ }
 {

@@ -3,6 +3,7 @@ ghost use mathlib.Core.Path.{_≡_};
 ghost use mathlib.Core.Bool.{true};
 ghost use Prim.Native.Nat.{_+_, _≤_, _<_, _^_};
 ghost use lib.ListN.{length, getD};
+ghost use Rattle.model.specs.Values.{last-block};
 ghost use Rattle.model.specs.Layouts.{framed};
 ghost use Rattle.model.specs.Messages.{transfer};
 ghost use Rattle.model.specs.Image.{holds-block};
@@ -38,7 +39,7 @@ fn put_part1(
     at: usize,
 ) -> usize
     requires { ⌜ Listed (now block) (now order) (counts .darts) × Vertexed (now numbers) (now order) (counts .darts) × Started (now starts) (counts .darts) (counts .faces) ⌝ }
-    requires { ⌜ Pointed (now block) (now firsts) (counts .vertices) × (getD (now block) 0 0 ≤ 15) × (to ≤ 15) ⌝ }
+    requires { ⌜ Pointed (now block) (now firsts) (counts .vertices) × (getD (now block) 0 0 ≤ last-block) × (to ≤ last-block) ⌝ }
     requires { ⌜ at + length (first-bytes (now block) to counts (now order) (now starts) (now numbers) (now firsts)) < 2 ^ 63 ⌝ }
     ensures { λ r. ⌜ Stored (now (out .entry)) at (first-bytes (now (block .entry)) to counts (now (order .entry)) (now (starts .entry)) (now (numbers .entry)) (now (firsts .entry))) (now (out .exit)) r ⌝ }
 {
@@ -75,7 +76,7 @@ fn put_parts(
     out: &mut [u8],
     at: usize,
 ) -> usize
-    requires { ⌜ Listed (now block) (now order) (counts .darts) × Started (now starts) (counts .darts) (counts .faces) × (to ≤ 15) ⌝ }
+    requires { ⌜ Listed (now block) (now order) (counts .darts) × Started (now starts) (counts .darts) (counts .faces) × (to ≤ last-block) ⌝ }
     requires { ⌜ Linked (now block) (getD (now block) 2 0) × (getD (now block) 2 0 ≤ length (now marks)) × Opened (getD (now block) 2 0) (now order) (now starts) (counts .faces) ⌝ }
     requires { ⌜ (part2 ≡ tally (in-part2 (now block) to (now order) (now starts)) (counts .faces)) × (counts .sewn ≡ tally (in-part3 (now block) (now marks) (now order) (now starts)) (counts .faces)) × (part4 ≡ tally (in-part4 (now block) to (now order) (now starts)) (counts .faces)) ⌝ }
     requires { ⌜ (getD (now block) 1 0 + counts .sewn < 2 ^ 32) × (at + length (parts-bytes (now block) to counts (now marks) (now order) (now starts)) < 2 ^ 63) ⌝ }
@@ -123,7 +124,7 @@ pub fn transfer_sizes(
 ) -> Sizes
     requires { ⌜ holds-block (now block) ≡ true ⌝ }
     requires { ⌜ Surveyed (now block) counts (now marks) (now order) (now starts) (now numbers) (now firsts) ⌝ }
-    requires { ⌜ (to ≤ 15) × (getD (now block) 1 0 + counts .sewn < 2 ^ 32) ⌝ }
+    requires { ⌜ (to ≤ last-block) × (getD (now block) 1 0 + counts .sewn < 2 ^ 32) ⌝ }
     ensures { λ r. ⌜ Sized (transfer-for (now (block .entry)) to counts (now (marks .entry)) (now (numbers .entry)) (now (firsts .entry))) r ⌝ }
 {
     let faces = counts.faces;
@@ -178,7 +179,7 @@ pub fn put_transfer(
 ) -> usize
     requires { ⌜ holds-block (now block) ≡ true ⌝ }
     requires { ⌜ Surveyed (now block) counts (now marks) (now order) (now starts) (now numbers) (now firsts) ⌝ }
-    requires { ⌜ (to ≤ 15) × (getD (now block) 1 0 + counts .sewn < 2 ^ 32) ⌝ }
+    requires { ⌜ (to ≤ last-block) × (getD (now block) 1 0 + counts .sewn < 2 ^ 32) ⌝ }
     requires { ⌜ Sized (transfer-for (now block) to counts (now marks) (now numbers) (now firsts)) sizes × (at + sizes .whole < 2 ^ 63) ⌝ }
     ensures { λ r. ⌜ Stored (now (out .entry)) at (framed transfer (transfer-for (now (block .entry)) to counts (now (marks .entry)) (now (numbers .entry)) (now (firsts .entry)))) (now (out .exit)) r ⌝ }
 {

@@ -4,6 +4,7 @@ ghost use mathlib.Core.Bool.{not, _&&_};
 ghost use Prim.Native.Nat.{_+_, _≤_, _<_, _^_};
 ghost use lib.Dec.{ltb, eqb};
 ghost use lib.ListN.{length, getD};
+ghost use Rattle.model.specs.Values.{last-block};
 ghost use Rattle.groups.specs.Slices.{Stored};
 ghost use Rattle.outbox.specs.Runs.{run, tally};
 ghost use Rattle.outbox.specs.Bytes.{Listed, Started, in-part2};
@@ -48,7 +49,7 @@ fn put_head(
     out: &mut [u8],
     at: usize,
 ) -> usize
-    requires { ⌜ (0 < length (now block)) × (getD (now block) 0 0 ≤ 15) × (to ≤ 15) × (k ≤ 15) × (n < 2 ^ 32) × (rest < 2 ^ 32) ⌝ }
+    requires { ⌜ (0 < length (now block)) × (getD (now block) 0 0 ≤ last-block) × (to ≤ last-block) × (k ≤ last-block) × (n < 2 ^ 32) × (rest < 2 ^ 32) ⌝ }
     requires { ⌜ at + length (head-bytes (now block) to k n rest) < 2 ^ 63 ⌝ }
     ensures { λ r. ⌜ Stored (now (out .entry)) at (head-bytes (now (block .entry)) to k n rest) (now (out .exit)) r ⌝ }
 {
@@ -75,7 +76,7 @@ pub fn put_update(
     at: usize,
 ) -> usize
     requires { ⌜ Listed (now block) (now order) darts × Started (now starts) darts count ⌝ }
-    requires { ⌜ (getD (now block) 0 0 ≤ 15) × (to ≤ 15) × (k ≤ 15) × (n < 2 ^ 16) × (bytes < 2 ^ 16) ⌝ }
+    requires { ⌜ (getD (now block) 0 0 ≤ last-block) × (to ≤ last-block) × (k ≤ last-block) × (n < 2 ^ 16) × (bytes < 2 ^ 16) ⌝ }
     requires { ⌜ (n ≡ tally (in-part2 (now block) k (now order) (now starts)) count) × (bytes ≡ length (run (least-put (now block) k (now order) (now starts) darts count) count)) ⌝ }
     requires { ⌜ at + length (update-bytes (now block) to (now order) (now starts) darts count k) < 2 ^ 63 ⌝ }
     ensures { λ r. ⌜ Stored (now (out .entry)) at (update-bytes (now (block .entry)) to (now (order .entry)) (now (starts .entry)) darts count k) (now (out .exit)) r ⌝ }

@@ -4,6 +4,7 @@ ghost use mathlib.Core.Bool.{true};
 ghost use mathlib.Core.List.{List, map};
 ghost use Prim.Native.Nat.{ℕ, _≤_, _<_, _^_};
 ghost use lib.ListN.{length, getD, replicate};
+ghost use Rattle.model.specs.Values.{last-block};
 ghost use Rattle.model.specs.Lists.{concat};
 ghost use Rattle.model.specs.Layouts.{framed};
 ghost use Rattle.model.specs.Messages.{update};
@@ -44,7 +45,7 @@ pub fn updates_size(
     bytes: &mut [usize],
 ) -> usize
     requires { ⌜ Listed (now block) (now order) (counts .darts) × Started (now starts) (counts .darts) (counts .faces) ⌝ }
-    requires { ⌜ (getD (now block) 0 0 ≤ 15) × (to ≤ 15) × (now labels ≡ replicate 16 0) × (now bytes ≡ replicate 16 0) ⌝ }
+    requires { ⌜ (getD (now block) 0 0 ≤ last-block) × (to ≤ last-block) × (now labels ≡ replicate 16 0) × (now bytes ≡ replicate 16 0) ⌝ }
     ensures { λ r. ⌜ (r ≡ length (run (told-put (now (block .entry)) to (now (order .entry)) (now (starts .entry)) (counts .darts) (counts .faces)) 16)) × (r < 2 ^ 32) × Shares (now (block .entry)) (now (order .entry)) (now (starts .entry)) (counts .darts) (counts .faces) (counts .faces) (now (labels .exit)) (now (bytes .exit)) ⌝ }
 {
     labels::count_labels(
@@ -70,7 +71,7 @@ pub fn put_updates(
     bytes: &[usize],
     out: &mut [u8],
 ) -> usize
-    requires { ⌜ (holds-block (now block) ≡ true) × (to ≤ 15) ⌝ }
+    requires { ⌜ (holds-block (now block) ≡ true) × (to ≤ last-block) ⌝ }
     requires { ⌜ Listed (now block) (now order) (counts .darts) × Started (now starts) (counts .darts) (counts .faces) ⌝ }
     requires { ⌜ Shares (now block) (now order) (now starts) (counts .darts) (counts .faces) (counts .faces) (now labels) (now bytes) ⌝ }
     requires { ⌜ length (run (told-put (now block) to (now order) (now starts) (counts .darts) (counts .faces)) 16) ≤ length (now out) ⌝ }

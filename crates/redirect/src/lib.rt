@@ -8,7 +8,7 @@ ghost use mathlib.Core.Bool.{true, not, _&&_};
 ghost use Prim.Native.Nat.{_≤_, _<_};
 ghost use lib.Dec.{eqb};
 ghost use lib.ListN.{length, getD};
-ghost use Rattle.model.specs.Values.{rack, room};
+ghost use Rattle.model.specs.Values.{rack, room, message-darts, last-block};
 ghost use Rattle.model.specs.Image.{count-in, block-in, holds-block};
 ghost use Rattle.model.specs.Arrival.{addressed};
 ghost use Rattle.model.specs.Calls as calls;
@@ -33,7 +33,7 @@ fn received(
     starts: &mut [usize],
     sizes: &mut [usize],
 ) -> Received
-    requires { ⌜ (length (now vertex) ≡ 512) × (length (now serial) ≡ 512) × (length (now starts) ≡ 512) × (length (now sizes) ≡ 512) ⌝ }
+    requires { ⌜ (length (now vertex) ≡ message-darts) × (length (now serial) ≡ message-darts) × (length (now starts) ≡ message-darts) × (length (now sizes) ≡ message-darts) ⌝ }
     ensures { λ r. ⌜ KindRead (now (s .entry)) r ⌝ }
 {
     inbox::received::message_in(s, vertex, serial, starts, sizes)
@@ -65,7 +65,7 @@ fn each_named(
     table: &mut [u16],
     hits: &mut [u8],
 ) -> bool
-    requires { ⌜ (holds-block (now block) ≡ true) × (n ≡ getD (now block) 2 0) × (from ≤ 15) × Ready (now codes) c ⌝ }
+    requires { ⌜ (holds-block (now block) ≡ true) × (n ≡ getD (now block) 2 0) × (from ≤ last-block) × Ready (now codes) c ⌝ }
     requires { ⌜ (n ≤ length (now table)) × Unset n (now table) × (c < length (now hits)) × Clear (now hits) ⌝ }
     ensures { λ r. ⌜ EachNamed (now (block .entry)) from (now (codes .entry)) c (now (table .exit)) r ⌝ }
 {
@@ -87,7 +87,7 @@ fn all_named(
     scratch: &mut [u64],
     hits: &mut [u8],
 ) -> bool
-    requires { ⌜ (holds-block (now block) ≡ true) × (n ≡ getD (now block) 2 0) × (from ≤ 15) × (at ≤ length (now s)) × (count ≤ room) ⌝ }
+    requires { ⌜ (holds-block (now block) ≡ true) × (n ≡ getD (now block) 2 0) × (from ≤ last-block) × (at ≤ length (now s)) × (count ≤ room) ⌝ }
     requires { ⌜ (n ≤ length (now table)) × Unset n (now table) × (count < length (now hits)) × Clear (now hits) ⌝ }
     requires { ⌜ (count ≤ length (now codes)) × (count ≤ length (now scratch)) ⌝ }
     ensures { λ r. ⌜ AllNamed (now (block .entry)) (now (s .entry)) from at count (now (table .exit)) r ⌝ }
@@ -164,7 +164,7 @@ pub fn redirect_by(
     hits: &mut [u8],
 ) -> Answer
     requires { ⌜ limits .block ≤ room ⌝ }
-    requires { ⌜ (length (now vertex) ≡ 512) × (length (now serial) ≡ 512) × (length (now starts) ≡ 512) × (length (now sizes) ≡ 512) ⌝ }
+    requires { ⌜ (length (now vertex) ≡ message-darts) × (length (now serial) ≡ message-darts) × (length (now starts) ≡ message-darts) × (length (now sizes) ≡ message-darts) ⌝ }
     requires { ⌜ (limits .block ≤ length (now table)) × Unset (limits .block) (now table) × (limits .block < length (now hits)) × Clear (now hits) ⌝ }
     requires { ⌜ (limits .block ≤ length (now codes)) × (limits .block ≤ length (now scratch)) ⌝ }
     ensures { λ r. ⌜ Gives (calls.redirect (limits-of limits) (now (block .entry)) (now (message .entry))) (answer-of r) (now (block .exit)) ⌝ }

@@ -4,7 +4,7 @@ ghost use mathlib.Core.Bool.{true};
 ghost use Prim.Native.Nat.{ℕ, _≤_, _<_};
 ghost use lib.Dec.{ltb};
 ghost use lib.ListN.{length, getD};
-ghost use Rattle.model.specs.Values.{room};
+ghost use Rattle.model.specs.Values.{room, last-block};
 ghost use Rattle.model.specs.Image.{words-for, holds-block};
 ghost use Rattle.cells.specs.Places.{Clear};
 ghost use Rattle.redirect.specs.ByPlaces.{code-index, Ready, Unset, Indexed, HitsAre, all-hit, Rewritten};
@@ -26,7 +26,7 @@ pub fn index_faces(
     table: &mut [u16],
     hits: &mut [u8],
 )
-    requires { ⌜ (holds-block (now block) ≡ true) × (n ≡ getD (now block) 2 0) × (from ≤ 15) × Ready (now codes) c ⌝ }
+    requires { ⌜ (holds-block (now block) ≡ true) × (n ≡ getD (now block) 2 0) × (from ≤ last-block) × Ready (now codes) c ⌝ }
     requires { ⌜ (n ≤ length (now table)) × Unset n (now table) × (c < length (now hits)) × Clear (now hits) ⌝ }
     ensures { λ _. ⌜ Indexed (code-index (now (block .entry)) from (now (codes .entry)) c) n (now (table .exit)) × HitsAre (code-index (now (block .entry)) from (now (codes .entry)) c) n (now (hits .exit)) ⌝ }
 {

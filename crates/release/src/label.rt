@@ -2,7 +2,7 @@
 ghost use mathlib.Core.Path.{_≡_};
 ghost use Prim.Native.Nat.{_+_, _≤_, _<_, _^_};
 ghost use lib.ListN.{length, getD};
-ghost use Rattle.model.specs.Values.{critical, room};
+ghost use Rattle.model.specs.Values.{critical, room, blocks, last-block};
 ghost use Rattle.model.specs.Cells.{cycle};
 ghost use Rattle.model.specs.Image.{words-for, column};
 ghost use Rattle.model.specs.Links.{label-links};
@@ -18,7 +18,7 @@ use memory::record::Record;
 
 // The dart at place q becomes critical with block `to`, with a label that block `maker` makes.
 fn put_label(block: &mut [u64], q: Place, to: u64, maker: u64, number: u64, position: usize)
-    requires { ⌜ (words-for (q .0 + 1) ≤ length (now block)) × (to ≤ 15) × (maker < 16) × (number < 2 ^ 32) × (position < room) ⌝ }
+    requires { ⌜ (words-for (q .0 + 1) ≤ length (now block)) × (to ≤ last-block) × (maker < blocks) × (number < 2 ^ 32) × (position < room) ⌝ }
     ensures { λ _. ⌜ now (block .exit) ≡ with-link (now (block .entry)) (record { dart = q .0; third = critical to (record { maker = maker; number = number; position = position }) }) ⌝ }
 {
     let code = memory::label::code_of(maker, number, position as u64);
@@ -29,7 +29,7 @@ fn put_label(block: &mut [u64], q: Place, to: u64, maker: u64, number: u64, posi
 
 // Labels the darts that the face of the dart at place `start` is sewn to, along that face.
 fn label_face(block: &mut [u64], n: usize, marks: &[u8], start: Place, to: u64, number: u64)
-    requires { ⌜ Sewing (now block) (now marks) n × (start .0 < n) × (getD (now marks) (start .0) 0 ≡ 1) × (column (now block) 3 (start .0) ≡ 1) × (to ≤ 15) × (number < 2 ^ 32) ⌝ }
+    requires { ⌜ Sewing (now block) (now marks) n × (start .0 < n) × (getD (now marks) (start .0) 0 ≡ 1) × (column (now block) 3 (start .0) ≡ 1) × (to ≤ last-block) × (number < 2 ^ 32) ⌝ }
     ensures same { λ _. ⌜ Same (now (block .entry)) (now (marks .entry)) (now (block .exit)) ⌝ }
     ensures labelled { λ _. ⌜ now (block .exit) ≡ with-links (now (block .entry)) (label-links (column (now (block .entry)) 4) to (getD (now (block .entry)) 0 0) number 0 (cycle (column (now (block .entry)) 1) (start .0))) ⌝ }
 {
@@ -59,7 +59,7 @@ pub fn label_faces(
     count: usize,
     to: u64,
 )
-    requires { ⌜ Sewing (now block) (now marks) (getD (now block) 2 0) × InOrder (faces-at (now block) (now marks)) (now order) (now starts) darts count × (to ≤ 15) × (getD (now block) 1 0 + length (sewn-at (now block) (now marks)) < 2 ^ 32) ⌝ }
+    requires { ⌜ Sewing (now block) (now marks) (getD (now block) 2 0) × InOrder (faces-at (now block) (now marks)) (now order) (now starts) darts count × (to ≤ last-block) × (getD (now block) 1 0 + length (sewn-at (now block) (now marks)) < 2 ^ 32) ⌝ }
     ensures { λ _. ⌜ now (block .exit) ≡ with-links (now (block .entry)) (left-behind (now (block .entry)) (now (marks .entry)) to) ⌝ }
 {
     let n = block[Header::COUNT] as usize;

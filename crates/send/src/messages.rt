@@ -4,6 +4,7 @@ ghost use mathlib.Core.Bool.{true};
 ghost use mathlib.Core.List.{[]};
 ghost use Prim.Native.Nat.{_+_, _≤_, _<_, _^_};
 ghost use lib.ListN.{length, getD, replicate};
+ghost use Rattle.model.specs.Values.{last-block};
 ghost use Rattle.model.specs.Image.{holds-block};
 ghost use Rattle.model.specs.Calls.{writing};
 ghost use Rattle.answers.specs.Answers.{Gives, written-of};
@@ -37,7 +38,7 @@ fn put_both(
 ) -> usize
     requires { ⌜ holds-block (now block) ≡ true ⌝ }
     requires { ⌜ Surveyed (now block) counts (now marks) (now order) (now starts) (now numbers) (now firsts) ⌝ }
-    requires { ⌜ (to ≤ 15) × (getD (now block) 1 0 + counts .sewn < 2 ^ 32) ⌝ }
+    requires { ⌜ (to ≤ last-block) × (getD (now block) 1 0 + counts .sewn < 2 ^ 32) ⌝ }
     requires { ⌜ Sized (transfer-for (now block) to counts (now marks) (now numbers) (now firsts)) sizes × Shares (now block) (now order) (now starts) (counts .darts) (counts .faces) (counts .faces) (now labels) (now bytes) ⌝ }
     requires { ⌜ sizes .whole + length (run (told-put (now block) to (now order) (now starts) (counts .darts) (counts .faces)) 16) ≤ length (now outbox) ⌝ }
     ensures { λ r. ⌜ Stored (now (outbox .entry)) 0 (messages-at (now (block .entry)) to counts (now (marks .entry)) (now (numbers .entry)) (now (firsts .entry))) (now (outbox .exit)) r ⌝ }
@@ -75,7 +76,7 @@ pub fn put_messages(
 ) -> Written
     requires { ⌜ holds-block (now block) ≡ true ⌝ }
     requires { ⌜ Surveyed (now block) counts (now marks) (now order) (now starts) (now numbers) (now firsts) ⌝ }
-    requires { ⌜ (to ≤ 15) × (getD (now block) 1 0 + counts .sewn < 2 ^ 32) ⌝ }
+    requires { ⌜ (to ≤ last-block) × (getD (now block) 1 0 + counts .sewn < 2 ^ 32) ⌝ }
     requires { ⌜ (now labels ≡ replicate 16 0) × (now bytes ≡ replicate 16 0) ⌝ }
     ensures { λ r. ⌜ Gives (writing [] (now (outbox .entry)) (messages-at (now (block .entry)) to counts (now (marks .entry)) (now (numbers .entry)) (now (firsts .entry)))) (written-of r) (now (outbox .exit)) ⌝ }
 {
