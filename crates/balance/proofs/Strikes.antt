@@ -177,4 +177,4 @@ pub record SameLengths (s m o t e n f p s₀ m₀ o₀ t₀ e₀ n₀ f₀ p₀ 
   pub seen : length e ≡ length e₀
   pub numbers : length n ≡ length n₀
   pub firsts : length f ≡ length f₀
-  pub stamps : length p ≡ length p₀
+  pub colours : length p ≡ length p₀

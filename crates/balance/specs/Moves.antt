@@ -25,7 +25,7 @@ unfoldable pub can-leave : List ℕ → ℕ → Bool
 can-leave m s = eqb (first-no (drop 1 (departure-checks message-darts (block-in m) 0 s))) 0
 
 -- the arrays that questions 9 to 14 of a block of n darts are asked with: nothing is marked, and the others may hold anything
-pub record Asking (n : ℕ) (marks order starts seen numbers firsts stamps : List ℕ) : Type 0 where
+pub record Asking (n : ℕ) (marks order starts seen numbers firsts colours : List ℕ) : Type 0 where
   pub marks-size : n ≤ length marks
   pub unmarked : Clear marks
   pub order-size : n ≤ length order
@@ -34,7 +34,7 @@ pub record Asking (n : ℕ) (marks order starts seen numbers firsts stamps : Lis
   pub unseen : Clear seen
   pub numbers-size : n ≤ length numbers
   pub firsts-size : n ≤ length firsts
-  pub stamps-size : message-darts ≤ length stamps
+  pub colours-size : message-darts ≤ length colours
 
 -- of a place, by the size of the picked volume that it starts: there is one, it is at most `left`, and it may leave
 abbrev pub fits : (ℕ → ℕ) → (ℕ → Bool) → ℕ → ℕ → Bool

@@ -31,12 +31,12 @@ fn may_leave(
     seen: &mut [u8],
     numbers: &mut [usize],
     firsts: &mut [usize],
-    stamps: &mut [usize],
+    colours: &mut [usize],
 ) -> bool
     requires { ⌜ (holds-block (now block) ≡ true) × (to ≤ last-block) × (to ≡ getD (now block) 0 0 → ⊥) ⌝ }
-    requires { ⌜ Asking (count-in (now block)) (now marks) (now order) (now starts) (now seen) (now numbers) (now firsts) (now stamps) ⌝ }
+    requires { ⌜ Asking (count-in (now block)) (now marks) (now order) (now starts) (now seen) (now numbers) (now firsts) (now colours) ⌝ }
     ensures answer { λ r. ⌜ r ≡ can-leave (now (block .entry)) serial ⌝ }
-    ensures again { λ r. ⌜ (r ≡ false → Asking (count-in (now (block .entry))) (now (marks .exit)) (now (order .exit)) (now (starts .exit)) (now (seen .exit)) (now (numbers .exit)) (now (firsts .exit)) (now (stamps .exit))) ⌝ }
+    ensures again { λ r. ⌜ (r ≡ false → Asking (count-in (now (block .entry))) (now (marks .exit)) (now (order .exit)) (now (starts .exit)) (now (seen .exit)) (now (numbers .exit)) (now (firsts .exit)) (now (colours .exit))) ⌝ }
 {
     match departure::leaves(
         block,
@@ -49,7 +49,7 @@ fn may_leave(
         seen,
         numbers,
         firsts,
-        stamps,
+        colours,
     ) {
         Leaving::Volume(_) => true,
         Leaving::Refused(_) => false,
@@ -68,10 +68,10 @@ fn first_asked(
     seen: &mut [u8],
     numbers: &mut [usize],
     firsts: &mut [usize],
-    stamps: &mut [usize],
+    colours: &mut [usize],
 ) -> Candidate
     requires { ⌜ (holds-block (now block) ≡ true) × (to ≤ last-block) × (to ≡ getD (now block) 0 0 → ⊥) × (count-in (now block) ≤ length (now sizes)) ⌝ }
-    requires { ⌜ Asking (count-in (now block)) (now marks) (now order) (now starts) (now seen) (now numbers) (now firsts) (now stamps) ⌝ }
+    requires { ⌜ Asking (count-in (now block)) (now marks) (now order) (now starts) (now seen) (now numbers) (now firsts) (now colours) ⌝ }
     ensures candidate { λ r. ⌜ r ≡ candidate-of (going (at (now (sizes .entry))) (now (block .entry)) left) ⌝ }
     ensures untried { λ r. ⌜ Untried-in (at (now (sizes .entry))) (now (block .entry)) (now (sizes .exit)) ⌝ }
 {
@@ -99,7 +99,7 @@ fn first_asked(
             seen,
             numbers,
             firsts,
-            stamps,
+            colours,
         ) {
             return Candidate::Volume(serial);
         }
@@ -121,7 +121,7 @@ pub fn first_leaving(block: &[u64], to: u64, left: usize, sizes: &mut [usize]) -
     let mut seen = [0u8; Header::DARTS];
     let mut numbers = [0usize; Header::DARTS];
     let mut firsts = [0usize; Header::DARTS];
-    let mut stamps = [0usize; Header::VOLUME];
+    let mut colours = [0usize; Header::VOLUME];
     first_asked(
         block,
         to,
@@ -133,6 +133,6 @@ pub fn first_leaving(block: &[u64], to: u64, left: usize, sizes: &mut [usize]) -
         &mut seen,
         &mut numbers,
         &mut firsts,
-        &mut stamps,
+        &mut colours,
     )
 }

@@ -1,4 +1,4 @@
--- Ordered vertex pairs: each once, with different ends, as a fact of the darts; and the walk along a ring that stamps the ends.
+-- Ordered vertex pairs: each once, with different ends, as a fact of the darts; and the walk along a ring that colours the ends.
 -- Assumes nothing.
 use mathlib.Core.Path.{_≡_, refl, sym, _∙_, ap}
 use mathlib.Core.Logic.{_≢_}
@@ -18,7 +18,7 @@ use Rattle.laws.proofs.Members.{In, in-here, in-there, in-eq, in-cons, map-appe
 use Rattle.laws.proofs.Orbits.{iter, path, in-path}
 use Rattle.laws.proofs.Tables.{tab-all, all-tab}
 use Rattle.laws.proofs.Lists.{getD-zeros}
-use Rattle.cells.specs.Places.{Within, Stamped, ends-of, ends-once}
+use Rattle.cells.specs.Places.{Within, Coloured, ends-of, ends-once}
 use Rattle.cells.proofs.Walks.{eq-or-ne, last-or-below}
 use Rattle.cells.proofs.Paths.{Round, Going, path-next, going-end, mem-append}
 
@@ -74,29 +74,29 @@ module _ (key nx : ℕ → ℕ) where
           absurd (o .pairs-differ z (r .0) (in-here z v) (in-there (r .0) z v (r .1)) (λ w. distinct-not z v d (r .0) (r .1) (sym w)) (r .2) (r .3))
 
 -- STAMPS
-pub stamp-start : (a : ℕ) (stamps : List ℕ) → a < length stamps → ((b : ℕ) → getD stamps b 0 ≤ a) → Stamped (length stamps) (a + 1) (a ∷ []) (set stamps a (a + 1))
-stamp-start a stamps h low = record {
+pub give-colour-start : (a : ℕ) (colours : List ℕ) → a < length colours → ((b : ℕ) → getD colours b 0 ≤ a) → Coloured (length colours) (a + 1) (a ∷ []) (set colours a (a + 1))
+give-colour-start a colours h low = record {
   size = simp length-set;
-  bound = λ b. eq-or-ne b a (λ e. rw e (omega (arith, here))) (λ e. omega (arith, getD-set-other stamps a b (a + 1) 0 e, low b));
-  stamp-is = λ b k. eq-or-ne b a
+  bound = λ b. eq-or-ne b a (λ e. rw e (omega (arith, here))) (λ e. omega (arith, getD-set-other colours a b (a + 1) 0 e, low b));
+  give-colour-is = λ b k. eq-or-ne b a
       (λ e. rw (e, here, eq-eqb (a + 1) (a + 1) refl, eq-eqb a a refl))
-      (λ e. rw (getD-set-other stamps a b (a + 1) 0 e, ne-eqb b a e, ne-eqb (getD stamps b 0) (a + 1) (λ w. omega (arith, low b))));
+      (λ e. rw (getD-set-other colours a b (a + 1) 0 e, ne-eqb b a e, ne-eqb (getD colours b 0) (a + 1) (λ w. omega (arith, low b))));
 }
   where
-    here : getD (set stamps a (a + 1)) a 0 ≡ a + 1
-    here = getD-set-same stamps a (a + 1) 0 (omega arith)
+    here : getD (set colours a (a + 1)) a 0 ≡ a + 1
+    here = getD-set-same colours a (a + 1) 0 (omega arith)
 
-pub stamp-more : {m c : ℕ} {l stamps : List ℕ} → Stamped m c l stamps → (b : ℕ) → b < m → Stamped m c (l ++ b ∷ []) (set stamps b c)
-stamp-more {m} {c} {l} {stamps} s b h = record {
+pub give-colour-more : {m c : ℕ} {l colours : List ℕ} → Coloured m c l colours → (b : ℕ) → b < m → Coloured m c (l ++ b ∷ []) (set colours b c)
+give-colour-more {m} {c} {l} {colours} s b h = record {
   size = simp length-set (s .size);
-  bound = λ d. eq-or-ne d b (λ e. rw e (omega (arith, here))) (λ e. omega (arith, getD-set-other stamps b d c 0 e, s .bound d));
-  stamp-is = λ d k. rw (mem-append d l (b ∷ [])) (eq-or-ne d b
+  bound = λ d. eq-or-ne d b (λ e. rw e (omega (arith, here))) (λ e. omega (arith, getD-set-other colours b d c 0 e, s .bound d));
+  give-colour-is = λ d k. rw (mem-append d l (b ∷ [])) (eq-or-ne d b
       (λ e. rw (e, here, eq-eqb c c refl, eq-eqb b b refl) (sym (either (mem b l))))
-      (λ e. rw (getD-set-other stamps b d c 0 e, ne-eqb d b e) (s .stamp-is d k ∙ sym (neither (mem d l)))));
+      (λ e. rw (getD-set-other colours b d c 0 e, ne-eqb d b e) (s .give-colour-is d k ∙ sym (neither (mem d l)))));
 }
   where
-    here : getD (set stamps b c) b 0 ≡ c
-    here = getD-set-same stamps b c 0 (omega (arith, s .size))
+    here : getD (set colours b c) b 0 ≡ c
+    here = getD-set-same colours b c 0 (omega (arith, s .size))
 
     either : (t : Bool) → (t || true) ≡ true
     either true = refl
@@ -107,39 +107,39 @@ stamp-more {m} {c} {l} {stamps} s b h = record {
     neither false = refl
 
 -- as the calls leave the table
-pub stamped-first : {a : ℕ} (stamps : List ℕ) {stamps′ : List ℕ} → a < length stamps → ((b : ℕ) → getD stamps b 0 ≤ a)
-    → stamps′ ≡ set stamps a (a + 1) → Stamped (length stamps′) (a + 1) (a ∷ []) stamps′
-stamped-first {a} stamps h low e = rw (e, length-set) (stamp-start a stamps h low)
+pub coloured-first : {a : ℕ} (colours : List ℕ) {colours′ : List ℕ} → a < length colours → ((b : ℕ) → getD colours b 0 ≤ a)
+    → colours′ ≡ set colours a (a + 1) → Coloured (length colours′) (a + 1) (a ∷ []) colours′
+coloured-first {a} colours h low e = rw (e, length-set) (give-colour-start a colours h low)
 
-pub stamped-next : {m c b : ℕ} {l stamps stamps′ : List ℕ} → Stamped m c l stamps → b < m → stamps′ ≡ set stamps b c → Stamped m c (l ++ b ∷ []) stamps′
-stamped-next {b = b} s h e = rw e (stamp-more s b h)
+pub coloured-next : {m c b : ℕ} {l colours colours′ : List ℕ} → Coloured m c l colours → b < m → colours′ ≡ set colours b c → Coloured m c (l ++ b ∷ []) colours′
+coloured-next {b = b} s h e = rw e (give-colour-more s b h)
 
-pub stamped-size : {m c : ℕ} {l stamps : List ℕ} (b : ℕ) {stamps′ : List ℕ} → Stamped m c l stamps → stamps′ ≡ set stamps b c → length stamps′ ≡ m
-stamped-size b s e = rw e (simp length-set (s .size))
+pub coloured-size : {m c : ℕ} {l colours : List ℕ} (b : ℕ) {colours′ : List ℕ} → Coloured m c l colours → colours′ ≡ set colours b c → length colours′ ≡ m
+coloured-size b s e = rw e (simp length-set (s .size))
 
--- THE WALK along a ring: a and the ends so far differ, and are stamped
-pub record Ending (n : ℕ) (nx f : ℕ → ℕ) (numbers : List ℕ) (m x a c k p : ℕ) (stamps : List ℕ) : Type 0 where
+-- THE WALK along a ring: a and the ends so far differ, and are coloured
+pub record Ending (n : ℕ) (nx f : ℕ → ℕ) (numbers : List ℕ) (m x a c k p : ℕ) (colours : List ℕ) : Type 0 where
   pub going : Going n f x c k p
   pub differ : distinct (a ∷ map (λ q. getD numbers (nx q) 0) (path f k x)) ≡ true
-  pub stamped : Stamped m (a + 1) (a ∷ map (λ q. getD numbers (nx q) 0) (path f k x)) stamps
+  pub coloured : Coloured m (a + 1) (a ∷ map (λ q. getD numbers (nx q) 0) (path f k x)) colours
 
 path-split : (f : ℕ → ℕ) (i j x : ℕ) → path f (i + j) x ≡ path f i x ++ path f j (iter f i x)
 path-split f zero j x = let z : 0 + j ≡ j = omega arith in rw z
 path-split f (suc i) j x = let z : suc i + j ≡ suc (i + j) = omega arith in rw z (ap (λ (l : List ℕ). x ∷ l) (path-split f i j (f x)))
 
-module _ {n : ℕ} {nx f : ℕ → ℕ} {numbers stamps : List ℕ} {m x a c k p b : ℕ} (wf : Within n f) (r : Round f x c) (w : Ending n nx f numbers m x a c k p stamps)
+module _ {n : ℕ} {nx f : ℕ → ℕ} {numbers colours : List ℕ} {m x a c k p b : ℕ} (wf : Within n f) (r : Round f x c) (w : Ending n nx f numbers m x a c k p colours)
     (e : b ≡ getD numbers (nx p) 0) (small : b < m) where
   one-end : (a ∷ map (λ q. getD numbers (nx q) 0) (path f (suc k) x)) ≡ (a ∷ map (λ q. getD numbers (nx q) 0) (path f k x)) ++ b ∷ []
   one-end = ap (λ (l : List ℕ). a ∷ map (λ q. getD numbers (nx q) 0) l) (path-next wf r (w .going))
       ∙ ap (λ (l : List ℕ). a ∷ l) (map-append (λ q. getD numbers (nx q) 0) (path f k x) (p ∷ []))
       ∙ ap (λ (y : ℕ). a ∷ (map (λ q. getD numbers (nx q) 0) (path f k x) ++ y ∷ [])) (sym e)
 
-  -- an end that is stamped already comes twice
-  pub ending-twice : not (eqb (getD stamps b 0) (a + 1)) ≡ false → false ≡ distinct (a ∷ map (λ q. getD numbers (nx q) 0) (cycle f x))
+  -- an end that is coloured already comes twice
+  pub ending-twice : not (eqb (getD colours b 0) (a + 1)) ≡ false → false ≡ distinct (a ∷ map (λ q. getD numbers (nx q) 0) (cycle f x))
   ending-twice t = by-cases (distinct (a ∷ map (λ q. getD numbers (nx q) 0) (cycle f x))) (λ d. absurd (twice d)) (λ d. sym d)
     where
       there : In b (a ∷ map (λ q. getD numbers (nx q) 0) (path f k x))
-      there = sym (w .stamped .stamp-is b small) ∙ not-false′ (eqb (getD stamps b 0) (a + 1)) t
+      there = sym (w .coloured .give-colour-is b small) ∙ not-false′ (eqb (getD colours b 0) (a + 1)) t
         where
           not-false′ : (o : Bool) → not o ≡ false → o ≡ true
           not-false′ true h = refl
@@ -163,9 +163,9 @@ module _ {n : ℕ} {nx f : ℕ → ℕ} {numbers stamps : List ℕ} {m x a c k p
           true≢false (sym there ∙ distinct-apart (a ∷ map (λ q. getD numbers (nx q) 0) (path f k x)) (b ∷ []) front b (in-here b []))
 
   -- one that is not goes with the others
-  module _ (t : not (eqb (getD stamps b 0) (a + 1)) ≡ true) where
+  module _ (t : not (eqb (getD colours b 0) (a + 1)) ≡ true) where
     absent : mem b (a ∷ map (λ q. getD numbers (nx q) 0) (path f k x)) ≡ false
-    absent = sym (w .stamped .stamp-is b small) ∙ not-true (eqb (getD stamps b 0) (a + 1)) t
+    absent = sym (w .coloured .give-colour-is b small) ∙ not-true (eqb (getD colours b 0) (a + 1)) t
 
     further : distinct (a ∷ map (λ q. getD numbers (nx q) 0) (path f (suc k) x)) ≡ true
     further = ap distinct one-end ∙ distinct-append (a ∷ map (λ q. getD numbers (nx q) 0) (path f k x)) (b ∷ []) (w .differ) refl
@@ -175,9 +175,9 @@ module _ {n : ℕ} {nx f : ℕ → ℕ} {numbers stamps : List ℕ} {m x a c k p
         go y h false m = m
         go y h true m = in-cons y b [] m (λ same. absurd (true≢false (sym (in-eq b y (a ∷ map (λ q. getD numbers (nx q) 0) (path f k x)) (sym same) h) ∙ absent))) (λ z. absurd (true≢false (sym z)))
 
-    pub ending-more : {q : ℕ} {stamps′ : List ℕ} → stamps′ ≡ set stamps b (a + 1) → Going n f x c (k + 1) q → Ending n nx f numbers m x a c (k + 1) q stamps′
+    pub ending-more : {q : ℕ} {colours′ : List ℕ} → colours′ ≡ set colours b (a + 1) → Going n f x c (k + 1) q → Ending n nx f numbers m x a c (k + 1) q colours′
     ending-more s g = let more : k + 1 ≡ suc k = omega arith in
-        record { going = g; differ = rw more further; stamped = rw (more, one-end) (stamped-next (w .stamped) small s) }
+        record { going = g; differ = rw more further; coloured = rw (more, one-end) (coloured-next (w .coloured) small s) }
 
     pub ending-all : {q : ℕ} → q ≡ f p → q ≡ x → true ≡ distinct (a ∷ map (λ q. getD numbers (nx q) 0) (cycle f x))
     ending-all i j = sym (ap (λ (l : List ℕ). distinct (a ∷ map (λ q. getD numbers (nx q) 0) l)) (r .cycle-is ∙ ap (λ (m : ℕ). path f m x) (sym (going-end wf r (w .going) i j))) ∙ further)
@@ -203,5 +203,5 @@ ends-not nx op numbers firsts count a h e = by-cases (all (λ a. distinct (a ∷
 pub true-more : (t : ℕ → Bool) (a : ℕ) → ((k : ℕ) → k < a → t k ≡ true) → t a ≡ true → (k : ℕ) → k < a + 1 → t k ≡ true
 true-more t a h e k l = last-or-below l (λ w. rw w e) (h k)
 
-pub clear-stamps : (m : ℕ) (stamps : List ℕ) → stamps ≡ replicate m 0 → (b : ℕ) → getD stamps b 0 ≤ 0
-clear-stamps m stamps e b = rw e (omega (arith, getD-zeros m b))
+pub clear-colours : (m : ℕ) (colours : List ℕ) → colours ≡ replicate m 0 → (b : ℕ) → getD colours b 0 ≤ 0
+clear-colours m colours e b = rw e (omega (arith, getD-zeros m b))

@@ -142,7 +142,7 @@ pub record Ended (n : ℕ) (nx op : ℕ → ℕ) (numbers firsts : List ℕ) (co
   pub end-below : (a : ℕ) → a < count → (q : ℕ) → mem q (ring nx op (getD firsts a 0)) ≡ true → getD numbers (nx q) 0 < count
 
 -- of m entries, those that have a colour are those of a list; none is above it
-pub record Stamped (m colour : ℕ) (l stamps : List ℕ) : Type 0 where
-  pub size : length stamps ≡ m
-  pub bound : (b : ℕ) → getD stamps b 0 ≤ colour
-  pub stamp-is : (b : ℕ) → b < m → eqb (getD stamps b 0) colour ≡ mem b l
+pub record Coloured (m colour : ℕ) (l colours : List ℕ) : Type 0 where
+  pub size : length colours ≡ m
+  pub bound : (b : ℕ) → getD colours b 0 ≤ colour
+  pub give-colour-is : (b : ℕ) → b < m → eqb (getD colours b 0) colour ≡ mem b l

@@ -18,13 +18,13 @@ use memory::record::Place;
 use memory::record::Record;
 
 // Gives entry b a colour. Returns whether it had another.
-fn stamp(stamps: &mut [usize], b: usize, colour: usize) -> bool
-    requires { ⌜ (length (now stamps) ≤ room) × (b < length (now stamps)) ⌝ }
-    ensures fresh { λ r. ⌜ r ≡ not (eqb (getD (now (stamps .entry)) b 0) colour) ⌝ }
-    ensures stamped { λ r. ⌜ now (stamps .exit) ≡ set (now (stamps .entry)) b colour ⌝ }
+fn give_colour(colours: &mut [usize], b: usize, colour: usize) -> bool
+    requires { ⌜ (length (now colours) ≤ room) × (b < length (now colours)) ⌝ }
+    ensures fresh { λ r. ⌜ r ≡ not (eqb (getD (now (colours .entry)) b 0) colour) ⌝ }
+    ensures coloured { λ r. ⌜ now (colours .exit) ≡ set (now (colours .entry)) b colour ⌝ }
 {
-    let old = stamps[b];
-    stamps[b] = colour;
+    let old = colours[b];
+    colours[b] = colour;
     old != colour
 }
 
@@ -35,25 +35,25 @@ fn ends_differ(
     start: Place,
     a: usize,
     numbers: &[usize],
-    stamps: &mut [usize],
+    colours: &mut [usize],
 ) -> bool
-    requires { ⌜ Linked (now block) n × (start .0 < n) × (a < length (now stamps)) × (length (now stamps) ≤ room) ⌝ }
-    requires { ⌜ ((q : ℕ) → mem q (ring (column (now block) 1) (column (now block) 2) (start .0)) ≡ true → (column (now block) 1 q < length (now numbers)) × (getD (now numbers) (column (now block) 1 q) 0 < length (now stamps))) ⌝ }
-    requires { ⌜ ((b : ℕ) → getD (now stamps) b 0 ≤ a) ⌝ }
+    requires { ⌜ Linked (now block) n × (start .0 < n) × (a < length (now colours)) × (length (now colours) ≤ room) ⌝ }
+    requires { ⌜ ((q : ℕ) → mem q (ring (column (now block) 1) (column (now block) 2) (start .0)) ≡ true → (column (now block) 1 q < length (now numbers)) × (getD (now numbers) (column (now block) 1 q) 0 < length (now colours))) ⌝ }
+    requires { ⌜ ((b : ℕ) → getD (now colours) b 0 ≤ a) ⌝ }
     ensures differ { λ r. ⌜ r ≡ distinct (a ∷ ends-of (column (now (block .entry)) 1) (column (now (block .entry)) 2) (now (numbers .entry)) (start .0)) ⌝ }
-    ensures bound { λ r. ⌜ ((b : ℕ) → getD (now (stamps .exit)) b 0 ≤ a + 1) ⌝ }
-    ensures size { λ r. ⌜ length (now (stamps .exit)) ≡ length (now (stamps .entry)) ⌝ }
+    ensures bound { λ r. ⌜ ((b : ℕ) → getD (now (colours .exit)) b 0 ≤ a + 1) ⌝ }
+    ensures size { λ r. ⌜ length (now (colours .exit)) ≡ length (now (colours .entry)) ⌝ }
 {
     // `a` and the ends of the edges before p's, `steps` of them, differ, and have the colour.
     let colour = a + 1;
-    stamp(stamps, a, colour);
+    give_colour(colours, a, colour);
     let first = start.0;
     let mut steps: usize = 0;
     let mut p = first;
     loop {
         let q = record::field(block, Place(p), Record::NEXT) as usize;
         let b = numbers[q];
-        if !stamp(stamps, b, colour) {
+        if !give_colour(colours, b, colour) {
             return false;
         }
         steps += 1;
@@ -64,23 +64,23 @@ fn ends_differ(
     }
 }
 
-// Whether the edges of each of `count` vertices end at different vertices, none at itself, with a clear table of as many stamps.
+// Whether the edges of each of `count` vertices end at different vertices, none at itself, with a clear table of as many colours.
 fn each_once(
     block: &[u64],
     n: usize,
     numbers: &[usize],
     firsts: &[usize],
     count: usize,
-    stamps: &mut [usize],
+    colours: &mut [usize],
 ) -> bool
-    requires { ⌜ Linked (now block) n × Ended n (column (now block) 1) (column (now block) 2) (now numbers) (now firsts) count × (now stamps ≡ replicate count 0) ⌝ }
+    requires { ⌜ Linked (now block) n × Ended n (column (now block) 1) (column (now block) 2) (now numbers) (now firsts) count × (now colours ≡ replicate count 0) ⌝ }
     ensures { λ r. ⌜ r ≡ ends-once (column (now (block .entry)) 1) (column (now (block .entry)) 2) (now (numbers .entry)) (now (firsts .entry)) count ⌝ }
 {
-    // The edges of the vertices before a do; no stamp is above a.
+    // The edges of the vertices before a do; no colour is above a.
     let mut a = 0;
     while a < count {
         let p = firsts[a];
-        if !ends_differ(block, n, Place(p), a, numbers, stamps) {
+        if !ends_differ(block, n, Place(p), a, numbers, colours) {
             return false;
         }
         a += 1;
@@ -88,7 +88,7 @@ fn each_once(
     true
 }
 
-// Whether the edges of each of `count` vertices end at different vertices, none at itself. `firsts` has a dart of each vertex; `stamps`
+// Whether the edges of each of `count` vertices end at different vertices, none at itself. `firsts` has a dart of each vertex; `colours`
 // may hold anything.
 pub fn pairs_once(
     block: &[u64],
@@ -96,12 +96,12 @@ pub fn pairs_once(
     numbers: &[usize],
     firsts: &[usize],
     count: usize,
-    stamps: &mut [usize],
+    colours: &mut [usize],
 ) -> bool
-    requires { ⌜ Linked (now block) n × Ended n (column (now block) 1) (column (now block) 2) (now numbers) (now firsts) count × (count ≤ length (now stamps)) ⌝ }
+    requires { ⌜ Linked (now block) n × Ended n (column (now block) 1) (column (now block) 2) (now numbers) (now firsts) count × (count ≤ length (now colours)) ⌝ }
     ensures { λ r. ⌜ r ≡ ends-once (column (now (block .entry)) 1) (column (now (block .entry)) 2) (now (numbers .entry)) (now (firsts .entry)) count ⌝ }
 {
-    let used = &mut stamps[0..count];
+    let used = &mut colours[0..count];
     reset::clear(used);
     each_once(block, n, numbers, firsts, count, used)
 }

@@ -75,16 +75,16 @@ module _ {m : List ℕ} {s p : ℕ} (site : Sited m) (h : HeldAt m s p) where
       pub as-many : {t : ℕ} {out′ : List ℕ} → Walked m p t marks out′ → darts ≡ t
       as-many w = out-count site p (h .below) mk o ∙ ap (λ (x : ℕ). length (volume-in (darts-in m) x)) (h .serial-is) ∙ size-is ∙ sym (w .size-is)
 
-      -- what 12 and `forget` ask of the list
+      -- what 12 and `unmark-both` ask of the list
       pub list-ready : (darts ≤ room) × (darts ≤ length out) × ((k : ℕ) → k < darts → getD out k 0 < count-in m)
       list-ready =
           let l = site .linked in
           (omega (arith, out-few l (h .below) mk o, l .few), out-long l (h .below) mk o, out-below l (h .below) mk o)
 
-      pub forget-ready : {seen : List ℕ} → Marked (take darts out) seen → count-in m ≤ length marks → count-in m ≤ length seen
+      pub unmark-both-ready : {seen : List ℕ} → Marked (take darts out) seen → count-in m ≤ length marks → count-in m ≤ length seen
           → (darts ≤ room) × (darts ≤ length out) × ((k : ℕ) → k < darts → (getD out k 0 < length marks) × (getD out k 0 < length seen))
           × Marked (take darts out) marks × Marked (take darts out) seen
-      forget-ready sm lm ls =
+      unmark-both-ready sm lm ls =
           let ready = list-ready in
           (ready .0, ready .1, (λ k j. (omega (arith, ready .2 k j), omega (arith, ready .2 k j))), out-marked (site .linked) (h .below) mk o, sm)
 

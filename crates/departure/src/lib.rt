@@ -33,7 +33,7 @@ pub enum Leaving {
 }
 
 // Takes the marks of a volume that does not leave away, at its own darts alone.
-fn forget(out: &[usize], darts: usize, marks: &mut [u8], seen: &mut [u8])
+fn unmark_both(out: &[usize], darts: usize, marks: &mut [u8], seen: &mut [u8])
     requires { ⌜ (darts ≤ room) × (darts ≤ length (now out)) × ((k : ℕ) → k < darts → (getD (now out) k 0 < length (now marks)) × (getD (now out) k 0 < length (now seen))) × Marked (take darts (now out)) (now marks) × Marked (take darts (now out)) (now seen) ⌝ }
     ensures { λ _. ⌜ Clear (now (marks .exit)) × Clear (now (seen .exit)) ⌝ }
 {
@@ -56,12 +56,12 @@ pub fn leaves(
     seen: &mut [u8],
     numbers: &mut [usize],
     firsts: &mut [usize],
-    stamps: &mut [usize],
+    colours: &mut [usize],
 ) -> Leaving
     requires { ⌜ (holds-block (now block) ≡ true) × (limits .volume ≤ message-darts) ⌝ }
     requires { ⌜ (count-in (now block) ≤ length (now marks)) × Clear (now marks) × (count-in (now block) ≤ length (now seen)) × Clear (now seen) ⌝ }
     requires { ⌜ (count-in (now block) ≤ length (now out)) × (count-in (now block) ≤ length (now starts)) × (count-in (now block) ≤ length (now numbers)) ⌝ }
-    requires { ⌜ (count-in (now block) ≤ length (now firsts)) × (limits .volume ≤ length (now stamps)) ⌝ }
+    requires { ⌜ (count-in (now block) ≤ length (now firsts)) × (limits .volume ≤ length (now colours)) ⌝ }
     ensures answer { λ r. ⌜ Leaves (limits-of limits .volume-darts) (now (block .entry)) to serial r (now (marks .exit)) (now (out .exit)) (now (starts .exit)) (now (numbers .exit)) (now (firsts .exit)) ⌝ }
     ensures clear { λ r. ⌜ Forgotten r (now (marks .exit)) (now (seen .exit)) ⌝ }
 {
@@ -80,16 +80,16 @@ pub fn leaves(
     let darts = order.darts;
     let faces = order.faces;
     if !questions::none_sewn_within(block, marks, out, darts) {
-        forget(out, darts, marks, seen);
+        unmark_both(out, darts, marks, seen);
         return Leaving::Refused(Refusal::SewnWithin);
     }
-    let Pairs::Once(vertices) = questions::pairs_once(block, out, darts, numbers, firsts, stamps)
+    let Pairs::Once(vertices) = questions::pairs_once(block, out, darts, numbers, firsts, colours)
     else {
-        forget(out, darts, marks, seen);
+        unmark_both(out, darts, marks, seen);
         return Leaving::Refused(Refusal::VertexPairs);
     };
     let Sewn::Faces(sewn) = questions::counter_fits(block, marks, out, starts, darts, faces) else {
-        forget(out, darts, marks, seen);
+        unmark_both(out, darts, marks, seen);
         return Leaving::Refused(Refusal::CounterFull);
     };
     Leaving::Volume(Counts {

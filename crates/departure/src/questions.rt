@@ -92,15 +92,15 @@ pub fn pairs_once(
     darts: usize,
     numbers: &mut [usize],
     firsts: &mut [usize],
-    stamps: &mut [usize],
+    colours: &mut [usize],
 ) -> Pairs
     requires { ⌜ Linked (now block) (count-in (now block)) × Whole (count-in (now block)) (column (now block) 1) (column (now block) 2) (take darts (now out)) × (darts ≤ length (now out)) ⌝ }
-    requires { ⌜ (count-in (now block) ≤ length (now numbers)) × (darts ≤ length (now firsts)) × (darts ≤ length (now stamps)) ⌝ }
+    requires { ⌜ (count-in (now block) ≤ length (now numbers)) × (darts ≤ length (now firsts)) × (darts ≤ length (now colours)) ⌝ }
     ensures { λ r. ⌜ PairsOnce (now (block .entry)) (now (out .entry)) darts r (now (numbers .exit)) (now (firsts .exit)) ⌝ }
 {
     let n = block[Header::COUNT] as usize;
     let vertices = cells::vertex::number_vertices(block, n, out, darts, numbers, firsts);
-    if !cells::pairs::pairs_once(block, n, numbers, firsts, vertices, stamps) {
+    if !cells::pairs::pairs_once(block, n, numbers, firsts, vertices, colours) {
         return Pairs::Repeated;
     }
     Pairs::Once(vertices)

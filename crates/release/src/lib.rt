@@ -56,12 +56,12 @@ fn release_asked(
     seen: &mut [u8],
     numbers: &mut [usize],
     firsts: &mut [usize],
-    stamps: &mut [usize],
+    colours: &mut [usize],
 ) -> Answer
     requires { ⌜ (length (now block) ≡ words-of (limits-of limits)) × (is-image (limits-of limits) (now block) ≡ true) × (holds-block (now block) ≡ true) × (limits .volume ≤ message-darts) ⌝ }
     requires { ⌜ (count-in (now block) ≤ length (now marks)) × Clear (now marks) × (count-in (now block) ≤ length (now seen)) × Clear (now seen) ⌝ }
     requires { ⌜ (count-in (now block) ≤ length (now order)) × (count-in (now block) ≤ length (now starts)) × (count-in (now block) ≤ length (now numbers)) ⌝ }
-    requires { ⌜ (count-in (now block) ≤ length (now firsts)) × (limits .volume ≤ length (now stamps)) ⌝ }
+    requires { ⌜ (count-in (now block) ≤ length (now firsts)) × (limits .volume ≤ length (now colours)) ⌝ }
     ensures { λ r. ⌜ Gives (calls.release (limits-of limits) (now (block .entry)) to serial) (answer-of r) (now (block .exit)) ⌝ }
 {
     match departure::leaves(
@@ -75,7 +75,7 @@ fn release_asked(
         seen,
         numbers,
         firsts,
-        stamps,
+        colours,
     ) {
         Leaving::Refused(r) => Answer::Refused(r),
         Leaving::Volume(counts) => {
@@ -102,7 +102,7 @@ pub fn release(block: &mut [u64], to: u64, serial: u64) -> Answer
     let mut seen = [0u8; Header::DARTS];
     let mut numbers = [0usize; Header::DARTS];
     let mut firsts = [0usize; Header::DARTS];
-    let mut stamps = [0usize; Header::VOLUME];
+    let mut colours = [0usize; Header::VOLUME];
     release_asked(
         block,
         Limits::rack(),
@@ -114,6 +114,6 @@ pub fn release(block: &mut [u64], to: u64, serial: u64) -> Answer
         &mut seen,
         &mut numbers,
         &mut firsts,
-        &mut stamps,
+        &mut colours,
     )
 }

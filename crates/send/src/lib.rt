@@ -27,7 +27,7 @@ pub fn send(block: &[u64], to: u64, serial: u64, outbox: &mut [u8]) -> Written
     let mut seen = [0u8; Header::DARTS];
     let mut numbers = [0usize; Header::DARTS];
     let mut firsts = [0usize; Header::DARTS];
-    let mut stamps = [0usize; Header::VOLUME];
+    let mut colours = [0usize; Header::VOLUME];
     let mut labels = [0usize; memory::header::BLOCKS];
     let mut bytes = [0usize; memory::header::BLOCKS];
     volume::send_volume(
@@ -41,7 +41,7 @@ pub fn send(block: &[u64], to: u64, serial: u64, outbox: &mut [u8]) -> Written
         &mut seen,
         &mut numbers,
         &mut firsts,
-        &mut stamps,
+        &mut colours,
         &mut labels,
         &mut bytes,
         outbox,

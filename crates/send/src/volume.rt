@@ -26,7 +26,7 @@ pub fn send_volume(
     seen: &mut [u8],
     numbers: &mut [usize],
     firsts: &mut [usize],
-    stamps: &mut [usize],
+    colours: &mut [usize],
     labels: &mut [usize],
     bytes: &mut [usize],
     outbox: &mut [u8],
@@ -34,7 +34,7 @@ pub fn send_volume(
     requires { ⌜ (length (now block) ≡ words-of (limits-of limits)) × (is-image (limits-of limits) (now block) ≡ true) × (holds-block (now block) ≡ true) × (limits .volume ≤ message-darts) ⌝ }
     requires { ⌜ (count-in (now block) ≤ length (now marks)) × Clear (now marks) × (count-in (now block) ≤ length (now seen)) × Clear (now seen) ⌝ }
     requires { ⌜ (count-in (now block) ≤ length (now order)) × (count-in (now block) ≤ length (now starts)) × (count-in (now block) ≤ length (now numbers)) ⌝ }
-    requires { ⌜ (count-in (now block) ≤ length (now firsts)) × (limits .volume ≤ length (now stamps)) ⌝ }
+    requires { ⌜ (count-in (now block) ≤ length (now firsts)) × (limits .volume ≤ length (now colours)) ⌝ }
     requires { ⌜ (now labels ≡ replicate 16 0) × (now bytes ≡ replicate 16 0) ⌝ }
     ensures { λ r. ⌜ Gives (calls.send (limits-of limits) (now (block .entry)) to serial (now (outbox .entry))) (written-of r) (now (outbox .exit)) ⌝ }
 {
@@ -49,7 +49,7 @@ pub fn send_volume(
         seen,
         numbers,
         firsts,
-        stamps,
+        colours,
     ) {
         Leaving::Refused(q) => Written::Refused(q),
         Leaving::Volume(counts) => messages::put_messages(

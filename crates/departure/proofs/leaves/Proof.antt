@@ -10,7 +10,7 @@ use Rattle.cells.proofs.Resets.{listed-marked, listed-some}
 use Rattle.cells.proofs.SewnLaws.{marked-places}
 use Rattle.cells.proofs.FaceSerials.{closed-next}
 use Rattle.cells.proofs.VolumeReady.{out-few, out-whole}
-use Rattle.departure.proofs.Answers.{held-no, held-yes, as-many, list-ready, forget-ready}
+use Rattle.departure.proofs.Answers.{held-no, held-yes, as-many, list-ready, unmark-both-ready}
 use Rattle.departure.proofs.FirstNo.{ranges-in, first-9, first-10, first-11, first-12, first-13, first-14, departs}
 use Rattle.departure.proofs.Told.{walked-told, large-told, paired-told, unpaired-told, counter-told, full-told}
 use native.Mathlib.Omega.{arith}
@@ -144,8 +144,8 @@ none-sewn-within-requires c κs =
     let mk = walked .0 .volume-marked in
     ((site .linked, omega (arith, start .pre .1 .0 .0, volume-within-kept)), list-ready site held mk (message-order-ensures .0))
 
-forget-requires : tie.Need-forget-requires
-forget-requires c κs =
+unmark-both-requires : tie.Need-unmark-both-requires
+unmark-both-requires c κs =
     let c : tie.After-message-order = search in
     let message-order-kept = (let p : tie.After-message-order = search in p .message-order .kept) in
     let message-order-ensures = (let p : tie.After-message-order = search in p .message-order .ensures) in
@@ -162,7 +162,7 @@ forget-requires c κs =
     let walked = walked-told (start .args .limits .volume) m held _ _ volume-within-ensures (size-given .1) in
     let mk = walked .0 .volume-marked in
     let clear = start .pre .1 .0 in
-    forget-ready site held mk (message-order-ensures .0) (message-order-ensures .1) (omega (arith, clear .0, volume-within-kept)) (omega (arith, clear .2, message-order-kept))
+    unmark-both-ready site held mk (message-order-ensures .0) (message-order-ensures .1) (omega (arith, clear .0, volume-within-kept)) (omega (arith, clear .2, message-order-kept))
 
 same-length-3 : tie.Need-same-length-3
 same-length-3 c = search needs
@@ -178,7 +178,7 @@ same-length-6 c = search needs
 
 returns-4 : tie.Need-returns-4
 returns-4 c =
-    let forget-ensures = (let p : tie.After-forget = search in p .forget .ensures) in
+    let unmark-both-ensures = (let p : tie.After-unmark-both = search in p .unmark-both .ensures) in
     let if2-taken = (let p : tie.Then2 = search in p .if2 .taken) in
     let none-sewn-within-ensures = (let p : tie.After-none-sewn-within = search in p .none-sewn-within .ensures) in
     let message-order-ensures = (let p : tie.After-message-order = search in p .message-order .ensures) in
@@ -199,7 +199,7 @@ returns-4 c =
     let is-9 = said-yes destination-right-ensures if1-left in
     let held = held-yes m serial place-held-ensures site (place-given .1) in
     let walked = walked-told most m held _ _ volume-within-ensures (size-given .1) in
-    (first-12 most m to serial is-9 site held (walked .0) (walked .1) (message-order-ensures .0) (said-no none-sewn-within-ensures if2-taken), forget-ensures)
+    (first-12 most m to serial is-9 site held (walked .0) (walked .1) (message-order-ensures .0) (said-no none-sewn-within-ensures if2-taken), unmark-both-ensures)
 
 pairs-once-requires : tie.Need-pairs-once-requires
 pairs-once-requires c κs =
@@ -232,8 +232,8 @@ enum-known-vertices c = search needs
 enum-told-3 : tie.Need-enum-told-3
 enum-told-3 c = search needs
 
-forget-requires-2 : tie.Need-forget-requires-2
-forget-requires-2 c κs =
+unmark-both-requires-2 : tie.Need-unmark-both-requires-2
+unmark-both-requires-2 c κs =
     let c : tie.After-message-order = search in
     let message-order-kept = (let p : tie.After-message-order = search in p .message-order .kept) in
     let message-order-ensures = (let p : tie.After-message-order = search in p .message-order .ensures) in
@@ -250,14 +250,14 @@ forget-requires-2 c κs =
     let walked = walked-told (start .args .limits .volume) m held _ _ volume-within-ensures (size-given .1) in
     let mk = walked .0 .volume-marked in
     let clear = start .pre .1 .0 in
-    forget-ready site held mk (message-order-ensures .0) (message-order-ensures .1) (omega (arith, clear .0, volume-within-kept)) (omega (arith, clear .2, message-order-kept))
+    unmark-both-ready site held mk (message-order-ensures .0) (message-order-ensures .1) (omega (arith, clear .0, volume-within-kept)) (omega (arith, clear .2, message-order-kept))
 
 same-length-7 : tie.Need-same-length-7
 same-length-7 c =
-    let forget2-kept = (let p : tie.After-forget2 = search in p .forget2 .kept) in
+    let unmark-both2-kept = (let p : tie.After-unmark-both2 = search in p .unmark-both2 .kept) in
     let c : tie.Else2 = search in
     let volume-within-kept = (let p : tie.After-volume-within = search in p .volume-within .kept) in
-    omega (arith, forget2-kept, volume-within-kept)
+    omega (arith, unmark-both2-kept, volume-within-kept)
 
 same-length-8 : tie.Need-same-length-8
 same-length-8 c =
@@ -283,7 +283,7 @@ same-length-13 c = search needs
 
 returns-5 : tie.Need-returns-5
 returns-5 c =
-    let forget2-ensures = (let p : tie.After-forget2 = search in p .forget2 .ensures) in
+    let unmark-both2-ensures = (let p : tie.After-unmark-both2 = search in p .unmark-both2 .ensures) in
     let enum-told3-given = (let p : tie.After-enum-told3 = search in p .enum-told3 .given) in
     let pairs-once-ensures = (let p : tie.After-pairs-once = search in p .pairs-once .ensures) in
     let c : tie.After-pairs-once = search in
@@ -309,7 +309,7 @@ returns-5 c =
     let walked = walked-told most m held _ _ volume-within-ensures (size-given .1) in (
       first-13 most m to serial is-9 site held (walked .0) (walked .1) (message-order-ensures .0) (said-yes none-sewn-within-ensures if2-left)
           (unpaired-told m _ _ pairs-once-ensures (enum-told3-given .1)),
-      forget2-ensures,
+      unmark-both2-ensures,
     )
 
 counter-fits-requires : tie.Need-counter-fits-requires
@@ -329,8 +329,8 @@ enum-known-sewn c = search needs
 enum-told-4 : tie.Need-enum-told-4
 enum-told-4 c = search needs
 
-forget-requires-3 : tie.Need-forget-requires-3
-forget-requires-3 c κs =
+unmark-both-requires-3 : tie.Need-unmark-both-requires-3
+unmark-both-requires-3 c κs =
     let c : tie.After-message-order = search in
     let message-order-kept = (let p : tie.After-message-order = search in p .message-order .kept) in
     let message-order-ensures = (let p : tie.After-message-order = search in p .message-order .ensures) in
@@ -347,14 +347,14 @@ forget-requires-3 c κs =
     let walked = walked-told (start .args .limits .volume) m held _ _ volume-within-ensures (size-given .1) in
     let mk = walked .0 .volume-marked in
     let clear = start .pre .1 .0 in
-    forget-ready site held mk (message-order-ensures .0) (message-order-ensures .1) (omega (arith, clear .0, volume-within-kept)) (omega (arith, clear .2, message-order-kept))
+    unmark-both-ready site held mk (message-order-ensures .0) (message-order-ensures .1) (omega (arith, clear .0, volume-within-kept)) (omega (arith, clear .2, message-order-kept))
 
 same-length-14 : tie.Need-same-length-14
 same-length-14 c =
-    let forget3-kept = (let p : tie.After-forget3 = search in p .forget3 .kept) in
+    let unmark-both3-kept = (let p : tie.After-unmark-both3 = search in p .unmark-both3 .kept) in
     let c : tie.Else2 = search in
     let volume-within-kept = (let p : tie.After-volume-within = search in p .volume-within .kept) in
-    omega (arith, forget3-kept, volume-within-kept)
+    omega (arith, unmark-both3-kept, volume-within-kept)
 
 same-length-15 : tie.Need-same-length-15
 same-length-15 c =
@@ -371,10 +371,10 @@ same-length-16 c =
 
 same-length-17 : tie.Need-same-length-17
 same-length-17 c =
-    let forget3-kept = (let p : tie.After-forget3 = search in p .forget3 .kept) in
+    let unmark-both3-kept = (let p : tie.After-unmark-both3 = search in p .unmark-both3 .kept) in
     let c : tie.Else2 = search in
     let message-order-kept = (let p : tie.After-message-order = search in p .message-order .kept) in
-    omega (arith, forget3-kept, message-order-kept)
+    omega (arith, unmark-both3-kept, message-order-kept)
 
 same-length-18 : tie.Need-same-length-18
 same-length-18 c = search needs
@@ -387,7 +387,7 @@ same-length-20 c = search needs
 
 returns-6 : tie.Need-returns-6
 returns-6 c =
-    let forget3-ensures = (let p : tie.After-forget3 = search in p .forget3 .ensures) in
+    let unmark-both3-ensures = (let p : tie.After-unmark-both3 = search in p .unmark-both3 .ensures) in
     let enum-told4-given = (let p : tie.After-enum-told4 = search in p .enum-told4 .given) in
     let counter-fits-ensures = (let p : tie.After-counter-fits = search in p .counter-fits .ensures) in
     let vertices-given = (let p : tie.After-vertices = search in p .vertices .given) in
@@ -415,7 +415,7 @@ returns-6 c =
     let walked = walked-told most m held _ _ volume-within-ensures (size-given .1) in (
       first-14 most m to serial is-9 site held (walked .0) (walked .1) (message-order-ensures .0) (said-yes none-sewn-within-ensures if2-left)
           (paired-told m _ _ pairs-once-ensures (vertices-given .1)) (full-told m _ counter-fits-ensures (enum-told4-given .1)),
-      forget3-ensures,
+      unmark-both3-ensures,
     )
 
 same-length-21 : tie.Need-same-length-21
@@ -499,7 +499,7 @@ leaves-spec =
     shared-slice-read-n
     message-order-requires
     none-sewn-within-requires
-    forget-requires
+    unmark-both-requires
     same-length-3
     same-length-4
     same-length-5
@@ -508,7 +508,7 @@ leaves-spec =
     pairs-once-requires
     enum-known-vertices
     enum-told-3
-    forget-requires-2
+    unmark-both-requires-2
     same-length-7
     same-length-8
     same-length-9
@@ -520,7 +520,7 @@ leaves-spec =
     counter-fits-requires
     enum-known-sewn
     enum-told-4
-    forget-requires-3
+    unmark-both-requires-3
     same-length-14
     same-length-15
     same-length-16

@@ -14,12 +14,12 @@ use Rattle.balance.proofs.leaving.first_asked.Statement.{statement}
 use Rattle.balance.proofs.leaving.first_asked.Tie as tie
 
 abbrev Inv-loop : tie.InvT-loop
-Inv-loop block to left sizes₀ marks₀ order₀ starts₀ seen₀ numbers₀ firsts₀ stamps₀ n i₀ sizes marks order starts seen numbers firsts stamps i =
-    Trying (at sizes₀) block left sizes i × Asking (count-in block) marks order starts seen numbers firsts stamps
-    × SameLengths sizes marks order starts seen numbers firsts stamps sizes₀ marks₀ order₀ starts₀ seen₀ numbers₀ firsts₀ stamps₀
+Inv-loop block to left sizes₀ marks₀ order₀ starts₀ seen₀ numbers₀ firsts₀ colours₀ n i₀ sizes marks order starts seen numbers firsts colours i =
+    Trying (at sizes₀) block left sizes i × Asking (count-in block) marks order starts seen numbers firsts colours
+    × SameLengths sizes marks order starts seen numbers firsts colours sizes₀ marks₀ order₀ starts₀ seen₀ numbers₀ firsts₀ colours₀
 
 abbrev μ-loop : tie.MeasureT-loop
-μ-loop block to left sizes₀ marks₀ order₀ starts₀ seen₀ numbers₀ firsts₀ stamps₀ n i₀ sizes marks order starts seen numbers firsts stamps i =
+μ-loop block to left sizes₀ marks₀ order₀ starts₀ seen₀ numbers₀ firsts₀ colours₀ n i₀ sizes marks order starts seen numbers firsts colours i =
     n - i
 
 shared-slice-read-n : tie.Need-shared-slice-read-n Inv-loop μ-loop
@@ -32,7 +32,7 @@ loop-holds c =
     let start : tie.Start Inv-loop μ-loop = search in (
       trying-start _ _ _ (start .pre .0 .3),
       start .pre .1,
-      record { sizes = refl; marks = refl; order = refl; starts = refl; seen = refl; numbers = refl; firsts = refl; stamps = refl },
+      record { sizes = refl; marks = refl; order = refl; starts = refl; seen = refl; numbers = refl; firsts = refl; colours = refl },
     )
 
 add-i : tie.Need-add-i Inv-loop μ-loop
@@ -135,11 +135,11 @@ same-length-7 c =
 
 same-length-8 : tie.Need-same-length-8 Inv-loop μ-loop
 same-length-8 c =
-    let stamps-given = (let p : tie.After-stamps Inv-loop μ-loop = search in p .stamps .given) in
-    let c : tie.After-stamps Inv-loop μ-loop = search in
+    let colours-given = (let p : tie.After-colours Inv-loop μ-loop = search in p .colours .given) in
+    let c : tie.After-colours Inv-loop μ-loop = search in
     let c : tie.After-field Inv-loop μ-loop = search in
     let loop-inv = (let p : tie.At-loop Inv-loop μ-loop = search in p .loop .inv) in
-    stamps-given ∙ loop-inv .2 .stamps
+    colours-given ∙ loop-inv .2 .colours
 
 returns : tie.Need-returns Inv-loop μ-loop
 returns c =
@@ -195,7 +195,7 @@ loop-again-3 c =
         seen = omega (arith, may-leave-kept, loop-inv .2 .seen);
         numbers = omega (arith, may-leave-kept, loop-inv .2 .numbers);
         firsts = omega (arith, may-leave-kept, loop-inv .2 .firsts);
-        stamps = omega (arith, may-leave-kept, loop-inv .2 .stamps);
+        colours = omega (arith, may-leave-kept, loop-inv .2 .colours);
       },
     )
 

@@ -44,7 +44,7 @@ first-asked-requires c κs =
         unseen = zeros-clear room refl;
         numbers-size = zeros-long _ room refl few;
         firsts-size = zeros-long _ room refl few;
-        stamps-size = zeros-long _ 512 refl (omega arith);
+        colours-size = zeros-long _ 512 refl (omega arith);
       },
     )
 

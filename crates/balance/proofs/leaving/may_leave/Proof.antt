@@ -21,7 +21,7 @@ leaves-requires c κs =
       (start .pre .0 .0, omega (arith, volume)),
       (
         (a .marks-size, a .unmarked, a .seen-size, a .unseen),
-        ((a .order-size, a .starts-size, a .numbers-size), (a .firsts-size, omega (arith, volume, a .stamps-size))),
+        ((a .order-size, a .starts-size, a .numbers-size), (a .firsts-size, omega (arith, volume, a .colours-size))),
       ),
     )
 
@@ -111,7 +111,7 @@ returns-2 c =
         unseen = f .1;
         numbers-size = search needs;
         firsts-size = search needs;
-        stamps-size = search needs;
+        colours-size = search needs;
       },
     )
 

@@ -9,26 +9,26 @@ use borrow.Author.Tests.{not-true, not-false}
 use Rattle.model.specs.Lists.{distinct}
 use Rattle.model.specs.Image.{column}
 use Rattle.cells.specs.Places.{ends-of}
-use Rattle.cells.proofs.PairLaws.{clear-stamps, ends-all, ends-not, true-more}
+use Rattle.cells.proofs.PairLaws.{clear-colours, ends-all, ends-not, true-more}
 use native.Mathlib.Omega.{arith}
 use Rattle.cells.proofs.pairs.each_once.Statement.{statement}
 use Rattle.cells.proofs.pairs.each_once.Tie as tie
 
 abbrev Inv-loop : tie.InvT-loop
-Inv-loop block n numbers firsts count stamps₀ a₀ stamps a =
-    (a ≤ count) × (length stamps ≡ count) × ((b : ℕ) → getD stamps b 0 ≤ a)
+Inv-loop block n numbers firsts count colours₀ a₀ colours a =
+    (a ≤ count) × (length colours ≡ count) × ((b : ℕ) → getD colours b 0 ≤ a)
     × ((k : ℕ) → k < a → distinct (k ∷ ends-of (column block 1) (column block 2) numbers (getD firsts k 0)) ≡ true)
 
 abbrev μ-loop : tie.MeasureT-loop
-μ-loop block n numbers firsts count stamps₀ a₀ stamps a =
+μ-loop block n numbers firsts count colours₀ a₀ colours a =
     count - a
 
 loop-holds : tie.Need-loop-holds Inv-loop μ-loop
 loop-holds c =
     let start : tie.Start Inv-loop μ-loop = search in
     let count = start .args .count in
-    let stamps = start .args .stamps .now in
-    (omega arith, ap length (start .pre .2) ∙ length-replicate {A = ℕ} count 0, clear-stamps count stamps (start .pre .2), λ k h. absurd (omega arith))
+    let colours = start .args .colours .now in
+    (omega arith, ap length (start .pre .2) ∙ length-replicate {A = ℕ} count 0, clear-colours count colours (start .pre .2), λ k h. absurd (omega arith))
 
 mul-p : tie.Need-mul-p Inv-loop μ-loop
 mul-p c = omega arith

@@ -8,32 +8,32 @@ use Rattle.model.specs.Cells.{cycle, ring}
 use Rattle.model.specs.Image.{column}
 use Rattle.cells.proofs.Paths.{round, going-start, going-next}
 use Rattle.cells.proofs.RingLaws.{step-within, step-apart}
-use Rattle.cells.proofs.PairLaws.{Ending, going-in, stamped-first, stamped-next, stamped-size, ending-more, ending-twice, ending-all}
+use Rattle.cells.proofs.PairLaws.{Ending, going-in, coloured-first, coloured-next, coloured-size, ending-more, ending-twice, ending-all}
 use native.Mathlib.Omega.{arith}
 use borrow.Author.Needs.{needs}
 use Rattle.cells.proofs.pairs.ends_differ.Statement.{statement}
 use Rattle.cells.proofs.pairs.ends_differ.Tie as tie
 
 abbrev Inv-loop : tie.InvT-loop
-Inv-loop block n a numbers stamps₀ colour first steps₀ p₀ stamps steps p =
-    Ending n (column block 1) (λ d. column block 1 (column block 2 d)) numbers (length stamps₀) first a
-    (length (cycle (λ d. column block 1 (column block 2 d)) first)) steps p stamps
+Inv-loop block n a numbers colours₀ colour first steps₀ p₀ colours steps p =
+    Ending n (column block 1) (λ d. column block 1 (column block 2 d)) numbers (length colours₀) first a
+    (length (cycle (λ d. column block 1 (column block 2 d)) first)) steps p colours
 
 abbrev μ-loop : tie.MeasureT-loop
-μ-loop block n a numbers stamps₀ colour first steps₀ p₀ stamps steps p =
+μ-loop block n a numbers colours₀ colour first steps₀ p₀ colours steps p =
     length (cycle (λ d. column block 1 (column block 2 d)) first) - steps
 
 add-colour : tie.Need-add-colour Inv-loop μ-loop
 add-colour c = search needs
 
-stamp-requires : tie.Need-stamp-requires Inv-loop μ-loop
-stamp-requires c κs = search needs
+give-colour-requires : tie.Need-give-colour-requires Inv-loop μ-loop
+give-colour-requires c κs = search needs
 
 loop-holds : tie.Need-loop-holds Inv-loop μ-loop
 loop-holds c =
     let start : tie.Start Inv-loop μ-loop = search in
-    let stamps = start .args .stamps .now in
-    let stamp-ensures = (let p : tie.After-stamp Inv-loop μ-loop = search in p .stamp .ensures) in
+    let colours = start .args .colours .now in
+    let give-colour-ensures = (let p : tie.After-give-colour Inv-loop μ-loop = search in p .give-colour .ensures) in
     let l = start .pre .0 .0 in
     record {
       going =
@@ -42,7 +42,7 @@ loop-holds c =
           (step-apart _ _ _ (l .few) (l .next-within) (l .next-apart) (l .opposite-within) (l .opposite-apart)) _
           (start .pre .0 .1)) (start .pre .0 .1);
       differ = refl;
-      stamped = stamped-first stamps (start .pre .0 .2) (start .pre .1 .1) (stamp-ensures .1);
+      coloured = coloured-first colours (start .pre .0 .2) (start .pre .1 .1) (give-colour-ensures .1);
     }
 
 field-requires : tie.Need-field-requires Inv-loop μ-loop
@@ -67,23 +67,23 @@ shared-slice-read-b c =
     let r = round (l .few) w (step-apart _ _ _ (l .few) (l .next-within) (l .next-apart) (l .opposite-within) (l .opposite-apart)) _ (start .pre .0 .1) in
     omega (arith, field-ensures, start .pre .1 .0 _ (going-in r (loop-inv .going)) .0)
 
-stamp-requires-2 : tie.Need-stamp-requires-2 Inv-loop μ-loop
+give-colour-requires-2 : tie.Need-give-colour-requires-2 Inv-loop μ-loop
 unfolding ring
-stamp-requires-2 c κs =
+give-colour-requires-2 c κs =
     let start : tie.Start Inv-loop μ-loop = search in
-    let stamps = start .args .stamps .now in
+    let colours = start .args .colours .now in
     let numbers = start .args .numbers .now in
-    let stamp-ensures = (let p : tie.After-stamp Inv-loop μ-loop = search in p .stamp .ensures) in
+    let give-colour-ensures = (let p : tie.After-give-colour Inv-loop μ-loop = search in p .give-colour .ensures) in
     let loop-inv = (let p : tie.At-loop Inv-loop μ-loop = search in p .loop .inv) in
     let field-ensures = (let p : tie.After-field Inv-loop μ-loop = search in p .field .ensures) in
     let l = start .pre .0 .0 in
     let w = step-within _ _ _ (l .few) (l .next-within) (l .next-apart) (l .opposite-within) (l .opposite-apart) in
     let r = round (l .few) w (step-apart _ _ _ (l .few) (l .next-within) (l .next-apart) (l .opposite-within) (l .opposite-apart)) _ (start .pre .0 .1) in (
-      omega (arith, loop-inv .stamped .size, ap length (stamp-ensures .1) ∙ length-set stamps _ _, start .pre .0 .3),
+      omega (arith, loop-inv .coloured .size, ap length (give-colour-ensures .1) ∙ length-set colours _ _, start .pre .0 .3),
       omega (
         arith,
-        loop-inv .stamped .size,
-        ap length (stamp-ensures .1) ∙ length-set stamps _ _,
+        loop-inv .coloured .size,
+        ap length (give-colour-ensures .1) ∙ length-set colours _ _,
         ap (λ (z : ℕ). getD numbers z 0) field-ensures,
         start .pre .1 .0 _ (going-in r (loop-inv .going)) .1,
       ),
@@ -92,33 +92,33 @@ stamp-requires-2 c κs =
 same-length : tie.Need-same-length Inv-loop μ-loop
 same-length c =
     let start : tie.Start Inv-loop μ-loop = search in
-    let stamp-ensures = (let p : tie.After-stamp Inv-loop μ-loop = search in p .stamp .ensures) in
+    let give-colour-ensures = (let p : tie.After-give-colour Inv-loop μ-loop = search in p .give-colour .ensures) in
     let loop-inv = (let p : tie.At-loop Inv-loop μ-loop = search in p .loop .inv) in
-    let stamp2-ensures = (let p : tie.After-stamp2 Inv-loop μ-loop = search in p .stamp2 .ensures) in
-    stamped-size _ (loop-inv .stamped) (stamp2-ensures .1) ∙ ap length (stamp-ensures .1) ∙ length-set (start .args .stamps .now) _ _
+    let give-colour2-ensures = (let p : tie.After-give-colour2 Inv-loop μ-loop = search in p .give-colour2 .ensures) in
+    coloured-size _ (loop-inv .coloured) (give-colour2-ensures .1) ∙ ap length (give-colour-ensures .1) ∙ length-set (start .args .colours .now) _ _
 
 returns : tie.Need-returns Inv-loop μ-loop
 unfolding ring
 returns c =
     let start : tie.Start Inv-loop μ-loop = search in
     let numbers = start .args .numbers .now in
-    let stamps = start .args .stamps .now in
-    let stamp-ensures = (let p : tie.After-stamp Inv-loop μ-loop = search in p .stamp .ensures) in
-    let stamp-last = (let p : tie.After-stamp Inv-loop μ-loop = search in p .stamp .last) in
+    let colours = start .args .colours .now in
+    let give-colour-ensures = (let p : tie.After-give-colour Inv-loop μ-loop = search in p .give-colour .ensures) in
+    let give-colour-last = (let p : tie.After-give-colour Inv-loop μ-loop = search in p .give-colour .last) in
     let loop-inv = (let p : tie.At-loop Inv-loop μ-loop = search in p .loop .inv) in
     let field-ensures = (let p : tie.After-field Inv-loop μ-loop = search in p .field .ensures) in
     let field-result = (let p : tie.After-field Inv-loop μ-loop = search in p .field .result) in
-    let stamp2-ensures = (let p : tie.After-stamp2 Inv-loop μ-loop = search in p .stamp2 .ensures) in
+    let give-colour2-ensures = (let p : tie.After-give-colour2 Inv-loop μ-loop = search in p .give-colour2 .ensures) in
     let l = start .pre .0 .0 in
     let w = step-within _ _ _ (l .few) (l .next-within) (l .next-apart) (l .opposite-within) (l .opposite-apart) in
     let r = round (l .few) w (step-apart _ _ _ (l .few) (l .next-within) (l .next-apart) (l .opposite-within) (l .opposite-apart)) _ (start .pre .0 .1) in
     let e = ap (λ (z : ℕ). getD numbers z 0) field-ensures in
-    let small : getD numbers field-result 0 < length (stamp-last .0) =
-    omega (arith, e, ap length (stamp-ensures .1) ∙ length-set stamps _ _, start .pre .1 .0 _ (going-in r (loop-inv .going)) .1)
+    let small : getD numbers field-result 0 < length (give-colour-last .0) =
+    omega (arith, e, ap length (give-colour-ensures .1) ∙ length-set colours _ _, start .pre .1 .0 _ (going-in r (loop-inv .going)) .1)
     in
-    let s = stamped-next (loop-inv .stamped) small (stamp2-ensures .1) in (
-      ending-twice w r loop-inv e small (sym (stamp2-ensures .0) ∙ not-true _ (c .if1 .taken)),
-      (s .bound, s .size ∙ ap length (stamp-ensures .1) ∙ length-set stamps _ _),
+    let s = coloured-next (loop-inv .coloured) small (give-colour2-ensures .1) in (
+      ending-twice w r loop-inv e small (sym (give-colour2-ensures .0) ∙ not-true _ (c .if1 .taken)),
+      (s .bound, s .size ∙ ap length (give-colour-ensures .1) ∙ length-set colours _ _),
     )
 
 add-steps : tie.Need-add-steps Inv-loop μ-loop
@@ -139,35 +139,35 @@ ring-step-requires c κs =
 same-length-2 : tie.Need-same-length-2 Inv-loop μ-loop
 same-length-2 c =
     let start : tie.Start Inv-loop μ-loop = search in
-    let stamp-ensures = (let p : tie.After-stamp Inv-loop μ-loop = search in p .stamp .ensures) in
+    let give-colour-ensures = (let p : tie.After-give-colour Inv-loop μ-loop = search in p .give-colour .ensures) in
     let loop-inv = (let p : tie.At-loop Inv-loop μ-loop = search in p .loop .inv) in
-    let stamp2-ensures = (let p : tie.After-stamp2 Inv-loop μ-loop = search in p .stamp2 .ensures) in
-    stamped-size _ (loop-inv .stamped) (stamp2-ensures .1) ∙ ap length (stamp-ensures .1) ∙ length-set (start .args .stamps .now) _ _
+    let give-colour2-ensures = (let p : tie.After-give-colour2 Inv-loop μ-loop = search in p .give-colour2 .ensures) in
+    coloured-size _ (loop-inv .coloured) (give-colour2-ensures .1) ∙ ap length (give-colour-ensures .1) ∙ length-set (start .args .colours .now) _ _
 
 returns-2 : tie.Need-returns-2 Inv-loop μ-loop
 unfolding ring
 returns-2 c =
     let start : tie.Start Inv-loop μ-loop = search in
     let numbers = start .args .numbers .now in
-    let stamps = start .args .stamps .now in
-    let stamp-ensures = (let p : tie.After-stamp Inv-loop μ-loop = search in p .stamp .ensures) in
-    let stamp-last = (let p : tie.After-stamp Inv-loop μ-loop = search in p .stamp .last) in
+    let colours = start .args .colours .now in
+    let give-colour-ensures = (let p : tie.After-give-colour Inv-loop μ-loop = search in p .give-colour .ensures) in
+    let give-colour-last = (let p : tie.After-give-colour Inv-loop μ-loop = search in p .give-colour .last) in
     let loop-inv = (let p : tie.At-loop Inv-loop μ-loop = search in p .loop .inv) in
     let field-ensures = (let p : tie.After-field Inv-loop μ-loop = search in p .field .ensures) in
     let field-result = (let p : tie.After-field Inv-loop μ-loop = search in p .field .result) in
-    let stamp2-ensures = (let p : tie.After-stamp2 Inv-loop μ-loop = search in p .stamp2 .ensures) in
+    let give-colour2-ensures = (let p : tie.After-give-colour2 Inv-loop μ-loop = search in p .give-colour2 .ensures) in
     let if1-left = (let p : tie.Else1 Inv-loop μ-loop = search in p .if1 .left) in
     let ring-step-ensures = (let p : tie.After-ring-step Inv-loop μ-loop = search in p .ring-step .ensures) in
     let l = start .pre .0 .0 in
     let w = step-within _ _ _ (l .few) (l .next-within) (l .next-apart) (l .opposite-within) (l .opposite-apart) in
     let r = round (l .few) w (step-apart _ _ _ (l .few) (l .next-within) (l .next-apart) (l .opposite-within) (l .opposite-apart)) _ (start .pre .0 .1) in
     let e = ap (λ (z : ℕ). getD numbers z 0) field-ensures in
-    let small : getD numbers field-result 0 < length (stamp-last .0) =
-    omega (arith, e, ap length (stamp-ensures .1) ∙ length-set stamps _ _, start .pre .1 .0 _ (going-in r (loop-inv .going)) .1)
+    let small : getD numbers field-result 0 < length (give-colour-last .0) =
+    omega (arith, e, ap length (give-colour-ensures .1) ∙ length-set colours _ _, start .pre .1 .0 _ (going-in r (loop-inv .going)) .1)
     in
-    let s = stamped-next (loop-inv .stamped) small (stamp2-ensures .1) in (
-      ending-all w r loop-inv e small (sym (stamp2-ensures .0) ∙ not-false _ if1-left) ring-step-ensures (c .if2 .taken),
-      (s .bound, s .size ∙ ap length (stamp-ensures .1) ∙ length-set stamps _ _),
+    let s = coloured-next (loop-inv .coloured) small (give-colour2-ensures .1) in (
+      ending-all w r loop-inv e small (sym (give-colour2-ensures .0) ∙ not-false _ if1-left) ring-step-ensures (c .if2 .taken),
+      (s .bound, s .size ∙ ap length (give-colour-ensures .1) ∙ length-set colours _ _),
     )
 
 loop-less : tie.Need-loop-less Inv-loop μ-loop
@@ -178,23 +178,23 @@ unfolding ring
 loop-again c =
     let start : tie.Start Inv-loop μ-loop = search in
     let numbers = start .args .numbers .now in
-    let stamps = start .args .stamps .now in
-    let stamp-ensures = (let p : tie.After-stamp Inv-loop μ-loop = search in p .stamp .ensures) in
-    let stamp-last = (let p : tie.After-stamp Inv-loop μ-loop = search in p .stamp .last) in
+    let colours = start .args .colours .now in
+    let give-colour-ensures = (let p : tie.After-give-colour Inv-loop μ-loop = search in p .give-colour .ensures) in
+    let give-colour-last = (let p : tie.After-give-colour Inv-loop μ-loop = search in p .give-colour .last) in
     let loop-inv = (let p : tie.At-loop Inv-loop μ-loop = search in p .loop .inv) in
     let field-ensures = (let p : tie.After-field Inv-loop μ-loop = search in p .field .ensures) in
     let field-result = (let p : tie.After-field Inv-loop μ-loop = search in p .field .result) in
-    let stamp2-ensures = (let p : tie.After-stamp2 Inv-loop μ-loop = search in p .stamp2 .ensures) in
+    let give-colour2-ensures = (let p : tie.After-give-colour2 Inv-loop μ-loop = search in p .give-colour2 .ensures) in
     let if1-left = (let p : tie.Else1 Inv-loop μ-loop = search in p .if1 .left) in
     let ring-step-ensures = (let p : tie.After-ring-step Inv-loop μ-loop = search in p .ring-step .ensures) in
     let l = start .pre .0 .0 in
     let w = step-within _ _ _ (l .few) (l .next-within) (l .next-apart) (l .opposite-within) (l .opposite-apart) in
     let r = round (l .few) w (step-apart _ _ _ (l .few) (l .next-within) (l .next-apart) (l .opposite-within) (l .opposite-apart)) _ (start .pre .0 .1) in
     let e = ap (λ (z : ℕ). getD numbers z 0) field-ensures in
-    let small : getD numbers field-result 0 < length (stamp-last .0) =
-    omega (arith, e, ap length (stamp-ensures .1) ∙ length-set stamps _ _, start .pre .1 .0 _ (going-in r (loop-inv .going)) .1)
+    let small : getD numbers field-result 0 < length (give-colour-last .0) =
+    omega (arith, e, ap length (give-colour-ensures .1) ∙ length-set colours _ _, start .pre .1 .0 _ (going-in r (loop-inv .going)) .1)
     in
-    ending-more w r loop-inv e small (sym (stamp2-ensures .0) ∙ not-false _ if1-left) (stamp2-ensures .1)
+    ending-more w r loop-inv e small (sym (give-colour2-ensures .0) ∙ not-false _ if1-left) (give-colour2-ensures .1)
     (going-next w r (loop-inv .going) ring-step-ensures (c .if2 .left))
 
 pub ends-differ-spec : {M : Type 1} → statement M
@@ -204,12 +204,12 @@ ends-differ-spec =
     Inv-loop
     μ-loop
     add-colour
-    stamp-requires
+    give-colour-requires
     loop-holds
     field-requires
     mul-b
     shared-slice-read-b
-    stamp-requires-2
+    give-colour-requires-2
     same-length
     returns
     add-steps

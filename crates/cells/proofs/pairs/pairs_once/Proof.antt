@@ -1,4 +1,4 @@
--- `cells::pairs::pairs_once` meets its contract: the stamps that are used are cleared first. Assumes nothing.
+-- `cells::pairs::pairs_once` meets its contract: the colours that are used are cleared first. Assumes nothing.
 use Rattle.cells.proofs.Resets.{part-cleared}
 use borrow.Author.Needs.{needs}
 use Rattle.cells.proofs.pairs.pairs_once.Statement.{statement}
@@ -20,7 +20,7 @@ each-once-requires : tie.Need-each-once-requires
 each-once-requires c κs =
     let start : tie.Start = search in
     let clear-ensures = (let p : tie.After-clear = search in p .clear .ensures) in
-    (start .pre .0, start .pre .1, part-cleared (start .args .stamps .now) (start .args .count) (start .pre .2) clear-ensures)
+    (start .pre .0, start .pre .1, part-cleared (start .args .colours .now) (start .args .count) (start .pre .2) clear-ensures)
 
 same-length : tie.Need-same-length
 same-length c = search needs

@@ -1,8 +1,8 @@
--- `departure::forget` meets its contract: every mark is in the list. Assumes nothing.
+-- `departure::unmark_both` meets its contract: every mark is in the list. Assumes nothing.
 use Rattle.cells.proofs.Resets.{unmarked}
 use borrow.Author.Needs.{needs}
-use Rattle.departure.proofs.forget.Statement.{statement}
-use Rattle.departure.proofs.forget.Tie as tie
+use Rattle.departure.proofs.unmark_both.Statement.{statement}
+use Rattle.departure.proofs.unmark_both.Tie as tie
 
 unmark-requires : tie.Need-unmark-requires
 unmark-requires c κs =
@@ -27,6 +27,6 @@ returns c =
     let unmark2-ensures = (let p : tie.After-unmark2 = search in p .unmark2 .ensures) in
     (unmarked (start .pre .3) (λ p i. i) unmark-ensures, unmarked (start .pre .4) (λ p i. i) unmark2-ensures)
 
-pub forget-spec : {M : Type 1} → statement M
-forget-spec =
+pub unmark-both-spec : {M : Type 1} → statement M
+unmark-both-spec =
     tie.close (tie.spec unmark-requires unmark-requires-2 same-length same-length-2 returns)
