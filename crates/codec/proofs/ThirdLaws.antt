@@ -4,14 +4,13 @@ use mathlib.Core.Logic.{⊎-elim}
 use mathlib.Core.List.{_++_, append-nil}
 use Prim.Native.Nat.{ℕ, _+_, _*_, _/_, _%_, _^_, _≤_, _<_}
 use native.Mathlib.Omega.{arith}
-use lib.Dec.{ltb}
 use lib.ListN.{length, length-append}
-use borrow.Author.Tests.{eq-eqb, ne-eqb, lt-ltb}
-use Rattle.model.specs.Layouts.{group, serial, _⊗_, _⊕_, such-that, at-most, groups, group-below}
+use borrow.Author.Tests.{eq-eqb, ne-eqb}
+use Rattle.model.specs.Layouts.{group, serial, _⊗_, _⊕_, such-that, at-most}
 use Rattle.model.specs.Image.{label-in, third-in}
 use Rattle.model.specs.Messages.{label, critical-link, third-put, third}
-use Rattle.laws.proofs.Tests.{by-cases, eq-or-ne}
-use Rattle.theory.proofs.GroupLaws.{group-most}
+use Rattle.laws.proofs.Tests.{eq-or-ne}
+use Rattle.theory.proofs.GroupLaws.{one-group, two-groups, group-most}
 use Rattle.groups.proofs.Labels.{label-length}
 use Rattle.codec.specs.Thirds.{ThirdSmall, third-bytes}
 use Rattle.codec.proofs.EntryLaws.{serial-most}
@@ -27,15 +26,6 @@ sewn-bytes k a e = rw (ne-eqb (k % 4) 0 (λ z. omega arith), eq-eqb (k % 4) 1 e)
 pub critical-bytes : (k a : ℕ) → (k % 4 ≡ 0 → ⊥) → (k % 4 ≡ 1 → ⊥) → third-bytes k a ≡ group .put 2 ++ (group .put (k / 4) ++ label .put (label-in a))
 unfolding third-bytes third-in third-put third at-most such-that _⊗_ critical-link _⊕_
 critical-bytes k a e f = rw (ne-eqb (k % 4) 0 e, ne-eqb (k % 4) 1 f)
-
--- numbers of one group and of two
-pub one-group : (v : ℕ) → v < 128 → length (group .put v) ≡ 1
-unfolding group group-below groups
-one-group v h = rw (lt-ltb v 128 h)
-
-pub two-groups : (v : ℕ) → v < 128 * 128 → length (group .put v) ≤ 2
-unfolding group group-below groups
-two-groups v h = by-cases (ltb v 128) (λ e. rw e (omega arith)) (λ e. rw (e, lt-ltb (v / 128) 128 (omega arith)) (omega arith))
 
 pub free-length : (k a : ℕ) → k % 4 ≡ 0 → length (third-bytes k a) ≡ 1
 free-length k a e = rw (free-bytes k a e) (one-group 0 (omega arith))

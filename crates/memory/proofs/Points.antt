@@ -3,15 +3,17 @@
 --   point-finite, point-patterns    the point of three words
 use Prim.Native.Nat.{ℕ, _%_, _/_, _<_, _^_}
 use mathlib.Core.Path.{_≡_}
-use mathlib.Core.Bool.{true, false, false≢true, not}
+use mathlib.Core.Bool.{true, false, false≢true, not, _&&_}
+use mathlib.Core.List.{List}
 use native.Mathlib.Omega.{arith}
 use lib.Dec.{T, ltb}
 use lib.Ieee.{Float, nan, inf, fin, binary64, toBits, ofBits, nanBits, isNan}
 use lib.Ieee.Bits.{toBits-ofBits, nanBits-is}
 use borrow.Author.Tests.{lt-ltb, ltb-true, ne-eqb}
 use Rattle.laws.proofs.Tests.{and-left, and-right}
-use Rattle.model.specs.Values.{finite-bits}
-use Rattle.memory.specs.Point.{point-of, patterns, FinitePoint}
+use Rattle.model.specs.Values.{finite-bits, finite}
+use Rattle.model.specs.Image.{column, dart-in}
+use Rattle.memory.specs.Point.{point-of, patterns, FinitePoint, FiniteAt}
 
 pub finite-is : (w : ℕ) → w < 2 ^ 64 → ltb (w % 9223372036854775808 / 4503599627370496) 2047 ≡ finite-bits w
 unfolding finite-bits
@@ -49,3 +51,14 @@ module _ (x y z : ℕ) (hx : finite-bits x ≡ true) (hy : finite-bits y ≡ tru
 
   pub point-patterns : patterns (point-of x y z) ≡ record { x = x; y = y; z = z }
   point-patterns = rw (pattern-back x hx, pattern-back y hy, pattern-back z hz)
+
+-- the words of a dart whose point is finite
+pub finite-at : (m : List ℕ) (p : ℕ) → finite (dart-in m p .point) ≡ true → FiniteAt m p
+unfolding finite
+finite-at m p e =
+    let xy = and-left (finite-bits (column m 5 p) && finite-bits (column m 6 p)) _ e in
+    record {
+      on-x = and-left (finite-bits (column m 5 p)) _ xy;
+      on-y = and-right (finite-bits (column m 5 p)) _ xy;
+      on-z = and-right (finite-bits (column m 5 p) && finite-bits (column m 6 p)) _ e;
+    }

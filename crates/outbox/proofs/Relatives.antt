@@ -23,11 +23,12 @@ use Rattle.departure.specs.declared.Counts.{Counts}
 use Rattle.departure.proofs.FirstNo.{ranges-in}
 use Rattle.outbox.specs.Runs.{run, tally}
 use Rattle.outbox.specs.Bytes.{in-part2, size-of, start-at}
+use Rattle.theory.proofs.GroupLaws.{one-group}
 use Rattle.outbox.proofs.ByFaces.{count-faces, first-is, place-is, size-is}
 use Rattle.outbox.proofs.Ready.{some-face}
 use Rattle.outbox.proofs.RunLists.{put-kept, run-cong, run-first}
 use Rattle.outbox.specs.ByBlocks.{head-bytes, least-code, least-put, relative, rest-for, told-put}
-use Rattle.outbox.proofs.UpdateLaws.{one-group, told-none, told-some, update-of}
+use Rattle.outbox.proofs.UpdateLaws.{six-lengths, told-none, told-some, update-of}
 
 abbrev message-of : Option Update → List ℕ
 message-of none = []
@@ -53,9 +54,6 @@ layout-bytes : (u : Update)
 unfolding update as-type _⊗_ _⊕_ exactly at-most such-that counted times
 layout-bytes u = refl
 
-body-lengths : (a b c d e f : List ℕ) → length (a ++ (b ++ (c ++ (d ++ (e ++ f))))) ≡ length a + length b + length c + length d + length e + length f
-body-lengths a b c d e f = simp length-append (omega arith)
-
 after-head : (r a b c d e f : List ℕ) → r ++ (a ++ (b ++ (c ++ (d ++ (e ++ f))))) ≡ (r ++ (a ++ (b ++ (c ++ (d ++ e))))) ++ f
 after-head r a b c d e f = simp append-assoc
 
@@ -66,7 +64,7 @@ module _ (m : List ℕ) (j k : ℕ) (us : List Label) (x : getD m 0 0 ≤ 15) (y
   rest-is : {n : ℕ} {l : List ℕ} → n ≡ length us → l ≡ put-all label us → length (update .put the-update) ≡ rest-for n (length l)
   unfolding rest-for
   rest-is {n} {l} p q = ap length (layout-bytes the-update)
-      ∙ body-lengths (group .put 2) (group .put (getD m 0 0)) (group .put k) (group .put j) (group .put (length us)) (put-all label us)
+      ∙ six-lengths (group .put 2) (group .put (getD m 0 0)) (group .put k) (group .put j) (group .put (length us)) (put-all label us)
       ∙ omega (arith, one-group 2 (omega arith), one-group (getD m 0 0) (omega arith), one-group k (omega arith), one-group j (omega arith), ap (λ (i : ℕ). length (group .put i)) p, ap length q)
 
   message-is : {n : ℕ} {l : List ℕ} → n ≡ length us → l ≡ put-all label us → framed update the-update ≡ head-bytes m j k n (rest-for n (length l)) ++ l

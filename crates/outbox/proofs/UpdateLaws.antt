@@ -6,9 +6,9 @@ use Prim.Native.Nat.{ℕ, zero, suc, _+_, _≤_, _<_, _^_}
 use native.Mathlib.Numerals.{add-one}
 use native.Mathlib.Omega.{arith}
 use lib.ListN.{length, getD, length-append}
-use borrow.Author.Tests.{lt-ltb}
-use Rattle.model.specs.Layouts.{groups, group-below, group}
+use Rattle.model.specs.Layouts.{group}
 use Rattle.laws.proofs.Tests.{by-cases}
+use Rattle.theory.proofs.GroupLaws.{one-group}
 use Rattle.theory.proofs.LayoutLengths.{group-short}
 use Rattle.outbox.specs.Runs.{run, tally}
 use Rattle.outbox.specs.Bytes.{in-part2}
@@ -39,11 +39,7 @@ unfolding sizes-for
 sizes-more j labels bytes k p q = rw (add-one k, p, q)
 
 -- LENGTHS
-pub one-group : (v : ℕ) → v < 128 → length (group .put v) ≡ 1
-unfolding group group-below groups
-one-group v h = rw (lt-ltb v 128 h)
-
-six-lengths : (a b c d e f : List ℕ) → length (a ++ (b ++ (c ++ (d ++ (e ++ f))))) ≡ length a + length b + length c + length d + length e + length f
+pub six-lengths : (a b c d e f : List ℕ) → length (a ++ (b ++ (c ++ (d ++ (e ++ f))))) ≡ length a + length b + length c + length d + length e + length f
 six-lengths a b c d e f = simp length-append (omega arith)
 
 module _ (m : List ℕ) (j k n r : ℕ) where

@@ -11,7 +11,7 @@ use Rattle.model.specs.Values.{Point as Patterns, same-point, room}
 use Rattle.memory.specs.declared.point.Point.{Point}
 use Rattle.memory.specs.Point.{point-of, patterns, FinitePoint, FiniteAt}
 use Rattle.memory.proofs.Points.{point-finite, point-patterns}
-use Rattle.sound.proofs.OneDart.{finite-at}
+use Rattle.memory.proofs.Points.{finite-at}
 use Rattle.columns.specs.Columns.{count}
 use Rattle.mesh.specs.Parts.{blocks, part, Put}
 use Rattle.mesh.proofs.Gathers.{part-length}

@@ -11,7 +11,7 @@ use lib.Seq.{take-suc-set}
 use Rattle.laws.specs.Order.{Ascending}
 use Rattle.laws.proofs.Members.{map-append}
 use Rattle.laws.proofs.Tables.{ascending-tab, index-place, index-none, tab-take}
-use Rattle.model.specs.Lists.{ascending, sorted, tab, index-of}
+use Rattle.model.specs.Lists.{ascending, tab, index-of}
 use Rattle.model.specs.Values.{Label, code}
 use Rattle.model.specs.Image.{label-in}
 use Rattle.model.specs.Layouts.{times}
@@ -21,7 +21,6 @@ use Rattle.theory.proofs.LayoutLaws.{same-value}
 use Rattle.groups.specs.Slices.{read-at, label-code}
 use Rattle.groups.specs.declared.Read.the-variants.{Value, Bad}
 use Rattle.memory.proofs.Lookups.{Halving}
-use Rattle.sort.proofs.Order.{same-length, sorted-keys}
 use Rattle.inbox.proofs.Taking.{SoFar, so-far-start, so-far-more, so-far-stop, so-far-end}
 use Rattle.inbox.proofs.Passing.{no-label, took-label}
 use Rattle.redirect.specs.ByPlaces.{CodesRead}
@@ -65,9 +64,6 @@ module _ {s : List ℕ} {at count : ℕ} {codes : List ℕ} {i p : ℕ} (w : Rea
       record { codes-are = λ ls past u. ap (λ (k : ℕ). take k codes) (sym all-read) ∙ w .codes-are ∙ ap (map code) (same-value (sym (t .value) ∙ u .value)) }
 
 -- IN ORDER
-sorted-length : (l : List ℕ) → length (sorted l) ≡ length l
-sorted-length l = same-length l (sorted l) (sorted-keys l)
-
 -- codes that differ ascend by index
 pub front-ascends : (codes : List ℕ) (c : ℕ) → c ≤ length codes → ascending (take c codes) ≡ true → Ascending c (λ k. getD codes k 0)
 front-ascends codes c h e = ascending-tab (λ k. getD codes k 0) c (ap ascending (tab-take codes c h) ∙ e)

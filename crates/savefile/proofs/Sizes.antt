@@ -13,7 +13,7 @@ use Rattle.columns.specs.Columns.{count, Kind, kind-free, kind-sewn, kind-criti
 use Rattle.columns.proofs.Links.{places}
 use Rattle.columns.proofs.ThirdLinks.{sewn-places}
 use Rattle.columns.proofs.Question.{image-passed}
-use Rattle.sound.proofs.OneDart.{finite-at}
+use Rattle.memory.proofs.Points.{finite-at}
 use Rattle.codec.specs.Thirds.{ThirdSmall}
 use Rattle.savefile.specs.Named.{third-named, Small, AllSmall}
 

@@ -17,8 +17,7 @@ use Rattle.model.specs.Calls.{served, refused, writing, save-file}
 use Rattle.answers.specs.Answers.{Gives}
 use Rattle.answers.proofs.Questions.{gives, ask-no, ask-yes, ask-end}
 use Rattle.groups.specs.Slices.{Stored}
-use Rattle.theory.proofs.GroupLaws.{group-most}
-use Rattle.codec.proofs.ThirdLaws.{one-group, two-groups}
+use Rattle.theory.proofs.GroupLaws.{one-group, two-groups, group-most}
 use Rattle.theory.proofs.ImageLaws.{image-by-size}
 use Rattle.savefile.specs.Named.{header-bytes}
 use Rattle.savefile.proofs.FileBytes.{darts-put, darts-most, file-put, header-length}

@@ -1,6 +1,6 @@
 -- The loops over a queue and over all places: what holds before and after each step. Assumes nothing.
 use mathlib.Core.Path.{_≡_, refl, sym, ap, subst, _∙_}
-use mathlib.Core.Bool.{Bool, true, false, true≢false, _&&_}
+use mathlib.Core.Bool.{Bool, true, false, true≢false}
 use mathlib.Core.List.{List, [], _∷_}
 use mathlib.Core.Logic.{⊎-elim}
 use Prim.Native.Nat.{ℕ, zero, _+_, _≤_, _<_}
@@ -11,16 +11,16 @@ use lib.ListN.{length, getD, set, length-append, length-map, length-set}
 use lib.Seq.{getD-set-same, getD-set-other}
 use borrow.Author.Tests.{lt-ltb}
 use Rattle.model.specs.Lists.{keep, tab}
-use Rattle.model.specs.Values.{finite-bits, finite, room}
+use Rattle.model.specs.Values.{room}
 use Rattle.model.specs.Balance.{Oracle, picked}
-use Rattle.model.specs.Image.{column, dart-in, block-in, holds-block}
-use Rattle.laws.proofs.Tests.{last-or-below, and-left, and-right}
+use Rattle.model.specs.Image.{column, block-in, holds-block}
+use Rattle.laws.proofs.Tests.{last-or-below}
 use Rattle.laws.proofs.Members.{keep-le, keep-cong}
 use Rattle.laws.proofs.Maps.{tab-more}
 use Rattle.laws.proofs.Tables.{length-tab}
 use Rattle.memory.specs.Point.{point-of, patterns, FiniteAt}
 use Rattle.memory.specs.declared.point.Point.{Point}
-use Rattle.memory.proofs.Points.{point-patterns}
+use Rattle.memory.proofs.Points.{point-patterns, finite-at}
 use Rattle.oracle.specs.Oracle.{holds}
 use Rattle.columns.proofs.Question.{image-passed}
 use Rattle.cells.specs.Places.{Clear}
@@ -136,18 +136,8 @@ pub measured-all : {o : Oracle} {m sizes marks order : List ℕ} {tail p : ℕ} 
 measured-all w h = record { len = w .len; entry = λ q l. w .told q (omega arith) }
 
 -- A SOUND BLOCK'S MEMORY can be walked
-finite-words : (m : List ℕ) (p : ℕ) → finite (dart-in m p .point) ≡ true → FiniteAt m p
-unfolding finite
-finite-words m p e =
-    let xy = and-left (finite-bits (column m 5 p) && finite-bits (column m 6 p)) _ e in
-    record {
-      on-x = and-left (finite-bits (column m 5 p)) _ xy;
-      on-y = and-right (finite-bits (column m 5 p)) _ xy;
-      on-z = and-right (finite-bits (column m 5 p) && finite-bits (column m 6 p)) _ e;
-    }
-
 pub walkable : (m : List ℕ) → holds-block m ≡ true → Walkable m
-walkable m ok = record { linked = sited m ok .linked; finite-at = λ p h. finite-words m p (image-passed m ok .finite-points p h) }
+walkable m ok = record { linked = sited m ok .linked; finite-at = λ p h. finite-at m p (image-passed m ok .finite-points p h) }
 
 -- how many picked volumes by a table of sizes
 pub picked-count : (o : Oracle) (m s : List ℕ) → holds-block m ≡ true → Sizes o m s → {c : ℕ} → c ≡ count-below (λ p. ltb 0 (getD s p 0)) (getD m 2 0)

@@ -5,12 +5,12 @@ use mathlib.Core.List.{List}
 use Prim.Native.Nat.{ℕ, _≤_, _<_}
 use lib.Dec.{ltb, eqb}
 use borrow.Author.Tests.{eqb-true, eq-eqb, ne-eqb, ltb-true, lt-ltb, le-ltb}
-use Rattle.model.specs.Values.{finite-bits, finite, same-point}
-use Rattle.model.specs.Image.{column, dart-in}
+use Rattle.model.specs.Values.{same-point}
+use Rattle.model.specs.Image.{column}
 use Rattle.laws.proofs.Tests.{and-left, and-right}
 use Rattle.memory.specs.declared.point.Point.{Point}
 use Rattle.memory.specs.Point.{point-of, patterns, FiniteAt}
-use Rattle.memory.proofs.Points.{point-patterns}
+use Rattle.memory.proofs.Points.{point-patterns, finite-at}
 use Rattle.columns.specs.Columns.{Places, Darts, critical-test, kind-test, link-test, sewn-test, third-test, same-at, point-test, far-test}
 use Rattle.columns.proofs.OneDart.{DartRight, dart-says}
 
@@ -23,12 +23,6 @@ and-go e f = rw e f
 
 pub both-lt : {a b x y : ℕ} (n : ℕ) → a ≡ x → b ≡ y → (ltb a n && ltb b n) ≡ true → (a < n) × (b < n)
 both-lt {a} {b} n _ _ e = (ltb-true a n (and-left (ltb a n) (ltb b n) e), ltb-true b n (and-right (ltb a n) (ltb b n) e))
-
-pub finite-at : (m : List ℕ) (p : ℕ) → finite (dart-in m p .point) ≡ true → FiniteAt m p
-unfolding finite
-finite-at m p e =
-    let two = and-left (finite-bits (column m 5 p) && finite-bits (column m 6 p)) _ e in
-    record { on-x = and-left (finite-bits (column m 5 p)) _ two; on-y = and-right (finite-bits (column m 5 p)) _ two; on-z = and-right (finite-bits (column m 5 p) && finite-bits (column m 6 p)) _ e }
 
 module _ (m : List ℕ) (n p : ℕ) where
   -- 5

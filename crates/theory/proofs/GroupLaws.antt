@@ -8,7 +8,7 @@ use lib.ListN.{length, getD}
 use lib.Pow.{pow-mono}
 use lib.Ieee.{size}
 use lib.Ieee.Digits.{size-lt, size-le}
-use borrow.Author.Tests.{eqb-true, ltb-true, ltb-false, leb-true, leb-false}
+use borrow.Author.Tests.{eqb-true, ltb-true, lt-ltb, ltb-false, leb-true, leb-false}
 use Rattle.model.specs.Lists.{all, tab}
 use Rattle.model.specs.Layouts.{groups, group-below, group, group-counts, group-count}
 use Rattle.laws.proofs.Tests.{by-cases}
@@ -54,6 +54,15 @@ group-length v h = sym (count-is v h ∙ go)
         (λ c. let more2 = ltb-false (v / 128 / 128) 128 c in let big3 = above v 21 (omega arith) in rw c (by-cases (ltb (v / 128 / 128 / 128) 128)
         (λ d. let less = ltb-true (v / 128 / 128 / 128) 128 d in let most = size-le v 28 (omega arith) in rw d (omega (arith, big3, most)))
         (λ d. let more3 = ltb-false (v / 128 / 128 / 128) 128 d in let big4 = above v 28 (omega arith) in let most = size-le v 32 h in rw d (omega (arith, big4, most)))))))))
+
+-- numbers of one group and of two
+pub one-group : (v : ℕ) → v < 128 → length (group .put v) ≡ 1
+unfolding group group-below groups
+one-group v h = rw (lt-ltb v 128 h)
+
+pub two-groups : (v : ℕ) → v < 128 * 128 → length (group .put v) ≤ 2
+unfolding group group-below groups
+two-groups v h = by-cases (ltb v 128) (λ e. rw e (omega arith)) (λ e. rw (e, lt-ltb (v / 128) 128 (omega arith)) (omega arith))
 
 pub group-most : (v : ℕ) → v < 2 ^ 32 → length (group .put v) ≤ 5
 group-most v h = rw (group-length v h) (count-most v h)

@@ -292,10 +292,6 @@ sound-fits lim other b few s =
       points = q .points;
     })
 
--- wider limits
-pub sound-wider : (lim wide : Limits) (b : Block) → lim .block-darts ≤ wide .block-darts → sound-block lim b ≡ true → sound-block wide b ≡ true
-sound-wider lim wide b h s = sound-fits lim wide b (omega (arith, ranges-of lim b (parts-of lim b s .ranges) .few-darts)) s
-
 -- QUESTION 2 BY OTHER LIMITS
 pub image-fits : (lim other : Limits) (m : List ℕ) → count-in m ≤ other .block-darts → is-image lim m ≡ true → is-image other m ≡ true
 image-fits lim other m few e =

@@ -1,7 +1,8 @@
 -- `codec::third::put_third` meets its contract: the parts of each kind, one stored after the other.
 -- Assumes nothing.
 use Rattle.groups.proofs.Writing.{stored-then}
-use Rattle.codec.proofs.ThirdLaws.{free-bytes, sewn-bytes, critical-bytes, one-group, sewn-length, critical-length}
+use Rattle.theory.proofs.GroupLaws.{one-group}
+use Rattle.codec.proofs.ThirdLaws.{free-bytes, sewn-bytes, critical-bytes, sewn-length, critical-length}
 use native.Mathlib.Omega.{arith}
 use borrow.Author.Needs.{needs}
 use Rattle.codec.proofs.third.put_third.Statement.{statement}

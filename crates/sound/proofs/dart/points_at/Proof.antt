@@ -2,7 +2,8 @@
 -- Assumes nothing.
 use mathlib.Core.Path.{sym, _∙_}
 use borrow.Author.Tests.{not-true, not-false}
-use Rattle.sound.proofs.OneDart.{finite-at, point-stop, point-only, point-go, next-place, opposite-place}
+use Rattle.memory.proofs.Points.{finite-at}
+use Rattle.sound.proofs.OneDart.{point-stop, point-only, point-go, next-place, opposite-place}
 use native.Mathlib.Omega.{arith}
 use borrow.Author.Needs.{needs}
 use Rattle.sound.proofs.dart.points_at.Statement.{statement}
