@@ -10,7 +10,7 @@ use borrow.Author.Tests.{eqb-true, eq-eqb, ltb-true, ltb-false}
 use Rattle.model.specs.Lists.{all, sorted}
 use Rattle.model.specs.Values.{Dart, Block, same-point}
 use Rattle.model.specs.Sound.{paired, labels-paired, same-across, points-across}
-use Rattle.model.specs.Image.{column, third-in, dart-in, block-in}
+use Rattle.model.specs.Image.{column, other-in, third-in, dart-in, block-in}
 use Rattle.laws.proofs.Tests.{by-cases, and-intro, and-left, and-right, same-truth}
 use Rattle.laws.proofs.Members.{In}
 use Rattle.laws.proofs.Tables.{all-tab, tab-all}
@@ -77,15 +77,15 @@ key-sits {v} a i p e h l = record { in-block = one; at-place = two }
 -- THE TESTS by places
 module _ (m t : List ℕ) {g h i p j q r : ℕ} (s : Sits g i p) (u : Sits h j q) where
   side-is : column (part m i) 1 p < 4096 → getD t (j * 4096 + q) 0 ≡ r → r < 4096
-      → side-test m t g h ≡ (eqb (column (part m i) 3 p / 4) j && eqb (column (part m i) 4 (column (part m i) 1 p)) (column (part m j) 4 r))
+      → side-test m t g h ≡ (eqb (other-in (column (part m i) 3 p)) j && eqb (column (part m i) 4 (column (part m i) 1 p)) (column (part m j) 4 r))
   unfolding side-test
   side-is n e l =
       let s′ = sits-next m s n in
       let u′ = sits-before t u e l in
-      ap (λ (x : ℕ). eqb (x / 4) (h / 4096) && eqb (word m 4 (next-of m g)) (word m 4 (before-of t h))) (word-at m 3 s)
-      ∙ ap (λ (x : ℕ). eqb (column (part m i) 3 p / 4) x && eqb (word m 4 (next-of m g)) (word m 4 (before-of t h))) (u .in-block)
-      ∙ ap (λ (x : ℕ). eqb (column (part m i) 3 p / 4) j && eqb x (word m 4 (before-of t h))) (word-at m 4 s′)
-      ∙ ap (λ (x : ℕ). eqb (column (part m i) 3 p / 4) j && eqb (column (part m i) 4 (column (part m i) 1 p)) x) (word-at m 4 u′)
+      ap (λ (x : ℕ). eqb (other-in x) (h / 4096) && eqb (word m 4 (next-of m g)) (word m 4 (before-of t h))) (word-at m 3 s)
+      ∙ ap (λ (x : ℕ). eqb (other-in (column (part m i) 3 p)) x && eqb (word m 4 (next-of m g)) (word m 4 (before-of t h))) (u .in-block)
+      ∙ ap (λ (x : ℕ). eqb (other-in (column (part m i) 3 p)) j && eqb x (word m 4 (before-of t h))) (word-at m 4 s′)
+      ∙ ap (λ (x : ℕ). eqb (other-in (column (part m i) 3 p)) j && eqb (column (part m i) 4 (column (part m i) 1 p)) x) (word-at m 4 u′)
 
 module _ (m : List ℕ) {g h i p j q : ℕ} (s : Sits g i p) (u : Sits h j q) where
   meet-is : column (part m j) 1 q < 4096 → meet-test m g h ≡ same-point (dart-in (part m i) p .point) (dart-in (part m j) (column (part m j) 1 q) .point)
@@ -174,7 +174,7 @@ module _ {m : List ℕ} (a : Asked m) where
       abbrev last : ℕ
       last = before-at (passed a j hj) q hq .0
 
-      sides : side-test m t g h ≡ (eqb (column (part m i) 3 p / 4) j && eqb (column (part m i) 4 (column (part m i) 1 p)) (column (part m j) 4 last))
+      sides : side-test m t g h ≡ (eqb (other-in (column (part m i) 3 p)) j && eqb (column (part m i) 4 (column (part m i) 1 p)) (column (part m j) 4 last))
       sides =
           let r = before-at (passed a j hj) q hq in
           side-is m t s u (next-small i p hi hp) (ap (λ (x : ℕ). getD t (j * 4096 + x) 0) (sym (r .2)) ∙ b .at j (r .0) hj (r .1)) (small j (r .0) hj (r .1))
@@ -185,7 +185,7 @@ module _ {m : List ℕ} (a : Asked m) where
           let r = before-at (passed a j hj) q hq in
           paired-is a i p hi hp c f (r .0) (r .1) (r .2)
           ∙ ap (λ (x : Bool). eqb (times (column (part m i) 4 p) (all-keys m (blocks m))) 2 && x)
-          (sym (sides ∙ first (eqb (column (part m i) 3 p / 4) j) (eq-eqb (column (part m i) 3 p / 4) j (f .names))))
+          (sym (sides ∙ first (eqb (other-in (column (part m i) 3 p)) j) (eq-eqb (other-in (column (part m i) 3 p)) j (f .names))))
         where
           first : (x : Bool) {y : Bool} → x ≡ true → (x && y) ≡ y
           first x e = rw e refl
@@ -211,7 +211,7 @@ module _ {m : List ℕ} (a : Asked m) where
         let p = o .place in
         let yes = labels-at e i p (o .block-lt) (o .place-lt) in
         let f = facing a i p (o .block-lt) (o .place-lt) (o .labelled) yes in
-        let j = column (part m i) 3 p / 4 in
+        let j = other-in (column (part m i) 3 p) in
         let q = f .0 in
         let F = f .1 in
         let w = key (part m j) j q in
@@ -276,8 +276,8 @@ module _ {m : List ℕ} (a : Asked m) where
             place-lt = o .place-lt;
             critical-there = o .labelled;
             same = sym (code-is w j q (o .block-lt) (o .place-lt) (o .is)) ∙ e ∙ code-is v i p hi hp refl;
-            names = eqb-true (column (part m i) 3 p / 4) j (and-left (eqb (column (part m i) 3 p / 4) j) _ x);
-            named = eqb-true (column (part m j) 3 q / 4) i (and-left (eqb (column (part m j) 3 q / 4) i) _ y);
+            names = eqb-true (other-in (column (part m i) 3 p)) j (and-left (eqb (other-in (column (part m i) 3 p)) j) _ x);
+            named = eqb-true (other-in (column (part m j) 3 q)) i (and-left (eqb (other-in (column (part m j) 3 q)) i) _ y);
           };
           is = o .is;
         }

@@ -12,7 +12,7 @@ use Rattle.model.specs.Lists.{tab, find}
 use Rattle.model.specs.Values.{Third, critical, Dart, Block, no-dart, no-block, or-no-dart, code, label-key, is-critical-with}
 use Rattle.model.specs.Cells.{third-at, previous-in, labelled}
 use Rattle.model.specs.Sound.{block-at, blocks-right, numbered-from}
-use Rattle.model.specs.Image.{words, column, label-in, third-in, dart-in, block-in, holds-block}
+use Rattle.model.specs.Image.{words, column, other-in, label-in, third-in, dart-in, block-in, holds-block}
 use Rattle.model.specs.Calls.{memories}
 use Rattle.laws.proofs.Tests.{by-cases, and-left, and-right}
 use Rattle.laws.proofs.Tables.{all-tab, length-tab, getD-tab, find-only}
@@ -118,17 +118,17 @@ module _ {b : List ℕ} (w : Passed b) where
   kind-along p h = same-kind b (count b) p (w .thirds p h)
 
   -- a critical dart names another block
-  pub names-other : (p : ℕ) → p < count b → 1 < column b 3 p → column b 3 p / 4 ≡ getD b 0 0 → ⊥
+  pub names-other : (p : ℕ) → p < count b → 1 < column b 3 p → other-in (column b 3 p) ≡ getD b 0 0 → ⊥
   unfolding label-test
   names-other p h c e =
       let k = column b 3 p in
-      let t : (ltb k 2 || (not (eqb (k / 4) (getD b 0 0)) && (not (eqb (column b 4 p / 4096 / 2 ^ 32) (getD b 0 0)) || ltb (column b 4 p / 4096 % 2 ^ 32) (getD b 1 0)))) ≡ true = w .labels p h in
-      let u : (not (eqb (k / 4) (getD b 0 0)) && (not (eqb (column b 4 p / 4096 / 2 ^ 32) (getD b 0 0)) || ltb (column b 4 p / 4096 % 2 ^ 32) (getD b 1 0))) ≡ true =
+      let t : (ltb k 2 || (not (eqb (other-in k) (getD b 0 0)) && (not (eqb (column b 4 p / 4096 / 2 ^ 32) (getD b 0 0)) || ltb (column b 4 p / 4096 % 2 ^ 32) (getD b 1 0)))) ≡ true = w .labels p h in
+      let u : (not (eqb (other-in k) (getD b 0 0)) && (not (eqb (column b 4 p / 4096 / 2 ^ 32) (getD b 0 0)) || ltb (column b 4 p / 4096 % 2 ^ 32) (getD b 1 0))) ≡ true =
       rw (le-ltb k 2 (omega arith)) at t
       in
-      eqb-false (k / 4) (getD b 0 0) (not-true _ (and-left (not (eqb (k / 4) (getD b 0 0))) _ u)) e
+      eqb-false (other-in k) (getD b 0 0) (not-true _ (and-left (not (eqb (other-in k) (getD b 0 0))) _ u)) e
 
-  pub critical-third : (p : ℕ) → p < count b → 1 < column b 3 p → third-of b p ≡ critical (column b 3 p / 4) (label-in (column b 4 p))
+  pub critical-third : (p : ℕ) → p < count b → 1 < column b 3 p → third-of b p ≡ critical (other-in (column b 3 p)) (label-in (column b 4 p))
   critical-third p h c = third-critical (column b 0) (column b 3 p) (column b 4 p) (two-of (kind-at p h) c)
     where
       two-of : {k a : ℕ} → Kind k a → 1 < k → k % 4 ≡ 2
