@@ -1,12 +1,12 @@
 -- What the functions read and answer, from what their callees ensure. Assumes nothing.
 use mathlib.Core.Path.{_≡_, sym, ap, subst, _∙_}
-use mathlib.Core.Bool.{Bool, _&&_}
+use mathlib.Core.Bool.{Bool, true, _&&_}
 use mathlib.Core.List.{List}
 use Prim.Native.Nat.{ℕ, _+_, _*_, _/_, _%_, _≤_, _<_}
 use native.Mathlib.Omega.{arith}
 use lib.Dec.{eqb}
 use lib.ListN.{length, getD}
-use Rattle.model.specs.Image.{words-for, words, column, other-in}
+use Rattle.model.specs.Image.{words-for, words, column, is-critical-word, other-in}
 use Rattle.model.specs.Values.{Point as Patterns, same-point, room}
 use Rattle.memory.specs.declared.point.Point.{Point}
 use Rattle.memory.specs.Point.{point-of, patterns, FinitePoint, FiniteAt}
@@ -80,11 +80,8 @@ unfolding point-pair
 points-told m x y e f = λ i. e i && f i
 
 -- KEYS
-pub code-fits : (b : List ℕ) (p : ℕ) {k a : ℕ} → Short b → p < count b → k ≡ column b 3 p → 1 < k → a ≡ column b 4 p → a < 281474976710656
-code-fits b p {k} {a} s h e l f = subst (λ (x : ℕ). x < 281474976710656) (sym f) (s p h (more e l))
-  where
-    more : {x y : ℕ} → x ≡ y → 1 < x → 1 < y
-    more u v = omega arith
+pub code-fits : (b : List ℕ) (p : ℕ) {k a : ℕ} → Short b → p < count b → k ≡ column b 3 p → is-critical-word k ≡ true → a ≡ column b 4 p → a < 281474976710656
+code-fits b p {k} {a} s h e l f = subst (λ (x : ℕ). x < 281474976710656) (sym f) (s p h (ap is-critical-word (sym e) ∙ l))
 
 -- a block that is a part of a mesh
 module _ (m : List ℕ) (i : ℕ) {b : List ℕ} (is : b ≡ part m i) (a : Asked m) (held : i < blocks m) where
