@@ -1,21 +1,12 @@
 // Lists the files on standard input one after the other, each behind its length in four bytes, as the listing program would.
 use vectors::cursor;
 
-// The first n bytes of a text.
-fn print(text: &[u8], n: usize) {
-    if n <= text.len() {
-        io::write_all(1, &text[..n]);
-    }
-}
-
 // A line with the file's number, then its listing.
 fn list(number: u64, file: &[u8]) {
     io::write_all(1, b"file ");
     io::print_decimal(1, number);
     io::write_all(1, b"\n");
-    let mut out = [0u8; 262144];
-    let m = listfile::list_file(file, &mut out);
-    print(&out, m);
+    listfile::print_file(file);
 }
 
 // Lists the file from a place up to another.

@@ -31,3 +31,17 @@ pub fn list_file(file: &[u8], out: &mut [u8]) -> usize
     }
     list_whole(file, out)
 }
+
+// The first n bytes of a text, on standard output.
+fn print(text: &[u8], n: usize) {
+    if n <= text.len() {
+        io::write_all(1, &text[0..n]);
+    }
+}
+
+// Prints it for a file of at most 65,536 bytes.
+pub fn print_file(file: &[u8]) {
+    let mut out = [0u8; listing::ROOM];
+    let n = list_file(file, &mut out);
+    print(&out, n);
+}

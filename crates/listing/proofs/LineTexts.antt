@@ -1,21 +1,20 @@
 -- The lines of a listing by the parts that are put, and that they are short. Assumes nothing.
 use mathlib.Core.Path.{_≡_, refl, _∙_, ap}
-use mathlib.Core.Bool.{true}
-use mathlib.Core.Logic.{⊎-elim}
+use mathlib.Core.Bool.{true, false}
 use mathlib.Core.List.{List, [], _∷_, _++_, append-assoc}
 use Prim.Native.Nat.{ℕ, _+_, _*_, _/_, _%_, _^_, _≤_, _<_}
 use native.Mathlib.Omega.{arith}
 use lib.ListN.{length, getD, length-append}
-use borrow.Author.Tests.{eq-eqb, ne-eqb}
-use Rattle.laws.proofs.Tests.{eq-or-ne}
+use Rattle.laws.proofs.Tests.{by-cases}
 use Rattle.laws.proofs.Tables.{length-tab}
 use Rattle.model.specs.Lists.{tab, concat-map}
 use Rattle.model.specs.Values.{Third}
-use Rattle.model.specs.Image.{column, label-in, third-in, dart-in, block-in, holds-block}
+use Rattle.model.specs.Image.{column, is-free-word, is-sewn-word, other-in, label-in, third-in, dart-in, block-in, holds-block}
 use Rattle.model.specs.Listing.{bytes, decimal, third-text, dart-line, header-line, listing}
 use Rattle.groups.proofs.Writing.{stored-length}
 use Rattle.columns.proofs.Question.{image-passed}
 use Rattle.codec.specs.Thirds.{ThirdSmall}
+use Rattle.codec.proofs.ThirdLaws.{sewn-not-free}
 use Rattle.savefile.specs.Named.{third-named, Small, AllSmall}
 use Rattle.savefile.proofs.Pieces.{pieces, in-pieces, length-most, Placing}
 use Rattle.savefile.proofs.FileBytes.{third-is}
@@ -33,13 +32,13 @@ ended-most b v e h = omega (arith, length-append (decimal v) (e ∷ []))
 abbrev pub third-put : ℕ → ℕ → List ℕ
 third-put k a = third-text (third-in (λ x. x) k a)
 
-pub free-text : (k a : ℕ) → k % 4 ≡ 0 → third-put k a ≡ bytes "free"
+pub free-text : (k a : ℕ) → is-free-word k ≡ true → third-put k a ≡ bytes "free"
 unfolding third-text third-in
-free-text k a e = rw (eq-eqb (k % 4) 0 e)
+free-text k a e = rw e
 
-pub sewn-text : (k a : ℕ) → k % 4 ≡ 1 → third-put k a ≡ bytes "sewn " ++ decimal a
+pub sewn-text : (k a : ℕ) → is-sewn-word k ≡ true → third-put k a ≡ bytes "sewn " ++ decimal a
 unfolding third-text third-in
-sewn-text k a e = rw (ne-eqb (k % 4) 0 (λ z. omega arith), eq-eqb (k % 4) 1 e)
+sewn-text k a e = rw (sewn-not-free k e, e)
 
 -- "crit O M.N.P", in the parts that are put
 abbrev crit-parts : ℕ → ℕ → ℕ → ℕ → List ℕ
@@ -54,14 +53,15 @@ crit-same o m n p =
     ∙ ap (λ (l : List ℕ). l ++ decimal n ++ bytes "." ++ decimal p) (append-assoc a (decimal m) (46 ∷ []))
     ∙ ap (λ (l : List ℕ). l ++ decimal p) (append-assoc b (decimal n) (46 ∷ []))
 
-pub crit-text : (k a : ℕ) → (k % 4 ≡ 0 → ⊥) → (k % 4 ≡ 1 → ⊥) → third-put k a ≡ crit-parts (k / 4) (label-in a .maker) (label-in a .number) (label-in a .position)
+pub crit-text : (k a : ℕ) → is-free-word k ≡ false → is-sewn-word k ≡ false
+    → third-put k a ≡ crit-parts (other-in k) (label-in a .maker) (label-in a .number) (label-in a .position)
 unfolding third-text third-in
-crit-text k a e f = rw (ne-eqb (k % 4) 0 e, ne-eqb (k % 4) 1 f) (crit-same (k / 4) (label-in a .maker) (label-in a .number) (label-in a .position))
+crit-text k a e f = rw (e, f) (crit-same (other-in k) (label-in a .maker) (label-in a .number) (label-in a .position))
 
 -- how short the parts of a critical link are
 module _ {k a : ℕ} (s : ThirdSmall k a) where
-  pub other-short : length (decimal (k / 4)) ≤ 2
-  other-short = decimal-most 1 (k / 4) (omega (arith, s .other-small))
+  pub other-short : length (decimal (other-in k)) ≤ 2
+  other-short = decimal-most 1 (other-in k) (omega (arith, s .other-small))
 
   pub maker-short : length (decimal (label-in a .maker)) ≤ 2
   maker-short = decimal-most 1 (a / 4096 / 2 ^ 32) (omega (arith, s .named-small))
@@ -76,15 +76,15 @@ module _ {k a : ℕ} (s : ThirdSmall k a) where
   unfolding bytes
   free-length = omega arith
 
-  sewn-length : k % 4 ≡ 1 → length (bytes "sewn " ++ decimal a) ≤ 26
+  sewn-length : is-sewn-word k ≡ true → length (bytes "sewn " ++ decimal a) ≤ 26
   unfolding bytes
   sewn-length e = omega (arith, length-append (bytes "sewn ") (decimal a), decimal-ten a (s .sewn-small e))
 
-  crit-length : length (crit-parts (k / 4) (label-in a .maker) (label-in a .number) (label-in a .position)) ≤ 26
+  crit-length : length (crit-parts (other-in k) (label-in a .maker) (label-in a .number) (label-in a .position)) ≤ 26
   unfolding bytes
   crit-length =
       let x = bytes "crit " in
-      let o = ended (k / 4) 32 in
+      let o = ended (other-in k) 32 in
       let m = ended (label-in a .maker) 46 in
       let n = ended (label-in a .number) 46 in
       let p = decimal (label-in a .position) in
@@ -94,17 +94,16 @@ module _ {k a : ℕ} (s : ThirdSmall k a) where
         length-append (x ++ o ++ m) n,
         length-append (x ++ o) m,
         length-append x o,
-        ended-most 2 (k / 4) 32 other-short,
+        ended-most 2 (other-in k) 32 other-short,
         ended-most 2 (label-in a .maker) 46 maker-short,
         ended-most 10 (label-in a .number) 46 number-short,
         position-short,
       )
 
   pub third-short : length (third-put k a) ≤ 26
-  third-short = ⊎-elim
+  third-short = by-cases (is-free-word k)
       (λ e. rw (free-text k a e) free-length)
-      (λ e. ⊎-elim (λ f. rw (sewn-text k a f) (sewn-length f)) (λ f. rw (crit-text k a e f) crit-length) (eq-or-ne (k % 4) 1))
-      (eq-or-ne (k % 4) 0)
+      (λ e. by-cases (is-sewn-word k) (λ f. rw (sewn-text k a f) (sewn-length f)) (λ f. rw (crit-text k a e f) crit-length))
 
 -- THE LINE OF A DART
 abbrev pub dart-text : List ℕ → ℕ → List ℕ

@@ -11,6 +11,7 @@ ghost use Rattle.codec.specs.Thirds.{ThirdSmall};
 ghost use Rattle.savefile.specs.Named.{Small, AllSmall};
 use crate::text;
 use memory::header::Header;
+use memory::kind;
 use memory::label;
 use memory::record;
 use memory::record::Place;
@@ -22,16 +23,15 @@ fn put_third(kind: u64, named: u64, out: &mut [u8], at: usize) -> usize
     requires { ⌜ ThirdSmall kind named × (at + 26 ≤ length (now out)) ⌝ }
     ensures { λ r. ⌜ Stored (now (out .entry)) at (third-text (third-in (λ x. x) kind named)) (now (out .exit)) r ⌝ }
 {
-    let k = kind % 4;
-    if k == 0 {
+    if kind::is_free(kind) {
         return text::put_text(out, at, b"free");
     }
-    if k == 1 {
+    if kind::is_sewn(kind) {
         let past_sewn = text::put_text(out, at, b"sewn ");
         return text::put_decimal(out, past_sewn, named);
     }
     let past_crit = text::put_text(out, at, b"crit ");
-    let past_other = text::put_number(out, past_crit, kind / 4, b' ');
+    let past_other = text::put_number(out, past_crit, kind::other_of(kind), b' ');
     let past_maker = text::put_number(out, past_other, label::maker_of(named), b'.');
     let past_number = text::put_number(out, past_maker, label::number_of(named), b'.');
     text::put_decimal(out, past_number, label::position_of(named))

@@ -8,13 +8,13 @@ use native.Mathlib.Omega.{arith}
 use lib.Dec.{ltb}
 use lib.ListN.{length, getD, drop}
 use lib.Seq.{getD-take, getD-drop}
-use borrow.Author.Tests.{lt-ltb, le-ltb, eq-eqb, ne-eqb}
-use Rattle.laws.proofs.Tests.{lt-or-ge, eq-or-ne}
+use borrow.Author.Tests.{lt-ltb, le-ltb}
+use Rattle.laws.proofs.Tests.{by-cases, or-false, lt-or-ge}
 use Rattle.laws.proofs.Tables.{length-tab, getD-tab}
 use Rattle.model.specs.Lists.{all, tab}
 use Rattle.model.specs.Values.{critical, Block, no-block}
 use Rattle.model.specs.Sound.{block-at, made-before, makers-right}
-use Rattle.model.specs.Image.{words, column, label-in, third-in, dart-in, block-in}
+use Rattle.model.specs.Image.{words, column, is-free-word, is-sewn-word, other-in, label-in, third-in, dart-in, block-in}
 use Rattle.model.specs.Calls.{memories}
 use Rattle.columns.specs.Columns.{all-below}
 use Rattle.columns.proofs.Below.{all-tests}
@@ -31,9 +31,12 @@ or-no a b c e f = rw (e, f) refl
 or-last : (a b c : Bool) → a ≡ false → b ≡ true → c ≡ (a || (b && c))
 or-last a b c e f = rw (e, f) refl
 
+or-else : (a b : Bool) → (a || b) ≡ true → a ≡ false → b ≡ true
+or-else a b h e = rw e at h
+
 module _ (m : List ℕ) (k a : ℕ) where
-  abbrev small : Bool
-  small = ltb (k % 4) 2
+  abbrev unlabelled : Bool
+  unlabelled = is-free-word k || is-sewn-word k
 
   abbrev known : Bool
   known = ltb (a / 4096 / 2 ^ 32) (blocks m)
@@ -41,17 +44,21 @@ module _ (m : List ℕ) (k a : ℕ) where
   abbrev below : Bool
   below = ltb (a / 4096 % 2 ^ 32) (getD m (a / 4096 / 2 ^ 32 * words + 1) 0)
 
-  pub made-easy : k % 4 < 2 → true ≡ made-test m k a
+  pub made-easy : unlabelled ≡ true → true ≡ made-test m k a
   unfolding made-test
-  made-easy h = or-yes small (known && below) (lt-ltb (k % 4) 2 h)
+  made-easy h = or-yes unlabelled (known && below) h
 
-  pub made-unknown : 2 ≤ k % 4 → length m / 32776 ≤ a / 4096 / 4294967296 → false ≡ made-test m k a
+  pub made-unknown : unlabelled ≡ false → length m / 32776 ≤ a / 4096 / 4294967296 → false ≡ made-test m k a
   unfolding made-test
-  made-unknown h l = or-no small known below (le-ltb (k % 4) 2 h) (le-ltb (a / 4096 / 2 ^ 32) (blocks m) l)
+  made-unknown h l = or-no unlabelled known below h (le-ltb (a / 4096 / 2 ^ 32) (blocks m) l)
 
-  pub made-known : 2 ≤ k % 4 → a / 4096 / 4294967296 < length m / 32776 → ltb (a / 4096 % 4294967296) (getD m (a / 4096 / 4294967296 * 32776 + 1) 0) ≡ made-test m k a
+  pub made-known : unlabelled ≡ false → a / 4096 / 4294967296 < length m / 32776 → ltb (a / 4096 % 4294967296) (getD m (a / 4096 / 4294967296 * 32776 + 1) 0) ≡ made-test m k a
   unfolding made-test
-  made-known h l = or-last small known below (le-ltb (k % 4) 2 h) (lt-ltb (a / 4096 / 2 ^ 32) (blocks m) l)
+  made-known h l = or-last unlabelled known below h (lt-ltb (a / 4096 / 2 ^ 32) (blocks m) l)
+
+-- what two tests of the kind word said
+pub asked-both : (k : ℕ) {f s b : Bool} → f ≡ is-free-word k → s ≡ is-sewn-word k → (f || s) ≡ b → (is-free-word k || is-sewn-word k) ≡ b
+asked-both k d e h = rw (sym d, sym e) h
 
 -- THE MODEL'S TEST
 second-word : (m : List ℕ) (i : ℕ) → getD (part m i) 1 0 ≡ getD m (i * words + 1) 0
@@ -61,19 +68,15 @@ counter-at : (m : List ℕ) (i : ℕ) → i < blocks m → block-at (tab (λ j. 
 unfolding block-at
 counter-at m i h = ap (λ (b : Block). b .counter) (getD-tab (λ j. block-in (part m j)) (blocks m) i no-block h) ∙ second-word m i
 
-third-easy : (s : ℕ → ℕ) (k a : ℕ) (M : List Block) → k % 4 < 2 → made-before M (third-in s k a) ≡ true
+third-easy : (s : ℕ → ℕ) (k a : ℕ) (M : List Block) → (is-free-word k || is-sewn-word k) ≡ true → made-before M (third-in s k a) ≡ true
 unfolding third-in made-before
-third-easy s k a M h = ⊎-elim
-    (λ e. rw (eq-eqb (k % 4) 0 e) refl)
-    (λ n. rw (ne-eqb (k % 4) 0 n, eq-eqb (k % 4) 1 (one (k % 4) h n)) refl)
-    (eq-or-ne (k % 4) 0)
-  where
-    one : (t : ℕ) → t < 2 → (t ≡ 0 → ⊥) → t ≡ 1
-    one t a n = omega (arith, n)
+third-easy s k a M h = by-cases (is-free-word k)
+    (λ e. rw e refl)
+    (λ e. rw (e, or-else (is-free-word k) (is-sewn-word k) h e) refl)
 
-third-hard : (s : ℕ → ℕ) (k a : ℕ) → 2 ≤ k % 4 → third-in s k a ≡ critical (k / 4) (label-in a)
+third-hard : (s : ℕ → ℕ) (k a : ℕ) → (is-free-word k || is-sewn-word k) ≡ false → third-in s k a ≡ critical (other-in k) (label-in a)
 unfolding third-in
-third-hard s k a h = rw (ne-eqb (k % 4) 0 (λ e. omega (arith, h, e)), ne-eqb (k % 4) 1 (λ e. omega (arith, h, e))) refl
+third-hard s k a h = let none = or-false (is-free-word k) (is-sewn-word k) h in rw (none .0, none .1) refl
 
 made-critical : (m : List ℕ) (o a : ℕ) → made-before (tab (λ j. block-in (part m j)) (blocks m)) (critical o (label-in a))
     ≡ (ltb (a / 4096 / 2 ^ 32) (blocks m) && ltb (a / 4096 % 2 ^ 32) (getD m (a / 4096 / 2 ^ 32 * words + 1) 0))
@@ -93,10 +96,10 @@ made-critical m o a =
 
 made-is : (m : List ℕ) (s : ℕ → ℕ) (k a : ℕ) → made-before (tab (λ j. block-in (part m j)) (blocks m)) (third-in s k a) ≡ made-test m k a
 unfolding made-test
-made-is m s k a = ⊎-elim
+made-is m s k a = by-cases (is-free-word k || is-sewn-word k)
     (λ h. third-easy s k a (tab (λ j. block-in (part m j)) (blocks m)) h ∙ made-easy m k a h)
-    (λ h. ap (made-before (tab (λ j. block-in (part m j)) (blocks m))) (third-hard s k a h) ∙ made-critical m (k / 4) a ∙ or-second (ltb (k % 4) 2) _ (le-ltb (k % 4) 2 h))
-    (lt-or-ge (k % 4) 2)
+    (λ h. ap (made-before (tab (λ j. block-in (part m j)) (blocks m))) (third-hard s k a h)
+    ∙ made-critical m (other-in k) a ∙ or-second (is-free-word k || is-sewn-word k) _ h)
   where
     or-second : (t u : Bool) → t ≡ false → u ≡ (t || u)
     or-second t u e = rw e refl

@@ -52,6 +52,16 @@ pub fn part_of<'a>(mesh: &'a [u64], i: usize) -> &'a [u64]
     &mesh[from..to]
 }
 
+// The same, lent to be written. What the mesh is then no contract of it can say: a caller that promises it cuts the part itself.
+pub fn part_mut<'a>(mesh: &'a mut [u64], i: usize) -> &'a mut [u64]
+    requires { ⌜ i < blocks (now mesh) ⌝ }
+    ensures { λ r. ⌜ now r ≡ part (now (mesh .entry)) i ⌝ }
+{
+    let from = i * Header::WORDS;
+    let to = from + Header::WORDS;
+    &mut mesh[from..to]
+}
+
 // Whether block i is sound.
 fn sound_at(mesh: &[u64], i: usize) -> bool
     requires { ⌜ i < blocks (now mesh) ⌝ }

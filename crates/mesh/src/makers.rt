@@ -10,6 +10,7 @@ ghost use Rattle.model.specs.Image.{words-for, count-in, block-in, holds-block}
 ghost use Rattle.model.specs.Calls.{memories};
 ghost use Rattle.mesh.specs.Parts.{blocks, part, Roomy, made-test, made-block};
 use memory::header::Header;
+use memory::kind;
 use memory::record;
 use memory::record::Place;
 use memory::record::Record;
@@ -18,7 +19,7 @@ use memory::record::Record;
 fn made(mesh: &[u64], kind: u64, link: u64) -> bool
     ensures { λ r. ⌜ r ≡ made-test (now (mesh .entry)) kind link ⌝ }
 {
-    if kind % 4 < 2 {
+    if kind::is_free(kind) | kind::is_sewn(kind) {
         return true;
     }
     let maker = (link / Header::POSITIONS / Header::NUMBERS) as usize;

@@ -4,13 +4,13 @@ use mathlib.Core.Bool.{Bool, true, false, _&&_}
 use mathlib.Core.List.{List}
 use Prim.Native.Nat.{ℕ, _+_, _*_, _/_, _%_, _<_}
 use native.Mathlib.Omega.{arith}
-use lib.Dec.{eqb, ltb}
+use lib.Dec.{eqb}
 use lib.ListN.{getD}
-use borrow.Author.Tests.{eqb-true, eq-eqb, ltb-true, ltb-false}
+use borrow.Author.Tests.{eqb-true, eqb-false, eq-eqb}
 use Rattle.model.specs.Lists.{all, sorted}
 use Rattle.model.specs.Values.{Dart, Block, same-point}
 use Rattle.model.specs.Sound.{paired, labels-paired, same-across, points-across}
-use Rattle.model.specs.Image.{column, third-in, dart-in, block-in}
+use Rattle.model.specs.Image.{column, is-critical-word, other-in, third-in, dart-in, block-in}
 use Rattle.laws.proofs.Tests.{by-cases, and-intro, and-left, and-right, same-truth}
 use Rattle.laws.proofs.Members.{In}
 use Rattle.laws.proofs.Tables.{all-tab, tab-all}
@@ -77,15 +77,15 @@ key-sits {v} a i p e h l = record { in-block = one; at-place = two }
 -- THE TESTS by places
 module _ (m t : List ℕ) {g h i p j q r : ℕ} (s : Sits g i p) (u : Sits h j q) where
   side-is : column (part m i) 1 p < 4096 → getD t (j * 4096 + q) 0 ≡ r → r < 4096
-      → side-test m t g h ≡ (eqb (column (part m i) 3 p / 4) j && eqb (column (part m i) 4 (column (part m i) 1 p)) (column (part m j) 4 r))
+      → side-test m t g h ≡ (eqb (other-in (column (part m i) 3 p)) j && eqb (column (part m i) 4 (column (part m i) 1 p)) (column (part m j) 4 r))
   unfolding side-test
   side-is n e l =
       let s′ = sits-next m s n in
       let u′ = sits-before t u e l in
-      ap (λ (x : ℕ). eqb (x / 4) (h / 4096) && eqb (word m 4 (next-of m g)) (word m 4 (before-of t h))) (word-at m 3 s)
-      ∙ ap (λ (x : ℕ). eqb (column (part m i) 3 p / 4) x && eqb (word m 4 (next-of m g)) (word m 4 (before-of t h))) (u .in-block)
-      ∙ ap (λ (x : ℕ). eqb (column (part m i) 3 p / 4) j && eqb x (word m 4 (before-of t h))) (word-at m 4 s′)
-      ∙ ap (λ (x : ℕ). eqb (column (part m i) 3 p / 4) j && eqb (column (part m i) 4 (column (part m i) 1 p)) x) (word-at m 4 u′)
+      ap (λ (x : ℕ). eqb (other-in x) (h / 4096) && eqb (word m 4 (next-of m g)) (word m 4 (before-of t h))) (word-at m 3 s)
+      ∙ ap (λ (x : ℕ). eqb (other-in (column (part m i) 3 p)) x && eqb (word m 4 (next-of m g)) (word m 4 (before-of t h))) (u .in-block)
+      ∙ ap (λ (x : ℕ). eqb (other-in (column (part m i) 3 p)) j && eqb x (word m 4 (before-of t h))) (word-at m 4 s′)
+      ∙ ap (λ (x : ℕ). eqb (other-in (column (part m i) 3 p)) j && eqb (column (part m i) 4 (column (part m i) 1 p)) x) (word-at m 4 u′)
 
 module _ (m : List ℕ) {g h i p j q : ℕ} (s : Sits g i p) (u : Sits h j q) where
   meet-is : column (part m j) 1 q < 4096 → meet-test m g h ≡ same-point (dart-in (part m i) p .point) (dart-in (part m j) (column (part m j) 1 q) .point)
@@ -100,17 +100,17 @@ module _ (m : List ℕ) {g h i p j q : ℕ} (s : Sits g i p) (u : Sits h j q) wh
       points p1 p2 p3 p4 p5 p6 = λ i. eqb (p1 i) (p4 i) && eqb (p2 i) (p5 i) && eqb (p3 i) (p6 i)
 
 -- A DART THAT IS NOT CRITICAL passes
-easy-label : (M : List Block) (b : Block) (d : Dart) (s : ℕ → ℕ) (k x : ℕ) → Kind k x → ltb 1 k ≡ false → paired M b d (third-in s k x) ≡ true
+easy-label : (M : List Block) (b : Block) (d : Dart) (s : ℕ → ℕ) (k x : ℕ) → Kind k x → is-critical-word k ≡ false → paired M b d (third-in s k x) ≡ true
 unfolding paired
 easy-label M b d s k x (kind-free e f) n = ap (paired M b d) (third-free s k x e)
 easy-label M b d s k x (kind-sewn e) n = ap (paired M b d) (third-sewn s k x e)
-easy-label M b d s k x (kind-critical e f g) n = let l = ltb-false 1 k n in absurd (omega arith)
+easy-label M b d s k x (kind-critical e f g) n = absurd (eqb-false (k % 4) 2 n e)
 
-easy-point : (M : List Block) (d : Dart) (s : ℕ → ℕ) (k x : ℕ) → Kind k x → ltb 1 k ≡ false → same-across M d (third-in s k x) ≡ true
+easy-point : (M : List Block) (d : Dart) (s : ℕ → ℕ) (k x : ℕ) → Kind k x → is-critical-word k ≡ false → same-across M d (third-in s k x) ≡ true
 unfolding same-across
 easy-point M d s k x (kind-free e f) n = ap (same-across M d) (third-free s k x e)
 easy-point M d s k x (kind-sewn e) n = ap (same-across M d) (third-sewn s k x e)
-easy-point M d s k x (kind-critical e f g) n = let l = ltb-false 1 k n in absurd (omega arith)
+easy-point M d s k x (kind-critical e f g) n = absurd (eqb-false (k % 4) 2 n e)
 
 -- ALL DARTS
 module _ (m : List ℕ) (q : Block → Dart → Bool) where
@@ -146,7 +146,7 @@ module _ {m : List ℕ} (a : Asked m) where
   pub origin : (v : ℕ) → In v keys → Origin m (blocks m) v
   origin v h = all-in m (blocks m) v (same-members (all-keys m (blocks m)) keys (sorted-keys (all-keys m (blocks m))) v h)
 
-  there : (i p : ℕ) → i < blocks m → p < count (part m i) → 1 < column (part m i) 3 p → In (key (part m i) i p) keys
+  there : (i p : ℕ) → i < blocks m → p < count (part m i) → is-critical-word (column (part m i) 3 p) ≡ true → In (key (part m i) i p) keys
   there i p hi hp c = same-back (all-keys m (blocks m)) keys (sorted-keys (all-keys m (blocks m))) (key (part m i) i p) (in-all m (blocks m) i p hi hp c)
 
   pub sits : (v i p : ℕ) → i < blocks m → p < count (part m i) → v ≡ key (part m i) i p → Sits (v % 65536) i p
@@ -159,7 +159,7 @@ module _ {m : List ℕ} (a : Asked m) where
   times-same x = sorted-keys (all-keys m (blocks m)) (λ y. eqb x (y / 65536))
 
   -- the other way round
-  turned : {i p j q : ℕ} → i < blocks m → p < count (part m i) → 1 < column (part m i) 3 p → Facing m i p j q → Facing m j q i p
+  turned : {i p j q : ℕ} → i < blocks m → p < count (part m i) → is-critical-word (column (part m i) 3 p) ≡ true → Facing m i p j q → Facing m j q i p
   turned hi hp c f = record { block-lt = hi; place-lt = hp; critical-there = c; same = sym (f .same); names = f .named; named = f .names }
 
   meets : {g h i p j q : ℕ} → j < blocks m → q < count (part m j) → Sits g i p → Sits h j q
@@ -174,18 +174,18 @@ module _ {m : List ℕ} (a : Asked m) where
       abbrev last : ℕ
       last = before-at (passed a j hj) q hq .0
 
-      sides : side-test m t g h ≡ (eqb (column (part m i) 3 p / 4) j && eqb (column (part m i) 4 (column (part m i) 1 p)) (column (part m j) 4 last))
+      sides : side-test m t g h ≡ (eqb (other-in (column (part m i) 3 p)) j && eqb (column (part m i) 4 (column (part m i) 1 p)) (column (part m j) 4 last))
       sides =
           let r = before-at (passed a j hj) q hq in
           side-is m t s u (next-small i p hi hp) (ap (λ (x : ℕ). getD t (j * 4096 + x) 0) (sym (r .2)) ∙ b .at j (r .0) hj (r .1)) (small j (r .0) hj (r .1))
 
-      paired-side : 1 < column (part m i) 3 p → Facing m i p j q
+      paired-side : is-critical-word (column (part m i) 3 p) ≡ true → Facing m i p j q
           → paired (mesh-of m) (block-in (part m i)) (dart-in (part m i) p) (third-of (part m i) p) ≡ (eqb (times (column (part m i) 4 p) (all-keys m (blocks m))) 2 && side-test m t g h)
       paired-side c f =
           let r = before-at (passed a j hj) q hq in
           paired-is a i p hi hp c f (r .0) (r .1) (r .2)
           ∙ ap (λ (x : Bool). eqb (times (column (part m i) 4 p) (all-keys m (blocks m))) 2 && x)
-          (sym (sides ∙ first (eqb (column (part m i) 3 p / 4) j) (eq-eqb (column (part m i) 3 p / 4) j (f .names))))
+          (sym (sides ∙ first (eqb (other-in (column (part m i) 3 p)) j) (eq-eqb (other-in (column (part m i) 3 p)) j (f .names))))
         where
           first : (x : Bool) {y : Bool} → x ≡ true → (x && y) ≡ y
           first x e = rw e refl
@@ -211,7 +211,7 @@ module _ {m : List ℕ} (a : Asked m) where
         let p = o .place in
         let yes = labels-at e i p (o .block-lt) (o .place-lt) in
         let f = facing a i p (o .block-lt) (o .place-lt) (o .labelled) yes in
-        let j = column (part m i) 3 p / 4 in
+        let j = other-in (column (part m i) 3 p) in
         let q = f .0 in
         let F = f .1 in
         let w = key (part m j) j q in
@@ -256,7 +256,7 @@ module _ {m : List ℕ} (a : Asked m) where
       faces : Facing m i p block place
       is : w ≡ key (part m block) block place
 
-    faced : (i p : ℕ) → i < blocks m → p < count (part m i) → 1 < column (part m i) 3 p → (w : ℕ) → In w keys → w / 65536 ≡ key (part m i) i p / 65536
+    faced : (i p : ℕ) → i < blocks m → p < count (part m i) → is-critical-word (column (part m i) 3 p) ≡ true → (w : ℕ) → In w keys → w / 65536 ≡ key (part m i) i p / 65536
         → label-pair m t (key (part m i) i p) w ≡ true → Faced i p (key (part m i) i p) w
     unfolding label-pair
     faced i p hi hp c w h e l =
@@ -276,8 +276,8 @@ module _ {m : List ℕ} (a : Asked m) where
             place-lt = o .place-lt;
             critical-there = o .labelled;
             same = sym (code-is w j q (o .block-lt) (o .place-lt) (o .is)) ∙ e ∙ code-is v i p hi hp refl;
-            names = eqb-true (column (part m i) 3 p / 4) j (and-left (eqb (column (part m i) 3 p / 4) j) _ x);
-            named = eqb-true (column (part m j) 3 q / 4) i (and-left (eqb (column (part m j) 3 q / 4) i) _ y);
+            names = eqb-true (other-in (column (part m i) 3 p)) j (and-left (eqb (other-in (column (part m i) 3 p)) j) _ x);
+            named = eqb-true (other-in (column (part m j) 3 q)) i (and-left (eqb (other-in (column (part m j) 3 q)) i) _ y);
           };
           is = o .is;
         }
@@ -294,14 +294,14 @@ module _ {m : List ℕ} (a : Asked m) where
     tests-labels : in-pairs (label-pair m t) keys ≡ true → (i p : ℕ) → i < blocks m → p < count (part m i)
         → paired (mesh-of m) (block-in (part m i)) (dart-in (part m i) p) (third-of (part m i) p) ≡ true
     unfolding label-pair
-    tests-labels e i p hi hp = by-cases (ltb 1 (column (part m i) 3 p))
-        (λ k. yes (ltb-true 1 (column (part m i) 3 p) k))
+    tests-labels e i p hi hp = by-cases (is-critical-word (column (part m i) 3 p))
+        yes
         (λ k. easy-label (mesh-of m) (block-in (part m i)) (dart-in (part m i) p) (column (part m i) 0) (column (part m i) 3 p) (column (part m i) 4 p) (kind-at (passed a i hi) p hp) k)
       where
         v : ℕ
         v = key (part m i) i p
 
-        yes : 1 < column (part m i) 3 p → paired (mesh-of m) (block-in (part m i)) (dart-in (part m i) p) (third-of (part m i) p) ≡ true
+        yes : is-critical-word (column (part m i) 3 p) ≡ true → paired (mesh-of m) (block-in (part m i)) (dart-in (part m i) p) (third-of (part m i) p) ≡ true
         yes c =
             let w = twins (label-pair m t) label-flip keys in-order e v (there i p hi hp c) in
             let f = faced i p hi hp c (w .twin) (w .there) (w .same) (w .so) in
@@ -348,14 +348,14 @@ module _ {m : List ℕ} (a : Asked m) where
 
     tests-points : in-pairs both keys ≡ true → (i p : ℕ) → i < blocks m → p < count (part m i) → same-across (mesh-of m) (dart-in (part m i) p) (third-of (part m i) p) ≡ true
     unfolding point-pair
-    tests-points e i p hi hp = by-cases (ltb 1 (column (part m i) 3 p))
-        (λ k. yes (ltb-true 1 (column (part m i) 3 p) k))
+    tests-points e i p hi hp = by-cases (is-critical-word (column (part m i) 3 p))
+        yes
         (λ k. easy-point (mesh-of m) (dart-in (part m i) p) (column (part m i) 0) (column (part m i) 3 p) (column (part m i) 4 p) (kind-at (passed a i hi) p hp) k)
       where
         v : ℕ
         v = key (part m i) i p
 
-        yes : 1 < column (part m i) 3 p → same-across (mesh-of m) (dart-in (part m i) p) (third-of (part m i) p) ≡ true
+        yes : is-critical-word (column (part m i) 3 p) ≡ true → same-across (mesh-of m) (dart-in (part m i) p) (third-of (part m i) p) ≡ true
         yes c =
             let w = twins both both-flip keys in-order e v (there i p hi hp c) in
             let f = faced i p hi hp c (w .twin) (w .there) (w .same) (and-left (label-pair m t v (w .twin)) _ (w .so)) in

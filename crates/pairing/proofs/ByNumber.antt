@@ -1,13 +1,15 @@
 -- Reading the darts of a mesh by number: what each number needs, and the table of those before. Assumes nothing.
 use mathlib.Core.Path.{_≡_, refl, sym, ap, subst, _∙_}
+use mathlib.Core.Bool.{true}
 use mathlib.Core.List.{List, [], _∷_}
 use mathlib.Core.Logic.{⊎-elim}
 use Prim.Native.Nat.{ℕ, zero, suc, _+_, _*_, _/_, _%_, _≤_, _<_, _^_}
 use native.Mathlib.Omega.{arith}
 use lib.ListN.{length, getD, drop, set, length-set}
+use borrow.Author.Tests.{eqb-true}
 use lib.Seq.{getD-take, getD-drop, getD-set-same, getD-set-other}
 use Rattle.model.specs.Lists.{sorted}
-use Rattle.model.specs.Image.{words, column}
+use Rattle.model.specs.Image.{words, column, is-critical-word}
 use Rattle.laws.proofs.Tests.{last-or-below}
 use Rattle.laws.proofs.Members.{In, in-here, in-there}
 use Rattle.columns.specs.Columns.{count, Kind, kind-free, kind-sewn, kind-critical}
@@ -38,9 +40,9 @@ module _ {m : List ℕ} (a : Asked m) where
   pub short : (i : ℕ) → i < blocks m → Short (part m i)
   short i h p l c = go (kind-at (passed a i h) p l) c
     where
-      go : {k x : ℕ} → Kind k x → 1 < k → x < 2 ^ 48
-      go (kind-free e f) c = absurd (omega arith)
-      go (kind-sewn e) c = absurd (omega arith)
+      go : {k x : ℕ} → Kind k x → is-critical-word k ≡ true → x < 2 ^ 48
+      go {k} (kind-free e f) c = let two = eqb-true (k % 4) 2 c in absurd (omega arith)
+      go {k} (kind-sewn e) c = let two = eqb-true (k % 4) 2 c in absurd (omega arith)
       go (kind-critical e f g) c = g
 
   pub roomy : (i : ℕ) → i < blocks m → count (part m i) ≤ 4096

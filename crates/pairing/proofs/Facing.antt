@@ -12,7 +12,7 @@ use Rattle.model.specs.Lists.{keep}
 use Rattle.model.specs.Values.{Label, Third, critical, Dart, Block, no-dart, no-block, label-key, has-label, is-critical-with, same-point}
 use Rattle.model.specs.Cells.{dart-at, third-at, previous-in, labelled}
 use Rattle.model.specs.Sound.{block-at, all-darts, share-label, paired, same-across}
-use Rattle.model.specs.Image.{column, label-in, dart-in, block-in}
+use Rattle.model.specs.Image.{column, is-critical-word, other-in, label-in, dart-in, block-in}
 use Rattle.laws.proofs.Tests.{lt-or-ge, and-left, and-right}
 use Rattle.laws.proofs.Labels.{code-in}
 use Rattle.columns.specs.Columns.{count}
@@ -31,10 +31,10 @@ use Rattle.pairing.proofs.InBlocks.{kind-along, critical-third, mesh-of
 pub record Facing (m : List ℕ) (i p j q : ℕ) : Type 0 where
   pub block-lt : j < blocks m
   pub place-lt : q < count (part m j)
-  pub critical-there : 1 < column (part m j) 3 q
+  pub critical-there : is-critical-word (column (part m j) 3 q) ≡ true
   pub same : column (part m j) 4 q ≡ column (part m i) 4 p
-  pub names : column (part m i) 3 p / 4 ≡ j
-  pub named : column (part m j) 3 q / 4 ≡ i
+  pub names : other-in (column (part m i) 3 p) ≡ j
+  pub named : other-in (column (part m j) 3 q) ≡ i
 
 -- THE MODEL'S TESTS of a critical dart, from what is found
 paired-by : (M : List Block) (b : Block) (d : Dart) (o : ℕ) (l : Label) {es : List Dart} {e : Dart} {n : ℕ}
@@ -73,7 +73,7 @@ middle : (a b c : Bool) → b ≡ true → (a && b && c) ≡ (a && c)
 middle true b c e = rw e refl
 middle false b c e = refl
 
-module _ {m : List ℕ} (a : Asked m) (i p : ℕ) (hi : i < blocks m) (hp : p < count (part m i)) (c : 1 < column (part m i) 3 p) where
+module _ {m : List ℕ} (a : Asked m) (i p : ℕ) (hi : i < blocks m) (hp : p < count (part m i)) (c : is-critical-word (column (part m i) 3 p) ≡ true) where
   abbrev here : Passed (part m i)
   here = passed a i hi
 
@@ -81,7 +81,7 @@ module _ {m : List ℕ} (a : Asked m) (i p : ℕ) (hi : i < blocks m) (hp : p < 
   label = label-in (column (part m i) 4 p)
 
   abbrev other : ℕ
-  other = column (part m i) 3 p / 4
+  other = other-in (column (part m i) 3 p)
 
   count-is : length (keep (λ d. has-label label (d .third)) (all-darts (mesh-of m))) ≡ times (column (part m i) 4 p) (all-keys m (blocks m))
   count-is =
@@ -98,7 +98,7 @@ module _ {m : List ℕ} (a : Asked m) (i p : ℕ) (hi : i < blocks m) (hp : p < 
 
     back : is-critical-with (block-in (part m i) .number) (third-of (part m j) q) ≡ true
     back = ap (is-critical-with (getD (part m i) 0 0)) (critical-third (passed a j (f .block-lt)) q (f .place-lt) (f .critical-there))
-        ∙ eq-eqb (getD (part m i) 0 0) (column (part m j) 3 q / 4) (number-is a i hi ∙ sym (f .named))
+        ∙ eq-eqb (getD (part m i) 0 0) (other-in (column (part m j) 3 q)) (number-is a i hi ∙ sym (f .named))
 
     -- 25, where r stands before q
     pub paired-is : (r : ℕ) → r < count (part m j) → column (part m j) 1 r ≡ q
@@ -115,18 +115,12 @@ module _ {m : List ℕ} (a : Asked m) (i p : ℕ) (hi : i < blocks m) (hp : p < 
 
         next-key : label-key (third-at (darts (part m i)) (column (part m i) 0 (column (part m i) 1 p))) ≡ suc (column (part m i) 4 (column (part m i) 1 p))
         next-key = ap label-key (third-is here (column (part m i) 1 p) (next-lt here p hp))
-            ∙ key-critical here (column (part m i) 1 p) (next-lt here p hp) (more (kind-along here p hp) c)
-          where
-            more : {x y : ℕ} → x ≡ y → 1 < y → 1 < x
-            more u v = omega arith
+            ∙ key-critical here (column (part m i) 1 p) (next-lt here p hp) (ap is-critical-word (kind-along here p hp) ∙ c)
 
         last-key : label-key (third-at (darts (part m j)) (previous-in (darts (part m j)) (column (part m j) 0 q))) ≡ suc (column (part m j) 4 r)
         last-key = ap (λ (s : ℕ). label-key (third-at (darts (part m j)) s)) (previous-is w r q hr e)
             ∙ ap label-key (third-is w r hr)
-            ∙ key-critical w r hr (more (ap (column (part m j) 3) (sym e) ∙ kind-along w r hr) (f .critical-there))
-          where
-            more : {x y : ℕ} → x ≡ y → 1 < x → 1 < y
-            more u v = omega arith
+            ∙ key-critical w r hr (ap is-critical-word (sym (ap (column (part m j) 3) (sym e) ∙ kind-along w r hr)) ∙ f .critical-there)
 
         share : share-label (third-at (darts (part m i)) (column (part m i) 0 (column (part m i) 1 p))) (third-at (darts (part m j)) (previous-in (darts (part m j)) (column (part m j) 0 q)))
             ≡ eqb (column (part m i) 4 (column (part m i) 1 p)) (column (part m j) 4 r)
@@ -186,7 +180,7 @@ module _ {m : List ℕ} (a : Asked m) (i p : ℕ) (hi : i < blocks m) (hp : p < 
             critical-there = r .2;
             same = r .3;
             names = refl;
-            named = sym (sym (number-is a i hi) ∙ eqb-true (getD (part m i) 0 0) (column (part m other) 3 (r .0) / 4)
+            named = sym (sym (number-is a i hi) ∙ eqb-true (getD (part m i) 0 0) (other-in (column (part m other) 3 (r .0)))
                 (sym (ap (λ (d : Dart). is-critical-with (getD (part m i) 0 0) (d .third)) (labelled-is w (r .0) (column (part m i) 4 p) (r .1) (r .2) (r .3))
                 ∙ ap (is-critical-with (getD (part m i) 0 0)) (critical-third w (r .0) (r .1) (r .2))) ∙ e));
           },

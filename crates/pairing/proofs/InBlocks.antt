@@ -7,12 +7,12 @@ use Prim.Native.Nat.{ℕ, zero, suc, _+_, _/_, _%_, _≤_, _<_, _^_}
 use native.Mathlib.Omega.{arith}
 use lib.Dec.{leb, eqb, ltb}
 use lib.ListN.{length, getD, List·getD-eq-default}
-use borrow.Author.Tests.{eqb-true, eqb-false, lt-ltb, le-ltb, ltb-true, not-true}
+use borrow.Author.Tests.{eqb-true, eqb-false, eq-eqb, lt-ltb, le-ltb, not-true}
 use Rattle.model.specs.Lists.{tab, find}
 use Rattle.model.specs.Values.{Third, critical, Dart, Block, no-dart, no-block, or-no-dart, code, label-key, is-critical-with}
 use Rattle.model.specs.Cells.{third-at, previous-in, labelled}
 use Rattle.model.specs.Sound.{block-at, blocks-right, numbered-from}
-use Rattle.model.specs.Image.{words, column, label-in, third-in, dart-in, block-in, holds-block}
+use Rattle.model.specs.Image.{words, column, is-critical-word, other-in, label-in, third-in, dart-in, block-in, holds-block}
 use Rattle.model.specs.Calls.{memories}
 use Rattle.laws.proofs.Tests.{by-cases, and-left, and-right}
 use Rattle.laws.proofs.Tables.{all-tab, length-tab, getD-tab, find-only}
@@ -37,6 +37,18 @@ found-at key f (suc n) x d e = by-cases (eqb x (key (f 0)))
     (λ t. (0, omega arith, sym (eqb-true x (key (f 0)) t)))
     (λ t. let r = found-at key (λ k. f (suc k)) n x d (rw t at e) in (suc (r .0), omega (arith, r .1), r .2))
 
+-- CRITICAL WORDS of the kinds that an image has
+critical-more : (k : ℕ) → is-critical-word k ≡ true → 1 < k
+critical-more k e = let two = eqb-true (k % 4) 2 e in omega arith
+
+critical-is : {k a : ℕ} → Kind k a → ltb 1 k ≡ is-critical-word k
+critical-is (kind-free e f) = rw e refl
+critical-is (kind-sewn e) = rw e refl
+critical-is {k} (kind-critical e f g) = lt-ltb 1 k (omega arith) ∙ sym (eq-eqb (k % 4) 2 e)
+
+pub word-key : (s : ℕ → ℕ) (k a : ℕ) → Kind k a → label-key (third-in s k a) ≡ cond (is-critical-word k) (suc a) 0
+word-key s k a w = label-word s k a w ∙ ap (λ (t : Bool). cond t (suc a) 0) (critical-is w)
+
 -- A BLOCK that passed question 2
 abbrev pub third-of : List ℕ → ℕ → Third
 third-of b p = third-in (column b 0) (column b 3 p) (column b 4 p)
@@ -45,32 +57,32 @@ module _ {b : List ℕ} (w : Passed b) where
   pub kind-at : (p : ℕ) → p < count b → Kind (column b 3 p) (column b 4 p)
   kind-at p h = w .range .kinds p h
 
-  pub key-at : (p : ℕ) → p < count b → label-key (third-of b p) ≡ cond (ltb 1 (column b 3 p)) (suc (column b 4 p)) 0
-  key-at p h = label-word (column b 0) (column b 3 p) (column b 4 p) (kind-at p h)
+  pub key-at : (p : ℕ) → p < count b → label-key (third-of b p) ≡ cond (is-critical-word (column b 3 p)) (suc (column b 4 p)) 0
+  key-at p h = word-key (column b 0) (column b 3 p) (column b 4 p) (kind-at p h)
 
-  pub key-critical : (p : ℕ) → p < count b → 1 < column b 3 p → label-key (third-of b p) ≡ suc (column b 4 p)
-  key-critical p h c = key-at p h ∙ chosen (ltb 1 (column b 3 p)) (lt-ltb 1 (column b 3 p) c)
+  pub key-critical : (p : ℕ) → p < count b → is-critical-word (column b 3 p) ≡ true → label-key (third-of b p) ≡ suc (column b 4 p)
+  key-critical p h c = key-at p h ∙ chosen (is-critical-word (column b 3 p)) c
     where
       chosen : (t : Bool) → t ≡ true → cond t (suc (column b 4 p)) 0 ≡ suc (column b 4 p)
       chosen t e = rw e refl
 
   -- a dart with a label is critical, and its word is the code
-  pub critical-key : (p a : ℕ) → p < count b → label-key (third-of b p) ≡ suc a → (1 < column b 3 p) × (column b 4 p ≡ a)
-  critical-key p a h e = by-cases (ltb 1 (column b 3 p))
-      (λ t. (ltb-true 1 (column b 3 p) t, yes t))
+  pub critical-key : (p a : ℕ) → p < count b → label-key (third-of b p) ≡ suc a → (is-critical-word (column b 3 p) ≡ true) × (column b 4 p ≡ a)
+  critical-key p a h e = by-cases (is-critical-word (column b 3 p))
+      (λ t. (t, yes t))
       (λ t. absurd (not-it t))
     where
-      chosen : cond (ltb 1 (column b 3 p)) (suc (column b 4 p)) 0 ≡ suc a
+      chosen : cond (is-critical-word (column b 3 p)) (suc (column b 4 p)) 0 ≡ suc a
       chosen = sym (key-at p h) ∙ e
 
-      yes : ltb 1 (column b 3 p) ≡ true → column b 4 p ≡ a
+      yes : is-critical-word (column b 3 p) ≡ true → column b 4 p ≡ a
       yes t = let q : suc (column b 4 p) ≡ suc a = rw t at chosen in omega (arith, q)
 
-      not-it : ltb 1 (column b 3 p) ≡ false → ⊥
+      not-it : is-critical-word (column b 3 p) ≡ false → ⊥
       not-it t = let q : 0 ≡ suc a = rw t at chosen in omega (arith, q)
 
   -- THE DART WITH A LABEL
-  pub labelled-is : (q a : ℕ) → q < count b → 1 < column b 3 q → column b 4 q ≡ a → labelled (label-in a) (darts b) ≡ dart-in b q
+  pub labelled-is : (q a : ℕ) → q < count b → is-critical-word (column b 3 q) ≡ true → column b 4 q ≡ a → labelled (label-in a) (darts b) ≡ dart-in b q
   unfolding labelled
   labelled-is q a h c e = ap or-no-dart (ap (λ (x : ℕ). find (λ d. label-key (d .third)) x (darts b)) same ∙ find-only (λ d. label-key (d .third)) (dart-in b) (count b) q h only)
     where
@@ -78,15 +90,15 @@ module _ {b : List ℕ} (w : Passed b) where
       same = ap suc (code-in a ∙ sym e) ∙ sym (key-critical q h c)
 
       only : (i : ℕ) → i < count b → label-key (third-of b i) ≡ label-key (third-of b q) → i ≡ q
-      only i l u = let r = critical-key i (column b 4 q) l (u ∙ key-critical q h c) in labels-apart b (count b) i q (w .differ) l h (r .0) c (r .1)
+      only i l u = let r = critical-key i (column b 4 q) l (u ∙ key-critical q h c) in labels-apart b (count b) i q (w .differ) l h (critical-more _ (r .0)) (critical-more _ c) (r .1)
 
   -- where it is critical with a block, it is there
-  pub labelled-there : (o a : ℕ) → is-critical-with o (labelled (label-in a) (darts b) .third) ≡ true → (q : ℕ) × (q < count b) × (1 < column b 3 q) × (column b 4 q ≡ a)
+  pub labelled-there : (o a : ℕ) → is-critical-with o (labelled (label-in a) (darts b) .third) ≡ true → (q : ℕ) × (q < count b) × (is-critical-word (column b 3 q) ≡ true) × (column b 4 q ≡ a)
   unfolding labelled no-dart
   labelled-there o a e = go (find (λ d. label-key (d .third)) (suc (code (label-in a))) (darts b)) refl e
     where
       go : (f : Option Dart) → find (λ d. label-key (d .third)) (suc (code (label-in a))) (darts b) ≡ f → is-critical-with o (or-no-dart f .third) ≡ true
-          → (q : ℕ) × (q < count b) × (1 < column b 3 q) × (column b 4 q ≡ a)
+          → (q : ℕ) × (q < count b) × (is-critical-word (column b 3 q) ≡ true) × (column b 4 q ≡ a)
       go none g t = absurd (true≢false (sym t))
       go (some d) g t =
           let r = found-at (λ d. label-key (d .third)) (dart-in b) (count b) (suc (code (label-in a))) d g in
@@ -118,23 +130,19 @@ module _ {b : List ℕ} (w : Passed b) where
   kind-along p h = same-kind b (count b) p (w .thirds p h)
 
   -- a critical dart names another block
-  pub names-other : (p : ℕ) → p < count b → 1 < column b 3 p → column b 3 p / 4 ≡ getD b 0 0 → ⊥
+  pub names-other : (p : ℕ) → p < count b → is-critical-word (column b 3 p) ≡ true → other-in (column b 3 p) ≡ getD b 0 0 → ⊥
   unfolding label-test
   names-other p h c e =
       let k = column b 3 p in
-      let t : (ltb k 2 || (not (eqb (k / 4) (getD b 0 0)) && (not (eqb (column b 4 p / 4096 / 2 ^ 32) (getD b 0 0)) || ltb (column b 4 p / 4096 % 2 ^ 32) (getD b 1 0)))) ≡ true = w .labels p h in
-      let u : (not (eqb (k / 4) (getD b 0 0)) && (not (eqb (column b 4 p / 4096 / 2 ^ 32) (getD b 0 0)) || ltb (column b 4 p / 4096 % 2 ^ 32) (getD b 1 0))) ≡ true =
+      let more = critical-more k c in
+      let t : (ltb k 2 || (not (eqb (other-in k) (getD b 0 0)) && (not (eqb (column b 4 p / 4096 / 2 ^ 32) (getD b 0 0)) || ltb (column b 4 p / 4096 % 2 ^ 32) (getD b 1 0)))) ≡ true = w .labels p h in
+      let u : (not (eqb (other-in k) (getD b 0 0)) && (not (eqb (column b 4 p / 4096 / 2 ^ 32) (getD b 0 0)) || ltb (column b 4 p / 4096 % 2 ^ 32) (getD b 1 0))) ≡ true =
       rw (le-ltb k 2 (omega arith)) at t
       in
-      eqb-false (k / 4) (getD b 0 0) (not-true _ (and-left (not (eqb (k / 4) (getD b 0 0))) _ u)) e
+      eqb-false (other-in k) (getD b 0 0) (not-true _ (and-left (not (eqb (other-in k) (getD b 0 0))) _ u)) e
 
-  pub critical-third : (p : ℕ) → p < count b → 1 < column b 3 p → third-of b p ≡ critical (column b 3 p / 4) (label-in (column b 4 p))
-  critical-third p h c = third-critical (column b 0) (column b 3 p) (column b 4 p) (two-of (kind-at p h) c)
-    where
-      two-of : {k a : ℕ} → Kind k a → 1 < k → k % 4 ≡ 2
-      two-of (kind-free e f) c = absurd (omega arith)
-      two-of (kind-sewn e) c = absurd (omega arith)
-      two-of (kind-critical e f g) c = e
+  pub critical-third : (p : ℕ) → p < count b → is-critical-word (column b 3 p) ≡ true → third-of b p ≡ critical (other-in (column b 3 p)) (label-in (column b 4 p))
+  critical-third p h c = third-critical (column b 0) (column b 3 p) (column b 4 p) (eqb-true (column b 3 p % 4) 2 c)
 
 -- THE BLOCKS OF A MESH
 abbrev pub mesh-of : List ℕ → List Block

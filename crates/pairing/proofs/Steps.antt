@@ -8,8 +8,8 @@ use native.Mathlib.Omega.{arith}
 use lib.Dec.{eqb}
 use lib.ListN.{length, getD, take, drop, set, length-set}
 use lib.Seq.{take-suc-set}
-use borrow.Author.Tests.{eq-eqb, ne-eqb, lt-ltb, le-ltb}
-use Rattle.model.specs.Image.{column}
+use borrow.Author.Tests.{eq-eqb, ne-eqb}
+use Rattle.model.specs.Image.{column, is-critical-word}
 use Rattle.laws.proofs.Tests.{eq-or-ne}
 use Rattle.laws.proofs.Lists.{drop-at-cons, drop-end}
 use Rattle.columns.specs.Columns.{count}
@@ -27,16 +27,13 @@ put-more {at} {r} {s} {xs} {ys} {out} {mid} {end} p q = record {
 }
 
 -- one key
-pub key-none : (b : List ℕ) (i p at : ℕ) (out : List ℕ) {k : ℕ} → k ≡ column b 3 p → k ≤ 1 → (at ≤ at + 1) × Put at (key-of b i p) out out at
+pub key-none : (b : List ℕ) (i p at : ℕ) (out : List ℕ) {k : ℕ} → k ≡ column b 3 p → is-critical-word k ≡ false → (at ≤ at + 1) × Put at (key-of b i p) out out at
 key-none b i p at out e h = (omega arith, subst (λ (l : List ℕ). Put at l out out at) (sym nothing) (put-none at out))
   where
     nothing : key-of b i p ≡ []
-    nothing = rw (le-ltb 1 (column b 3 p) (small e h)) refl
-      where
-        small : {k c : ℕ} → k ≡ c → k ≤ 1 → c ≤ 1
-        small u v = omega arith
+    nothing = rw (ap is-critical-word (sym e) ∙ h) refl
 
-pub key-put : (b : List ℕ) (i p at : ℕ) (out : List ℕ) {k a : ℕ} → at < length out → k ≡ column b 3 p → 1 < k → a ≡ column b 4 p
+pub key-put : (b : List ℕ) (i p at : ℕ) (out : List ℕ) {k a : ℕ} → at < length out → k ≡ column b 3 p → is-critical-word k ≡ true → a ≡ column b 4 p
     → (at + 1 ≤ at + 1) × Put at (key-of b i p) out (set out at (a * 65536 + (i * 4096 + p))) (at + 1)
 key-put b i p at out {k} {a} l e h f = (
   omega arith,
@@ -51,10 +48,7 @@ key-put b i p at out {k} {a} l e h f = (
     one-more n = omega arith
 
     it : key-of b i p ≡ key b i p ∷ []
-    it = rw (lt-ltb 1 (column b 3 p) (more e h)) refl
-      where
-        more : {k c : ℕ} → k ≡ c → 1 < k → 1 < c
-        more u v = omega arith
+    it = rw (ap is-critical-word (sym e) ∙ h) refl
 
 -- a block's keys
 pub record Putting (b : List ℕ) (i : ℕ) (out₀ : List ℕ) (at : ℕ) (out : List ℕ) (end p : ℕ) : Type 0 where

@@ -1,12 +1,12 @@
 -- What the functions read and answer, from what their callees ensure. Assumes nothing.
 use mathlib.Core.Path.{_≡_, sym, ap, subst, _∙_}
-use mathlib.Core.Bool.{Bool, _&&_}
+use mathlib.Core.Bool.{Bool, true, _&&_}
 use mathlib.Core.List.{List}
 use Prim.Native.Nat.{ℕ, _+_, _*_, _/_, _%_, _≤_, _<_}
 use native.Mathlib.Omega.{arith}
 use lib.Dec.{eqb}
 use lib.ListN.{length, getD}
-use Rattle.model.specs.Image.{words-for, words, column}
+use Rattle.model.specs.Image.{words-for, words, column, is-critical-word, other-in}
 use Rattle.model.specs.Values.{Point as Patterns, same-point, room}
 use Rattle.memory.specs.declared.point.Point.{Point}
 use Rattle.memory.specs.Point.{point-of, patterns, FinitePoint, FiniteAt}
@@ -33,10 +33,10 @@ module _ {m : List ℕ} {g : ℕ} (a : Asked m) (h : Held m g) where
   read-before b e f l = (subst (λ (x : ℕ). x / 4096 < blocks m) (sym e) (held-before a h b .block-lt), l)
 
 -- TESTS
-pub side-told : (m t : List ℕ) (g h : ℕ) {a b c n q : ℕ} → a ≡ word m 3 g → n ≡ next-of m g → b ≡ word m 4 n → q ≡ before-of t h → c ≡ word m 4 q
-    → (eqb (a / 4) (h / 4096) && eqb b c) ≡ side-test m t g h
+pub side-told : (m t : List ℕ) (g h : ℕ) {k a b c n q : ℕ} → k ≡ word m 3 g → a ≡ other-in k → n ≡ next-of m g → b ≡ word m 4 n → q ≡ before-of t h → c ≡ word m 4 q
+    → (eqb a (h / 4096) && eqb b c) ≡ side-test m t g h
 unfolding side-test
-side-told m t g h ea en eb eq ec = λ i. eqb (ea i / 4) (h / 4096) && eqb ((eb ∙ ap (word m 4) en) i) ((ec ∙ ap (word m 4) eq) i)
+side-told m t g h ek ea en eb eq ec = λ i. eqb ((ea ∙ ap other-in ek) i) (h / 4096) && eqb ((eb ∙ ap (word m 4) en) i) ((ec ∙ ap (word m 4) eq) i)
 
 pub labels-told : (m t : List ℕ) (x y : ℕ) {a b : Bool} → a ≡ side-test m t (x % 65536) (y % 65536) → b ≡ side-test m t (y % 65536) (x % 65536) → (a && b) ≡ label-pair m t x y
 unfolding label-pair
@@ -80,11 +80,8 @@ unfolding point-pair
 points-told m x y e f = λ i. e i && f i
 
 -- KEYS
-pub code-fits : (b : List ℕ) (p : ℕ) {k a : ℕ} → Short b → p < count b → k ≡ column b 3 p → 1 < k → a ≡ column b 4 p → a < 281474976710656
-code-fits b p {k} {a} s h e l f = subst (λ (x : ℕ). x < 281474976710656) (sym f) (s p h (more e l))
-  where
-    more : {x y : ℕ} → x ≡ y → 1 < x → 1 < y
-    more u v = omega arith
+pub code-fits : (b : List ℕ) (p : ℕ) {k a : ℕ} → Short b → p < count b → k ≡ column b 3 p → is-critical-word k ≡ true → a ≡ column b 4 p → a < 281474976710656
+code-fits b p {k} {a} s h e l f = subst (λ (x : ℕ). x < 281474976710656) (sym f) (s p h (ap is-critical-word (sym e) ∙ l))
 
 -- a block that is a part of a mesh
 module _ (m : List ℕ) (i : ℕ) {b : List ℕ} (is : b ≡ part m i) (a : Asked m) (held : i < blocks m) where

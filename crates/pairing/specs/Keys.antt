@@ -1,24 +1,25 @@
 -- The keys of a mesh: the code of each critical dart's label × 65,536 + the dart's number; and keys in order, two by two. Assumes nothing.
 use mathlib.Core.Bool.{Bool, true, false, cond, not, _&&_}
+use mathlib.Core.Path.{_≡_}
 use mathlib.Core.List.{List, [], _∷_, _++_}
 use Prim.Native.Nat.{ℕ, zero, suc, _+_, _*_, _/_, _%_, _<_, _^_}
-use lib.Dec.{eqb, ltb}
+use lib.Dec.{eqb}
 use lib.ListN.{length, getD}
-use Rattle.model.specs.Image.{column}
+use Rattle.model.specs.Image.{column, is-critical-word}
 use Rattle.columns.specs.Columns.{count}
 use Rattle.mesh.specs.Parts.{part}
 use Rattle.pairing.specs.Numbers.{Held, side-test, meet-test}
 
 -- labels are codes below 2^48
 abbrev pub Short : List ℕ → Type 0
-Short b = (p : ℕ) → p < count b → 1 < column b 3 p → column b 4 p < 2 ^ 48
+Short b = (p : ℕ) → p < count b → is-critical-word (column b 3 p) ≡ true → column b 4 p < 2 ^ 48
 
 abbrev pub key : List ℕ → ℕ → ℕ → ℕ
 key b i p = column b 4 p * 65536 + (i * 4096 + p)
 
 -- of the dart at place p of block i, none where it is not critical
 abbrev pub key-of : List ℕ → ℕ → ℕ → List ℕ
-key-of b i p = cond (ltb 1 (column b 3 p)) (key b i p ∷ []) []
+key-of b i p = cond (is-critical-word (column b 3 p)) (key b i p ∷ []) []
 
 -- of the first n darts
 unfoldable pub keys-of : List ℕ → ℕ → ℕ → List ℕ

@@ -7,7 +7,7 @@ use lib.Dec.{eqb}
 use lib.ListN.{length, getD}
 use Rattle.model.specs.Lists.{all}
 use Rattle.model.specs.Sound.{blocks-right}
-use Rattle.model.specs.Image.{column, block-in, holds-block}
+use Rattle.model.specs.Image.{column, other-in, block-in, holds-block}
 use Rattle.model.specs.Calls.{memories}
 use Rattle.columns.specs.Columns.{count}
 use Rattle.memory.specs.declared.point.Point.{Point}
@@ -52,7 +52,7 @@ point-by m g = point-of (word m 5 g) (word m 6 g) (word m 7 g)
 
 -- 25, of g that has a label with h: g names h's block, and next of g has the label of the dart before h
 unfoldable pub side-test : List ℕ → List ℕ → ℕ → ℕ → Bool
-side-test m t g h = eqb (word m 3 g / 4) (h / 4096) && eqb (word m 4 (next-of m g)) (word m 4 (before-of t h))
+side-test m t g h = eqb (other-in (word m 3 g)) (h / 4096) && eqb (word m 4 (next-of m g)) (word m 4 (before-of t h))
 
 -- 26: g and next of h have one point
 unfoldable pub meet-test : List ℕ → ℕ → ℕ → Bool

@@ -8,13 +8,14 @@ ghost use Rattle.pairing.specs.Numbers.{Asked, Before, BeforeBelow};
 use crate::dart;
 use memory::header::Header;
 use memory::record::Place;
+use memory::record::Record;
 
 // The place of the dart next to the one at place p of block i.
 fn next_place(mesh: &[u64], i: usize, p: Place) -> Place
     requires { ⌜ Asked (now mesh) × (i < blocks (now mesh)) × (p .0 < getD (part (now mesh) i) 2 0) ⌝ }
     ensures { λ r. ⌜ (r .0 ≡ column (part (now (mesh .entry)) i) 1 (p .0)) × (r .0 < 4096) ⌝ }
 {
-    Place(dart::word(mesh, i * Header::DARTS + p.0, 1) as usize)
+    Place(dart::word(mesh, i * Header::DARTS + p.0, Record::NEXT) as usize)
 }
 
 // Of block i; the blocks below it are done.

@@ -5,9 +5,11 @@ ghost use Rattle.mesh.specs.Parts.{blocks};
 ghost use Rattle.pairing.specs.Numbers.{Asked, Held, Before, word as word-of, next-of, before-of, point-by, side-test, meet-test};
 ghost use Rattle.pairing.specs.Keys.{label-pair, point-pair};
 use memory::header::Header;
+use memory::kind;
 use memory::point;
 use memory::point::Point;
 use memory::record::Place;
+use memory::record::Record;
 
 // Word f of dart g.
 pub fn word(mesh: &[u64], g: usize, f: usize) -> u64
@@ -22,7 +24,7 @@ pub fn next(mesh: &[u64], g: usize) -> usize
     requires { ⌜ Asked (now mesh) × Held (now mesh) g ⌝ }
     ensures { λ r. ⌜ r ≡ next-of (now (mesh .entry)) g ⌝ }
 {
-    g / Header::DARTS * Header::DARTS + word(mesh, g, 1) as usize
+    g / Header::DARTS * Header::DARTS + word(mesh, g, Record::NEXT) as usize
 }
 
 // The one before, by the table of places.
@@ -38,9 +40,9 @@ fn side(mesh: &[u64], table: &[u64], g: usize, h: usize) -> bool
     requires { ⌜ Asked (now mesh) × Before (now mesh) (now table) × Held (now mesh) g × Held (now mesh) h ⌝ }
     ensures { λ r. ⌜ r ≡ side-test (now (mesh .entry)) (now (table .entry)) g h ⌝ }
 {
-    let named = word(mesh, g, 3) / 4;
-    let after = word(mesh, next(mesh, g), 4);
-    let last = word(mesh, previous(mesh, table, h), 4);
+    let named = kind::other_of(word(mesh, g, Record::KIND));
+    let after = word(mesh, next(mesh, g), Record::LINK);
+    let last = word(mesh, previous(mesh, table, h), Record::LINK);
     (named == (h / Header::DARTS) as u64) & (after == last)
 }
 

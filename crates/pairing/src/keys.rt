@@ -9,6 +9,7 @@ ghost use Rattle.mesh.specs.Parts.{blocks, part, Put};
 ghost use Rattle.pairing.specs.Numbers.{Asked};
 ghost use Rattle.pairing.specs.Keys.{Short, key-of, keys-of, all-keys};
 use memory::header::Header;
+use memory::kind;
 use memory::record;
 use memory::record::Place;
 use memory::record::Record;
@@ -19,7 +20,7 @@ fn put_key(block: &[u64], i: usize, p: Place, out: &mut [u64], at: usize) -> usi
     ensures { λ r. ⌜ (r ≤ at + 1) × Put at (key-of (now (block .entry)) i (p .0)) (now (out .entry)) (now (out .exit)) r ⌝ }
 {
     let kind = record::field(block, p, Record::KIND);
-    if kind <= 1 {
+    if !kind::is_critical(kind) {
         return at;
     }
     let link = record::field(block, p, Record::LINK);

@@ -2,7 +2,7 @@
 use mathlib.Core.Path.{_≡_, refl, sym, _∙_, ap, subst}
 use mathlib.Core.Bool.{Bool, true, false, cond}
 use mathlib.Core.List.{List, [], _∷_, _++_, map}
-use Prim.Native.Nat.{ℕ, _+_, _*_, _-_, _/_, _≤_, _<_}
+use Prim.Native.Nat.{ℕ, _+_, _-_, _/_, _≤_, _<_}
 use native.Mathlib.Omega.{arith}
 use lib.Dec.{eqb}
 use lib.ListN.{length, getD, take, drop, length-append}
@@ -24,7 +24,6 @@ use Rattle.answers.specs.declared.Written.the-variants as written-as
 use Rattle.answers.specs.declared.Refusal.{Refusal}
 use Rattle.answers.specs.declared.Refusal.the-variants as refusal
 use Rattle.mesh.specs.Parts.{part}
-use Rattle.mesh.proofs.Parts.{part-is}
 use Rattle.send.proofs.SentLaws.{refused-size}
 use Rattle.rounds.specs.declared.Outcome.{Outcome}
 use Rattle.rounds.specs.declared.Outcome.the-variants as outcome
@@ -32,12 +31,6 @@ use Rattle.rounds.specs.Post.{first-in}
 use Rattle.rounds.specs.Played.{on-rack, at-block, asks-for, outcome-of, delivered, Stepped, Ran, Delivered, round-in-order, Played}
 use Rattle.rounds.proofs.Cuts.{first-is, others-are, first-front}
 use Rattle.rounds.proofs.Placed.{memory-is, no-memory}
-
--- SEND at a block of the mesh
-pub sent-part : (m : List ℕ) (b a : ℕ) → a ≡ b * 32776 → (to serial : ℕ) (outbox : List ℕ) {given : List ℕ} {r : Answer ℕ}
-    → Gives (send rack (take (a + 32776 - a) (drop a m)) to serial outbox) r given
-    → Gives (send rack (part m b) to serial outbox) r given
-sent-part m b a e to serial outbox {given} {r} w = subst (λ (x : List ℕ). Gives (send rack x to serial outbox) r given) (part-is m b a e) w
 
 -- every question has a number above 0
 some-number : (q : Refusal) → eqb (question q) 0 ≡ false

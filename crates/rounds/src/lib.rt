@@ -28,9 +28,7 @@ fn send_part(mesh: &[u64], b: usize, to: u64, serial: u64, outbox: &mut [u8]) ->
     requires { ⌜ b < blocks (now mesh) ⌝ }
     ensures { λ r. ⌜ Gives (calls.send rack (part (now (mesh .entry)) b) to serial (now (outbox .entry))) (written-of r) (now (outbox .exit)) ⌝ }
 {
-    let from = b * Header::WORDS;
-    let end = from + Header::WORDS;
-    send::send(&mesh[from..end], to, serial, outbox)
+    send::send(mesh::part_of(mesh, b), to, serial, outbox)
 }
 
 // The messages that send wrote: the first is received, and where it is taken the round is finished.

@@ -2,14 +2,13 @@
 -- Assumes nothing.
 use mathlib.Core.Path.{_≡_, refl, sym, _∙_, ap}
 use mathlib.Core.List.{List, [], _∷_, _++_, append-assoc}
-use Prim.Native.Nat.{ℕ, _+_, _*_, _%_, _≤_}
+use Prim.Native.Nat.{ℕ, _+_, _*_, _≤_}
 use native.Mathlib.Omega.{arith}
-use lib.Dec.{eqb}
 use lib.ListN.{length, getD, length-append}
 use Rattle.model.specs.Lists.{tab, concat-map}
 use Rattle.model.specs.Values.{Third, Limits}
 use Rattle.model.specs.Layouts.{Layout, group, serial, _⊗_, _⊕_, as-type, such-that, at-most, put-all, times, counted}
-use Rattle.model.specs.Image.{column, third-in, dart-in, block-in}
+use Rattle.model.specs.Image.{column, is-sewn-word, third-in, dart-in, block-in}
 use Rattle.model.specs.Messages.{point, kind-of, third, a-dart, file}
 use Rattle.laws.proofs.Tests.{by-cases}
 use Rattle.laws.proofs.Tables.{length-tab}
@@ -25,7 +24,7 @@ use Rattle.savefile.proofs.Pieces.{pieces, in-pieces, length-most}
 -- DARTS
 pub third-is : (m : List ℕ) (p : ℕ) → third-in (column m 0) (column m 3 p) (column m 4 p) ≡ third-in (λ x. x) (column m 3 p) (third-named m p)
 unfolding third-in third-named
-third-is m p = by-cases (eqb (column m 3 p % 4) 1) (λ e. rw e) (λ e. rw e)
+third-is m p = by-cases (is-sewn-word (column m 3 p)) (λ e. rw e) (λ e. rw e)
 
 third-put-is : (k a : ℕ) → third-bytes k a ≡ (at-most 2 ⊗ third) .put (kind-of (third-in (λ x. x) k a), third-in (λ x. x) k a)
 unfolding third-bytes

@@ -1,15 +1,16 @@
 -- A sound block's image: each dart's words lead to places, and what they name is in range. Assumes nothing.
-use mathlib.Core.Path.{_≡_}
-use mathlib.Core.Bool.{true}
+use mathlib.Core.Path.{_≡_, refl, sym}
+use mathlib.Core.Bool.{true, false}
 use mathlib.Core.List.{List}
 use Prim.Native.Nat.{ℕ, _%_, _^_, _≤_, _<_}
 use native.Mathlib.Omega.{arith}
 use lib.ListN.{length, getD}
-use borrow.Author.Tests.{eq-eqb, ne-eqb}
+use borrow.Author.Tests.{eq-eqb, ne-eqb, eqb-true}
 use Rattle.model.specs.Values.{widest, serial-bound, room, blocks}
-use Rattle.model.specs.Image.{words-for, column, holds-block}
+use Rattle.model.specs.Image.{words-for, column, is-sewn-word, holds-block}
 use Rattle.theory.proofs.ImageLaws.{count-fits}
 use Rattle.columns.specs.Columns.{count, Kind, kind-free, kind-sewn, kind-critical, Ranged, Places, SewnPlaces, Finite}
+use Rattle.columns.proofs.Thirds.{kind-one}
 use Rattle.columns.proofs.Links.{places}
 use Rattle.columns.proofs.ThirdLinks.{sewn-places}
 use Rattle.columns.proofs.Question.{image-passed}
@@ -19,35 +20,30 @@ use Rattle.savefile.specs.Named.{third-named, Small, AllSmall}
 
 -- the dart at place p, by the columns' facts
 module _ (m : List ℕ) (p : ℕ) where
-  pub sewn-named : column m 3 p % 4 ≡ 1 → third-named m p ≡ column m 0 (column m 4 p)
+  pub sewn-named : {k : ℕ} → k ≡ column m 3 p → is-sewn-word k ≡ true → third-named m p ≡ column m 0 (column m 4 p)
   unfolding third-named
-  sewn-named e = rw (eq-eqb (column m 3 p % 4) 1 e)
+  sewn-named e s = rw (sym e, s)
 
-  pub other-named : (column m 3 p % 4 ≡ 1 → ⊥) → third-named m p ≡ column m 4 p
+  pub other-named : {k : ℕ} → k ≡ column m 3 p → is-sewn-word k ≡ false → third-named m p ≡ column m 4 p
   unfolding third-named
-  other-named e = rw (ne-eqb (column m 3 p % 4) 1 e)
+  other-named e s = rw (sym e, s)
 
   -- the sewn dart's serial, where it is sewn
   third-small : Kind (column m 3 p) (column m 4 p) → (column m 3 p ≡ 1 → column m 0 (column m 4 p) < serial-bound) → ThirdSmall (column m 3 p) (third-named m p)
   third-small (kind-free e z) h = record {
     other-small = omega arith;
-    named-small = omega (arith, other-named (λ q. omega arith));
-    sewn-small = λ q. absurd (omega arith);
+    named-small = omega (arith, other-named refl (ne-eqb (column m 3 p % 4) 1 (λ q. omega arith)));
+    sewn-small = λ q. let one = eqb-true (column m 3 p % 4) 1 q in absurd (omega arith);
   }
   third-small (kind-sewn e) h =
       let s = h e in
-      let n = sewn-named (omega arith) in
+      let n = sewn-named refl (eq-eqb (column m 3 p % 4) 1 (omega arith)) in
       record { other-small = omega arith; named-small = omega arith; sewn-small = λ q. omega arith }
   third-small (kind-critical e o a) h = record {
     other-small = o;
-    named-small = omega (arith, other-named (λ q. omega arith));
-    sewn-small = λ q. absurd (omega arith);
+    named-small = omega (arith, other-named refl (ne-eqb (column m 3 p % 4) 1 (λ q. omega arith)));
+    sewn-small = λ q. let one = eqb-true (column m 3 p % 4) 1 q in absurd (omega arith);
   }
-
-  one-kind : Kind (column m 3 p) (column m 4 p) → column m 3 p % 4 ≡ 1 → column m 3 p ≡ 1
-  one-kind (kind-free e z) h = absurd (omega arith)
-  one-kind (kind-sewn e) h = e
-  one-kind (kind-critical e o a) h = absurd (omega arith)
 
   small-at : words-for (count m) ≤ length m → Ranged m → Places m (count m) → SewnPlaces m (count m) → Finite m (count m) → p < count m → Small m p
   small-at len w g s f h =
@@ -58,7 +54,7 @@ module _ (m : List ℕ) (p : ℕ) where
         here = omega arith;
         next-here = omega arith;
         opposite-here = omega arith;
-        sewn-here = λ e. omega (arith, s p h (one-kind k e));
+        sewn-here = λ e. omega (arith, s p h (kind-one k (eqb-true (column m 3 p % 4) 1 e)));
         serial-small = w .serial-small p h;
         next-small = w .serial-small (column m 1 p) a;
         opposite-small = w .serial-small (column m 2 p) b;

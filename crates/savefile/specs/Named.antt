@@ -2,19 +2,18 @@
 --   third-named    what a third link names, by itself: the serial of a sewn dart, the code of a label
 --   Small          the words of a dart lead to places, what it names is in range, and its point is finite
 use mathlib.Core.Path.{_≡_}
-use mathlib.Core.Bool.{cond}
+use mathlib.Core.Bool.{true, cond}
 use mathlib.Core.List.{List, _++_}
-use Prim.Native.Nat.{ℕ, _+_, _%_, _<_, _≤_}
-use lib.Dec.{eqb}
+use Prim.Native.Nat.{ℕ, _+_, _<_, _≤_}
 use lib.ListN.{length, getD}
 use Rattle.model.specs.Values.{serial-bound, room}
 use Rattle.model.specs.Layouts.{group, serial}
-use Rattle.model.specs.Image.{words-for, column}
+use Rattle.model.specs.Image.{words-for, column, is-sewn-word}
 use Rattle.memory.specs.Point.{FiniteAt}
 use Rattle.codec.specs.Thirds.{ThirdSmall}
 
 unfoldable pub third-named : List ℕ → ℕ → ℕ
-third-named m p = cond (eqb (column m 3 p % 4) 1) (column m 0 (column m 4 p)) (column m 4 p)
+third-named m p = cond (is-sewn-word (column m 3 p)) (column m 0 (column m 4 p)) (column m 4 p)
 
 -- BYTES
 -- serial, next, opposite
@@ -30,7 +29,7 @@ pub record Small (m : List ℕ) (p : ℕ) : Type 0 where
   pub here : words-for (p + 1) ≤ length m
   pub next-here : words-for (column m 1 p + 1) ≤ length m
   pub opposite-here : words-for (column m 2 p + 1) ≤ length m
-  pub sewn-here : column m 3 p % 4 ≡ 1 → words-for (column m 4 p + 1) ≤ length m
+  pub sewn-here : is-sewn-word (column m 3 p) ≡ true → words-for (column m 4 p + 1) ≤ length m
   pub serial-small : column m 0 p < serial-bound
   pub next-small : column m 0 (column m 1 p) < serial-bound
   pub opposite-small : column m 0 (column m 2 p) < serial-bound

@@ -4,6 +4,7 @@ ghost use Prim.Native.Nat.{_+_, _≤_, _<_, _^_};
 ghost use lib.ListN.{length};
 ghost use Rattle.model.specs.Image.{words-for, column};
 ghost use Rattle.savefile.specs.Named.{Small, third-named};
+use memory::kind;
 use memory::record;
 use memory::record::Place;
 use memory::record::Record;
@@ -22,9 +23,8 @@ pub fn third_along(block: &[u64], p: Place) -> u64
     requires { ⌜ Small (now block) (p .0) ⌝ }
     ensures { λ r. ⌜ r ≡ third-named (now (block .entry)) (p .0) ⌝ }
 {
-    let k = record::field(block, p, Record::KIND);
-    if k % 4 == 1 {
-        return serial_along(block, p, 4);
+    if kind::is_sewn(record::field(block, p, Record::KIND)) {
+        return serial_along(block, p, Record::LINK);
     }
     record::field(block, p, Record::LINK)
 }

@@ -48,9 +48,7 @@ fn put_file(mesh: &[u64], b: usize, out: &mut [u8]) -> Made
     if mesh.len() / Header::WORDS <= b {
         return Made::Cannot;
     }
-    let from = b * Header::WORDS;
-    let end = from + Header::WORDS;
-    match savefile::save_file(&mesh[from..end], out) {
+    match savefile::save_file(mesh::part_of(mesh, b), out) {
         Written::Served(n) => Made::Bytes(n),
         Written::Refused(_) => Made::Cannot,
     }

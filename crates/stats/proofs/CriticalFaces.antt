@@ -10,7 +10,7 @@ use borrow.Author.Tests.{eq-eqb, ne-eqb}
 use Rattle.model.specs.Lists.{all, keep}
 use Rattle.model.specs.Values.{Dart, room}
 use Rattle.model.specs.Cells.{cycle, faces, start-of, serials, next-in, third-at}
-use Rattle.model.specs.Image.{count-in, column, dart-in, third-in, block-in, holds-block}
+use Rattle.model.specs.Image.{count-in, column, is-critical-word, dart-in, third-in, block-in, holds-block}
 use Rattle.model.specs.Balance.{every, picked}
 use Rattle.laws.proofs.Members.{In, in-here, in-there, keep-in, keep-map, keep-each, Each, each-map}
 use Rattle.laws.proofs.Tables.{length-tab, map-tab}
@@ -72,7 +72,7 @@ first-dart {m} {out} {starts} {n} {darts} {count} l o k h =
     (r .0, r .1 ∙ ap (λ (ps : List ℕ). start-of (getD (faces (column m 1) ps) k [])) e, r .2)
 
 -- FROM PLACES TO SERIALS
-critical-third : (s : ℕ → ℕ) (k a : ℕ) → Kind k a → is-critical (third-in s k a) ≡ eqb (k % 4) 2
+critical-third : (s : ℕ → ℕ) (k a : ℕ) → Kind k a → is-critical (third-in s k a) ≡ is-critical-word k
 critical-third s k a (kind-free e f) = rw (third-free s k a e, ne-eqb (k % 4) 2 (λ x. omega arith))
 critical-third s k a (kind-sewn e) = rw (third-sewn s k a e, ne-eqb (k % 4) 2 (λ x. omega arith))
 critical-third s k a (kind-critical e f g) = rw (third-critical s k a e, eq-eqb (k % 4) 2 e)

@@ -11,7 +11,7 @@ use borrow.Author.Tests.{eqb-true, eq-eqb, ne-eqb}
 use Rattle.model.specs.Lists.{all, keep, mem}
 use Rattle.model.specs.Values.{Dart}
 use Rattle.model.specs.Cells.{serials, third-at, volume-in, volume-starts}
-use Rattle.model.specs.Image.{count-in, column, dart-in, third-in, holds-block}
+use Rattle.model.specs.Image.{count-in, column, is-sewn-word, dart-in, third-in, holds-block}
 use Rattle.laws.proofs.Tests.{by-cases, same-truth, and-left, and-right}
 use Rattle.laws.proofs.Members.{In, in-here, in-there, in-cons, all-map, all-cong, keep-map, keep-cong}
 use Rattle.laws.proofs.Tables.{length-tab, map-tab}
@@ -38,23 +38,23 @@ link-cases third m p z h a b c =
 
 -- whether the third link of p counts
 abbrev counts : Bool → List ℕ → ℕ → Bool
-counts third m p = third && eqb (column m 3 p % 4) 1
+counts third m p = third && is-sewn-word (column m 3 p)
 
-pub third-taken : (third : Bool) (m : List ℕ) (p : ℕ) {k v : ℕ} → k ≡ column m 3 p → v ≡ column m 4 p → (third && eqb (k % 4) 1) ≡ true → v ≡ third-link third m p
-third-taken third m p e f h = f ∙ sym (ap (λ (b : Bool). cond b (column m 4 p) p) (ap (λ (x : ℕ). third && eqb (x % 4) 1) (sym e) ∙ h))
+pub third-taken : (third : Bool) (m : List ℕ) (p : ℕ) {k v : ℕ} {s : Bool} → k ≡ column m 3 p → s ≡ is-sewn-word k → v ≡ column m 4 p → (third && s) ≡ true → v ≡ third-link third m p
+third-taken third m p e t f h = f ∙ sym (ap (λ (b : Bool). cond b (column m 4 p) p) (ap (λ (x : Bool). third && x) (sym (t ∙ ap is-sewn-word e)) ∙ h))
 
-pub third-left : (third : Bool) (m : List ℕ) (p : ℕ) {k : ℕ} → k ≡ column m 3 p → (third && eqb (k % 4) 1) ≡ false → p ≡ third-link third m p
-third-left third m p e h = sym (ap (λ (b : Bool). cond b (column m 4 p) p) (ap (λ (x : ℕ). third && eqb (x % 4) 1) (sym e) ∙ h))
+pub third-left : (third : Bool) (m : List ℕ) (p : ℕ) {k : ℕ} {s : Bool} → k ≡ column m 3 p → s ≡ is-sewn-word k → (third && s) ≡ false → p ≡ third-link third m p
+third-left third m p e t h = sym (ap (λ (b : Bool). cond b (column m 4 p) p) (ap (λ (x : Bool). third && x) (sym (t ∙ ap is-sewn-word e)) ∙ h))
 
 module _ {m : List ℕ} (j : Joined m) (third : Bool) where
   abbrev n : ℕ
   n = getD m 2 0
 
-  sewn-at : (p : ℕ) → counts third m p ≡ true → column m 3 p % 4 ≡ 1
-  sewn-at p e = eqb-true (column m 3 p % 4) 1 (and-right third (eqb (column m 3 p % 4) 1) e)
+  sewn-at : (p : ℕ) → counts third m p ≡ true → is-sewn-word (column m 3 p) ≡ true
+  sewn-at p e = and-right third (is-sewn-word (column m 3 p)) e
 
   third-within : (p : ℕ) → p < n → third-link third m p < n
-  third-within p h = by-cases (counts third m p) (λ e. rw e (j .linked .sewn-within p h (sewn-at p e))) (λ e. rw e h)
+  third-within p h = by-cases (counts third m p) (λ e. rw e (j .linked .sewn-within p h (eqb-true (column m 3 p % 4) 1 (sewn-at p e)))) (λ e. rw e h)
 
   third-back : (p : ℕ) → p < n → third-link third m (third-link third m p) ≡ p
   third-back p h = by-cases (counts third m p) sewn-there (λ e. rw (e, e))
@@ -62,7 +62,7 @@ module _ {m : List ℕ} (j : Joined m) (third : Bool) where
       sewn-there : counts third m p ≡ true → third-link third m (third-link third m p) ≡ p
       sewn-there e =
           let r = j .sewn-back p h (sewn-at p e) in
-          rw (e, and-left third (eqb (column m 3 p % 4) 1) e, eq-eqb (column m 3 (column m 4 p) % 4) 1 (r .0)) (r .1)
+          rw (e, and-left third (is-sewn-word (column m 3 p)) e, r .0) (r .1)
 
   pub links-within : (x z : ℕ) → x < n → In z (links-at third m x) → z < n
   links-within x z h k = link-cases third m x z k (λ e. rw e (j .linked .next-within x h)) (λ e. rw e (j .linked .opposite-within x h)) (λ e. rw e (third-within x h))
@@ -125,8 +125,8 @@ joined m ok = record {
   linked = sited m ok .linked;
   sewn-back = λ p h e.
       let w = image-passed m ok in
-      let t = sewn-says m (getD m 2 0) p (w .thirds p h) (kind-one (w .range .kinds p h) e) in
-      (omega (arith, t .kind), t .back);
+      let t = sewn-says m (getD m 2 0) p (w .thirds p h) (kind-one (w .range .kinds p h) (eqb-true (column m 3 p % 4) 1 e)) in
+      (eq-eqb (column m 3 (column m 4 p) % 4) 1 (omega (arith, t .kind)), t .back);
 }
 
 -- FROM PLACES TO SERIALS

@@ -10,7 +10,7 @@ use lib.Seq.{ext-getD, getD-take, getD-drop, length-take-le, drop-drop}
 use Rattle.model.specs.Lists.{all, keep, mem, tab, concat-map}
 use Rattle.model.specs.Values.{Dart, is-critical-with, room}
 use Rattle.model.specs.Cells.{cycle, faces, start-of, next-in, third-at, volume-in, faces-in, volume-starts}
-use Rattle.model.specs.Image.{count-in, column, third-in, holds-block}
+use Rattle.model.specs.Image.{count-in, column, other-in, third-in, holds-block}
 use borrow.Author.Tests.{eqb-true, eq-eqb, ne-eqb, le-leb, lt-leb}
 use Rattle.laws.proofs.Tests.{by-cases, same-truth, and-intro, and-left, and-right, and-false, eqb-swap, and-yes}
 use Rattle.laws.proofs.Members.{In, in-here, in-there, getD-in, keep-in, keep-le, keep-cong, keep-twice, keep-map, map-map}
@@ -138,7 +138,7 @@ module _ (m : List ℕ) (ok : holds-block m ≡ true) where
       two : column m 3 x % 4 ≡ 2
       two = eqb-true (column m 3 x % 4) 2 e
 
-      go : Kind (column m 3 x) (column m 4 x) → column m 3 x / 4 < 16
+      go : Kind (column m 3 x) (column m 4 x) → other-in (column m 3 x) < 16
       go (kind-free a b) = absurd (omega (arith, two))
       go (kind-sewn a) = absurd (omega (arith, two))
       go (kind-critical a b c) = b
@@ -169,36 +169,36 @@ module _ (m : List ℕ) (ok : holds-block m ≡ true) where
 
     -- CRITICAL FACES of the cell, with block o
     -- the test of one start
-    with-block : (o x : ℕ) → x < n → is-critical-with o (third-at ds (s x)) ≡ (critical-at m x && eqb (column m 3 x / 4) o)
+    with-block : (o x : ℕ) → x < n → is-critical-with o (third-at ds (s x)) ≡ (critical-at m x && eqb (other-in (column m 3 x)) o)
     with-block o x l = ap (is-critical-with o) (site .third-is x l) ∙ go (image-passed m ok .range .kinds x l)
       where
-        go : Kind (column m 3 x) (column m 4 x) → is-critical-with o (third-in s (column m 3 x) (column m 4 x)) ≡ (critical-at m x && eqb (column m 3 x / 4) o)
+        go : Kind (column m 3 x) (column m 4 x) → is-critical-with o (third-in s (column m 3 x) (column m 4 x)) ≡ (critical-at m x && eqb (other-in (column m 3 x)) o)
         go (kind-free e f) = rw (third-free s (column m 3 x) (column m 4 x) e, ne-eqb (column m 3 x % 4) 2 (λ y. omega arith))
         go (kind-sewn e) = rw (third-sewn s (column m 3 x) (column m 4 x) e, ne-eqb (column m 3 x % 4) 2 (λ y. omega arith))
-        go (kind-critical e f g) = rw (third-critical s (column m 3 x) (column m 4 x) e, eq-eqb (column m 3 x % 4) 2 e) (eqb-swap o (column m 3 x / 4))
+        go (kind-critical e f g) = rw (third-critical s (column m 3 x) (column m 4 x) e, eq-eqb (column m 3 x % 4) 2 e) (eqb-swap o (other-in (column m 3 x)))
 
     serial-start : (x : ℕ) → x < n → start-of (map s (cycle nx x)) ≡ s x
     serial-start x l = start-map s (cycle nx x) (round (site .linked .few) (site .linked .next-within) (site .linked .next-apart) x l .some) ∙ ap s (cycle-from x l)
 
-    critical-are : (o : ℕ) → length (critical-with ds (s p) o) ≡ length (keep (λ x. critical-at m x && eqb (column m 3 x / 4) o) (keep starts-face (places-in n vol)))
+    critical-are : (o : ℕ) → length (critical-with ds (s p) o) ≡ length (keep (λ x. critical-at m x && eqb (other-in (column m 3 x)) o) (keep starts-face (places-in n vol)))
     critical-are o =
         let test : List ℕ → Bool = λ f. is-critical-with o (third-at ds (start-of f)) in
         let l = keep starts-face (places-in n vol) in
         ap (λ (fs : List (List ℕ)). length (keep test fs)) faces-are
         ∙ ap length (keep-map test (λ x. map s (cycle nx x)) l)
         ∙ length-map (keep (λ x. test (map s (cycle nx x))) l) (λ x. map s (cycle nx x))
-        ∙ ap length (keep-cong (λ x. test (map s (cycle nx x))) (λ x. critical-at m x && eqb (column m 3 x / 4) o) l
+        ∙ ap length (keep-cong (λ x. test (map s (cycle nx x))) (λ x. critical-at m x && eqb (other-in (column m 3 x)) o) l
         (λ x k. let below = places-in-in n vol x (keep-in starts-face (places-in n vol) x k .0) .0 in
         ap (λ (y : ℕ). is-critical-with o (third-at ds y)) (serial-start x below) ∙ with-block o x below))
 
-    pub critical-figure : (o : ℕ) → length (keep (λ x. mem x vol && eqb (column m 3 x / 4) o) (keep (critical-at m) (face-starts m))) ≡ length (critical-with ds (s p) o)
+    pub critical-figure : (o : ℕ) → length (keep (λ x. mem x vol && eqb (other-in (column m 3 x)) o) (keep (critical-at m) (face-starts m))) ≡ length (critical-with ds (s p) o)
     critical-figure o =
         ap length
-        (keep-twice (λ x. mem x vol && eqb (column m 3 x / 4) o) (critical-at m) (face-starts m)
-        ∙ keep-cong (λ x. critical-at m x && (mem x vol && eqb (column m 3 x / 4) o)) (λ x. mem x vol && (critical-at m x && eqb (column m 3 x / 4) o)) (face-starts m)
-        (λ x k. turn (critical-at m x) (mem x vol) (eqb (column m 3 x / 4) o))
-        ∙ sym (keep-twice (λ x. critical-at m x && eqb (column m 3 x / 4) o) (λ x. mem x vol) (face-starts m))
-        ∙ ap (keep (λ x. critical-at m x && eqb (column m 3 x / 4) o)) starts-in-cell)
+        (keep-twice (λ x. mem x vol && eqb (other-in (column m 3 x)) o) (critical-at m) (face-starts m)
+        ∙ keep-cong (λ x. critical-at m x && (mem x vol && eqb (other-in (column m 3 x)) o)) (λ x. mem x vol && (critical-at m x && eqb (other-in (column m 3 x)) o)) (face-starts m)
+        (λ x k. turn (critical-at m x) (mem x vol) (eqb (other-in (column m 3 x)) o))
+        ∙ sym (keep-twice (λ x. critical-at m x && eqb (other-in (column m 3 x)) o) (λ x. mem x vol) (face-starts m))
+        ∙ ap (keep (λ x. critical-at m x && eqb (other-in (column m 3 x)) o)) starts-in-cell)
         ∙ sym (critical-are o)
       where
         turn : (a b c : Bool) → (a && (b && c)) ≡ (b && (a && c))
@@ -260,20 +260,20 @@ module _ (m : List ℕ) (ok : holds-block m ≡ true) where
       critical-below : (x : ℕ) → In x critical-starts → x < n
       critical-below x k = starts-below x (keep-in (critical-at m) (face-starts m) x k .0)
 
-      named-block : (x : ℕ) → In x critical-starts → column m 3 x / 4 < 16
+      named-block : (x : ℕ) → In x critical-starts → other-in (column m 3 x) < 16
       named-block x k = bordering x (critical-below x k) (keep-in (critical-at m) (face-starts m) x k .1)
 
-      critical-hit : (j x : ℕ) → j < 19 → In x critical-starts → eqb (critical-word m G x) (19 * c + j) ≡ (eqb (getD G x 0) (suc c) && eqb (3 + column m 3 x / 4) j)
-      critical-hit j x l k = hit G x j (3 + column m 3 x / 4) c (named x (critical-below x k)) (omega (arith, named-block x k)) l
+      critical-hit : (j x : ℕ) → j < 19 → In x critical-starts → eqb (critical-word m G x) (19 * c + j) ≡ (eqb (getD G x 0) (suc c) && eqb (3 + other-in (column m 3 x)) j)
+      critical-hit j x l k = hit G x j (3 + other-in (column m 3 x)) c (named x (critical-below x k)) (omega (arith, named-block x k)) l
 
       critical-none : (j : ℕ) → j < 3 → length (keep (λ x. eqb (critical-word m G x) (19 * c + j)) critical-starts) ≡ 0
       critical-none j l = none-kept (λ x. eqb (critical-word m G x) (19 * c + j)) critical-starts
-          (λ x k. critical-hit j x (omega arith) k ∙ rw (ne-eqb (3 + column m 3 x / 4) j (λ e. omega arith)) (and-false (eqb (getD G x 0) (suc c))))
+          (λ x k. critical-hit j x (omega arith) k ∙ rw (ne-eqb (3 + other-in (column m 3 x)) j (λ e. omega arith)) (and-false (eqb (getD G x 0) (suc c))))
 
       critical-here : (o : ℕ) → o < 16 → length (keep (λ x. eqb (critical-word m G x) (19 * c + (3 + o))) critical-starts) ≡ length (critical-with ds (s p) o)
       critical-here o l =
-          ap length (keep-cong (λ x. eqb (critical-word m G x) (19 * c + (3 + o))) (λ x. mem x (volume-of m p) && eqb (column m 3 x / 4) o) critical-starts
-          (λ x k. critical-hit (3 + o) x (omega arith) k ∙ both (in-cell c h x (critical-below x k)) (three-more (column m 3 x / 4) o)))
+          ap length (keep-cong (λ x. eqb (critical-word m G x) (19 * c + (3 + o))) (λ x. mem x (volume-of m p) && eqb (other-in (column m 3 x)) o) critical-starts
+          (λ x k. critical-hit (3 + o) x (omega arith) k ∙ both (in-cell c h x (critical-below x k)) (three-more (other-in (column m 3 x)) o)))
           ∙ critical-figure p (first-below c h) o
         where
           both : {a b c d : Bool} → a ≡ b → c ≡ d → (a && c) ≡ (b && d)
@@ -333,7 +333,7 @@ module _ (m : List ℕ) (ok : holds-block m ≡ true) where
           let f = none-beyond (cell-word G 2) (face-starts m) (λ x k. word-low 2 x (omega arith) (starts-below x k)) i h in
           let b = none-beyond (critical-word m G) (keep (critical-at m) (face-starts m)) (λ x k.
           let at = keep-in (critical-at m) (face-starts m) x k in
-          word-low (3 + column m 3 x / 4) x (omega (arith, bordering x (starts-below x (at .0)) (at .1))) (starts-below x (at .0))) i h in
+          word-low (3 + other-in (column m 3 x)) x (omega (arith, bordering x (starts-below x (at .0)) (at .1))) (starts-below x (at .0))) i h in
           omega (arith, borders .value i, darts .value i, started .rest i h)
 
       pub all-told : 19 * count ≤ length T₀ → T₃ ≡ told-rows m T₀

@@ -7,7 +7,7 @@ use lib.Dec.{eqb}
 use lib.ListN.{length, getD}
 use Rattle.model.specs.Lists.{keep, tab}
 use Rattle.model.specs.Cells.{faces, start-of}
-use Rattle.model.specs.Image.{column}
+use Rattle.model.specs.Image.{column, other-in}
 use Rattle.model.specs.Values.{room}
 use Rattle.stats.specs.Tally.{critical-at}
 
@@ -27,7 +27,7 @@ cell-word G j p = 19 * (getD G p 0 - 1) + j
 
 -- the word for the block that the dart at place p is critical with
 abbrev pub critical-word : List ℕ → List ℕ → ℕ → ℕ
-critical-word m G p = cell-word G (3 + column m 3 p / 4) p
+critical-word m G p = cell-word G (3 + other-in (column m 3 p)) p
 
 -- the rows of all cells are there, with numbers of at most `most` in them
 pub record Countable (most : ℕ) (m G T : List ℕ) : Type 0 where
@@ -63,4 +63,4 @@ pub record FacesCounted (m G T T′ : List ℕ) : Type 0 where
 
 -- critical darts name blocks from 0 to 15
 abbrev pub Bordering : List ℕ → Type 0
-Bordering m = (p : ℕ) → p < getD m 2 0 → critical-at m p ≡ true → column m 3 p / 4 < 16
+Bordering m = (p : ℕ) → p < getD m 2 0 → critical-at m p ≡ true → other-in (column m 3 p) < 16

@@ -3,17 +3,17 @@ use mathlib.Core.Path.{_≡_}
 use mathlib.Core.Bool.{Bool, true, cond, _&&_}
 use mathlib.Core.List.{List, [], _∷_}
 use mathlib.Core.Logic.{_≢_}
-use Prim.Native.Nat.{ℕ, suc, _+_, _%_, _≤_, _<_}
+use Prim.Native.Nat.{ℕ, suc, _+_, _≤_, _<_}
 use lib.Dec.{leb, eqb}
 use lib.ListN.{length, getD, set, take}
 use Rattle.model.specs.Lists.{all, keep, mem, tab}
-use Rattle.model.specs.Image.{column}
+use Rattle.model.specs.Image.{column, is-sewn-word}
 use Rattle.cells.specs.Places.{Linked, places-in}
 use Rattle.stats.specs.Pieces.{piece}
 
 -- the third link of the dart at place p, if third links count and the dart is sewn; else p
 abbrev pub third-link : Bool → List ℕ → ℕ → ℕ
-third-link third m p = cond (third && eqb (column m 3 p % 4) 1) (column m 4 p) p
+third-link third m p = cond (third && is-sewn-word (column m 3 p)) (column m 4 p) p
 
 abbrev pub links-at : Bool → List ℕ → ℕ → List ℕ
 links-at third m p = column m 1 p ∷ column m 2 p ∷ third-link third m p ∷ []
@@ -33,8 +33,8 @@ firsts-below third m p = keep (is-first third m) (tab (λ q. q) p)
 -- a block's memory in which a sewn dart is sewn to one that is sewn to it
 pub record Joined (m : List ℕ) : Type 0 where
   pub linked : Linked m (getD m 2 0)
-  pub sewn-back : (p : ℕ) → p < getD m 2 0 → column m 3 p % 4 ≡ 1
-      → (column m 3 (column m 4 p) % 4 ≡ 1) × (column m 4 (column m 4 p) ≡ p)
+  pub sewn-back : (p : ℕ) → p < getD m 2 0 → is-sewn-word (column m 3 p) ≡ true
+      → (is-sewn-word (column m 3 (column m 4 p)) ≡ true) × (column m 4 (column m 4 p) ≡ p)
 
 -- THE GROUPS in a table: 0 where a place is in none yet
 -- p enters group g, unless it is in one: it is put at the end of the queue, of length t

@@ -7,7 +7,7 @@ use lib.ListN.{length}
 use Rattle.model.specs.Lists.{keep}
 use Rattle.model.specs.Values.{Third, free, sewn, critical, Dart, Block}
 use Rattle.model.specs.Cells.{faces, start-of, serials, next-in, third-at}
-use Rattle.model.specs.Image.{column, block-in, holds-block}
+use Rattle.model.specs.Image.{column, is-critical-word, block-in, holds-block}
 use Rattle.model.specs.Balance.{every, picked}
 use Rattle.stats.specs.declared.counts.Tally.{Tally}
 use Rattle.stats.specs.Pieces.{piece-starts}
@@ -40,4 +40,4 @@ tally-of m = cond (holds-block m) (tally-in (block-in m)) no-tally
 
 -- BY PLACE: the dart at place p is critical
 abbrev pub critical-at : List ℕ → ℕ → Bool
-critical-at m p = eqb (column m 3 p % 4) 2
+critical-at m p = is-critical-word (column m 3 p)

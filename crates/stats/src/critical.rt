@@ -9,16 +9,17 @@ ghost use Rattle.model.specs.Image.{words-for, column, block-in, holds-block};
 ghost use Rattle.cells.specs.Places.{InOrder, Linked};
 ghost use Rattle.stats.specs.Tally.{critical-at, critical-faces};
 use memory::header::Header;
+use memory::kind;
 use memory::record;
 use memory::record::Place;
 use memory::record::Record;
 
 // Whether the dart at place p is critical.
-pub fn is_critical(block: &[u64], p: usize) -> bool
-    requires { ⌜ words-for (p + 1) ≤ length (now block) ⌝ }
-    ensures { λ r. ⌜ r ≡ critical-at (now (block .entry)) p ⌝ }
+pub fn is_critical(block: &[u64], p: Place) -> bool
+    requires { ⌜ words-for (p .0 + 1) ≤ length (now block) ⌝ }
+    ensures { λ r. ⌜ r ≡ critical-at (now (block .entry)) (p .0) ⌝ }
 {
-    record::field(block, Place(p), Record::KIND) % 4 == 2
+    kind::is_critical(record::field(block, p, Record::KIND))
 }
 
 // How many of the faces of the first n places are critical.
@@ -40,7 +41,7 @@ fn count_critical(
         let i = starts[f];
         let p = out[i];
         f += 1;
-        if !is_critical(block, p) {
+        if !is_critical(block, Place(p)) {
             continue;
         }
         critical += 1;

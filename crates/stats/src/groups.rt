@@ -7,31 +7,33 @@ ghost use Rattle.model.specs.Values.{room};
 ghost use Rattle.cells.specs.Places.{Clear, Assigned};
 ghost use Rattle.stats.specs.Groups.{third-link, group-of, Joined, Entered, Queued, LinksEntered, Shut, Grouped};
 use memory::header::Header;
+use memory::kind;
 use memory::record;
 use memory::record::Place;
 use memory::record::Record;
 
 // Where the third link of the dart at place p leads, if third links count and the dart is sewn; else p.
-fn third_link(block: &[u64], third: bool, p: usize) -> usize
-    requires { ⌜ words-for (p + 1) ≤ length (now block) ⌝ }
-    ensures { λ r. ⌜ r ≡ third-link third (now (block .entry)) p ⌝ }
+fn third_link(block: &[u64], third: bool, p: Place) -> Place
+    requires { ⌜ words-for (p .0 + 1) ≤ length (now block) ⌝ }
+    ensures { λ r. ⌜ r .0 ≡ third-link third (now (block .entry)) (p .0) ⌝ }
 {
-    if third & (record::field(block, Place(p), Record::KIND) % 4 == 1) {
-        return record::field(block, Place(p), Record::LINK) as usize;
+    if third & kind::is_sewn(record::field(block, p, Record::KIND)) {
+        return Place(record::field(block, p, Record::LINK) as usize);
     }
     p
 }
 
 // A place that is in no group yet is put into one, and at the end of the queue. Returns the queue's new length.
-fn enter(groups: &mut [usize], order: &mut [usize], tail: usize, p: usize, group: usize) -> usize
-    requires { ⌜ (p < room) × (p < length (now groups)) × (tail ≤ room) × (getD (now groups) p 0 ≡ 0 → tail < length (now order)) ⌝ }
-    ensures { λ r. ⌜ Entered p group (now (groups .entry)) (now (order .entry)) tail (now (groups .exit)) (now (order .exit)) r ⌝ }
+fn enter(groups: &mut [usize], order: &mut [usize], tail: usize, p: Place, group: usize) -> usize
+    requires { ⌜ (p .0 < room) × (p .0 < length (now groups)) × (tail ≤ room) × (getD (now groups) (p .0) 0 ≡ 0 → tail < length (now order)) ⌝ }
+    ensures { λ r. ⌜ Entered (p .0) group (now (groups .entry)) (now (order .entry)) tail (now (groups .exit)) (now (order .exit)) r ⌝ }
 {
-    if groups[p] != 0 {
+    let i = p.0;
+    if groups[i] != 0 {
         return tail;
     }
-    groups[p] = group;
-    order[tail] = p;
+    groups[i] = group;
+    order[tail] = i;
     tail + 1
 }
 
@@ -40,20 +42,20 @@ fn enter(groups: &mut [usize], order: &mut [usize], tail: usize, p: usize, group
 fn enter_links(
     block: &[u64],
     third: bool,
-    p: usize,
+    p: Place,
     group: usize,
     order: &mut [usize],
     tail: usize,
     groups: &mut [usize],
 ) -> usize
-    requires { ⌜ Joined (now block) × (p < getD (now block) 2 0) × (0 < group)
+    requires { ⌜ Joined (now block) × (p .0 < getD (now block) 2 0) × (0 < group)
         × Queued (getD (now block) 2 0) (now groups) (now order) tail ⌝ }
-    ensures { λ r. ⌜ LinksEntered third (now (block .entry)) p group (now (groups .entry)) (now (order .entry)) tail
+    ensures { λ r. ⌜ LinksEntered third (now (block .entry)) (p .0) group (now (groups .entry)) (now (order .entry)) tail
         (now (groups .exit)) (now (order .exit)) r ⌝ }
 {
-    let a = record::field(block, Place(p), Record::NEXT) as usize;
+    let a = Place(record::field(block, p, Record::NEXT) as usize);
     let with_next = enter(groups, order, tail, a, group);
-    let b = record::field(block, Place(p), Record::OPPOSITE) as usize;
+    let b = Place(record::field(block, p, Record::OPPOSITE) as usize);
     let with_opposite = enter(groups, order, with_next, b, group);
     let c = third_link(block, third, p);
     enter(groups, order, with_opposite, c, group)
@@ -63,25 +65,26 @@ fn enter_links(
 fn add_group(
     block: &[u64],
     third: bool,
-    start: usize,
+    start: Place,
     group: usize,
     order: &mut [usize],
     tail: usize,
     groups: &mut [usize],
 ) -> usize
-    requires { ⌜ Joined (now block) × (start < getD (now block) 2 0) × (0 < group) ⌝ }
+    requires { ⌜ Joined (now block) × (start .0 < getD (now block) 2 0) × (0 < group) ⌝ }
     requires { ⌜ Queued (getD (now block) 2 0) (now groups) (now order) tail × Shut third (now block) (now groups)
-        × (getD (now groups) start 0 ≡ 0) ⌝ }
+        × (getD (now groups) (start .0) 0 ≡ 0) ⌝ }
     ensures queue { λ r. ⌜ Queued (getD (now (block .entry)) 2 0) (now (groups .exit)) (now (order .exit)) r ⌝ }
-    ensures assigned { λ r. ⌜ Assigned group (group-of third (now (block .entry)) start) (now (groups .entry)) (now (groups .exit)) ⌝ }
+    ensures assigned { λ r. ⌜ Assigned group (group-of third (now (block .entry)) (start .0)) (now (groups .entry)) (now (groups .exit)) ⌝ }
 {
+    let first = start.0;
     // The links of what stands before `head` lead to what is in a group.
-    let mut end = enter(groups, order, tail, start, group);
+    let mut end = enter(groups, order, tail, Place(first), group);
     let mut head = tail;
     while head < end {
         let p = order[head];
         head += 1;
-        end = enter_links(block, third, p, group, order, end, groups);
+        end = enter_links(block, third, Place(p), group, order, end, groups);
     }
     end
 }
@@ -110,7 +113,7 @@ pub fn number(
         }
         firsts[count] = p;
         count += 1;
-        tail = add_group(block, third, p, count, order, tail, groups);
+        tail = add_group(block, third, Place(p), count, order, tail, groups);
         p += 1;
     }
     count

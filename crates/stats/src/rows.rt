@@ -6,7 +6,7 @@ ghost use Prim.Native.Nat.{ℕ, _+_, _*_, _/_, _≤_, _<_, _^_};
 ghost use lib.ListN.{length, getD, set};
 ghost use Rattle.model.specs.Lists.{keep, tab};
 ghost use Rattle.model.specs.Values.{room};
-ghost use Rattle.model.specs.Image.{words-for, column, holds-block};
+ghost use Rattle.model.specs.Image.{words-for, column, other-in, holds-block};
 ghost use Rattle.cells.specs.Places.{Linked};
 ghost use Rattle.stats.specs.Tally.{critical-at};
 ghost use Rattle.stats.specs.Groups.{Grouped};
@@ -16,6 +16,7 @@ ghost use Rattle.stats.specs.Counting.{face-starts, Started, FacesCounte
 use crate::critical;
 use crate::groups;
 use memory::header::Header;
+use memory::kind;
 use memory::record;
 use memory::record::Place;
 use memory::record::Record;
@@ -64,12 +65,13 @@ fn add_one(rows: &mut [u64], i: usize)
 }
 
 // Where word j of the row of the cell of place p stands.
-fn word_at(numbers: &[usize], p: usize, j: usize) -> usize
-    requires { ⌜ (p < room) × (p < length (now numbers)) × (0 < getD (now numbers) p 0)
-        × (getD (now numbers) p 0 ≤ room) × (j < 19) ⌝ }
-    ensures { λ r. ⌜ r ≡ cell-word (now (numbers .entry)) j p ⌝ }
+fn word_at(numbers: &[usize], p: Place, j: usize) -> usize
+    requires { ⌜ (p .0 < room) × (p .0 < length (now numbers)) × (0 < getD (now numbers) (p .0) 0)
+        × (getD (now numbers) (p .0) 0 ≤ room) × (j < 19) ⌝ }
+    ensures { λ r. ⌜ r ≡ cell-word (now (numbers .entry)) j (p .0) ⌝ }
 {
-    19 * (numbers[p] - 1) + j
+    let i = p.0;
+    19 * (numbers[i] - 1) + j
 }
 
 // Counts the darts of each cell.
@@ -82,18 +84,18 @@ fn count_darts(block: &[u64], numbers: &[usize], rows: &mut [u64])
     // The darts before p are counted.
     let mut p = 0;
     while p < n {
-        add_one(rows, word_at(numbers, p, 1));
+        add_one(rows, word_at(numbers, Place(p), 1));
         p += 1;
     }
 }
 
 // The place that face f starts at.
-fn start_at(out: &[usize], starts: &[usize], f: usize) -> usize
+fn start_at(out: &[usize], starts: &[usize], f: usize) -> Place
     requires { ⌜ (f < room) × (f < length (now starts)) × (getD (now starts) f 0 < room) × (getD (now starts) f 0 < length (now out)) ⌝ }
-    ensures { λ r. ⌜ r ≡ getD (now (out .entry)) (getD (now (starts .entry)) f 0) 0 ⌝ }
+    ensures { λ r. ⌜ r .0 ≡ getD (now (out .entry)) (getD (now (starts .entry)) f 0) 0 ⌝ }
 {
     let i = starts[f];
-    out[i]
+    Place(out[i])
 }
 
 // Counts the faces of each cell, by their starts.
@@ -120,11 +122,11 @@ fn count_faces(
 }
 
 // The word of a row for the block that the dart at place p, which is critical, is critical with.
-fn border_word(block: &[u64], p: usize) -> usize
-    requires { ⌜ words-for (p + 1) ≤ length (now block) ⌝ }
-    ensures { λ r. ⌜ r ≡ 3 + column (now (block .entry)) 3 p / 4 ⌝ }
+fn border_word(block: &[u64], p: Place) -> usize
+    requires { ⌜ words-for (p .0 + 1) ≤ length (now block) ⌝ }
+    ensures { λ r. ⌜ r ≡ 3 + other-in (column (now (block .entry)) 3 (p .0)) ⌝ }
 {
-    3 + (record::field(block, Place(p), Record::KIND) / 4) as usize
+    3 + kind::other_of(record::field(block, p, Record::KIND)) as usize
 }
 
 // Counts the critical faces of each cell, by the block that they are critical with.

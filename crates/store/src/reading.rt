@@ -47,9 +47,7 @@ fn take(b: usize, file: &[u8], mesh: &mut [u64]) -> Part {
     if mesh.len() / Header::WORDS <= b {
         return Part::Wrong(Fault::TooLarge);
     }
-    let from = b * Header::WORDS;
-    let end = from + Header::WORDS;
-    match readfile::read_file(file, &mut mesh[from..end]) {
+    match readfile::read_file(file, mesh::part_mut(mesh, b)) {
         Answer::Served => Part::Block,
         Answer::Refused(r) => Part::Wrong(Fault::Refused(answers::refusal_number(r))),
     }

@@ -9,6 +9,9 @@ use Rattle.pairing.proofs.dart.side.Tie as tie
 word-requires : tie.Need-word-requires
 word-requires c κs = search needs
 
+other-of-requires : tie.Need-other-of-requires
+other-of-requires c κs = search needs
+
 next-requires : tie.Need-next-requires
 next-requires c κs = search needs
 
@@ -33,16 +36,18 @@ returns c =
     let g = start .args .g in
     let h = start .args .h in
     let word-ensures = (let p : tie.After-word = search in p .word .ensures) in
+    let other-of-ensures = (let p : tie.After-other-of = search in p .other-of .ensures) in
     let next-ensures = (let p : tie.After-next = search in p .next .ensures) in
     let word2-ensures = (let p : tie.After-word2 = search in p .word2 .ensures) in
     let previous-ensures = (let p : tie.After-previous = search in p .previous .ensures) in
-    side-told mesh table g h word-ensures next-ensures word2-ensures previous-ensures (c .word3 .ensures)
+    side-told mesh table g h word-ensures other-of-ensures next-ensures word2-ensures previous-ensures (c .word3 .ensures)
 
 pub side-spec : {M : Type 1} → statement M
 side-spec =
     tie.close
     (tie.spec
     word-requires
+    other-of-requires
     next-requires
     word-requires-2
     previous-requires

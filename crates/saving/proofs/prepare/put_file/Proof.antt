@@ -1,7 +1,4 @@
 -- `saving::prepare::put_file` meets its contract: what save file gives. Assumes nothing.
-use mathlib.Core.Path.{refl}
-use Prim.Native.Nat.{_*_}
-use Rattle.mesh.proofs.Parts.{part-is}
 use Rattle.saving.proofs.Contents.{no-file, saved}
 use borrow.Author.Needs.{needs}
 use Rattle.saving.proofs.prepare.put_file.Statement.{statement}
@@ -11,23 +8,8 @@ returns : tie.Need-returns
 returns c =
     no-file _ _ _ (c .if1 .taken)
 
-mul-from : tie.Need-mul-from
-mul-from c = search needs
-
-add-end : tie.Need-add-end
-add-end c = search needs
-
-mul-save-file : tie.Need-mul-save-file
-mul-save-file c = search needs
-
-sub-save-file : tie.Need-sub-save-file
-sub-save-file c = search needs
-
-part-save-file-start : tie.Need-part-save-file-start
-part-save-file-start c = search needs
-
-part-save-file-end : tie.Need-part-save-file-end
-part-save-file-end c = search needs
+part-of-requires : tie.Need-part-of-requires
+part-of-requires c κs = search needs
 
 save-file-requires : tie.Need-save-file-requires
 save-file-requires c κs = search needs
@@ -44,11 +26,12 @@ same-length c = search needs
 returns-2 : tie.Need-returns-2
 returns-2 c =
     let start : tie.Start = search in
+    let part-of-ensures = (let p : tie.After-part-of = search in p .part-of .ensures) in
     let gives = (let p : tie.After-save-file = search in p .save-file .ensures) in
     let w = (let p : tie.After-save-file = search in p .save-file .result) in
     let m = start .args .mesh .now in
     let b = start .args .b in
-    rw (c .before .n .given .1) at (saved m b w (rw (part-is m b (b * 32776) refl) at gives))
+    rw (c .before .n .given .1) at (saved m b w (rw part-of-ensures at gives))
 
 same-length-2 : tie.Need-same-length-2
 same-length-2 c = search needs
@@ -56,23 +39,19 @@ same-length-2 c = search needs
 returns-3 : tie.Need-returns-3
 returns-3 c =
     let start : tie.Start = search in
+    let part-of-ensures = (let p : tie.After-part-of = search in p .part-of .ensures) in
     let gives = (let p : tie.After-save-file = search in p .save-file .ensures) in
     let w = (let p : tie.After-save-file = search in p .save-file .result) in
     let m = start .args .mesh .now in
     let b = start .args .b in
-    rw (c .enum-told .given .1) at (saved m b w (rw (part-is m b (b * 32776) refl) at gives))
+    rw (c .enum-told .given .1) at (saved m b w (rw part-of-ensures at gives))
 
 pub put-file-spec : {M : Type 1} → statement M
 put-file-spec =
     tie.close
     (tie.spec
     returns
-    mul-from
-    add-end
-    mul-save-file
-    sub-save-file
-    part-save-file-start
-    part-save-file-end
+    part-of-requires
     save-file-requires
     enum-known-n
     enum-told

@@ -11,13 +11,13 @@ use Rattle.stats.proofs.groups.add_group.Statement.{statement}
 use Rattle.stats.proofs.groups.add_group.Tie as tie
 
 abbrev Inv-loop : tie.InvT-loop
-Inv-loop block third start group order₀ tail groups₀ end₀ head₀ order groups end head =
+Inv-loop block third group order₀ tail groups₀ first end₀ head₀ order groups end head =
     (length order ≡ length order₀) × (length groups ≡ length groups₀)
-    × ((G o : List ℕ) → Queued (getD block 2 0) G o tail → Entered start group G o tail groups₀ order₀ end₀
-    → Going (getD block 2 0) (links-at third block) group start (group-of third block start) G tail groups order end head)
+    × ((G o : List ℕ) → Queued (getD block 2 0) G o tail → Entered first group G o tail groups₀ order₀ end₀
+    → Going (getD block 2 0) (links-at third block) group first (group-of third block first) G tail groups order end head)
 
 abbrev μ-loop : tie.MeasureT-loop
-μ-loop block third start group order₀ tail groups₀ end₀ head₀ order groups end head =
+μ-loop block third group order₀ tail groups₀ first end₀ head₀ order groups end head =
     4096 - head
 
 enter-requires : tie.Need-enter-requires Inv-loop μ-loop

@@ -112,7 +112,7 @@ loop-again-2 c =
     let other = start .pre .1 .1 _ below yes-critical in
     let there = word-there (start .pre .0 .1) (start .pre .0 .0 .few) below (border-word-known .result) _ (omega (arith, border-word-known .ensures)) (word-at-known .ensures) in
     faces-more (start .pre .1 .0) (loop-known .inv) (loop-test-known .taken) (start-at-known .ensures) yes-critical
-    (word-at-known .ensures ∙ ap (λ (j : ℕ). cell-word (start .args .numbers .now) j (start-at-known .result)) (border-word-known .ensures)) there (add-one-known .ensures)
+    (word-at-known .ensures ∙ ap (λ (j : ℕ). cell-word (start .args .numbers .now) j (start-at-known .result .0)) (border-word-known .ensures)) there (add-one-known .ensures)
 
 same-length : tie.Need-same-length Inv-loop μ-loop
 same-length c =
