@@ -1,1 +1,3 @@
+pub mod Darts
+pub mod Points
 pub mod Thirds

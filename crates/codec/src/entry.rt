@@ -1,4 +1,5 @@
-// One point, one dart of a face, one entry of a part, put at a place of a slice.
+// One point, one dart of a face, one entry of a part, put at a place of a slice; a point read there.
+ghost use mathlib.Core.Path.{_≡_};
 ghost use mathlib.Core.List.{_++_};
 ghost use Prim.Native.Nat.{_+_, _<_, _^_};
 ghost use lib.ListN.{length};
@@ -8,6 +9,8 @@ ghost use Rattle.model.specs.Image.{label-in};
 ghost use Rattle.model.specs.Messages.{point as point-layout, face-dart, part2, part3};
 ghost use Rattle.groups.specs.Slices.{Stored};
 ghost use Rattle.memory.specs.Point.{patterns, FinitePoint};
+ghost use Rattle.codec.specs.Points.{point-read};
+use groups::Read;
 use memory::point;
 use memory::point::Point;
 use memory::record::MessageIndex;
@@ -23,6 +26,29 @@ pub fn put_point(out: &mut [u8], at: usize, p: Point) -> usize
     let past_x = groups::put_coordinate(out, at, x);
     let past_y = groups::put_coordinate(out, past_x, y);
     groups::put_coordinate(out, past_y, z)
+}
+
+// A point that was read, and the place past it. Its coordinates stay words, and so they do in the record that the dart becomes: whether they
+// are finite is question 4, which is asked after the whole file was read, and only finite ones make a point.
+pub enum Located {
+    Point(u64, u64, u64, usize),
+    Bad,
+}
+
+// A point: three coordinates.
+pub fn read_point(s: &[u8], at: usize) -> Located
+    ensures { λ r. ⌜ r ≡ point-read (now (s .entry)) at ⌝ }
+{
+    let Read::Value(x, past_x) = groups::read_coordinate(s, at) else {
+        return Located::Bad;
+    };
+    let Read::Value(y, past_y) = groups::read_coordinate(s, past_x) else {
+        return Located::Bad;
+    };
+    let Read::Value(z, next) = groups::read_coordinate(s, past_y) else {
+        return Located::Bad;
+    };
+    Located::Point(x, y, z, next)
 }
 
 // A dart of a face: the number of its vertex, then its serial.

@@ -64,12 +64,14 @@ bad-at l s at h = go (l .get (drop at s)) h
     go none q = refl
     go (some r) q = let z : _≡_ {A = ℕ} 0 1 = cc in absurd (omega arith)
 
+-- the place that the bytes left tell
+pub place-back : (s : List ℕ) (next : ℕ) → next ≤ length s → length s - length (drop next s) ≡ next
+place-back s next h = omega (arith, length-drop next s)
+
 -- and the other way round
 pub at-value : (l : Layout ℕ) {s : List ℕ} {at v next : ℕ} → Reads l s at v next → Value v next ≡ read-at l s at
 unfolding read-at
-at-value l {s} {at} {v} {next} r =
-    let e : length s - (length s - next) ≡ next = omega (arith, r .within) in
-    rw (r .value, length-drop next s, e)
+at-value l {s} {at} {v} {next} r = rw (r .value, place-back s next (r .within))
 
 -- LAYOUTS THAT END
 pub same-rest : {A : Type 0} {a b : A} {s t : List ℕ} → _≡_ {A = Read A} (some (a, s)) (some (b, t)) → s ≡ t

@@ -22,18 +22,19 @@ use Rattle.theory.proofs.ImageLaws.{tab-list, getD-serial, label-back, ranges-o
 use Rattle.columns.specs.Columns.{count, Ranged}
 use Rattle.columns.proofs.Built.{built}
 use Rattle.columns.proofs.Thirds.{third-critical}
-use Rattle.newblock.specs.Serials.{raw-link, raw-words, raw, raw-dart, raw-block, InSerials, behind}
+use Rattle.codec.specs.Thirds.{named-by}
+use Rattle.newblock.specs.Serials.{raw-words, raw, raw-dart, raw-block, InSerials, behind}
 use Rattle.newblock.specs.Places.{place-link, place-words, serials-in, resolved}
 use Rattle.newblock.proofs.Rows.{Eights, map-eights, rows-length, row-at, headed-at}
 use Rattle.newblock.proofs.Stored.{raw-8}
 
-link-placed : (ss : List ℕ) (t : Third) → place-link ss (kind-word t) (raw-link t) ≡ link-word ss t
+link-placed : (ss : List ℕ) (t : Third) → place-link ss (kind-word t) (named-by t) ≡ link-word ss t
 link-placed ss free = refl
 link-placed ss (sewn y) = refl
 link-placed ss (critical o l) = rw (ne-eqb (2 + 4 * o) 1 (λ e. omega arith)) refl
 
 -- a third link is read back from its words
-third-raw : (t : Third) → third-in-range t ≡ true → third-in (λ s. s) (kind-word t) (raw-link t) ≡ t
+third-raw : (t : Third) → third-in-range t ≡ true → third-in (λ s. s) (kind-word t) (named-by t) ≡ t
 unfolding third-in
 third-raw free r = refl
 third-raw (sewn y) r = refl

@@ -22,7 +22,8 @@ use Rattle.theory.proofs.ImageLaws.{ranges-of}
 use Rattle.columns.specs.Columns.{count, Kind, kind-free, kind-sewn, kind-critical, Ranged}
 use Rattle.columns.proofs.Images.{in-order, ranges-yes}
 use Rattle.columns.proofs.Thirds.{third-free, third-sewn, third-critical, kind-back}
-use Rattle.newblock.specs.Serials.{raw-link, raw-words, raw, raw-dart, raw-block, InSerials}
+use Rattle.codec.specs.Thirds.{named-by}
+use Rattle.newblock.specs.Serials.{raw-words, raw, raw-dart, raw-block, InSerials}
 use Rattle.newblock.proofs.Rows.{map-eights, past-rows, headed-at}
 use Rattle.newblock.proofs.Stored.{raw-8}
 use Rattle.newblock.proofs.Imaged.{raw-column, raw-length}
@@ -44,7 +45,7 @@ third-alike : (s t : ℕ → ℕ) (k a : ℕ) → third-in-range (third-in s k a
 unfolding third-in
 third-alike s t k a = by-cases (eqb (k % 4) 0) (λ e. rw e refl) (λ e. by-cases (eqb (k % 4) 1) (λ f. rw (e, f) refl) (λ f. rw (e, f) refl))
 
-link-raw : (k a : ℕ) → Kind k a → raw-link (third-in (λ s. s) k a) ≡ a
+link-raw : (k a : ℕ) → Kind k a → named-by (third-in (λ s. s) k a) ≡ a
 link-raw k a (kind-free e f) = rw (third-free (λ s. s) k a e) (sym f)
 link-raw k a (kind-sewn e) = rw (third-sewn (λ s. s) k a e) refl
 link-raw k a (kind-critical e f g) = rw (third-critical (λ s. s) k a e) (code-in a)

@@ -8,17 +8,12 @@ use mathlib.Core.List.{List, [], _∷_, _++_, map}
 use Prim.Native.Nat.{ℕ, _+_, _*_, _-_, _≤_}
 use lib.ListN.{length, getD, take, drop, replicate}
 use Rattle.model.specs.Lists.{concat, tab}
-use Rattle.model.specs.Values.{Third, free, sewn, critical, Dart, Block, widest, code}
+use Rattle.model.specs.Values.{Dart, Block, widest}
 use Rattle.model.specs.Sound.{ranges-right}
 use Rattle.model.specs.Image.{words-for, kind-word, serial-at, next-at, opposite-at, kind-at, link-at, point-at, third-in, count-in}
 use Rattle.memory.specs.Record.{record-words}
 use Rattle.memory.specs.declared.record.Record.{Record}
-
--- the serial of the sewn dart, or the label's code
-abbrev pub raw-link : Third → ℕ
-raw-link free = 0
-raw-link (sewn y) = y
-raw-link (critical o l) = code l
+use Rattle.codec.specs.Thirds.{named-by}
 
 abbrev pub raw-record : Dart → Record
 raw-record d = record {
@@ -26,7 +21,7 @@ raw-record d = record {
   next = d .next;
   opposite = d .opposite;
   kind = kind-word (d .third);
-  link = raw-link (d .third);
+  link = named-by (d .third);
   x = d .point .x;
   y = d .point .y;
   z = d .point .z;

@@ -2,14 +2,13 @@
 use mathlib.Core.Path.{_≡_, refl, sym, _∙_, ap, subst}
 use mathlib.Core.List.{List}
 use mathlib.Core.Option.{none}
-use Prim.Native.Nat.{ℕ, _-_, _≤_}
-use native.Mathlib.Omega.{arith}
-use lib.ListN.{length, drop, length-drop}
+use Prim.Native.Nat.{ℕ}
+use lib.ListN.{drop}
 use Rattle.model.specs.Layouts.{Layout, group, _⊗_, _⊕_}
 use Rattle.groups.specs.Slices.{read-at}
 use Rattle.groups.specs.declared.Read.{Read}
 use Rattle.groups.specs.declared.Read.the-variants.{Value, Bad}
-use Rattle.groups.proofs.Ends.{Reads, group-at, bad-at}
+use Rattle.groups.proofs.Ends.{Reads, group-at, bad-at, place-back}
 use Rattle.reader.specs.declared.Head.{Head as Numbers}
 use Rattle.reader.specs.declared.HeadOrNot.{HeadOrNot}
 use Rattle.reader.specs.declared.HeadOrNot.the-variants.{Head, Not}
@@ -29,9 +28,6 @@ module _ {a b c d : Read} where
   head-whole e f g h = rw (e, f, g, h)
 
 -- THE HEAD of a message
-past : (s : List ℕ) (p : ℕ) → p ≤ length s → length s - length (drop p s) ≡ p
-past s p h = omega (arith, length-drop p s)
-
 module _ (s : List ℕ) where
   abbrev step : Read → Read
   step = read-after group s
@@ -57,7 +53,7 @@ module _ (s : List ℕ) where
 
         all-there : {t o : ℕ} → Reads group s r t o → head-in s ≡ Head (record { length = n; body = p; kind = k; from = f; to = t; next = o })
         unfolding head-in four _⊕_ _⊗_
-        all-there {t} {o} d = rw (a .value, b .value, c .value, d .value, past s p (a .within), past s o (d .within))
+        all-there {t} {o} d = rw (a .value, b .value, c .value, d .value, place-back s p (a .within), place-back s o (d .within))
 
   -- by cases of each read
   fourth : {n p k q f r : ℕ} → Reads group s 0 n p → Reads group s p k q → Reads group s q f r → (d : Read) → d ≡ read-at group s r

@@ -1,4 +1,3 @@
-pub mod PartLaws
 pub mod Storing
 pub mod Whole
 pub mod Answered

@@ -19,34 +19,40 @@ use Rattle.theory.proofs.LayoutLaws.{same-value, then-some, when-some}
 use Rattle.memory.specs.Record.{record-words, put}
 use Rattle.memory.specs.declared.record.Record.{Record}
 use Rattle.groups.specs.declared.Read.the-variants as read
-use Rattle.groups.proofs.Ends.{Reads, from-onward}
+use Rattle.groups.proofs.Ends.{Reads, from-onward, place-back}
+use Rattle.codec.specs.declared.dart.FileDart.{FileDart}
+use Rattle.codec.proofs.Sequences.{Lacks}
+use Rattle.codec.proofs.DartReads.{dart-ends, DartGot}
 use Rattle.newblock.specs.Serials.{raw-words, stored-all}
 use Rattle.newblock.proofs.Rows.{behind-none}
 use Rattle.newblock.proofs.Stored.{stored-length, stored-more}
 use Rattle.readfile.specs.Parts.{dart-after, placed-serial, stored, DartStored, climbs, climbing, DartsStored}
 use Rattle.readfile.specs.declared.raw.End.the-variants as end
-use Rattle.readfile.proofs.PartLaws.{Lacks, place-back, dart-ends, DartGot}
 
 -- ONE DART
+-- the record that is stored of a file's dart: its values, word for word
+abbrev as-record : FileDart → Record
+as-record v = record { serial = v .serial; next = v .next; opposite = v .opposite; kind = v .kind; link = v .link; x = v .x; y = v .y; z = v .z }
+
 module _ {s : List ℕ} {at : ℕ} (last : ℕ) (m : List ℕ) (p : ℕ) where
   pub no-dart-stored : Lacks a-dart s at → DartStored s at last m p m read.Bad
   no-dart-stored e = record { answer = unfold dart-after such-that in (rw (e .value)); memory = unfold dart-after such-that in (rw (e .value)) }
 
-  module _ {r : Record} {next : ℕ} (g : DartGot s at r next) where
-    serial-is : r .serial ≡ g .dart .serial
-    serial-is = ap (λ (w : Record). w .serial) (g .words-are)
+  module _ {v : FileDart} {next : ℕ} (g : DartGot s at v next) where
+    serial-is : v .serial ≡ g .dart .serial
+    serial-is = ap (λ (w : FileDart). w .serial) (g .values-are)
 
-    pub not-above : r .serial ≤ last → DartStored s at last m p m read.Bad
+    pub not-above : v .serial ≤ last → DartStored s at last m p m read.Bad
     not-above h =
         let low = le-ltb last (g .dart .serial) (omega (arith, serial-is)) in
         record { answer = unfold dart-after such-that in (rw (g .reads .value, low)); memory = unfold dart-after such-that in (rw (g .reads .value, low)) }
 
-    pub dart-stored : last < r .serial → {after : List ℕ} → after ≡ put m p (record-words r) → DartStored s at last m p after (read.Value (r .serial) next)
+    pub dart-stored : last < v .serial → {after : List ℕ} → after ≡ put m p (record-words (as-record v)) → DartStored s at last m p after (read.Value (v .serial) next)
     dart-stored h e =
         let high = lt-ltb last (g .dart .serial) (omega (arith, serial-is)) in
         record {
           answer = unfold dart-after such-that in (rw (g .reads .value, high, place-back s next (g .reads .within)) (ap (λ (x : ℕ). read.Value x next) serial-is));
-          memory = unfold dart-after such-that raw-words in (rw (g .reads .value, high) (e ∙ ap (λ (w : Record). put m p (record-words w)) (g .words-are)));
+          memory = unfold dart-after such-that raw-words in (rw (g .reads .value, high) (e ∙ ap (λ (w : FileDart). put m p (record-words (as-record w))) (g .values-are)));
         }
 
 -- what an answer tells

@@ -19,11 +19,12 @@ use Rattle.model.specs.Image.{words-of}
 use Rattle.theory.proofs.LayoutLaws.{get-all-length, then-some, when-some}
 use Rattle.memory.specs.Header.{header-words}
 use Rattle.groups.proofs.Ends.{Ends, Reads, same-rest}
+use Rattle.codec.proofs.Sequences.{Lacks, dependent-lacks, dependent-then-lacks, pair-lacks, pair-then-lacks, as-lacks}
+use Rattle.codec.proofs.DartReads.{dart-ends}
 use Rattle.newblock.specs.Serials.{raw}
 use Rattle.newblock.proofs.Stored.{stored-raw}
 use Rattle.readfile.specs.Parts.{climbs, climbing, placed-end, DartsStored, RawRead}
 use Rattle.readfile.specs.declared.raw.End.the-variants as end
-use Rattle.readfile.proofs.PartLaws.{Lacks, dependent-lacks, dependent-then-lacks, pair-lacks, pair-then-lacks, as-lacks, dart-ends}
 
 -- ORDER: each above the one before is all above the first, and ascending
 climbs-first : (last : ℕ) (xs : List ℕ) → climbs last xs ≡ true → all (ltb last) xs ≡ true

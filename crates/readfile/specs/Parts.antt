@@ -1,4 +1,4 @@
--- What is read of a file at a place, and what is stored of it. Assumes nothing.
+-- Darts of a file that are read and stored, and the whole file. Assumes nothing.
 use mathlib.Core.Path.{_≡_}
 use mathlib.Core.Bool.{Bool, true, _&&_}
 use mathlib.Core.List.{List, [], _∷_}
@@ -7,51 +7,19 @@ use Prim.Native.Nat.{ℕ, _-_}
 use lib.Dec.{ltb}
 use lib.ListN.{length, drop}
 use Rattle.model.specs.Lists.{is-some}
-use Rattle.model.specs.Values.{Point, Third, Dart, Block, Limits}
+use Rattle.model.specs.Values.{Dart, Block, Limits}
 use Rattle.model.specs.Cells.{serials}
-use Rattle.model.specs.Layouts.{Layout, _⊗_, as-type, such-that, at-most, times, whole}
-use Rattle.model.specs.Messages.{kind-of, third, point, a-dart, file}
-use Rattle.model.specs.Image.{words-of, kind-word}
+use Rattle.model.specs.Layouts.{Layout, such-that, times, whole}
+use Rattle.model.specs.Messages.{a-dart, file}
+use Rattle.model.specs.Image.{words-of}
 use Rattle.memory.specs.Record.{put}
 use Rattle.groups.specs.declared.Read.{Read}
 use Rattle.groups.specs.declared.Read.the-variants as read
-use Rattle.newblock.specs.Serials.{raw-link, raw-record, raw-words, raw, stored-all}
-use Rattle.readfile.specs.declared.dart.Linked.{Linked}
-use Rattle.readfile.specs.declared.dart.Linked.the-variants as linked
-use Rattle.readfile.specs.declared.dart.Located.{Located}
-use Rattle.readfile.specs.declared.dart.Located.the-variants as located
-use Rattle.readfile.specs.declared.dart.Parsed.{Parsed}
-use Rattle.readfile.specs.declared.dart.Parsed.the-variants as parsed
+use Rattle.newblock.specs.Serials.{raw-words, raw, stored-all}
 use Rattle.readfile.specs.declared.raw.End.{End}
 use Rattle.readfile.specs.declared.raw.End.the-variants as end
 
--- THIRD LINKS: a kind, and what follows it
-unfoldable pub kind-and-third : Layout Third
-kind-and-third = as-type (λ p. p .1) (λ t. (kind-of t, t)) (at-most 2 ⊗ third)
-
-abbrev pub placed-third : ℕ → Option (Third × List ℕ) → Linked
-placed-third n none = linked.Bad
-placed-third n (some r) = linked.Link (kind-word (r .0)) (raw-link (r .0)) (n - length (r .1))
-
-unfoldable pub third-read : Layout Third → List ℕ → ℕ → Linked
-third-read l s at = placed-third (length s) (l .get (drop at s))
-
--- POINTS
-abbrev pub placed-point : ℕ → Option (Point × List ℕ) → Located
-placed-point n none = located.Bad
-placed-point n (some r) = located.Point (r .0 .x) (r .0 .y) (r .0 .z) (n - length (r .1))
-
-unfoldable pub point-read : List ℕ → ℕ → Located
-point-read s at = placed-point (length s) (point .get (drop at s))
-
 -- DARTS
-abbrev pub placed-dart : ℕ → Option (Dart × List ℕ) → Parsed
-placed-dart n none = parsed.Bad
-placed-dart n (some r) = parsed.Dart (raw-record (r .0)) (n - length (r .1))
-
-unfoldable pub dart-read : List ℕ → ℕ → Parsed
-dart-read s at = placed-dart (length s) (a-dart .get (drop at s))
-
 -- a dart whose serial is above the last one
 unfoldable pub dart-after : ℕ → Layout Dart
 dart-after last = such-that a-dart (λ d. ltb last (d .serial))

@@ -8,7 +8,6 @@ ghost use Rattle.model.specs.Calls.{read-file};
 ghost use Rattle.answers.specs.Answers.{answer-of, Gives};
 ghost use Rattle.memory.specs.Header.{limits-of};
 
-mod dart; // dart.rt: one dart of a file
 mod raw; // raw.rt: the whole file, with serials where memory has places
 
 use answers::Answer;

@@ -5,12 +5,13 @@ ghost use lib.ListN.{length, replicate};
 ghost use Rattle.model.specs.Image.{words-for, words-of};
 ghost use Rattle.memory.specs.Header.{limits-of};
 ghost use Rattle.readfile.specs.Parts.{DartStored, DartsStored, RawRead};
-use crate::dart;
-use crate::dart::Parsed;
+use codec::dart;
+use codec::dart::Parsed;
 use groups::Read;
 use memory::header::Header;
 use memory::header::Limits;
 use memory::record::Place;
+use memory::record::Record;
 
 // Where the darts of a file end.
 pub enum End {
@@ -23,13 +24,23 @@ fn store_dart(file: &[u8], at: usize, last: u64, block: &mut [u64], p: Place) ->
     requires { ⌜ words-for (p .0 + 1) ≤ length (now block) ⌝ }
     ensures { λ r. ⌜ DartStored (now (file .entry)) at last (now (block .entry)) (p .0) (now (block .exit)) r ⌝ }
 {
-    let Parsed::Dart(r, next) = dart::read_dart(file, at) else {
+    let Parsed::Dart(d, next) = dart::read_dart(file, at) else {
         return Read::Bad;
     };
-    let serial = r.serial;
+    let serial = d.serial;
     if serial <= last {
         return Read::Bad;
     }
+    let r = Record {
+        serial,
+        next: d.next,
+        opposite: d.opposite,
+        kind: d.kind,
+        link: d.link,
+        x: d.x,
+        y: d.y,
+        z: d.z,
+    };
     memory::record::put_record(block, p, r);
     Read::Value(serial, next)
 }

@@ -15,10 +15,12 @@ use Rattle.laws.proofs.Tables.{length-tab}
 use Rattle.memory.specs.declared.point.Point.{Point}
 use Rattle.memory.specs.Point.{point-of, patterns, FinitePoint, FiniteAt}
 use Rattle.memory.proofs.Points.{point-finite, point-patterns}
+use Rattle.codec.specs.Darts.{link-bytes}
 use Rattle.codec.specs.Thirds.{third-bytes}
+use Rattle.codec.proofs.DartLaws.{dart-bytes as dart-bytes-are, link-length}
 use Rattle.codec.proofs.EntryLaws.{point-length, serial-most}
 use Rattle.codec.proofs.ThirdLaws.{third-most}
-use Rattle.savefile.specs.Named.{third-named, link-bytes, header-bytes, Small, AllSmall}
+use Rattle.savefile.specs.Named.{third-named, header-bytes, Small, AllSmall}
 use Rattle.savefile.proofs.Pieces.{pieces, in-pieces, length-most}
 
 -- DARTS
@@ -33,18 +35,14 @@ third-put-is k a = refl
 abbrev place-point : List ℕ → ℕ → List ℕ
 place-point m p = point .put (dart-in m p .point)
 
-dart-parts : (m : List ℕ) (p : ℕ) (t : Third)
-    → serial .put (column m 0 p) ++ (serial .put (column m 0 (column m 1 p)) ++ (serial .put (column m 0 (column m 2 p)) ++ ((at-most 2 ⊗ third) .put (kind-of t, t) ++ place-point m p)))
-    ≡ link-bytes m p ++ ((at-most 2 ⊗ third) .put (kind-of t, t) ++ place-point m p)
-unfolding link-bytes
-dart-parts m p t = rw (append-assoc (serial .put (column m 0 p)), append-assoc (serial .put (column m 0 (column m 1 p))))
+abbrev pub links-at : List ℕ → ℕ → List ℕ
+links-at m p = link-bytes (column m 0 p) (column m 0 (column m 1 p)) (column m 0 (column m 2 p))
 
 -- links, third link, point
-pub dart-put : (m : List ℕ) (p : ℕ) → a-dart .put (dart-in m p) ≡ link-bytes m p ++ (third-bytes (column m 3 p) (third-named m p) ++ point .put (dart-in m p .point))
-unfolding a-dart as-type _⊕_ _⊗_
-dart-put m p = dart-parts m p (third-in (column m 0) (column m 3 p) (column m 4 p))
-    ∙ ap (λ (t : Third). link-bytes m p ++ ((at-most 2 ⊗ third) .put (kind-of t, t) ++ place-point m p)) (third-is m p)
-    ∙ ap (λ (b : List ℕ). link-bytes m p ++ (b ++ place-point m p)) (sym (third-put-is (column m 3 p) (third-named m p)))
+pub dart-put : (m : List ℕ) (p : ℕ) → a-dart .put (dart-in m p) ≡ links-at m p ++ (third-bytes (column m 3 p) (third-named m p) ++ point .put (dart-in m p .point))
+dart-put m p = dart-bytes-are (dart-in m p)
+    ∙ ap (λ (t : Third). links-at m p ++ ((at-most 2 ⊗ third) .put (kind-of t, t) ++ place-point m p)) (third-is m p)
+    ∙ ap (λ (b : List ℕ). links-at m p ++ (b ++ place-point m p)) (sym (third-put-is (column m 3 p) (third-named m p)))
 
 -- the point at place p, by value
 module _ (m : List ℕ) (p : ℕ) (f : FiniteAt m p) {q : Point} (e : q ≡ point-of (column m 5 p) (column m 6 p) (column m 7 p)) where
@@ -54,11 +52,6 @@ module _ (m : List ℕ) (p : ℕ) (f : FiniteAt m p) {q : Point} (e : q ≡ poin
   pub point-is : point .put (patterns q) ≡ point .put (dart-in m p .point)
   point-is = ap (λ (x : Point). point .put (patterns x)) e ∙ ap (point .put) (point-patterns _ _ _ (f .on-x) (f .on-y) (f .on-z))
 
-pub link-length : (m : List ℕ) (p : ℕ)
-    → length (link-bytes m p) ≡ length (serial .put (column m 0 p)) + (length (serial .put (column m 0 (column m 1 p))) + length (serial .put (column m 0 (column m 2 p))))
-unfolding link-bytes
-link-length m p = rw (length-append (serial .put (column m 0 p)), length-append (serial .put (column m 0 (column m 1 p))))
-
 pub dart-length : (m : List ℕ) (p : ℕ)
     → length (a-dart .put (dart-in m p))
     ≡ length (serial .put (column m 0 p)) +
@@ -67,7 +60,7 @@ pub dart-length : (m : List ℕ) (p : ℕ)
 dart-length m p =
     let t = third-bytes (column m 3 p) (third-named m p) in
     let q = point .put (dart-in m p .point) in
-    rw (dart-put m p) (omega (arith, length-append (link-bytes m p) (t ++ q), length-append t q, link-length m p, point-length (dart-in m p .point)))
+    rw (dart-put m p) (omega (arith, length-append (links-at m p) (t ++ q), length-append t q, link-length (column m 0 p) (column m 0 (column m 1 p)) (column m 0 (column m 2 p)), point-length (dart-in m p .point)))
 
 pub dart-most : (m : List ℕ) (p : ℕ) → Small m p → length (a-dart .put (dart-in m p)) ≤ 49
 dart-most m p s = omega (

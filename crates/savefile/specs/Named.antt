@@ -7,7 +7,7 @@ use mathlib.Core.List.{List, _++_}
 use Prim.Native.Nat.{ℕ, _+_, _<_, _≤_}
 use lib.ListN.{length, getD}
 use Rattle.model.specs.Values.{serial-bound, room}
-use Rattle.model.specs.Layouts.{group, serial}
+use Rattle.model.specs.Layouts.{group}
 use Rattle.model.specs.Image.{words-for, column, is-sewn-word}
 use Rattle.memory.specs.Point.{FiniteAt}
 use Rattle.codec.specs.Thirds.{ThirdSmall}
@@ -16,10 +16,6 @@ unfoldable pub third-named : List ℕ → ℕ → ℕ
 third-named m p = cond (is-sewn-word (column m 3 p)) (column m 0 (column m 4 p)) (column m 4 p)
 
 -- BYTES
--- serial, next, opposite
-unfoldable pub link-bytes : List ℕ → ℕ → List ℕ
-link-bytes m p = serial .put (column m 0 p) ++ (serial .put (column m 0 (column m 1 p)) ++ serial .put (column m 0 (column m 2 p)))
-
 -- block, counter, dart count
 unfoldable pub header-bytes : List ℕ → List ℕ
 header-bytes m = group .put (getD m 0 0) ++ (group .put (getD m 1 0) ++ group .put (getD m 2 0))

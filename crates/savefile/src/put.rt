@@ -9,8 +9,9 @@ ghost use Rattle.model.specs.Layouts.{put-all};
 ghost use Rattle.model.specs.Image.{dart-in, block-in, holds-block};
 ghost use Rattle.model.specs.Messages.{a-dart, file};
 ghost use Rattle.groups.specs.Slices.{Stored};
-ghost use Rattle.savefile.specs.Named.{link-bytes, header-bytes, Small, AllSmall};
+ghost use Rattle.savefile.specs.Named.{header-bytes, Small, AllSmall};
 use crate::links;
+use codec::dart;
 use codec::entry;
 use codec::third;
 use memory::header::Header;
@@ -19,22 +20,15 @@ use memory::record;
 use memory::record::Place;
 use memory::record::Record;
 
-// Serial, next and opposite of the dart at place p.
-fn put_links(block: &[u64], p: Place, out: &mut [u8], at: usize) -> usize
-    requires { ⌜ Small (now block) (p .0) × (at + length (link-bytes (now block) (p .0)) < 2 ^ 63) ⌝ }
-    ensures { λ r. ⌜ Stored (now (out .entry)) at (link-bytes (now (block .entry)) (p .0)) (now (out .exit)) r ⌝ }
-{
-    let past_serial = groups::put_serial(out, at, record::field(block, p, Record::SERIAL));
-    let past_next = groups::put_serial(out, past_serial, links::serial_along(block, p, 1));
-    groups::put_serial(out, past_next, links::serial_along(block, p, 2))
-}
-
 // The dart at place p.
 fn put_dart(block: &[u64], p: Place, out: &mut [u8], at: usize) -> usize
     requires { ⌜ Small (now block) (p .0) × (at + length (a-dart .put (dart-in (now block) (p .0))) < 2 ^ 63) ⌝ }
     ensures { λ r. ⌜ Stored (now (out .entry)) at (a-dart .put (dart-in (now (block .entry)) (p .0))) (now (out .exit)) r ⌝ }
 {
-    let past_links = put_links(block, p, out, at);
+    let serial = record::field(block, p, Record::SERIAL);
+    let next = links::serial_along(block, p, 1);
+    let opposite = links::serial_along(block, p, 2);
+    let past_links = dart::put_links(out, at, serial, next, opposite);
     let kind = record::field(block, p, Record::KIND);
     let past_third = third::put_third(kind, links::third_along(block, p), out, past_links);
     entry::put_point(out, past_third, point::point_at(block, p))

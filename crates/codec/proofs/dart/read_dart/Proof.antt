@@ -1,12 +1,14 @@
--- `readfile::dart::read_dart` meets its contract: the five parts of a dart, each read where the one before ends.
+-- `codec::dart::read_dart` meets its contract: the five parts of a dart, each read where the one before ends.
 -- Assumes nothing.
 use mathlib.Core.Path.{sym, _∙_}
 use Rattle.model.specs.Layouts.{serial}
 use Rattle.groups.proofs.Ends.{bad-at, serial-at}
-use Rattle.readfile.proofs.PartLaws.{third-got, third-lacks, point-got, point-lacks, no-serial, no-next, no-opposite, no-link, no-point, five-read}
+use Rattle.codec.proofs.ThirdReads.{third-got, third-lacks}
+use Rattle.codec.proofs.PointReads.{point-got, point-lacks}
+use Rattle.codec.proofs.DartReads.{no-serial, no-next, no-opposite, no-link, no-point, five-read}
 use borrow.Author.Needs.{needs}
-use Rattle.readfile.proofs.dart.read_dart.Statement.{statement}
-use Rattle.readfile.proofs.dart.read_dart.Tie as tie
+use Rattle.codec.proofs.dart.read_dart.Statement.{statement}
+use Rattle.codec.proofs.dart.read_dart.Tie as tie
 
 read-serial-requires : tie.Need-read-serial-requires
 read-serial-requires c κs = search needs

@@ -1,12 +1,12 @@
--- `readfile::dart::read_third` meets its contract: the kind decides what follows it.
+-- `codec::third::read_third` meets its contract: the kind decides what follows it.
 -- Assumes nothing.
 use mathlib.Core.Path.{sym, _∙_}
 use Rattle.model.specs.Layouts.{serial, at-most}
 use Rattle.groups.proofs.Ends.{bad-at, serial-at, at-most-at}
-use Rattle.readfile.proofs.PartLaws.{kind-is, kind-one, no-kind, free-read, sewn-read, no-sewn}
+use Rattle.codec.proofs.ThirdReads.{kind-is, kind-one, no-kind, free-read, sewn-read, no-sewn}
 use borrow.Author.Needs.{needs}
-use Rattle.readfile.proofs.dart.read_third.Statement.{statement}
-use Rattle.readfile.proofs.dart.read_third.Tie as tie
+use Rattle.codec.proofs.third.read_third.Statement.{statement}
+use Rattle.codec.proofs.third.read_third.Tie as tie
 
 read-at-most-requires : tie.Need-read-at-most-requires
 read-at-most-requires c κs = search needs

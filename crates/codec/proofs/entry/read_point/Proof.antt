@@ -1,12 +1,12 @@
--- `readfile::dart::read_point` meets its contract: three coordinates, each read where the one before ends.
+-- `codec::entry::read_point` meets its contract: three coordinates, each read where the one before ends.
 -- Assumes nothing.
 use mathlib.Core.Path.{sym, _∙_}
 use Rattle.model.specs.Layouts.{coordinate}
 use Rattle.groups.proofs.Ends.{bad-at, coordinate-at}
-use Rattle.readfile.proofs.PartLaws.{no-x, no-y, no-z, three-read}
+use Rattle.codec.proofs.PointReads.{no-x, no-y, no-z, three-read}
 use borrow.Author.Needs.{needs}
-use Rattle.readfile.proofs.dart.read_point.Statement.{statement}
-use Rattle.readfile.proofs.dart.read_point.Tie as tie
+use Rattle.codec.proofs.entry.read_point.Statement.{statement}
+use Rattle.codec.proofs.entry.read_point.Tie as tie
 
 read-coordinate-requires : tie.Need-read-coordinate-requires
 read-coordinate-requires c κs = search needs

@@ -1,15 +1,15 @@
--- `readfile::dart::read_critical` meets its contract: the other block and the label, each read where the one before ends.
+-- `codec::third::read_critical` meets its contract: the other block and the label, each read where the one before ends.
 -- Assumes nothing.
 use mathlib.Core.Path.{sym, _∙_}
 use Rattle.model.specs.Layouts.{at-most}
 use Rattle.groups.specs.Slices.{label-code}
 use Rattle.groups.proofs.Ends.{bad-at, at-most-at}
 use Rattle.groups.proofs.Labels.{at-most-bound, label-at}
-use Rattle.readfile.proofs.PartLaws.{no-other, no-label, critical-read}
+use Rattle.codec.proofs.ThirdReads.{no-other, no-label, critical-read}
 use native.Mathlib.Omega.{arith}
 use borrow.Author.Needs.{needs}
-use Rattle.readfile.proofs.dart.read_critical.Statement.{statement}
-use Rattle.readfile.proofs.dart.read_critical.Tie as tie
+use Rattle.codec.proofs.third.read_critical.Statement.{statement}
+use Rattle.codec.proofs.third.read_critical.Tie as tie
 
 sub-read-at-most : tie.Need-sub-read-at-most
 sub-read-at-most c = search needs
