@@ -30,10 +30,10 @@ use Rattle.agreement.proofs.Keeps.{keeps}
 use Rattle.agreement.proofs.MeshSound.{says}
 use Rattle.soundness.proofs.OutboxLength.{rack-outbox-suffices}
 use Rattle.rounds.specs.Played.{round-in-order}
-use Rattle.rounds.specs.Requests.{requests-in, outcome-number, outbox-after, Run, run, over}
+use Rattle.rounds.specs.Requests.{requests-in, outcome-number, outbox-after, PlayedRun, played-run, over-words}
 use Rattle.rounds.proofs.Requests.{outbox-length, run-length}
 use Rattle.agreed.specs.Course.{named, outside-checks, any-undivided, Course, course}
-use Rattle.agreed.specs.Promise.{course-of, ListsAgree, Kept, Promise}
+use Rattle.agreed.specs.Promise.{course-of, ListsAgree, RunKept, Promise}
 use Rattle.agreed.proofs.Outside.{refused-outside}
 
 -- ONE REQUEST, whatever blocks it names
@@ -75,15 +75,15 @@ module _ (k : ℕ) (u : State) (label : ℕ → Label) (I : Inv all-rack k u lab
   kept = by-cases (named k r) (λ n. rw (inside n) (kept-inside n)) (λ n. rw (outside n) (kept-outside n))
 
 -- ALONG A LIST: the outcomes are the undivided run's, and the memories what its state and some labels describe
-record Followed (k : ℕ) (d : Run) (w : Course) : Type 0 where
+record Followed (k : ℕ) (d : PlayedRun) (w : Course) : Type 0 where
   same-outcomes : d .outcomes ≡ w .outcomes
   labels-now : ℕ → Label
   inv-now : Inv all-rack k (w .state) labels-now
   memories-now : d .memories ≡ map (memory-of all-rack) (mesh-by k (w .state) labels-now)
 
 follows : (k : ℕ) (rs : List Request) (ms : List (List ℕ)) (outbox : List ℕ) (u : State) (label : ℕ → Label) → Inv all-rack k u label
-    → ms ≡ map (memory-of all-rack) (mesh-by k u label) → outbox-bytes ≤ length outbox → Followed k (run ms outbox rs) (course k u rs)
-unfolding run course
+    → ms ≡ map (memory-of all-rack) (mesh-by k u label) → outbox-bytes ≤ length outbox → Followed k (played-run ms outbox rs) (course k u rs)
+unfolding played-run course
 follows k [] ms outbox u label I e long = record { same-outcomes = refl; labels-now = label; inv-now = I; memories-now = e }
 follows k (r ∷ rs) ms outbox u label I e long =
     let q = subst (λ (x : List (List ℕ)). keeping.Kept all-rack k (round-in-order x r outbox) (any-undivided k u r)) (sym e) (kept k u label I r outbox long) in
@@ -139,7 +139,7 @@ pub lists-agree : ListsAgree
 lists-agree bs outbox rs sound long =
     let w = course-of bs rs in
     let f = follows (length bs) rs (map (memory-of all-rack) bs) outbox (start bs) (start-label all-rack bs sound) (start-inv all-rack bs sound) (started bs sound) long in
-    let m : Matches all-rack (run (map (memory-of all-rack) bs) outbox rs .memories) (w .state) = says all-rack (length bs) (w .state) (f .labels-now) (f .inv-now) _ (f .memories-now) in
+    let m : Matches all-rack (played-run (map (memory-of all-rack) bs) outbox rs .memories) (w .state) = says all-rack (length bs) (w .state) (f .labels-now) (f .inv-now) _ (f .memories-now) in
     record {
       same-outcomes = f .same-outcomes;
       never-unfinished = rw (f .same-outcomes) (numbers-below (length bs) (start bs) rs);
@@ -152,13 +152,13 @@ pub promise : Promise
 promise bs m requests outcomes outbox m′ outcomes′ outbox′ sound images long p =
     let rs = take (length outcomes) (requests-in requests) in
     let a = lists-agree bs outbox rs sound long in
-    let d = run (map (memory-of all-rack) bs) outbox rs in
+    let d = played-run (map (memory-of all-rack) bs) outbox rs in
     let numbers = map outcome-number (d .outcomes) in
-    let same : outcomes′ ≡ over numbers outcomes = p .outcomes-are ∙ ap (λ (x : List (List ℕ)). over (map outcome-number (run x outbox rs .outcomes)) outcomes) images in
+    let same : outcomes′ ≡ over-words numbers outcomes = p .outcomes-are ∙ ap (λ (x : List (List ℕ)). over-words (map outcome-number (played-run x outbox rs .outcomes)) outcomes) images in
     let many : length numbers ≡ length rs = length-map (d .outcomes) outcome-number ∙ run-length (map (memory-of all-rack) bs) outbox rs in
-    let left : memories m′ ≡ d .memories = p .memories-are ∙ ap (λ (x : List (List ℕ)). run x outbox rs .memories) images in
+    let left : memories m′ ≡ d .memories = p .memories-are ∙ ap (λ (x : List (List ℕ)). played-run x outbox rs .memories) images in
     record {
-      outcomes-are = same ∙ ap (λ (os : List Outcome). over (map outcome-number os) outcomes) (a .same-outcomes);
+      outcomes-are = same ∙ ap (λ (os : List Outcome). over-words (map outcome-number os) outcomes) (a .same-outcomes);
       never-unfinished = ap (λ (l : List ℕ). all (λ n. leb n 28) (take (length rs) l)) same
           ∙ ap (all (λ n. leb n 28)) (take-at numbers _ (length rs) many) ∙ all-map (λ n. leb n 28) outcome-number (d .outcomes) ∙ a .never-unfinished;
       matches = record {

@@ -15,7 +15,7 @@ use Rattle.model.specs.Calls.{memories}
 use Rattle.model.specs.Runs.{Request}
 use Rattle.model.specs.UndividedRun.{start, whole-map}
 use Rattle.model.specs.Demands.{Matches, outbox-bytes}
-use Rattle.rounds.specs.Requests.{requests-in, outcome-number, Run, run, over, PlayedAll}
+use Rattle.rounds.specs.Requests.{requests-in, outcome-number, PlayedRun, played-run, over-words, PlayedAll}
 use Rattle.agreed.specs.Course.{Course, course}
 
 -- the undivided run of a list from the mesh at the start
@@ -23,7 +23,7 @@ abbrev pub course-of : List Block → List Request → Course
 course-of bs rs = course (length bs) (start bs) rs
 
 -- a list as the divided run has it
-pub record Agreed (bs : List Block) (rs : List Request) (d : Run) : Type 0 where
+pub record Agreed (bs : List Block) (rs : List Request) (d : PlayedRun) : Type 0 where
   pub same-outcomes : d .outcomes ≡ course-of bs rs .outcomes
   -- an outcome's number is a question's, and no question has the number of a round that was taken and not finished
   pub never-unfinished : all (λ o. leb (outcome-number o) 28) (d .outcomes) ≡ true
@@ -32,11 +32,11 @@ pub record Agreed (bs : List Block) (rs : List Request) (d : Run) : Type 0 where
   pub same-map : (x : ℕ) → whole-map (matches .mesh) x ≡ whole-map bs x
 
 abbrev pub ListsAgree : Type 0
-ListsAgree = (bs : List Block) (outbox : List ℕ) (rs : List Request) → Sound all-rack bs → outbox-bytes ≤ length outbox → Agreed bs rs (run (map (memory-of all-rack) bs) outbox rs)
+ListsAgree = (bs : List Block) (outbox : List ℕ) (rs : List Request) → Sound all-rack bs → outbox-bytes ≤ length outbox → Agreed bs rs (played-run (map (memory-of all-rack) bs) outbox rs)
 
 -- what `play_all` leaves of a mesh and writes as outcomes
-pub record Kept (bs : List Block) (rs : List Request) (outcomes m′ outcomes′ : List ℕ) : Type 0 where
-  pub outcomes-are : outcomes′ ≡ over (map outcome-number (course-of bs rs .outcomes)) outcomes
+pub record RunKept (bs : List Block) (rs : List Request) (outcomes m′ outcomes′ : List ℕ) : Type 0 where
+  pub outcomes-are : outcomes′ ≡ over-words (map outcome-number (course-of bs rs .outcomes)) outcomes
   pub never-unfinished : all (λ n. leb n 28) (take (length rs) outcomes′) ≡ true
   pub matches : Matches all-rack (memories m′) (course-of bs rs .state)
   pub same-map : (x : ℕ) → whole-map (matches .mesh) x ≡ whole-map bs x
@@ -44,4 +44,4 @@ pub record Kept (bs : List Block) (rs : List Request) (outcomes m′ outcomes′
 abbrev pub Promise : Type 0
 Promise = (bs : List Block) (m requests outcomes outbox m′ outcomes′ outbox′ : List ℕ) → Sound all-rack bs → memories m ≡ map (memory-of all-rack) bs → outbox-bytes ≤ length outbox
     → PlayedAll m requests outcomes outbox m′ outcomes′ outbox′
-    → Kept bs (take (length outcomes) (requests-in requests)) outcomes m′ outcomes′
+    → RunKept bs (take (length outcomes) (requests-in requests)) outcomes m′ outcomes′

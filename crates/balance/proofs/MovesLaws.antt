@@ -25,12 +25,12 @@ use Rattle.columns.proofs.Below.{below-at}
 use Rattle.cells.proofs.FaceLaws.{keep-append}
 use Rattle.cells.proofs.Reached.{places, places-below}
 use Rattle.cells.proofs.Sited.{sited, darts-in}
-use Rattle.selection.specs.Picked.{size-at, Sizes}
+use Rattle.selection.specs.Picked.{picked-size, Sizes}
 use Rattle.selection.proofs.PickedPlaces.{picked-places, size-is}
 use Rattle.mesh.specs.Parts.{blocks, part}
 use Rattle.mesh.proofs.Parts.{mesh-tab, sound-test, sound-is}
 use Rattle.balance.specs.Moves.{can-leave, fits, leaves-at, Untried-in, going, candidate-of, at}
-use Rattle.balance.specs.Moves.{SoundParts, mesh-in, count-at, Counted, Surpluses, moves-between, moves-from, all-moves, found-of}
+use Rattle.balance.specs.Moves.{SoundParts, mesh-in, count-at, CellsCounted, Surpluses, moves-between, moves-from, all-moves, move-found}
 use Rattle.balance.specs.declared.Found.{Found}
 use Rattle.balance.specs.declared.Found.the-variants as found
 use Rattle.balance.specs.declared.leaving.Candidate.{Candidate}
@@ -75,7 +75,7 @@ module _ (o : Oracle) (mesh : List ℕ) (sp : SoundParts mesh) (d r : ℕ) (hd :
   c = part mesh r
 
   abbrev z : ℕ → ℕ
-  z = size-at o b
+  z = picked-size o b
 
   abbrev mv : ℕ → Move
   mv s = record { donor = d; recipient = r; serial = s }
@@ -159,16 +159,16 @@ between-there s {l} {m} {s′} {r} {a} {b} e f g u =
 picked-few : (o : Oracle) (m : List ℕ) → holds-block m ≡ true → length (picked o (darts-in m)) ≤ 4096
 picked-few o m ok =
     few-of (ap length (picked-places o m ok) ∙ length-map kept (column m 0))
-    (keep-le (λ p. ltb 0 (size-at o m p)) (places (getD m 2 0))) (length-tab (λ (p : ℕ). p) (getD m 2 0))
+    (keep-le (λ p. ltb 0 (picked-size o m p)) (places (getD m 2 0))) (length-tab (λ (p : ℕ). p) (getD m 2 0))
     (sited m ok .linked .few)
   where
     kept : List ℕ
-    kept = keep (λ p. ltb 0 (size-at o m p)) (places (getD m 2 0))
+    kept = keep (λ p. ltb 0 (picked-size o m p)) (places (getD m 2 0))
 
     few-of : {a b c n : ℕ} → a ≡ b → b ≤ c → c ≡ n → n ≤ 4096 → a ≤ 4096
     few-of e f g h = omega arith
 
-pub counted-small : {o : Oracle} {mesh cs : List ℕ} → SoundParts mesh → Counted o mesh cs → (i : ℕ) → i < blocks mesh → getD cs i 0 ≤ 4096
+pub counted-small : {o : Oracle} {mesh cs : List ℕ} → SoundParts mesh → CellsCounted o mesh cs → (i : ℕ) → i < blocks mesh → getD cs i 0 ≤ 4096
 counted-small {o} {mesh} {cs} sp c i h = small-of (c .entry i h) (picked-few o (part mesh i) (sp .image i h))
   where
     small-of : {a b : ℕ} → a ≡ b → b ≤ 4096 → a ≤ 4096
@@ -218,7 +218,7 @@ module _ (o : Oracle) (mesh : List ℕ) where
 
 -- THE LOOP over recipients of block d
 pub record Giving (o : Oracle) (mesh : List ℕ) (d : ℕ) (s : List ℕ) (r : ℕ) : Type 0 where
-  pub untried : Untried-in (size-at o (part mesh d)) (part mesh d) s
+  pub untried : Untried-in (picked-size o (part mesh d)) (part mesh d) s
   pub search : Searching (λ b. is-below (surplus-at o mesh b)) (moves-between o mesh d) (blocks mesh) r
 
 pub giving-start : {o : Oracle} {mesh : List ℕ} {d : ℕ} {s : List ℕ} → Sizes o (part mesh d) s → Giving o mesh d s 0
@@ -234,7 +234,7 @@ module _ {o : Oracle} {mesh : List ℕ} {d : ℕ} {s : List ℕ} {r : ℕ} (w : 
   module _ (sp : SoundParts mesh) (hd : d < blocks mesh) (apart : r ≡ d → ⊥) {c : Candidate}
       (e : c ≡ candidate-of (going (at s) (part mesh d) (4096 - getD (part mesh r) 2 0))) where
     abbrev there : List ℕ
-    there = going (size-at o (part mesh d)) (part mesh d) (4096 - getD (part mesh r) 2 0)
+    there = going (picked-size o (part mesh d)) (part mesh d) (4096 - getD (part mesh r) 2 0)
 
     first-is : c ≡ candidate-of there
     first-is = e ∙ ap candidate-of (going-same (part mesh d) (w .untried) (4096 - getD (part mesh r) 2 0))
@@ -246,14 +246,14 @@ module _ {o : Oracle} {mesh : List ℕ} {d : ℕ} {s : List ℕ} {r : ℕ} (w : 
           ∙ ap (map (λ x. record { donor = d; recipient = r; serial = x })) (none-goes there (sym q ∙ first-is)));
     }
 
-    pub giving-found : {serial : ℕ} → c ≡ Volume serial → is-below (surplus-at o mesh r) ≡ true → found-of d (found.Move r serial) ≡ first-or blocked (moves-from o mesh d)
+    pub giving-found : {serial : ℕ} → c ≡ Volume serial → is-below (surplus-at o mesh r) ≡ true → move-found d (found.Move r serial) ≡ first-or blocked (moves-from o mesh d)
     giving-found {serial} q b =
         let g = one-goes there serial (sym q ∙ first-is) in
         let f = search-found (w .search) h b (record { donor = d; recipient = r; serial = serial }) (map (λ x. record { donor = d; recipient = r; serial = x }) (g .0))
         (between-is o mesh sp d r hd h apart ∙ ap (map (λ x. record { donor = d; recipient = r; serial = x })) (g .1)) in
         sym (ap (first-or blocked) (from-is o mesh d ∙ f .1))
 
-pub giving-end : {o : Oracle} {mesh : List ℕ} {d : ℕ} {s : List ℕ} {r : ℕ} → Giving o mesh d s r → blocks mesh ≤ r → found-of d found.Nothing ≡ first-or blocked (moves-from o mesh d)
+pub giving-end : {o : Oracle} {mesh : List ℕ} {d : ℕ} {s : List ℕ} {r : ℕ} → Giving o mesh d s r → blocks mesh ≤ r → move-found d found.Nothing ≡ first-or blocked (moves-from o mesh d)
 giving-end {o} {mesh} {d} w h = sym (ap (first-or blocked) (from-is o mesh d ∙ search-end (w .search) h))
 
 -- THE NEXT MOVE
@@ -313,15 +313,15 @@ module _ (o : Oracle) (mesh : List ℕ) {s : List ℤ} (ss : Surpluses o mesh s)
 
 -- THE LOOP over donors
 pub donor-found : (o : Oracle) (mesh : List ℕ) {d to serial : ℕ} {f : Found} → Searching (λ b. is-above (surplus-at o mesh b)) (moves-from o mesh) (blocks mesh) d → d < blocks mesh
-    → is-above (surplus-at o mesh d) ≡ true → found-of d f ≡ first-or blocked (moves-from o mesh d) → f ≡ found.Move to serial
+    → is-above (surplus-at o mesh d) ≡ true → move-found d f ≡ first-or blocked (moves-from o mesh d) → f ≡ found.Move to serial
     → served (move (record { donor = d; recipient = to; serial = serial })) ≡ served (first-or blocked (all-moves o mesh))
 donor-found o mesh {d} {to} {serial} w h a e q =
-    let g = one-move (moves-from o mesh d) (record { donor = d; recipient = to; serial = serial }) (sym (ap (found-of d) q) ∙ e) in
+    let g = one-move (moves-from o mesh d) (record { donor = d; recipient = to; serial = serial }) (sym (ap (move-found d) q) ∙ e) in
     let r = search-found w h a (record { donor = d; recipient = to; serial = serial }) (g .0) (g .1) in
     ap served (sym (ap (first-or blocked) (all-are o mesh ∙ r .1)))
 
-pub donor-none : (o : Oracle) (mesh : List ℕ) (d : ℕ) {f : Found} → found-of d f ≡ first-or blocked (moves-from o mesh d) → f ≡ found.Nothing → moves-from o mesh d ≡ []
-donor-none o mesh d e q = no-move (moves-from o mesh d) (sym (ap (found-of d) q) ∙ e)
+pub donor-none : (o : Oracle) (mesh : List ℕ) (d : ℕ) {f : Found} → move-found d f ≡ first-or blocked (moves-from o mesh d) → f ≡ found.Nothing → moves-from o mesh d ≡ []
+donor-none o mesh d e q = no-move (moves-from o mesh d) (sym (ap (move-found d) q) ∙ e)
 
 pub donor-end : (o : Oracle) (mesh : List ℕ) {d : ℕ} → Searching (λ b. is-above (surplus-at o mesh b)) (moves-from o mesh) (blocks mesh) d → blocks mesh ≤ d
     → served blocked ≡ served (first-or blocked (all-moves o mesh))

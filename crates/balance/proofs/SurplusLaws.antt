@@ -23,7 +23,7 @@ use Rattle.laws.proofs.Tests.{last-or-below}
 use Rattle.laws.proofs.Maps.{tab-more}
 use Rattle.laws.proofs.Tables.{length-tab, getD-tab, map-tab, tab-cong, tab-any, none-tab}
 use Rattle.mesh.specs.Parts.{blocks, part}
-use Rattle.balance.specs.Moves.{count-at, mesh-in, Counted, Surpluses}
+use Rattle.balance.specs.Moves.{count-at, mesh-in, CellsCounted, Surpluses}
 
 -- A DIFFERENCE of two small counts, as an i32
 mag-pick : (t : Bool) (x y m : ℕ) → x < m → y < m → mag (cond t (negsuc x) (pos y)) < m
@@ -123,7 +123,7 @@ module _ (o : Oracle) (mesh : List ℕ) where
       ∙ ap (λ (n : ℕ). tab (λ i. subℕ (count-at o mesh i) (sum (tab (count-at o mesh) k) / n)) k) (length-tab (count-at o mesh) k)
 
   -- from the counts in a table
-  pub surpluses-told : {cs : List ℕ} → Counted o mesh cs → {t m : ℕ} → t ≡ sum (tab (λ i. getD cs i 0) k) → m ≡ t / k → {ss : List ℤ} → length ss ≡ 16
+  pub surpluses-told : {cs : List ℕ} → CellsCounted o mesh cs → {t m : ℕ} → t ≡ sum (tab (λ i. getD cs i 0) k) → m ≡ t / k → {ss : List ℤ} → length ss ≡ 16
       → ((i : ℕ) → i < k → getD ss i (pos 0) ≡ subℕ (getD cs i 0) m) → Surpluses o mesh ss
   surpluses-told {cs} c {t} {m} et em {ss} len told = record {
     size = len;

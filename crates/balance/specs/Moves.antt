@@ -81,7 +81,7 @@ abbrev pub count-at : Oracle → List ℕ → ℕ → ℕ
 count-at o mesh i = length (picked o (block-in (part mesh i) .darts))
 
 -- these counts in a table
-pub record Counted (o : Oracle) (mesh cs : List ℕ) : Type 0 where
+pub record CellsCounted (o : Oracle) (mesh cs : List ℕ) : Type 0 where
   pub size : length cs ≡ 16
   pub entry : (i : ℕ) → i < blocks mesh → getD cs i 0 ≡ count-at o mesh i
 
@@ -103,6 +103,6 @@ abbrev pub all-moves : Oracle → List ℕ → List Move
 all-moves o mesh = concat-map (moves-from o mesh) (blocks-with is-above (surpluses (counts o (mesh-in mesh))))
 
 -- what was found of block d: a move, or none and so blocked
-abbrev pub found-of : ℕ → Found → NextMove
-found-of d (found.Move r s) = move (record { donor = d; recipient = r; serial = s })
-found-of d found.Nothing = blocked
+abbrev pub move-found : ℕ → Found → NextMove
+move-found d (found.Move r s) = move (record { donor = d; recipient = r; serial = s })
+move-found d found.Nothing = blocked

@@ -19,7 +19,7 @@ ghost use Rattle.answers.specs.Answers.{move-of};
 ghost use Rattle.oracle.specs.Oracle.{oracle-of};
 ghost use Rattle.selection.specs.Picked.{Sizes};
 ghost use Rattle.mesh.specs.Parts.{blocks, part};
-ghost use Rattle.balance.specs.Moves.{SoundParts, Surpluses, Untried-in, going, candidate-of, at, found-of, moves-from, all-moves};
+ghost use Rattle.balance.specs.Moves.{SoundParts, Surpluses, Untried-in, going, candidate-of, at, move-found, moves-from, all-moves};
 use crate::leaving::Candidate;
 use answers::NextMove;
 use memory::header::Header;
@@ -59,7 +59,7 @@ fn from_donor(
 ) -> Found
     requires { ⌜ SoundParts (now mesh) × (d < blocks (now mesh)) × (count-in (part (now mesh) d) ≤ length (now sizes)) ⌝ }
     requires { ⌜ Surpluses (oracle-of o) (now mesh) surplus × (is-above (getD surplus d (pos 0)) ≡ true) ⌝ }
-    ensures { λ r. ⌜ found-of d r ≡ first-or blocked (moves-from (oracle-of o) (now (mesh .entry)) d) ⌝ }
+    ensures { λ r. ⌜ move-found d r ≡ first-or blocked (moves-from (oracle-of o) (now (mesh .entry)) d) ⌝ }
 {
     sizes_at(mesh, d, o, sizes);
     let k = mesh.len() / Header::WORDS;

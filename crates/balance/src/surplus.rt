@@ -8,7 +8,7 @@ ghost use Rattle.model.specs.Lists.{any, sum, tab};
 ghost use Rattle.model.specs.Balance.{is-above as above-zero, is-below as below-zero};
 ghost use Rattle.oracle.specs.Oracle.{oracle-of};
 ghost use Rattle.mesh.specs.Parts.{blocks};
-ghost use Rattle.balance.specs.Moves.{SoundParts, count-at, Counted, Surpluses};
+ghost use Rattle.balance.specs.Moves.{SoundParts, count-at, CellsCounted, Surpluses};
 use memory::header::BLOCKS;
 use memory::header::Header;
 use oracle::Oracle;
@@ -24,7 +24,7 @@ fn count_part(mesh: &[u64], i: usize, o: Oracle) -> u32
 // How many volumes of each block are picked.
 fn counts(mesh: &[u64], o: Oracle) -> [u32; BLOCKS]
     requires { ⌜ SoundParts (now mesh) ⌝ }
-    ensures { λ r. ⌜ Counted (oracle-of o) (now (mesh .entry)) r ⌝ }
+    ensures { λ r. ⌜ CellsCounted (oracle-of o) (now (mesh .entry)) r ⌝ }
 {
     let k = mesh.len() / Header::WORDS;
     // The blocks before i are counted.

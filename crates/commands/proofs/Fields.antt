@@ -17,7 +17,7 @@ use Rattle.commands.specs.declared.lines.Field.the-variants as field
 use Rattle.commands.specs.declared.lines.Line.{Line}
 use Rattle.commands.specs.declared.lines.Line.the-variants as line
 use Rattle.commands.specs.Words.{number-in, belongs, leading}
-use Rattle.commands.specs.Lines.{rest-blank, valued, word-at, field-from, field-in, then, line-in}
+use Rattle.commands.specs.Lines.{rest-blank, valued, word-at, field-from, field-in, then-line, line-in}
 
 -- past the end there are no bytes
 pub leading-past : (p : ℕ → Bool) (s : List ℕ) (at : ℕ) → length s ≤ at → leading p (drop at s) ≡ 0

@@ -34,12 +34,12 @@ unfoldable pub field-in : List ℕ → ℕ → Field
 field-in s at = field-from s (at + leading (belongs kind.Blanks) (drop at s))
 
 -- a number, and what follows it
-abbrev pub then : Field → (ℕ → ℕ → Line) → Line
-then (field.Value n past) more = more n past
-then field.Other more = line.Other
+abbrev pub then-line : Field → (ℕ → ℕ → Line) → Line
+then-line (field.Value n past) more = more n past
+then-line field.Other more = line.Other
 
 -- 'from to serial'
 unfoldable pub line-in : List ℕ → Line
 line-in s =
     cond (rest-blank s 0) line.Blank
-    (then (field-in s 0) (λ from p. then (field-in s p) (λ to q. then (field-in s q) (λ serial r. cond (rest-blank s r) (line.Request from to serial) line.Other))))
+    (then-line (field-in s 0) (λ from p. then-line (field-in s p) (λ to q. then-line (field-in s q) (λ serial r. cond (rest-blank s r) (line.Request from to serial) line.Other))))

@@ -36,8 +36,8 @@ is-basins file.NewCommit = true
 abbrev pub padded : List ℕ → List ℕ
 padded n = n ++ replicate (17 - length n) 0
 
-unfoldable pub named : File → Name
-named f = record { bytes = padded (name-of f); size = length (name-of f) }
+unfoldable pub file-named : File → Name
+file-named f = record { bytes = padded (name-of f); size = length (name-of f) }
 
 unfoldable pub nameless : Name
 nameless = record { bytes = padded []; size = 0 }

@@ -1,7 +1,7 @@
 // The names of a basin's files.
 ghost use mathlib.Core.Path.{_≡_};
 ghost use Prim.Native.Nat.{_+_, _/_, _%_};
-ghost use Rattle.commands.specs.Names.{block-name, name-of, padded, named, nameless};
+ghost use Rattle.commands.specs.Names.{block-name, name-of, padded, file-named, nameless};
 
 // Block b's file and its new file; the commit and the new commit.
 pub enum File {
@@ -72,7 +72,7 @@ fn of_new_block(b: usize) -> [u8; 17]
 
 // The name of a file.
 pub fn name_of(f: File) -> Name
-    ensures { λ r. ⌜ r ≡ named f ⌝ }
+    ensures { λ r. ⌜ r ≡ file-named f ⌝ }
 {
     match f {
         File::Block(b) => Name {

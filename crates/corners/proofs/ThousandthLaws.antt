@@ -5,7 +5,7 @@ use Prim.Native.Nat.{ℕ, _≤_, _<_}
 use borrow.Author.Tests.{le-leb, lt-leb}
 use lib.Ieee.{Float, binary64, add, mul, neg, lt, toUnsigned, ofBits}
 use Rattle.corners.specs.declared.thousandths.Thousandths.the-variants as thousandths
-use Rattle.corners.specs.Thousandths.{size-of, scaled, thousandths-in, thousandths-of}
+use Rattle.corners.specs.Thousandths.{digit-count, scaled, thousandths-in, thousandths-of}
 
 abbrev low : Float
 low = neg (ofBits binary64 4607182418800017408)
@@ -17,7 +17,7 @@ high = ofBits binary64 4895412794951729152
 abbrev made : Float → Float
 made z = add binary64 (mul binary64 z (ofBits binary64 4652007308841189376)) (ofBits binary64 4602678819172646912)
 
-module _ (x : Float) {z : Float} (e : z ≡ size-of x) where
+module _ (x : Float) {z : Float} (e : z ≡ digit-count x) where
   same : made z ≡ scaled x
   unfolding scaled
   same = ap made e

@@ -9,7 +9,7 @@ use Rattle.model.specs.Everything.{everything}
 use Rattle.memory.specs.Point.{point-of}
 use Rattle.corners.specs.declared.thousandths.Thousandths.the-variants as thousandths
 use Rattle.corners.specs.Corners.{corner-points, sum-from, mean-of}
-use Rattle.corners.specs.Thousandths.{size-of, scaled, thousandths-in, thousandths-of}
+use Rattle.corners.specs.Thousandths.{digit-count, scaled, thousandths-in, thousandths-of}
 
 -- three corners: (-1, 1, 0), (-2.5, 0, 4e9) and the origin
 abbrev one : Patterns
@@ -42,7 +42,7 @@ near = (0x3ff8000000000000, false, 1500) ∷ (0xc000000000000000, true, 2000) �
     ∷ (0, false, 0) ∷ (0xbf3a36e2eb1c432d, true, 0) ∷ (0x41cdcd6500000000, false, 1000000000000) ∷ []
 
 told : map (λ t. thousandths-of (ofBits binary64 (t .0))) near ≡ map (λ t. thousandths.Are (t .1) (t .2)) near
-unfolding size-of scaled thousandths-in thousandths-of ofBits round add mul neg lt toUnsigned
+unfolding digit-count scaled thousandths-in thousandths-of ofBits round add mul neg lt toUnsigned
 told = refl
 
 -- 1000000000.001, -2e9, 1e300 and both infinities
@@ -50,5 +50,5 @@ abbrev distant : List ℕ
 distant = 0x41cdcd65000020c5 ∷ 0xc1ddcd6500000000 ∷ 0x7e37e43c8800759c ∷ 0x7ff0000000000000 ∷ 0xfff0000000000000 ∷ []
 
 not-told : map (λ w. thousandths-of (ofBits binary64 w)) distant ≡ map (λ w. thousandths.Far) distant
-unfolding size-of scaled thousandths-in thousandths-of ofBits round add mul neg lt toUnsigned
+unfolding digit-count scaled thousandths-in thousandths-of ofBits round add mul neg lt toUnsigned
 not-told = refl

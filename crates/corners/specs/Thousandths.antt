@@ -7,12 +7,12 @@ use Rattle.corners.specs.declared.thousandths.Thousandths.{Thousandths}
 use Rattle.corners.specs.declared.thousandths.Thousandths.the-variants as thousandths
 
 -- a float's size
-unfoldable pub size-of : Float → Float
-size-of x = cond (lt x (ofBits binary64 0)) (neg x) x
+unfoldable pub digit-count : Float → Float
+digit-count x = cond (lt x (ofBits binary64 0)) (neg x) x
 
 -- a thousand times it, and a half
 unfoldable pub scaled : Float → Float
-scaled x = add binary64 (mul binary64 (size-of x) (ofBits binary64 4652007308841189376)) (ofBits binary64 4602678819172646912)
+scaled x = add binary64 (mul binary64 (digit-count x) (ofBits binary64 4652007308841189376)) (ofBits binary64 4602678819172646912)
 
 -- so many thousandths, if they are few enough
 unfoldable pub thousandths-in : Float → ℕ → Thousandths

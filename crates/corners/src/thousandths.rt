@@ -1,6 +1,6 @@
 // A float as whole thousandths.
 ghost use mathlib.Core.Path.{_≡_};
-ghost use Rattle.corners.specs.Thousandths.{size-of, thousandths-of};
+ghost use Rattle.corners.specs.Thousandths.{digit-count, thousandths-of};
 
 // Whether it is below zero, and its size in thousandths, rounded; or that it is above 10^9 in size, or no number. Up to there a thousand
 // times the size is below 2^53, so that its whole part is that of the float product.
@@ -11,7 +11,7 @@ pub enum Thousandths {
 
 // A float's size.
 fn size(x: f64) -> f64
-    ensures { λ r. ⌜ r ≡ size-of x ⌝ }
+    ensures { λ r. ⌜ r ≡ digit-count x ⌝ }
 {
     if x < 0.0 {
         return -x;

@@ -28,7 +28,7 @@ use Rattle.cells.proofs.StartLaws.{question-14}
 use Rattle.cells.proofs.VolumeReady.{out-few, out-long, out-below, out-marked, out-any}
 use Rattle.cells.proofs.VolumeArrays.{out-count, pairs-answer}
 use Rattle.departure.specs.Asked.{faces-at}
-use Rattle.departure.specs.Questions.{Walked, sewn-away}
+use Rattle.departure.specs.Questions.{VolumeWalked, sewn-away}
 
 -- 10: a dart of the block, by its serial and its place
 pub record HeldAt (m : List ℕ) (s p : ℕ) : Type 0 where
@@ -67,12 +67,12 @@ module _ {m : List ℕ} {s p : ℕ} (site : Sited m) (h : HeldAt m s p) where
   pub within-no : (most : ℕ) → most < length (places-in (count-in m) (volume-of m p)) → leb (length (volume-in (darts-in m) s)) most ≡ false
   within-no most few = lt-leb (length (volume-in (darts-in m) s)) most (omega (arith, size-is))
 
-  pub within-yes : {most t : ℕ} {marks out : List ℕ} → Walked m p t marks out → t ≤ most → leb (length (volume-in (darts-in m) s)) most ≡ true
+  pub within-yes : {most t : ℕ} {marks out : List ℕ} → VolumeWalked m p t marks out → t ≤ most → leb (length (volume-in (darts-in m) s)) most ≡ true
   within-yes {most} w few = le-leb (length (volume-in (darts-in m) s)) most (omega (arith, size-is, w .size-is))
 
   module _ {marks : List ℕ} (mk : Marked (volume-of m p) marks) where
     module _ {out starts : List ℕ} {darts count : ℕ} (o : InOrder (faces-at m marks) out starts darts count) where
-      pub as-many : {t : ℕ} {out′ : List ℕ} → Walked m p t marks out′ → darts ≡ t
+      pub as-many : {t : ℕ} {out′ : List ℕ} → VolumeWalked m p t marks out′ → darts ≡ t
       as-many w = out-count site p (h .below) mk o ∙ ap (λ (x : ℕ). length (volume-in (darts-in m) x)) (h .serial-is) ∙ size-is ∙ sym (w .size-is)
 
       -- what 12 and `unmark-both` ask of the list

@@ -23,7 +23,7 @@ use Rattle.cells.proofs.Sited.{Sited, darts-in}
 use Rattle.cells.proofs.StartLaws.{in-order-few}
 use Rattle.theory.proofs.ImageLaws.{image-is, parts-of, ranges-of, Ranges}
 use Rattle.departure.specs.Asked.{Departs, faces-at}
-use Rattle.departure.specs.Questions.{Walked, Paired, Unpaired, sewn-away}
+use Rattle.departure.specs.Questions.{VolumeWalked, PairsAsked, Unpaired, sewn-away}
 use Rattle.departure.proofs.Answers.{HeldAt, within-no, within-yes, as-many, sewn-answer, pairs-told, sewn-count}
 
 -- what a sound block's header says
@@ -55,7 +55,7 @@ module _ (most : ℕ) (m : List ℕ) (j s : ℕ) where
       unfolding departure-checks
       first-11 many = alone _ (ask-yes is-9 (ask-yes (h .is-held) (ask-no refl (within-no site h most many) refl)))
 
-      module _ {t : ℕ} {marks walked : List ℕ} (w : Walked m p t marks walked) (few : t ≤ most)
+      module _ {t : ℕ} {marks walked : List ℕ} (w : VolumeWalked m p t marks walked) (few : t ≤ most)
           {out starts : List ℕ} {darts count : ℕ} (o : InOrder (faces-at m marks) out starts darts count) where
         is-11 : leb (length (volume-in (darts-in m) s)) most ≡ true
         is-11 = within-yes site h w few
@@ -76,7 +76,7 @@ module _ (most : ℕ) (m : List ℕ) (j s : ℕ) where
           first-13 fails = alone _ (ask-yes is-9 (ask-yes (h .is-held) (ask-yes is-11 (ask-yes is-12
               (ask-no refl (pairs-told site h (w .volume-marked) o (fails .numbering) ∙ fails .twice) refl)))))
 
-          module _ {numbers firsts : List ℕ} {vs : ℕ} (pairs : Paired m out darts numbers firsts vs) where
+          module _ {numbers firsts : List ℕ} {vs : ℕ} (pairs : PairsAsked m out darts numbers firsts vs) where
             is-13 : pairs-once (vertex-pairs (next-in (darts-in m)) (opposite-in (darts-in m)) (volume-in (darts-in m) s)) ≡ true
             is-13 = pairs-told site h (w .volume-marked) o (pairs .numbering) ∙ pairs .once
 

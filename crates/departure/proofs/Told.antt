@@ -12,7 +12,7 @@ use Rattle.answers.specs.Answers.{answered, question}
 use Rattle.answers.specs.declared.Refusal.{Refusal}
 use Rattle.cells.specs.Places.{Clear, places-in, volume-of}
 use Rattle.departure.specs.Asked.{Departs, Forgotten, Leaves}
-use Rattle.departure.specs.Questions.{Walked, WalkedWithin, Paired, Unpaired, PairsOnce, CounterFits, sewn-away}
+use Rattle.departure.specs.Questions.{VolumeWalked, WalkedWithin, PairsAsked, Unpaired, PairsOnce, CounterFits, sewn-away}
 use Rattle.departure.specs.declared.Counts.{Counts}
 use Rattle.departure.specs.declared.Leaving.{Leaving}
 use Rattle.departure.specs.declared.Leaving.the-variants.{Volume, Refused}
@@ -37,14 +37,14 @@ forgotten-told marks seen h e = subst (λ (x : Leaving). Forgotten x marks seen)
 
 -- WHAT THE QUESTIONS TELL, where a caller has looked at the answer
 module _ (most : ℕ) (m : List ℕ) {s p : ℕ} (at : HeldAt m s p) (marks out : List ℕ) {r : Walk} (h : WalkedWithin most m p r marks out) where
-  pub walked-told : {t : ℕ} → r ≡ walk.Volume t → Walked m p t marks out × (t ≤ most)
+  pub walked-told : {t : ℕ} → r ≡ walk.Volume t → VolumeWalked m p t marks out × (t ≤ most)
   walked-told e = subst (λ (x : Walk). WalkedWithin most m p x marks out) e h
 
   pub large-told : r ≡ walk.TooLarge → (most < length (places-in (count-in m) (volume-of m p))) × Clear marks
   large-told e = subst (λ (x : Walk). WalkedWithin most m p x marks out) e h
 
 module _ (m out : List ℕ) (darts : ℕ) {r : Pairs} {numbers firsts : List ℕ} (h : PairsOnce m out darts r numbers firsts) where
-  pub paired-told : {vs : ℕ} → r ≡ pairs.Once vs → Paired m out darts numbers firsts vs
+  pub paired-told : {vs : ℕ} → r ≡ pairs.Once vs → PairsAsked m out darts numbers firsts vs
   paired-told e = subst (λ (x : Pairs). PairsOnce m out darts x numbers firsts) e h
 
   pub unpaired-told : r ≡ pairs.Repeated → Unpaired m out darts numbers firsts

@@ -18,18 +18,18 @@ use Rattle.departure.specs.declared.questions.Sewn.{Sewn}
 use Rattle.departure.specs.declared.questions.Sewn.the-variants as sewn
 
 -- 11: the volume of the dart at place p, of t darts, is marked and listed
-pub record Walked (m : List ℕ) (p t : ℕ) (marks out : List ℕ) : Type 0 where
+pub record VolumeWalked (m : List ℕ) (p t : ℕ) (marks out : List ℕ) : Type 0 where
   pub volume-marked : Marked (volume-of m p) marks
   pub size-is : t ≡ length (places-in (count-in m) (volume-of m p))
   pub listed : Listed (count-in m) (volume-of m p) out t
 
 -- it has at most `most` darts, or nothing is marked
 abbrev pub WalkedWithin : ℕ → List ℕ → ℕ → Walk → List ℕ → List ℕ → Type 0
-WalkedWithin most m p (walk.Volume t) marks out = Walked m p t marks out × (t ≤ most)
+WalkedWithin most m p (walk.Volume t) marks out = VolumeWalked m p t marks out × (t ≤ most)
 WalkedWithin most m p walk.TooLarge marks out = (most < length (places-in (count-in m) (volume-of m p))) × Clear marks
 
 -- 13: the vertices of the first darts of `out` are numbered, and no edge of them has the ends of another, or one end twice
-pub record Paired (m out : List ℕ) (darts : ℕ) (numbers firsts : List ℕ) (vertices : ℕ) : Type 0 where
+pub record PairsAsked (m out : List ℕ) (darts : ℕ) (numbers firsts : List ℕ) (vertices : ℕ) : Type 0 where
   pub numbering : Numbered (column m 1) (column m 2) (take darts out) numbers firsts vertices
   pub once : ends-once (column m 1) (column m 2) numbers firsts vertices ≡ true
 
@@ -39,7 +39,7 @@ pub record Unpaired (m out : List ℕ) (darts : ℕ) (numbers firsts : List ℕ)
   pub twice : ends-once (column m 1) (column m 2) numbers firsts vertices ≡ false
 
 abbrev pub PairsOnce : List ℕ → List ℕ → ℕ → Pairs → List ℕ → List ℕ → Type 0
-PairsOnce m out darts (pairs.Once vertices) numbers firsts = Paired m out darts numbers firsts vertices
+PairsOnce m out darts (pairs.Once vertices) numbers firsts = PairsAsked m out darts numbers firsts vertices
 PairsOnce m out darts pairs.Repeated numbers firsts = Unpaired m out darts numbers firsts
 
 -- 14: how many faces of the marked volume are sewn to another

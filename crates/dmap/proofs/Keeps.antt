@@ -12,7 +12,7 @@ use Rattle.model.specs.Calls.{Answer, served, refused, Result, number-of}
 use Rattle.model.specs.Demands.{Unchanged, Demand1}
 use Rattle.laws.proofs.Tests.{by-cases}
 use Rattle.theory.proofs.CallLaws.{demand1}
-use Rattle.dmap.specs.CInterface.{Numbered, Counted, written-over, four-first, moved-over, Moved, CKeeps}
+use Rattle.dmap.specs.CInterface.{AnswerNumbered, WrittenCounted, written-over, four-first, moved-over, Moved, CKeeps}
 
 module _ {A : Type 0} (before : List ℕ) (result : Result A) (u : Unchanged before result) where
   lent-kept : number-of (result .answer) ≢ 0 → result .lent ≡ before
@@ -32,11 +32,11 @@ words-kept before (served v) h = absurd (h refl)
 words-kept before (refused n) h = refl
 
 -- by the three shapes that a C call has
-numbered-keeps : (before : List ℕ) (result : Result (Unit {0})) → Unchanged before result → (number : ℕ) (lent : List ℕ) → Numbered result number lent → number ≢ 0 → lent ≡ before
+numbered-keeps : (before : List ℕ) (result : Result (Unit {0})) → Unchanged before result → (number : ℕ) (lent : List ℕ) → AnswerNumbered result number lent → number ≢ 0 → lent ≡ before
 numbered-keeps before result u number lent t h = t .left ∙ lent-kept before result u (λ e. h (t .number-is ∙ e))
 
 counted-keeps : (before : List ℕ) (result : Result ℕ) → Unchanged before result → (old number : ℕ) (lent : List ℕ) (written : ℕ)
-    → Counted result old number lent written → number ≢ 0 → (lent ≡ before) × (written ≡ old)
+    → WrittenCounted result old number lent written → number ≢ 0 → (lent ≡ before) × (written ≡ old)
 counted-keeps before result u old number lent written t h =
     let not-served : number-of (result .answer) ≢ 0 = λ e. h (t .told .number-is ∙ e) in
     (t .left ∙ lent-kept before result u not-served, t .told .written-is ∙ count-kept old (result .answer) not-served)

@@ -20,25 +20,25 @@ use Rattle.answers.specs.declared.NextMove.the-variants as next
 use Rattle.answers.specs.declared.Refusal.{Refusal}
 use Rattle.answers.specs.declared.Written.{Written}
 use Rattle.answers.specs.declared.Written.the-variants as written
-use Rattle.dmap.specs.CInterface.{Numbered, Told, Counted, written-over, four-first, moved-over, ToldMove, Moved}
+use Rattle.dmap.specs.CInterface.{AnswerNumbered, CountWritten, WrittenCounted, written-over, four-first, moved-over, ToldMove, Moved}
 
-pub told-served : {w : Written} {before n : ℕ} → w ≡ written.Served n → Told (written-of w) before 0 n
+pub told-served : {w : Written} {before n : ℕ} → w ≡ written.Served n → CountWritten (written-of w) before 0 n
 told-served {before = b} e = record {
   number-is = sym (ap (λ x. number-of (written-of x)) e);
   written-is = sym (ap (λ x. written-over b (written-of x)) e);
 }
 
-pub told-refused : {w : Written} {before number : ℕ} {r : Refusal} → w ≡ written.Refused r → number ≡ question r → Told (written-of w) before number before
+pub told-refused : {w : Written} {before number : ℕ} {r : Refusal} → w ≡ written.Refused r → number ≡ question r → CountWritten (written-of w) before number before
 told-refused {before = b} e q = record {
   number-is = q ∙ sym (ap (λ x. number-of (written-of x)) e);
   written-is = sym (ap (λ x. written-over b (written-of x)) e);
 }
 
-pub numbered : {result : Result (Unit {0})} {given : Answer (Unit {0})} {number : ℕ} {lent : List ℕ} → number ≡ number-of given → Gives result given lent → Numbered result number lent
+pub numbered : {result : Result (Unit {0})} {given : Answer (Unit {0})} {number : ℕ} {lent : List ℕ} → number ≡ number-of given → Gives result given lent → AnswerNumbered result number lent
 numbered e g = record { number-is = e ∙ ap number-of (g .answer); left = g .left }
 
-pub counted : {result : Result ℕ} {given : Answer ℕ} {before number written : ℕ} {lent : List ℕ} → Told given before number written
-    → Gives result given lent → Counted result before number lent written
+pub counted : {result : Result ℕ} {given : Answer ℕ} {before number written : ℕ} {lent : List ℕ} → CountWritten given before number written
+    → Gives result given lent → WrittenCounted result before number lent written
 counted {before = b} t g = record {
   told = record { number-is = t .number-is ∙ ap number-of (g .answer); written-is = t .written-is ∙ ap (written-over b) (g .answer) };
   left = g .left;

@@ -12,7 +12,7 @@ use Rattle.model.specs.Balance.{NextMove}
 use Rattle.model.specs.Calls.{Answer, served, refused, Result, number-of, values-of, written-values, move-values, empty, read-file, save-file, send, receive, release, redirect, check-mesh, next-move-by-number}
 
 -- of a call that adds nothing: the number, and afterwards what was lent to be written
-pub record Numbered (result : Result (Unit {0})) (number : ℕ) (lent : List ℕ) : Type 0 where
+pub record AnswerNumbered (result : Result (Unit {0})) (number : ℕ) (lent : List ℕ) : Type 0 where
   pub number-is : number ≡ number-of (result .answer)
   pub left : lent ≡ result .lent
 
@@ -21,13 +21,13 @@ abbrev pub written-over : ℕ → Answer ℕ → ℕ
 written-over before a = getD (values-of written-values a) 0 before
 
 -- the number of an answer, and what stands behind the last pointer
-pub record Told (a : Answer ℕ) (before number written : ℕ) : Type 0 where
+pub record CountWritten (a : Answer ℕ) (before number written : ℕ) : Type 0 where
   pub number-is : number ≡ number-of a
   pub written-is : written ≡ written-over before a
 
 -- of a call that adds the bytes written: the same, and what was lent to be written
-pub record Counted (result : Result ℕ) (before number : ℕ) (lent : List ℕ) (written : ℕ) : Type 0 where
-  pub told : Told (result .answer) before number written
+pub record WrittenCounted (result : Result ℕ) (before number : ℕ) (lent : List ℕ) (written : ℕ) : Type 0 where
+  pub told : CountWritten (result .answer) before number written
   pub left : lent ≡ result .lent
 
 -- NEXT MOVE
@@ -63,15 +63,15 @@ pub record Moved (result : Result NextMove) (before : List ℕ) (number : ℕ) (
 -- leaves all of them. Files, messages and meshes, and the block of a save or a send, are lent by `&`: such a slice cannot be written, so it
 -- is not among what a call returns.
 pub record CKeeps : Type 0 where
-  pub empty-keeps : (n : ℕ) (m : List ℕ) (number : ℕ) (lent : List ℕ) → Numbered (empty rack n m) number lent → number ≢ 0 → lent ≡ m
-  pub read-file-keeps : (file m : List ℕ) (number : ℕ) (lent : List ℕ) → Numbered (read-file rack file m) number lent → number ≢ 0 → lent ≡ m
-  pub save-file-keeps : (m out : List ℕ) (before number : ℕ) (lent : List ℕ) (written : ℕ) → Counted (save-file rack m out) before number lent written
+  pub empty-keeps : (n : ℕ) (m : List ℕ) (number : ℕ) (lent : List ℕ) → AnswerNumbered (empty rack n m) number lent → number ≢ 0 → lent ≡ m
+  pub read-file-keeps : (file m : List ℕ) (number : ℕ) (lent : List ℕ) → AnswerNumbered (read-file rack file m) number lent → number ≢ 0 → lent ≡ m
+  pub save-file-keeps : (m out : List ℕ) (before number : ℕ) (lent : List ℕ) (written : ℕ) → WrittenCounted (save-file rack m out) before number lent written
       → number ≢ 0 → (lent ≡ out) × (written ≡ before)
   pub send-keeps : (m : List ℕ) (j s : ℕ) (outbox : List ℕ) (before number : ℕ) (lent : List ℕ) (written : ℕ)
-      → Counted (send rack m j s outbox) before number lent written → number ≢ 0 → (lent ≡ outbox) × (written ≡ before)
-  pub receive-keeps : (m message : List ℕ) (number : ℕ) (lent : List ℕ) → Numbered (receive rack m message) number lent → number ≢ 0 → lent ≡ m
-  pub release-keeps : (m : List ℕ) (j s number : ℕ) (lent : List ℕ) → Numbered (release rack m j s) number lent → number ≢ 0 → lent ≡ m
-  pub redirect-keeps : (m message : List ℕ) (number : ℕ) (lent : List ℕ) → Numbered (redirect rack m message) number lent → number ≢ 0 → lent ≡ m
-  pub check-mesh-keeps : (mesh scratch : List ℕ) (number : ℕ) (lent : List ℕ) → Numbered (check-mesh all-rack mesh scratch) number lent → number ≢ 0 → lent ≡ scratch
+      → WrittenCounted (send rack m j s outbox) before number lent written → number ≢ 0 → (lent ≡ outbox) × (written ≡ before)
+  pub receive-keeps : (m message : List ℕ) (number : ℕ) (lent : List ℕ) → AnswerNumbered (receive rack m message) number lent → number ≢ 0 → lent ≡ m
+  pub release-keeps : (m : List ℕ) (j s number : ℕ) (lent : List ℕ) → AnswerNumbered (release rack m j s) number lent → number ≢ 0 → lent ≡ m
+  pub redirect-keeps : (m message : List ℕ) (number : ℕ) (lent : List ℕ) → AnswerNumbered (redirect rack m message) number lent → number ≢ 0 → lent ≡ m
+  pub check-mesh-keeps : (mesh scratch : List ℕ) (number : ℕ) (lent : List ℕ) → AnswerNumbered (check-mesh all-rack mesh scratch) number lent → number ≢ 0 → lent ≡ scratch
   pub next-move-keeps : (mesh : List ℕ) (n axis : ℕ) (low high : Point) (scratch before : List ℕ) (number : ℕ) (lent words : List ℕ)
       → Moved (next-move-told mesh n axis low high scratch before) before number lent words → number ≢ 0 → (lent ≡ scratch) × (words ≡ before)

@@ -15,7 +15,7 @@ use Rattle.groups.proofs.Writing.{stored-length}
 use Rattle.columns.proofs.Question.{image-passed}
 use Rattle.codec.specs.Thirds.{ThirdSmall}
 use Rattle.codec.proofs.ThirdLaws.{sewn-not-free}
-use Rattle.savefile.specs.Named.{third-named, Small, AllSmall}
+use Rattle.savefile.specs.Named.{third-named, DartSmall, AllSmall}
 use Rattle.savefile.proofs.Pieces.{pieces, in-pieces, length-most, Placing}
 use Rattle.savefile.proofs.FileBytes.{third-is}
 use Rattle.savefile.proofs.Sizes.{image-small, counter-small, count-small}
@@ -127,7 +127,7 @@ dart-parts m p =
     line-same (column m 0 p) (column m 0 (column m 1 p)) (column m 0 (column m 2 p)) (third-text (third-in (column m 0) (column m 3 p) (column m 4 p)))
     ∙ ap (λ (t : Third). line-parts (column m 0 p) (column m 0 (column m 1 p)) (column m 0 (column m 2 p)) (third-text t)) (third-is m p)
 
-pub dart-short : (m : List ℕ) (p : ℕ) → Small m p → length (dart-text m p) ≤ 60
+pub dart-short : (m : List ℕ) (p : ℕ) → DartSmall m p → length (dart-text m p) ≤ 60
 dart-short m p s =
     let a = ended (column m 0 p) 32 in
     let b = ended (column m 0 (column m 1 p)) 32 in

@@ -8,7 +8,7 @@ ghost use Rattle.model.specs.Image.{third-in, dart-in, block-in, holds-block};
 ghost use Rattle.model.specs.Listing.{third-text, dart-line, header-line};
 ghost use Rattle.groups.specs.Slices.{Stored};
 ghost use Rattle.codec.specs.Thirds.{ThirdSmall};
-ghost use Rattle.savefile.specs.Named.{Small, AllSmall};
+ghost use Rattle.savefile.specs.Named.{DartSmall, AllSmall};
 use crate::text;
 use memory::header::Header;
 use memory::kind;
@@ -39,7 +39,7 @@ fn put_third(kind: u64, named: u64, out: &mut [u8], at: usize) -> usize
 
 // The line of the dart at place p.
 fn put_dart(block: &[u64], p: Place, out: &mut [u8], at: usize) -> usize
-    requires { ⌜ Small (now block) (p .0) × (at + 60 ≤ length (now out)) ⌝ }
+    requires { ⌜ DartSmall (now block) (p .0) × (at + 60 ≤ length (now out)) ⌝ }
     ensures { λ r. ⌜ Stored (now (out .entry)) at (dart-line (dart-in (now (block .entry)) (p .0))) (now (out .exit)) r ⌝ }
 {
     let past_serial = text::put_number(out, at, record::field(block, p, Record::SERIAL), b' ');

@@ -22,7 +22,7 @@ use Rattle.theory.proofs.FaceIndices.{placed-count, part3-count}
 use Rattle.cells.specs.Places.{InOrder, sewn-out}
 use Rattle.departure.specs.ByPlaces.{critical-with, critical-beside, label-at, dart-entry, part2-at, part4-at}
 use Rattle.outbox.specs.Runs.{run, tally}
-use Rattle.outbox.specs.Bytes.{beside-put, dart-put, end-of, face-put, faces-put, in-part2, in-part3, in-part4, label-put, part2-put, part3-put, part4-put, point-put, size-of, start-at}
+use Rattle.outbox.specs.Bytes.{beside-put, dart-put, end-of, face-put, faces-put, in-part2, in-part3, in-part4, label-put, part2-put, part3-put, part4-put, point-put, size-of-face, start-at}
 use Rattle.outbox.proofs.RunLists.{put-kept, put-mapped, put-numbered, run-cong, tally-cong, tally-kept}
 
 -- FACES ONE AFTER THE OTHER, the first at index i: face k starts `off` after it
@@ -85,7 +85,7 @@ module _ {fs : List (List ℕ)} {order starts : List ℕ} {darts count : ℕ} (o
       (λ e. let over = ltb-false (f + 1) count e in rw e (o .darts-are ∙ sym (here .last (omega (arith, o .count-is)))))
 
   -- its size, its places, and where it stands in the order
-  pub size-is : size-of starts count darts f ≡ length (getD fs f [])
+  pub size-is : size-of-face starts count darts f ≡ length (getD fs f [])
   size-is = omega (arith, start-is, end-is)
 
   pub place-is : (t : ℕ) → t < length (getD fs f []) → getD order (getD starts f 0 + t) 0 ≡ getD (getD fs f []) t 0
@@ -126,7 +126,7 @@ module _ (m numbers : List ℕ) {fs : List (List ℕ)} {order starts : List ℕ}
   face-is f h =
       let F = getD fs f [] in
       let g : ℕ → List ℕ = λ t. face-dart .put (dart-entry m numbers (getD order (getD starts f 0 + t) 0)) in
-      let same : length F ≡ size-of starts count darts f = sym (size-is o f h) in
+      let same : length F ≡ size-of-face starts count darts f = sym (size-is o f h) in
       counted-bytes face-dart (map (dart-entry m numbers) F)
       ∙ ap (λ (n : ℕ). group .put n ++ put-all face-dart (map (dart-entry m numbers) F)) (length-map F (dart-entry m numbers))
       ∙ ap (λ (l : List ℕ). group .put (length F) ++ l) (put-mapped 0 face-dart (dart-entry m numbers) F
@@ -170,7 +170,7 @@ module _ (m numbers : List ℕ) {fs : List (List ℕ)} {order starts : List ℕ}
       (λ f h. ap (λ (p : ℕ). cond (critical-with m j (start-at order starts f)) (part2 .put (record { label = label-at m p; index = getD starts f 0 })) []) (first-is o f h (some f h)))
 
   beside-is : (g : List (List FaceDart)) (f : ℕ) → f < count → part4 g .put (part4-at m (record { at = getD starts f 0; face = getD fs f [] }))
-      ≡ beside-put m order (getD starts f 0) (size-of starts count darts f)
+      ≡ beside-put m order (getD starts f 0) (size-of-face starts count darts f)
   unfolding beside-put label-put
   beside-is g f h =
       let F = getD fs f [] in

@@ -15,7 +15,7 @@ use Rattle.memory.specs.Point.{point-of, patterns, FinitePoint, FiniteAt}
 use Rattle.memory.specs.declared.point.Point.{Point}
 use Rattle.memory.proofs.Points.{point-finite, point-patterns}
 use Rattle.outbox.specs.Runs.{run, tally}
-use Rattle.outbox.specs.Bytes.{Listed, Started, Vertexed, beside-put, dart-put, end-of, face-put, faces-put, in-part2, in-part3, in-part4, label-put, part2-put, part3-put, part4-put, point-put, start-at}
+use Rattle.outbox.specs.Bytes.{DartsListed, FacesStarted, Vertexed, beside-put, dart-put, end-of, face-put, faces-put, in-part2, in-part3, in-part4, label-put, part2-put, part3-put, part4-put, point-put, start-at}
 use Rattle.codec.proofs.EntryLaws.{point-length}
 
 -- POINTS
@@ -60,7 +60,7 @@ unfolding face-put
 face-length m numbers order s n = length-append (group .put n) (run (dart-put m numbers order s) n)
 
 -- what is asked of all darts holds of the first ones
-pub listed-part : {m order : List ℕ} {darts : ℕ} → Listed m order darts → (n : ℕ) → n ≤ darts → Listed m order n
+pub listed-part : {m order : List ℕ} {darts : ℕ} → DartsListed m order darts → (n : ℕ) → n ≤ darts → DartsListed m order n
 listed-part l n h = record {
   header = l .header;
   held = λ k j. l .held k (omega arith);
@@ -80,7 +80,7 @@ pub faces-is : (m numbers order starts : List ℕ) (darts count f e : ℕ) → e
 unfolding faces-put
 faces-is m numbers order starts darts count f e h = ap (λ (k : ℕ). face-put m numbers order (getD starts f 0) (k - getD starts f 0)) (sym h)
 
-module _ {starts : List ℕ} {darts count : ℕ} (s : Started starts darts count) (f e : ℕ) (l : f < count) (h : e ≡ end-of starts count darts f) where
+module _ {starts : List ℕ} {darts count : ℕ} (s : FacesStarted starts darts count) (f e : ℕ) (l : f < count) (h : e ≡ end-of starts count darts f) where
   pub start-le : getD starts f 0 ≤ e
   start-le = omega (arith, s .ends-after f l)
 

@@ -24,7 +24,7 @@ use Rattle.cells.proofs.VolumeReady.{out-below, out-long, out-whole}
 use Rattle.departure.specs.Asked.{Surveyed, faces-at}
 use Rattle.departure.specs.declared.Counts.{Counts}
 use Rattle.departure.proofs.FirstNo.{ranges-in}
-use Rattle.outbox.specs.Bytes.{Listed, Opened, Pointed, Started, Vertexed}
+use Rattle.outbox.specs.Bytes.{DartsListed, Opened, Pointed, FacesStarted, Vertexed}
 use Rattle.outbox.proofs.ByFaces.{end-after, end-within}
 
 -- WORDS OF A SOUND BLOCK
@@ -78,7 +78,7 @@ module _ (m : List ℕ) (ok : holds-block m ≡ true) {c : Counts} {marks order 
   place-there : (k : ℕ) → k < c .darts → getD order k 0 < count-in m
   place-there = out-below linked (s .place-below) (s .volume-marked) (s .order)
 
-  pub listed : Listed m order (c .darts)
+  pub listed : DartsListed m order (c .darts)
   listed = record {
     header = omega (arith, linked .size);
     held = λ k h. omega (arith, place-there k h, linked .size);
@@ -109,7 +109,7 @@ module _ (m : List ℕ) (ok : holds-block m ≡ true) {c : Counts} {marks order 
   start-there : (f : ℕ) → f < c .faces → (getD starts f 0 < c .darts) × (getD order (getD starts f 0) 0 < count-in m)
   start-there f h = let r = start-place (count-in m) (column m 1) marks (linked .few) (linked .next-within) (linked .next-apart) (s .order) f h in (r .0, r .2)
 
-  pub started : Started starts (c .darts) (c .faces)
+  pub started : FacesStarted starts (c .darts) (c .faces)
   started = record {
     starts-size = s .order .starts-size;
     few = faces-few;

@@ -22,7 +22,7 @@ use Rattle.departure.specs.Asked.{Surveyed, faces-at}
 use Rattle.departure.specs.declared.Counts.{Counts}
 use Rattle.departure.proofs.FirstNo.{ranges-in}
 use Rattle.outbox.specs.Runs.{run, tally}
-use Rattle.outbox.specs.Bytes.{in-part2, size-of, start-at}
+use Rattle.outbox.specs.Bytes.{in-part2, size-of-face, start-at}
 use Rattle.theory.proofs.GroupLaws.{one-group}
 use Rattle.outbox.proofs.ByFaces.{count-faces, first-is, place-is, size-is}
 use Rattle.outbox.proofs.Ready.{some-face}
@@ -78,12 +78,12 @@ module _ (m : List ℕ) (j k : ℕ) (us : List Label) (x : getD m 0 0 ≤ 15) (y
 -- FACE BY FACE
 module _ (m : List ℕ) {fs : List (List ℕ)} {order starts : List ℕ} {darts count : ℕ} (o : InOrder fs order starts darts count)
     (some-dart : (k : ℕ) → k < count → 0 < length (getD fs k [])) where
-  code-is : (f : ℕ) → f < count → least (map (column m 4) (getD fs f [])) ≡ least-code m order (getD starts f 0) (size-of starts count darts f)
+  code-is : (f : ℕ) → f < count → least (map (column m 4) (getD fs f [])) ≡ least-code m order (getD starts f 0) (size-of-face starts count darts f)
   unfolding least-code
   code-is f h =
       let F = getD fs f [] in
       let c : ℕ → ℕ = λ t. column m 4 (getD order (getD starts f 0 + t) 0) in
-      let same : length (map (column m 4) F) ≡ size-of starts count darts f = length-map F (column m 4) ∙ sym (size-is o f h) in
+      let same : length (map (column m 4) F) ≡ size-of-face starts count darts f = length-map F (column m 4) ∙ sym (size-is o f h) in
       ap least (sym (tab-list (column m 4 0) (map (column m 4) F) c (λ t l. ap (column m 4) (place-is o f h t (omega (arith, length-map F (column m 4)))) ∙ sym (List·getD-map (column m 4) F t 0))))
       ∙ ap (λ (n : ℕ). least (tab c n)) same
 

@@ -9,7 +9,7 @@ use Rattle.model.specs.Layouts.{group}
 use Rattle.model.specs.Image.{column}
 use Rattle.theory.proofs.LayoutLengths.{group-short, face-dart-short, label-short, part2-short, part3-short}
 use Rattle.outbox.specs.Runs.{run}
-use Rattle.outbox.specs.Bytes.{Started, beside-put, dart-put, face-put, faces-put, in-part2, in-part3, in-part4, label-put, part2-put, part3-put, part4-put, point-put, size-of}
+use Rattle.outbox.specs.Bytes.{FacesStarted, beside-put, dart-put, face-put, faces-put, in-part2, in-part3, in-part4, label-put, part2-put, part3-put, part4-put, point-put, size-of-face}
 use Rattle.outbox.proofs.Running.{run-same, run-short}
 use Rattle.outbox.proofs.BytesLaws.{point-put-length}
 
@@ -50,19 +50,19 @@ beside-short m order s n =
       run-short (label-put m order s) 15 n (λ k h. a-label-short m order s k),
     )
 
-module _ (m order : List ℕ) {starts : List ℕ} {darts count : ℕ} (s : Started starts darts count) (few : darts ≤ 512) where
-  size-small : (f : ℕ) → f < count → size-of starts count darts f ≤ 512
+module _ (m order : List ℕ) {starts : List ℕ} {darts count : ℕ} (s : FacesStarted starts darts count) (few : darts ≤ 512) where
+  size-small : (f : ℕ) → f < count → size-of-face starts count darts f ≤ 512
   size-small f h = omega (arith, s .ends-within f h)
 
   pub faces-small : (numbers : List ℕ) → length (run (faces-put m numbers order starts darts count) count) ≤ count * 5125
   unfolding faces-put
   faces-small numbers = run-short (faces-put m numbers order starts darts count) 5125 count
-      (λ f h. omega (arith, face-short m numbers order (getD starts f 0) (size-of starts count darts f), size-small f h))
+      (λ f h. omega (arith, face-short m numbers order (getD starts f 0) (size-of-face starts count darts f), size-small f h))
 
   pub part4-small : (j : ℕ) → length (run (part4-put m j order starts darts count) count) ≤ count * 7690
   unfolding part4-put
   part4-small j = run-short (part4-put m j order starts darts count) 7690 count
-      (λ f h. either (in-part4 m j order starts f) _ 7690 (omega (arith, beside-short m order (getD starts f 0) (size-of starts count darts f), size-small f h)))
+      (λ f h. either (in-part4 m j order starts f) _ 7690 (omega (arith, beside-short m order (getD starts f 0) (size-of-face starts count darts f), size-small f h)))
 
 pub part2-small : (m : List ℕ) (j : ℕ) (order starts : List ℕ) (count : ℕ) → length (run (part2-put m j order starts) count) ≤ count * 20
 unfolding part2-put

@@ -18,7 +18,7 @@ use Rattle.departure.specs.declared.Counts.{Counts}
 use Rattle.theory.proofs.LayoutLengths.{group-short}
 use Rattle.outbox.specs.Runs.{run, tally}
 use Rattle.outbox.specs.Bytes.{faces-put, in-part2, in-part3, in-part4, part2-put, part3-put, part4-put, point-put}
-use Rattle.outbox.specs.Whole.{Sized, first-bytes, parts-bytes, transfer-for}
+use Rattle.outbox.specs.Whole.{TransferSized, first-bytes, parts-bytes, transfer-for}
 use Rattle.outbox.specs.declared.transfer.Sizes.{Sizes}
 use Rattle.outbox.proofs.ByFaces.{count-faces, count-part, faces-run, part2-run, part3-run, part4-run, points-run}
 use Rattle.outbox.proofs.Ready.{pointed, some-face, started}
@@ -105,7 +105,7 @@ module _ (m : List ℕ) (ok : holds-block m ≡ true) (j : ℕ) {c : Counts} {ma
 
   pub sized : (z : Sizes) → z .part2 ≡ tally (in-part2 m j order starts) (c .faces) → z .part4 ≡ tally (in-part4 m j order starts) (c .faces)
       → z .rest ≡ length (transfer .put (transfer-for m j c marks numbers firsts))
-      → z .whole ≡ length (group .put (z .rest)) + z .rest → z .whole < 2 ^ 32 → Sized (transfer-for m j c marks numbers firsts) z
+      → z .whole ≡ length (group .put (z .rest)) + z .rest → z .whole < 2 ^ 32 → TransferSized (transfer-for m j c marks numbers firsts) z
   sized z p q r w b = record {
     part2-is = p ∙ sym part2-entries;
     part4-is = q ∙ sym part4-entries;
@@ -115,7 +115,7 @@ module _ (m : List ℕ) (ok : holds-block m ≡ true) (j : ℕ) {c : Counts} {ma
   }
 
   -- what is put fits where the whole fits
-  pub whole-length : {z : Sizes} → Sized (transfer-for m j c marks numbers firsts) z
+  pub whole-length : {z : Sizes} → TransferSized (transfer-for m j c marks numbers firsts) z
       → z .whole ≡ length (group .put (z .rest)) + (length (first-bytes m j c order starts numbers firsts) + length (parts-bytes m j c marks order starts))
   whole-length {z} w = omega (
     arith,
@@ -126,7 +126,7 @@ module _ (m : List ℕ) (ok : holds-block m ≡ true) (j : ℕ) {c : Counts} {ma
     length-append (first-bytes m j c order starts numbers firsts) (parts-bytes m j c marks order starts),
   )
 
-  pub rest-small : {z : Sizes} → Sized (transfer-for m j c marks numbers firsts) z → z .rest < 2 ^ 32
+  pub rest-small : {z : Sizes} → TransferSized (transfer-for m j c marks numbers firsts) z → z .rest < 2 ^ 32
   rest-small w = omega (arith, w .whole-is, w .rest-is, w .small, framed-length)
 
   -- the message is its length, then both halves

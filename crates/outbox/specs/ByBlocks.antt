@@ -12,7 +12,7 @@ use Rattle.model.specs.Layouts.{group}
 use Rattle.model.specs.Messages.{label}
 use Rattle.model.specs.Image.{column, label-in}
 use Rattle.outbox.specs.Runs.{run, tally}
-use Rattle.outbox.specs.Bytes.{in-part2, size-of}
+use Rattle.outbox.specs.Bytes.{in-part2, size-of-face}
 
 -- LABELS
 -- the least label, as a code, of a face of n darts that starts at index s
@@ -22,7 +22,7 @@ least-code m order s n = least (tab (λ t. column m 4 (getD order (s + t) 0)) n)
 -- what face f adds to the labels for block k: its least label, if k shares it
 unfoldable pub least-put : List ℕ → ℕ → List ℕ → List ℕ → ℕ → ℕ → ℕ → List ℕ
 least-put m k order starts darts count f =
-    cond (in-part2 m k order starts f) (label .put (label-in (least-code m order (getD starts f 0) (size-of starts count darts f)))) []
+    cond (in-part2 m k order starts f) (label .put (label-in (least-code m order (getD starts f 0) (size-of-face starts count darts f)))) []
 
 -- MESSAGES
 -- a volume goes to block j; block k, which shares n of its faces, is told

@@ -30,8 +30,8 @@ label-put m order s k = label .put (label-at m (getD order (s + k) 0))
 abbrev pub end-of : List ℕ → ℕ → ℕ → ℕ → ℕ
 end-of starts count darts f = cond (ltb (f + 1) count) (getD starts (f + 1) 0) darts
 
-abbrev pub size-of : List ℕ → ℕ → ℕ → ℕ → ℕ
-size-of starts count darts f = end-of starts count darts f - getD starts f 0
+abbrev pub size-of-face : List ℕ → ℕ → ℕ → ℕ → ℕ
+size-of-face starts count darts f = end-of starts count darts f - getD starts f 0
 
 -- the place of its start
 abbrev pub start-at : List ℕ → List ℕ → ℕ → ℕ
@@ -43,7 +43,7 @@ face-put m numbers order s n = group .put n ++ run (dart-put m numbers order s) 
 
 -- face f
 unfoldable pub faces-put : List ℕ → List ℕ → List ℕ → List ℕ → ℕ → ℕ → ℕ → List ℕ
-faces-put m numbers order starts darts count f = face-put m numbers order (getD starts f 0) (size-of starts count darts f)
+faces-put m numbers order starts darts count f = face-put m numbers order (getD starts f 0) (size-of-face starts count darts f)
 
 -- what face f adds to part 2
 abbrev pub in-part2 : List ℕ → ℕ → List ℕ → List ℕ → ℕ → Bool
@@ -68,11 +68,11 @@ unfoldable pub beside-put : List ℕ → List ℕ → ℕ → ℕ → List ℕ
 beside-put m order s n = (group .put s ++ group .put (column m 3 (getD order s 0) / 4)) ++ run (label-put m order s) n
 
 unfoldable pub part4-put : List ℕ → ℕ → List ℕ → List ℕ → ℕ → ℕ → ℕ → List ℕ
-part4-put m j order starts darts count f = cond (in-part4 m j order starts f) (beside-put m order (getD starts f 0) (size-of starts count darts f)) []
+part4-put m j order starts darts count f = cond (in-part4 m j order starts f) (beside-put m order (getD starts f 0) (size-of-face starts count darts f)) []
 
 -- WHAT IS ASKED OF THE ARRAYS
 -- the darts of the volume are places of the block
-pub record Listed (m order : List ℕ) (darts : ℕ) : Type 0 where
+pub record DartsListed (m order : List ℕ) (darts : ℕ) : Type 0 where
   pub header : 8 ≤ length m
   pub held : (k : ℕ) → k < darts → words-for (getD order k 0 + 1) ≤ length m
   pub order-size : darts ≤ length order
@@ -87,7 +87,7 @@ pub record Vertexed (numbers order : List ℕ) (darts : ℕ) : Type 0 where
   pub number-small : (k : ℕ) → k < darts → getD numbers (getD order k 0) 0 < room
 
 -- faces start and end within the order
-pub record Started (starts : List ℕ) (darts count : ℕ) : Type 0 where
+pub record FacesStarted (starts : List ℕ) (darts count : ℕ) : Type 0 where
   pub starts-size : count ≤ length starts
   pub few : count ≤ message-darts
   pub below : (f : ℕ) → f < count → getD starts f 0 < darts

@@ -17,7 +17,7 @@ abbrev pub transfer-for : List ℕ → ℕ → Counts → List ℕ → List ℕ 
 transfer-for m j c marks numbers firsts = transfer-at m j marks (faces-at m marks) numbers firsts (c .vertices)
 
 -- what is counted of a transfer before it is put
-pub record Sized (t : Transfer) (s : Sizes) : Type 0 where
+pub record TransferSized (t : Transfer) (s : Sizes) : Type 0 where
   pub part2-is : s .part2 ≡ length (t .part2)
   pub part4-is : s .part4 ≡ length (t .part4)
   pub rest-is : s .rest ≡ length (transfer .put t)

@@ -5,7 +5,7 @@ ghost use lib.ListN.{length};
 ghost use Rattle.model.specs.Values.{room};
 ghost use Rattle.groups.specs.Slices.{Stored};
 ghost use Rattle.outbox.specs.Runs.{run};
-ghost use Rattle.outbox.specs.Bytes.{Listed, Pointed, Started, Vertexed, dart-put, end-of, face-put, faces-put, point-put};
+ghost use Rattle.outbox.specs.Bytes.{DartsListed, Pointed, FacesStarted, Vertexed, dart-put, end-of, face-put, faces-put, point-put};
 use codec::entry;
 use memory::point;
 use memory::record;
@@ -57,7 +57,7 @@ fn put_darts(
     out: &mut [u8],
     from: usize,
 ) -> usize
-    requires { ⌜ Listed (now block) (now order) (start .0 + size) × Vertexed (now numbers) (now order) (start .0 + size) ⌝ }
+    requires { ⌜ DartsListed (now block) (now order) (start .0 + size) × Vertexed (now numbers) (now order) (start .0 + size) ⌝ }
     requires { ⌜ from + length (run (dart-put (now block) (now numbers) (now order) (start .0)) size) < 2 ^ 63 ⌝ }
     ensures { λ r. ⌜ Stored (now (out .entry)) from (run (dart-put (now (block .entry)) (now (numbers .entry)) (now (order .entry)) (start .0)) size) (now (out .exit)) r ⌝ }
 {
@@ -88,7 +88,7 @@ fn put_face(
     out: &mut [u8],
     at: usize,
 ) -> usize
-    requires { ⌜ Listed (now block) (now order) (start .0 + size) × Vertexed (now numbers) (now order) (start .0 + size) ⌝ }
+    requires { ⌜ DartsListed (now block) (now order) (start .0 + size) × Vertexed (now numbers) (now order) (start .0 + size) ⌝ }
     requires { ⌜ at + length (face-put (now block) (now numbers) (now order) (start .0) size) < 2 ^ 63 ⌝ }
     ensures { λ r. ⌜ Stored (now (out .entry)) at (face-put (now (block .entry)) (now (numbers .entry)) (now (order .entry)) (start .0) size) (now (out .exit)) r ⌝ }
 {
@@ -107,7 +107,7 @@ pub fn put_faces(
     out: &mut [u8],
     from: usize,
 ) -> usize
-    requires { ⌜ Listed (now block) (now order) darts × Vertexed (now numbers) (now order) darts × Started (now starts) darts count ⌝ }
+    requires { ⌜ DartsListed (now block) (now order) darts × Vertexed (now numbers) (now order) darts × FacesStarted (now starts) darts count ⌝ }
     requires { ⌜ from + length (run (faces-put (now block) (now numbers) (now order) (now starts) darts count) count) < 2 ^ 63 ⌝ }
     ensures { λ r. ⌜ Stored (now (out .entry)) from (run (faces-put (now (block .entry)) (now (numbers .entry)) (now (order .entry)) (now (starts .entry)) darts count) count) (now (out .exit)) r ⌝ }
 {

@@ -7,7 +7,7 @@ ghost use Rattle.model.specs.Image.{label-in};
 ghost use Rattle.model.specs.Messages.{label};
 ghost use Rattle.groups.specs.Slices.{Stored};
 ghost use Rattle.outbox.specs.Runs.{run};
-ghost use Rattle.outbox.specs.Bytes.{Listed, Started};
+ghost use Rattle.outbox.specs.Bytes.{DartsListed, FacesStarted};
 ghost use Rattle.outbox.specs.ByBlocks.{Shares, least-code, least-put};
 use crate::first;
 use memory::kind;
@@ -27,7 +27,7 @@ fn lesser(a: u64, b: u64) -> u64
 
 // The least label, as a code, of the `size` darts of a face from index `start` of the order on.
 fn least_code(block: &[u64], order: &[usize], start: MessageIndex, size: usize) -> u64
-    requires { ⌜ Listed (now block) (now order) (start .0 + size) × (0 < size) ⌝ }
+    requires { ⌜ DartsListed (now block) (now order) (start .0 + size) × (0 < size) ⌝ }
     ensures { λ r. ⌜ r ≡ least-code (now (block .entry)) (now (order .entry)) (start .0) size ⌝ }
 {
     // The least of the darts before k.
@@ -73,7 +73,7 @@ pub fn count_labels(
     labels: &mut [usize],
     bytes: &mut [usize],
 )
-    requires { ⌜ Listed (now block) (now order) darts × Started (now starts) darts count ⌝ }
+    requires { ⌜ DartsListed (now block) (now order) darts × FacesStarted (now starts) darts count ⌝ }
     requires { ⌜ (now labels ≡ replicate 16 0) × (now bytes ≡ replicate 16 0) ⌝ }
     ensures { λ _. ⌜ Shares (now (block .entry)) (now (order .entry)) (now (starts .entry)) darts count count (now (labels .exit)) (now (bytes .exit)) ⌝ }
 {
@@ -105,7 +105,7 @@ pub fn put_leasts(
     out: &mut [u8],
     from: usize,
 ) -> usize
-    requires { ⌜ Listed (now block) (now order) darts × Started (now starts) darts count × (k ≤ last-block) ⌝ }
+    requires { ⌜ DartsListed (now block) (now order) darts × FacesStarted (now starts) darts count × (k ≤ last-block) ⌝ }
     requires { ⌜ from + length (run (least-put (now block) k (now order) (now starts) darts count) count) < 2 ^ 63 ⌝ }
     ensures { λ r. ⌜ Stored (now (out .entry)) from (run (least-put (now (block .entry)) k (now (order .entry)) (now (starts .entry)) darts count) count) (now (out .exit)) r ⌝ }
 {

@@ -8,7 +8,7 @@ ghost use Rattle.groups.specs.Slices.{Stored};
 ghost use Rattle.cells.specs.Places.{Linked};
 ghost use Rattle.departure.specs.ByPlaces.{critical-with, critical-beside};
 ghost use Rattle.outbox.specs.Runs.{run, tally};
-ghost use Rattle.outbox.specs.Bytes.{Listed, Opened, Started, beside-put, in-part2, in-part3, in-part4, label-put, part2-put, part3-put, part4-put};
+ghost use Rattle.outbox.specs.Bytes.{DartsListed, Opened, FacesStarted, beside-put, in-part2, in-part3, in-part4, label-put, part2-put, part3-put, part4-put};
 use crate::first;
 use cells::sewn;
 use codec::entry;
@@ -132,7 +132,7 @@ fn put_labels(
     out: &mut [u8],
     from: usize,
 ) -> usize
-    requires { ⌜ Listed (now block) (now order) (start .0 + size) ⌝ }
+    requires { ⌜ DartsListed (now block) (now order) (start .0 + size) ⌝ }
     requires { ⌜ from + length (run (label-put (now block) (now order) (start .0)) size) < 2 ^ 63 ⌝ }
     ensures { λ r. ⌜ Stored (now (out .entry)) from (run (label-put (now (block .entry)) (now (order .entry)) (start .0)) size) (now (out .exit)) r ⌝ }
 {
@@ -157,7 +157,7 @@ fn put_beside(
     out: &mut [u8],
     at: usize,
 ) -> usize
-    requires { ⌜ Listed (now block) (now order) (start .0 + size) × (0 < size) ⌝ }
+    requires { ⌜ DartsListed (now block) (now order) (start .0 + size) × (0 < size) ⌝ }
     requires { ⌜ at + length (beside-put (now block) (now order) (start .0) size) < 2 ^ 63 ⌝ }
     ensures { λ r. ⌜ Stored (now (out .entry)) at (beside-put (now (block .entry)) (now (order .entry)) (start .0) size) (now (out .exit)) r ⌝ }
 {
@@ -199,7 +199,7 @@ pub fn put_part4s(
     out: &mut [u8],
     from: usize,
 ) -> usize
-    requires { ⌜ Listed (now block) (now order) darts × Started (now starts) darts count × (to ≤ last-block) ⌝ }
+    requires { ⌜ DartsListed (now block) (now order) darts × FacesStarted (now starts) darts count × (to ≤ last-block) ⌝ }
     requires { ⌜ from + length (run (part4-put (now block) to (now order) (now starts) darts count) count) < 2 ^ 63 ⌝ }
     ensures { λ r. ⌜ Stored (now (out .entry)) from (run (part4-put (now (block .entry)) to (now (order .entry)) (now (starts .entry)) darts count) count) (now (out .exit)) r ⌝ }
 {

@@ -11,8 +11,8 @@ ghost use Rattle.groups.specs.Slices.{Stored};
 ghost use Rattle.cells.specs.Places.{Linked};
 ghost use Rattle.departure.specs.Asked.{Surveyed};
 ghost use Rattle.outbox.specs.Runs.{tally};
-ghost use Rattle.outbox.specs.Bytes.{Listed, Opened, Pointed, Started, Vertexed, in-part2, in-part3, in-part4};
-ghost use Rattle.outbox.specs.Whole.{Sized, first-bytes, parts-bytes, transfer-for};
+ghost use Rattle.outbox.specs.Bytes.{DartsListed, Opened, Pointed, FacesStarted, Vertexed, in-part2, in-part3, in-part4};
+ghost use Rattle.outbox.specs.Whole.{TransferSized, first-bytes, parts-bytes, transfer-for};
 use crate::first;
 use crate::parts;
 use departure::Counts;
@@ -38,7 +38,7 @@ fn put_part1(
     out: &mut [u8],
     at: usize,
 ) -> usize
-    requires { ⌜ Listed (now block) (now order) (counts .darts) × Vertexed (now numbers) (now order) (counts .darts) × Started (now starts) (counts .darts) (counts .faces) ⌝ }
+    requires { ⌜ DartsListed (now block) (now order) (counts .darts) × Vertexed (now numbers) (now order) (counts .darts) × FacesStarted (now starts) (counts .darts) (counts .faces) ⌝ }
     requires { ⌜ Pointed (now block) (now firsts) (counts .vertices) × (getD (now block) 0 0 ≤ last-block) × (to ≤ last-block) ⌝ }
     requires { ⌜ at + length (first-bytes (now block) to counts (now order) (now starts) (now numbers) (now firsts)) < 2 ^ 63 ⌝ }
     ensures { λ r. ⌜ Stored (now (out .entry)) at (first-bytes (now (block .entry)) to counts (now (order .entry)) (now (starts .entry)) (now (numbers .entry)) (now (firsts .entry))) (now (out .exit)) r ⌝ }
@@ -76,7 +76,7 @@ fn put_parts(
     out: &mut [u8],
     at: usize,
 ) -> usize
-    requires { ⌜ Listed (now block) (now order) (counts .darts) × Started (now starts) (counts .darts) (counts .faces) × (to ≤ last-block) ⌝ }
+    requires { ⌜ DartsListed (now block) (now order) (counts .darts) × FacesStarted (now starts) (counts .darts) (counts .faces) × (to ≤ last-block) ⌝ }
     requires { ⌜ Linked (now block) (getD (now block) 2 0) × (getD (now block) 2 0 ≤ length (now marks)) × Opened (getD (now block) 2 0) (now order) (now starts) (counts .faces) ⌝ }
     requires { ⌜ (part2 ≡ tally (in-part2 (now block) to (now order) (now starts)) (counts .faces)) × (counts .sewn ≡ tally (in-part3 (now block) (now marks) (now order) (now starts)) (counts .faces)) × (part4 ≡ tally (in-part4 (now block) to (now order) (now starts)) (counts .faces)) ⌝ }
     requires { ⌜ (getD (now block) 1 0 + counts .sewn < 2 ^ 32) × (at + length (parts-bytes (now block) to counts (now marks) (now order) (now starts)) < 2 ^ 63) ⌝ }
@@ -125,7 +125,7 @@ pub fn transfer_sizes(
     requires { ⌜ holds-block (now block) ≡ true ⌝ }
     requires { ⌜ Surveyed (now block) counts (now marks) (now order) (now starts) (now numbers) (now firsts) ⌝ }
     requires { ⌜ (to ≤ last-block) × (getD (now block) 1 0 + counts .sewn < 2 ^ 32) ⌝ }
-    ensures { λ r. ⌜ Sized (transfer-for (now (block .entry)) to counts (now (marks .entry)) (now (numbers .entry)) (now (firsts .entry))) r ⌝ }
+    ensures { λ r. ⌜ TransferSized (transfer-for (now (block .entry)) to counts (now (marks .entry)) (now (numbers .entry)) (now (firsts .entry))) r ⌝ }
 {
     let faces = counts.faces;
     let part2 = parts::part2_count(block, to, order, starts, faces);
@@ -180,7 +180,7 @@ pub fn put_transfer(
     requires { ⌜ holds-block (now block) ≡ true ⌝ }
     requires { ⌜ Surveyed (now block) counts (now marks) (now order) (now starts) (now numbers) (now firsts) ⌝ }
     requires { ⌜ (to ≤ last-block) × (getD (now block) 1 0 + counts .sewn < 2 ^ 32) ⌝ }
-    requires { ⌜ Sized (transfer-for (now block) to counts (now marks) (now numbers) (now firsts)) sizes × (at + sizes .whole < 2 ^ 63) ⌝ }
+    requires { ⌜ TransferSized (transfer-for (now block) to counts (now marks) (now numbers) (now firsts)) sizes × (at + sizes .whole < 2 ^ 63) ⌝ }
     ensures { λ r. ⌜ Stored (now (out .entry)) at (framed transfer (transfer-for (now (block .entry)) to counts (now (marks .entry)) (now (numbers .entry)) (now (firsts .entry)))) (now (out .exit)) r ⌝ }
 {
     let past_length = groups::put_group(out, at, sizes.rest as u32);

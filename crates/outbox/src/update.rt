@@ -7,7 +7,7 @@ ghost use lib.ListN.{length, getD};
 ghost use Rattle.model.specs.Values.{last-block};
 ghost use Rattle.groups.specs.Slices.{Stored};
 ghost use Rattle.outbox.specs.Runs.{run, tally};
-ghost use Rattle.outbox.specs.Bytes.{Listed, Started, in-part2};
+ghost use Rattle.outbox.specs.Bytes.{DartsListed, FacesStarted, in-part2};
 ghost use Rattle.outbox.specs.ByBlocks.{head-bytes, least-put, rest-for, size-for, update-bytes};
 use crate::labels;
 use memory::header::Header;
@@ -75,7 +75,7 @@ pub fn put_update(
     out: &mut [u8],
     at: usize,
 ) -> usize
-    requires { ⌜ Listed (now block) (now order) darts × Started (now starts) darts count ⌝ }
+    requires { ⌜ DartsListed (now block) (now order) darts × FacesStarted (now starts) darts count ⌝ }
     requires { ⌜ (getD (now block) 0 0 ≤ last-block) × (to ≤ last-block) × (k ≤ last-block) × (n < 2 ^ 16) × (bytes < 2 ^ 16) ⌝ }
     requires { ⌜ (n ≡ tally (in-part2 (now block) k (now order) (now starts)) count) × (bytes ≡ length (run (least-put (now block) k (now order) (now starts) darts count) count)) ⌝ }
     requires { ⌜ at + length (update-bytes (now block) to (now order) (now starts) darts count k) < 2 ^ 63 ⌝ }

@@ -13,7 +13,7 @@ ghost use Rattle.groups.specs.Slices.{Stored};
 ghost use Rattle.departure.specs.ByPlaces.{updates-at};
 ghost use Rattle.departure.specs.Asked.{Surveyed, faces-at};
 ghost use Rattle.outbox.specs.Runs.{run};
-ghost use Rattle.outbox.specs.Bytes.{Listed, Started};
+ghost use Rattle.outbox.specs.Bytes.{DartsListed, FacesStarted};
 ghost use Rattle.outbox.specs.ByBlocks.{Few, Shares, sizes-for, told-put};
 use crate::labels;
 use crate::update;
@@ -44,7 +44,7 @@ pub fn updates_size(
     labels: &mut [usize],
     bytes: &mut [usize],
 ) -> usize
-    requires { ⌜ Listed (now block) (now order) (counts .darts) × Started (now starts) (counts .darts) (counts .faces) ⌝ }
+    requires { ⌜ DartsListed (now block) (now order) (counts .darts) × FacesStarted (now starts) (counts .darts) (counts .faces) ⌝ }
     requires { ⌜ (getD (now block) 0 0 ≤ last-block) × (to ≤ last-block) × (now labels ≡ replicate 16 0) × (now bytes ≡ replicate 16 0) ⌝ }
     ensures { λ r. ⌜ (r ≡ length (run (told-put (now (block .entry)) to (now (order .entry)) (now (starts .entry)) (counts .darts) (counts .faces)) 16)) × (r < 2 ^ 32) × Shares (now (block .entry)) (now (order .entry)) (now (starts .entry)) (counts .darts) (counts .faces) (counts .faces) (now (labels .exit)) (now (bytes .exit)) ⌝ }
 {
@@ -72,7 +72,7 @@ pub fn put_updates(
     out: &mut [u8],
 ) -> usize
     requires { ⌜ (holds-block (now block) ≡ true) × (to ≤ last-block) ⌝ }
-    requires { ⌜ Listed (now block) (now order) (counts .darts) × Started (now starts) (counts .darts) (counts .faces) ⌝ }
+    requires { ⌜ DartsListed (now block) (now order) (counts .darts) × FacesStarted (now starts) (counts .darts) (counts .faces) ⌝ }
     requires { ⌜ Shares (now block) (now order) (now starts) (counts .darts) (counts .faces) (counts .faces) (now labels) (now bytes) ⌝ }
     requires { ⌜ length (run (told-put (now block) to (now order) (now starts) (counts .darts) (counts .faces)) 16) ≤ length (now out) ⌝ }
     ensures { λ r. ⌜ ((marks numbers firsts : List ℕ) → Surveyed (now (block .entry)) counts marks (now (order .entry)) (now (starts .entry)) numbers firsts → Stored (now (out .entry)) 0 (concat (map (framed update) (updates-at (now (block .entry)) to (faces-at (now (block .entry)) marks)))) (now (out .exit)) r) ⌝ }

@@ -20,8 +20,8 @@ use Rattle.sort.specs.Order.{Sorted}
 use Rattle.sort.proofs.Order.{sorted-in-order, sorted-keys}
 use Rattle.mesh.specs.Parts.{blocks, part}
 use Rattle.mesh.proofs.Parts.{mesh-tab}
-use Rattle.pairing.specs.Numbers.{Asked, word, next-of, before-of, Before, side-test, meet-test}
-use Rattle.pairing.specs.Keys.{key, all-keys, in-pairs, each-pair, label-pair, point-pair}
+use Rattle.pairing.specs.Numbers.{MeshAsked, word, next-number, before-of, PlacesBefore, side-test, meet-test}
+use Rattle.pairing.specs.Keys.{dart-key, all-keys, in-pairs, each-pair, label-pair, point-pair}
 use Rattle.pairing.proofs.InPairs.{times, twins, Mate, mates, both-tests, same-members, same-back}
 use Rattle.pairing.proofs.Members.{Origin, all-in, in-all, key-code}
 use Rattle.pairing.proofs.InBlocks.{third-of, kind-at, before-at, next-lt}
@@ -37,7 +37,7 @@ pub record Sits (g i p : ℕ) : Type 0 where
 pub word-at : (m : List ℕ) (f : ℕ) {g i p : ℕ} → Sits g i p → word m f g ≡ column (part m i) f p
 word-at m f {g} {i} {p} s = ap (λ (x : ℕ). column (part m x) f (g % 4096)) (s .in-block) ∙ ap (column (part m i) f) (s .at-place)
 
-pub sits-next : (m : List ℕ) {g i p : ℕ} → Sits g i p → column (part m i) 1 p < 4096 → Sits (next-of m g) i (column (part m i) 1 p)
+pub sits-next : (m : List ℕ) {g i p : ℕ} → Sits g i p → column (part m i) 1 p < 4096 → Sits (next-number m g) i (column (part m i) 1 p)
 sits-next m {g} {i} {p} s h = record { in-block = block w h ∙ s .in-block; at-place = place w h }
   where
     w : word m 1 g ≡ column (part m i) 1 p
@@ -82,8 +82,8 @@ module _ (m t : List ℕ) {g h i p j q r : ℕ} (s : Sits g i p) (u : Sits h j q
   side-is n e l =
       let s′ = sits-next m s n in
       let u′ = sits-before t u e l in
-      ap (λ (x : ℕ). eqb (other-in x) (h / 4096) && eqb (word m 4 (next-of m g)) (word m 4 (before-of t h))) (word-at m 3 s)
-      ∙ ap (λ (x : ℕ). eqb (other-in (column (part m i) 3 p)) x && eqb (word m 4 (next-of m g)) (word m 4 (before-of t h))) (u .in-block)
+      ap (λ (x : ℕ). eqb (other-in x) (h / 4096) && eqb (word m 4 (next-number m g)) (word m 4 (before-of t h))) (word-at m 3 s)
+      ∙ ap (λ (x : ℕ). eqb (other-in (column (part m i) 3 p)) x && eqb (word m 4 (next-number m g)) (word m 4 (before-of t h))) (u .in-block)
       ∙ ap (λ (x : ℕ). eqb (other-in (column (part m i) 3 p)) j && eqb x (word m 4 (before-of t h))) (word-at m 4 s′)
       ∙ ap (λ (x : ℕ). eqb (other-in (column (part m i) 3 p)) j && eqb (column (part m i) 4 (column (part m i) 1 p)) x) (word-at m 4 u′)
 
@@ -126,7 +126,7 @@ module _ (m : List ℕ) (q : Block → Dart → Bool) where
       (λ i h. tab-all (q (block-in (part m i))) (dart-in (part m i)) (count (part m i)) (λ p l. each i p h l))
 
 -- BOTH WAYS
-module _ {m : List ℕ} (a : Asked m) where
+module _ {m : List ℕ} (a : MeshAsked m) where
   abbrev keys : List ℕ
   keys = sorted (all-keys m (blocks m))
 
@@ -146,13 +146,13 @@ module _ {m : List ℕ} (a : Asked m) where
   pub origin : (v : ℕ) → In v keys → Origin m (blocks m) v
   origin v h = all-in m (blocks m) v (same-members (all-keys m (blocks m)) keys (sorted-keys (all-keys m (blocks m))) v h)
 
-  there : (i p : ℕ) → i < blocks m → p < count (part m i) → is-critical-word (column (part m i) 3 p) ≡ true → In (key (part m i) i p) keys
-  there i p hi hp c = same-back (all-keys m (blocks m)) keys (sorted-keys (all-keys m (blocks m))) (key (part m i) i p) (in-all m (blocks m) i p hi hp c)
+  there : (i p : ℕ) → i < blocks m → p < count (part m i) → is-critical-word (column (part m i) 3 p) ≡ true → In (dart-key (part m i) i p) keys
+  there i p hi hp c = same-back (all-keys m (blocks m)) keys (sorted-keys (all-keys m (blocks m))) (dart-key (part m i) i p) (in-all m (blocks m) i p hi hp c)
 
-  pub sits : (v i p : ℕ) → i < blocks m → p < count (part m i) → v ≡ key (part m i) i p → Sits (v % 65536) i p
+  pub sits : (v i p : ℕ) → i < blocks m → p < count (part m i) → v ≡ dart-key (part m i) i p → Sits (v % 65536) i p
   sits v i p hi hp e = key-sits (column (part m i) 4 p) i p e (block-small i hi) (small i p hi hp)
 
-  code-is : (v i p : ℕ) → i < blocks m → p < count (part m i) → v ≡ key (part m i) i p → v / 65536 ≡ column (part m i) 4 p
+  code-is : (v i p : ℕ) → i < blocks m → p < count (part m i) → v ≡ dart-key (part m i) i p → v / 65536 ≡ column (part m i) 4 p
   code-is v i p hi hp e = ap (λ (x : ℕ). x / 65536) e ∙ key-code (column (part m i) 4 p) i p (block-small i hi) (small i p hi hp)
 
   times-same : (x : ℕ) → times x (all-keys m (blocks m)) ≡ times x keys
@@ -166,7 +166,7 @@ module _ {m : List ℕ} (a : Asked m) where
       → meet-test m g h ≡ same-point (dart-in (part m i) p .point) (dart-in (part m j) (column (part m j) 1 q) .point)
   meets {g} {h} {i} {p} {j} {q} hj hq s u = meet-is m s u (next-small j q hj hq)
 
-  module _ {t : List ℕ} (b : Before m t) where
+  module _ {t : List ℕ} (b : PlacesBefore m t) where
     abbrev labels-right : Bool
     labels-right = labels-paired (mesh-of m)
 
@@ -201,7 +201,7 @@ module _ {m : List ℕ} (a : Asked m) where
       place : ℕ
       faces : Facing m (from .block) (from .place) block place
       twice : times (v / 65536) keys ≡ 2
-      so : label-pair m t v (key (part m block) block place) ≡ true
+      so : label-pair m t v (dart-key (part m block) block place) ≡ true
 
     met : labels-right ≡ true → (v : ℕ) → In v keys → Met v
     unfolding label-pair
@@ -214,7 +214,7 @@ module _ {m : List ℕ} (a : Asked m) where
         let j = other-in (column (part m i) 3 p) in
         let q = f .0 in
         let F = f .1 in
-        let w = key (part m j) j q in
+        let w = dart-key (part m j) j q in
         let s = sits v i p (o .block-lt) (o .place-lt) (o .is) in
         let u = sits w j q (F .block-lt) (F .place-lt) refl in
         let back = labels-at e j q (F .block-lt) (F .place-lt) in
@@ -232,11 +232,11 @@ module _ {m : List ℕ} (a : Asked m) where
               (and-right (eqb (times (column (part m j) 4 q) (all-keys m (blocks m))) 2) _ (sym (paired-side (F .block-lt) (F .place-lt) (o .block-lt) (o .place-lt) u s (F .critical-there) (turned (o .block-lt) (o .place-lt) (o .labelled) F)) ∙ back));
         }
 
-    mate-by : (r : ℕ → ℕ → Bool) (v : ℕ) (k : Met v) → r v (key (part m (k .block)) (k .block) (k .place)) ≡ true → Mate r keys v
+    mate-by : (r : ℕ → ℕ → Bool) (v : ℕ) (k : Met v) → r v (dart-key (part m (k .block)) (k .block) (k .place)) ≡ true → Mate r keys v
     mate-by r v k e =
         let o = k .from in
         let F = k .faces in
-        let w = key (part m (k .block)) (k .block) (k .place) in
+        let w = dart-key (part m (k .block)) (k .block) (k .place) in
         let s = sits v (o .block) (o .place) (o .block-lt) (o .place-lt) (o .is) in
         let u = sits w (k .block) (k .place) (F .block-lt) (F .place-lt) refl in
         record {
@@ -254,13 +254,13 @@ module _ {m : List ℕ} (a : Asked m) where
       block : ℕ
       place : ℕ
       faces : Facing m i p block place
-      is : w ≡ key (part m block) block place
+      is : w ≡ dart-key (part m block) block place
 
-    faced : (i p : ℕ) → i < blocks m → p < count (part m i) → is-critical-word (column (part m i) 3 p) ≡ true → (w : ℕ) → In w keys → w / 65536 ≡ key (part m i) i p / 65536
-        → label-pair m t (key (part m i) i p) w ≡ true → Faced i p (key (part m i) i p) w
+    faced : (i p : ℕ) → i < blocks m → p < count (part m i) → is-critical-word (column (part m i) 3 p) ≡ true → (w : ℕ) → In w keys → w / 65536 ≡ dart-key (part m i) i p / 65536
+        → label-pair m t (dart-key (part m i) i p) w ≡ true → Faced i p (dart-key (part m i) i p) w
     unfolding label-pair
     faced i p hi hp c w h e l =
-        let v = key (part m i) i p in
+        let v = dart-key (part m i) i p in
         let o = origin w h in
         let j = o .block in
         let q = o .place in
@@ -299,7 +299,7 @@ module _ {m : List ℕ} (a : Asked m) where
         (λ k. easy-label (mesh-of m) (block-in (part m i)) (dart-in (part m i) p) (column (part m i) 0) (column (part m i) 3 p) (column (part m i) 4 p) (kind-at (passed a i hi) p hp) k)
       where
         v : ℕ
-        v = key (part m i) i p
+        v = dart-key (part m i) i p
 
         yes : is-critical-word (column (part m i) 3 p) ≡ true → paired (mesh-of m) (block-in (part m i)) (dart-in (part m i) p) (third-of (part m i) p) ≡ true
         yes c =
@@ -331,7 +331,7 @@ module _ {m : List ℕ} (a : Asked m) where
     unfolding points-across
     points-at e i p h l = every-at m (λ b d. same-across (mesh-of m) d (d .third)) e i p h l
 
-    met-points : labels-right ≡ true → points-across (mesh-of m) ≡ true → (v : ℕ) (k : Met v) → both v (key (part m (k .block)) (k .block) (k .place)) ≡ true
+    met-points : labels-right ≡ true → points-across (mesh-of m) ≡ true → (v : ℕ) (k : Met v) → both v (dart-key (part m (k .block)) (k .block) (k .place)) ≡ true
     unfolding point-pair
     met-points e f v k =
         let o = k .from in
@@ -341,7 +341,7 @@ module _ {m : List ℕ} (a : Asked m) where
         let j = k .block in
         let q = k .place in
         let s = sits v i p (o .block-lt) (o .place-lt) (o .is) in
-        let u = sits (key (part m j) j q) j q (F .block-lt) (F .place-lt) refl in
+        let u = sits (dart-key (part m j) j q) j q (F .block-lt) (F .place-lt) refl in
         and-intro (k .so) (and-intro
         (meets (F .block-lt) (F .place-lt) s u ∙ sym (across-is a i p (o .block-lt) (o .place-lt) (o .labelled) F) ∙ points-at f i p (o .block-lt) (o .place-lt))
         (meets (o .block-lt) (o .place-lt) u s ∙ sym (across-is a j q (F .block-lt) (F .place-lt) (F .critical-there) (turned (o .block-lt) (o .place-lt) (o .labelled) F)) ∙ points-at f j q (F .block-lt) (F .place-lt)))
@@ -353,7 +353,7 @@ module _ {m : List ℕ} (a : Asked m) where
         (λ k. easy-point (mesh-of m) (dart-in (part m i) p) (column (part m i) 0) (column (part m i) 3 p) (column (part m i) 4 p) (kind-at (passed a i hi) p hp) k)
       where
         v : ℕ
-        v = key (part m i) i p
+        v = dart-key (part m i) i p
 
         yes : is-critical-word (column (part m i) 3 p) ≡ true → same-across (mesh-of m) (dart-in (part m i) p) (third-of (part m i) p) ≡ true
         yes c =

@@ -15,7 +15,7 @@ use Rattle.laws.proofs.Members.{In, in-here, in-there}
 use Rattle.columns.specs.Columns.{count, Kind, kind-free, kind-sewn, kind-critical}
 use Rattle.columns.proofs.Question.{Passed}
 use Rattle.mesh.specs.Parts.{blocks, part}
-use Rattle.pairing.specs.Numbers.{Asked, word, Held, next-of, before-of, Before, BeforeBelow}
+use Rattle.pairing.specs.Numbers.{MeshAsked, word, Held, next-number, before-of, PlacesBefore, BeforeBelow}
 use Rattle.pairing.specs.Keys.{Short, HeldKeys, all-keys}
 use Rattle.pairing.proofs.InBlocks.{kind-at, before-at, next-lt, few, passed}
 use Rattle.pairing.proofs.BothWays.{Sits, sits-next, sits-before, origin, sits}
@@ -36,7 +36,7 @@ word-read m g f h = word-in m (g / 4096) (8 + g % 4096 * 8 + f) (small (g % 4096
 below-room : {x n : ℕ} → x < n → n ≤ 4096 → x < 4096
 below-room a b = omega arith
 
-module _ {m : List ℕ} (a : Asked m) where
+module _ {m : List ℕ} (a : MeshAsked m) where
   pub short : (i : ℕ) → i < blocks m → Short (part m i)
   short i h p l c = go (kind-at (passed a i h) p l) c
     where
@@ -64,7 +64,7 @@ module _ {m : List ℕ} (a : Asked m) where
     pub next-small : word m 1 g < 4096
     next-small = below-room (next-lt w (g % 4096) (h .place-lt)) (roomy (g / 4096) (h .block-lt))
 
-    pub held-next : Held m (next-of m g)
+    pub held-next : Held m (next-number m g)
     held-next = held-by (sits-next m at next-small) (next-lt w (g % 4096) (h .place-lt))
 
     pub number-small : g < 65536
@@ -73,7 +73,7 @@ module _ {m : List ℕ} (a : Asked m) where
         go : {n : ℕ} → g / 4096 < n → n ≤ 16 → g < 65536
         go b c = omega arith
 
-    module _ {t : List ℕ} (b : Before m t) where
+    module _ {t : List ℕ} (b : PlacesBefore m t) where
       last : (r : ℕ) × (r < count (part m (g / 4096))) × (getD t (g / 4096 * 4096 + g % 4096) 0 ≡ r)
       last =
           let r = before-at w (g % 4096) (h .place-lt) in
@@ -123,7 +123,7 @@ module _ {m : List ℕ} (a : Asked m) where
       less : {q n : ℕ} → q < n → n ≤ p → q < p
       less a b = omega arith
 
-  pub table-all : {t : List ℕ} {i p : ℕ} → BeforeBelow m t i p → blocks m ≤ i → Before m t
+  pub table-all : {t : List ℕ} {i p : ℕ} → BeforeBelow m t i p → blocks m ≤ i → PlacesBefore m t
   table-all {t} {i} {p} w h = record { len = w .len; at = λ j q l k. w .below j q (less l h) k }
     where
       less : {j n : ℕ} → j < n → n ≤ i → j < i

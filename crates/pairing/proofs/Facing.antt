@@ -20,7 +20,7 @@ use Rattle.columns.proofs.Held.{darts, dart-is}
 use Rattle.columns.proofs.Question.{Passed}
 use Rattle.mesh.specs.Parts.{blocks, part}
 use Rattle.mesh.proofs.Parts.{mesh-tab}
-use Rattle.pairing.specs.Numbers.{Asked}
+use Rattle.pairing.specs.Numbers.{MeshAsked}
 use Rattle.pairing.specs.Keys.{all-keys}
 use Rattle.pairing.proofs.InPairs.{times}
 use Rattle.pairing.proofs.Members.{all-times, suc-eqb}
@@ -73,7 +73,7 @@ middle : (a b c : Bool) → b ≡ true → (a && b && c) ≡ (a && c)
 middle true b c e = rw e refl
 middle false b c e = refl
 
-module _ {m : List ℕ} (a : Asked m) (i p : ℕ) (hi : i < blocks m) (hp : p < count (part m i)) (c : is-critical-word (column (part m i) 3 p) ≡ true) where
+module _ {m : List ℕ} (a : MeshAsked m) (i p : ℕ) (hi : i < blocks m) (hp : p < count (part m i)) (c : is-critical-word (column (part m i) 3 p) ≡ true) where
   abbrev here : Passed (part m i)
   here = passed a i hi
 

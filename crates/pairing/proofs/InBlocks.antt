@@ -27,7 +27,7 @@ use Rattle.departure.proofs.LeavingFaces.{labels-apart}
 use Rattle.mesh.specs.Parts.{blocks, part}
 use Rattle.mesh.proofs.Parts.{mesh-tab, numbered-at}
 use Rattle.mesh.proofs.Gathers.{few-blocks}
-use Rattle.pairing.specs.Numbers.{Asked}
+use Rattle.pairing.specs.Numbers.{MeshAsked}
 
 -- ROWS BY PLACE
 -- a row that is found stands at a place
@@ -166,7 +166,7 @@ block-none m i h =
     past : {k n : ℕ} → k ≡ n → n ≤ i → k ≤ i
     past e l = omega arith
 
-module _ {m : List ℕ} (a : Asked m) where
+module _ {m : List ℕ} (a : MeshAsked m) where
   pub few : blocks m ≤ 16
   few = few-blocks m (a .numbered)
 

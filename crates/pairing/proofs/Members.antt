@@ -21,7 +21,7 @@ use Rattle.sort.specs.Order.{weight}
 use Rattle.sort.proofs.Order.{total-append}
 use Rattle.mesh.specs.Parts.{part}
 use Rattle.mesh.proofs.Gathers.{concat-append, one-block}
-use Rattle.pairing.specs.Keys.{key, key-of, keys-of, all-keys}
+use Rattle.pairing.specs.Keys.{dart-key, key-of, keys-of, all-keys}
 use Rattle.pairing.proofs.InBlocks.{word-key}
 use Rattle.pairing.proofs.InPairs.{times}
 
@@ -37,34 +37,34 @@ pub record Origin (m : List ℕ) (n v : ℕ) : Type 0 where
   pub block-lt : block < n
   pub place-lt : place < count (part m block)
   pub labelled : is-critical-word (column (part m block) 3 place) ≡ true
-  pub is : v ≡ key (part m block) block place
+  pub is : v ≡ dart-key (part m block) block place
 
-keys-in : (b : List ℕ) (i n v : ℕ) → In v (keys-of b i n) → (p : ℕ) × (p < n) × (is-critical-word (column b 3 p) ≡ true) × (v ≡ key b i p)
+keys-in : (b : List ℕ) (i n v : ℕ) → In v (keys-of b i n) → (p : ℕ) × (p < n) × (is-critical-word (column b 3 p) ≡ true) × (v ≡ dart-key b i p)
 unfolding keys-of
 keys-in b i zero v h = absurd (true≢false (sym h))
 keys-in b i (suc n) v h = go (append-in v (keys-of b i n) (key-of b i n) h) (keys-in b i n v)
   where
-    last : In v (key-of b i n) → (p : ℕ) × (p < suc n) × (is-critical-word (column b 3 p) ≡ true) × (v ≡ key b i p)
+    last : In v (key-of b i n) → (p : ℕ) × (p < suc n) × (is-critical-word (column b 3 p) ≡ true) × (v ≡ dart-key b i p)
     last k = by-cases (is-critical-word (column b 3 n))
-        (λ e. let k′ : In v (key b i n ∷ []) = rw e at k in
-        (n, omega arith, e, in-cons v (key b i n) [] k′ (λ q. q) (λ q. absurd (true≢false (sym q)))))
+        (λ e. let k′ : In v (dart-key b i n ∷ []) = rw e at k in
+        (n, omega arith, e, in-cons v (dart-key b i n) [] k′ (λ q. q) (λ q. absurd (true≢false (sym q)))))
         (λ e. let k′ : In v [] = rw e at k in absurd (true≢false (sym k′)))
 
-    go : In v (keys-of b i n) ⊎ In v (key-of b i n) → (In v (keys-of b i n) → (p : ℕ) × (p < n) × (is-critical-word (column b 3 p) ≡ true) × (v ≡ key b i p))
-        → (p : ℕ) × (p < suc n) × (is-critical-word (column b 3 p) ≡ true) × (v ≡ key b i p)
+    go : In v (keys-of b i n) ⊎ In v (key-of b i n) → (In v (keys-of b i n) → (p : ℕ) × (p < n) × (is-critical-word (column b 3 p) ≡ true) × (v ≡ dart-key b i p))
+        → (p : ℕ) × (p < suc n) × (is-critical-word (column b 3 p) ≡ true) × (v ≡ dart-key b i p)
     go (inl k) r = let w = r k in (w .0, omega (arith, w .1), w .2, w .3)
     go (inr k) r = last k
 
-in-keys : (b : List ℕ) (i n p : ℕ) → p < n → is-critical-word (column b 3 p) ≡ true → In (key b i p) (keys-of b i n)
+in-keys : (b : List ℕ) (i n p : ℕ) → p < n → is-critical-word (column b 3 p) ≡ true → In (dart-key b i p) (keys-of b i n)
 unfolding keys-of
 in-keys b i zero p h c = absurd (omega arith)
 in-keys b i (suc n) p h c = ⊎-elim
-    (λ e. in-append-right (key b i p) (keys-of b i n) (key-of b i n) (last e))
-    (λ l. in-append-left (key b i p) (keys-of b i n) (key-of b i n) (in-keys b i n p l c))
+    (λ e. in-append-right (dart-key b i p) (keys-of b i n) (key-of b i n) (last e))
+    (λ l. in-append-left (dart-key b i p) (keys-of b i n) (key-of b i n) (in-keys b i n p l c))
     (eq-or-lt-of-le (le-of-suc-le-suc h))
   where
-    last : p ≡ n → In (key b i p) (key-of b i n)
-    last e = subst (λ (q : ℕ). In (key b i p) (key-of b i q)) e (rw (c) (in-here (key b i p) []))
+    last : p ≡ n → In (dart-key b i p) (key-of b i n)
+    last e = subst (λ (q : ℕ). In (dart-key b i p) (key-of b i q)) e (rw (c) (in-here (dart-key b i p) []))
 
 pub all-in : (m : List ℕ) (n v : ℕ) → In v (all-keys m n) → Origin m n v
 unfolding all-keys
@@ -79,13 +79,13 @@ all-in m (suc n) v h = go (append-in v (all-keys m n) (keys-of (part m n) n (cou
         let w = keys-in (part m n) n (count (part m n)) v k in
         record { block = n; place = w .0; block-lt = omega arith; place-lt = w .1; labelled = w .2; is = w .3 }
 
-pub in-all : (m : List ℕ) (n i p : ℕ) → i < n → p < count (part m i) → is-critical-word (column (part m i) 3 p) ≡ true → In (key (part m i) i p) (all-keys m n)
+pub in-all : (m : List ℕ) (n i p : ℕ) → i < n → p < count (part m i) → is-critical-word (column (part m i) 3 p) ≡ true → In (dart-key (part m i) i p) (all-keys m n)
 unfolding all-keys
 in-all m zero i p h l c = absurd (omega arith)
 in-all m (suc n) i p h l c = ⊎-elim
-    (λ e. subst (λ (k : ℕ). In (key (part m i) i p) (all-keys m n ++ keys-of (part m k) k (count (part m k)))) e
-    (in-append-right (key (part m i) i p) (all-keys m n) (keys-of (part m i) i (count (part m i))) (in-keys (part m i) i (count (part m i)) p l c)))
-    (λ k. in-append-left (key (part m i) i p) (all-keys m n) (keys-of (part m n) n (count (part m n))) (in-all m n i p k l c))
+    (λ e. subst (λ (k : ℕ). In (dart-key (part m i) i p) (all-keys m n ++ keys-of (part m k) k (count (part m k)))) e
+    (in-append-right (dart-key (part m i) i p) (all-keys m n) (keys-of (part m i) i (count (part m i))) (in-keys (part m i) i (count (part m i)) p l c)))
+    (λ k. in-append-left (dart-key (part m i) i p) (all-keys m n) (keys-of (part m n) n (count (part m n))) (in-all m n i p k l c))
     (eq-or-lt-of-le (le-of-suc-le-suc h))
 
 -- HOW OFTEN A CODE STANDS: as often as its label among the darts
@@ -111,7 +111,7 @@ one-dart l b i p hi hp kind = by-cases (is-critical-word (column b 3 p))
     (λ e. ap (λ (x : ℕ). weight (eqb (suc (code l)) x)) (word-key (column b 0) (column b 3 p) (column b 4 p) kind) ∙ not-it e)
   where
     yes : is-critical-word (column b 3 p) ≡ true → weight (eqb (suc (code l)) (cond (is-critical-word (column b 3 p)) (suc (column b 4 p)) 0)) ≡ times (code l) (key-of b i p)
-    yes e = rw e (ap weight (suc-eqb (code l) (column b 4 p) ∙ ap (eqb (code l)) (sym (key-code (column b 4 p) i p hi hp))) ∙ plus-zero (weight (eqb (code l) (key b i p / 65536))))
+    yes e = rw e (ap weight (suc-eqb (code l) (column b 4 p) ∙ ap (eqb (code l)) (sym (key-code (column b 4 p) i p hi hp))) ∙ plus-zero (weight (eqb (code l) (dart-key b i p / 65536))))
       where
         plus-zero : (n : ℕ) → n ≡ n + 0
         plus-zero n = omega arith

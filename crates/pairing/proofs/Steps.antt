@@ -14,7 +14,7 @@ use Rattle.laws.proofs.Tests.{eq-or-ne}
 use Rattle.laws.proofs.Lists.{drop-at-cons, drop-end}
 use Rattle.columns.specs.Columns.{count}
 use Rattle.mesh.specs.Parts.{blocks, part, Put}
-use Rattle.pairing.specs.Keys.{key, key-of, keys-of, all-keys, fresh, two-test, in-pairs, each-pair}
+use Rattle.pairing.specs.Keys.{dart-key, key-of, keys-of, all-keys, fresh, two-test, in-pairs, each-pair}
 
 -- PUTTING
 put-none : (at : ℕ) (out : List ℕ) → Put at [] out out at
@@ -47,7 +47,7 @@ key-put b i p at out {k} {a} l e h f = (
     one-more : (n : ℕ) → n + 1 ≡ suc n
     one-more n = omega arith
 
-    it : key-of b i p ≡ key b i p ∷ []
+    it : key-of b i p ≡ dart-key b i p ∷ []
     it = rw (ap is-critical-word (sym e) ∙ h) refl
 
 -- a block's keys

@@ -15,25 +15,25 @@ use Rattle.memory.proofs.Points.{finite-at}
 use Rattle.columns.specs.Columns.{count}
 use Rattle.mesh.specs.Parts.{blocks, part, Put}
 use Rattle.mesh.proofs.Gathers.{part-length}
-use Rattle.pairing.specs.Numbers.{Asked, Held, word, next-of, before-of, Before, point-by, side-test, meet-test}
+use Rattle.pairing.specs.Numbers.{MeshAsked, Held, word, next-number, before-of, PlacesBefore, point-by, side-test, meet-test}
 use Rattle.pairing.specs.Keys.{Short, keys-of, label-pair, point-pair}
 use Rattle.pairing.proofs.InBlocks.{next-lt, few, passed}
 use Rattle.pairing.proofs.BothWays.{Sits, word-at}
 use Rattle.pairing.proofs.ByNumber.{short, roomy, held-next, held-before}
 
 -- A WORD of the next dart, and of the one before
-module _ {m : List ℕ} {g : ℕ} (a : Asked m) (h : Held m g) where
-  pub read-next : {r : ℕ} → r ≡ next-of m g → (f : ℕ) → f < 8 → (r / 4096 < blocks m) × (f < 8)
+module _ {m : List ℕ} {g : ℕ} (a : MeshAsked m) (h : Held m g) where
+  pub read-next : {r : ℕ} → r ≡ next-number m g → (f : ℕ) → f < 8 → (r / 4096 < blocks m) × (f < 8)
   read-next e f l = (subst (λ (x : ℕ). x / 4096 < blocks m) (sym e) (held-next a h .block-lt), l)
 
-  pub next-held : {r : ℕ} → r ≡ next-of m g → Held m r
+  pub next-held : {r : ℕ} → r ≡ next-number m g → Held m r
   next-held e = subst (Held m) (sym e) (held-next a h)
 
-  pub read-before : {t : List ℕ} {r : ℕ} → Before m t → r ≡ before-of t g → (f : ℕ) → f < 8 → (r / 4096 < blocks m) × (f < 8)
+  pub read-before : {t : List ℕ} {r : ℕ} → PlacesBefore m t → r ≡ before-of t g → (f : ℕ) → f < 8 → (r / 4096 < blocks m) × (f < 8)
   read-before b e f l = (subst (λ (x : ℕ). x / 4096 < blocks m) (sym e) (held-before a h b .block-lt), l)
 
 -- TESTS
-pub side-told : (m t : List ℕ) (g h : ℕ) {k a b c n q : ℕ} → k ≡ word m 3 g → a ≡ other-in k → n ≡ next-of m g → b ≡ word m 4 n → q ≡ before-of t h → c ≡ word m 4 q
+pub side-told : (m t : List ℕ) (g h : ℕ) {k a b c n q : ℕ} → k ≡ word m 3 g → a ≡ other-in k → n ≡ next-number m g → b ≡ word m 4 n → q ≡ before-of t h → c ≡ word m 4 q
     → (eqb a (h / 4096) && eqb b c) ≡ side-test m t g h
 unfolding side-test
 side-told m t g h ek ea en eb eq ec = λ i. eqb ((ea ∙ ap other-in ek) i) (h / 4096) && eqb ((eb ∙ ap (word m 4) en) i) ((ec ∙ ap (word m 4) eq) i)
@@ -46,7 +46,7 @@ labels-told m t x y e f = λ i. e i && f i
 abbrev words-of : List ℕ → ℕ → Patterns
 words-of m g = record { x = word m 5 g; y = word m 6 g; z = word m 7 g }
 
-module _ {m : List ℕ} (a : Asked m) {g : ℕ} (h : Held m g) where
+module _ {m : List ℕ} (a : MeshAsked m) {g : ℕ} (h : Held m g) where
   finite-words : FiniteAt (part m (g / 4096)) (g % 4096)
   finite-words = finite-at (part m (g / 4096)) (g % 4096) (passed a (g / 4096) (h .block-lt) .finite-points (g % 4096) (h .place-lt))
 
@@ -69,7 +69,7 @@ pub point-there : (m : List ℕ) {b : List ℕ} (g : ℕ) → b ≡ part m (g / 
     → x ≡ point-of (column b 5 (g % 4096)) (column b 6 (g % 4096)) (column b 7 (g % 4096)) → x ≡ point-by m g
 point-there m g is e = e ∙ ap (λ (l : List ℕ). point-of (column l 5 (g % 4096)) (column l 6 (g % 4096)) (column l 7 (g % 4096))) is
 
-pub meet-told : {m : List ℕ} (a : Asked m) {g : ℕ} (h : ℕ) {n : ℕ} → Held m g → Held m n → n ≡ next-of m h
+pub meet-told : {m : List ℕ} (a : MeshAsked m) {g : ℕ} (h : ℕ) {n : ℕ} → Held m g → Held m n → n ≡ next-number m h
     → {x y : Point} → x ≡ point-by m g → y ≡ point-by m n → {r : Bool} → r ≡ same-point (patterns x) (patterns y) → r ≡ meet-test m g h
 unfolding meet-test same-point
 meet-told {m} a {g} h {n} hg hn en ex ey er =
@@ -84,7 +84,7 @@ pub code-fits : (b : List ℕ) (p : ℕ) {k a : ℕ} → Short b → p < count b
 code-fits b p {k} {a} s h e l f = subst (λ (x : ℕ). x < 281474976710656) (sym f) (s p h (ap is-critical-word (sym e) ∙ l))
 
 -- a block that is a part of a mesh
-module _ (m : List ℕ) (i : ℕ) {b : List ℕ} (is : b ≡ part m i) (a : Asked m) (held : i < blocks m) where
+module _ (m : List ℕ) (i : ℕ) {b : List ℕ} (is : b ≡ part m i) (a : MeshAsked m) (held : i < blocks m) where
   pub part-asked : (at n : ℕ) → at + 4096 ≤ n → (words-for (getD b 2 0) ≤ length b) × (getD b 2 0 ≤ room) × Short b × (i < 16) × (at + 4096 ≤ n)
   part-asked at n h = (
     within (ap length is ∙ part-length m i held) few-here,
@@ -111,7 +111,7 @@ module _ (m : List ℕ) (i : ℕ) {b : List ℕ} (is : b ≡ part m i) (a : Aske
 pub number-sits : (i p : ℕ) → p < 4096 → Sits (i * 4096 + p) i p
 number-sits i p h = record { in-block = omega arith; at-place = omega arith }
 
-pub place-in : {m : List ℕ} → Asked m → (i p : ℕ) → i < blocks m → p < count (part m i) → p < 4096
+pub place-in : {m : List ℕ} → MeshAsked m → (i p : ℕ) → i < blocks m → p < count (part m i) → p < 4096
 place-in a i p hi hp = go (roomy a i hi) hp
   where
     go : {k : ℕ} → k ≤ 4096 → p < k → p < 4096
@@ -120,7 +120,7 @@ place-in a i p hi hp = go (roomy a i hi) hp
 pub number-held : (m : List ℕ) (i p : ℕ) → i < blocks m → p < 4096 → ((i * 4096 + p) / 4096 < blocks m) × (1 < 8)
 number-held m i p h l = (subst (λ (x : ℕ). x < blocks m) (sym (number-sits i p l .in-block)) h, omega arith)
 
-pub next-told : {m : List ℕ} → Asked m → (i p : ℕ) {x : ℕ} → i < blocks m → p < count (part m i) → x ≡ word m 1 (i * 4096 + p) → (x ≡ column (part m i) 1 p) × (x < 4096)
+pub next-told : {m : List ℕ} → MeshAsked m → (i p : ℕ) {x : ℕ} → i < blocks m → p < count (part m i) → x ≡ word m 1 (i * 4096 + p) → (x ≡ column (part m i) 1 p) × (x < 4096)
 next-told {m} a i p hi hp e =
     let w = e ∙ word-at m 1 (number-sits i p (place-in a i p hi hp)) in
     (w, subst (λ (y : ℕ). y < 4096) (sym w) (place-in a i (column (part m i) 1 p) hi (next-lt (passed a i hi) p hp)))

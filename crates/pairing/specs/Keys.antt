@@ -14,12 +14,12 @@ use Rattle.pairing.specs.Numbers.{Held, side-test, meet-test}
 abbrev pub Short : List ℕ → Type 0
 Short b = (p : ℕ) → p < count b → is-critical-word (column b 3 p) ≡ true → column b 4 p < 2 ^ 48
 
-abbrev pub key : List ℕ → ℕ → ℕ → ℕ
-key b i p = column b 4 p * 65536 + (i * 4096 + p)
+abbrev pub dart-key : List ℕ → ℕ → ℕ → ℕ
+dart-key b i p = column b 4 p * 65536 + (i * 4096 + p)
 
 -- of the dart at place p of block i, none where it is not critical
 abbrev pub key-of : List ℕ → ℕ → ℕ → List ℕ
-key-of b i p = cond (is-critical-word (column b 3 p)) (key b i p ∷ []) []
+key-of b i p = cond (is-critical-word (column b 3 p)) (dart-key b i p ∷ []) []
 
 -- of the first n darts
 unfoldable pub keys-of : List ℕ → ℕ → ℕ → List ℕ

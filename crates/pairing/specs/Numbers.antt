@@ -15,7 +15,7 @@ use Rattle.memory.specs.Point.{point-of}
 use Rattle.mesh.specs.Parts.{blocks, part}
 
 -- questions 2 and 23 were answered yes
-pub record Asked (m : List ℕ) : Type 0 where
+pub record MeshAsked (m : List ℕ) : Type 0 where
   pub images : all (λ b. holds-block b) (memories m) ≡ true
   pub numbered : blocks-right (map block-in (memories m)) ≡ true
 
@@ -29,11 +29,11 @@ pub record Held (m : List ℕ) (g : ℕ) : Type 0 where
   pub place-lt : g % 4096 < count (part m (g / 4096))
 
 -- the next dart
-abbrev pub next-of : List ℕ → ℕ → ℕ
-next-of m g = g / 4096 * 4096 + word m 1 g
+abbrev pub next-number : List ℕ → ℕ → ℕ
+next-number m g = g / 4096 * 4096 + word m 1 g
 
 -- where each dart's previous one stands, by the dart's number
-pub record Before (m t : List ℕ) : Type 0 where
+pub record PlacesBefore (m t : List ℕ) : Type 0 where
   pub len : length t ≡ 65536
   pub at : (i p : ℕ) → i < blocks m → p < count (part m i) → getD t (i * 4096 + column (part m i) 1 p) 0 ≡ p
 
@@ -52,8 +52,8 @@ point-by m g = point-of (word m 5 g) (word m 6 g) (word m 7 g)
 
 -- 25, of g that has a label with h: g names h's block, and next of g has the label of the dart before h
 unfoldable pub side-test : List ℕ → List ℕ → ℕ → ℕ → Bool
-side-test m t g h = eqb (other-in (word m 3 g)) (h / 4096) && eqb (word m 4 (next-of m g)) (word m 4 (before-of t h))
+side-test m t g h = eqb (other-in (word m 3 g)) (h / 4096) && eqb (word m 4 (next-number m g)) (word m 4 (before-of t h))
 
 -- 26: g and next of h have one point
 unfoldable pub meet-test : List ℕ → ℕ → ℕ → Bool
-meet-test m g h = (eqb (word m 5 g) (word m 5 (next-of m h)) && eqb (word m 6 g) (word m 6 (next-of m h))) && eqb (word m 7 g) (word m 7 (next-of m h))
+meet-test m g h = (eqb (word m 5 g) (word m 5 (next-number m h)) && eqb (word m 6 g) (word m 6 (next-number m h))) && eqb (word m 7 g) (word m 7 (next-number m h))

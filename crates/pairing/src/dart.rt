@@ -2,7 +2,7 @@
 ghost use mathlib.Core.Path.{_≡_};
 ghost use Prim.Native.Nat.{_/_, _%_, _<_};
 ghost use Rattle.mesh.specs.Parts.{blocks};
-ghost use Rattle.pairing.specs.Numbers.{Asked, Held, Before, word as word-of, next-of, before-of, point-by, side-test, meet-test};
+ghost use Rattle.pairing.specs.Numbers.{MeshAsked, Held, PlacesBefore, word as word-of, next-number, before-of, point-by, side-test, meet-test};
 ghost use Rattle.pairing.specs.Keys.{label-pair, point-pair};
 use memory::header::Header;
 use memory::kind;
@@ -21,15 +21,15 @@ pub fn word(mesh: &[u64], g: usize, f: usize) -> u64
 
 // The next dart.
 pub fn next(mesh: &[u64], g: usize) -> usize
-    requires { ⌜ Asked (now mesh) × Held (now mesh) g ⌝ }
-    ensures { λ r. ⌜ r ≡ next-of (now (mesh .entry)) g ⌝ }
+    requires { ⌜ MeshAsked (now mesh) × Held (now mesh) g ⌝ }
+    ensures { λ r. ⌜ r ≡ next-number (now (mesh .entry)) g ⌝ }
 {
     g / Header::DARTS * Header::DARTS + word(mesh, g, Record::NEXT) as usize
 }
 
 // The one before, by the table of places.
 pub fn previous(mesh: &[u64], table: &[u64], g: usize) -> usize
-    requires { ⌜ Asked (now mesh) × Before (now mesh) (now table) × Held (now mesh) g ⌝ }
+    requires { ⌜ MeshAsked (now mesh) × PlacesBefore (now mesh) (now table) × Held (now mesh) g ⌝ }
     ensures { λ r. ⌜ r ≡ before-of (now (table .entry)) g ⌝ }
 {
     g / Header::DARTS * Header::DARTS + table[g] as usize
@@ -37,7 +37,7 @@ pub fn previous(mesh: &[u64], table: &[u64], g: usize) -> usize
 
 // 25: g names the block of h, and next of g has the label of the dart before h.
 fn side(mesh: &[u64], table: &[u64], g: usize, h: usize) -> bool
-    requires { ⌜ Asked (now mesh) × Before (now mesh) (now table) × Held (now mesh) g × Held (now mesh) h ⌝ }
+    requires { ⌜ MeshAsked (now mesh) × PlacesBefore (now mesh) (now table) × Held (now mesh) g × Held (now mesh) h ⌝ }
     ensures { λ r. ⌜ r ≡ side-test (now (mesh .entry)) (now (table .entry)) g h ⌝ }
 {
     let named = kind::other_of(word(mesh, g, Record::KIND));
@@ -48,7 +48,7 @@ fn side(mesh: &[u64], table: &[u64], g: usize, h: usize) -> bool
 
 // 25, of the darts of two keys.
 pub fn labels_pair(mesh: &[u64], table: &[u64], x: u64, y: u64) -> bool
-    requires { ⌜ Asked (now mesh) × Before (now mesh) (now table) × Held (now mesh) (x % 65536) × Held (now mesh) (y % 65536) ⌝ }
+    requires { ⌜ MeshAsked (now mesh) × PlacesBefore (now mesh) (now table) × Held (now mesh) (x % 65536) × Held (now mesh) (y % 65536) ⌝ }
     ensures { λ r. ⌜ r ≡ label-pair (now (mesh .entry)) (now (table .entry)) x y ⌝ }
 {
     let g = (x % Header::MESH) as usize;
@@ -60,7 +60,7 @@ pub fn labels_pair(mesh: &[u64], table: &[u64], x: u64, y: u64) -> bool
 
 // The point of dart g.
 fn point_of(mesh: &[u64], g: usize) -> Point
-    requires { ⌜ Asked (now mesh) × Held (now mesh) g ⌝ }
+    requires { ⌜ MeshAsked (now mesh) × Held (now mesh) g ⌝ }
     ensures { λ r. ⌜ r ≡ point-by (now (mesh .entry)) g ⌝ }
 {
     point::point_at(
@@ -71,7 +71,7 @@ fn point_of(mesh: &[u64], g: usize) -> Point
 
 // 26: g and next of h have one point.
 fn meet(mesh: &[u64], g: usize, h: usize) -> bool
-    requires { ⌜ Asked (now mesh) × Held (now mesh) g × Held (now mesh) h ⌝ }
+    requires { ⌜ MeshAsked (now mesh) × Held (now mesh) g × Held (now mesh) h ⌝ }
     ensures { λ r. ⌜ r ≡ meet-test (now (mesh .entry)) g h ⌝ }
 {
     let here = point_of(mesh, g);
@@ -81,7 +81,7 @@ fn meet(mesh: &[u64], g: usize, h: usize) -> bool
 
 // 26, of the darts of two keys.
 pub fn points_pair(mesh: &[u64], x: u64, y: u64) -> bool
-    requires { ⌜ Asked (now mesh) × Held (now mesh) (x % 65536) × Held (now mesh) (y % 65536) ⌝ }
+    requires { ⌜ MeshAsked (now mesh) × Held (now mesh) (x % 65536) × Held (now mesh) (y % 65536) ⌝ }
     ensures { λ r. ⌜ r ≡ point-pair (now (mesh .entry)) x y ⌝ }
 {
     let g = (x % Header::MESH) as usize;

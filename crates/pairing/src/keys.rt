@@ -6,7 +6,7 @@ ghost use Rattle.model.specs.Lists.{sorted};
 ghost use Rattle.model.specs.Image.{words-for};
 ghost use Rattle.model.specs.Values.{room};
 ghost use Rattle.mesh.specs.Parts.{blocks, part, Put};
-ghost use Rattle.pairing.specs.Numbers.{Asked};
+ghost use Rattle.pairing.specs.Numbers.{MeshAsked};
 ghost use Rattle.pairing.specs.Keys.{Short, key-of, keys-of, all-keys};
 use memory::header::Header;
 use memory::kind;
@@ -46,7 +46,7 @@ fn put_keys(block: &[u64], i: usize, out: &mut [u64], at: usize) -> usize
 
 // The same of block i of a mesh.
 fn put_part(mesh: &[u64], i: usize, out: &mut [u64], at: usize) -> usize
-    requires { ⌜ Asked (now mesh) × (i < blocks (now mesh)) × (at + room ≤ length (now out)) ⌝ }
+    requires { ⌜ MeshAsked (now mesh) × (i < blocks (now mesh)) × (at + room ≤ length (now out)) ⌝ }
     ensures { λ r. ⌜ (r ≤ at + room) × Put at (keys-of (part (now (mesh .entry)) i) i (getD (part (now (mesh .entry)) i) 2 0)) (now (out .entry)) (now (out .exit)) r ⌝ }
 {
     put_keys(mesh::part_of(mesh, i), i, out, at)
@@ -54,7 +54,7 @@ fn put_part(mesh: &[u64], i: usize, out: &mut [u64], at: usize) -> usize
 
 // Puts the keys of all blocks; how many there are.
 pub fn gather(mesh: &[u64], out: &mut [u64]) -> usize
-    requires { ⌜ Asked (now mesh) × (length (now out) ≡ 65536) ⌝ }
+    requires { ⌜ MeshAsked (now mesh) × (length (now out) ≡ 65536) ⌝ }
     ensures { λ r. ⌜ (r ≤ 65536) × (length (now (out .exit)) ≡ 65536) × (take r (now (out .exit)) ≡ all-keys (now (mesh .entry)) (blocks (now (mesh .entry)))) ⌝ }
 {
     let k = mesh.len() / Header::WORDS;

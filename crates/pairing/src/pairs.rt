@@ -2,7 +2,7 @@
 ghost use mathlib.Core.Path.{_≡_};
 ghost use Prim.Native.Nat.{_+_, _/_, _<_};
 ghost use lib.ListN.{length, getD, drop};
-ghost use Rattle.pairing.specs.Numbers.{Asked, Before};
+ghost use Rattle.pairing.specs.Numbers.{MeshAsked, PlacesBefore};
 ghost use Rattle.pairing.specs.Keys.{HeldKeys, fresh as fresh-in, in-pairs, each-pair, label-pair, point-pair, two-test};
 use crate::dart;
 use memory::header::Header;
@@ -19,7 +19,7 @@ fn fresh(keys: &[u64], x: u64, t: usize) -> bool
 
 // 25, of keys t and t + 1.
 fn two(mesh: &[u64], table: &[u64], keys: &[u64], t: usize) -> bool
-    requires { ⌜ Asked (now mesh) × Before (now mesh) (now table) × HeldKeys (now mesh) (now keys) × (t + 1 < length (now keys)) ⌝ }
+    requires { ⌜ MeshAsked (now mesh) × PlacesBefore (now mesh) (now table) × HeldKeys (now mesh) (now keys) × (t + 1 < length (now keys)) ⌝ }
     ensures { λ r. ⌜ r ≡ two-test (label-pair (now (mesh .entry)) (now (table .entry))) (getD (now (keys .entry)) t 0) (getD (now (keys .entry)) (t + 1) 0) (drop (t + 2) (now (keys .entry))) ⌝ }
 {
     let x = keys[t];
@@ -31,7 +31,7 @@ fn two(mesh: &[u64], table: &[u64], keys: &[u64], t: usize) -> bool
 
 // 25, of all keys.
 pub fn labels(mesh: &[u64], table: &[u64], keys: &[u64]) -> bool
-    requires { ⌜ Asked (now mesh) × Before (now mesh) (now table) × HeldKeys (now mesh) (now keys) ⌝ }
+    requires { ⌜ MeshAsked (now mesh) × PlacesBefore (now mesh) (now table) × HeldKeys (now mesh) (now keys) ⌝ }
     ensures { λ r. ⌜ r ≡ in-pairs (label-pair (now (mesh .entry)) (now (table .entry))) (now (keys .entry)) ⌝ }
 {
     let n = keys.len();
@@ -48,7 +48,7 @@ pub fn labels(mesh: &[u64], table: &[u64], keys: &[u64]) -> bool
 
 // 26, of all keys.
 pub fn points(mesh: &[u64], keys: &[u64]) -> bool
-    requires { ⌜ Asked (now mesh) × HeldKeys (now mesh) (now keys) ⌝ }
+    requires { ⌜ MeshAsked (now mesh) × HeldKeys (now mesh) (now keys) ⌝ }
     ensures { λ r. ⌜ r ≡ each-pair (point-pair (now (mesh .entry))) (now (keys .entry)) ⌝ }
 {
     let n = keys.len();

@@ -30,7 +30,7 @@ use Rattle.agreed.specs.Promise.{Agreed}
 use Rattle.agreed.proofs.Lists.{lists-agree}
 use Rattle.rebalance.specs.Turn as step
 use Rattle.rebalance.specs.Turn.{Turn, still, ending-by, turn, turn-by, round-turn}
-use Rattle.rebalance.specs.Balanced.{Stop, level, blocked, refused-by, Run, stopped, moved-first, with-memories, stop-by, after-step, balanced}
+use Rattle.rebalance.specs.Balanced.{Stop, level, blocked, refused-by, BalancingRun, stopped, moved-first, with-memories, stop-by, after-step, balanced}
 use Rattle.rebalance.specs.Promise.{ends-well, as-request, Levels, Lent, EndsWell}
 use Rattle.rebalance.proofs.Moving.{whole-again}
 
@@ -88,17 +88,17 @@ module _ (bs : List Block) (sound : Sound all-rack bs) where
         ∙ ap refused n
 
     -- NO MOVE: balancing ends there
-    abbrev here : Stop → Run
+    abbrev here : Stop → BalancingRun
     here e = stopped e lent outbox
 
     abbrev Stops : step.End → Stop → Type 0
-    Stops e s = (m l : List ℕ) (r : Run) → after-step e m l r ≡ stopped s m l
+    Stops e s = (m l : List ℕ) (r : BalancingRun) → after-step e m l r ≡ stopped s m l
 
     abbrev Ends : ℕ → Type 0
     Ends n = Levels bs o scratch outbox (balanced n lent o scratch outbox)
 
     stays : (e : Stop) → ends-well o e ≡ true → e ≡ stop-by given → Levels bs o scratch outbox (here e)
-    unfolding list.run
+    unfolding list.played-run
     stays e w l = record {
       ends = w;
       last = l;
@@ -151,14 +151,14 @@ module _ (bs : List Block) (sound : Sound all-rack bs) where
       carried = rack-move-lowers bs o scratch outbox t (last-steps r (sent-messages all-rack (map (image words) bs) r outbox)) sound q
           (rack-outbox-suffices (memory-at (map (image words) bs) (t .donor)) (t .recipient) (t .serial) outbox (L .long)) (Permᴰ·refl _)
 
-      agreed : Agreed bs (r ∷ []) (list.run (map (image words) bs) outbox (r ∷ []))
+      agreed : Agreed bs (r ∷ []) (list.played-run (map (image words) bs) outbox (r ∷ []))
       agreed = lists-agree bs outbox (r ∷ []) sound (L .long)
 
       abbrev next : List Block
       next = agreed .matches .mesh
 
       next-images : after-round .memories ≡ map (image words) next
-      unfolding list.run
+      unfolding list.played-run
       next-images = agreed .matches .images
 
       lower : suc (positive-surplus o next) ≡ positive-surplus o bs
@@ -183,11 +183,11 @@ module _ (bs : List Block) (sound : Sound all-rack bs) where
           ap (λ (T : Turn). after-step (T .ending) (with-memories lent (T .memories)) (T .outbox) (balanced n (with-memories lent (T .memories)) o scratch (T .outbox))) turns
           ∙ ap (λ (m : List ℕ). moved-first t (balanced n m o scratch next-outbox)) (with-images (map (image words) next))
 
-      one-more : (d : Run) → Levels next o scratch next-outbox d → Levels bs o scratch outbox (moved-first t d)
-      unfolding list.run
+      one-more : (d : BalancingRun) → Levels next o scratch next-outbox d → Levels bs o scratch outbox (moved-first t d)
+      unfolding list.played-run
       one-more d w =
-          let again : list.run (after-round .memories) next-outbox (map as-request (d .moves)) ≡ list.run (map (image words) next) next-outbox (map as-request (d .moves)) =
-          ap (λ (x : List (List ℕ)). list.run x next-outbox (map as-request (d .moves))) next-images in
+          let again : list.played-run (after-round .memories) next-outbox (map as-request (d .moves)) ≡ list.played-run (map (image words) next) next-outbox (map as-request (d .moves)) =
+          ap (λ (x : List (List ℕ)). list.played-run x next-outbox (map as-request (d .moves))) next-images in
           record {
             ends = w .ends;
             last = w .last;
@@ -196,8 +196,8 @@ module _ (bs : List Block) (sound : Sound all-rack bs) where
             sound = w .sound;
             lowered = let a = w .lowered in omega (arith, a, lower);
             same-map = λ x. w .same-map x ∙ agreed .same-map x;
-            outcomes-again = (λ i. carried .0 i ∷ (ap (λ (x : list.Run). x .outcomes) again ∙ w .outcomes-again) i);
-            memories-again = ap (λ (x : list.Run). x .memories) again ∙ w .memories-again;
+            outcomes-again = (λ i. carried .0 i ∷ (ap (λ (x : list.PlayedRun). x .outcomes) again ∙ w .outcomes-again) i);
+            memories-again = ap (λ (x : list.PlayedRun). x .memories) again ∙ w .memories-again;
           }
 
       moved-well : (n : ℕ) → Levels next o scratch next-outbox (balanced n (concat (map (image words) next)) o scratch next-outbox) → Ends (suc n)

@@ -17,10 +17,10 @@ use Rattle.laws.proofs.Tests.{by-cases}
 use Rattle.answers.specs.Answers.{Gives, move-of}
 use Rattle.answers.specs.declared.NextMove as answers-move
 use Rattle.rounds.specs.Played.{left-over, asks-for}
-use Rattle.rounds.specs.Requests.{over}
+use Rattle.rounds.specs.Requests.{over-words}
 use Rattle.rounds.proofs.Requests.{over-more, outbox-length}
 use Rattle.rebalance.specs.Turn.{ending-of, a-move, turn, turn-by, round-turn, Levelled}
-use Rattle.rebalance.specs.Balanced.{Stop, Run, stopped, moved-first, with-memories, stop-by, after-step, balanced, numbers-of, with-move, stop-of, count-of, Asked, Balances}
+use Rattle.rebalance.specs.Balanced.{Stop, BalancingRun, stopped, moved-first, with-memories, stop-by, after-step, balanced, numbers-of, with-move, stop-of, count-of, TurnAsked, Balances}
 use Rattle.rebalance.specs.declared.Ending.{Ending}
 use Rattle.rebalance.specs.declared.Ending.the-variants as ending
 use Rattle.rebalance.specs.declared.moves.Balanced.{Balanced}
@@ -79,7 +79,7 @@ numbers-more [] t = refl
 numbers-more (s ∷ ts) t = ap (λ (l : List ℕ). s .donor ∷ s .recipient ∷ s .serial ∷ l) (numbers-more ts t)
 
 -- one more, behind those that are written
-with-move-over : (xs l : List ℕ) (n : ℕ) (t : Move) → length xs ≡ n * 3 → n < length l / 3 → with-move (over xs l) n t ≡ over (xs ++ numbers t) l
+with-move-over : (xs l : List ℕ) (n : ℕ) (t : Move) → length xs ≡ n * 3 → n < length l / 3 → with-move (over-words xs l) n t ≡ over-words (xs ++ numbers t) l
 with-move-over xs l n t e h =
     let ys = xs ++ t .donor ∷ [] in
     let zs = ys ++ t .recipient ∷ [] in
@@ -88,7 +88,7 @@ with-move-over xs l n t e h =
     ap (λ (x : List ℕ). set (set x (n * 3 + 1) (t .recipient)) (n * 3 + 2) (t .serial)) (over-more xs l (n * 3) (t .donor) e (omega (arith, h)))
     ∙ ap (λ (x : List ℕ). set x (n * 3 + 2) (t .serial)) (over-more ys l (n * 3 + 1) (t .recipient) ly (omega (arith, h)))
     ∙ over-more zs l (n * 3 + 2) (t .serial) lz (omega (arith, h))
-    ∙ ap (λ (x : List ℕ). over x l) (append-assoc ys (t .recipient ∷ []) (t .serial ∷ []) ∙ append-assoc xs (t .donor ∷ []) (t .recipient ∷ t .serial ∷ []))
+    ∙ ap (λ (x : List ℕ). over-words x l) (append-assoc ys (t .recipient ∷ []) (t .serial ∷ []) ∙ append-assoc xs (t .donor ∷ []) (t .recipient ∷ t .serial ∷ []))
 
 -- ONE STEP of the fold
 one-step : {m : List ℕ} {o : Oracle} {scratch outbox : List ℕ} {s : Ending} {m′ scratch′ outbox′ : List ℕ} (k : ℕ) → Levelled m o scratch outbox s m′ scratch′ outbox′
@@ -101,10 +101,10 @@ one-step {m} {o} {scratch} {outbox} {s} {m′} {scratch′} {outbox′} k w =
     λ i. after-step (p i) (q i) (r i) (balanced k (q i) o scratch (r i))
 
 -- moves that were carried out, and the rest
-abbrev behind : List Move → Run → Run
+abbrev behind : List Move → BalancingRun → BalancingRun
 behind ts r = record { stop = r .stop; moves = ts ++ r .moves; mesh = r .mesh; outbox = r .outbox }
 
-behind-more : (ts : List Move) (t : Move) (r : Run) → behind ts (moved-first t r) ≡ behind (ts ++ t ∷ []) r
+behind-more : (ts : List Move) (t : Move) (r : BalancingRun) → behind ts (moved-first t r) ≡ behind (ts ++ t ∷ []) r
 behind-more ts t r = ap (λ (l : List Move). record { stop = r .stop; moves = l; mesh = r .mesh; outbox = r .outbox }) (sym (append-assoc ts (t ∷ []) (r .moves)))
 
 -- THE LOOP: n moves are carried out and written down, and what is left gives the same end
@@ -114,7 +114,7 @@ pub record Moving (m₀ : List ℕ) (o : Oracle) (scratch₀ outbox₀ moves₀ 
   pub room : ℕ
   pub rooms : length moves₀ / 3 ≡ n + room
   pub same-end : balanced (length moves₀ / 3) m₀ o scratch₀ outbox₀ ≡ behind carried (balanced room m o scratch₀ outbox)
-  pub written : moves ≡ over (numbers-of carried) moves₀
+  pub written : moves ≡ over-words (numbers-of carried) moves₀
   pub as-was : scratch ≡ scratch₀
   pub mesh-size : length m ≡ length m₀
   pub scratch-size : length scratch ≡ length scratch₀
@@ -138,7 +138,7 @@ none-moved m o scratch outbox moves = record {
 }
 
 module _ {m₀ : List ℕ} {o : Oracle} {scratch₀ outbox₀ moves₀ : List ℕ} {n : ℕ} {m scratch outbox moves : List ℕ} (w : Moving m₀ o scratch₀ outbox₀ moves₀ n m scratch outbox moves) where
-  abbrev whole : Run
+  abbrev whole : BalancingRun
   whole = balanced (length moves₀ / 3) m₀ o scratch₀ outbox₀
 
   -- a step that is taken while there is room
@@ -179,7 +179,7 @@ module _ {m₀ : List ℕ} {o : Oracle} {scratch₀ outbox₀ moves₀ : List �
           same-end = stepped (ending.Moved d r v) known ∙ behind-more (w .carried) t (balanced k m′ o scratch₀ outbox′);
           written = put ∙ ap (λ (x : List ℕ). with-move x n t) (w .written)
               ∙ with-move-over (numbers-of (w .carried)) moves₀ n t (numbers-length (w .carried) ∙ ap (λ (x : ℕ). x * 3) c) (omega (arith, h, size))
-              ∙ ap (λ (x : List ℕ). over x moves₀) (sym (numbers-more (w .carried) t));
+              ∙ ap (λ (x : List ℕ). over-words x moves₀) (sym (numbers-more (w .carried) t));
           as-was = scratch-now;
           mesh-size = l .ended .size ∙ w .mesh-size;
           scratch-size = ap length scratch-now;
@@ -194,20 +194,20 @@ module _ {m₀ : List ℕ} {o : Oracle} {scratch₀ outbox₀ moves₀ : List �
   concludes : (b : Balanced) {m′ scratch′ outbox′ : List ℕ} → whole ≡ behind (w .carried) (stopped (stop-of b) m′ outbox′) → count-of b ≡ n → scratch′ ≡ scratch₀
       → Balances m₀ o scratch₀ outbox₀ moves₀ b m′ scratch′ outbox′ moves
   concludes b e c s = record {
-    stop-is = sym (ap (λ (r : Run). r .stop) e);
+    stop-is = sym (ap (λ (r : BalancingRun). r .stop) e);
     count-is = c ∙ sym (w .count) ∙ ap length done;
-    mesh-is = sym (ap (λ (r : Run). r .mesh) e);
+    mesh-is = sym (ap (λ (r : BalancingRun). r .mesh) e);
     scratch-is = s;
-    outbox-is = sym (ap (λ (r : Run). r .outbox) e);
-    moves-are = w .written ∙ ap (λ (ts : List Move). over (numbers-of ts) moves₀) done;
+    outbox-is = sym (ap (λ (r : BalancingRun). r .outbox) e);
+    moves-are = w .written ∙ ap (λ (ts : List Move). over-words (numbers-of ts) moves₀) done;
   }
     where
       done : w .carried ≡ whole .moves
-      done = sym (ap (λ (r : Run). r .moves) e ∙ append-nil (w .carried))
+      done = sym (ap (λ (r : BalancingRun). r .moves) e ∙ append-nil (w .carried))
 
   -- by a step that moves nothing
   pub last-step : n < length moves / 3 → {s : Ending} {m′ scratch′ outbox′ : List ℕ} → Levelled m o scratch outbox s m′ scratch′ outbox′ → (x : Ending) → s ≡ x
-      → (b : Balanced) → ((a c : List ℕ) (r : Run) → after-step (ending-of x) a c r ≡ stopped (stop-of b) a c) → count-of b ≡ n
+      → (b : Balanced) → ((a c : List ℕ) (r : BalancingRun) → after-step (ending-of x) a c r ≡ stopped (stop-of b) a c) → count-of b ≡ n
       → Balances m₀ o scratch₀ outbox₀ moves₀ b m′ scratch′ outbox′ moves
   last-step h {s} {m′} {scratch′} {outbox′} l x known b ends c =
       concludes b (stepped h l x known ∙ ap (behind (w .carried)) (ends m′ outbox′ (balanced (next-room h .0) m′ o scratch₀ outbox′))) c (scratch-now h l)
@@ -216,7 +216,7 @@ module _ {m₀ : List ℕ} {o : Oracle} {scratch₀ outbox₀ moves₀ : List �
   no-room : length moves / 3 ≤ n → w .room ≡ 0
   no-room h = let e = w .rooms in let s = w .moves-size in omega (arith, e, s, h)
 
-  pub last-asked : length moves / 3 ≤ n → (b : Balanced) {scratch′ : List ℕ} → Asked m o scratch n b scratch′ → Balances m₀ o scratch₀ outbox₀ moves₀ b m scratch′ outbox moves
+  pub last-asked : length moves / 3 ≤ n → (b : Balanced) {scratch′ : List ℕ} → TurnAsked m o scratch n b scratch′ → Balances m₀ o scratch₀ outbox₀ moves₀ b m scratch′ outbox moves
   unfolding balanced
   last-asked h b a =
       let e = a .stop-is ∙ ap (λ (c : List ℕ). stop-by (next-move all-rack m o c .answer)) (w .as-was) in
@@ -226,7 +226,7 @@ module _ {m₀ : List ℕ} {o : Oracle} {scratch₀ outbox₀ moves₀ : List �
 
 -- the next move asked for
 pub asked-as : (m : List ℕ) (o : Oracle) (scratch : List ℕ) (n : ℕ) {a x : answers-move.NextMove} {scratch′ : List ℕ} (b : Balanced) → a ≡ x
-    → Gives (next-move all-rack m o scratch) (move-of a) scratch′ → stop-of b ≡ stop-by (move-of x) → count-of b ≡ n → Asked m o scratch n b scratch′
+    → Gives (next-move all-rack m o scratch) (move-of a) scratch′ → stop-of b ≡ stop-by (move-of x) → count-of b ≡ n → TurnAsked m o scratch n b scratch′
 asked-as m o scratch n b known g e c = record {
   stop-is = e ∙ ap (λ (y : answers-move.NextMove). stop-by (move-of y)) (sym known) ∙ ap stop-by (g .answer);
   count-is = c;

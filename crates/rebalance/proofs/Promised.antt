@@ -13,7 +13,7 @@ use Rattle.rounds.specs.Played.{asks-for}
 use Rattle.rounds.specs.Requests as list
 use Rattle.rounds.specs.Requests.{request-at, requests-in}
 use Rattle.rebalance.specs.Balanced.{balanced, numbers-of, count-of}
-use Rattle.rebalance.specs.Promise.{ends-well, as-request, Levels, Promise}
+use Rattle.rebalance.specs.Promise.{ends-well, as-request, Levels, BalancingPromise}
 use Rattle.rebalance.proofs.EndsWell.{ends-well-at}
 
 -- MOVES THAT ARE WRITTEN are read again as requests
@@ -39,7 +39,7 @@ unfolding numbers-of
 read-again [] l = refl
 read-again (t ∷ ts) l = ap (take (suc (length ts))) (one-first (t .donor) (t .recipient) (t .serial) (numbers-of ts ++ l)) ∙ ap (λ (rs : List Request). as-request t ∷ rs) (read-again ts l)
 
-pub promise : Promise
+pub promise : BalancingPromise
 promise bs o m scratch outbox moves b m′ scratch′ outbox′ moves′ sound lent L few p =
     let r = balanced (length moves / 3) m o scratch outbox in
     let w : Levels bs o scratch outbox r =
@@ -54,5 +54,5 @@ promise bs o m scratch outbox moves b m′ scratch′ outbox′ moves′ sound l
       sound = w .sound;
       lowered = ap (λ (n : ℕ). n + positive-surplus o (w .after)) (p .count-is) ∙ w .lowered;
       same-map = w .same-map;
-      played-again = ap (λ (rs : List Request). list.run (map (image words) bs) outbox rs .memories) written ∙ w .memories-again;
+      played-again = ap (λ (rs : List Request). list.played-run (map (image words) bs) outbox rs .memories) written ∙ w .memories-again;
     }

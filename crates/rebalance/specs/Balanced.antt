@@ -10,7 +10,7 @@ use Rattle.model.specs.Balance.{Oracle, NextMove, Move}
 use Rattle.model.specs.Calls.{Answer, served, refused, next-move}
 use Rattle.answers.specs.Answers.{question}
 use Rattle.rounds.specs.Played.{left-over}
-use Rattle.rounds.specs.Requests.{over}
+use Rattle.rounds.specs.Requests.{over-words}
 use Rattle.rebalance.specs.Turn as step
 use Rattle.rebalance.specs.Turn.{End, turn}
 use Rattle.rebalance.specs.declared.moves.Balanced.{Balanced}
@@ -25,17 +25,17 @@ pub data Stop : Type 0 where
   refused-by : ℕ → Stop
 
 -- what balancing comes to: how it ends, the moves that were carried out, the mesh and the outbox afterwards
-pub record Run : Type 0 where
+pub record BalancingRun : Type 0 where
   pub stop : Stop
   pub moves : List Move
   pub mesh : List ℕ
   pub outbox : List ℕ
 
-abbrev pub stopped : Stop → List ℕ → List ℕ → Run
+abbrev pub stopped : Stop → List ℕ → List ℕ → BalancingRun
 stopped e m outbox = record { stop = e; moves = []; mesh = m; outbox = outbox }
 
 -- after a move
-abbrev pub moved-first : Move → Run → Run
+abbrev pub moved-first : Move → BalancingRun → BalancingRun
 moved-first t r = record { stop = r .stop; moves = t ∷ r .moves; mesh = r .mesh; outbox = r .outbox }
 
 -- a mesh with these memories for its blocks; what stands behind the last whole block stays
@@ -50,7 +50,7 @@ stop-by (served (balance.move t)) = full
 stop-by (refused n) = refused-by n
 
 -- a step that moved a volume is followed by the rest; any other is the last
-abbrev pub after-step : End → List ℕ → List ℕ → Run → Run
+abbrev pub after-step : End → List ℕ → List ℕ → BalancingRun → BalancingRun
 after-step (step.moved t) m outbox rest = moved-first t rest
 after-step step.level m outbox rest = stopped level m outbox
 after-step step.blocked m outbox rest = stopped blocked m outbox
@@ -58,7 +58,7 @@ after-step (step.unfinished t) m outbox rest = stopped unfinished m outbox
 after-step (step.refused-by n) m outbox rest = stopped (refused-by n) m outbox
 
 -- n moves at the most
-unfoldable pub balanced : ℕ → List ℕ → Oracle → List ℕ → List ℕ → Run
+unfoldable pub balanced : ℕ → List ℕ → Oracle → List ℕ → List ℕ → BalancingRun
 balanced zero m o scratch outbox = stopped (stop-by (next-move all-rack m o scratch .answer)) m outbox
 balanced (suc n) m o scratch outbox =
     let t = turn m o scratch outbox in
@@ -91,19 +91,19 @@ count-of (balanced-as.Unfinished n) = n
 count-of (balanced-as.Refused n q) = n
 
 -- the next move asked for and not carried out, after n moves
-pub record Asked (m : List ℕ) (o : Oracle) (scratch : List ℕ) (n : ℕ) (b : Balanced) (scratch′ : List ℕ) : Type 0 where
+pub record TurnAsked (m : List ℕ) (o : Oracle) (scratch : List ℕ) (n : ℕ) (b : Balanced) (scratch′ : List ℕ) : Type 0 where
   pub stop-is : stop-of b ≡ stop-by (next-move all-rack m o scratch .answer)
   pub count-is : count-of b ≡ n
   pub scratch-is : scratch′ ≡ scratch
 
 -- what balancing ensures: the answer, how many moves were carried out, and everything that was lent
-pub record Ensured (r : Run) (scratch moves : List ℕ) (b : Balanced) (m′ scratch′ outbox′ moves′ : List ℕ) : Type 0 where
+pub record Ensured (r : BalancingRun) (scratch moves : List ℕ) (b : Balanced) (m′ scratch′ outbox′ moves′ : List ℕ) : Type 0 where
   pub stop-is : stop-of b ≡ r .stop
   pub count-is : count-of b ≡ length (r .moves)
   pub mesh-is : m′ ≡ r .mesh
   pub scratch-is : scratch′ ≡ scratch
   pub outbox-is : outbox′ ≡ r .outbox
-  pub moves-are : moves′ ≡ over (numbers-of (r .moves)) moves
+  pub moves-are : moves′ ≡ over-words (numbers-of (r .moves)) moves
 
 -- as many moves as there is room for
 abbrev pub Balances : List ℕ → Oracle → List ℕ → List ℕ → List ℕ → Balanced → List ℕ → List ℕ → List ℕ → List ℕ → Type 0

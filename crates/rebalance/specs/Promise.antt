@@ -19,7 +19,7 @@ use Rattle.model.specs.Demands.{outbox-bytes}
 use Rattle.rounds.specs.Played.{asks-for}
 use Rattle.rounds.specs.Requests as list
 use Rattle.rounds.specs.Requests.{requests-in}
-use Rattle.rebalance.specs.Balanced.{Stop, level, blocked, full, unfinished, refused-by, Run, balanced, stop-by, stop-of, count-of, Balances}
+use Rattle.rebalance.specs.Balanced.{Stop, level, blocked, full, unfinished, refused-by, BalancingRun, balanced, stop-by, stop-of, count-of, Balances}
 use Rattle.rebalance.specs.declared.moves.Balanced.{Balanced}
 
 -- level or blocked; 28 where the oracle is not right
@@ -35,7 +35,7 @@ abbrev pub as-request : Move → Request
 as-request t = asks-for (t .donor) (t .recipient) (t .serial)
 
 -- a sound mesh after balancing
-pub record Levels (bs : List Block) (o : Oracle) (scratch outbox : List ℕ) (r : Run) : Type 0 where
+pub record Levels (bs : List Block) (o : Oracle) (scratch outbox : List ℕ) (r : BalancingRun) : Type 0 where
   pub ends : ends-well o (r .stop) ≡ true
   -- there is no move left
   pub last : r .stop ≡ stop-by (next-move all-rack (r .mesh) o scratch .answer)
@@ -46,8 +46,8 @@ pub record Levels (bs : List Block) (o : Oracle) (scratch outbox : List ℕ) (r 
   -- no link and no point is changed
   pub same-map : (x : ℕ) → whole-map after x ≡ whole-map bs x
   -- the moves are requests that all finish, and leave the same
-  pub outcomes-again : list.run (map (image words) bs) outbox (map as-request (r .moves)) .outcomes ≡ map (λ t. finished) (r .moves)
-  pub memories-again : list.run (map (image words) bs) outbox (map as-request (r .moves)) .memories ≡ map (image words) after
+  pub outcomes-again : list.played-run (map (image words) bs) outbox (map as-request (r .moves)) .outcomes ≡ map (λ t. finished) (r .moves)
+  pub memories-again : list.played-run (map (image words) bs) outbox (map as-request (r .moves)) .memories ≡ map (image words) after
 
 -- what is lent beside the mesh
 pub record Lent (scratch outbox : List ℕ) : Type 0 where
@@ -67,15 +67,15 @@ abbrev pub FewMoves : Type 0
 FewMoves = (bs : List Block) (o : Oracle) → Sound all-rack bs → positive-surplus o bs ≤ most-moves
 
 -- what `balance` leaves of a mesh, answers and writes as moves
-pub record Kept (bs : List Block) (o : Oracle) (outbox : List ℕ) (b : Balanced) (m′ moves′ : List ℕ) : Type 0 where
+pub record BalancingKept (bs : List Block) (o : Oracle) (outbox : List ℕ) (b : Balanced) (m′ moves′ : List ℕ) : Type 0 where
   pub ends : ends-well o (stop-of b) ≡ true
   pub after : List Block
   pub mesh-is : m′ ≡ concat (map (image words) after)
   pub sound : Sound all-rack after
   pub lowered : count-of b + positive-surplus o after ≡ positive-surplus o bs
   pub same-map : (x : ℕ) → whole-map after x ≡ whole-map bs x
-  pub played-again : list.run (map (image words) bs) outbox (take (count-of b) (requests-in moves′)) .memories ≡ map (image words) after
+  pub played-again : list.played-run (map (image words) bs) outbox (take (count-of b) (requests-in moves′)) .memories ≡ map (image words) after
 
-abbrev pub Promise : Type 0
-Promise = (bs : List Block) (o : Oracle) (m scratch outbox moves : List ℕ) (b : Balanced) (m′ scratch′ outbox′ moves′ : List ℕ) → Sound all-rack bs → m ≡ concat (map (image words) bs)
-    → Lent scratch outbox → positive-surplus o bs ≤ length moves / 3 → Balances m o scratch outbox moves b m′ scratch′ outbox′ moves′ → Kept bs o outbox b m′ moves′
+abbrev pub BalancingPromise : Type 0
+BalancingPromise = (bs : List Block) (o : Oracle) (m scratch outbox moves : List ℕ) (b : Balanced) (m′ scratch′ outbox′ moves′ : List ℕ) → Sound all-rack bs → m ≡ concat (map (image words) bs)
+    → Lent scratch outbox → positive-surplus o bs ≤ length moves / 3 → Balances m o scratch outbox moves b m′ scratch′ outbox′ moves′ → BalancingKept bs o outbox b m′ moves′

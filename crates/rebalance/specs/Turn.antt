@@ -70,7 +70,7 @@ unfoldable pub turn : List ℕ → Oracle → List ℕ → List ℕ → Turn
 turn m o scratch outbox = turn-by m outbox (next-move all-rack m o scratch .answer)
 
 -- a turn of a mesh: how it ended, the mesh and the outbox afterwards; what stands behind the last whole block stays
-pub record Ended (t : Turn) (m : List ℕ) (s : Ending) (m′ outbox′ : List ℕ) : Type 0 where
+pub record TurnEnded (t : Turn) (m : List ℕ) (s : Ending) (m′ outbox′ : List ℕ) : Type 0 where
   pub ending-is : ending-of s ≡ t .ending
   pub memories-are : memories m′ ≡ t .memories
   pub size : length m′ ≡ length m
@@ -79,5 +79,5 @@ pub record Ended (t : Turn) (m : List ℕ) (s : Ending) (m′ outbox′ : List �
 
 -- a step; the scratch is as next move leaves it
 pub record Levelled (m : List ℕ) (o : Oracle) (scratch outbox : List ℕ) (s : Ending) (m′ scratch′ outbox′ : List ℕ) : Type 0 where
-  pub ended : Ended (turn m o scratch outbox) m s m′ outbox′
+  pub ended : TurnEnded (turn m o scratch outbox) m s m′ outbox′
   pub scratch-is : scratch′ ≡ next-move all-rack m o scratch .lent

@@ -2,7 +2,7 @@
 pub mod moves; // moves.rt: moves one after the other
 
 ghost use Rattle.oracle.specs.Oracle.{oracle-of};
-ghost use Rattle.rebalance.specs.Turn.{round-turn, Levelled, Ended, a-move};
+ghost use Rattle.rebalance.specs.Turn.{round-turn, Levelled, TurnEnded, a-move};
 pub use crate::moves::Balanced;
 pub use crate::moves::balance;
 use answers::NextMove;
@@ -22,7 +22,7 @@ pub enum Ending {
 
 // The round of a move.
 fn carry_out(mesh: &mut [u64], donor: u32, recipient: u32, serial: u64, outbox: &mut [u8]) -> Ending
-    ensures { λ r. ⌜ Ended (round-turn (now (mesh .entry)) (now (outbox .entry)) (a-move donor recipient serial)) (now (mesh .entry)) r (now (mesh .exit)) (now (outbox .exit)) ⌝ }
+    ensures { λ r. ⌜ TurnEnded (round-turn (now (mesh .entry)) (now (outbox .entry)) (a-move donor recipient serial)) (now (mesh .entry)) r (now (mesh .exit)) (now (outbox .exit)) ⌝ }
 {
     match rounds::play(mesh, donor as u64, recipient as u64, serial, outbox) {
         Outcome::Finished => Ending::Moved(donor, recipient, serial),

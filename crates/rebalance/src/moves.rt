@@ -4,7 +4,7 @@ ghost use Prim.Native.Nat.{_<_, _/_};
 ghost use lib.ListN.{length};
 ghost use Rattle.oracle.specs.Oracle.{oracle-of};
 ghost use Rattle.rebalance.specs.Turn.{a-move};
-ghost use Rattle.rebalance.specs.Balanced.{with-move, Asked, Balances};
+ghost use Rattle.rebalance.specs.Balanced.{with-move, TurnAsked, Balances};
 use crate::Ending;
 use answers::NextMove;
 use answers::Refusal;
@@ -39,7 +39,7 @@ fn put_move(moves: &mut [u64], n: usize, donor: u32, recipient: u32, serial: u64
 
 // The next move after n moves, asked for and not carried out.
 fn ask(mesh: &[u64], o: Oracle, scratch: &mut [u64], n: usize) -> Balanced
-    ensures { λ r. ⌜ Asked (now (mesh .entry)) (oracle-of o) (now (scratch .entry)) n r (now (scratch .exit)) ⌝ }
+    ensures { λ r. ⌜ TurnAsked (now (mesh .entry)) (oracle-of o) (now (scratch .entry)) n r (now (scratch .exit)) ⌝ }
 {
     match balance::nextmove::next_move(mesh, o, scratch) {
         NextMove::Level => Balanced::Level(n),

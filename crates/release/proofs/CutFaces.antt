@@ -27,7 +27,7 @@ use Rattle.cells.proofs.StartLaws.{cycle-start}
 use Rattle.cells.proofs.FaceLaws.{marked-in, in-marked}
 use Rattle.cells.proofs.FaceSerials.{closed-next, closed-opposite}
 use Rattle.cells.proofs.Sited.{Sited}
-use Rattle.release.specs.LetGo.{sewn-at}
+use Rattle.release.specs.LetGo.{let-go}
 
 module _ {m : List ℕ} (site : Sited m) (pass : Passed m) (p : ℕ) (h : p < count-in m) {marks : List ℕ} (mk : Marked (volume-of m p) marks) where
   abbrev n : ℕ
@@ -99,7 +99,7 @@ module _ {m : List ℕ} (site : Sited m) (pass : Passed m) (p : ℕ) (h : p < co
       pub inside : getD marks q 0 ≡ 1
       pub kind : column m 3 q ≡ 1
 
-    pub cut-is : (q : ℕ) → In q (concat (sewn-at m marks)) → Cut q
+    pub cut-is : (q : ℕ) → In q (concat (let-go m marks)) → Cut q
     cut-is q k =
         let r =
         kept-in (column m 1) v stays inj small order test (λ x. column m 3 x ≡ 1) goes
@@ -109,16 +109,16 @@ module _ {m : List ℕ} (site : Sited m) (pass : Passed m) (p : ℕ) (h : p < co
         let b = marked-in n marks q (r .0) in
         record { below = b .0; inside = b .1; kind = r .1 }
 
-    pub in-cut : (q : ℕ) → Cut q → In q (concat (sewn-at m marks))
+    pub in-cut : (q : ℕ) → Cut q → In q (concat (let-go m marks))
     in-cut q k =
         in-kept (column m 1) v stays inj small order test (λ x. column m 3 x ≡ 1) goes
         (λ x i e. eqb-true (column m 3 x) 1 (sym (test-cycle x i) ∙ e)) (λ x i e. test-cycle x i ∙ eq-eqb (column m 3 x) 1 e)
         q (in-marked n marks q (k .below) (k .inside)) (k .kind)
 
-    cut-distinct : distinct (concat (sewn-at m marks)) ≡ true
+    cut-distinct : distinct (concat (let-go m marks)) ≡ true
     cut-distinct = kept-distinct (column m 1) v stays inj small order test
 
     -- and so are the darts that they are sewn to
-    pub left-distinct : distinct (map (column m 4) (concat (sewn-at m marks))) ≡ true
-    left-distinct = distinct-map (column m 4) (concat (sewn-at m marks)) cut-distinct (λ x y a b e. let i = cut-is x a in let k = cut-is y b in
+    pub left-distinct : distinct (map (column m 4) (concat (let-go m marks))) ≡ true
+    left-distinct = distinct-map (column m 4) (concat (let-go m marks)) cut-distinct (λ x y a b e. let i = cut-is x a in let k = cut-is y b in
         sym (sewn x (i .below) (i .kind) .back) ∙ ap (column m 4) e ∙ sewn y (k .below) (k .kind) .back)

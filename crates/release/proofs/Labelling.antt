@@ -25,7 +25,7 @@ use Rattle.cells.proofs.Paths.{Round, round, Going, going-start, going-next, go
 use Rattle.cells.proofs.FaceLaws.{marked-in}
 use Rattle.cells.proofs.StartLaws.{cycle-start, in-order-few, start-place}
 use Rattle.departure.specs.Asked.{faces-at}
-use Rattle.release.specs.LetGo.{with-link, with-links, sewn-at, left-behind}
+use Rattle.release.specs.LetGo.{with-link, with-links, let-go, left-behind}
 use Rattle.release.proofs.PutLinks.{links-append}
 use Rattle.release.specs.Asks.{Sewing, Same}
 
@@ -202,7 +202,7 @@ later m marks f = keep (λ g. sewn-out m marks (start-of g)) (drop f (faces-at m
 
 pub record Facing (m marks : List ℕ) (j : ℕ) (x : List ℕ) (number f : ℕ) : Type 0 where
   pub same : Same m marks x
-  pub number-is : number + length (later m marks f) ≡ getD m 1 0 + length (sewn-at m marks)
+  pub number-is : number + length (later m marks f) ≡ getD m 1 0 + length (let-go m marks)
   pub rest : with-links x (label-faces (column m 4) j (getD m 0 0) number (later m marks f)) ≡ with-links m (left-behind m marks j)
 
 pub facing-start : (m marks : List ℕ) (j : ℕ) → Facing m marks j m (getD m 1 0) 0
@@ -229,7 +229,7 @@ module _ {m marks : List ℕ} {j : ℕ} {x : List ℕ} {number f : ℕ} (a : Fac
     one-later : later m marks f ≡ getD (faces-at m marks) f [] ∷ later m marks (f + 1)
     one-later = later-is ∙ rw e
 
-    pub number-small : number < getD m 1 0 + length (sewn-at m marks)
+    pub number-small : number < getD m 1 0 + length (let-go m marks)
     number-small = omega (arith, a .number-is, ap length one-later)
 
     pub facing-one : {y : List ℕ} → Same m marks y → y ≡ with-links x (label-links (column m 4) j (getD m 0 0) number 0 (getD (faces-at m marks) f [])) → Facing m marks j y (number + 1) (f + 1)
@@ -303,7 +303,7 @@ module _ {m marks order starts : List ℕ} {darts count j : ℕ} {x : List ℕ} 
     sewn-here : sewn-out m marks (start-of (getD (faces-at m marks) f [])) ≡ true
     sewn-here = ap (sewn-out m marks) (here .start-is) ∙ test-yes w at (here .below) (here .inside) (sym (kind-here e) ∙ one)
 
-    pub number-fits : number < getD m 1 0 + length (sewn-at m marks)
+    pub number-fits : number < getD m 1 0 + length (let-go m marks)
     number-fits = number-small a less sewn-here
 
     pub face-one : {y : List ℕ} → Same x marks y → y ≡ with-links x (label-links (column x 4) j (getD x 0 0) number 0 (cycle (column x 1) at)) → Facing m marks j y (number + 1) (f + 1)

@@ -19,7 +19,7 @@ use Rattle.cells.proofs.FaceSerials.{closed-next}
 use Rattle.cells.proofs.Sited.{Sited, sited}
 use Rattle.departure.specs.Asked.{Departs}
 use Rattle.departure.specs.declared.Counts.{Counts}
-use Rattle.release.specs.LetGo.{with-links, sewn-at, left-behind, without, released-at}
+use Rattle.release.specs.LetGo.{with-links, let-go, left-behind, without, released-at}
 use Rattle.release.proofs.PutLinks.{length-links, header-stays, column-stays}
 use Rattle.release.proofs.CutFaces.{sewn, away}
 use Rattle.release.proofs.ReleasedImage.{none-within, sewn-after, rest-after, released-image}
@@ -54,7 +54,7 @@ module _ (m : List ℕ) (ok : holds-block m ≡ true) (j d : ℕ) {most : ℕ} {
         (sewn site pass p (w .survey .place-below) (w .survey .volume-marked) q h e .sewn-lt, away site pass p (w .survey .place-below) (w .survey .volume-marked) (none-within m ok j d w) q h i e);
   }
 
-  pub labels-fit : getD m 1 0 + length (sewn-at m marks) < 2 ^ 32
+  pub labels-fit : getD m 1 0 + length (let-go m marks) < 2 ^ 32
   labels-fit = omega (arith, w .counter-fits, w .survey .sewn-is)
 
   -- TAKING OUT

@@ -35,7 +35,7 @@ use Rattle.cells.proofs.StartLaws.{sewn-faces-serials}
 use Rattle.cells.proofs.Sited.{Sited, darts-in, sited}
 use Rattle.departure.specs.Asked.{Departs}
 use Rattle.departure.specs.declared.Counts.{Counts}
-use Rattle.release.specs.LetGo.{with-links, sewn-at, left-behind, unmarked, rank, moved-words, records, without, released-at}
+use Rattle.release.specs.LetGo.{with-links, let-go, left-behind, unmarked, rank, moved-words, records, without, released-at}
 use Rattle.release.proofs.PutLinks.{length-links, others-stay, header-stays, column-stays, unnamed-stays, named}
 use Rattle.release.proofs.NewLinks.{renamed, Critical, darts-are, faces-critical, faces-renamed, find-renamed, find-unnamed}
 use Rattle.release.proofs.Ranks.{unmarked-in, index-rank}
@@ -73,25 +73,25 @@ module _ {m : List ℕ} (site : Sited m) (pass : Passed m) (p : ℕ) (h : p < co
   links = label-faces (λ y. partner (third-at ds y)) j (getD m 0 0) (getD m 1 0) (sewn-faces ds (s p))
 
   -- THE NEW LINKS by serial and by place
-  partner-is : (q : ℕ) → In q (concat (sewn-at m marks)) → partner (third-at ds (s q)) ≡ s (column m 4 q)
+  partner-is : (q : ℕ) → In q (concat (let-go m marks)) → partner (third-at ds (s q)) ≡ s (column m 4 q)
   partner-is q k = let c = cut-is site pass p h mk apart q k in ap partner (site .third-is q (c .below) ∙ third-sewn s (column m 3 q) (column m 4 q) (c .kind))
 
   links-are : links ≡ map (renamed s) new
   unfolding left-behind
   links-are = ap (label-faces (λ y. partner (third-at ds y)) j (getD m 0 0) (getD m 1 0)) (sym (sewn-faces-serials site p h mk))
-      ∙ faces-renamed s (column m 4) (λ y. partner (third-at ds y)) j (getD m 0 0) (getD m 1 0) (sewn-at m marks) partner-is
+      ∙ faces-renamed s (column m 4) (λ y. partner (third-at ds y)) j (getD m 0 0) (getD m 1 0) (let-go m marks) partner-is
 
-  named-are : map (λ k. k .dart) new ≡ map (column m 4) (concat (sewn-at m marks))
+  named-are : map (λ k. k .dart) new ≡ map (column m 4) (concat (let-go m marks))
   unfolding left-behind
-  named-are = darts-are (column m 4) j (getD m 0 0) (getD m 1 0) (sewn-at m marks)
+  named-are = darts-are (column m 4) j (getD m 0 0) (getD m 1 0) (let-go m marks)
 
   new-critical : Each (Critical (column m 4) j (getD m 0 0)) new
   unfolding left-behind
-  new-critical = faces-critical (column m 4) j (getD m 0 0) (getD m 1 0) (sewn-at m marks)
+  new-critical = faces-critical (column m 4) j (getD m 0 0) (getD m 1 0) (let-go m marks)
 
   named-below : (q : ℕ) → In q (map (λ k. k .dart) new) → q < n
   named-below q k =
-      let r = map-in (column m 4) (concat (sewn-at m marks)) q (rw named-are at k) in
+      let r = map-in (column m 4) (concat (let-go m marks)) q (rw named-are at k) in
       let c = cut-is site pass p h mk apart (r .0) (r .1) in
       omega (arith, r .2, sewn site pass p h mk (r .0) (c .below) (c .kind) .sewn-lt)
 
@@ -115,8 +115,8 @@ module _ {m : List ℕ} (site : Sited m) (pass : Passed m) (p : ℕ) (h : p < co
   sewn-named : (q : ℕ) → q < n → column m 3 q ≡ 1 → getD marks (column m 4 q) 0 ≡ 1 → In q (map (λ k. k .dart) new)
   sewn-named q k e o =
       let w = sewn site pass p h mk q k e in
-      rw named-are (in-eq q (column m 4 (column m 4 q)) (map (column m 4) (concat (sewn-at m marks))) (sym (w .back))
-      (in-map (column m 4) (column m 4 q) (concat (sewn-at m marks)) (in-cut site pass p h mk apart (column m 4 q) (record { below = w .sewn-lt; inside = o; kind = w .kind }))))
+      rw named-are (in-eq q (column m 4 (column m 4 q)) (map (column m 4) (concat (let-go m marks))) (sym (w .back))
+      (in-map (column m 4) (column m 4 q) (concat (let-go m marks)) (in-cut site pass p h mk apart (column m 4 q) (record { below = w .sewn-lt; inside = o; kind = w .kind }))))
 
   -- THE MEMORY WITH THEM: links lead to darts that it holds, and nothing stands behind the last
   pub sewn-after : (q : ℕ) → q < n → column x 3 q ≡ 1 → column x 4 q < n
@@ -237,8 +237,8 @@ module _ {m : List ℕ} (site : Sited m) (pass : Passed m) (p : ℕ) (h : p < co
       ∙ map-cong (λ q. dart-words (serials after) (relink links (dart-in m q))) (moved-words (rank marks) x) (unmarked n marks) words-are)
 
   -- THE WHOLE MEMORY
-  counter-is : length (sewn-faces ds (s p)) ≡ length (sewn-at m marks)
-  counter-is = ap length (sym (sewn-faces-serials site p h mk)) ∙ length-map (sewn-at m marks) (map s)
+  counter-is : length (sewn-faces ds (s p)) ≡ length (let-go m marks)
+  counter-is = ap length (sym (sewn-faces-serials site p h mk)) ∙ length-map (let-go m marks) (map s)
 
   pub image-left : image (length m) (released (block-in m) j (s p)) ≡ released-at m marks j
   unfolding image released released-at without

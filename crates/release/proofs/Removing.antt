@@ -19,7 +19,7 @@ use Rattle.place.specs.Renumber.{moved-link, renumbered, LinksBelow}
 use Rattle.place.proofs.Renumbering.{link-sewn, link-other}
 use Rattle.release.specs.LetGo.{unmarked, rank, moved-words, records, without}
 use Rattle.release.proofs.Ranks.{unmarked-one, unmarked-none, rank-one, rank-none, rank-le}
-use Rattle.release.specs.Asks.{Tabled, Bounded, Moved}
+use Rattle.release.specs.Asks.{Tabled, Bounded, DartsMoved}
 
 -- WHERE EACH PLACE GOES: of the places below p, `kept` are not marked
 pub record Ranking (marks : List ℕ) (n : ℕ) (table : List ℕ) (kept p : ℕ) : Type 0 where
@@ -123,7 +123,7 @@ records-start : (g : ℕ → List ℕ) (marks : List ℕ) → records g marks 0 
 unfolding records unmarked concat
 records-start g marks = refl
 
-pub moved-start : (g : ℕ → List ℕ) (m marks : List ℕ) → Moved g m marks 0 m 0
+pub moved-start : (g : ℕ → List ℕ) (m marks : List ℕ) → DartsMoved g m marks 0 m 0
 moved-start g m marks = record { count = sym (rank-start marks); len = refl; front = sym (ap (λ (l : List ℕ). take 8 m ++ l) (records-start g marks) ∙ append-nil (take 8 m)); after = refl }
 
 one-later : (x m : List ℕ) (i : ℕ) → drop (8 + i * 8) x ≡ drop (8 + i * 8) m → drop (8 + (i + 1) * 8) x ≡ drop (8 + (i + 1) * 8) m
@@ -131,11 +131,11 @@ one-later x m i e =
     let z : 8 + i * 8 + 8 ≡ 8 + (i + 1) * 8 = omega arith in
     rw (← z, ← drop-drop 8 (8 + i * 8) x, ← drop-drop 8 (8 + i * 8) m, e)
 
-module _ {g : ℕ → List ℕ} {m marks : List ℕ} {i : ℕ} {x : List ℕ} {w : ℕ} (v : Moved g m marks i x w) (fits : 8 + (i + 1) * 8 ≤ length m) where
+module _ {g : ℕ → List ℕ} {m marks : List ℕ} {i : ℕ} {x : List ℕ} {w : ℕ} (v : DartsMoved g m marks i x w) (fits : 8 + (i + 1) * 8 ≤ length m) where
   pub count-le : w ≤ i
   count-le = omega (arith, v .count, rank-le i marks)
 
-  pub moved-none : getD marks i 0 ≡ 1 → {y : List ℕ} {u : ℕ} → y ≡ x → u ≡ w → Moved g m marks (i + 1) y u
+  pub moved-none : getD marks i 0 ≡ 1 → {y : List ℕ} {u : ℕ} → y ≡ x → u ≡ w → DartsMoved g m marks (i + 1) y u
   moved-none h e f =
       rw (e, f)
       (record {
@@ -145,7 +145,7 @@ module _ {g : ℕ → List ℕ} {m marks : List ℕ} {i : ℕ} {x : List ℕ} {w
         after = one-later x m i (v .after);
       })
 
-  pub moved-one : (getD marks i 0 ≡ 1 → ⊥) → {y r : List ℕ} {u : ℕ} → length r ≡ 8 → r ≡ g i → y ≡ put x w r → u ≡ w + 1 → Moved g m marks (i + 1) y u
+  pub moved-one : (getD marks i 0 ≡ 1 → ⊥) → {y r : List ℕ} {u : ℕ} → length r ≡ 8 → r ≡ g i → y ≡ put x w r → u ≡ w + 1 → DartsMoved g m marks (i + 1) y u
   moved-one h {y} {r} {u} eight same e f = rw (e, f) (record {
     count = omega (arith, v .count, rank-one i marks h);
     len = length-put x r w enough eight ∙ v .len;
@@ -157,11 +157,11 @@ module _ {g : ℕ → List ℕ} {m marks : List ℕ} {i : ℕ} {x : List ℕ} {w
       enough : 16 + w * 8 ≤ length x
       enough = omega (arith, count-le, v .len)
 
-pub moved-end : {g : ℕ → List ℕ} {m marks : List ℕ} {i : ℕ} {x : List ℕ} {w n : ℕ} → Moved g m marks i x w → i ≤ n → n ≤ i → Moved g m marks n x w
+pub moved-end : {g : ℕ → List ℕ} {m marks : List ℕ} {i : ℕ} {x : List ℕ} {w n : ℕ} → DartsMoved g m marks i x w → i ≤ n → n ≤ i → DartsMoved g m marks n x w
 moved-end {i = i} {n = n} v h k = let e : n ≡ i = omega arith in rw e v
 
 -- the record that the code moves, by the table
-module _ {m marks x : List ℕ} {n i w : ℕ} (b : Bounded m n) (table : List ℕ) (tabled : Tabled (rank marks) n table) (v : Moved (moved-words (rank marks) m) m marks i x w) (h : i < n) where
+module _ {m marks x : List ℕ} {n i w : ℕ} (b : Bounded m n) (table : List ℕ) (tabled : Tabled (rank marks) n table) (v : DartsMoved (moved-words (rank marks) m) m marks i x w) (h : i < n) where
   pub links-fit : n ≤ length table → LinksBelow (length table) (record-in x i)
   links-fit long = record {
     next-lt = omega (arith, same-column x m i 1 (v .after), b .next-lt i h, long);
@@ -183,7 +183,7 @@ part-cleared b a e h k q =
 
 -- THE WHOLE MEMORY AFTERWARDS
 pub all-removed : (m marks : List ℕ) {x y z : List ℕ} {w counter : ℕ} → words-for (getD m 2 0) ≤ length m → drop (8 + getD m 2 0 * 8) m ≡ replicate (length m - words-for (getD m 2 0)) 0
-    → Moved (moved-words (rank marks) m) m marks (getD m 2 0) x w → y ≡ take (8 + w * 8) x ++ (replicate ((8 + getD m 2 0 * 8) - (8 + w * 8)) 0 ++ drop (8 + getD m 2 0 * 8) x)
+    → DartsMoved (moved-words (rank marks) m) m marks (getD m 2 0) x w → y ≡ take (8 + w * 8) x ++ (replicate ((8 + getD m 2 0 * 8) - (8 + w * 8)) 0 ++ drop (8 + getD m 2 0 * 8) x)
     → z ≡ (getD m 0 0 ∷ counter ∷ w ∷ 0 ∷ 0 ∷ 0 ∷ 0 ∷ 0 ∷ []) ++ drop 8 y → z ≡ without m marks counter
 unfolding without
 all-removed m marks {x} {y} {z} {w} {counter} size zeros v e f =

@@ -52,7 +52,7 @@ pub record Bounded (m : List ℕ) (n : ℕ) : Type 0 where
   pub sewn-lt : (p : ℕ) → p < n → column m 3 p ≡ 1 → column m 4 p < n
 
 -- x is m with g of the unmarked of its first i places behind the header, w of them, and as it was behind those i
-pub record Moved (g : ℕ → List ℕ) (m marks : List ℕ) (i : ℕ) (x : List ℕ) (w : ℕ) : Type 0 where
+pub record DartsMoved (g : ℕ → List ℕ) (m marks : List ℕ) (i : ℕ) (x : List ℕ) (w : ℕ) : Type 0 where
   pub count : w ≡ rank marks i
   pub len : length x ≡ length m
   pub front : take (8 + w * 8) x ≡ take 8 m ++ records g marks i

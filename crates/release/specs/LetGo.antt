@@ -25,12 +25,12 @@ with-links m [] = m
 with-links m (k ∷ ks) = with-links (with-link m k) ks
 
 -- the faces of the marked volume that are sewn to another volume
-abbrev pub sewn-at : List ℕ → List ℕ → List (List ℕ)
-sewn-at m marks = keep (λ f. sewn-out m marks (start-of f)) (faces-at m marks)
+abbrev pub let-go : List ℕ → List ℕ → List (List ℕ)
+let-go m marks = keep (λ f. sewn-out m marks (start-of f)) (faces-at m marks)
 
 -- "the dart sewn to each takes the same label": the links of the darts left behind, when the volume goes to block j
 unfoldable pub left-behind : List ℕ → List ℕ → ℕ → List Link
-left-behind m marks j = label-faces (column m 4) j (getD m 0 0) (getD m 1 0) (sewn-at m marks)
+left-behind m marks j = label-faces (column m 4) j (getD m 0 0) (getD m 1 0) (let-go m marks)
 
 -- THE RECORDS THAT STAY
 -- the places below n that are not marked, ascending
@@ -56,4 +56,4 @@ without m marks counter = (getD m 0 0 ∷ counter ∷ rank marks (getD m 2 0) �
 
 -- THE MEMORY AFTERWARDS, when the marked volume goes to block j
 unfoldable pub released-at : List ℕ → List ℕ → ℕ → List ℕ
-released-at m marks j = without (with-links m (left-behind m marks j)) marks (getD m 1 0 + length (sewn-at m marks))
+released-at m marks j = without (with-links m (left-behind m marks j)) marks (getD m 1 0 + length (let-go m marks))

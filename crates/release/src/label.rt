@@ -8,7 +8,7 @@ ghost use Rattle.model.specs.Image.{words-for, column};
 ghost use Rattle.model.specs.Links.{label-links};
 ghost use Rattle.cells.specs.Places.{InOrder};
 ghost use Rattle.departure.specs.Asked.{faces-at};
-ghost use Rattle.release.specs.LetGo.{with-link, with-links, sewn-at, left-behind};
+ghost use Rattle.release.specs.LetGo.{with-link, with-links, let-go, left-behind};
 ghost use Rattle.release.specs.Asks.{Sewing, Same};
 use memory::header::Header;
 use memory::kind;
@@ -59,7 +59,7 @@ pub fn label_faces(
     count: usize,
     to: u64,
 )
-    requires { ⌜ Sewing (now block) (now marks) (getD (now block) 2 0) × InOrder (faces-at (now block) (now marks)) (now order) (now starts) darts count × (to ≤ last-block) × (getD (now block) 1 0 + length (sewn-at (now block) (now marks)) < 2 ^ 32) ⌝ }
+    requires { ⌜ Sewing (now block) (now marks) (getD (now block) 2 0) × InOrder (faces-at (now block) (now marks)) (now order) (now starts) darts count × (to ≤ last-block) × (getD (now block) 1 0 + length (let-go (now block) (now marks)) < 2 ^ 32) ⌝ }
     ensures { λ _. ⌜ now (block .exit) ≡ with-links (now (block .entry)) (left-behind (now (block .entry)) (now (marks .entry)) to) ⌝ }
 {
     let n = block[Header::COUNT] as usize;

@@ -8,7 +8,7 @@ ghost use Rattle.model.specs.Values.{room};
 ghost use Rattle.memory.specs.Record.{put, record-in};
 ghost use Rattle.place.specs.Renumber.{LinksBelow};
 ghost use Rattle.release.specs.LetGo.{rank, moved-words, without};
-ghost use Rattle.release.specs.Asks.{Tabled, Bounded, Moved};
+ghost use Rattle.release.specs.Asks.{Tabled, Bounded, DartsMoved};
 use memory::header;
 use memory::header::Header;
 use memory::record;
@@ -44,7 +44,7 @@ fn move_record(block: &mut [u64], from: Place, at: Place, table: &[usize])
 // Moves the records that are not marked to the front. Returns how many there are.
 fn compact(block: &mut [u64], n: usize, marks: &[u8], table: &[usize]) -> usize
     requires { ⌜ Bounded (now block) n × (n ≤ length (now marks)) × (n ≤ length (now table)) × Tabled (rank (now marks)) n (now table) ⌝ }
-    ensures { λ r. ⌜ Moved (moved-words (rank (now (marks .entry))) (now (block .entry))) (now (block .entry)) (now (marks .entry)) n (now (block .exit)) r ⌝ }
+    ensures { λ r. ⌜ DartsMoved (moved-words (rank (now (marks .entry))) (now (block .entry))) (now (block .entry)) (now (marks .entry)) n (now (block .exit)) r ⌝ }
 {
     // The records of the unmarked places below i stand in front, w of them.
     let mut w = 0;

@@ -21,7 +21,7 @@ use Rattle.laws.proofs.Tests.{by-cases, yes-first, first-no-append, first-no-le
 use Rattle.theory.proofs.CallLaws.{with-fifteen, writing-serves, writing-refuses}
 use Rattle.rounds.specs.Played.{asks-for, outcome-of, round-in-order, Played}
 use Rattle.rounds.specs.declared.Outcome.{Outcome}
-use Rattle.rounds.specs.Requests.{request-at, requests-in, outcome-number, outbox-after, Run, run, over, PlayedOne, Listed, PlayedAll}
+use Rattle.rounds.specs.Requests.{request-at, requests-in, outcome-number, outbox-after, PlayedRun, played-run, over-words, PlayedOne, RequestsListed, PlayedAll}
 
 -- THE OUTBOX keeps its length
 fifteen-yes : (qs : List Check) (b : Bool) → all (λ q. ltb 0 (q .0)) qs ≡ true → first-no (qs ++ (15, b) ∷ []) ≡ 0 → b ≡ true
@@ -41,25 +41,25 @@ unfolding send memory-checks departure-checks
 outbox-length ms r outbox = writing-length _ outbox _ refl
 
 -- a run, and one request more
-abbrev then-one : Run → Request → Run
+abbrev then-one : PlayedRun → Request → PlayedRun
 then-one d r =
     let last = round-in-order (d .memories) r (d .outbox) in
     record { outcomes = d .outcomes ++ last .outcome ∷ []; memories = last .memories; outbox = outbox-after (d .memories) r (d .outbox) }
 
-pub run-more : (ms : List (List ℕ)) (outbox : List ℕ) (rs : List Request) (r : Request) → run ms outbox (rs ++ r ∷ []) ≡ then-one (run ms outbox rs) r
-unfolding run
+pub run-more : (ms : List (List ℕ)) (outbox : List ℕ) (rs : List Request) (r : Request) → played-run ms outbox (rs ++ r ∷ []) ≡ then-one (played-run ms outbox rs) r
+unfolding played-run
 run-more ms outbox [] r = refl
 run-more ms outbox (x ∷ rs) r =
-    ap (λ (d : Run). record { outcomes = round-in-order ms x outbox .outcome ∷ d .outcomes; memories = d .memories; outbox = d .outbox })
+    ap (λ (d : PlayedRun). record { outcomes = round-in-order ms x outbox .outcome ∷ d .outcomes; memories = d .memories; outbox = d .outbox })
     (run-more (round-in-order ms x outbox .memories) (outbox-after ms x outbox) rs r)
 
-pub run-length : (ms : List (List ℕ)) (outbox : List ℕ) (rs : List Request) → length (run ms outbox rs .outcomes) ≡ length rs
-unfolding run
+pub run-length : (ms : List (List ℕ)) (outbox : List ℕ) (rs : List Request) → length (played-run ms outbox rs .outcomes) ≡ length rs
+unfolding played-run
 run-length ms outbox [] = refl
 run-length ms outbox (x ∷ rs) = ap suc (run-length (round-in-order ms x outbox .memories) (outbox-after ms x outbox) rs)
 
 -- one value more
-pub over-more : (xs l : List ℕ) (i v : ℕ) → length xs ≡ i → i < length l → set (over xs l) i v ≡ over (xs ++ v ∷ []) l
+pub over-more : (xs l : List ℕ) (i v : ℕ) → length xs ≡ i → i < length l → set (over-words xs l) i v ≡ over-words (xs ++ v ∷ []) l
 over-more xs l i v e h =
     ap (λ (t : List ℕ). set (xs ++ t) i v) (drop-cons l (length xs) 0 (omega (arith, e, h)))
     ∙ set-at xs (getD l (length xs) 0) (drop (suc (length xs)) l) v i e
@@ -96,10 +96,10 @@ pub record Playing (m requests outcomes outbox : List ℕ) (i : ℕ) (m′ outco
   pub within : i ≤ length outcomes
   pub room : length outcomes′ ≡ length outcomes
   pub outbox-room : length outbox′ ≡ length outbox
-  pub listed : Listed m (take i (requests-in requests)) outcomes outbox m′ outcomes′ outbox′
+  pub listed : RequestsListed m (take i (requests-in requests)) outcomes outbox m′ outcomes′ outbox′
 
 pub none-played : (m requests outcomes outbox : List ℕ) → Playing m requests outcomes outbox 0 m outcomes outbox
-unfolding run
+unfolding played-run
 none-played m requests outcomes outbox = record {
   asked = omega arith;
   within = omega arith;
@@ -109,15 +109,15 @@ none-played m requests outcomes outbox = record {
 }
 
 module _ {m requests outcomes outbox : List ℕ} {i : ℕ} {m′ outcomes′ outbox′ : List ℕ} (w : Playing m requests outcomes outbox i m′ outcomes′ outbox′) where
-  abbrev before : Run
-  before = run (memories m) outbox (take i (requests-in requests))
+  abbrev before : PlayedRun
+  before = played-run (memories m) outbox (take i (requests-in requests))
 
   pub one-more : i < length requests / 3 → i < length outcomes′ → (n : ℕ) {m″ outbox″ : List ℕ} → PlayedOne m′ (request-at requests i) outbox′ n m″ outbox″
       → Playing m requests outcomes outbox (i + 1) m″ (set outcomes′ i n) outbox″
   one-more h k n p =
       let r = request-at requests i in
-      let e : run (memories m) outbox (take (i + 1) (requests-in requests)) ≡ then-one before r =
-      ap (run (memories m) outbox) (next-request requests i h) ∙ run-more (memories m) outbox (take i (requests-in requests)) r in
+      let e : played-run (memories m) outbox (take (i + 1) (requests-in requests)) ≡ then-one before r =
+      ap (played-run (memories m) outbox) (next-request requests i h) ∙ run-more (memories m) outbox (take i (requests-in requests)) r in
       let here = w .listed .memories-are in
       let out = w .listed .outbox-is in
       let q : round-in-order (memories m′) r outbox′ ≡ round-in-order (before .memories) r (before .outbox) = rw (here, out) in
@@ -134,12 +134,12 @@ module _ {m requests outcomes outbox : List ℕ} {i : ℕ} {m′ outcomes′ out
         listed = record {
           outcomes-are = ap (λ (l : List ℕ). set l i n) (w .listed .outcomes-are)
               ∙ over-more (map outcome-number (before .outcomes)) outcomes i n many (omega (arith, k, wide))
-              ∙ ap (λ (x : ℕ). over (map outcome-number (before .outcomes) ++ x ∷ []) outcomes) (p .number-is ∙ ap (λ (x : Round). outcome-number (x .outcome)) q)
-              ∙ sym (ap (λ (l : List ℕ). over l outcomes) (ap (λ (d : Run). map outcome-number (d .outcomes)) e ∙ map-append outcome-number (before .outcomes) _));
-          memories-are = p .memories-are ∙ ap (λ (x : Round). x .memories) q ∙ sym (ap (λ (d : Run). d .memories) e);
+              ∙ ap (λ (x : ℕ). over-words (map outcome-number (before .outcomes) ++ x ∷ []) outcomes) (p .number-is ∙ ap (λ (x : Round). outcome-number (x .outcome)) q)
+              ∙ sym (ap (λ (l : List ℕ). over-words l outcomes) (ap (λ (d : PlayedRun). map outcome-number (d .outcomes)) e ∙ map-append outcome-number (before .outcomes) _));
+          memories-are = p .memories-are ∙ ap (λ (x : Round). x .memories) q ∙ sym (ap (λ (d : PlayedRun). d .memories) e);
           size = p .size ∙ w .listed .size;
           left = p .left ∙ w .listed .left;
-          outbox-is = p .outbox-is ∙ lent ∙ sym (ap (λ (d : Run). d .outbox) e);
+          outbox-is = p .outbox-is ∙ lent ∙ sym (ap (λ (d : PlayedRun). d .outbox) e);
         };
       }
 

@@ -33,22 +33,22 @@ abbrev pub outbox-after : List (List ℕ) → Request → List ℕ → List ℕ
 outbox-after ms r outbox = send rack (memory-at ms (r .from)) (r .to) (r .serial) outbox .lent
 
 -- what a list comes to: the outcome of each request, the memories and the outbox afterwards
-pub record Run : Type 0 where
+pub record PlayedRun : Type 0 where
   pub outcomes : List runs.Outcome
   pub memories : List (List ℕ)
   pub outbox : List ℕ
 
 -- each is played on what the one before it left, however that one ended
-unfoldable pub run : List (List ℕ) → List ℕ → List Request → Run
-run ms outbox [] = record { outcomes = []; memories = ms; outbox = outbox }
-run ms outbox (r ∷ rs) =
+unfoldable pub played-run : List (List ℕ) → List ℕ → List Request → PlayedRun
+played-run ms outbox [] = record { outcomes = []; memories = ms; outbox = outbox }
+played-run ms outbox (r ∷ rs) =
     let first = round-in-order ms r outbox in
-    let rest = run (first .memories) (outbox-after ms r outbox) rs in
+    let rest = played-run (first .memories) (outbox-after ms r outbox) rs in
     record { outcomes = first .outcome ∷ rest .outcomes; memories = rest .memories; outbox = rest .outbox }
 
 -- values written over the front of a list
-abbrev pub over : List ℕ → List ℕ → List ℕ
-over values l = values ++ drop (length values) l
+abbrev pub over-words : List ℕ → List ℕ → List ℕ
+over-words values l = values ++ drop (length values) l
 
 -- one request played: the number of its outcome
 pub record PlayedOne (m : List ℕ) (r : Request) (outbox : List ℕ) (number : ℕ) (m′ outbox′ : List ℕ) : Type 0 where
@@ -59,14 +59,14 @@ pub record PlayedOne (m : List ℕ) (r : Request) (outbox : List ℕ) (number : 
   pub outbox-is : outbox′ ≡ outbox-after (memories m) r outbox
 
 -- requests played, and the numbers of their outcomes written in order; what stands behind these stays
-pub record Listed (m : List ℕ) (rs : List Request) (outcomes outbox m′ outcomes′ outbox′ : List ℕ) : Type 0 where
-  pub outcomes-are : outcomes′ ≡ over (map outcome-number (run (memories m) outbox rs .outcomes)) outcomes
-  pub memories-are : memories m′ ≡ run (memories m) outbox rs .memories
+pub record RequestsListed (m : List ℕ) (rs : List Request) (outcomes outbox m′ outcomes′ outbox′ : List ℕ) : Type 0 where
+  pub outcomes-are : outcomes′ ≡ over-words (map outcome-number (played-run (memories m) outbox rs .outcomes)) outcomes
+  pub memories-are : memories m′ ≡ played-run (memories m) outbox rs .memories
   pub size : length m′ ≡ length m
   pub left : left-over m′ ≡ left-over m
-  pub outbox-is : outbox′ ≡ run (memories m) outbox rs .outbox
+  pub outbox-is : outbox′ ≡ played-run (memories m) outbox rs .outbox
 
 -- as many requests as there is room for outcomes
 abbrev pub PlayedAll : List ℕ → List ℕ → List ℕ → List ℕ → List ℕ → List ℕ → List ℕ → Type 0
 PlayedAll m requests outcomes outbox m′ outcomes′ outbox′ =
-    Listed m (take (length outcomes) (requests-in requests)) outcomes outbox m′ outcomes′ outbox′
+    RequestsListed m (take (length outcomes) (requests-in requests)) outcomes outbox m′ outcomes′ outbox′

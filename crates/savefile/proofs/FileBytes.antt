@@ -20,7 +20,7 @@ use Rattle.codec.specs.Thirds.{third-bytes}
 use Rattle.codec.proofs.DartLaws.{dart-bytes as dart-bytes-are, link-length}
 use Rattle.codec.proofs.EntryLaws.{point-length, serial-most}
 use Rattle.codec.proofs.ThirdLaws.{third-most}
-use Rattle.savefile.specs.Named.{third-named, header-bytes, Small, AllSmall}
+use Rattle.savefile.specs.Named.{third-named, header-bytes, DartSmall, AllSmall}
 use Rattle.savefile.proofs.Pieces.{pieces, in-pieces, length-most}
 
 -- DARTS
@@ -62,7 +62,7 @@ dart-length m p =
     let q = point .put (dart-in m p .point) in
     rw (dart-put m p) (omega (arith, length-append (links-at m p) (t ++ q), length-append t q, link-length (column m 0 p) (column m 0 (column m 1 p)) (column m 0 (column m 2 p)), point-length (dart-in m p .point)))
 
-pub dart-most : (m : List ℕ) (p : ℕ) → Small m p → length (a-dart .put (dart-in m p)) ≤ 49
+pub dart-most : (m : List ℕ) (p : ℕ) → DartSmall m p → length (a-dart .put (dart-in m p)) ≤ 49
 dart-most m p s = omega (
   arith,
   dart-length m p,

@@ -16,7 +16,7 @@ use Rattle.columns.proofs.ThirdLinks.{sewn-places}
 use Rattle.columns.proofs.Question.{image-passed}
 use Rattle.memory.proofs.Points.{finite-at}
 use Rattle.codec.specs.Thirds.{ThirdSmall}
-use Rattle.savefile.specs.Named.{third-named, Small, AllSmall}
+use Rattle.savefile.specs.Named.{third-named, DartSmall, AllSmall}
 
 -- the dart at place p, by the columns' facts
 module _ (m : List ℕ) (p : ℕ) where
@@ -45,7 +45,7 @@ module _ (m : List ℕ) (p : ℕ) where
     sewn-small = λ q. let one = eqb-true (column m 3 p % 4) 1 q in absurd (omega arith);
   }
 
-  small-at : words-for (count m) ≤ length m → Ranged m → Places m (count m) → SewnPlaces m (count m) → Finite m (count m) → p < count m → Small m p
+  small-at : words-for (count m) ≤ length m → Ranged m → Places m (count m) → SewnPlaces m (count m) → Finite m (count m) → p < count m → DartSmall m p
   small-at len w g s f h =
       let k = w .kinds p h in
       let a = g .next-lt p h in

@@ -1,6 +1,6 @@
 -- What a file says of the dart at a place, and the numbers that it needs small. Assumes nothing.
 --   third-named    what a third link names, by itself: the serial of a sewn dart, the code of a label
---   Small          the words of a dart lead to places, what it names is in range, and its point is finite
+--   DartSmall          the words of a dart lead to places, what it names is in range, and its point is finite
 use mathlib.Core.Path.{_≡_}
 use mathlib.Core.Bool.{true, cond}
 use mathlib.Core.List.{List, _++_}
@@ -21,7 +21,7 @@ unfoldable pub header-bytes : List ℕ → List ℕ
 header-bytes m = group .put (getD m 0 0) ++ (group .put (getD m 1 0) ++ group .put (getD m 2 0))
 
 -- NUMBERS IN RANGE
-pub record Small (m : List ℕ) (p : ℕ) : Type 0 where
+pub record DartSmall (m : List ℕ) (p : ℕ) : Type 0 where
   pub here : words-for (p + 1) ≤ length m
   pub next-here : words-for (column m 1 p + 1) ≤ length m
   pub opposite-here : words-for (column m 2 p + 1) ≤ length m
@@ -35,4 +35,4 @@ pub record Small (m : List ℕ) (p : ℕ) : Type 0 where
 -- of the first n darts
 pub record AllSmall (m : List ℕ) (n : ℕ) : Type 0 where
   pub few : n ≤ room
-  pub each : (p : ℕ) → p < n → Small m p
+  pub each : (p : ℕ) → p < n → DartSmall m p

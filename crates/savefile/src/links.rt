@@ -3,7 +3,7 @@ ghost use mathlib.Core.Path.{_≡_};
 ghost use Prim.Native.Nat.{_+_, _≤_, _<_, _^_};
 ghost use lib.ListN.{length};
 ghost use Rattle.model.specs.Image.{words-for, column};
-ghost use Rattle.savefile.specs.Named.{Small, third-named};
+ghost use Rattle.savefile.specs.Named.{DartSmall, third-named};
 use memory::kind;
 use memory::record;
 use memory::record::Place;
@@ -20,7 +20,7 @@ pub fn serial_along(block: &[u64], p: Place, f: usize) -> u64
 
 // What the third link of the dart at place p names: the serial of a sewn dart, the code of a label.
 pub fn third_along(block: &[u64], p: Place) -> u64
-    requires { ⌜ Small (now block) (p .0) ⌝ }
+    requires { ⌜ DartSmall (now block) (p .0) ⌝ }
     ensures { λ r. ⌜ r ≡ third-named (now (block .entry)) (p .0) ⌝ }
 {
     if kind::is_sewn(record::field(block, p, Record::KIND)) {

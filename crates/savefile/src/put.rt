@@ -9,7 +9,7 @@ ghost use Rattle.model.specs.Layouts.{put-all};
 ghost use Rattle.model.specs.Image.{dart-in, block-in, holds-block};
 ghost use Rattle.model.specs.Messages.{a-dart, file};
 ghost use Rattle.groups.specs.Slices.{Stored};
-ghost use Rattle.savefile.specs.Named.{header-bytes, Small, AllSmall};
+ghost use Rattle.savefile.specs.Named.{header-bytes, DartSmall, AllSmall};
 use crate::links;
 use codec::dart;
 use codec::entry;
@@ -22,7 +22,7 @@ use memory::record::Record;
 
 // The dart at place p.
 fn put_dart(block: &[u64], p: Place, out: &mut [u8], at: usize) -> usize
-    requires { ⌜ Small (now block) (p .0) × (at + length (a-dart .put (dart-in (now block) (p .0))) < 2 ^ 63) ⌝ }
+    requires { ⌜ DartSmall (now block) (p .0) × (at + length (a-dart .put (dart-in (now block) (p .0))) < 2 ^ 63) ⌝ }
     ensures { λ r. ⌜ Stored (now (out .entry)) at (a-dart .put (dart-in (now (block .entry)) (p .0))) (now (out .exit)) r ⌝ }
 {
     let serial = record::field(block, p, Record::SERIAL);

@@ -23,7 +23,7 @@ use Rattle.groups.proofs.Coordinates.{coordinate-length, coordinate-short}
 use Rattle.groups.proofs.Writing.{stored-then}
 use Rattle.savefile.proofs.Pieces.{pieces, in-pieces}
 use Rattle.saving.specs.declared.commit.Entry.{Entry}
-use Rattle.saving.specs.Commit.{modulus, digest-from, digest, entry-of, entry-bytes, commit-of, value-in, word-in, committed, entry-in}
+use Rattle.saving.specs.Commit.{modulus, digest-from, digest, entry-of, entry-bytes, commit-of, value-in, commit-word, committed, entry-in}
 
 -- THE DIGEST, of which the bytes before i gave h
 pub record Digesting (bytes : List ℕ) (h i : ℕ) : Type 0 where
@@ -54,26 +54,26 @@ unfolding entry-bytes
 entry-put e s t = stored-then s t
 
 -- READ
-pub word-read : (s : List ℕ) (i : ℕ) (r : Read) → r ≡ read-at coordinate s (8 * i) → value-in r ≡ word-in s i
-unfolding word-in
+pub word-read : (s : List ℕ) (i : ℕ) (r : Read) → r ≡ read-at coordinate s (8 * i) → value-in r ≡ commit-word s i
+unfolding commit-word
 word-read s i r e = ap value-in e
 
-pub word-short : (s : List ℕ) (i : ℕ) → length s < 8 * i + 8 → 0 ≡ word-in s i
+pub word-short : (s : List ℕ) (i : ℕ) → length s < 8 * i + 8 → 0 ≡ commit-word s i
 word-short s i h = word-read s i Bad (coordinate-short (8 * i) s h)
 
-pub committed-none : (s : List ℕ) (k : ℕ) → k ≡ word-in s 0 → k ≡ 0 → 0 ≡ committed s
+pub committed-none : (s : List ℕ) (k : ℕ) → k ≡ commit-word s 0 → k ≡ 0 → 0 ≡ committed s
 unfolding committed
 committed-none s k e h = rw (← e, h)
 
-pub committed-many : (s : List ℕ) (k : ℕ) → k ≡ word-in s 0 → 16 < k → 0 ≡ committed s
+pub committed-many : (s : List ℕ) (k : ℕ) → k ≡ commit-word s 0 → 16 < k → 0 ≡ committed s
 unfolding committed
 committed-many s k e h = rw (← e, lt-ltb 0 k (omega arith), lt-leb k 16 h)
 
-pub committed-cut : (s : List ℕ) (k : ℕ) → k ≡ word-in s 0 → 0 < k → k ≤ 16 → (length s ≡ 8 + 16 * k → ⊥) → 0 ≡ committed s
+pub committed-cut : (s : List ℕ) (k : ℕ) → k ≡ commit-word s 0 → 0 < k → k ≤ 16 → (length s ≡ 8 + 16 * k → ⊥) → 0 ≡ committed s
 unfolding committed
 committed-cut s k e l h n = rw (← e, lt-ltb 0 k l, le-leb k 16 h, ne-eqb (length s) (8 + 16 * k) n)
 
-pub committed-all : (s : List ℕ) (k : ℕ) → k ≡ word-in s 0 → 0 < k → k ≤ 16 → length s ≡ 8 + 16 * k → k ≡ committed s
+pub committed-all : (s : List ℕ) (k : ℕ) → k ≡ commit-word s 0 → 0 < k → k ≤ 16 → length s ≡ 8 + 16 * k → k ≡ committed s
 unfolding committed
 committed-all s k e l h n = rw (← e, lt-ltb 0 k l, le-leb k 16 h, eq-eqb (length s) (8 + 16 * k) n)
 
@@ -81,7 +81,7 @@ pub entry-short : (s : List ℕ) (b : ℕ) → length s < 16 * b + 16 → record
 unfolding entry-in
 entry-short s b h = λ i. record { size = word-short s (1 + 2 * b) (omega arith) i; digest = word-short s (2 + 2 * b) (omega arith) i }
 
-pub entry-words : (s : List ℕ) (b n d : ℕ) → n ≡ word-in s (1 + 2 * b) → d ≡ word-in s (2 + 2 * b) → record { size = n; digest = d } ≡ entry-in s b
+pub entry-words : (s : List ℕ) (b n d : ℕ) → n ≡ commit-word s (1 + 2 * b) → d ≡ commit-word s (2 + 2 * b) → record { size = n; digest = d } ≡ entry-in s b
 unfolding entry-in
 entry-words s b n d en ed = λ i. record { size = en i; digest = ed i }
 
@@ -91,8 +91,8 @@ unfolding coordinate
 word-ok v h = lt-ltb v (2 ^ 64) h
 
 -- the word behind 8 * i bytes
-pub word-back : (before rest : List ℕ) (v i : ℕ) → length before ≡ 8 * i → v < 2 ^ 64 → word-in (before ++ (coordinate .put v ++ rest)) i ≡ v
-unfolding word-in read-at
+pub word-back : (before rest : List ℕ) (v i : ℕ) → length before ≡ 8 * i → v < 2 ^ 64 → commit-word (before ++ (coordinate .put v ++ rest)) i ≡ v
+unfolding commit-word read-at
 word-back before rest v i e h = rw (drop-at before (coordinate .put v ++ rest) (8 * i) e, coordinate-lawful .back v rest (word-ok v h))
 
 entries-length : (es : List Entry) → length (concat-map entry-bytes es) ≡ 16 * length es
@@ -110,7 +110,7 @@ committed-back es few many =
 pub committed-few : (s : List ℕ) → committed s ≤ 16
 unfolding committed
 committed-few s =
-    let k : ℕ = word-in s 0 in
+    let k : ℕ = commit-word s 0 in
     by-cases (ltb 0 k && leb k 16 && eqb (length s) (8 + 16 * k))
     (λ e. rw e (leb-true k 16 (and-right (ltb 0 k) (leb k 16) (and-left (ltb 0 k && leb k 16) (eqb (length s) (8 + 16 * k)) e))))
     (λ e. rw e (omega arith))
@@ -143,11 +143,11 @@ two-words before rest e b l s d = sym (entry-words (before ++ ((coordinate .put 
     whole : before ++ ((coordinate .put (e .size) ++ coordinate .put (e .digest)) ++ rest) ≡ before ++ (coordinate .put (e .size) ++ (coordinate .put (e .digest) ++ rest))
     whole = ap (λ (t : List ℕ). before ++ t) (append-assoc (coordinate .put (e .size)) (coordinate .put (e .digest)) rest)
 
-    one : word-in (before ++ ((coordinate .put (e .size) ++ coordinate .put (e .digest)) ++ rest)) (1 + 2 * b) ≡ e .size
-    one = ap (λ (t : List ℕ). word-in t (1 + 2 * b)) whole ∙ word-back before (coordinate .put (e .digest) ++ rest) (e .size) (1 + 2 * b) (omega arith) s
+    one : commit-word (before ++ ((coordinate .put (e .size) ++ coordinate .put (e .digest)) ++ rest)) (1 + 2 * b) ≡ e .size
+    one = ap (λ (t : List ℕ). commit-word t (1 + 2 * b)) whole ∙ word-back before (coordinate .put (e .digest) ++ rest) (e .size) (1 + 2 * b) (omega arith) s
 
-    two : word-in (before ++ ((coordinate .put (e .size) ++ coordinate .put (e .digest)) ++ rest)) (2 + 2 * b) ≡ e .digest
-    two = ap (λ (t : List ℕ). word-in t (2 + 2 * b)) (whole ∙ sym (append-assoc before (coordinate .put (e .size)) (coordinate .put (e .digest) ++ rest)))
+    two : commit-word (before ++ ((coordinate .put (e .size) ++ coordinate .put (e .digest)) ++ rest)) (2 + 2 * b) ≡ e .digest
+    two = ap (λ (t : List ℕ). commit-word t (2 + 2 * b)) (whole ∙ sym (append-assoc before (coordinate .put (e .size)) (coordinate .put (e .digest) ++ rest)))
         ∙ word-back (before ++ coordinate .put (e .size)) rest (e .digest) (2 + 2 * b) (omega (arith, length-append before (coordinate .put (e .size)), coordinate-length (e .size))) d
 
 pub entry-back : (c : ℕ → List ℕ) (k b : ℕ) → b < k → length (c b) < 2 ^ 64 → entry-in (commit-of (tab (λ b. entry-of (c b)) k)) b ≡ entry-of (c b)

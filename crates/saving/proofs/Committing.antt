@@ -14,38 +14,38 @@ use Rattle.mesh.specs.Parts.{blocks}
 use Rattle.commands.specs.declared.names.File.the-variants as files
 use Rattle.saving.specs.declared.prepare.Made.the-variants as made
 use Rattle.saving.specs.Commit.{entry-of, commit-of}
-use Rattle.saving.specs.Prepare.{when, savable, file-of, all-savable, contents, fitting, left-by, made-of, Put, Entered}
+use Rattle.saving.specs.Prepare.{act-when, savable, file-of, all-savable, contents, fitting, left-by, made-of, StepPut, BlockEntered}
 use Rattle.saving.proofs.Contents.{put-none}
 use Rattle.saving.proofs.Entering.{commit-length}
 
 module _ (m room : List ℕ) where
-  pub too-few : blocks m < 1 → Put (contents m files.NewCommit) room room made.Cannot
+  pub too-few : blocks m < 1 → StepPut (contents m files.NewCommit) room room made.Cannot
   unfolding contents all-savable
   too-few h = put-none (rw (le-ltb 0 (blocks m) (omega arith)))
 
-  pub too-many : 16 < blocks m → Put (contents m files.NewCommit) room room made.Cannot
+  pub too-many : 16 < blocks m → StepPut (contents m files.NewCommit) room room made.Cannot
   unfolding contents all-savable
   too-many h = put-none (rw (lt-ltb 0 (blocks m) (omega arith), lt-leb (blocks m) 16 h))
 
-  pub no-room : length room < 8 + 16 * blocks m → Put (contents m files.NewCommit) room room made.Cannot
+  pub no-room : length room < 8 + 16 * blocks m → StepPut (contents m files.NewCommit) room room made.Cannot
   unfolding contents
   no-room h = put-none (either (all-savable m))
     where
-      either : (s : Bool) → fitting room (when s (commit-of (tab (λ b. entry-of (file-of m b)) (blocks m)))) ≡ none
+      either : (s : Bool) → fitting room (act-when s (commit-of (tab (λ b. entry-of (file-of m b)) (blocks m)))) ≡ none
       either true = rw (lt-leb (length (commit-of (tab (λ b. entry-of (file-of m b)) (blocks m)))) (length room) (omega (arith, commit-length m (blocks m))))
       either false = refl
 
-  module _ (few : 1 ≤ blocks m) (many : blocks m ≤ 16) {before after : List ℕ} {r : Bool} (e : Entered m (blocks m) before after r) where
+  module _ (few : 1 ≤ blocks m) (many : blocks m ≤ 16) {before after : List ℕ} {r : Bool} (e : BlockEntered m (blocks m) before after r) where
     whole : all-savable m ≡ r
     unfolding all-savable
     whole = rw (lt-ltb 0 (blocks m) few, le-leb (blocks m) 16 many) (sym (e .all))
 
-    pub one-missing : r ≡ false → Put (contents m files.NewCommit) room room made.Cannot
+    pub one-missing : r ≡ false → StepPut (contents m files.NewCommit) room room made.Cannot
     unfolding contents
     one-missing n = put-none (rw (whole ∙ n))
 
     pub commit-put : r ≡ true → 8 + 16 * blocks m ≤ length room → {left : List ℕ} → left ≡ take (8 + 16 * blocks m) after ++ drop (8 + 16 * blocks m) room
-        → Put (contents m files.NewCommit) room left (made.Bytes (8 + 16 * blocks m))
+        → StepPut (contents m files.NewCommit) room left (made.Bytes (8 + 16 * blocks m))
     unfolding contents
     commit-put y h {left} l =
         let c : List ℕ = commit-of (tab (λ b. entry-of (file-of m b)) (blocks m)) in

@@ -24,7 +24,7 @@ use Rattle.mesh.specs.Parts.{blocks, part}
 use Rattle.commands.specs.declared.names.File.the-variants as files
 use Rattle.saving.specs.declared.prepare.Made.{Made}
 use Rattle.saving.specs.declared.prepare.Made.the-variants as made
-use Rattle.saving.specs.Prepare.{when, savable, file-of, contents, fitting, left-by, made-of, Put}
+use Rattle.saving.specs.Prepare.{act-when, savable, file-of, contents, fitting, left-by, made-of, StepPut}
 
 -- SAVE FILE, and its third question
 abbrev pub made-by : Written → Made
@@ -38,13 +38,13 @@ third-question true true false = refl
 third-question true false t = refl
 third-question false b t = refl
 
-fits-if : (s : Bool) (bytes room : List ℕ) → fitting room (when s bytes) ≡ when (s && leb (length bytes) (length room)) bytes
+fits-if : (s : Bool) (bytes room : List ℕ) → fitting room (act-when s bytes) ≡ act-when (s && leb (length bytes) (length room)) bytes
 fits-if true bytes room = refl
 fits-if false bytes room = refl
 
 -- what was answered, by whether all questions were answered yes
 settled : (z : Bool) (q : ℕ) (bytes out after : List ℕ) (w : Written) → written-of w ≡ cond z (served (length bytes)) (refused q) → after ≡ cond z (bytes ++ drop (length bytes) out) out
-    → (made-by w ≡ made-of (when z bytes)) × (after ≡ left-by (when z bytes) out)
+    → (made-by w ≡ made-of (act-when z bytes)) × (after ≡ left-by (act-when z bytes) out)
 settled true q bytes out after (written.Served n) a l = let e : n ≡ length bytes = cc in (ap made.Bytes e, l)
 settled true q bytes out after (written.Refused r) a l = let z : _≡_ {A = ℕ} 0 1 = cc in absurd (omega arith)
 settled false q bytes out after (written.Served n) a l = let z : _≡_ {A = ℕ} 0 1 = cc in absurd (omega arith)
@@ -58,7 +58,7 @@ lent-if : {A : Type 0} (qs : List Check) (before : List ℕ) (value : A) (after 
 unfolding asked
 lent-if qs before value after = by-cases (eqb (first-no qs) 0) (λ e. rw e) (λ e. rw e)
 
-pub saved : (m : List ℕ) (b : ℕ) {out after : List ℕ} (w : Written) → Gives (save-file rack (part m b) out) (written-of w) after → Put (contents m (files.NewBlock b)) out after (made-by w)
+pub saved : (m : List ℕ) (b : ℕ) {out after : List ℕ} (w : Written) → Gives (save-file rack (part m b) out) (written-of w) after → StepPut (contents m (files.NewBlock b)) out after (made-by w)
 unfolding contents savable file-of save-file writing memory-checks
 saved m b {out} {after} w g =
     let p : List ℕ = part m b in
@@ -68,7 +68,7 @@ saved m b {out} {after} w g =
     let whole : List ℕ = bytes ++ drop (length bytes) out in
     let put = settled (eqb (first-no qs) 0) (first-no qs) bytes out after w (g .answer ∙ answer-if qs out (length bytes) whole) (g .left ∙ lent-if qs out (length bytes) whole) in
     let two : Bool = eqb (first-no ((1, eqb (length p) words) ∷ (2, holds-block p) ∷ [])) 0 in
-    let same = fits-if two bytes out ∙ ap (λ (z : Bool). when z bytes) (sym (third-question (eqb (length p) words) (holds-block p) t)) in
+    let same = fits-if two bytes out ∙ ap (λ (z : Bool). act-when z bytes) (sym (third-question (eqb (length p) words) (holds-block p) t)) in
     record { answer = put .0 ∙ ap made-of (sym same); left = put .1 ∙ ap (λ (x : Option (List ℕ)). left-by x out) (sym same) }
 
 -- past the last block there is none
@@ -90,18 +90,18 @@ file-short m b e =
 
 -- A ROOM AFTERWARDS
 -- bytes were put: they are all there, and stand first
-made-some : (s : Bool) (bytes before after : List ℕ) (n : ℕ) → made.Bytes n ≡ made-of (fitting before (when s bytes)) → after ≡ left-by (fitting before (when s bytes)) before
+made-some : (s : Bool) (bytes before after : List ℕ) (n : ℕ) → made.Bytes n ≡ made-of (fitting before (act-when s bytes)) → after ≡ left-by (fitting before (act-when s bytes)) before
     → (s ≡ true) × (n ≡ length bytes) × (n ≤ length before) × (after ≡ bytes ++ drop (length bytes) before)
 made-some false bytes before after n a l = let z : _≡_ {A = ℕ} 0 1 = cc in absurd (omega arith)
 made-some true bytes before after n a l = go (leb (length bytes) (length before)) refl a l
   where
-    go : (t : Bool) → leb (length bytes) (length before) ≡ t → made.Bytes n ≡ made-of (when t bytes) → after ≡ left-by (when t bytes) before
+    go : (t : Bool) → leb (length bytes) (length before) ≡ t → made.Bytes n ≡ made-of (act-when t bytes) → after ≡ left-by (act-when t bytes) before
         → (_≡_ {A = Bool} true true) × (n ≡ length bytes) × (n ≤ length before) × (after ≡ bytes ++ drop (length bytes) before)
     go true e a l = let same : n ≡ length bytes = cc in (refl, same, omega (arith, leb-true (length bytes) (length before) e), l)
     go false e a l = let z : _≡_ {A = ℕ} 0 1 = cc in absurd (omega arith)
 
 -- no bytes were put, though there was room
-made-none : (s : Bool) (bytes before : List ℕ) → made.Cannot ≡ made-of (fitting before (when s bytes)) → (s ≡ true → length bytes ≤ length before) → s ≡ false
+made-none : (s : Bool) (bytes before : List ℕ) → made.Cannot ≡ made-of (fitting before (act-when s bytes)) → (s ≡ true → length bytes ≤ length before) → s ≡ false
 made-none false bytes before a h = refl
 made-none true bytes before a h = let z : _≡_ {A = ℕ} 0 1 = rw (le-leb (length bytes) (length before) (h refl)) at (ap number a) in absurd (omega arith)
   where
@@ -114,7 +114,7 @@ pub record Filed (m : List ℕ) (b n : ℕ) (after : List ℕ) : Type 0 where
   pub room : n ≤ length after
   pub bytes : take n after ≡ file-of m b
 
-pub filed : {m : List ℕ} {b : ℕ} {before after : List ℕ} {n : ℕ} {r : Made} → made.Bytes n ≡ r → Put (contents m (files.NewBlock b)) before after r → Filed m b n after
+pub filed : {m : List ℕ} {b : ℕ} {before after : List ℕ} {n : ℕ} {r : Made} → made.Bytes n ≡ r → StepPut (contents m (files.NewBlock b)) before after r → Filed m b n after
 unfolding contents
 filed {m} {b} {before} {after} {n} e p =
     let q = made-some (savable m b) (file-of m b) before after n (e ∙ p .answer) (p .left) in
@@ -125,15 +125,15 @@ filed {m} {b} {before} {after} {n} e p =
       bytes = rw (q .3, q .1) (take-append-seam (file-of m b) (drop (length (file-of m b)) before));
     }
 
-pub not-filed : (m : List ℕ) (b : ℕ) {before after : List ℕ} {r : Made} → made.Cannot ≡ r → Put (contents m (files.NewBlock b)) before after r → 245775 ≤ length before → savable m b ≡ false
+pub not-filed : (m : List ℕ) (b : ℕ) {before after : List ℕ} {r : Made} → made.Cannot ≡ r → StepPut (contents m (files.NewBlock b)) before after r → 245775 ≤ length before → savable m b ≡ false
 unfolding contents
 not-filed m b {before} e p h = made-none (savable m b) (file-of m b) before (e ∙ p .answer) (λ s. omega (arith, file-short m b s))
 
 -- nothing is put: there is nothing to write, or no room for it
-pub put-none : {x : Option (List ℕ)} {room : List ℕ} → fitting room x ≡ none → Put x room room made.Cannot
+pub put-none : {x : Option (List ℕ)} {room : List ℕ} → fitting room x ≡ none → StepPut x room room made.Cannot
 put-none e = record { answer = rw e; left = rw e }
 
-pub no-file : (m room : List ℕ) (b : ℕ) → length m / 32776 ≤ b → Put (contents m (files.NewBlock b)) room room made.Cannot
+pub no-file : (m room : List ℕ) (b : ℕ) → length m / 32776 ≤ b → StepPut (contents m (files.NewBlock b)) room room made.Cannot
 unfolding contents
 no-file m room b h = put-none (rw (no-block m b h))
 

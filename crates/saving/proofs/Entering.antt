@@ -19,7 +19,7 @@ use Rattle.saving.specs.declared.commit.Entry.{Entry}
 use Rattle.saving.specs.declared.prepare.Known.{Known}
 use Rattle.saving.specs.declared.prepare.Known.the-variants as known-variants
 use Rattle.saving.specs.Commit.{entry-of, entry-bytes, commit-of}
-use Rattle.saving.specs.Prepare.{savable, file-of, known, Entered}
+use Rattle.saving.specs.Prepare.{savable, file-of, known, BlockEntered}
 use Rattle.saving.proofs.Commits.{entry-length, pieces-length}
 use Rattle.saving.proofs.Contents.{Filed}
 
@@ -93,7 +93,7 @@ module _ {m : List ℕ} {k : ℕ} {start out : List ℕ} {past b : ℕ} (w : Ent
   pub enter-size : {before bytes : List ℕ} {at next : ℕ} → Stored before at bytes start next → length out ≡ length before
   enter-size s = stored-length (w .placing .stored) ∙ stored-length s
 
-  pub enter-stop : b < k → {r : Known} → known-variants.Not ≡ r → r ≡ known m b → {before bytes : List ℕ} {at next : ℕ} → Stored before at bytes start next → Entered m k before out false
+  pub enter-stop : b < k → {r : Known} → known-variants.Not ≡ r → r ≡ known m b → {before bytes : List ℕ} {at next : ℕ} → Stored before at bytes start next → BlockEntered m k before out false
   unfolding known
   enter-stop h i n s = record {
     all = below-false (savable m) k b h (known-not (savable m b) (entry-of (file-of m b)) (i ∙ n));
@@ -101,7 +101,7 @@ module _ {m : List ℕ} {k : ℕ} {start out : List ℕ} {past b : ℕ} (w : Ent
     bytes = λ e. absurd (true≢false (sym e));
   }
 
-  pub enter-end : k ≤ b → {before : List ℕ} {next : ℕ} → 8 + 16 * k ≤ length before → Stored before 0 (coordinate .put k) start next → Entered m k before out true
+  pub enter-end : k ≤ b → {before : List ℕ} {next : ℕ} → 8 + 16 * k ≤ length before → Stored before 0 (coordinate .put k) start next → BlockEntered m k before out true
   enter-end h {before} {next} room s =
       let e : b ≡ k = omega (arith, w .placing .i-le) in
       let c = coordinate-length k in

@@ -15,9 +15,9 @@ use Rattle.laws.proofs.Tests.{lt-or-ge, eq-or-ne}
 use Rattle.commands.specs.declared.names.File.the-variants as file
 use Rattle.saving.specs.declared.plan.Step.{Step}
 use Rattle.saving.specs.declared.plan.Step.the-variants as step
-use Rattle.saving.specs.Plan.{steps, writing, committing, placing, ending, save-stages}
+use Rattle.saving.specs.Plan.{plan-steps, write-steps, committing, placing, ending, save-stages}
 use Rattle.saving.specs.Commit.{entry-of, commit-of, committed}
-use Rattle.saving.specs.Folder.{Folder, put, moved, does, all-of, at, Some, Cut, seen, Alike, saves, renewed, saving, saved, SaveKeeps, Reading, read, ReadsOne}
+use Rattle.saving.specs.Folder.{Folder, put-file, moved, does, all-of, folder-at, SomeFile, Cut, seen, Alike, saves, renewed, saving, saved, SaveKeeps, Reading, read, ReadsOne}
 use Rattle.saving.proofs.Commits.{committed-back, entry-back}
 use Rattle.saving.proofs.Folders.{Steady, some-keeps, all-keeps, all-append, at-first, at-later, at-untouched, cut-at, cut-first, cut-none, some-end, some-rename}
 use Rattle.saving.proofs.Looked.{Right, sees-right, free-right, saved-right}
@@ -46,20 +46,20 @@ module _ (k : ℕ) (c : ℕ → List ℕ) (few : 1 ≤ k) (many : k ≤ 16) (d :
   New = Held (some bytes) (renewed k c d)
 
   -- THE FIRST STAGE: nothing that is written is seen
-  writing-steady : Each (Steady (saves k c) Old) (writing k)
-  unfolding writing
+  writing-steady : Each (Steady (saves k c) Old) (write-steps k)
+  unfolding write-steps
   writing-steady = each-append (Steady (saves k c) Old) (tab (λ b. step.Write (file.NewBlock b)) k) (step.Write file.NewCommit ∷ [])
       (each-tab (Steady (saves k c) Old) (λ b. step.Write (file.NewBlock b)) k (λ b h. steady-write (saves k c) Old (file.NewBlock b) (sees-new b (omega arith) (omega arith))))
       (steady-write (saves k c) Old file.NewCommit sees-newcommit, tt)
 
   start : Old d
-  start = rw free at (sees-itself d)
+  start = rw free folder-at (sees-itself d)
 
   abbrev written : Folder
-  written = all-of (saves k c) (writing k) d
+  written = all-of (saves k c) (write-steps k) d
 
   written-sees : Old written
-  written-sees = all-keeps (saves k c) Old (writing k) d writing-steady start
+  written-sees = all-keeps (saves k c) Old (write-steps k) d writing-steady start
 
   -- and all of it is there at the end
   wrote : (n b : ℕ) → n < 16 → b < 16 → (e : Folder) → (b < n → e (file.NewBlock b) ≡ some (c b)) → b < suc n → does (saves k c) (step.Write (file.NewBlock n)) e (file.NewBlock b) ≡ some (c b)
@@ -81,8 +81,8 @@ module _ (k : ℕ) (c : ℕ → List ℕ) (few : 1 ≤ k) (many : k ≤ 16) (d :
   before-last : Folder
   before-last = all-of (saves k c) (tab (λ b. step.Write (file.NewBlock b)) k) d
 
-  written-is : written ≡ put file.NewCommit (some bytes) before-last
-  unfolding writing does before-last
+  written-is : written ≡ put-file file.NewCommit (some bytes) before-last
+  unfolding write-steps does before-last
   written-is = all-append (saves k c) (tab (λ b. step.Write (file.NewBlock b)) k) (step.Write file.NewCommit ∷ []) d
 
   written-new : (b : ℕ) → b < 16 → b < k → written (file.NewBlock b) ≡ some (c b)
@@ -96,7 +96,7 @@ module _ (k : ℕ) (c : ℕ → List ℕ) (few : 1 ≤ k) (many : k ≤ 16) (d :
   abbrev named : Folder
   named = does (saves k c) (step.Rename file.NewCommit file.Commit) written
 
-  named-is : named ≡ put file.NewCommit none (put file.Commit (some bytes) written)
+  named-is : named ≡ put-file file.NewCommit none (put-file file.Commit (some bytes) written)
   unfolding does
   named-is = ap (λ (y : Option (List ℕ)). moved y file.NewCommit file.Commit written) written-commit
 
@@ -106,16 +106,16 @@ module _ (k : ℕ) (c : ℕ → List ℕ) (few : 1 ≤ k) (many : k ≤ 16) (d :
 
   named-sees : Placing named
   named-sees = record {
-    commit = ap (λ (e : Folder). e file.Commit) named-is ∙ newcommit-commit none (put file.Commit (some bytes) written) ∙ commit-commit (some bytes) written;
-    below = λ b h l. let m : b < k = rw of-k at l in rw (lt-ltb b k m, new b h, written-new b h m);
-    above = λ b h l. let m : k ≤ b = rw of-k at l in rw (le-ltb b k m) (own b h ∙ written-sees .above b h (omega arith) ∙ seen-old b h);
+    commit = ap (λ (e : Folder). e file.Commit) named-is ∙ newcommit-commit none (put-file file.Commit (some bytes) written) ∙ commit-commit (some bytes) written;
+    below = λ b h l. let m : b < k = rw of-k folder-at l in rw (lt-ltb b k m, new b h, written-new b h m);
+    above = λ b h l. let m : k ≤ b = rw of-k folder-at l in rw (le-ltb b k m) (own b h ∙ written-sees .above b h (omega arith) ∙ seen-old b h);
   }
     where
       new : (b : ℕ) → b < 16 → named (file.NewBlock b) ≡ written (file.NewBlock b)
-      new b h = ap (λ (e : Folder). e (file.NewBlock b)) named-is ∙ newcommit-new none (put file.Commit (some bytes) written) b h ∙ commit-new (some bytes) written b h
+      new b h = ap (λ (e : Folder). e (file.NewBlock b)) named-is ∙ newcommit-new none (put-file file.Commit (some bytes) written) b h ∙ commit-new (some bytes) written b h
 
       own : (b : ℕ) → b < 16 → named (file.Block b) ≡ written (file.Block b)
-      own b h = ap (λ (e : Folder). e (file.Block b)) named-is ∙ newcommit-block none (put file.Commit (some bytes) written) b h ∙ commit-block (some bytes) written b h
+      own b h = ap (λ (e : Folder). e (file.Block b)) named-is ∙ newcommit-block none (put-file file.Commit (some bytes) written) b h ∙ commit-block (some bytes) written b h
 
   -- EACH NEW FILE GETS ITS NAME
   placing-steady : Each (Steady (saves k c) Placing) (placing k)
@@ -150,7 +150,7 @@ module _ (k : ℕ) (c : ℕ → List ℕ) (few : 1 ≤ k) (many : k ≤ 16) (d :
   all-ended = all-keeps (saves k c) Placed ending (all-of (saves k c) (placing k) named) ending-steady all-placed
 
   -- WHAT A CUT LEAVES
-  early : (e : Folder) → Some (saves k c) (writing k) d e → Old e
+  early : (e : Folder) → SomeFile (saves k c) (write-steps k) d e → Old e
   early e t = some-keeps (saves k c) Old t writing-steady start
 
   late : (e : Folder) → Cut (saves k c) (placing k ∷ ending ∷ []) named e → New e
@@ -162,7 +162,7 @@ module _ (k : ℕ) (c : ℕ → List ℕ) (few : 1 ≤ k) (many : k ≤ 16) (d :
       (cut-first s)))
       (cut-first t)
 
-  middle : (e : Folder) → Some (saves k c) committing written e → Old e ⊎ New e
+  middle : (e : Folder) → SomeFile (saves k c) committing written e → Old e ⊎ New e
   unfolding committing
   middle e t = ⊎-elim (λ q. inl (subst Old (sym q) written-sees)) (λ q. inr (subst New (sym q) (inl named-sees))) (some-rename t)
 
@@ -171,7 +171,7 @@ module _ (k : ℕ) (c : ℕ → List ℕ) (few : 1 ≤ k) (many : k ≤ 16) (d :
   committed-is = refl
 
   -- from the first new file on
-  from-writing : (e : Folder) → Cut (saves k c) (writing k ∷ committing ∷ placing k ∷ ending ∷ []) d e → Old e ⊎ New e
+  from-writing : (e : Folder) → Cut (saves k c) (write-steps k ∷ committing ∷ placing k ∷ ending ∷ []) d e → Old e ⊎ New e
   from-writing e t = ⊎-elim
       (λ s. inl (early e s))
       (λ s. ⊎-elim (middle e) (λ r. inr (late e (subst (λ (g : Folder). Cut (saves k c) (placing k ∷ ending ∷ []) g e) committed-is r))) (cut-first s))
@@ -184,17 +184,17 @@ module _ (k : ℕ) (c : ℕ → List ℕ) (few : 1 ≤ k) (many : k ≤ 16) (d :
   -- STEP BY STEP
   -- the first k + 3 steps and the others
   abbrev later-steps : List Step
-  later-steps = step.Rename file.NewCommit file.Commit ∷ step.Keep ∷ steps (placing k ∷ ending ∷ [])
+  later-steps = step.Rename file.NewCommit file.Commit ∷ step.Keep ∷ plan-steps (placing k ∷ ending ∷ [])
 
   abbrev first-steps : List Step
-  first-steps = step.Keep ∷ (writing k ++ step.Keep ∷ [])
+  first-steps = step.Keep ∷ (write-steps k ++ step.Keep ∷ [])
 
-  all-steps : steps (save-stages k) ≡ first-steps ++ later-steps
-  unfolding save-stages steps committing
-  all-steps = sym (append-assoc (step.Keep ∷ writing k) (step.Keep ∷ []) later-steps)
+  all-steps : plan-steps (save-stages k) ≡ first-steps ++ later-steps
+  unfolding save-stages plan-steps committing
+  all-steps = sym (append-assoc (step.Keep ∷ write-steps k) (step.Keep ∷ []) later-steps)
 
   first-length : length first-steps ≡ k + 3
-  unfolding writing
+  unfolding write-steps
   first-length =
       let writes : List Step = tab (λ b. step.Write (file.NewBlock b)) k in
       let n : length writes ≡ k = length-tab (λ b. step.Write (file.NewBlock b)) k in
@@ -202,55 +202,55 @@ module _ (k : ℕ) (c : ℕ → List ℕ) (few : 1 ≤ k) (many : k ≤ 16) (d :
 
   after-first : all-of (saves k c) first-steps d ≡ written
   unfolding does
-  after-first = all-append (saves k c) (writing k) (step.Keep ∷ []) d
+  after-first = all-append (saves k c) (write-steps k) (step.Keep ∷ []) d
 
-  two-stages : steps ([] ∷ writing k ∷ []) ≡ first-steps
-  unfolding steps
+  two-stages : plan-steps ([] ∷ write-steps k ∷ []) ≡ first-steps
+  unfolding plan-steps
   two-stages = refl
 
   until : (n : ℕ) → n ≤ k + 3 → Old (saving k c d n)
-  until n h = subst Old (sym same) (stopped (at (saves k c) (steps ([] ∷ writing k ∷ [])) d n) (cut-at (saves k c) ([] ∷ writing k ∷ []) d n))
+  until n h = subst Old (sym same) (stopped (folder-at (saves k c) (plan-steps ([] ∷ write-steps k ∷ [])) d n) (cut-at (saves k c) ([] ∷ write-steps k ∷ []) d n))
     where
-      same : saving k c d n ≡ at (saves k c) (steps ([] ∷ writing k ∷ [])) d n
+      same : saving k c d n ≡ folder-at (saves k c) (plan-steps ([] ∷ write-steps k ∷ [])) d n
       same =
-          ap (λ (ss : List Step). at (saves k c) ss d n) all-steps
+          ap (λ (ss : List Step). folder-at (saves k c) ss d n) all-steps
           ∙ at-first (saves k c) first-steps later-steps d n (omega (arith, first-length))
-          ∙ ap (λ (ss : List Step). at (saves k c) ss d n) (sym two-stages)
+          ∙ ap (λ (ss : List Step). folder-at (saves k c) ss d n) (sym two-stages)
 
-      stopped : (e : Folder) → Cut (saves k c) ([] ∷ writing k ∷ []) d e → Old e
+      stopped : (e : Folder) → Cut (saves k c) ([] ∷ write-steps k ∷ []) d e → Old e
       stopped e t = ⊎-elim
           (λ s. subst Old (sym (some-end s)) start)
           (λ s. ⊎-elim (early e) (λ r. subst Old (sym (cut-none r)) written-sees) (cut-first s))
           (cut-first t)
 
   -- after k + 4 + m steps
-  at-named : (n : ℕ) → k + 4 ≤ n → saving k c d n ≡ at (saves k c) (step.Keep ∷ steps (placing k ∷ ending ∷ [])) named (n - (k + 4))
+  at-named : (n : ℕ) → k + 4 ≤ n → saving k c d n ≡ folder-at (saves k c) (step.Keep ∷ plan-steps (placing k ∷ ending ∷ [])) named (n - (k + 4))
   at-named n h =
-      ap (λ (ss : List Step). at (saves k c) ss d n) all-steps
+      ap (λ (ss : List Step). folder-at (saves k c) ss d n) all-steps
       ∙ at-later (saves k c) first-steps later-steps d n (suc (n - (k + 4))) (omega (arith, first-length))
-      ∙ ap (λ (g : Folder). at (saves k c) later-steps g (suc (n - (k + 4)))) after-first
+      ∙ ap (λ (g : Folder). folder-at (saves k c) later-steps g (suc (n - (k + 4)))) after-first
 
-  from-named : (m : ℕ) → New (at (saves k c) (step.Keep ∷ steps (placing k ∷ ending ∷ [])) named m)
+  from-named : (m : ℕ) → New (folder-at (saves k c) (step.Keep ∷ plan-steps (placing k ∷ ending ∷ [])) named m)
   unfolding does
   from-named zero = inl named-sees
-  from-named (suc m) = late (at (saves k c) (steps (placing k ∷ ending ∷ [])) named m) (cut-at (saves k c) (placing k ∷ ending ∷ []) named m)
+  from-named (suc m) = late (folder-at (saves k c) (plan-steps (placing k ∷ ending ∷ [])) named m) (cut-at (saves k c) (placing k ∷ ending ∷ []) named m)
 
   since : (n : ℕ) → k + 4 ≤ n → New (saving k c d n)
   since n h = subst New (sym (at-named n h)) (from-named (n - (k + 4)))
 
   -- after the Keep that follows
   kept-is : saving k c d (k + 5) ≡ named
-  unfolding does steps
+  unfolding does plan-steps
   kept-is =
       let one : k + 5 - (k + 4) ≡ 1 = omega arith in
-      at-named (k + 5) (omega arith) ∙ ap (at (saves k c) (step.Keep ∷ steps (placing k ∷ ending ∷ [])) named) one
+      at-named (k + 5) (omega arith) ∙ ap (folder-at (saves k c) (step.Keep ∷ plan-steps (placing k ∷ ending ∷ [])) named) one
 
   -- A SAVE THAT ENDS
   abbrev placed-all : Folder
   placed-all = all-of (saves k c) (placing k) named
 
-  saved-is : saved k c d ≡ put file.Commit none placed-all
-  unfolding does steps ending
+  saved-is : saved k c d ≡ put-file file.Commit none placed-all
+  unfolding does plan-steps ending
   saved-is =
       ap (λ (ss : List Step). all-of (saves k c) ss d) all-steps
       ∙ all-append (saves k c) first-steps later-steps d
@@ -267,13 +267,13 @@ module _ (k : ℕ) (c : ℕ → List ℕ) (few : 1 ≤ k) (many : k ≤ 16) (d :
       (λ b h. steady-step (saves k c) (λ e. e file.NewCommit ≡ none) (step.Rename (file.NewBlock b) (file.Block b)) refl (λ e q. place-newcommit (saves k c) b (omega arith) e ∙ q))
 
   named-newcommit : named file.NewCommit ≡ none
-  named-newcommit = ap (λ (e : Folder). e file.NewCommit) named-is ∙ newcommit-newcommit none (put file.Commit (some bytes) written)
+  named-newcommit = ap (λ (e : Folder). e file.NewCommit) named-is ∙ newcommit-newcommit none (put-file file.Commit (some bytes) written)
 
   -- what is left looks right
   new-right : ((b : ℕ) → b < k → length (c b) < 2 ^ 64) → Right (some bytes) (renewed k c d)
   new-right f = saved-right (some bytes) (renewed k c d) c
-      (λ b h l. let m : b < k = rw of-k at l in rw (lt-ltb b k m))
-      (λ b h l. let m : b < k = rw of-k at l in entry-back c k b m (f b m))
+      (λ b h l. let m : b < k = rw of-k folder-at l in rw (lt-ltb b k m))
+      (λ b h l. let m : b < k = rw of-k folder-at l in entry-back c k b m (f b m))
 
   pub save-keeps : SaveKeeps k c d
   save-keeps = record {
@@ -299,11 +299,11 @@ module _ (k : ℕ) (c : ℕ → List ℕ) (few : 1 ≤ k) (many : k ≤ 16) (d :
         let m = r .after b h in
         let z : r .opened b + (r .instant - r .opened b) ≡ r .instant = omega arith in
         ap (λ (t : ℕ). saving k c d t (file.Block b)) (sym z)
-        ∙ at-untouched (saves k c) (steps (save-stages k)) d (file.Block b) (r .opened b) (r .instant - r .opened b) (λ t p q. r .same-file b t h p (omega arith))
+        ∙ at-untouched (saves k c) (plan-steps (save-stages k)) d (file.Block b) (r .opened b) (r .instant - r .opened b) (λ t p q. r .same-file b t h p (omega arith))
 
     read-is : (t : ℕ → Option (List ℕ)) → Alike (seen (saving k c d (r .instant))) t → Alike (read r) t
     unfolding seen
-    read-is t w b h = sym (still b h) ∙ rw (r .no-commit, le-ltb b 0 (omega arith)) at (w b h)
+    read-is t w b h = sym (still b h) ∙ rw (r .no-commit, le-ltb b 0 (omega arith)) folder-at (w b h)
 
     pub reads-one : ReadsOne k c d r
     reads-one = ⊎-elim

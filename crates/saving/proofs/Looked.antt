@@ -16,8 +16,8 @@ use Rattle.saving.specs.declared.look.Found.{Found}
 use Rattle.saving.specs.declared.look.Found.the-variants as found
 use Rattle.saving.specs.declared.look.Look.the-variants as look
 use Rattle.saving.specs.Commit.{entry-of, entry-in}
-use Rattle.saving.specs.Looks.{same-entry, look-of, file-found, found-of}
-use Rattle.saving.specs.Folder.{Folder, blocks-of, first, seen, found-in, bytes-of, looked, LooksRight, AsCommitted}
+use Rattle.saving.specs.Looks.{same-entry, look-of, file-found, look-found}
+use Rattle.saving.specs.Folder.{Folder, blocks-of, first-of, seen, found-in, bytes-of, looked, LooksRight, AsCommitted}
 use Rattle.saving.proofs.Commits.{committed-few}
 use Rattle.saving.proofs.Seen.{Sees, Rest, Held}
 
@@ -40,29 +40,29 @@ never-placed q = let z : _≡_ {A = ℕ} 0 1 = cc in omega arith
 same-bytes : (e : Entry) (bytes : List ℕ) → Committed (some bytes) e → same-entry (entry-of bytes) e ≡ true
 same-bytes e bytes w = ap (λ (l : List ℕ). same-entry (entry-of l) e) (Option·some-injective bytes (w .bytes) (w .is-seen)) ∙ w .same
 
-look-right : (e : Entry) (new own : Option (List ℕ)) → Committed (first new own) e → look-of e (found-in new) (found-in own) ≡ look.Wrong → ⊥
+look-right : (e : Entry) (new own : Option (List ℕ)) → Committed (first-of new own) e → look-of e (found-in new) (found-in own) ≡ look.Wrong → ⊥
 unfolding look-of
 look-right e none none w q = Option·none-ne-some (w .bytes) (w .is-seen)
 look-right e none (some bytes) w q = never-placed (rw (same-bytes e bytes w) at q)
 look-right e (some bytes) own w q = never-place (rw (same-bytes e bytes w) at q)
 
-right-look : (e : Entry) (new own : Option (List ℕ)) → (look-of e (found-in new) (found-in own) ≡ look.Wrong → ⊥) → Committed (first new own) e
+right-look : (e : Entry) (new own : Option (List ℕ)) → (look-of e (found-in new) (found-in own) ≡ look.Wrong → ⊥) → Committed (first-of new own) e
 unfolding look-of
 right-look e none none n = absurd (n refl)
 right-look e none (some bytes) n = by-cases (same-entry (entry-of bytes) e) (λ t. record { bytes = bytes; is-seen = refl; same = t }) (λ t. absurd (n (rw t)))
 right-look e (some bytes) own n = by-cases (same-entry (entry-of bytes) e) (λ t. record { bytes = bytes; is-seen = refl; same = t }) (λ t. absurd (n (rw t)))
 
 -- by two tests
-look-by : (e : Entry) (new own : Found) → cond (file-found new) (cond (found-of new e) look.Place look.Wrong) (cond (found-of own e) look.Placed look.Wrong) ≡ look-of e new own
+look-by : (e : Entry) (new own : Found) → cond (file-found new) (cond (look-found new e) look.Place look.Wrong) (cond (look-found own e) look.Placed look.Wrong) ≡ look-of e new own
 unfolding look-of
 look-by e (found.File f) own = refl
 look-by e found.Nothing (found.File f) = refl
 look-by e found.Nothing found.Nothing = refl
 
-pub look-new : (e : Entry) (new own : Found) (t : Bool) → file-found new ≡ true → found-of new e ≡ t → cond t look.Place look.Wrong ≡ look-of e new own
+pub look-new : (e : Entry) (new own : Found) (t : Bool) → file-found new ≡ true → look-found new e ≡ t → cond t look.Place look.Wrong ≡ look-of e new own
 look-new e new own t f g = rw (f, g) at (look-by e new own)
 
-pub look-own : (e : Entry) (new own : Found) (t : Bool) → file-found new ≡ false → found-of own e ≡ t → cond t look.Placed look.Wrong ≡ look-of e new own
+pub look-own : (e : Entry) (new own : Found) (t : Bool) → file-found new ≡ false → look-found own e ≡ t → cond t look.Placed look.Wrong ≡ look-of e new own
 look-own e new own t f g = rw (f, g) at (look-by e new own)
 
 -- A FOLDER whose blocks are seen as t, with the commit x
@@ -85,12 +85,12 @@ sees-right {x} {t} {e} r (inr w) b h q = ⊎-elim gone there (w .commit)
     there n =
         let l : b < blocks-of x = rw n at h in
         let s : b < 16 = omega (arith, blocks-few x) in
-        let y : first (e (file.NewBlock b)) (e (file.Block b)) ≡ t b = ap (λ (o : Option (List ℕ)). first o (e (file.Block b))) (w .gone b s l) ∙ w .named b s in
+        let y : first-of (e (file.NewBlock b)) (e (file.Block b)) ≡ t b = ap (λ (o : Option (List ℕ)). first-of o (e (file.Block b))) (w .gone b s l) ∙ w .named b s in
         let entry : Entry = entry-in (bytes-of x) b in
         look-right entry (e (file.NewBlock b)) (e (file.Block b)) (subst (λ (o : Option (List ℕ)). Committed o entry) (sym y) (r .each b s l)) (rw n at q)
 
 -- of any folder that looks right
-seen-new : (d : Folder) (b : ℕ) → b < blocks-of (d file.Commit) → seen d b ≡ first (d (file.NewBlock b)) (d (file.Block b))
+seen-new : (d : Folder) (b : ℕ) → b < blocks-of (d file.Commit) → seen d b ≡ first-of (d (file.NewBlock b)) (d (file.Block b))
 unfolding seen
 seen-new d b l = rw (lt-ltb b (blocks-of (d file.Commit)) l)
 

@@ -10,7 +10,7 @@ use Rattle.model.specs.Lists.{tab}
 use Rattle.commands.specs.declared.names.File.the-variants as file
 use Rattle.saving.specs.declared.plan.Step.{Step}
 use Rattle.saving.specs.declared.plan.Step.the-variants as step
-use Rattle.saving.specs.Plan.{steps, writing, committing, placing, ending, save-stages, save-step, tidied, tidying, recover-stages, recover-step, writing-step, placing-step}
+use Rattle.saving.specs.Plan.{plan-steps, write-steps, committing, placing, ending, save-stages, save-step, tidied, tidying, recover-stages, recover-step, writing-step, placing-step}
 
 -- A TABLE, AND WHAT STANDS BEHIND IT
 pub in-table : {A : Type 0} (f : ℕ → A) (n i : ℕ) (rest : List A) (d : A) → i < n → f i ≡ getD (tab f n ++ rest) i d
@@ -28,11 +28,11 @@ abbrev pub behind : List Step
 behind = step.Keep ∷ step.Remove file.Commit ∷ step.Keep ∷ []
 
 pub placing-below : (k j : ℕ) → j < k → step.Rename (file.NewBlock j) (file.Block j) ≡ placing-step k j
-unfolding placing-step steps placing ending
+unfolding placing-step plan-steps placing ending
 placing-below k j h = in-table (λ b. step.Rename (file.NewBlock b) (file.Block b)) k j behind step.Nothing h
 
 pub placing-above : (k j l : ℕ) → k ≤ j → j - k ≡ l → getD behind l step.Nothing ≡ placing-step k j
-unfolding placing-step steps placing ending
+unfolding placing-step plan-steps placing ending
 placing-above k j l h e = ap (λ (n : ℕ). getD behind n step.Nothing) (sym e) ∙ past-table (λ b. step.Rename (file.NewBlock b) (file.Block b)) k j behind step.Nothing h
 
 pub placing-end : (k j : ℕ) → k + 3 ≤ j → step.Nothing ≡ placing-step k j
@@ -43,10 +43,10 @@ placing-end k j h = sym (List·getD-eq-default behind step.Nothing (three k j h)
 
 -- A SAVE
 abbrev from-commit : ℕ → List Step
-from-commit k = step.Write file.NewCommit ∷ step.Keep ∷ step.Rename file.NewCommit file.Commit ∷ step.Keep ∷ steps (placing k ∷ ending ∷ [])
+from-commit k = step.Write file.NewCommit ∷ step.Keep ∷ step.Rename file.NewCommit file.Commit ∷ step.Keep ∷ plan-steps (placing k ∷ ending ∷ [])
 
-writing-is : (k : ℕ) → steps (writing k ∷ committing ∷ placing k ∷ ending ∷ []) ≡ tab (λ b. step.Write (file.NewBlock b)) k ++ from-commit k
-unfolding writing committing steps
+writing-is : (k : ℕ) → plan-steps (write-steps k ∷ committing ∷ placing k ∷ ending ∷ []) ≡ tab (λ b. step.Write (file.NewBlock b)) k ++ from-commit k
+unfolding write-steps committing plan-steps
 writing-is k = rw append-assoc
 
 pub writing-below : (k i : ℕ) → i < k → step.Write (file.NewBlock i) ≡ writing-step k i
@@ -71,12 +71,12 @@ behind-first s ss zero h = absurd (omega arith)
 behind-first s ss (suc i) h = let e : suc i - 1 ≡ i = omega arith in rw e
 
 pub save-first : (k i : ℕ) → i ≡ 0 → step.Keep ≡ save-step k i
-unfolding save-step save-stages steps
+unfolding save-step save-stages plan-steps
 save-first k i e = rw e
 
 pub save-later : (k i : ℕ) → 0 < i → writing-step k (i - 1) ≡ save-step k i
-unfolding save-step writing-step save-stages steps
-save-later k i h = behind-first step.Keep (steps (writing k ∷ committing ∷ placing k ∷ ending ∷ [])) i h
+unfolding save-step writing-step save-stages plan-steps
+save-later k i h = behind-first step.Keep (plan-steps (write-steps k ∷ committing ∷ placing k ∷ ending ∷ [])) i h
 
 -- A RECOVERY: a Keep, then
 abbrev pub after-blocks : ℕ → List Bool → List Step
@@ -84,8 +84,8 @@ after-blocks k there =
     cond (getD there 16 false) (step.Remove file.NewCommit) step.Nothing ∷ step.Keep
     ∷ cond (ltb 0 k) (step.Remove file.Commit) step.Nothing ∷ step.Keep ∷ []
 
-recover-is : (k : ℕ) (there : List Bool) → steps (recover-stages k there) ≡ step.Keep ∷ (tab (tidied k there) 16 ++ after-blocks k there)
-unfolding recover-stages tidying steps
+recover-is : (k : ℕ) (there : List Bool) → plan-steps (recover-stages k there) ≡ step.Keep ∷ (tab (tidied k there) 16 ++ after-blocks k there)
+unfolding recover-stages tidying plan-steps
 recover-is k there = rw append-assoc
 
 pub recover-first : (k : ℕ) (there : List Bool) (i : ℕ) → i ≡ 0 → step.Keep ≡ recover-step k there i

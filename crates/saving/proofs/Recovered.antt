@@ -17,7 +17,7 @@ use Rattle.laws.proofs.Tests.{by-cases, eq-or-ne}
 use Rattle.commands.specs.declared.names.File.the-variants as file
 use Rattle.saving.specs.declared.plan.Step.{Step}
 use Rattle.saving.specs.declared.plan.Step.the-variants as step
-use Rattle.saving.specs.Plan.{steps, tidied, tidying, recover-stages}
+use Rattle.saving.specs.Plan.{plan-steps, tidied, tidying, recover-stages}
 use Rattle.saving.specs.Folder.{Folder, does, all-of, Cut, blocks-of, seen, Alike, LooksRight, there, recovery, no-bytes, Recoveries, no-recovery, again, Readable, recovered, RecoverKeeps}
 use Rattle.saving.proofs.Plans.{in-table, past-table}
 use Rattle.saving.proofs.Folders.{Steady, some-keeps, all-keeps, all-append, cut-first, cut-none, some-end}
@@ -177,8 +177,8 @@ module _ (d : Folder) where
 
   -- WHAT IS LEFT AT THE END
   recovered-is : recovered d ≡ does no-bytes end-step all-tidied
-  unfolding does steps
-  recovered-is = ap (λ (stages : List (List Step)). all-of no-bytes (steps stages) d) stages-are ∙ all-append no-bytes (tidying k (there d)) (step.Keep ∷ end-step ∷ step.Keep ∷ []) d
+  unfolding does plan-steps
+  recovered-is = ap (λ (stages : List (List Step)). all-of no-bytes (plan-steps stages) d) stages-are ∙ all-append no-bytes (tidying k (there d)) (step.Keep ∷ end-step ∷ step.Keep ∷ []) d
 
   end-new : (e : Folder) (b : ℕ) → b < 16 → does no-bytes end-step e (file.NewBlock b) ≡ e (file.NewBlock b)
   unfolding does end-step

@@ -39,13 +39,13 @@ value-in (Value v past) = v
 value-in Bad = 0
 
 -- word i; 0 past the end
-unfoldable pub word-in : List ℕ → ℕ → ℕ
-word-in s i = value-in (read-at coordinate s (8 * i))
+unfoldable pub commit-word : List ℕ → ℕ → ℕ
+commit-word s i = value-in (read-at coordinate s (8 * i))
 
 -- how many blocks, 1 to 16; 0 where the bytes are no commit: their number is not that of their blocks
 unfoldable pub committed : List ℕ → ℕ
-committed s = let k = word-in s 0 in cond (ltb 0 k && leb k 16 && eqb (length s) (8 + 16 * k)) k 0
+committed s = let k = commit-word s 0 in cond (ltb 0 k && leb k 16 && eqb (length s) (8 + 16 * k)) k 0
 
 -- of block b
 unfoldable pub entry-in : List ℕ → ℕ → Entry
-entry-in s b = record { size = word-in s (1 + 2 * b); digest = word-in s (2 + 2 * b) }
+entry-in s b = record { size = commit-word s (1 + 2 * b); digest = commit-word s (2 + 2 * b) }

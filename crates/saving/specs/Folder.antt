@@ -22,7 +22,7 @@ use Rattle.saving.specs.declared.look.Found.{Found}
 use Rattle.saving.specs.declared.look.Found.the-variants as found
 use Rattle.saving.specs.declared.look.Look.{Look}
 use Rattle.saving.specs.declared.look.Look.the-variants as look
-use Rattle.saving.specs.Plan.{steps, writing, committing, placing, ending, save-stages, recover-stages}
+use Rattle.saving.specs.Plan.{plan-steps, write-steps, committing, placing, ending, save-stages, recover-stages}
 use Rattle.saving.specs.Commit.{entry-of, commit-of, committed, entry-in}
 use Rattle.saving.specs.Looks.{same-entry, look-of}
 
@@ -31,19 +31,19 @@ abbrev pub Folder : Type 0
 Folder = File → Option (List ℕ)
 
 -- a file put under a name, or taken from it; two files are one if their names are
-unfoldable pub put : File → Option (List ℕ) → Folder → Folder
-put f x d g = cond (same-name f g) x (d g)
+unfoldable pub put-file : File → Option (List ℕ) → Folder → Folder
+put-file f x d g = cond (same-name f g) x (d g)
 
 -- a file that is there gets another name
 abbrev pub moved : Option (List ℕ) → File → File → Folder → Folder
 moved none f g d = d
-moved (some bytes) f g d = put f none (put g (some bytes) d)
+moved (some bytes) f g d = put-file f none (put-file g (some bytes) d)
 
 -- STEPS; `c` has the bytes that are written under each name
 unfoldable pub does : (File → List ℕ) → Step → Folder → Folder
-does c (step.Write f) d = put f (some (c f)) d
+does c (step.Write f) d = put-file f (some (c f)) d
 does c (step.Rename f g) d = moved (d f) f g d
-does c (step.Remove f) d = put f none d
+does c (step.Remove f) d = put-file f none d
 does c step.Keep d = d
 does c step.Nothing d = d
 
@@ -52,23 +52,23 @@ all-of c [] d = d
 all-of c (s ∷ ss) d = all-of c ss (does c s d)
 
 -- the folder after n steps
-abbrev pub at : (File → List ℕ) → List Step → Folder → ℕ → Folder
-at c ss d zero = d
-at c [] d (suc n) = d
-at c (s ∷ ss) d (suc n) = at c ss (does c s d) n
+abbrev pub folder-at : (File → List ℕ) → List Step → Folder → ℕ → Folder
+folder-at c ss d zero = d
+folder-at c [] d (suc n) = d
+folder-at c (s ∷ ss) d (suc n) = folder-at c ss (does c s d) n
 
 -- A CUT, of power or of the program. Of the stage under way the disk has each step or has it not; of a writing it may have any bytes, or
 -- no file
-pub data Some (c : File → List ℕ) : List Step → Folder → Folder → Type 0 where
-  no-more : {d : Folder} → Some c [] d d
-  not-done : {s : Step} {ss : List Step} {d e : Folder} → Some c ss d e → Some c (s ∷ ss) d e
-  done : {s : Step} {ss : List Step} {d e : Folder} → Some c ss (does c s d) e → Some c (s ∷ ss) d e
-  in-part : {f : File} {ss : List Step} {d e : Folder} (x : Option (List ℕ)) → Some c ss (put f x d) e → Some c (step.Write f ∷ ss) d e
+pub data SomeFile (c : File → List ℕ) : List Step → Folder → Folder → Type 0 where
+  no-more : {d : Folder} → SomeFile c [] d d
+  not-done : {s : Step} {ss : List Step} {d e : Folder} → SomeFile c ss d e → SomeFile c (s ∷ ss) d e
+  done : {s : Step} {ss : List Step} {d e : Folder} → SomeFile c ss (does c s d) e → SomeFile c (s ∷ ss) d e
+  in-part : {f : File} {ss : List Step} {d e : Folder} (x : Option (List ℕ)) → SomeFile c ss (put-file f x d) e → SomeFile c (step.Write f ∷ ss) d e
 
 -- of the stages before it all, since a Keep ended them; of later ones nothing
 pub data Cut (c : File → List ℕ) : List (List Step) → Folder → Folder → Type 0 where
   at-end : {d : Folder} → Cut c [] d d
-  within : {stage : List Step} {stages : List (List Step)} {d e : Folder} → Some c stage d e → Cut c (stage ∷ stages) d e
+  within : {stage : List Step} {stages : List (List Step)} {d e : Folder} → SomeFile c stage d e → Cut c (stage ∷ stages) d e
   past : {stage : List Step} {stages : List (List Step)} {d e : Folder} → Cut c stages (all-of c stage d) e → Cut c (stage ∷ stages) d e
 
 -- WHAT IS SEEN: where there is a commit of k blocks, a block below k by its new file, if that is there; else by its own. The program asks
@@ -77,12 +77,12 @@ abbrev pub blocks-of : Option (List ℕ) → ℕ
 blocks-of none = 0
 blocks-of (some bytes) = committed bytes
 
-abbrev pub first : Option (List ℕ) → Option (List ℕ) → Option (List ℕ)
-first none o = o
-first (some bytes) o = some bytes
+abbrev pub first-of : Option (List ℕ) → Option (List ℕ) → Option (List ℕ)
+first-of none o = o
+first-of (some bytes) o = some bytes
 
 unfoldable pub seen : Folder → ℕ → Option (List ℕ)
-seen d b = cond (ltb b (blocks-of (d file.Commit))) (first (d (file.NewBlock b)) (d (file.Block b))) (d (file.Block b))
+seen d b = cond (ltb b (blocks-of (d file.Commit))) (first-of (d (file.NewBlock b)) (d (file.Block b))) (d (file.Block b))
 
 -- sixteen blocks, file by file
 abbrev pub Alike : (ℕ → Option (List ℕ)) → (ℕ → Option (List ℕ)) → Type 0
@@ -122,10 +122,10 @@ abbrev pub renewed : ℕ → (ℕ → List ℕ) → Folder → ℕ → Option (L
 renewed k c d b = cond (ltb b k) (some (c b)) (d (file.Block b))
 
 abbrev pub saving : ℕ → (ℕ → List ℕ) → Folder → ℕ → Folder
-saving k c d n = at (saves k c) (steps (save-stages k)) d n
+saving k c d n = folder-at (saves k c) (plan-steps (save-stages k)) d n
 
 abbrev pub saved : ℕ → (ℕ → List ℕ) → Folder → Folder
-saved k c d = all-of (saves k c) (steps (save-stages k)) d
+saved k c d = all-of (saves k c) (plan-steps (save-stages k)) d
 
 -- from a folder without a commit, of one block to sixteen: step by step the old basin is seen until step k + 4 has given the commit its
 -- name, and the new one from then on; wherever the save is cut, one of the two, and the new one once a Keep has followed that step; what
@@ -161,7 +161,7 @@ abbrev pub Readable : Folder → Type 0
 Readable d = (d file.Commit ≡ none) ⊎ (0 < blocks-of (d file.Commit))
 
 abbrev pub recovered : Folder → Folder
-recovered d = all-of no-bytes (steps (recovery d)) d
+recovered d = all-of no-bytes (plan-steps (recovery d)) d
 
 -- in any folder recoveries keep what is seen, however often they are cut; one that ends leaves it under the blocks' own names, and no
 -- other file
@@ -189,7 +189,7 @@ pub record Reading (k : ℕ) (c : ℕ → List ℕ) (d : Folder) : Type 0 where
   pub before : (b : ℕ) → b < 16 → opened b ≤ instant
   pub after : (b : ℕ) → b < 16 → instant ≤ again b
   pub no-commit : saving k c d instant file.Commit ≡ none
-  pub same-file : (b t : ℕ) → b < 16 → opened b ≤ t → t < again b → touches (getD (steps (save-stages k)) t step.Nothing) (file.Block b) ≡ false
+  pub same-file : (b t : ℕ) → b < 16 → opened b ≤ t → t < again b → touches (getD (plan-steps (save-stages k)) t step.Nothing) (file.Block b) ≡ false
 
 -- what it has read is one basin, the old or the new
 abbrev pub read : {k : ℕ} {c : ℕ → List ℕ} {d : Folder} → Reading k c d → ℕ → Option (List ℕ)

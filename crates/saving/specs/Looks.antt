@@ -21,6 +21,6 @@ abbrev pub file-found : Found → Bool
 file-found (found.File f) = true
 file-found found.Nothing = false
 
-abbrev pub found-of : Found → Entry → Bool
-found-of (found.File f) e = same-entry f e
-found-of found.Nothing e = false
+abbrev pub look-found : Found → Entry → Bool
+look-found (found.File f) e = same-entry f e
+look-found found.Nothing e = false

@@ -11,14 +11,14 @@ use Rattle.commands.specs.declared.names.File.the-variants as file
 use Rattle.saving.specs.declared.plan.Step.{Step}
 use Rattle.saving.specs.declared.plan.Step.the-variants as step
 
-unfoldable pub steps : List (List Step) → List Step
-steps [] = []
-steps (stage ∷ stages) = stage ++ step.Keep ∷ steps stages
+unfoldable pub plan-steps : List (List Step) → List Step
+plan-steps [] = []
+plan-steps (stage ∷ stages) = stage ++ step.Keep ∷ plan-steps stages
 
 -- A SAVE of k blocks: the new files and the new commit are written; the commit gets its name; each new file gets its block's name; the
 -- commit goes
-unfoldable pub writing : ℕ → List Step
-writing k = tab (λ b. step.Write (file.NewBlock b)) k ++ step.Write file.NewCommit ∷ []
+unfoldable pub write-steps : ℕ → List Step
+write-steps k = tab (λ b. step.Write (file.NewBlock b)) k ++ step.Write file.NewCommit ∷ []
 
 unfoldable pub committing : List Step
 committing = step.Rename file.NewCommit file.Commit ∷ []
@@ -30,10 +30,10 @@ unfoldable pub ending : List Step
 ending = step.Remove file.Commit ∷ []
 
 unfoldable pub save-stages : ℕ → List (List Step)
-save-stages k = [] ∷ writing k ∷ committing ∷ placing k ∷ ending ∷ []
+save-stages k = [] ∷ write-steps k ∷ committing ∷ placing k ∷ ending ∷ []
 
 unfoldable pub save-step : ℕ → ℕ → Step
-save-step k i = getD (steps (save-stages k)) i step.Nothing
+save-step k i = getD (plan-steps (save-stages k)) i step.Nothing
 
 -- A RECOVERY. Entry b of a list says whether the new file of block b is there, entry 16 whether the new commit is
 -- with a commit of k blocks the new files of these get their blocks' names; any other new file goes
@@ -49,11 +49,11 @@ unfoldable pub recover-stages : ℕ → List Bool → List (List Step)
 recover-stages k there = [] ∷ tidying k there ∷ (cond (ltb 0 k) (step.Remove file.Commit) step.Nothing ∷ []) ∷ []
 
 unfoldable pub recover-step : ℕ → List Bool → ℕ → Step
-recover-step k there i = getD (steps (recover-stages k there)) i step.Nothing
+recover-step k there i = getD (plan-steps (recover-stages k there)) i step.Nothing
 
 -- in code, the steps behind the first Keep of a save, and those behind the commit's
 unfoldable pub writing-step : ℕ → ℕ → Step
-writing-step k j = getD (steps (writing k ∷ committing ∷ placing k ∷ ending ∷ [])) j step.Nothing
+writing-step k j = getD (plan-steps (write-steps k ∷ committing ∷ placing k ∷ ending ∷ [])) j step.Nothing
 
 unfoldable pub placing-step : ℕ → ℕ → Step
-placing-step k j = getD (steps (placing k ∷ ending ∷ [])) j step.Nothing
+placing-step k j = getD (plan-steps (placing k ∷ ending ∷ [])) j step.Nothing

@@ -14,7 +14,7 @@ use Rattle.columns.specs.Columns.{all-below}
 use Rattle.mesh.specs.Parts.{blocks, part}
 use Rattle.commands.specs.declared.names.File.{File}
 use Rattle.commands.specs.declared.names.File.the-variants as files
-use Rattle.commands.specs.Names.{named, nameless}
+use Rattle.commands.specs.Names.{file-named, nameless}
 use Rattle.saving.specs.declared.plan.Step.{Step}
 use Rattle.saving.specs.declared.plan.Step.the-variants as step
 use Rattle.saving.specs.declared.prepare.Made.{Made}
@@ -25,9 +25,9 @@ use Rattle.saving.specs.declared.prepare.Known.{Known}
 use Rattle.saving.specs.declared.prepare.Known.the-variants as known-variants
 use Rattle.saving.specs.Commit.{entry-of, commit-of}
 
-abbrev pub when : {A : Type 0} → Bool → A → Option A
-when true a = some a
-when false a = none
+abbrev pub act-when : {A : Type 0} → Bool → A → Option A
+act-when true a = some a
+act-when false a = none
 
 -- WHAT IS WRITTEN
 -- block b of a mesh has a file: questions 1 and 2 of save file are answered yes
@@ -44,15 +44,15 @@ all-savable m = ltb 0 (blocks m) && leb (blocks m) 16 && all-below (savable m) (
 
 -- under each name: the new file of a block, and the commit of all of them; a file in its place and the commit are never written
 unfoldable pub contents : List ℕ → File → Option (List ℕ)
-contents m (files.NewBlock b) = when (savable m b) (file-of m b)
-contents m files.NewCommit = when (all-savable m) (commit-of (tab (λ b. entry-of (file-of m b)) (blocks m)))
+contents m (files.NewBlock b) = act-when (savable m b) (file-of m b)
+contents m files.NewCommit = act-when (all-savable m) (commit-of (tab (λ b. entry-of (file-of m b)) (blocks m)))
 contents m (files.Block b) = none
 contents m files.Commit = none
 
 -- INTO A ROOM, where the bytes fit
 abbrev pub fitting : List ℕ → Option (List ℕ) → Option (List ℕ)
 fitting room none = none
-fitting room (some bytes) = when (leb (length bytes) (length room)) bytes
+fitting room (some bytes) = act-when (leb (length bytes) (length room)) bytes
 
 -- what the room has then: the bytes first, and behind them what it had
 abbrev pub left-by : Option (List ℕ) → List ℕ → List ℕ
@@ -69,10 +69,10 @@ handed m room step.Nothing = none
 
 -- the step's own names, and how many bytes of the room are the file
 abbrev pub deed-of : Step → Option (List ℕ) → Deed
-deed-of (step.Write f) (some bytes) = record { act = act.Write (length bytes); name = named f; other = nameless }
+deed-of (step.Write f) (some bytes) = record { act = act.Write (length bytes); name = file-named f; other = nameless }
 deed-of (step.Write f) none = record { act = act.Cannot; name = nameless; other = nameless }
-deed-of (step.Rename f g) x = record { act = act.Rename; name = named f; other = named g }
-deed-of (step.Remove f) x = record { act = act.Remove; name = named f; other = nameless }
+deed-of (step.Rename f g) x = record { act = act.Rename; name = file-named f; other = file-named g }
+deed-of (step.Remove f) x = record { act = act.Remove; name = file-named f; other = nameless }
 deed-of step.Keep x = record { act = act.Keep; name = nameless; other = nameless }
 deed-of step.Nothing x = record { act = act.Nothing; name = nameless; other = nameless }
 
@@ -86,7 +86,7 @@ made-of none = made.Cannot
 made-of (some bytes) = made.Bytes (length bytes)
 
 -- bytes put into a room
-pub record Put (x : Option (List ℕ)) (before after : List ℕ) (r : Made) : Type 0 where
+pub record StepPut (x : Option (List ℕ)) (before after : List ℕ) (r : Made) : Type 0 where
   pub answer : r ≡ made-of (fitting before x)
   pub left : after ≡ left-by (fitting before x) before
 
@@ -95,7 +95,7 @@ unfoldable pub known : List ℕ → ℕ → Known
 known m b = cond (savable m b) (known-variants.Is (entry-of (file-of m b))) known-variants.Not
 
 -- the commit of k blocks at the start of an array; or that one of them has no file
-pub record Entered (m : List ℕ) (k : ℕ) (before after : List ℕ) (r : Bool) : Type 0 where
+pub record BlockEntered (m : List ℕ) (k : ℕ) (before after : List ℕ) (r : Bool) : Type 0 where
   pub all : r ≡ all-below (savable m) k
   pub size : length after ≡ length before
   pub bytes : r ≡ true → take (8 + 16 * k) after ≡ commit-of (tab (λ b. entry-of (file-of m b)) k)

@@ -4,7 +4,7 @@ ghost use Prim.Native.Nat.{_+_, _≤_, _<_};
 ghost use lib.ListN.{length};
 ghost use Rattle.groups.specs.Slices.{Stored};
 ghost use Rattle.saving.specs.Commit.{digest as digest-in, entry-of as entry-for, entry-bytes};
-ghost use Rattle.saving.specs.Commit.{word-in as word-of, committed as committed-in, entry-in as entry-at};
+ghost use Rattle.saving.specs.Commit.{commit-word as word-of, committed as committed-in, entry-in as entry-at};
 use groups::Read;
 use memory::header::Header;
 

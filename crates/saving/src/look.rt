@@ -1,6 +1,6 @@
 // Whether the files of a block are those that were committed.
 ghost use mathlib.Core.Path.{_≡_};
-ghost use Rattle.saving.specs.Looks.{same-entry, file-found, found-of, look-of};
+ghost use Rattle.saving.specs.Looks.{same-entry, file-found, look-found, look-of};
 use crate::commit::Entry;
 
 // What stands under a name.
@@ -35,7 +35,7 @@ fn is_file(found: Found) -> bool
 
 // Whether a file was found, and is the one of an entry.
 fn is_of(found: Found, entry: Entry) -> bool
-    ensures { λ r. ⌜ r ≡ found-of found entry ⌝ }
+    ensures { λ r. ⌜ r ≡ look-found found entry ⌝ }
 {
     match found {
         Found::File(f) => same(f, entry),

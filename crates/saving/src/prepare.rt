@@ -3,7 +3,7 @@ ghost use mathlib.Core.Path.{_≡_};
 ghost use mathlib.Core.List.{_++_};
 ghost use Prim.Native.Nat.{_*_, _+_, _≤_};
 ghost use lib.ListN.{length, take, drop};
-ghost use Rattle.saving.specs.Prepare.{contents, Put, known, Entered, Prepared};
+ghost use Rattle.saving.specs.Prepare.{contents, StepPut, known, BlockEntered, Prepared};
 use crate::commit;
 use crate::commit::Entry;
 use crate::plan::Step;
@@ -43,7 +43,7 @@ enum Known {
 
 // The file of block b of a mesh.
 fn put_file(mesh: &[u64], b: usize, out: &mut [u8]) -> Made
-    ensures { λ r. ⌜ Put (contents (now (mesh .entry)) (File.NewBlock b)) (now (out .entry)) (now (out .exit)) r ⌝ }
+    ensures { λ r. ⌜ StepPut (contents (now (mesh .entry)) (File.NewBlock b)) (now (out .entry)) (now (out .exit)) r ⌝ }
 {
     if mesh.len() / Header::WORDS <= b {
         return Made::Cannot;
@@ -75,7 +75,7 @@ fn entry_of_block(mesh: &[u64], b: usize) -> Known
 // The entries of k blocks behind the first word; whether all of them have one.
 fn put_entries(mesh: &[u64], k: usize, out: &mut [u8]) -> bool
     requires { ⌜ (k ≤ 16) × (8 + 16 * k ≤ length (now out)) ⌝ }
-    ensures { λ r. ⌜ Entered (now (mesh .entry)) k (now (out .entry)) (now (out .exit)) r ⌝ }
+    ensures { λ r. ⌜ BlockEntered (now (mesh .entry)) k (now (out .entry)) (now (out .exit)) r ⌝ }
 {
     let mut past = groups::put_coordinate(out, 0, k as u64);
     // The entries of the blocks below b are put, up to past.
@@ -100,7 +100,7 @@ fn put_bytes(commit: &[u8], n: usize, room: &mut [u8])
 
 // The commit of all blocks of a mesh.
 fn put_commit(mesh: &[u64], room: &mut [u8]) -> Made
-    ensures { λ r. ⌜ Put (contents (now (mesh .entry)) File.NewCommit) (now (room .entry)) (now (room .exit)) r ⌝ }
+    ensures { λ r. ⌜ StepPut (contents (now (mesh .entry)) File.NewCommit) (now (room .entry)) (now (room .exit)) r ⌝ }
 {
     let k = mesh.len() / Header::WORDS;
     if k < 1 {
@@ -123,7 +123,7 @@ fn put_commit(mesh: &[u64], room: &mut [u8]) -> Made
 
 // What is written under a name: a new file or a new commit, and nothing else.
 fn put_contents(file: File, mesh: &[u64], room: &mut [u8]) -> Made
-    ensures { λ r. ⌜ Put (contents (now (mesh .entry)) file) (now (room .entry)) (now (room .exit)) r ⌝ }
+    ensures { λ r. ⌜ StepPut (contents (now (mesh .entry)) file) (now (room .entry)) (now (room .exit)) r ⌝ }
 {
     match file {
         File::NewBlock(b) => put_file(mesh, b, room),

@@ -28,7 +28,7 @@ use Rattle.cells.proofs.Reached.{places, places-below}
 use Rattle.cells.proofs.Walks.{sum-marks}
 use Rattle.cells.proofs.Sited.{sited}
 use Rattle.cells.proofs.FaceLaws.{keep-append}
-use Rattle.selection.specs.Picked.{size-at, Sizes, Walkable, Some, holds-at, Marking, Through}
+use Rattle.selection.specs.Picked.{picked-size, Sizes, Walkable, SomePicked, holds-at, Marking, Through}
 use Rattle.selection.proofs.PickedPlaces.{picked-places}
 
 -- ONE POINT of a block's memory
@@ -57,10 +57,10 @@ module _ {t : ℕ → Bool} {order : List ℕ} {from i : ℕ} (w : Looking t ord
     before = λ k a b. ⊎-elim (λ same. ap (λ (x : ℕ). t (getD order x 0)) same ∙ sym e ∙ no-more) (λ below. w .before k a below) (last-or-below b);
   }
 
-  pub looked-found : (to : ℕ) → i < to → {r : Bool} → r ≡ t (getD order i 0) → r ≡ true → Some t order from to true
+  pub looked-found : (to : ℕ) → i < to → {r : Bool} → r ≡ t (getD order i 0) → r ≡ true → SomePicked t order from to true
   looked-found to h e done = record { found = λ s. (i, w .i-from, h, sym e ∙ done); nothing = λ s. absurd (true≢false s) }
 
-  pub looked-all : (to : ℕ) → to ≤ i → Some t order from to false
+  pub looked-all : (to : ℕ) → to ≤ i → SomePicked t order from to false
   looked-all to h = record { found = λ s. absurd (true≢false (sym s)); nothing = λ s k a b. w .before k a (omega arith) }
 
 -- HOW MANY of the first p places pass
@@ -91,7 +91,7 @@ pub record Measuring (o : Oracle) (m : List ℕ) (sizes marks order : List ℕ) 
   pub through : Through m p marks order tail
   pub p-le : p ≤ getD m 2 0
   pub len : getD m 2 0 ≤ length sizes
-  pub told : (q : ℕ) → q < p → getD sizes q 0 ≡ size-at o m q
+  pub told : (q : ℕ) → q < p → getD sizes q 0 ≡ picked-size o m q
 
 no-marks : (n : ℕ) (f g : ℕ → ℕ) (marks order : List ℕ) → n ≤ length marks → Clear marks → n ≤ length order → Marking n f g marks order 0
 no-marks n f g marks order lm clear lo = record {
@@ -121,13 +121,13 @@ measuring-start o m sizes marks order ls lm clear lo = record {
 }
 
 pub measuring-next : {o : Oracle} {m sizes marks order : List ℕ} {tail p : ℕ} → Measuring o m sizes marks order tail p → p < getD m 2 0
-    → {marks′ order′ : List ℕ} {tail′ : ℕ} → Through m (p + 1) marks′ order′ tail′ → {x : ℕ} → x ≡ size-at o m p → Measuring o m (set sizes p x) marks′ order′ tail′ (p + 1)
+    → {marks′ order′ : List ℕ} {tail′ : ℕ} → Through m (p + 1) marks′ order′ tail′ → {x : ℕ} → x ≡ picked-size o m p → Measuring o m (set sizes p x) marks′ order′ tail′ (p + 1)
 measuring-next {o} {m} {sizes} {marks} {order} {tail} {p} w h t {x} e = record {
   through = t;
   p-le = omega arith;
   len = simp length-set (w .len);
   told = λ q l. ⊎-elim
-      (λ same. ap (λ (y : ℕ). getD (set sizes p x) y 0) same ∙ getD-set-same sizes p x 0 (omega (arith, w .len)) ∙ e ∙ ap (size-at o m) (sym same))
+      (λ same. ap (λ (y : ℕ). getD (set sizes p x) y 0) same ∙ getD-set-same sizes p x 0 (omega (arith, w .len)) ∙ e ∙ ap (picked-size o m) (sym same))
       (λ below. getD-set-other sizes p q x 0 (λ same. omega arith) ∙ w .told q below)
       (last-or-below l);
 }
@@ -143,7 +143,7 @@ walkable m ok = record { linked = sited m ok .linked; finite-at = λ p h. finite
 pub picked-count : (o : Oracle) (m s : List ℕ) → holds-block m ≡ true → Sizes o m s → {c : ℕ} → c ≡ count-below (λ p. ltb 0 (getD s p 0)) (getD m 2 0)
     → (c ≡ length (picked o (block-in m .darts))) × (c ≤ room)
 picked-count o m s ok z e = (
-  e ∙ ap length (keep-cong (λ p. ltb 0 (getD s p 0)) (λ p. ltb 0 (size-at o m p)) (places (getD m 2 0)) (λ p k. ap (ltb 0) (z .entry p (places-below (getD m 2 0) p k))))
-      ∙ sym (length-map (keep (λ p. ltb 0 (size-at o m p)) (places (getD m 2 0))) (column m 0)) ∙ ap length (sym (picked-places o m ok)),
+  e ∙ ap length (keep-cong (λ p. ltb 0 (getD s p 0)) (λ p. ltb 0 (picked-size o m p)) (places (getD m 2 0)) (λ p k. ap (ltb 0) (z .entry p (places-below (getD m 2 0) p k))))
+      ∙ sym (length-map (keep (λ p. ltb 0 (picked-size o m p)) (places (getD m 2 0))) (column m 0)) ∙ ap length (sym (picked-places o m ok)),
   omega (arith, count-few (λ p. ltb 0 (getD s p 0)) (getD m 2 0), sited m ok .linked .few),
 )

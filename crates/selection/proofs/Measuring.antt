@@ -18,7 +18,7 @@ use Rattle.oracle.specs.Oracle.{holds}
 use Rattle.cells.specs.Places.{places-in, volume-of}
 use Rattle.cells.proofs.Walks.{eq-or-ne, last-or-below}
 use Rattle.cells.proofs.Reached.{volume-linked, volume-below, in-places-in, places-in-in}
-use Rattle.selection.specs.Picked.{volume-at, is-start, is-picked, size-at, Walkable, holds-at, Some, Marking, Added, Through, Measures}
+use Rattle.selection.specs.Picked.{volume-at, is-start, is-picked, picked-size, Walkable, holds-at, SomePicked, Marking, Added, Through, Measures}
 use Rattle.selection.proofs.Symmetric.{volume-sym}
 use Rattle.selection.proofs.Adding.{volume-away}
 
@@ -43,7 +43,7 @@ in-length x [] h = absurd (true≢false (sym h))
 in-length x (y ∷ l) h = omega arith
 
 -- some place of the queue's new part passes exactly if some place of the volume does
-pub some-any : {n : ℕ} {v m₀ m o : List ℕ} {t₀ t : ℕ} {q : ℕ → Bool} {r : Bool} → Added n v m₀ t₀ m o t → ((y : ℕ) → In y v → y < n) → Some q o t₀ t r → any q (places-in n v) ≡ r
+pub some-any : {n : ℕ} {v m₀ m o : List ℕ} {t₀ t : ℕ} {q : ℕ → Bool} {r : Bool} → Added n v m₀ t₀ m o t → ((y : ℕ) → In y v → y < n) → SomePicked q o t₀ t r → any q (places-in n v) ≡ r
 some-any {n} {v} {m₀} {m} {o} {t₀} {t} {q} {r} a inside s = by-cases r
     (λ e. let f = s .found e in
     let i = a .new-in (f .0) (f .1) (f .2) in
@@ -72,8 +72,8 @@ module _ {m : List ℕ} (o : Oracle) (wk : Walkable m) {p : ℕ} (h : p < getD m
       (λ s. absurd (omega (arith, leb-true p (b .0) (all-in (leb p) (volume-at m p) s (b .0) (in-places-in n v (b .0) (omega (arith, b .1)) r)), b .1)))
       (λ s. s)
 
-  no-size : (is-start m p && is-picked o m p) ≡ false → 0 ≡ size-at o m p
-  unfolding size-at
+  no-size : (is-start m p && is-picked o m p) ≡ false → 0 ≡ picked-size o m p
+  unfolding picked-size
   no-size e = rw e refl
 
   pub measured-none : (getD marks p 0 ≡ 0 → ⊥) → Measures o m p (record { tail = tail; size = 0 }) marks order
@@ -115,14 +115,14 @@ module _ {m : List ℕ} (o : Oracle) (wk : Walkable m) {p : ℕ} (h : p < getD m
           (λ e. let b = th .behind q (sym (ap (λ (t : Bool). cond t 1 (getD marks q 0)) e) ∙ sym (a .mark q) ∙ k) in (b .0, omega (arith, b .1), b .2));
     }
 
-    pub measured-first : {r : Bool} → Some (holds-at o false m) order′ tail tail′ r → not r ≡ true → Measures o m p (record { tail = tail′; size = 0 }) marks′ order′
+    pub measured-first : {r : Bool} → SomePicked (holds-at o false m) order′ tail tail′ r → not r ≡ true → Measures o m p (record { tail = tail′; size = 0 }) marks′ order′
     measured-first {r} s e = record { through = next; size-is = no-size (none (is-start m p) (picked-by (some-any a inside s ∙ not-true r e) refl)) }
       where
         none : (b : Bool) {x : Bool} → x ≡ false → (b && x) ≡ false
         none true q = q
         none false q = refl
 
-    module _ {r : Bool} (s : Some (holds-at o false m) order′ tail tail′ r) (e : not r ≡ false) {r′ : Bool} (s′ : Some (holds-at o true m) order′ tail tail′ r′) where
+    module _ {r : Bool} (s : SomePicked (holds-at o false m) order′ tail tail′ r) (e : not r ≡ false) {r′ : Bool} (s′ : SomePicked (holds-at o true m) order′ tail tail′ r′) where
       picked-is : is-picked o m p ≡ r′
       picked-is = picked-by (some-any a inside s ∙ not-false r e) (some-any a inside s′)
 
@@ -133,8 +133,8 @@ module _ {m : List ℕ} (o : Oracle) (wk : Walkable m) {p : ℕ} (h : p < getD m
           none true q = q
           none false q = refl
 
-      whole : r′ ≡ true → size-at o m p ≡ length (volume-at m p)
-      unfolding size-at
+      whole : r′ ≡ true → picked-size o m p ≡ length (volume-at m p)
+      unfolding picked-size
       whole e′ = full (is-start m p && is-picked o m p) (rw (starts, picked-is, e′) refl) (length (volume-at m p))
         where
           full : (t : Bool) → t ≡ true → (x : ℕ) → cond t x 0 ≡ x

@@ -19,7 +19,7 @@ use Rattle.cells.specs.Places.{volume-of}
 use Rattle.cells.proofs.Reached.{places, places-below, volume-linked, in-places-in, places-in-in}
 use Rattle.cells.proofs.Sited.{Sited, sited, darts-in, dart-is}
 use Rattle.cells.proofs.Serials.{volume-serials, volume-size}
-use Rattle.selection.specs.Picked.{volume-at, is-start, is-picked, size-at}
+use Rattle.selection.specs.Picked.{volume-at, is-start, is-picked, picked-size}
 
 module _ (o : Oracle) (m : List ℕ) (ok : holds-block m ≡ true) where
   abbrev n : ℕ
@@ -51,22 +51,22 @@ module _ (o : Oracle) (m : List ℕ) (ok : holds-block m ≡ true) where
       long [] i = absurd (true≢false (sym i))
       long (x ∷ l) i = omega arith
 
-  size-test : (p : ℕ) → p < n → (is-start m p && is-picked o m p) ≡ ltb 0 (size-at o m p)
-  unfolding size-at
+  size-test : (p : ℕ) → p < n → (is-start m p && is-picked o m p) ≡ ltb 0 (picked-size o m p)
+  unfolding picked-size
   size-test p h = go (is-start m p && is-picked o m p)
     where
       go : (t : Bool) → t ≡ ltb 0 (cond t (length (volume-at m p)) 0)
       go true = sym (lt-ltb 0 (length (volume-at m p)) (some-darts p h))
       go false = refl
 
-  pub picked-places : picked o (darts-in m) ≡ map s (keep (λ p. ltb 0 (size-at o m p)) (places n))
+  pub picked-places : picked o (darts-in m) ≡ map s (keep (λ p. ltb 0 (picked-size o m p)) (places n))
   unfolding picked volume-starts
   picked-places =
       ap (λ (l : List ℕ). keep picks-at (keep start-at l)) serials-by-place
       ∙ ap (keep picks-at) (keep-map start-at s (places n))
       ∙ keep-map picks-at s (keep (λ p. start-at (s p)) (places n))
       ∙ ap (map s) (keep-twice (λ p. picks-at (s p)) (λ p. start-at (s p)) (places n)
-      ∙ keep-cong (λ p. start-at (s p) && picks-at (s p)) (λ p. ltb 0 (size-at o m p)) (places n)
+      ∙ keep-cong (λ p. start-at (s p) && picks-at (s p)) (λ p. ltb 0 (picked-size o m p)) (places n)
       (λ p k. let h = places-below n p k in both (start-is p h) (ap (picks o) (points-are p h)) ∙ size-test p h))
     where
       picks-at : ℕ → Bool
@@ -79,8 +79,8 @@ module _ (o : Oracle) (m : List ℕ) (ok : holds-block m ≡ true) where
       both x y = rw (x, y)
 
   -- the size of a picked volume
-  pub size-is : (p : ℕ) → p < n → ltb 0 (size-at o m p) ≡ true → length (volume-in (darts-in m) (s p)) ≡ size-at o m p
-  unfolding size-at
+  pub size-is : (p : ℕ) → p < n → ltb 0 (picked-size o m p) ≡ true → length (volume-in (darts-in m) (s p)) ≡ picked-size o m p
+  unfolding picked-size
   size-is p h e = volume-size site p h ∙ go (is-start m p && is-picked o m p) e
     where
       go : (t : Bool) → ltb 0 (cond t (length (volume-at m p)) 0) ≡ true → length (volume-at m p) ≡ cond t (length (volume-at m p)) 0

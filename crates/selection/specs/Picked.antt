@@ -25,13 +25,13 @@ abbrev pub is-picked : Oracle → List ℕ → ℕ → Bool
 is-picked o m p = picks o (map (λ q. dart-in m q .point) (volume-at m p))
 
 -- how many darts the picked volume has that p starts; 0 where it starts none
-unfoldable pub size-at : Oracle → List ℕ → ℕ → ℕ
-size-at o m p = cond (is-start m p && is-picked o m p) (length (volume-at m p)) 0
+unfoldable pub picked-size : Oracle → List ℕ → ℕ → ℕ
+picked-size o m p = cond (is-start m p && is-picked o m p) (length (volume-at m p)) 0
 
 -- these sizes in a table
 pub record Sizes (o : Oracle) (m sizes : List ℕ) : Type 0 where
   pub len : getD m 2 0 ≤ length sizes
-  pub entry : (p : ℕ) → p < getD m 2 0 → getD sizes p 0 ≡ size-at o m p
+  pub entry : (p : ℕ) → p < getD m 2 0 → getD sizes p 0 ≡ picked-size o m p
 
 -- a block's memory that can be walked, with finite points
 pub record Walkable (m : List ℕ) : Type 0 where
@@ -43,7 +43,7 @@ abbrev pub holds-at : Oracle → Bool → List ℕ → ℕ → Bool
 holds-at o second m q = holds o second (dart-in m q .point)
 
 -- some of the places from one index on up to another passes
-pub record Some (t : ℕ → Bool) (order : List ℕ) (from to : ℕ) (r : Bool) : Type 0 where
+pub record SomePicked (t : ℕ → Bool) (order : List ℕ) (from to : ℕ) (r : Bool) : Type 0 where
   pub found : r ≡ true → (k : ℕ) × (from ≤ k) × (k < to) × (t (getD order k 0) ≡ true)
   pub nothing : r ≡ false → (k : ℕ) → from ≤ k → k < to → t (getD order k 0) ≡ false
 
@@ -76,4 +76,4 @@ pub record Through (m : List ℕ) (p : ℕ) (marks order : List ℕ) (tail : ℕ
 -- what is measured at place p
 pub record Measures (o : Oracle) (m : List ℕ) (p : ℕ) (r : Measured) (marks order : List ℕ) : Type 0 where
   pub through : Through m (p + 1) marks order (r .tail)
-  pub size-is : r .size ≡ size-at o m p
+  pub size-is : r .size ≡ picked-size o m p

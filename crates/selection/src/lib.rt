@@ -10,7 +10,7 @@ ghost use Rattle.model.specs.Image.{words-for, column, count-in, block-in, hold
 ghost use Rattle.model.specs.Balance.{picked as model-picked};
 ghost use Rattle.oracle.specs.Oracle.{oracle-of};
 ghost use Rattle.cells.specs.Places.{Clear, Linked, Visited, volume-of};
-ghost use Rattle.selection.specs.Picked.{Walkable, Some, holds-at, Marking, Added, Through, Measures, Sizes};
+ghost use Rattle.selection.specs.Picked.{Walkable, SomePicked, holds-at, Marking, Added, Through, Measures, Sizes};
 use memory::header::Header;
 use memory::point;
 use memory::record;
@@ -77,7 +77,7 @@ fn add_volume(
 // Whether the oracle's test holds at some of the places that stand in the queue from one index on up to another.
 fn some(block: &[u64], o: Oracle, second: bool, order: &[usize], from: usize, to: usize) -> bool
     requires { ⌜ Walkable (now block) × (to ≤ room) × (to ≤ length (now order)) × ((k : ℕ) → k < to → getD (now order) k 0 < getD (now block) 2 0) ⌝ }
-    ensures { λ r. ⌜ Some (holds-at (oracle-of o) second (now (block .entry))) (now (order .entry)) from to r ⌝ }
+    ensures { λ r. ⌜ SomePicked (holds-at (oracle-of o) second (now (block .entry))) (now (order .entry)) from to r ⌝ }
 {
     // It holds at none before i.
     let mut i = from;

@@ -27,7 +27,7 @@ use Rattle.departure.specs.Asked.{Departs, Surveyed, faces-at}
 use Rattle.departure.specs.declared.Counts.{Counts}
 use Rattle.departure.proofs.LeavesWith.{transfer-law, updates-law}
 use Rattle.outbox.specs.Runs.{run}
-use Rattle.outbox.specs.Whole.{Sized, transfer-for}
+use Rattle.outbox.specs.Whole.{TransferSized, transfer-for}
 use Rattle.outbox.specs.declared.transfer.Sizes.{Sizes}
 use Rattle.outbox.specs.ByBlocks.{told-put}
 use Rattle.outbox.proofs.Rest.{rest-length, stored-rest}
@@ -49,7 +49,7 @@ unfolding messages-at
 messages-of m j c marks numbers firsts = refl
 
 pub messages-length : (m : List ℕ) → holds-block m ≡ true → (j : ℕ) → j ≤ 15 → {c : Counts} {marks order starts numbers firsts : List ℕ} → Surveyed m c marks order starts numbers firsts
-    → {z : Sizes} → Sized (transfer-for m j c marks numbers firsts) z → {n : ℕ} → n ≡ length (run (told-put m j order starts (c .darts) (c .faces)) 16)
+    → {z : Sizes} → TransferSized (transfer-for m j c marks numbers firsts) z → {n : ℕ} → n ≡ length (run (told-put m j order starts (c .darts) (c .faces)) 16)
     → z .whole + n ≡ length (messages-at m j c marks numbers firsts)
 messages-length m ok j h {c} {marks} {order} {starts} {numbers} {firsts} s {z} w {n} e = omega (
   arith,

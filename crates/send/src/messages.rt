@@ -11,7 +11,7 @@ ghost use Rattle.answers.specs.Answers.{Gives, written-of};
 ghost use Rattle.groups.specs.Slices.{Stored};
 ghost use Rattle.departure.specs.Asked.{Surveyed};
 ghost use Rattle.outbox.specs.Runs.{run};
-ghost use Rattle.outbox.specs.Whole.{Sized, transfer-for};
+ghost use Rattle.outbox.specs.Whole.{TransferSized, transfer-for};
 ghost use Rattle.outbox.specs.ByBlocks.{Shares, told-put};
 ghost use Rattle.send.specs.Sent.{messages-at};
 use answers::Refusal;
@@ -39,7 +39,7 @@ fn put_both(
     requires { ⌜ holds-block (now block) ≡ true ⌝ }
     requires { ⌜ Surveyed (now block) counts (now marks) (now order) (now starts) (now numbers) (now firsts) ⌝ }
     requires { ⌜ (to ≤ last-block) × (getD (now block) 1 0 + counts .sewn < 2 ^ 32) ⌝ }
-    requires { ⌜ Sized (transfer-for (now block) to counts (now marks) (now numbers) (now firsts)) sizes × Shares (now block) (now order) (now starts) (counts .darts) (counts .faces) (counts .faces) (now labels) (now bytes) ⌝ }
+    requires { ⌜ TransferSized (transfer-for (now block) to counts (now marks) (now numbers) (now firsts)) sizes × Shares (now block) (now order) (now starts) (counts .darts) (counts .faces) (counts .faces) (now labels) (now bytes) ⌝ }
     requires { ⌜ sizes .whole + length (run (told-put (now block) to (now order) (now starts) (counts .darts) (counts .faces)) 16) ≤ length (now outbox) ⌝ }
     ensures { λ r. ⌜ Stored (now (outbox .entry)) 0 (messages-at (now (block .entry)) to counts (now (marks .entry)) (now (numbers .entry)) (now (firsts .entry))) (now (outbox .exit)) r ⌝ }
 {

@@ -17,19 +17,19 @@ use Rattle.laws.proofs.Maps.{tab-more}
 use Rattle.laws.proofs.Tables.{length-tab}
 use Rattle.cells.proofs.Walks.{eq-or-ne, last-or-below}
 use Rattle.cells.proofs.FaceLaws.{keep-append}
-use Rattle.stats.specs.Counting.{head-word, Headed, cell-word, Countable, Counted, face-starts, Started}
+use Rattle.stats.specs.Counting.{head-word, CountHeaded, cell-word, Countable, CountTold, face-starts, CountStarted}
 use Rattle.laws.proofs.Lists.{take-more}
 
 -- NOTHING COUNTED YET
-pub counted-none : (index : ℕ → ℕ) (T : List ℕ) → Counted index [] T T
+pub counted-none : (index : ℕ → ℕ) (T : List ℕ) → CountTold index [] T T
 counted-none index T = record { len = refl; value = λ i. omega arith }
 
 -- ONE ELEMENT MORE
 hits-more : (index : ℕ → ℕ) (l : List ℕ) (x i : ℕ) → length (keep (λ y. eqb (index y) i) (l ++ x ∷ [])) ≡ length (keep (λ y. eqb (index y) i) l) + length (keep (λ y. eqb (index y) i) (x ∷ []))
 hits-more index l x i = ap length (keep-append (λ y. eqb (index y) i) l (x ∷ [])) ∙ length-append (keep (λ y. eqb (index y) i) l) (keep (λ y. eqb (index y) i) (x ∷ []))
 
-pub counted-more : {index : ℕ → ℕ} {l T T′ : List ℕ} → Counted index l T T′ → (x i : ℕ) → i ≡ index x → i < length T
-    → {T″ : List ℕ} → T″ ≡ set T′ i (getD T′ i 0 + 1) → Counted index (l ++ x ∷ []) T T″
+pub counted-more : {index : ℕ → ℕ} {l T T′ : List ℕ} → CountTold index l T T′ → (x i : ℕ) → i ≡ index x → i < length T
+    → {T″ : List ℕ} → T″ ≡ set T′ i (getD T′ i 0 + 1) → CountTold index (l ++ x ∷ []) T T″
 counted-more {index} {l} {T} {T′} w x i e h {T″} s = record {
   len = ap length s ∙ simp length-set (w .len);
   value = λ k. ap (λ (t : List ℕ). getD t k 0) s ∙ eq-or-ne k i (λ same. hit k same) (λ other. miss k other);
@@ -47,7 +47,7 @@ counted-more {index} {l} {T} {T′} w x i e h {T″} s = record {
         let at : getD (set T′ i (getD T′ i 0 + 1)) k 0 ≡ getD T′ k 0 = getD-set-other T′ i k (getD T′ i 0 + 1) 0 other in
         omega (arith, w .value k, hits-more index l x k)
 
-pub counted-le : {index : ℕ → ℕ} {l T T′ : List ℕ} → Counted index l T T′ → (i : ℕ) → getD T′ i 0 ≤ getD T i 0 + length l
+pub counted-le : {index : ℕ → ℕ} {l T T′ : List ℕ} → CountTold index l T T′ → (i : ℕ) → getD T′ i 0 ≤ getD T i 0 + length l
 counted-le {index} {l} w i = omega (arith, w .value i, keep-le (λ x. eqb (index x) i) l)
 
 -- LISTS that grow by one
@@ -59,7 +59,7 @@ module _ {m G T : List ℕ} (c : Countable (2 ^ 33) m G T) (few : getD m 2 0 ≤
   pub word-ready : (j : ℕ) → j < 19 → (q < room) × (q < length G) × (0 < getD G q 0) × (getD G q 0 ≤ room) × (j < 19)
   word-ready j l = (omega arith, omega (arith, c .len), c .within q h .0, c .within q h .1, l)
 
-  pub add-ready : {index : ℕ → ℕ} {l T′ : List ℕ} → Counted index l T T′ → length l ≤ room → (j i : ℕ) → j < 19 → i ≡ cell-word G j q
+  pub add-ready : {index : ℕ → ℕ} {l T′ : List ℕ} → CountTold index l T T′ → length l ≤ room → (j i : ℕ) → j < 19 → i ≡ cell-word G j q
       → (i < length T′) × (i < 19 * room) × (getD T′ i 0 ≤ 2 ^ 34)
   add-ready {index} {l} {T′} w short j i less e =
       let r = c .within q h in
@@ -72,7 +72,7 @@ module _ {m G T : List ℕ} (c : Countable (2 ^ 33) m G T) (few : getD m 2 0 ≤
 -- ALL PLACES: those below p are counted
 pub record Darts (m G T : List ℕ) (p : ℕ) (T′ : List ℕ) : Type 0 where
   pub p-le : p ≤ getD m 2 0
-  pub counted : Counted (cell-word G 1) (tab (λ q. q) p) T T′
+  pub counted : CountTold (cell-word G 1) (tab (λ q. q) p) T T′
 
 pub darts-start : (m G T : List ℕ) → Darts m G T 0 T
 darts-start m G T = record { p-le = omega arith; counted = counted-none (cell-word G 1) T }
@@ -84,21 +84,21 @@ module _ {m G T : List ℕ} (c : Countable (2 ^ 33) m G T) (few : getD m 2 0 ≤
   pub darts-more : p < getD m 2 0 → {i : ℕ} → i ≡ cell-word G 1 p → {T″ : List ℕ} → T″ ≡ set T′ i (getD T′ i 0 + 1) → Darts m G T (p + 1) T″
   darts-more h {i} e {T″} s = record {
     p-le = omega arith;
-    counted = subst (λ (l : List ℕ). Counted (cell-word G 1) l T T″) (sym (places-more p)) (counted-more (w .counted) p i e (word-there c few h 1 i (omega arith) e) s);
+    counted = subst (λ (l : List ℕ). CountTold (cell-word G 1) l T T″) (sym (places-more p)) (counted-more (w .counted) p i e (word-there c few h 1 i (omega arith) e) s);
   }
 
-  pub darts-all : getD m 2 0 ≤ p → Counted (cell-word G 1) (tab (λ q. q) (getD m 2 0)) T T′
-  darts-all h = let e : p ≡ getD m 2 0 = omega (arith, w .p-le) in subst (λ (k : ℕ). Counted (cell-word G 1) (tab (λ q. q) k) T T′) e (w .counted)
+  pub darts-all : getD m 2 0 ≤ p → CountTold (cell-word G 1) (tab (λ q. q) (getD m 2 0)) T T′
+  darts-all h = let e : p ≡ getD m 2 0 = omega (arith, w .p-le) in subst (λ (k : ℕ). CountTold (cell-word G 1) (tab (λ q. q) k) T T′) e (w .counted)
 
 -- ALL FACES: of those before f the starts that pass are counted
 pub record Faces (m : List ℕ) (index : ℕ → ℕ) (test : ℕ → Bool) (T : List ℕ) (count f : ℕ) (T′ : List ℕ) : Type 0 where
   pub f-le : f ≤ count
-  pub counted : Counted index (keep test (take f (face-starts m))) T T′
+  pub counted : CountTold index (keep test (take f (face-starts m))) T T′
 
 pub faces-start : (m : List ℕ) (index : ℕ → ℕ) (test : ℕ → Bool) (T : List ℕ) (count : ℕ) → Faces m index test T count 0 T
 faces-start m index test T count = record { f-le = omega arith; counted = counted-none index T }
 
-module _ {m out starts : List ℕ} {count : ℕ} (s : Started m out starts count) {index : ℕ → ℕ} {test : ℕ → Bool} {T : List ℕ} {f : ℕ} {T′ : List ℕ} (w : Faces m index test T count f T′) where
+module _ {m out starts : List ℕ} {count : ℕ} (s : CountStarted m out starts count) {index : ℕ → ℕ} {test : ℕ → Bool} {T : List ℕ} {f : ℕ} {T′ : List ℕ} (w : Faces m index test T count f T′) where
   pub faces-few : length (keep test (take f (face-starts m))) ≤ room
   faces-few = omega (arith, keep-le test (take f (face-starts m)), length-take-le f (face-starts m) (omega (arith, w .f-le, s .count-is)), w .f-le, s .few)
 
@@ -117,17 +117,17 @@ module _ {m out starts : List ℕ} {count : ℕ} (s : Started m out starts count
     pub faces-skip : test p ≡ false → Faces m index test T count (f + 1) T′
     faces-skip no-test = record {
       f-le = omega arith;
-      counted = subst (λ (l : List ℕ). Counted index l T T′) (sym (one-more ∙ rw no-test (append-nil (keep test (take f (face-starts m)))))) (w .counted);
+      counted = subst (λ (l : List ℕ). CountTold index l T T′) (sym (one-more ∙ rw no-test (append-nil (keep test (take f (face-starts m)))))) (w .counted);
     }
 
     pub faces-more : test p ≡ true → {i : ℕ} → i ≡ index p → i < length T → {T″ : List ℕ} → T″ ≡ set T′ i (getD T′ i 0 + 1) → Faces m index test T count (f + 1) T″
     faces-more has-test {i} ei there {T″} st = record {
       f-le = omega arith;
-      counted = subst (λ (l : List ℕ). Counted index l T T″) (sym (one-more ∙ rw has-test refl)) (counted-more (w .counted) p i ei there st);
+      counted = subst (λ (l : List ℕ). CountTold index l T T″) (sym (one-more ∙ rw has-test refl)) (counted-more (w .counted) p i ei there st);
     }
 
-  pub faces-all : count ≤ f → Counted index (keep test (face-starts m)) T T′
-  faces-all h = subst (λ (l : List ℕ). Counted index (keep test l) T T′) (take-all f (face-starts m) (omega (arith, s .count-is))) (w .counted)
+  pub faces-all : count ≤ f → CountTold index (keep test (face-starts m)) T T′
+  faces-all h = subst (λ (l : List ℕ). CountTold index (keep test l) T T′) (take-all f (face-starts m) (omega (arith, s .count-is))) (w .counted)
 
 -- every face counts
 abbrev pub each : ℕ → Bool
@@ -155,7 +155,7 @@ heading-more {m} {firsts} {i} {T} {T′} w h {v} e = record {
   rest = λ k l. getD-set-other T′ i k v 0 (λ same. omega arith) ∙ w .rest k (omega arith);
 }
 
-pub heading-all : {m firsts : List ℕ} {i end : ℕ} {T T′ : List ℕ} → Heading m firsts i T T′ → i ≡ end → Headed m firsts end T T′
+pub heading-all : {m firsts : List ℕ} {i end : ℕ} {T T′ : List ℕ} → Heading m firsts i T T′ → i ≡ end → CountHeaded m firsts end T T′
 heading-all {m} {firsts} {i} {end} {T} {T′} w e = record { len = w .len; head = λ k l. w .head k (omega arith); rest = λ k l. w .rest k (omega arith) }
 
 pub head-zero : (m firsts : List ℕ) (i : ℕ) → (i % 19 ≡ 0 → ⊥) → 0 ≡ head-word m firsts i

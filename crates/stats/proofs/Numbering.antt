@@ -22,7 +22,7 @@ use Rattle.cells.specs.Places.{Clear, Assigned, places-in}
 use Rattle.cells.proofs.Walks.{eq-or-ne, last-or-below}
 use Rattle.cells.proofs.Reached.{places, in-places, in-places-in, places-in-in}
 use Rattle.cells.proofs.FaceLaws.{keep-append}
-use Rattle.stats.specs.Groups.{third-link, links-at, group-of, is-first, firsts-below, Joined, Entered, Queued, LinksEntered, Shut, Grouped}
+use Rattle.stats.specs.Groups.{third-link, links-at, group-of, is-first, firsts-below, Joined, GroupEntered, Queued, LinksEntered, Shut, Grouped}
 use Rattle.stats.proofs.Orbits.{Orbit}
 use Rattle.stats.proofs.GroupLaws.{link-cases, group-linked, group-sym, group-away, links-within, next-in-links, opposite-in-links, third-in-links}
 
@@ -92,7 +92,7 @@ module _ {n : ℕ} {G o : List ℕ} {t : ℕ} (q : Queued n G o t) {p g : ℕ} (
         earlier : (x : ℕ) → (k : ℕ) × (k < t) × (getD o k 0 ≡ x) → (k : ℕ) × (k < t + 1) × (getD (set o t p) k 0 ≡ x)
         earlier x b = (b .0, omega (arith, b .1), kept′ (b .0) (b .1) ∙ b .2)
 
-  pub enter-queue : {G′ o′ : List ℕ} {t′ : ℕ} → Entered p g G o t G′ o′ t′ → Queued n G′ o′ t′ × Grown p g G o t G′ o′ t′
+  pub enter-queue : {G′ o′ : List ℕ} {t′ : ℕ} → GroupEntered p g G o t G′ o′ t′ → Queued n G′ o′ t′ × Grown p g G o t G′ o′ t′
   enter-queue {G′} {o′} {t′} w = by-cases (eqb (getD G p 0) 0) entered stays
     where
       entered : eqb (getD G p 0) 0 ≡ true → Queued n G′ o′ t′ × Grown p g G o t G′ o′ t′
@@ -139,7 +139,7 @@ none-yet : {n g : ℕ} {links G o : List ℕ} {t : ℕ} → Queued n G o t → E
 none-yet q = record { queue = q; keeps = λ x k. refl; kept = λ k l. refl; longer = omega arith; new = λ k l r. absurd (omega arith) }
 
 one-more : {n g : ℕ} {links G o G₁ o₁ : List ℕ} {t t₁ : ℕ} → 0 < g → Entering n links g G o t G₁ o₁ t₁ → (a : ℕ) → a < n → In a links
-    → {G₂ o₂ : List ℕ} {t₂ : ℕ} → Entered a g G₁ o₁ t₁ G₂ o₂ t₂ → Entering n links g G o t G₂ o₂ t₂ × (0 < getD G₂ a 0) × ((x : ℕ) → 0 < getD G₁ x 0 → 0 < getD G₂ x 0)
+    → {G₂ o₂ : List ℕ} {t₂ : ℕ} → GroupEntered a g G₁ o₁ t₁ G₂ o₂ t₂ → Entering n links g G o t G₂ o₂ t₂ × (0 < getD G₂ a 0) × ((x : ℕ) → 0 < getD G₁ x 0 → 0 < getD G₂ x 0)
 one-more {n} {g} {links} {G} {o} {G₁} {o₁} {t} {t₁} gp e a an i {G₂} {o₂} {t₂} x =
     let r = enter-queue (e .queue) an gp x in (
       record {
@@ -167,7 +167,7 @@ module _ {m : List ℕ} (j : Joined m) (third : Bool) {p g : ℕ} (pn : p < getD
     pub next-below : a < getD m 2 0
     next-below = links-within j third p a pn next-link
 
-    module _ {G₁ o₁ : List ℕ} {t₁ : ℕ} (x₁ : Entered a g G o t G₁ o₁ t₁) where
+    module _ {G₁ o₁ : List ℕ} {t₁ : ℕ} (x₁ : GroupEntered a g G o t G₁ o₁ t₁) where
       step₁ : Entering (getD m 2 0) links g G o t G₁ o₁ t₁ × (0 < getD G₁ a 0) × ((x : ℕ) → 0 < getD G x 0 → 0 < getD G₁ x 0)
       step₁ = one-more gp (none-yet q) a next-below next-link x₁
 
@@ -181,7 +181,7 @@ module _ {m : List ℕ} (j : Joined m) (third : Bool) {p g : ℕ} (pn : p < getD
         pub opposite-below : b < getD m 2 0
         opposite-below = links-within j third p b pn opposite-link
 
-        module _ {G₂ o₂ : List ℕ} {t₂ : ℕ} (x₂ : Entered b g G₁ o₁ t₁ G₂ o₂ t₂) where
+        module _ {G₂ o₂ : List ℕ} {t₂ : ℕ} (x₂ : GroupEntered b g G₁ o₁ t₁ G₂ o₂ t₂) where
           step₂ : Entering (getD m 2 0) links g G o t G₂ o₂ t₂ × (0 < getD G₂ b 0) × ((x : ℕ) → 0 < getD G₁ x 0 → 0 < getD G₂ x 0)
           step₂ = one-more gp (step₁ .0) b opposite-below opposite-link x₂
 
@@ -195,7 +195,7 @@ module _ {m : List ℕ} (j : Joined m) (third : Bool) {p g : ℕ} (pn : p < getD
             pub third-below : c < getD m 2 0
             third-below = links-within j third p c pn third-one
 
-            pub links-entered : {G₃ o₃ : List ℕ} {t₃ : ℕ} → Entered c g G₂ o₂ t₂ G₃ o₃ t₃ → LinksEntered third m p g G o t G₃ o₃ t₃
+            pub links-entered : {G₃ o₃ : List ℕ} {t₃ : ℕ} → GroupEntered c g G₂ o₂ t₂ G₃ o₃ t₃ → LinksEntered third m p g G o t G₃ o₃ t₃
             links-entered {G₃} x₃ =
                 let r = one-more gp (step₂ .0) c third-below third-one x₃ in
                 record {
@@ -231,7 +231,7 @@ module _ {m : List ℕ} (j : Joined m) (third : Bool) {d : ℕ} (dn : d < getD m
   abbrev orbit : Orbit (links-at third m) d v
   orbit = group-linked j third d dn
 
-  pub going-start : {t : ℕ} {G o : List ℕ} → Entered d g G₀ o₀ t₀ G o t → Going n (links-at third m) g d v G₀ t₀ G o t t₀
+  pub going-start : {t : ℕ} {G o : List ℕ} → GroupEntered d g G₀ o₀ t₀ G o t → Going n (links-at third m) g d v G₀ t₀ G o t t₀
   going-start {t} {G} {o} x =
       let w = enter-queue q₀ dn gp x in
       record {

@@ -30,8 +30,8 @@ use Rattle.cells.proofs.StartLaws.{cycle-start}
 use Rattle.stats.specs.declared.rows.Told.the-variants as answer
 use Rattle.stats.specs.Tally.{critical-at}
 use Rattle.stats.specs.Groups.{is-first, firsts-below, Grouped}
-use Rattle.stats.specs.Rows.{critical-with, figure, rows-of, row-words, told-rows, cells-told, rows-after}
-use Rattle.stats.specs.Counting.{head-word, Headed, cell-word, critical-word, Countable, Counted, face-starts, Started, FacesCounted, Bordering}
+use Rattle.stats.specs.Rows.{border-with, figure, rows-of, row-words, told-rows, cells-told, rows-after}
+use Rattle.stats.specs.Counting.{head-word, CountHeaded, cell-word, critical-word, Countable, CountTold, face-starts, CountStarted, FacesCounted, Bordering}
 use Rattle.stats.proofs.CriticalFaces.{order-few, first-dart}
 use Rattle.stats.proofs.CountLaws.{counted-le}
 use Rattle.stats.proofs.GroupLaws.{cell-mem, firsts-serials, group-count}
@@ -180,7 +180,7 @@ module _ (m : List ℕ) (ok : holds-block m ≡ true) where
     serial-start : (x : ℕ) → x < n → start-of (map s (cycle nx x)) ≡ s x
     serial-start x l = start-map s (cycle nx x) (round (site .linked .few) (site .linked .next-within) (site .linked .next-apart) x l .some) ∙ ap s (cycle-from x l)
 
-    critical-are : (o : ℕ) → length (critical-with ds (s p) o) ≡ length (keep (λ x. critical-at m x && eqb (other-in (column m 3 x)) o) (keep starts-face (places-in n vol)))
+    critical-are : (o : ℕ) → length (border-with ds (s p) o) ≡ length (keep (λ x. critical-at m x && eqb (other-in (column m 3 x)) o) (keep starts-face (places-in n vol)))
     critical-are o =
         let test : List ℕ → Bool = λ f. is-critical-with o (third-at ds (start-of f)) in
         let l = keep starts-face (places-in n vol) in
@@ -191,7 +191,7 @@ module _ (m : List ℕ) (ok : holds-block m ≡ true) where
         (λ x k. let below = places-in-in n vol x (keep-in starts-face (places-in n vol) x k .0) .0 in
         ap (λ (y : ℕ). is-critical-with o (third-at ds y)) (serial-start x below) ∙ with-block o x below))
 
-    pub critical-figure : (o : ℕ) → length (keep (λ x. mem x vol && eqb (other-in (column m 3 x)) o) (keep (critical-at m) (face-starts m))) ≡ length (critical-with ds (s p) o)
+    pub critical-figure : (o : ℕ) → length (keep (λ x. mem x vol && eqb (other-in (column m 3 x)) o) (keep (critical-at m) (face-starts m))) ≡ length (border-with ds (s p) o)
     critical-figure o =
         ap length
         (keep-twice (λ x. mem x vol && eqb (other-in (column m 3 x)) o) (critical-at m) (face-starts m)
@@ -270,7 +270,7 @@ module _ (m : List ℕ) (ok : holds-block m ≡ true) where
       critical-none j l = none-kept (λ x. eqb (critical-word m G x) (19 * c + j)) critical-starts
           (λ x k. critical-hit j x (omega arith) k ∙ rw (ne-eqb (3 + other-in (column m 3 x)) j (λ e. omega arith)) (and-false (eqb (getD G x 0) (suc c))))
 
-      critical-here : (o : ℕ) → o < 16 → length (keep (λ x. eqb (critical-word m G x) (19 * c + (3 + o))) critical-starts) ≡ length (critical-with ds (s p) o)
+      critical-here : (o : ℕ) → o < 16 → length (keep (λ x. eqb (critical-word m G x) (19 * c + (3 + o))) critical-starts) ≡ length (border-with ds (s p) o)
       critical-here o l =
           ap length (keep-cong (λ x. eqb (critical-word m G x) (19 * c + (3 + o))) (λ x. mem x (volume-of m p) && eqb (other-in (column m 3 x)) o) critical-starts
           (λ x k. critical-hit (3 + o) x (omega arith) k ∙ both (in-cell c h x (critical-below x k)) (three-more (other-in (column m 3 x)) o)))
@@ -285,7 +285,7 @@ module _ (m : List ℕ) (ok : holds-block m ≡ true) where
               (λ e. let f = eqb-true a b e in eq-eqb (3 + a) (3 + b) (omega arith))
 
       -- THE WORDS of the cell's row, once all is counted
-      module _ {T₀ T₁ T₂ T₃ : List ℕ} (started : Headed m firsts (19 * count) T₀ T₁) (darts : Counted (cell-word G 1) (places n) T₁ T₂) (borders : FacesCounted m G T₂ T₃) where
+      module _ {T₀ T₁ T₂ T₃ : List ℕ} (started : CountHeaded m firsts (19 * count) T₀ T₁) (darts : CountTold (cell-word G 1) (places n) T₁ T₂) (borders : FacesCounted m G T₂ T₃) where
         -- what stands there at first, and what is counted
         abbrev first-of : ℕ → ℕ
         first-of j = cond (eqb j 0) (s p) 0
@@ -326,7 +326,7 @@ module _ (m : List ℕ) (ok : holds-block m ≡ true) where
     word-low : (k x : ℕ) → k < 19 → x < n → cell-word G k x < 19 * count
     word-low k x l h = omega (arith, g .within x h .0, g .within x h .1)
 
-    module _ {T₀ T₁ T₂ T₃ : List ℕ} (started : Headed m firsts (19 * count) T₀ T₁) (darts : Counted (cell-word G 1) (places n) T₁ T₂) (borders : FacesCounted m G T₂ T₃) where
+    module _ {T₀ T₁ T₂ T₃ : List ℕ} (started : CountHeaded m firsts (19 * count) T₀ T₁) (darts : CountTold (cell-word G 1) (places n) T₁ T₂) (borders : FacesCounted m G T₂ T₃) where
       rest-same : (i : ℕ) → 19 * count ≤ i → getD T₃ i 0 ≡ getD T₀ i 0
       rest-same i h =
           let d = none-beyond (cell-word G 1) (places n) (λ x k. word-low 1 x (omega arith) (places-below n x k)) i h in
@@ -343,7 +343,7 @@ module _ (m : List ℕ) (ok : holds-block m ≡ true) where
           (λ i h. rest-same i (omega (arith, count-is)))
 
     -- WHAT COUNTING ASKS at each step
-    pub countable-start : {T T′ : List ℕ} → Headed m firsts (19 * count) T T′ → 19 * count ≤ length T → Countable (2 ^ 32) m G T′
+    pub countable-start : {T T′ : List ℕ} → CountHeaded m firsts (19 * count) T T′ → 19 * count ≤ length T → Countable (2 ^ 32) m G T′
     countable-start {T} {T′} w long = record {
       len = g .len-g;
       within = λ q h. (g .within q h .0, omega (arith, g .within q h .1, count-few, site .linked .few), omega (arith, g .within q h .1, w .len));
@@ -355,7 +355,7 @@ module _ (m : List ℕ) (ok : holds-block m ≡ true) where
             (λ e. rw e (omega (arith, image-passed m ok .range .serial-small (getD firsts (i / 19) 0) (first-below (i / 19) (omega arith)))))
             (λ e. rw e (omega arith))
 
-pub countable-after : {m G T T′ l : List ℕ} {index : ℕ → ℕ} {most : ℕ} → Countable most m G T → Counted index l T T′ → length l ≤ room → Countable (most + room) m G T′
+pub countable-after : {m G T T′ l : List ℕ} {index : ℕ → ℕ} {most : ℕ} → Countable most m G T → CountTold index l T T′ → length l ≤ room → Countable (most + room) m G T′
 countable-after {m} {G} c w short = record {
   len = c .len;
   within = λ q h. (c .within q h .0, c .within q h .1, omega (arith, c .within q h .2, w .len));
@@ -366,11 +366,11 @@ pub countable-more : {m G T : List ℕ} {most more : ℕ} → Countable most m G
 countable-more c h = record { len = c .len; within = c .within; small = λ q j k l. omega (arith, c .small q j k l) }
 
 -- BOTH KINDS of faces
-pub faces-counted : (m G : List ℕ) {T T′ T″ : List ℕ} → Counted (cell-word G 2) (face-starts m) T T′ → Counted (critical-word m G) (keep (critical-at m) (face-starts m)) T′ T″ → FacesCounted m G T T″
+pub faces-counted : (m G : List ℕ) {T T′ T″ : List ℕ} → CountTold (cell-word G 2) (face-starts m) T T′ → CountTold (critical-word m G) (keep (critical-at m) (face-starts m)) T′ T″ → FacesCounted m G T T″
 faces-counted m G a b = record { len = b .len ∙ a .len; value = λ i. omega (arith, a .value i, b .value i) }
 
 -- the arrays of message order hold the starts
-pub started : (m : List ℕ) → holds-block m ≡ true → {out starts : List ℕ} {darts count : ℕ} → InOrder (faces (column m 1) (places (count-in m))) out starts darts count → Started m out starts count
+pub started : (m : List ℕ) → holds-block m ≡ true → {out starts : List ℕ} {darts count : ℕ} → InOrder (faces (column m 1) (places (count-in m))) out starts darts count → CountStarted m out starts count
 started m ok {out} {starts} {darts} {count} o = record {
   starts-there = o .starts-size;
   few = omega (arith, order-few (sited m ok .linked) o .1, sited m ok .linked .few);

@@ -16,7 +16,7 @@ abbrev pub head-word : List ℕ → List ℕ → ℕ → ℕ
 head-word m firsts i = cond (eqb (i % 19) 0) (column m 0 (getD firsts (i / 19) 0)) 0
 
 -- the first words are so, and the others what they were
-pub record Headed (m firsts : List ℕ) (end : ℕ) (T T′ : List ℕ) : Type 0 where
+pub record CountHeaded (m firsts : List ℕ) (end : ℕ) (T T′ : List ℕ) : Type 0 where
   pub len : length T′ ≡ length T
   pub head : (i : ℕ) → i < end → getD T′ i 0 ≡ head-word m firsts i
   pub rest : (i : ℕ) → end ≤ i → getD T′ i 0 ≡ getD T i 0
@@ -36,7 +36,7 @@ pub record Countable (most : ℕ) (m G T : List ℕ) : Type 0 where
   pub small : (q j : ℕ) → q < getD m 2 0 → j < 19 → getD T (cell-word G j q) 0 ≤ most
 
 -- each element of a list counts one at its index
-pub record Counted (index : ℕ → ℕ) (l T T′ : List ℕ) : Type 0 where
+pub record CountTold (index : ℕ → ℕ) (l T T′ : List ℕ) : Type 0 where
   pub len : length T′ ≡ length T
   pub value : (i : ℕ) → getD T′ i 0 ≡ getD T i 0 + length (keep (λ x. eqb (index x) i) l)
 
@@ -45,7 +45,7 @@ abbrev pub face-starts : List ℕ → List ℕ
 face-starts m = map start-of (faces (column m 1) (tab (λ p. p) (getD m 2 0)))
 
 -- these places in arrays: out has faces one after the other, starts where each starts
-pub record Started (m out starts : List ℕ) (count : ℕ) : Type 0 where
+pub record CountStarted (m out starts : List ℕ) (count : ℕ) : Type 0 where
   pub starts-there : count ≤ length starts
   pub few : count ≤ room
   pub count-is : count ≡ length (face-starts m)

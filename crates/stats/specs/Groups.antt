@@ -38,7 +38,7 @@ pub record Joined (m : List ℕ) : Type 0 where
 
 -- THE GROUPS in a table: 0 where a place is in none yet
 -- p enters group g, unless it is in one: it is put at the end of the queue, of length t
-pub record Entered (p g : ℕ) (G o : List ℕ) (t : ℕ) (G′ o′ : List ℕ) (t′ : ℕ) : Type 0 where
+pub record GroupEntered (p g : ℕ) (G o : List ℕ) (t : ℕ) (G′ o′ : List ℕ) (t′ : ℕ) : Type 0 where
   pub groups : G′ ≡ cond (eqb (getD G p 0) 0) (set G p g) G
   pub order : o′ ≡ cond (eqb (getD G p 0) 0) (set o t p) o
   pub tail : t′ ≡ cond (eqb (getD G p 0) 0) (t + 1) t

@@ -12,15 +12,15 @@ use Rattle.stats.specs.declared.rows.Told.{Told}
 use Rattle.stats.specs.declared.rows.Told.the-variants as answer
 
 -- the faces of a cell that are critical with block o; all darts of a face are, or none is
-abbrev pub critical-with : List Dart → ℕ → ℕ → List (List ℕ)
-critical-with ds s o = keep (λ f. is-critical-with o (third-at ds (start-of f))) (faces-in ds s)
+abbrev pub border-with : List Dart → ℕ → ℕ → List (List ℕ)
+border-with ds s o = keep (λ f. is-critical-with o (third-at ds (start-of f))) (faces-in ds s)
 
 -- word j of the row of the cell whose least serial is s: the serial, its darts, its faces, those critical with block 0, 1, .., 15
 unfoldable pub figure : List Dart → ℕ → ℕ → ℕ
 figure ds s zero = s
 figure ds s (suc zero) = length (volume-in ds s)
 figure ds s (suc (suc zero)) = length (faces-in ds s)
-figure ds s (suc (suc (suc o))) = length (critical-with ds s o)
+figure ds s (suc (suc (suc o))) = length (border-with ds s o)
 
 unfoldable pub rows-of : List Dart → List ℕ
 rows-of ds = concat-map (λ s. tab (figure ds s) 19) (volume-starts ds)

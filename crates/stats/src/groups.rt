@@ -5,7 +5,7 @@ ghost use lib.ListN.{length, getD};
 ghost use Rattle.model.specs.Image.{words-for, count-in};
 ghost use Rattle.model.specs.Values.{room};
 ghost use Rattle.cells.specs.Places.{Clear, Assigned};
-ghost use Rattle.stats.specs.Groups.{third-link, group-of, Joined, Entered, Queued, LinksEntered, Shut, Grouped};
+ghost use Rattle.stats.specs.Groups.{third-link, group-of, Joined, GroupEntered, Queued, LinksEntered, Shut, Grouped};
 use memory::header::Header;
 use memory::kind;
 use memory::record;
@@ -26,7 +26,7 @@ fn third_link(block: &[u64], third: bool, p: Place) -> Place
 // A place that is in no group yet is put into one, and at the end of the queue. Returns the queue's new length.
 fn enter(groups: &mut [usize], order: &mut [usize], tail: usize, p: Place, group: usize) -> usize
     requires { ⌜ (p .0 < room) × (p .0 < length (now groups)) × (tail ≤ room) × (getD (now groups) (p .0) 0 ≡ 0 → tail < length (now order)) ⌝ }
-    ensures { λ r. ⌜ Entered (p .0) group (now (groups .entry)) (now (order .entry)) tail (now (groups .exit)) (now (order .exit)) r ⌝ }
+    ensures { λ r. ⌜ GroupEntered (p .0) group (now (groups .entry)) (now (order .entry)) tail (now (groups .exit)) (now (order .exit)) r ⌝ }
 {
     let i = p.0;
     if groups[i] != 0 {

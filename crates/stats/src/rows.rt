@@ -11,8 +11,8 @@ ghost use Rattle.cells.specs.Places.{Linked};
 ghost use Rattle.stats.specs.Tally.{critical-at};
 ghost use Rattle.stats.specs.Groups.{Grouped};
 ghost use Rattle.stats.specs.Rows.{told-rows, cells-told, rows-after};
-ghost use Rattle.stats.specs.Counting.{head-word, Headed, cell-word, critical-word, Countable, Counted};
-ghost use Rattle.stats.specs.Counting.{face-starts, Started, FacesCounted, Bordering};
+ghost use Rattle.stats.specs.Counting.{head-word, CountHeaded, cell-word, critical-word, Countable, CountTold};
+ghost use Rattle.stats.specs.Counting.{face-starts, CountStarted, FacesCounted, Bordering};
 use crate::critical;
 use crate::groups;
 use memory::header::Header;
@@ -45,7 +45,7 @@ fn first_word(block: &[u64], firsts: &[usize], i: usize) -> u64
 fn start_rows(block: &[u64], firsts: &[usize], end: usize, rows: &mut [u64])
     requires { ⌜ (end ≤ 19 * room) × (end ≤ 19 * length (now firsts)) × (end ≤ length (now rows)) ⌝ }
     requires { ⌜ ((i : ℕ) → i < end → words-for (getD (now firsts) (i / 19) 0 + 1) ≤ length (now block)) ⌝ }
-    ensures { λ _. ⌜ Headed (now (block .entry)) (now (firsts .entry)) end (now (rows .entry)) (now (rows .exit)) ⌝ }
+    ensures { λ _. ⌜ CountHeaded (now (block .entry)) (now (firsts .entry)) end (now (rows .entry)) (now (rows .exit)) ⌝ }
 {
     // The words before i are started.
     let mut i = 0;
@@ -77,7 +77,7 @@ fn word_at(numbers: &[usize], p: Place, j: usize) -> usize
 // Counts the darts of each cell.
 fn count_darts(block: &[u64], numbers: &[usize], rows: &mut [u64])
     requires { ⌜ Linked (now block) (getD (now block) 2 0) × Countable (2 ^ 33) (now block) (now numbers) (now rows) ⌝ }
-    ensures { λ _. ⌜ Counted (cell-word (now (numbers .entry)) 1) (tab (λ p. p) (getD (now (block .entry)) 2 0))
+    ensures { λ _. ⌜ CountTold (cell-word (now (numbers .entry)) 1) (tab (λ p. p) (getD (now (block .entry)) 2 0))
         (now (rows .entry)) (now (rows .exit)) ⌝ }
 {
     let n = block[Header::COUNT] as usize;
@@ -108,8 +108,8 @@ fn count_faces(
     rows: &mut [u64],
 )
     requires { ⌜ Linked (now block) (getD (now block) 2 0) × Countable (2 ^ 33) (now block) (now numbers) (now rows) ⌝ }
-    requires { ⌜ Started (now block) (now out) (now starts) faces ⌝ }
-    ensures { λ _. ⌜ Counted (cell-word (now (numbers .entry)) 2) (face-starts (now (block .entry)))
+    requires { ⌜ CountStarted (now block) (now out) (now starts) faces ⌝ }
+    ensures { λ _. ⌜ CountTold (cell-word (now (numbers .entry)) 2) (face-starts (now (block .entry)))
         (now (rows .entry)) (now (rows .exit)) ⌝ }
 {
     // The faces before f are counted.
@@ -139,8 +139,8 @@ fn count_critical(
     rows: &mut [u64],
 )
     requires { ⌜ Linked (now block) (getD (now block) 2 0) × Countable (2 ^ 33) (now block) (now numbers) (now rows) ⌝ }
-    requires { ⌜ Started (now block) (now out) (now starts) faces × Bordering (now block) ⌝ }
-    ensures { λ _. ⌜ Counted (critical-word (now (block .entry)) (now (numbers .entry)))
+    requires { ⌜ CountStarted (now block) (now out) (now starts) faces × Bordering (now block) ⌝ }
+    ensures { λ _. ⌜ CountTold (critical-word (now (block .entry)) (now (numbers .entry)))
         (keep (critical-at (now (block .entry))) (face-starts (now (block .entry)))) (now (rows .entry)) (now (rows .exit)) ⌝ }
 {
     // The critical faces before f are counted.

@@ -1,6 +1,6 @@
 -- `commands::names::name_of` meets its contract. Assumes nothing.
 use Rattle.model.specs.Listing.{bytes}
-use Rattle.commands.specs.Names.{block-name, name-of, named}
+use Rattle.commands.specs.Names.{block-name, name-of, file-named}
 use borrow.Author.Needs.{needs}
 use Rattle.commands.proofs.names.name_of.Statement.{statement}
 use Rattle.commands.proofs.names.name_of.Tie as tie
@@ -24,22 +24,22 @@ enum-told-2 : tie.Need-enum-told-2
 enum-told-2 c = search needs
 
 returns : tie.Need-returns
-unfolding named name-of block-name bytes
+unfolding file-named name-of block-name bytes
 returns c =
     rw (c .before .before .f .given .1, c .of-block .ensures)
 
 returns-2 : tie.Need-returns-2
-unfolding named name-of block-name bytes
+unfolding file-named name-of block-name bytes
 returns-2 c =
     rw (c .before .before .f2 .given .1, c .of-new-block .ensures)
 
 returns-3 : tie.Need-returns-3
-unfolding named name-of block-name bytes
+unfolding file-named name-of block-name bytes
 returns-3 c =
     rw (c .before .before .enum-told .given .1)
 
 returns-4 : tie.Need-returns-4
-unfolding named name-of block-name bytes
+unfolding file-named name-of block-name bytes
 returns-4 c =
     rw (c .before .before .enum-told2 .given .1)
 

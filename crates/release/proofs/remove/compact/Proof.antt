@@ -5,7 +5,7 @@ use mathlib.Core.Path.{_∙_}
 use mathlib.Core.Logic.{⊎-elim}
 use lib.ListN.{length}
 use Rattle.release.specs.LetGo.{rank, moved-words}
-use Rattle.release.specs.Asks.{Moved}
+use Rattle.release.specs.Asks.{DartsMoved}
 use Rattle.release.proofs.Removing.{length-moved, moved-start, count-le, moved-none, moved-one, moved-end, links-fit, one-move}
 use native.Mathlib.Omega.{arith}
 use Rattle.release.proofs.remove.compact.Statement.{statement}
@@ -13,7 +13,7 @@ use Rattle.release.proofs.remove.compact.Tie as tie
 
 abbrev Inv-loop : tie.InvT-loop
 Inv-loop block₀ n marks table w₀ i₀ block w i =
-    (i ≤ n) × Moved (moved-words (rank marks) block₀) block₀ marks i block w
+    (i ≤ n) × DartsMoved (moved-words (rank marks) block₀) block₀ marks i block w
 
 abbrev μ-loop : tie.MeasureT-loop
 μ-loop block₀ n marks table w₀ i₀ block w i =

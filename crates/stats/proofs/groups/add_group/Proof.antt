@@ -4,7 +4,7 @@ use mathlib.Core.Path.{_≡_, refl}
 use mathlib.Core.List.{List}
 use Prim.Native.Nat.{ℕ, _-_}
 use lib.ListN.{length, getD}
-use Rattle.stats.specs.Groups.{links-at, group-of, Queued, Entered}
+use Rattle.stats.specs.Groups.{links-at, group-of, Queued, GroupEntered}
 use Rattle.stats.proofs.Numbering.{Going, enter-ready, queue-le, going-start, going-place, going-step, going-assigned}
 use native.Mathlib.Omega.{arith}
 use Rattle.stats.proofs.groups.add_group.Statement.{statement}
@@ -13,7 +13,7 @@ use Rattle.stats.proofs.groups.add_group.Tie as tie
 abbrev Inv-loop : tie.InvT-loop
 Inv-loop block third group order₀ tail groups₀ first end₀ head₀ order groups end head =
     (length order ≡ length order₀) × (length groups ≡ length groups₀)
-    × ((G o : List ℕ) → Queued (getD block 2 0) G o tail → Entered first group G o tail groups₀ order₀ end₀
+    × ((G o : List ℕ) → Queued (getD block 2 0) G o tail → GroupEntered first group G o tail groups₀ order₀ end₀
     → Going (getD block 2 0) (links-at third block) group first (group-of third block first) G tail groups order end head)
 
 abbrev μ-loop : tie.MeasureT-loop

@@ -3,7 +3,7 @@
 use mathlib.Core.Path.{refl, subst}
 use mathlib.Core.List.{List}
 use Prim.Native.Nat.{ℕ, _-_}
-use Rattle.stats.specs.Counting.{cell-word, Counted, face-starts}
+use Rattle.stats.specs.Counting.{cell-word, CountTold, face-starts}
 use Rattle.stats.proofs.CountLaws.{Faces, each, keep-every, word-ready, add-ready, word-there, faces-start, faces-few, face-below, faces-more, faces-all}
 use native.Mathlib.Omega.{arith}
 use Rattle.stats.proofs.rows.count_faces.Statement.{statement}
@@ -75,7 +75,7 @@ returns : tie.Need-returns Inv-loop μ-loop
 returns c =
     let start : tie.Start Inv-loop μ-loop = search in
     let loop-known = (let p : tie.At-loop Inv-loop μ-loop = search in p .loop) in
-    subst (λ (l : List ℕ). Counted (cell-word (start .args .numbers .now) 2) l (start .args .rows .now) (loop-known .rows))
+    subst (λ (l : List ℕ). CountTold (cell-word (start .args .numbers .now) 2) l (start .args .rows .now) (loop-known .rows))
     (keep-every (face-starts (start .args .block .now))) (faces-all (start .pre .1) (loop-known .inv) (c .loop-test .left))
 
 pub count-faces-spec : {M : Type 1} → statement M
