@@ -21,7 +21,7 @@ fn show_block(b: usize, block: &[u64]) {
     say::text(b"block ");
     say::number(b as u64);
     say::text(b": ");
-    let t = stats::tally(block);
+    let t = stats::count_block(block);
     say::number(t.darts);
     say::text(b" darts, ");
     say::number(t.volumes);

@@ -24,8 +24,8 @@ use Rattle.cells.proofs.Paths.{round}
 use Rattle.cells.proofs.Sited.{Sited, darts-in, sited}
 use Rattle.cells.proofs.FaceSerials.{faces-carried}
 use Rattle.cells.proofs.StartLaws.{in-order-few, start-place, cycle-start}
-use Rattle.stats.specs.Tally.{is-critical, critical-faces, critical-at, tally-in, no-tally, tally-of}
-use Rattle.stats.specs.declared.counts.Tally.{Tally}
+use Rattle.stats.specs.BlockCounts.{is-critical, critical-faces, critical-at, counts-in, no-counts, block-counts}
+use Rattle.stats.specs.declared.counts.BlockCounts.{BlockCounts}
 use Rattle.stats.specs.Pieces.{piece-starts}
 
 -- ALL PLACES MARKED
@@ -115,14 +115,14 @@ module _ (m : List ℕ) (ok : holds-block m ≡ true) where
   pub critical-count : length (keep (λ f. critical-at m (start-of f)) (faces (column m 1) (places (count-in m)))) ≡ length (critical-faces ds)
   critical-count = sym (ap length by-place ∙ length-map (keep (λ f. critical-at m (start-of f)) (faces (column m 1) (places (count-in m)))) (map (column m 0)))
 
-  -- THE TALLY
-  pub tally-sound : {v j c : ℕ} → v ≡ length (picked every ds) → j ≡ length (piece-starts ds) → c ≡ length (critical-faces ds)
-      → _≡_ {A = Tally} (record { darts = getD m 2 0; volumes = v; pieces = j; critical = c; counter = getD m 1 0 }) (tally-of m)
-  unfolding tally-of
-  tally-sound {v} {j} {c} ev ej ec =
+  -- THE COUNTS
+  pub counts-sound : {v j c : ℕ} → v ≡ length (picked every ds) → j ≡ length (piece-starts ds) → c ≡ length (critical-faces ds)
+      → _≡_ {A = BlockCounts} (record { darts = getD m 2 0; volumes = v; pieces = j; critical = c; counter = getD m 1 0 }) (block-counts m)
+  unfolding block-counts
+  counts-sound {v} {j} {c} ev ej ec =
       (λ i. record { darts = sym (length-tab (dart-in m) (count-in m)) i; volumes = ev i; pieces = ej i; critical = ec i; counter = getD m 1 0 })
-      ∙ ap (λ (b : Bool). cond b (tally-in (block-in m)) no-tally) (sym ok)
+      ∙ ap (λ (b : Bool). cond b (counts-in (block-in m)) no-counts) (sym ok)
 
-pub tally-unsound : (m : List ℕ) → holds-block m ≡ false → no-tally ≡ tally-of m
-unfolding tally-of
-tally-unsound m no-image = ap (λ (b : Bool). cond b (tally-in (block-in m)) no-tally) (sym no-image)
+pub counts-unsound : (m : List ℕ) → holds-block m ≡ false → no-counts ≡ block-counts m
+unfolding block-counts
+counts-unsound m no-image = ap (λ (b : Bool). cond b (counts-in (block-in m)) no-counts) (sym no-image)

@@ -28,7 +28,7 @@ use Rattle.cells.proofs.Serials.{volume-serials, volume-size}
 use Rattle.cells.proofs.FaceSerials.{faces-carried}
 use Rattle.cells.proofs.StartLaws.{cycle-start}
 use Rattle.stats.specs.declared.rows.Told.the-variants as answer
-use Rattle.stats.specs.Tally.{critical-at}
+use Rattle.stats.specs.BlockCounts.{critical-at}
 use Rattle.stats.specs.Groups.{is-first, firsts-below, Grouped}
 use Rattle.stats.specs.Rows.{border-with, figure, rows-of, row-words, told-rows, cells-told, rows-after}
 use Rattle.stats.specs.Counting.{head-word, CountHeaded, cell-word, critical-word, Countable, CountTold, face-starts, CountStarted, FacesCounted, Bordering}

@@ -9,7 +9,7 @@ use Rattle.model.specs.Lists.{keep, tab}
 use Rattle.model.specs.Cells.{faces, start-of}
 use Rattle.model.specs.Image.{column, other-in}
 use Rattle.model.specs.Values.{room}
-use Rattle.stats.specs.Tally.{critical-at}
+use Rattle.stats.specs.BlockCounts.{critical-at}
 
 -- before anything is counted: a cell's least serial at the start of its row, 0 elsewhere
 abbrev pub head-word : List ℕ → List ℕ → ℕ → ℕ

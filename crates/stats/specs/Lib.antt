@@ -1,4 +1,4 @@
-pub mod Tally
+pub mod BlockCounts
 pub mod Pieces
 pub mod Groups
 pub mod Rows

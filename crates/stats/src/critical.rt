@@ -7,7 +7,7 @@ ghost use Rattle.model.specs.Lists.{keep, tab};
 ghost use Rattle.model.specs.Cells.{faces, start-of};
 ghost use Rattle.model.specs.Image.{words-for, column, block-in, holds-block};
 ghost use Rattle.cells.specs.Places.{InOrder, Linked};
-ghost use Rattle.stats.specs.Tally.{critical-at, critical-faces};
+ghost use Rattle.stats.specs.BlockCounts.{critical-at, critical-faces};
 use memory::header::Header;
 use memory::kind;
 use memory::record;

@@ -1,6 +1,6 @@
 // What a block has, counted: darts, volumes, pieces, critical faces; and its counter.
 ghost use mathlib.Core.Path.{_≡_};
-ghost use Rattle.stats.specs.Tally.{tally-of};
+ghost use Rattle.stats.specs.BlockCounts.{block-counts};
 use memory::header::Header;
 use oracle::Oracle;
 
@@ -10,14 +10,14 @@ pub mod groups; // groups.rt: its darts in groups, cells or pieces
 pub mod pieces; // pieces.rt: its pieces, counted
 pub mod rows; // rows.rt: the figures of each of its cells
 
-pub use counts::Tally;
+pub use counts::BlockCounts;
 
-// The tally of a block; all zero where the memory is no sound block's image.
-pub fn tally(block: &[u64]) -> Tally
-    ensures { λ r. ⌜ r ≡ tally-of (now (block .entry)) ⌝ }
+// The counts of a block; all zero where the memory is no sound block's image.
+pub fn count_block(block: &[u64]) -> BlockCounts
+    ensures { λ r. ⌜ r ≡ block-counts (now (block .entry)) ⌝ }
 {
     if !sound::is_sound(block) {
-        return Tally {
+        return BlockCounts {
             darts: 0,
             volumes: 0,
             pieces: 0,
@@ -28,7 +28,7 @@ pub fn tally(block: &[u64]) -> Tally
     let volumes = selection::count(block, Oracle::Every);
     let joined = pieces::pieces(block);
     let faces = critical::critical_faces(block);
-    Tally {
+    BlockCounts {
         darts: block[Header::COUNT],
         volumes: volumes as u64,
         pieces: joined as u64,

@@ -8,7 +8,7 @@ ghost use Rattle.model.specs.Lists.{keep, tab};
 ghost use Rattle.model.specs.Values.{room};
 ghost use Rattle.model.specs.Image.{words-for, column, other-in, holds-block};
 ghost use Rattle.cells.specs.Places.{Linked};
-ghost use Rattle.stats.specs.Tally.{critical-at};
+ghost use Rattle.stats.specs.BlockCounts.{critical-at};
 ghost use Rattle.stats.specs.Groups.{Grouped};
 ghost use Rattle.stats.specs.Rows.{told-rows, cells-told, rows-after};
 ghost use Rattle.stats.specs.Counting.{head-word, CountHeaded, cell-word, critical-word, Countable, CountTold};

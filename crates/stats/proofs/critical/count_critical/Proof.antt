@@ -8,7 +8,7 @@ use Rattle.model.specs.Lists.{keep, tab}
 use Rattle.model.specs.Cells.{faces, start-of}
 use Rattle.model.specs.Image.{column}
 use Rattle.cells.proofs.StartLaws.{count-skip, count-one, count-all}
-use Rattle.stats.specs.Tally.{critical-at}
+use Rattle.stats.specs.BlockCounts.{critical-at}
 use Rattle.stats.proofs.CriticalFaces.{order-few, first-dart}
 use native.Mathlib.Omega.{arith}
 use Rattle.stats.proofs.critical.count_critical.Statement.{statement}

@@ -3,7 +3,7 @@
 use mathlib.Core.Path.{sym, ap, _∙_}
 use Prim.Native.Nat.{ℕ, _-_}
 use borrow.Author.Tests.{not-true, not-false}
-use Rattle.stats.specs.Tally.{critical-at}
+use Rattle.stats.specs.BlockCounts.{critical-at}
 use Rattle.stats.specs.Counting.{cell-word, critical-word}
 use Rattle.stats.proofs.CountLaws.{Faces, word-ready, add-ready, word-there, faces-start, faces-few, face-below, faces-skip, faces-more, faces-all}
 use native.Mathlib.Omega.{arith}

@@ -1,4 +1,4 @@
--- The tally of a block, in the model's terms: darts, volumes, pieces, critical faces, counter. Assumes nothing.
+-- The counts of a block, in the model's terms: darts, volumes, pieces, critical faces, counter. Assumes nothing.
 use mathlib.Core.Bool.{Bool, true, false, cond}
 use mathlib.Core.List.{List}
 use Prim.Native.Nat.{ℕ, _%_}
@@ -9,7 +9,7 @@ use Rattle.model.specs.Values.{Third, free, sewn, critical, Dart, Block}
 use Rattle.model.specs.Cells.{faces, start-of, serials, next-in, third-at}
 use Rattle.model.specs.Image.{column, is-critical-word, block-in, holds-block}
 use Rattle.model.specs.Balance.{every, picked}
-use Rattle.stats.specs.declared.counts.Tally.{Tally}
+use Rattle.stats.specs.declared.counts.BlockCounts.{BlockCounts}
 use Rattle.stats.specs.Pieces.{piece-starts}
 
 abbrev pub is-critical : Third → Bool
@@ -22,8 +22,8 @@ unfoldable pub critical-faces : List Dart → List (List ℕ)
 critical-faces ds = keep (λ f. is-critical (third-at ds (start-of f))) (faces (next-in ds) (serials ds))
 
 -- the oracle `every` picks every volume
-abbrev pub tally-in : Block → Tally
-tally-in b = record {
+abbrev pub counts-in : Block → BlockCounts
+counts-in b = record {
   darts = length (b .darts);
   volumes = length (picked every (b .darts));
   pieces = length (piece-starts (b .darts));
@@ -31,12 +31,12 @@ tally-in b = record {
   counter = b .counter;
 }
 
-abbrev pub no-tally : Tally
-no-tally = record { darts = 0; volumes = 0; pieces = 0; critical = 0; counter = 0 }
+abbrev pub no-counts : BlockCounts
+no-counts = record { darts = 0; volumes = 0; pieces = 0; critical = 0; counter = 0 }
 
 -- of a block's memory; of any other memory all zero
-unfoldable pub tally-of : List ℕ → Tally
-tally-of m = cond (holds-block m) (tally-in (block-in m)) no-tally
+unfoldable pub block-counts : List ℕ → BlockCounts
+block-counts m = cond (holds-block m) (counts-in (block-in m)) no-counts
 
 -- BY PLACE: the dart at place p is critical
 abbrev pub critical-at : List ℕ → ℕ → Bool

@@ -1,12 +1,12 @@
--- `stats::tally` meets its contract. Assumes nothing.
+-- `stats::count_block` meets its contract. Assumes nothing.
 use mathlib.Core.Path.{sym, _∙_}
 use borrow.Author.Tests.{not-true, not-false}
 use Rattle.cells.proofs.Sited.{sited}
-use Rattle.stats.proofs.CriticalFaces.{tally-sound, tally-unsound}
+use Rattle.stats.proofs.CriticalFaces.{counts-sound, counts-unsound}
 use native.Mathlib.Omega.{arith}
 use borrow.Author.Needs.{needs}
-use Rattle.stats.proofs.tally.Statement.{statement}
-use Rattle.stats.proofs.tally.Tie as tie
+use Rattle.stats.proofs.count_block.Statement.{statement}
+use Rattle.stats.proofs.count_block.Tie as tie
 
 is-sound-requires : tie.Need-is-sound-requires
 is-sound-requires c κs = search needs
@@ -15,7 +15,7 @@ returns : tie.Need-returns
 returns c =
     let start : tie.Start = search in
     let is-sound-known = (let p : tie.After-is-sound = search in p .is-sound) in
-    tally-unsound (start .args .block .now) (sym (is-sound-known .ensures) ∙ not-true _ (c .if1 .taken))
+    counts-unsound (start .args .block .now) (sym (is-sound-known .ensures) ∙ not-true _ (c .if1 .taken))
 
 count-requires : tie.Need-count-requires
 count-requires c κs =
@@ -57,10 +57,10 @@ returns-2 c =
     let pieces-known = (let p : tie.After-pieces = search in p .pieces) in
     let critical-faces-known = (let p : tie.After-critical-faces = search in p .critical-faces) in
     let ok = sym (is-sound-known .ensures) ∙ not-false _ (if1-known .left) in
-    tally-sound (start .args .block .now) ok (count-known .ensures .0) (pieces-known .ensures) (critical-faces-known .ensures)
+    counts-sound (start .args .block .now) ok (count-known .ensures .0) (pieces-known .ensures) (critical-faces-known .ensures)
 
-pub tally-spec : {M : Type 1} → statement M
-tally-spec =
+pub count-block-spec : {M : Type 1} → statement M
+count-block-spec =
     tie.close
     (tie.spec
     is-sound-requires
