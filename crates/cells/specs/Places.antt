@@ -7,7 +7,7 @@ use lib.Dec.{eqb}
 use lib.ListN.{length, getD, set, take}
 use Rattle.model.specs.Lists.{all, keep, mem, distinct, tab, concat}
 use Rattle.model.specs.Cells.{volume, ring, vertex, vertices, vertex-number}
-use Rattle.model.specs.Image.{words-for, column}
+use Rattle.model.specs.Image.{words-for, column, is-sewn-word}
 use Rattle.model.specs.Values.{room}
 use Rattle.model.specs.Links.{placed}
 use Rattle.laws.specs.Order.{Ascending}
@@ -52,10 +52,10 @@ marked n marks = keep (λ p. eqb (getD marks p 0) 1) (tab (λ p. p) n)
 
 -- the dart at place p is sewn to a marked one; to one that is not marked
 abbrev pub sewn-in : List ℕ → List ℕ → ℕ → Bool
-sewn-in b marks p = eqb (column b 3 p % 4) 1 && eqb (getD marks (column b 4 p) 0) 1
+sewn-in b marks p = is-sewn-word (column b 3 p) && eqb (getD marks (column b 4 p) 0) 1
 
 abbrev pub sewn-out : List ℕ → List ℕ → ℕ → Bool
-sewn-out b marks p = eqb (column b 3 p % 4) 1 && not (eqb (getD marks (column b 4 p) 0) 1)
+sewn-out b marks p = is-sewn-word (column b 3 p) && not (eqb (getD marks (column b 4 p) 0) 1)
 
 -- the places below n that are in a list, ascending
 unfoldable pub places-in : ℕ → List ℕ → List ℕ

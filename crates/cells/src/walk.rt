@@ -10,7 +10,7 @@ use memory::record::Place;
 use memory::record::Record;
 
 // A place that is not marked is marked and put at the end of the queue. Returns the queue's new length.
-fn visit(marks: &mut [u8], order: &mut [usize], tail: usize, p: Place) -> usize
+pub fn visit(marks: &mut [u8], order: &mut [usize], tail: usize, p: Place) -> usize
     requires { ⌜ (p .0 < length (now marks)) × (tail ≤ room) × (getD (now marks) (p .0) 0 ≡ 0 → tail < length (now order)) ⌝ }
     ensures { λ r. ⌜ Visited (p .0) (now (marks .entry)) (now (order .entry)) tail (now (marks .exit)) (now (order .exit)) r ⌝ }
 {

@@ -2,6 +2,7 @@
 use answers::Answer;
 use commands::names;
 use memory::header::Header;
+use memory::kind;
 use oracle::Oracle;
 use store::say;
 
@@ -39,9 +40,7 @@ pub fn show_blocks(mesh: &[u64]) {
     let k = mesh.len() / Header::WORDS;
     let mut b = 0;
     while b < k {
-        let from = b * Header::WORDS;
-        let end = from + Header::WORDS;
-        show_block(b, &mesh[from..end]);
+        show_block(b, mesh::part_of(mesh, b));
         b += 1;
     }
 }
@@ -89,9 +88,7 @@ fn first_with_kind(kind: u64, mesh: &[u64]) -> usize {
     let k = mesh.len() / Header::WORDS;
     let mut b = 0;
     while b < k {
-        let from = b * Header::WORDS;
-        let end = from + Header::WORDS;
-        if has_kind(&mesh[from..end], kind) {
+        if has_kind(mesh::part_of(mesh, b), kind) {
             return b;
         }
         b += 1;
@@ -104,8 +101,7 @@ fn say_missing(mesh: &[u64]) -> bool {
     let k = mesh.len() / Header::WORDS;
     let mut m = k;
     while m < memory::header::BLOCKS {
-        // critical with block m
-        let b = first_with_kind(2 + 4 * (m as u64), mesh);
+        let b = first_with_kind(kind::critical_with(m as u64), mesh);
         if b < k {
             say::text(&names::block(m));
             say::text(b" is missing, and ");
@@ -162,10 +158,8 @@ pub fn show_picked(mesh: &[u64], o: Oracle) {
     let k = mesh.len() / Header::WORDS;
     let mut b = 0;
     while b < k {
-        let from = b * Header::WORDS;
-        let end = from + Header::WORDS;
         say::text(b" ");
-        say::number(picked(&mesh[from..end], o));
+        say::number(picked(mesh::part_of(mesh, b), o));
         b += 1;
     }
     say::text(b"\n");

@@ -170,9 +170,7 @@ fn keep_on(grown: bool, dry: bool, mesh: &[u64], scratch: &mut [u64], room: &mut
 // Makes block b empty.
 fn empty_part(b: usize, mesh: &mut [u64]) {
     if b < mesh.len() / Header::WORDS {
-        let from = b * Header::WORDS;
-        let end = from + Header::WORDS;
-        memory::header::empty(b as u64, &mut mesh[from..end]);
+        memory::header::empty(b as u64, mesh::part_mut(mesh, b));
     }
 }
 

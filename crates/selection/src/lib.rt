@@ -9,8 +9,9 @@ ghost use Rattle.model.specs.Values.{room};
 ghost use Rattle.model.specs.Image.{words-for, column, count-in, block-in, holds-block};
 ghost use Rattle.model.specs.Balance.{picked as model-picked};
 ghost use Rattle.oracle.specs.Oracle.{oracle-of};
-ghost use Rattle.cells.specs.Places.{Clear, Linked, Visited, volume-of};
+ghost use Rattle.cells.specs.Places.{Clear, Linked, volume-of};
 ghost use Rattle.selection.specs.Picked.{Walkable, SomePicked, holds-at, Marking, Added, Through, Measures, Sizes};
+use cells::walk;
 use memory::header::Header;
 use memory::point;
 use memory::record;
@@ -33,20 +34,6 @@ fn along(block: &[u64], p: Place, f: usize) -> Place
     Place(record::field(block, p, f) as usize)
 }
 
-// A place that is not marked is marked and put at the end of the queue. Returns the queue's new length.
-fn visit(marks: &mut [u8], order: &mut [usize], tail: usize, p: Place) -> usize
-    requires { ⌜ (p .0 < length (now marks)) × (tail ≤ room) × (getD (now marks) (p .0) 0 ≡ 0 → tail < length (now order)) ⌝ }
-    ensures { λ r. ⌜ Visited (p .0) (now (marks .entry)) (now (order .entry)) tail (now (marks .exit)) (now (order .exit)) r ⌝ }
-{
-    let i = p.0;
-    if marks[i] != 0 {
-        return tail;
-    }
-    marks[i] = 1;
-    order[tail] = i;
-    tail + 1
-}
-
 // Marks the volume of the dart at place `start`, which is not marked, beside those marked before. Returns the queue's new length.
 fn add_volume(
     block: &[u64],
@@ -61,15 +48,15 @@ fn add_volume(
     ensures added { λ r. ⌜ Added n (volume-of (now (block .entry)) (start .0)) (now (marks .entry)) tail (now (marks .exit)) (now (order .exit)) r ⌝ }
 {
     // Both links of what stands before `head` lead to what is marked.
-    let mut end = visit(marks, order, tail, start);
+    let mut end = walk::visit(marks, order, tail, start);
     let mut head = tail;
     while head < end {
         let p = place_at(order, head);
         head += 1;
         let a = along(block, p, 1);
-        end = visit(marks, order, end, a);
+        end = walk::visit(marks, order, end, a);
         let b = along(block, p, 2);
-        end = visit(marks, order, end, b);
+        end = walk::visit(marks, order, end, b);
     }
     end
 }

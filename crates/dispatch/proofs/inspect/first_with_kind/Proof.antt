@@ -16,23 +16,8 @@ abbrev μ-loop : tie.MeasureT-loop
 loop-holds : tie.Need-loop-holds Inv-loop μ-loop
 loop-holds c = search needs
 
-mul-from : tie.Need-mul-from Inv-loop μ-loop
-mul-from c = search needs
-
-add-end : tie.Need-add-end Inv-loop μ-loop
-add-end c = search needs
-
-mul-has-kind : tie.Need-mul-has-kind Inv-loop μ-loop
-mul-has-kind c = search needs
-
-sub-has-kind : tie.Need-sub-has-kind Inv-loop μ-loop
-sub-has-kind c = search needs
-
-part-has-kind-start : tie.Need-part-has-kind-start Inv-loop μ-loop
-part-has-kind-start c = search needs
-
-part-has-kind-end : tie.Need-part-has-kind-end Inv-loop μ-loop
-part-has-kind-end c = search needs
+part-of-requires : tie.Need-part-of-requires Inv-loop μ-loop
+part-of-requires c κs = search needs
 
 has-kind-requires : tie.Need-has-kind-requires Inv-loop μ-loop
 has-kind-requires c κs = search needs
@@ -59,12 +44,7 @@ first-with-kind-spec =
     Inv-loop
     μ-loop
     loop-holds
-    mul-from
-    add-end
-    mul-has-kind
-    sub-has-kind
-    part-has-kind-start
-    part-has-kind-end
+    part-of-requires
     has-kind-requires
     returns
     add-b

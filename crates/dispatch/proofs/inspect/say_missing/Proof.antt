@@ -15,11 +15,8 @@ abbrev μ-loop : tie.MeasureT-loop
 loop-holds : tie.Need-loop-holds Inv-loop μ-loop
 loop-holds c = search needs
 
-mul-first-with-kind : tie.Need-mul-first-with-kind Inv-loop μ-loop
-mul-first-with-kind c = search needs
-
-add-first-with-kind : tie.Need-add-first-with-kind Inv-loop μ-loop
-add-first-with-kind c = search needs
+critical-with-requires : tie.Need-critical-with-requires Inv-loop μ-loop
+critical-with-requires c κs = search needs
 
 first-with-kind-requires : tie.Need-first-with-kind-requires Inv-loop μ-loop
 first-with-kind-requires c κs = search needs
@@ -76,8 +73,7 @@ say-missing-spec =
     Inv-loop
     μ-loop
     loop-holds
-    mul-first-with-kind
-    add-first-with-kind
+    critical-with-requires
     first-with-kind-requires
     block-requires
     slice-aggregate-text

@@ -16,23 +16,8 @@ abbrev μ-loop : tie.MeasureT-loop
 loop-holds : tie.Need-loop-holds Inv-loop μ-loop
 loop-holds c = search needs
 
-mul-from : tie.Need-mul-from Inv-loop μ-loop
-mul-from c = search needs
-
-add-end : tie.Need-add-end Inv-loop μ-loop
-add-end c = search needs
-
-mul-show-block : tie.Need-mul-show-block Inv-loop μ-loop
-mul-show-block c = search needs
-
-sub-show-block : tie.Need-sub-show-block Inv-loop μ-loop
-sub-show-block c = search needs
-
-part-show-block-start : tie.Need-part-show-block-start Inv-loop μ-loop
-part-show-block-start c = search needs
-
-part-show-block-end : tie.Need-part-show-block-end Inv-loop μ-loop
-part-show-block-end c = search needs
+part-of-requires : tie.Need-part-of-requires Inv-loop μ-loop
+part-of-requires c κs = search needs
 
 show-block-requires : tie.Need-show-block-requires Inv-loop μ-loop
 show-block-requires c κs = search needs
@@ -56,12 +41,7 @@ show-blocks-spec =
     Inv-loop
     μ-loop
     loop-holds
-    mul-from
-    add-end
-    mul-show-block
-    sub-show-block
-    part-show-block-start
-    part-show-block-end
+    part-of-requires
     show-block-requires
     add-b
     loop-less

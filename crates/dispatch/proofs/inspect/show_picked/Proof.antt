@@ -16,29 +16,14 @@ abbrev μ-loop : tie.MeasureT-loop
 loop-holds : tie.Need-loop-holds Inv-loop μ-loop
 loop-holds c = search needs
 
-mul-from : tie.Need-mul-from Inv-loop μ-loop
-mul-from c = search needs
-
-add-end : tie.Need-add-end Inv-loop μ-loop
-add-end c = search needs
-
 slice-aggregate-text : tie.Need-slice-aggregate-text Inv-loop μ-loop
 slice-aggregate-text c = search needs
 
 text-requires : tie.Need-text-requires Inv-loop μ-loop
 text-requires c κs = search needs
 
-mul-picked : tie.Need-mul-picked Inv-loop μ-loop
-mul-picked c = search needs
-
-sub-picked : tie.Need-sub-picked Inv-loop μ-loop
-sub-picked c = search needs
-
-part-picked-start : tie.Need-part-picked-start Inv-loop μ-loop
-part-picked-start c = search needs
-
-part-picked-end : tie.Need-part-picked-end Inv-loop μ-loop
-part-picked-end c = search needs
+part-of-requires : tie.Need-part-of-requires Inv-loop μ-loop
+part-of-requires c κs = search needs
 
 picked-requires : tie.Need-picked-requires Inv-loop μ-loop
 picked-requires c κs = search needs
@@ -71,14 +56,9 @@ show-picked-spec =
     Inv-loop
     μ-loop
     loop-holds
-    mul-from
-    add-end
     slice-aggregate-text
     text-requires
-    mul-picked
-    sub-picked
-    part-picked-start
-    part-picked-end
+    part-of-requires
     picked-requires
     number-requires
     add-b
