@@ -1,7 +1,8 @@
 pub mod DartLaws
 pub mod DartReads
 pub mod EntryLaws
+pub mod Passing
 pub mod PointReads
-pub mod Sequences
+pub mod Taking
 pub mod ThirdLaws
 pub mod ThirdReads

@@ -13,12 +13,13 @@ use Rattle.model.specs.Messages.{kind-of, label, critical-link, third-get, thir
 use Rattle.laws.proofs.Labels.{code-in}
 use Rattle.theory.proofs.LayoutLaws.{then-some}
 use Rattle.groups.specs.Slices.{label-code}
-use Rattle.groups.proofs.Ends.{Onward, Ends, Reads, from-onward, place-back, same-rest, onward-then, onward-to, ⊕-ends, serial-ends, at-most-ends, label-ends}
+use Rattle.groups.proofs.Ends.{Onward, Ends, from-onward, place-back, same-rest, onward-then, onward-to, ⊕-ends, serial-ends, at-most-ends, label-ends}
 use Rattle.groups.proofs.Labels.{at-most-bound}
 use Rattle.codec.specs.Thirds.{named-by, kind-and-third, placed-third, third-read}
+use Rattle.codec.specs.Taken.{Took}
 use Rattle.codec.specs.declared.third.Linked.{Linked}
 use Rattle.codec.specs.declared.third.Linked.the-variants as linked
-use Rattle.codec.proofs.Sequences.{Lacks, dependent-lacks, pair-reads, pair-lacks, pair-then-lacks, as-lacks, lacks-as}
+use Rattle.codec.proofs.Taking.{took-reads, Lacks, dependent-lacks, both-took, pair-lacks, pair-then-lacks, as-lacks, lacks-as}
 
 critical-ends : Ends critical-link
 unfolding critical-link
@@ -45,7 +46,7 @@ kind-third-ends bs v rest h =
 pub record ThirdGot (s : List ℕ) (at k a next : ℕ) : Type 0 where
   pub kind : ℕ
   pub link : Third
-  pub reads : Reads (at-most 2 ⊗ third) s at (kind, link) next
+  pub reads : Took (at-most 2 ⊗ third) s at (kind, link) next
   pub kind-is : k ≡ kind-word link
   pub link-is : a ≡ named-by link
 
@@ -63,7 +64,7 @@ third-got {s} {at} {k} {a} {next} h = go ((at-most 2 ⊗ third) .get (drop at s)
         record {
           kind = r .0 .0;
           link = r .0 .1;
-          reads = rw en (from-onward (at-most 2 ⊗ third) s (r .1) at (r .0) e (kind-third-ends (drop at s) (r .0) (r .1) e));
+          reads = rw en (took-reads (from-onward (at-most 2 ⊗ third) s (r .1) at (r .0) e (kind-third-ends (drop at s) (r .0) (r .1) e)));
           kind-is = ek;
           link-is = ea;
         }
@@ -85,7 +86,7 @@ unfolding third-read
 a-third l s at next t e w = rw (e, place-back s next w)
 
 -- the kind was read: what follows it decides
-kind-first : {s : List ℕ} {at k from : ℕ} → Reads (at-most 2) s at k from → third-read (third k) s from ≡ third-read kind-and-third s at
+kind-first : {s : List ℕ} {at k from : ℕ} → Took (at-most 2) s at k from → third-read (third k) s from ≡ third-read kind-and-third s at
 unfolding third-read kind-and-third as-type _⊗_
 kind-first {s} {at} {k} {from} p = rw (p .value) (go (third k .get (drop from s)))
   where
@@ -93,10 +94,10 @@ kind-first {s} {at} {k} {from} p = rw (p .value) (go (third k .get (drop from s)
     go none = refl
     go (some r) = refl
 
-pub kind-is : {s : List ℕ} {at k from : ℕ} (j : ℕ) {x : Linked} → Reads (at-most 2) s at k from → k ≡ j → x ≡ third-read (third j) s from → x ≡ third-read kind-and-third s at
+pub kind-is : {s : List ℕ} {at k from : ℕ} (j : ℕ) {x : Linked} → Took (at-most 2) s at k from → k ≡ j → x ≡ third-read (third j) s from → x ≡ third-read kind-and-third s at
 kind-is {s} {at} {k} {from} j p e h = h ∙ ap (λ (i : ℕ). third-read (third i) s from) (sym e) ∙ kind-first p
 
-pub kind-one : {s : List ℕ} {at k from : ℕ} → Reads (at-most 2) s at k from → (k ≡ 0 → ⊥) → (k ≡ 2 → ⊥) → k ≡ 1
+pub kind-one : {s : List ℕ} {at k from : ℕ} → Took (at-most 2) s at k from → (k ≡ 0 → ⊥) → (k ≡ 2 → ⊥) → k ≡ 1
 kind-one {s} {at} {k} {from} p a b = omega (arith, at-most-bound 2 (drop at s) k (drop from s) (p .value))
 
 pub no-kind : {s : List ℕ} {at : ℕ} → Lacks (at-most 2) s at → linked.Bad ≡ third-read kind-and-third s at
@@ -107,18 +108,18 @@ pub free-read : (s : List ℕ) (from : ℕ) → from ≤ length s → linked.Lin
 free-read s from w = a-third (third 0) s from from free (unfold third in refl) w
 
 -- kind 1
-pub sewn-read : {s : List ℕ} {from y next : ℕ} → Reads serial s from y next → linked.Link 1 y next ≡ third-read (third 1) s from
+pub sewn-read : {s : List ℕ} {from y next : ℕ} → Took serial s from y next → linked.Link 1 y next ≡ third-read (third 1) s from
 sewn-read {s} {from} {y} {next} r = a-third (third 1) s from next (sewn y) (unfold third in (rw (r .value))) (r .within)
 
 pub no-sewn : {s : List ℕ} {from : ℕ} → Lacks serial s from → linked.Bad ≡ third-read (third 1) s from
 no-sewn e = no-third (third 1) (record { value = unfold third in (rw (e .value)) })
 
 -- kind 2
-critical-reads : {s : List ℕ} {at o from next : ℕ} {l : Label} → Reads (at-most 15) s at o from → Reads label s from l next → Reads critical-link s at (o, l) next
+critical-reads : {s : List ℕ} {at o from next : ℕ} {l : Label} → Took (at-most 15) s at o from → Took label s from l next → Took critical-link s at (o, l) next
 unfolding critical-link
-critical-reads p q = pair-reads (at-most 15) label p q
+critical-reads p q = both-took (at-most 15) label p q
 
-pub critical-read : {s : List ℕ} {at o from next k : ℕ} (a : ℕ) → Reads (at-most 15) s at o from → Reads label s from (label-in a) next → k ≡ 2 + 4 * o
+pub critical-read : {s : List ℕ} {at o from next k : ℕ} (a : ℕ) → Took (at-most 15) s at o from → Took label s from (label-in a) next → k ≡ 2 + 4 * o
     → linked.Link k a next ≡ third-read (third 2) s at
 critical-read {s} {at} {o} {from} {next} a p q e =
     let r = critical-reads p q in
@@ -131,5 +132,5 @@ no-critical e = no-third (third 2) (record { value = unfold third in (rw (e .val
 pub no-other : {s : List ℕ} {at : ℕ} → Lacks (at-most 15) s at → linked.Bad ≡ third-read (third 2) s at
 no-other e = no-critical (unfold critical-link in (pair-lacks (at-most 15) label e))
 
-pub no-label : {s : List ℕ} {at o from : ℕ} → Reads (at-most 15) s at o from → Lacks label-code s from → linked.Bad ≡ third-read (third 2) s at
+pub no-label : {s : List ℕ} {at o from : ℕ} → Took (at-most 15) s at o from → Lacks label-code s from → linked.Bad ≡ third-read (third 2) s at
 no-label p e = no-critical (unfold critical-link in (pair-then-lacks (at-most 15) label p (lacks-as code label-in label (unfold label-code in e))))

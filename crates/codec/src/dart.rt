@@ -11,8 +11,7 @@ use crate::third;
 use crate::third::Linked;
 use groups::Read;
 
-// What a dart begins with: serial, next, opposite. Its third link and its point follow, each by its own function: a whole dart made from
-// memory before its first byte is put made save file 8 % slower.
+// What a dart begins with: serial, next, opposite. Third link and point follow by their own functions: a dart put as one value was slower.
 pub fn put_links(out: &mut [u8], at: usize, serial: u64, next: u64, opposite: u64) -> usize
     requires { ⌜ (serial < serial-bound) × (next < serial-bound) × (opposite < serial-bound) × (at + length (link-bytes serial next opposite) < 2 ^ 63) ⌝ }
     ensures { λ r. ⌜ Stored (now (out .entry)) at (link-bytes serial next opposite) (now (out .exit)) r ⌝ }
@@ -22,8 +21,7 @@ pub fn put_links(out: &mut [u8], at: usize, serial: u64, next: u64, opposite: u6
     groups::put_serial(out, past_next, opposite)
 }
 
-// The values of a dart as a file has them: its links by serial, where memory has places; the kind word and what the third link names; the
-// words of its point: whether they are finite is asked later.
+// A dart as a file has it: links by serial, where memory has places, kind word and what the third link names, the words of its point.
 pub struct FileDart {
     pub serial: u64,
     pub next: u64,

@@ -1,15 +1,17 @@
-// One point, one dart of a face, one entry of a part, put at a place of a slice; a point read there.
+// One point, one dart of a face, one entry of a part, put at a place of a slice and read there or passed over.
 ghost use mathlib.Core.Path.{_≡_};
 ghost use mathlib.Core.List.{_++_};
-ghost use Prim.Native.Nat.{_+_, _<_, _^_};
+ghost use Prim.Native.Nat.{_+_, _≤_, _<_, _^_};
 ghost use lib.ListN.{length};
 ghost use Rattle.model.specs.Values.{serial-bound};
-ghost use Rattle.model.specs.Layouts.{group};
+ghost use Rattle.model.specs.Layouts.{group, times};
 ghost use Rattle.model.specs.Image.{label-in};
-ghost use Rattle.model.specs.Messages.{point as point-layout, face-dart, part2, part3};
-ghost use Rattle.groups.specs.Slices.{Stored};
+ghost use Rattle.model.specs.Messages.{point as point-layout, label, face-dart, part2, part3};
+ghost use Rattle.groups.specs.Slices.{Stored, read-at};
 ghost use Rattle.memory.specs.Point.{patterns, FinitePoint};
 ghost use Rattle.codec.specs.Points.{point-read};
+ghost use Rattle.codec.specs.Taken.{Passes};
+ghost use Rattle.codec.specs.Entries.{FacedRead, first-layout};
 use groups::Read;
 use memory::point;
 use memory::point::Point;
@@ -28,8 +30,7 @@ pub fn put_point(out: &mut [u8], at: usize, p: Point) -> usize
     groups::put_coordinate(out, past_y, z)
 }
 
-// A point that was read, and the place past it. Its coordinates stay words, and so they do in the record that the dart becomes: whether they
-// are finite is question 4, which is asked after the whole file was read, and only finite ones make a point.
+// A point that was read, and the place past it. Its coordinates stay words: only finite ones make a point, and that is asked later.
 pub enum Located {
     Point(u64, u64, u64, usize),
     Bad,
@@ -60,6 +61,25 @@ pub fn put_dart(out: &mut [u8], at: usize, vertex: usize, serial: u64) -> usize
     groups::put_serial(out, past, serial)
 }
 
+// A dart of a face that was read: its vertex, its serial, and the place past it.
+pub enum Faced {
+    Dart(u64, u64, usize),
+    Bad,
+}
+
+// In the same order.
+pub fn read_dart(s: &[u8], at: usize) -> Faced
+    ensures { λ r. ⌜ FacedRead (now (s .entry)) at r ⌝ }
+{
+    let Read::Value(vertex, past) = reader::read_group(s, at) else {
+        return Faced::Bad;
+    };
+    let Read::Value(serial, next) = reader::read_serial(s, past) else {
+        return Faced::Bad;
+    };
+    Faced::Dart(vertex, serial, next)
+}
+
 // A face critical with the destination: the label of its start, as a code, then the start's index.
 pub fn put_part2(out: &mut [u8], at: usize, code: u64, index: MessageIndex) -> usize
     requires { ⌜ (index .0 < 2 ^ 32) × (at + length (part2 .put (record { label = label-in code; index = index .0 })) < 2 ^ 63) ⌝ }
@@ -68,6 +88,16 @@ pub fn put_part2(out: &mut [u8], at: usize, code: u64, index: MessageIndex) -> u
     let i = index.0;
     let past = groups::put_label(out, at, code);
     groups::put_group(out, past, i as u32)
+}
+
+// An entry of part 2: a label, then an index.
+pub fn pass_part2(s: &[u8], at: usize) -> Read
+    ensures { λ r. ⌜ Passes part2 (now (s .entry)) at r ⌝ }
+{
+    let Read::Value(code, past) = reader::read_label(s, at) else {
+        return Read::Bad;
+    };
+    reader::read_group(s, past)
 }
 
 // A sewn face: the number of its new labels, then its start's index.
@@ -80,6 +110,36 @@ pub fn put_part3(out: &mut [u8], at: usize, number: u64, index: MessageIndex) ->
     groups::put_group(out, past, i as u32)
 }
 
+// An entry of part 3: a number, then an index.
+pub fn pass_part3(s: &[u8], at: usize) -> Read
+    ensures { λ r. ⌜ Passes part3 (now (s .entry)) at r ⌝ }
+{
+    let Read::Value(number, past) = reader::read_group(s, at) else {
+        return Read::Bad;
+    };
+    reader::read_group(s, past)
+}
+
+// A part whose entries are two numbers: a label's code or a number, then an index.
+pub enum Paired {
+    Second,
+    Third,
+}
+
+// The first number of an entry.
+pub fn read_first(s: &[u8], at: usize, part: Paired) -> Read
+    ensures { λ r. ⌜ r ≡ read-at (first-layout part) (now (s .entry)) at ⌝ }
+{
+    match part {
+        Paired::Second => {
+            return reader::read_label(s, at);
+        }
+        Paired::Third => {
+            return reader::read_group(s, at);
+        }
+    }
+}
+
 // Another critical face: its start's index and the other block, before its labels.
 pub fn put_part4(out: &mut [u8], at: usize, index: MessageIndex, other: u64) -> usize
     requires { ⌜ (index .0 < 2 ^ 32) × (other < 2 ^ 32) × (at + length (group .put (index .0) ++ group .put other) < 2 ^ 63) ⌝ }
@@ -88,4 +148,22 @@ pub fn put_part4(out: &mut [u8], at: usize, index: MessageIndex, other: u64) -> 
     let i = index.0;
     let past = groups::put_group(out, at, i as u32);
     groups::put_group(out, past, other as u32)
+}
+
+// So many labels.
+pub fn pass_labels(s: &[u8], at: usize, count: u64) -> Read
+    requires { ⌜ at ≤ length (now s) ⌝ }
+    ensures { λ r. ⌜ Passes (times count label) (now (s .entry)) at r ⌝ }
+{
+    // All but the last `left` are passed.
+    let mut left = count;
+    let mut p = at;
+    while 0 < left {
+        let Read::Value(code, next) = reader::read_label(s, p) else {
+            return Read::Bad;
+        };
+        p = next;
+        left -= 1;
+    }
+    Read::Value(count, p)
 }

@@ -9,8 +9,9 @@ use Rattle.laws.proofs.Members.{map-append}
 use Rattle.model.specs.Messages.{FaceDart, face-dart}
 use Rattle.groups.specs.declared.Read.{Read}
 use Rattle.groups.specs.declared.Read.the-variants.{Value, Bad}
-use Rattle.inbox.specs.Inbox.{most, Took, Sides, Grown, DartSaid, DartRead, DartsIn, DartsRead}
-use Rattle.inbox.proofs.Taking.{SoFar, so-far-start, so-far-more, so-far-stop, so-far-end}
+use Rattle.codec.specs.Taken.{Took}
+use Rattle.inbox.specs.Inbox.{most, Sides, Grown, DartSaid, DartRead, DartsIn, DartsRead}
+use Rattle.codec.proofs.Taking.{SoFar, so-far-start, so-far-more, so-far-stop, so-far-end}
 
 pub grown-start : (i : ℕ) (o : List ℕ) → Grown i [] o o
 grown-start i o = record { front = ap (λ (k : ℕ). take k o) none-yet ∙ sym (append-nil (take i o)); size = refl }

@@ -17,8 +17,9 @@ use Rattle.theory.proofs.LayoutLaws.{get-all-length, same-value, then-some}
 use Rattle.groups.specs.declared.Read.{Read as Answer}
 use Rattle.groups.specs.declared.Read.the-variants.{Value, Bad}
 use Rattle.inbox.specs.declared.faces.FacesOrNot.the-variants as faces
-use Rattle.inbox.specs.Inbox.{most, Took, Sides, Grown, DartsSaid, DartsRead, FaceSaid, FaceRead, FacesIn, FacesRead, starts-of, sizes-of, some-darts, is-hollow}
-use Rattle.inbox.proofs.Taking.{SoFar, so-far-start, so-far-more, so-far-end, counted-none, counted-half, counted-took}
+use Rattle.codec.specs.Taken.{Took}
+use Rattle.inbox.specs.Inbox.{most, Sides, Grown, DartsSaid, DartsRead, FaceSaid, FaceRead, FacesIn, FacesRead, starts-of, sizes-of, some-darts, is-hollow}
+use Rattle.codec.proofs.Taking.{SoFar, so-far-start, so-far-more, so-far-end, counted-none, counted-half, counted-took}
 use Rattle.inbox.proofs.Arrays.{length-replicate}
 
 counted-length : {A : Type 0} (l : Layout A) {s : List ℕ} {at n p : ℕ} (xs : List A) (rest : List ℕ) → Took group s at n p → counted l .get (drop at s) ≡ some (xs, rest) → length xs ≡ n

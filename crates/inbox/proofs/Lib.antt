@@ -1,4 +1,3 @@
-pub mod Taking
 pub mod Arrays
 pub mod Points
 pub mod FaceArrays

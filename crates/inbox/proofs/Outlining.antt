@@ -31,10 +31,11 @@ use Rattle.inbox.specs.declared.message.FrontOrNot.the-variants as front
 use Rattle.inbox.specs.declared.message.Tail.{Tail}
 use Rattle.inbox.specs.declared.message.TailOrNot.the-variants as tail
 use Rattle.inbox.specs.declared.message.UpdateOrNot.the-variants as outline
-use Rattle.inbox.specs.Inbox.{Took, Sides, FacesSaid, FacesRead, PointsSaid, PointsRead, PassSaid, Passes, points-in, some-darts}
+use Rattle.codec.specs.Taken.{Took, PassSaid, Passes}
+use Rattle.inbox.specs.Inbox.{Sides, FacesSaid, FacesRead, PointsSaid, PointsRead, points-in, some-darts}
 use Rattle.inbox.specs.Outlines.{Headed, HeadRead, Entries, CountedSaid, CountedRead, Fronted, FrontRead, tail-layout, Tailed, TailRead, UpdateRead}
-use Rattle.inbox.proofs.Taking.{took-reads, pair-none, pair-took, both-none, both-half, both-took, as-none}
-use Rattle.inbox.proofs.Taking.{as-took, such-none, such-refused, such-took, counted-none, counted-half, counted-took}
+use Rattle.codec.proofs.Taking.{took-reads, pair-none, pair-took, both-none, both-half, both-took, as-none}
+use Rattle.codec.proofs.Taking.{as-took, such-none, such-refused, such-took, counted-none, counted-half, counted-took}
 
 -- TO THE LAST BYTE
 module _ {A : Type 0} (l : Layout A) where

@@ -14,8 +14,9 @@ use Rattle.laws.proofs.Tests.{lt-or-ge}
 use Rattle.laws.proofs.Tables.{tab-cong}
 use Rattle.theory.proofs.LayoutLaws.{bytes-none}
 use Rattle.groups.specs.declared.Read.the-variants.{Value, Bad}
-use Rattle.inbox.specs.Inbox.{Took, word-in, point-in, points-in, PointsRead}
-use Rattle.inbox.proofs.Taking.{both-none, both-half, both-took, as-none, as-took, counted-half, counted-took}
+use Rattle.codec.specs.Taken.{Took}
+use Rattle.inbox.specs.Inbox.{word-in, point-in, points-in, PointsRead}
+use Rattle.codec.proofs.Taking.{both-none, both-half, both-took, as-none, as-took, counted-half, counted-took}
 
 -- BYTES
 bytes-some : (n : ℕ) (bs : List ℕ) → n ≤ length bs → (v : ℕ) × (read-bytes n bs ≡ some (v, drop n bs))

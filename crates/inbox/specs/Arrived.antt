@@ -10,7 +10,8 @@ use Rattle.inbox.specs.declared.message.Front.{Front}
 use Rattle.inbox.specs.declared.message.Tail.{Tail}
 use Rattle.inbox.specs.declared.received.Received.{Received}
 use Rattle.inbox.specs.declared.received.Received.the-variants as received
-use Rattle.inbox.specs.Inbox.{Took, Sides, FacesIn, points-in, some-darts, is-hollow}
+use Rattle.codec.specs.Taken.{Took}
+use Rattle.inbox.specs.Inbox.{Sides, FacesIn, points-in, some-darts, is-hollow}
 use Rattle.inbox.specs.Outlines.{UpdateOutlined}
 
 -- A TRANSFER by its two halves and the arrays of its darts

@@ -1,4 +1,4 @@
--- What the readers of a message answer: what a layout takes at a place of a slice, and what their arrays hold then. Assumes nothing.
+-- What the readers of a message answer, and what their arrays hold then. Assumes nothing.
 use mathlib.Core.Path.{_≡_}
 use mathlib.Core.Bool.{Bool, true, false, _&&_}
 use mathlib.Core.List.{List, [], _∷_, _++_, map}
@@ -8,22 +8,17 @@ use lib.Dec.{leb, eqb}
 use lib.ListN.{length, take, drop, set, replicate}
 use Rattle.model.specs.Lists.{any, tab, concat}
 use Rattle.model.specs.Values.{Point}
-use Rattle.model.specs.Layouts.{Layout, Read as Reading, coordinate, times, counted, get-all}
+use Rattle.model.specs.Layouts.{Read as Reading, coordinate, times, counted, get-all}
 use Rattle.model.specs.Messages.{FaceDart, face-dart, point, size-all}
 use Rattle.groups.specs.declared.Read.{Read}
 use Rattle.groups.specs.declared.Read.the-variants.{Value, Bad}
+use Rattle.codec.specs.Taken.{Took}
 use Rattle.inbox.specs.declared.faces.FacesOrNot.{FacesOrNot}
 use Rattle.inbox.specs.declared.faces.FacesOrNot.the-variants as faces
 
 -- darts that a message may have
 abbrev pub most : ℕ
 most = 512
-
--- a layout takes a value from a place on, up to another
-pub record Took {A : Type 0} (l : Layout A) (s : List ℕ) (at : ℕ) (v : A) (next : ℕ) : Type 0 where
-  pub value : l .get (drop at s) ≡ some (v, drop next s)
-  pub onward : at ≤ next
-  pub within : next ≤ length s
 
 -- POINTS stay where they stand, 24 bytes each
 abbrev pub value-or-zero : Reading ℕ → ℕ
@@ -122,14 +117,7 @@ pub record FacesRead (s : List ℕ) (at count : ℕ) (v x b z : List ℕ) (r : F
   pub sides : Sides v x b z
   pub said : FacesSaid s at count v x b z r
 
--- PARTS stay where they stand: something is passed over
-abbrev pub PassSaid : {A : Type 0} → Layout A → List ℕ → ℕ → Read → Type 0
-PassSaid l s at Bad = l .get (drop at s) ≡ none
-PassSaid {A} l s at (Value w next) = (a : A) × Took l s at a next
-
-pub record Passes {A : Type 0} (l : Layout A) (s : List ℕ) (at : ℕ) (r : Read) : Type 0 where
-  pub said : PassSaid l s at r
-
+-- PARTS stay where they stand
 -- the array has the size of the face of each dart
 pub record Sized (fs : List (List FaceDart)) (darts : ℕ) (sizes : List ℕ) : Type 0 where
   pub count : darts ≡ size-all fs

@@ -21,7 +21,8 @@ use Rattle.inbox.specs.declared.message.TailOrNot.the-variants as tail
 use Rattle.inbox.specs.declared.message.Update.{Update as UpdateOutline}
 use Rattle.inbox.specs.declared.message.UpdateOrNot.{UpdateOrNot}
 use Rattle.inbox.specs.declared.message.UpdateOrNot.the-variants as outline
-use Rattle.inbox.specs.Inbox.{Took, Sides, FacesIn, points-in, some-darts, is-hollow}
+use Rattle.codec.specs.Taken.{Took}
+use Rattle.inbox.specs.Inbox.{Sides, FacesIn, points-in, some-darts, is-hollow}
 
 -- THE HEAD: kind, sender, receiver
 pub record Headed (k : ℕ) (s : List ℕ) (at from to next : ℕ) : Type 0 where

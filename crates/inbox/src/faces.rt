@@ -3,6 +3,8 @@ ghost use mathlib.Core.Path.{_≡_};
 ghost use Prim.Native.Nat.{_+_, _≤_, _<_};
 ghost use lib.ListN.{length};
 ghost use Rattle.inbox.specs.Inbox.{most, PointsRead, DartRead, DartsRead, FaceRead, FacesRead, Sides};
+use codec::entry;
+use codec::entry::Faced;
 use groups::Read;
 use memory::header::Header;
 use memory::record::MessageIndex;
@@ -26,10 +28,7 @@ fn read_dart(s: &[u8], at: usize, i: MessageIndex, vertex: &mut [u64], serial: &
     requires { ⌜ (i .0 < most) × (length (now vertex) ≡ most) × (length (now serial) ≡ most) ⌝ }
     ensures { λ r. ⌜ DartRead (now (s .entry)) at (i .0) (now (vertex .entry)) (now (vertex .exit)) (now (serial .entry)) (now (serial .exit)) r ⌝ }
 {
-    let Read::Value(v, past) = reader::read_group(s, at) else {
-        return Read::Bad;
-    };
-    let Read::Value(x, next) = reader::read_serial(s, past) else {
+    let Faced::Dart(v, x, next) = entry::read_dart(s, at) else {
         return Read::Bad;
     };
     let n = i.0;

@@ -3,50 +3,14 @@ ghost use mathlib.Core.List.{List};
 ghost use Prim.Native.Nat.{_≤_};
 ghost use lib.ListN.{length};
 ghost use Rattle.model.specs.Layouts.{times};
-ghost use Rattle.model.specs.Messages.{FaceDart, label, part2, part3, part4};
-ghost use Rattle.inbox.specs.Inbox.{Passes, Sized};
+ghost use Rattle.model.specs.Messages.{FaceDart, part4};
+ghost use Rattle.codec.specs.Taken.{Passes};
+ghost use Rattle.inbox.specs.Inbox.{Sized};
 ghost use Rattle.inbox.specs.Parts.{entry};
+use codec::entry;
 use groups::Read;
 use memory::header::Header;
 use memory::record::MessageIndex;
-
-// An entry of part 2: a label, then an index.
-pub fn pass_part2(s: &[u8], at: usize) -> Read
-    ensures { λ r. ⌜ Passes part2 (now (s .entry)) at r ⌝ }
-{
-    let Read::Value(code, past) = reader::read_label(s, at) else {
-        return Read::Bad;
-    };
-    reader::read_group(s, past)
-}
-
-// An entry of part 3: a number, then an index.
-pub fn pass_part3(s: &[u8], at: usize) -> Read
-    ensures { λ r. ⌜ Passes part3 (now (s .entry)) at r ⌝ }
-{
-    let Read::Value(number, past) = reader::read_group(s, at) else {
-        return Read::Bad;
-    };
-    reader::read_group(s, past)
-}
-
-// So many labels.
-pub fn pass_labels(s: &[u8], at: usize, count: u64) -> Read
-    requires { ⌜ at ≤ length (now s) ⌝ }
-    ensures { λ r. ⌜ Passes (times count label) (now (s .entry)) at r ⌝ }
-{
-    // All but the last `left` are passed.
-    let mut left = count;
-    let mut p = at;
-    while 0 < left {
-        let Read::Value(code, next) = reader::read_label(s, p) else {
-            return Read::Bad;
-        };
-        p = next;
-        left -= 1;
-    }
-    Read::Value(count, p)
-}
 
 // An entry of part 4: an index, a block, and as many labels as the face with that dart has darts.
 pub fn pass_part4(s: &[u8], at: usize, darts: usize, sizes: &[usize]) -> Read
@@ -63,7 +27,7 @@ pub fn pass_part4(s: &[u8], at: usize, darts: usize, sizes: &[usize]) -> Read
         return Read::Bad;
     };
     let size = place::size_at(sizes, MessageIndex(index as usize));
-    pass_labels(s, from, size as u64)
+    entry::pass_labels(s, from, size as u64)
 }
 
 // A part of a message: a count, and so many entries.
@@ -81,10 +45,10 @@ fn pass_entry(s: &[u8], at: usize, part: Part, darts: usize, sizes: &[usize]) ->
 {
     match part {
         Part::Second => {
-            return pass_part2(s, at);
+            return entry::pass_part2(s, at);
         }
         Part::Third => {
-            return pass_part3(s, at);
+            return entry::pass_part3(s, at);
         }
         Part::Fourth => {
             return pass_part4(s, at, darts, sizes);

@@ -21,7 +21,7 @@ use Rattle.laws.proofs.Members.{In, all-in, all-from, append-in, in-append-righ
 use Rattle.laws.proofs.Tables.{map-tab, mem-place, place-mem, ascending-tab, all-tab}
 use Rattle.theory.proofs.LayoutLaws.{get-all-length}
 use Rattle.theory.proofs.ImageLaws.{tab-list}
-use Rattle.inbox.specs.Inbox.{Took}
+use Rattle.codec.specs.Taken.{Took}
 use Rattle.inbox.specs.declared.message.Tail.{Tail}
 use Rattle.cells.proofs.Paths.{mem-append}
 use Rattle.columns.specs.Columns.{Kind, kind-free, kind-critical}

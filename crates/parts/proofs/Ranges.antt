@@ -12,7 +12,7 @@ use Rattle.model.specs.Messages.{Part2, Part3, label, part2, part3}
 use Rattle.laws.proofs.Labels.{in-code}
 use Rattle.theory.proofs.LayoutLaws.{same-value, then-some}
 use Rattle.groups.proofs.Labels.{group-bound, at-most-bound}
-use Rattle.inbox.specs.Inbox.{Took}
+use Rattle.codec.specs.Taken.{Took}
 use Rattle.parts.specs.Entries.{code2, number3}
 
 record InRange (l : Label) : Type 0 where

@@ -31,13 +31,16 @@ use Rattle.groups.specs.declared.Read.the-variants.{Value, Bad}
 use Rattle.groups.proofs.Ends.{bad-at}
 use Rattle.groups.proofs.Labels.{at-most-bound}
 use Rattle.groups.specs.declared.Read.{Read as Answer}
-use Rattle.inbox.specs.Inbox.{most, Took, PassSaid, Passes, Sized}
-use Rattle.inbox.proofs.Taking.{took-group, such-took, pair-took, both-none, both-half, both-took, as-none, as-took, SoFar, so-far-start, so-far-more, so-far-stop, so-far-end}
-use Rattle.inbox.proofs.Passing.{no-label, took-label, size-there, part4-pass}
+use Rattle.codec.specs.Taken.{Took, PassSaid, Passes}
+use Rattle.inbox.specs.Inbox.{most, Sized}
+use Rattle.codec.proofs.Taking.{took-group, such-took, pair-took, both-none, both-half, both-took, as-none, as-took, SoFar, so-far-start, so-far-more, so-far-stop, so-far-end}
+use Rattle.codec.proofs.Passing.{no-label, took-label}
+use Rattle.inbox.proofs.Passing.{size-there, part4-pass}
 use Rattle.laws.proofs.Labels.{code-in}
-use Rattle.parts.specs.declared.entries.Paired.{Paired}
-use Rattle.parts.specs.declared.entries.Paired.the-variants as paired
-use Rattle.parts.specs.Entries.{EntriesRead, Pair, pair, first, index, first-layout}
+use Rattle.codec.specs.Entries.{first-layout}
+use Rattle.codec.specs.declared.entry.Paired.{Paired}
+use Rattle.codec.specs.declared.entry.Paired.the-variants as paired
+use Rattle.parts.specs.Entries.{EntriesRead, Pair, pair, first, index}
 
 -- an array has the numbers f of the entries so far
 front-more : {A : Type 0} (f : A → ℕ) (items : List A) (m : A) (a : List ℕ) (i y : ℕ) → length a ≡ most → i < most → take i a ≡ map f items
@@ -95,9 +98,6 @@ module _ {A : Type 0} (l : Layout A) (f g : A → ℕ) where
         }
 
 -- AN ENTRY of two numbers, by its part
-pub first-read : (s : List ℕ) (at : ℕ) {p q : Paired} {r : Answer} → p ≡ q → r ≡ read-at (first-layout q) s at → r ≡ read-at (first-layout p) s at
-first-read s at e d = d ∙ ap (λ (x : Paired). read-at (first-layout x) s at) (sym e)
-
 pub no-first : (p : Paired) (s : List ℕ) (at : ℕ) → Bad ≡ read-at (first-layout p) s at → pair p .get (drop at s) ≡ none
 unfolding part2 part3
 no-first paired.Second s at e = as-none _ _ _ (drop at s) (both-none label group (drop at s) (no-label s at e))

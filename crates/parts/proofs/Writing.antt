@@ -16,8 +16,8 @@ use Rattle.laws.proofs.Members.{map-append}
 use Rattle.laws.proofs.Labels.{code-in}
 use Rattle.groups.specs.Slices.{read-at, label-code}
 use Rattle.groups.specs.declared.Read.the-variants.{Value, Bad}
-use Rattle.inbox.proofs.Taking.{SoFar, so-far-start, so-far-more, so-far-stop, so-far-end}
-use Rattle.inbox.proofs.Passing.{no-label, took-label}
+use Rattle.codec.proofs.Taking.{SoFar, so-far-start, so-far-more, so-far-stop, so-far-end}
+use Rattle.codec.proofs.Passing.{no-label, took-label}
 use Rattle.parts.specs.Faces.{Over, Spans, Faced, code-at}
 use Rattle.parts.specs.Entries.{LabelsThere}
 use Rattle.parts.proofs.Reading.{labels-are}

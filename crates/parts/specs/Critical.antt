@@ -12,7 +12,8 @@ use Rattle.model.specs.Layouts.{times}
 use Rattle.model.specs.Messages.{Transfer, size-all, part2, part3, part4}
 use Rattle.model.specs.Arrival.{indices-right, consecutive, labels-new, critical-links}
 use Rattle.columns.specs.Columns.{Kind}
-use Rattle.inbox.specs.Inbox.{Took, FacesIn, is-hollow}
+use Rattle.codec.specs.Taken.{Took}
+use Rattle.inbox.specs.Inbox.{FacesIn, is-hollow}
 use Rattle.inbox.specs.declared.message.Tail.{Tail}
 use Rattle.parts.specs.Entries.{code2, index2, index3, index4}
 use Rattle.parts.specs.Indices.{indices-fit}

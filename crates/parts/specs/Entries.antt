@@ -6,12 +6,12 @@ use Prim.Native.Nat.{ℕ, _≤_, _<_}
 use lib.ListN.{length, getD, take, drop}
 use Rattle.model.specs.Lists.{tab}
 use Rattle.model.specs.Values.{Label, code}
-use Rattle.model.specs.Layouts.{Layout, Read, group, get-all, times}
+use Rattle.model.specs.Layouts.{Layout, Read, get-all, times}
 use Rattle.model.specs.Messages.{FaceDart, Part2, Part3, Part4, label, part2, part3, part4}
-use Rattle.groups.specs.Slices.{label-code}
-use Rattle.inbox.specs.Inbox.{most, Took}
-use Rattle.parts.specs.declared.entries.Paired.{Paired}
-use Rattle.parts.specs.declared.entries.Paired.the-variants as paired
+use Rattle.codec.specs.Taken.{Took}
+use Rattle.inbox.specs.Inbox.{most}
+use Rattle.codec.specs.declared.entry.Paired.{Paired}
+use Rattle.codec.specs.declared.entry.Paired.the-variants as paired
 use Rattle.parts.specs.declared.entries.EntryOrNot.{EntryOrNot}
 use Rattle.parts.specs.declared.entries.EntryOrNot.the-variants as entry
 
@@ -50,11 +50,6 @@ first paired.Third = number3
 abbrev pub index : (p : Paired) → Pair p → ℕ
 index paired.Second = index2
 index paired.Third = index3
-
--- how the first number stands
-abbrev pub first-layout : Paired → Layout ℕ
-first-layout paired.Second = label-code
-first-layout paired.Third = group
 
 -- two numbers of each of the entries that stand from a place on
 pub record EntriesRead {A : Type 0} (l : Layout A) (f g : A → ℕ) (s : List ℕ) (at count : ℕ) (a b : List ℕ) : Type 0 where

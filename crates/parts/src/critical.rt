@@ -8,11 +8,11 @@ ghost use Rattle.model.specs.Image.{holds-block};
 ghost use Rattle.model.specs.Messages.{Transfer};
 ghost use Rattle.parts.specs.Critical.{few-entries, entries-fit, Arrives, CriticalRight};
 use crate::entries;
-use crate::entries::Paired;
 use crate::faces;
 use crate::fresh;
 use crate::indices;
 use crate::numbers;
+use codec::entry::Paired;
 use inbox::message::Tail;
 use memory::header::Header;
 

@@ -4,32 +4,13 @@ ghost use mathlib.Core.List.{List};
 ghost use Prim.Native.Nat.{_≤_};
 ghost use lib.ListN.{length};
 ghost use Rattle.model.specs.Messages.{FaceDart};
-ghost use Rattle.groups.specs.Slices.{read-at};
 ghost use Rattle.inbox.specs.Inbox.{most, Sized};
-ghost use Rattle.parts.specs.Entries.{EntriesRead, EntryRead, Part4Read, pair, first, index, first-layout};
+ghost use Rattle.parts.specs.Entries.{EntriesRead, EntryRead, Part4Read, pair, first, index};
+use codec::entry;
+use codec::entry::Paired;
 use groups::Read;
 use memory::header::Header;
 use memory::record::MessageIndex;
-
-// A part whose entries are two numbers: a label's code or a number, then an index.
-pub enum Paired {
-    Second,
-    Third,
-}
-
-// The first number of an entry.
-fn read_first(s: &[u8], at: usize, part: Paired) -> Read
-    ensures { λ r. ⌜ r ≡ read-at (first-layout part) (now (s .entry)) at ⌝ }
-{
-    match part {
-        Paired::Second => {
-            return reader::read_label(s, at);
-        }
-        Paired::Third => {
-            return reader::read_group(s, at);
-        }
-    }
-}
 
 // The first numbers of a part's entries, and their indices.
 pub fn read_pairs(
@@ -47,7 +28,7 @@ pub fn read_pairs(
     let mut i = 0;
     let mut p = at;
     while i < count {
-        let Read::Value(first, past) = read_first(s, p, part) else {
+        let Read::Value(first, past) = entry::read_first(s, p, part) else {
             return;
         };
         let Read::Value(index, next) = reader::read_group(s, past) else {
@@ -87,7 +68,7 @@ fn read_entry(s: &[u8], at: usize, darts: usize, sizes: &[usize]) -> EntryOrNot
         return EntryOrNot::Not;
     };
     let size = place::size_at(sizes, MessageIndex(index as usize));
-    let Read::Value(n, next) = inbox::parts::pass_labels(s, labels, size as u64) else {
+    let Read::Value(n, next) = entry::pass_labels(s, labels, size as u64) else {
         return EntryOrNot::Not;
     };
     EntryOrNot::Entry(Entry {

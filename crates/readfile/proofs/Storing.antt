@@ -19,9 +19,10 @@ use Rattle.theory.proofs.LayoutLaws.{same-value, then-some, when-some}
 use Rattle.memory.specs.Record.{record-words, put}
 use Rattle.memory.specs.declared.record.Record.{Record}
 use Rattle.groups.specs.declared.Read.the-variants as read
-use Rattle.groups.proofs.Ends.{Reads, from-onward, place-back}
+use Rattle.groups.proofs.Ends.{from-onward, place-back}
 use Rattle.codec.specs.declared.dart.FileDart.{FileDart}
-use Rattle.codec.proofs.Sequences.{Lacks}
+use Rattle.codec.specs.Taken.{Took}
+use Rattle.codec.proofs.Taking.{Lacks, took-reads}
 use Rattle.codec.proofs.DartReads.{dart-ends, DartGot}
 use Rattle.newblock.specs.Serials.{raw-words, stored-all}
 use Rattle.newblock.proofs.Rows.{behind-none}
@@ -58,7 +59,7 @@ module _ {s : List ℕ} {at : ℕ} (last : ℕ) (m : List ℕ) (p : ℕ) where
 -- what an answer tells
 pub record StoredGot (s : List ℕ) (at last : ℕ) (m : List ℕ) (p : ℕ) (after : List ℕ) (serial next : ℕ) : Type 0 where
   pub dart : Dart
-  pub reads : Reads a-dart s at dart next
+  pub reads : Took a-dart s at dart next
   pub serial-is : serial ≡ dart .serial
   pub above : ltb last (dart .serial) ≡ true
   pub memory-is : after ≡ put m p (raw-words dart)
@@ -79,7 +80,7 @@ stored-got {s} {at} {last} {m} {p} {after} {serial} {next} w = go (dart-after la
         let same : t .0 ≡ r .0 = same-value (g .1) in
         record {
           dart = r .0;
-          reads = rw en (from-onward a-dart s (r .1) at (r .0) got (dart-ends (drop at s) (r .0) (r .1) got));
+          reads = rw en (took-reads (from-onward a-dart s (r .1) at (r .0) got (dart-ends (drop at s) (r .0) (r .1) got)));
           serial-is = es;
           above = ap (λ (d : Dart). ltb last (d .serial)) (sym same) ∙ g .0;
           memory-is = k;

@@ -18,8 +18,9 @@ use Rattle.model.specs.Messages.{a-dart, file}
 use Rattle.model.specs.Image.{words-of}
 use Rattle.theory.proofs.LayoutLaws.{get-all-length, then-some, when-some}
 use Rattle.memory.specs.Header.{header-words}
-use Rattle.groups.proofs.Ends.{Ends, Reads, same-rest}
-use Rattle.codec.proofs.Sequences.{Lacks, dependent-lacks, dependent-then-lacks, pair-lacks, pair-then-lacks, as-lacks}
+use Rattle.groups.proofs.Ends.{Ends, same-rest}
+use Rattle.codec.specs.Taken.{Took}
+use Rattle.codec.proofs.Taking.{Lacks, dependent-lacks, dependent-then-lacks, pair-lacks, pair-then-lacks, as-lacks}
 use Rattle.codec.proofs.DartReads.{dart-ends}
 use Rattle.newblock.specs.Serials.{raw}
 use Rattle.newblock.proofs.Stored.{stored-raw}
@@ -89,15 +90,15 @@ module _ (lim : Limits) where
   pub no-number : {s : List ℕ} → Lacks (at-most 15) s 0 → whole (file lim) s ≡ none
   no-number e = unread (pair-lacks (at-most 15) (group ⊕ counted a-dart) e)
 
-  module _ {s : List ℕ} {number a : ℕ} (p : Reads (at-most 15) s 0 number a) where
+  module _ {s : List ℕ} {number a : ℕ} (p : Took (at-most 15) s 0 number a) where
     pub no-counter : Lacks group s a → whole (file lim) s ≡ none
     no-counter e = unread (pair-then-lacks (at-most 15) (group ⊕ counted a-dart) p (pair-lacks group (counted a-dart) e))
 
-    module _ {counter b : ℕ} (q : Reads group s a counter b) where
+    module _ {counter b : ℕ} (q : Took group s a counter b) where
       pub no-count : Lacks group s b → whole (file lim) s ≡ none
       no-count e = unread (pair-then-lacks (at-most 15) (group ⊕ counted a-dart) p (pair-then-lacks group (counted a-dart) q (counted-lacks (dependent-lacks group (λ n. times n a-dart) e))))
 
-      module _ {n c : ℕ} (r : Reads group s b n c) where
+      module _ {n c : ℕ} (r : Took group s b n c) where
         abbrev block-of : List Dart → Block
         block-of ds = record { number = number; counter = counter; darts = ds }
 
@@ -190,7 +191,7 @@ module _ (lim : Limits) where
 pub raw-refused : {lim : Limits} {s after : List ℕ} → whole (file lim) s ≡ none → RawRead lim s after false
 raw-refused e = record { answer = rw e; memory = λ b q. absurd (Option·none-ne-some b (sym e ∙ q)) }
 
-pub raw-served : (lim : Limits) {s : List ℕ} {number a counter b n c : ℕ} (p : Reads (at-most 15) s 0 number a) (q : Reads group s a counter b) (r : Reads group s b n c)
+pub raw-served : (lim : Limits) {s : List ℕ} {number a counter b n c : ℕ} (p : Took (at-most 15) s 0 number a) (q : Took group s a counter b) (r : Took group s b n c)
     → n ≤ lim .block-darts → (m : List ℕ) → m ≡ replicate (words-of lim) 0 → {x y : List ℕ} {next : ℕ} → DartsStored s c n m x (end.At next) → next ≡ length s
     → y ≡ header-words (record { number = number; counter = counter; darts = n }) ++ drop 8 x → RawRead lim s y true
 raw-served lim {s} {number} {a} {counter} {b} {n} {c} p q r h m em {x} {y} {next} k e f =

@@ -25,7 +25,7 @@ use Rattle.cells.proofs.Reached.{places, in-places}
 use Rattle.cells.proofs.FaceLaws.{distinct-at}
 use Rattle.cells.proofs.Sited.{Sited, darts-in}
 use Rattle.departure.specs.ByPlaces.{critical-with}
-use Rattle.inbox.specs.Inbox.{Took}
+use Rattle.codec.specs.Taken.{Took}
 use Rattle.redirect.specs.ByPlaces.{face-code, names-at, named-at, CodesRead, Ready, code-index, EachNamed, AllNamed, Rewritten}
 use Rattle.redirect.proofs.Faces.{stays-in, code-there}
 use Rattle.redirect.proofs.Names.{names-are}

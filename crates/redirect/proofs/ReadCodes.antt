@@ -21,8 +21,8 @@ use Rattle.theory.proofs.LayoutLaws.{same-value}
 use Rattle.groups.specs.Slices.{read-at, label-code}
 use Rattle.groups.specs.declared.Read.the-variants.{Value, Bad}
 use Rattle.memory.proofs.Lookups.{Halving}
-use Rattle.inbox.proofs.Taking.{SoFar, so-far-start, so-far-more, so-far-stop, so-far-end}
-use Rattle.inbox.proofs.Passing.{no-label, took-label}
+use Rattle.codec.proofs.Taking.{SoFar, so-far-start, so-far-more, so-far-stop, so-far-end}
+use Rattle.codec.proofs.Passing.{no-label, took-label}
 use Rattle.redirect.specs.ByPlaces.{CodesRead}
 
 -- READ ONE BY ONE

@@ -16,7 +16,7 @@ use Rattle.model.specs.Layouts.{times}
 use Rattle.model.specs.Messages.{label}
 use Rattle.columns.specs.Columns.{all-below}
 use Rattle.departure.specs.ByPlaces.{critical-with}
-use Rattle.inbox.specs.Inbox.{Took}
+use Rattle.codec.specs.Taken.{Took}
 
 -- FACES
 -- the code of the least label of the face of the dart at place q

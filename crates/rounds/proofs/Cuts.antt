@@ -12,11 +12,11 @@ use Rattle.model.specs.DividedRun.{message-length, cut, messages-in, to-number,
 use Rattle.laws.proofs.Tests.{lt-or-ge}
 use Rattle.laws.proofs.Lists.{rest-whole}
 use Rattle.groups.proofs.Ends.{group-ends}
-use Rattle.inbox.specs.Inbox.{Took}
+use Rattle.codec.specs.Taken.{Took}
 use Rattle.reader.specs.Heads.{Four, four, head-told, head-in}
 use Rattle.reader.specs.declared.HeadOrNot.{HeadOrNot}
 use Rattle.reader.specs.declared.HeadOrNot.the-variants as head
-use Rattle.inbox.proofs.Taking.{both-none}
+use Rattle.codec.proofs.Taking.{both-none}
 use Rattle.rounds.specs.Post.{first-in, rest-in}
 
 le-or-ge : (a b : ℕ) → (a ≤ b) ⊎ (b ≤ a)

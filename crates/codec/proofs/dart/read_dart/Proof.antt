@@ -2,7 +2,8 @@
 -- Assumes nothing.
 use mathlib.Core.Path.{sym, _∙_}
 use Rattle.model.specs.Layouts.{serial}
-use Rattle.groups.proofs.Ends.{bad-at, serial-at}
+use Rattle.groups.proofs.Ends.{bad-at}
+use Rattle.codec.proofs.Taking.{took-serial}
 use Rattle.codec.proofs.ThirdReads.{third-got, third-lacks}
 use Rattle.codec.proofs.PointReads.{point-got, point-lacks}
 use Rattle.codec.proofs.DartReads.{no-serial, no-next, no-opposite, no-link, no-point, five-read}
@@ -38,7 +39,7 @@ returns-2 c =
     let read-serial-ensures = (let p : tie.After-read-serial = search in p .read-serial .ensures) in
     let serial-given = (let p : tie.After-serial = search in p .serial .given) in
     let read-serial2-ensures = (let p : tie.After-read-serial2 = search in p .read-serial2 .ensures) in
-    no-next (serial-at (sym (serial-given .1) ∙ read-serial-ensures))
+    no-next (took-serial (sym (serial-given .1) ∙ read-serial-ensures))
     (record { value = bad-at serial _ _ (sym (c .enum-told2 .given .1) ∙ read-serial2-ensures) })
 
 read-serial-requires-3 : tie.Need-read-serial-requires-3
@@ -57,8 +58,8 @@ returns-3 c =
     let read-serial2-ensures = (let p : tie.After-read-serial2 = search in p .read-serial2 .ensures) in
     let next-given = (let p : tie.After-next = search in p .next .given) in
     let read-serial3-ensures = (let p : tie.After-read-serial3 = search in p .read-serial3 .ensures) in
-    no-opposite (serial-at (sym (serial-given .1) ∙ read-serial-ensures))
-    (serial-at (sym (next-given .1) ∙ read-serial2-ensures)) (record { value = bad-at serial _ _ (sym (c .enum-told3 .given .1) ∙ read-serial3-ensures) })
+    no-opposite (took-serial (sym (serial-given .1) ∙ read-serial-ensures))
+    (took-serial (sym (next-given .1) ∙ read-serial2-ensures)) (record { value = bad-at serial _ _ (sym (c .enum-told3 .given .1) ∙ read-serial3-ensures) })
 
 read-third-requires : tie.Need-read-third-requires
 read-third-requires c κs = search needs
@@ -78,9 +79,9 @@ returns-4 c =
     let read-serial3-ensures = (let p : tie.After-read-serial3 = search in p .read-serial3 .ensures) in
     let opposite-given = (let p : tie.After-opposite = search in p .opposite .given) in
     let read-third-ensures = (let p : tie.After-read-third = search in p .read-third .ensures) in
-    no-link (serial-at (sym (serial-given .1) ∙ read-serial-ensures))
-    (serial-at (sym (next-given .1) ∙ read-serial2-ensures))
-    (serial-at (sym (opposite-given .1) ∙ read-serial3-ensures)) (third-lacks (sym (c .enum-told4 .given .1) ∙ read-third-ensures))
+    no-link (took-serial (sym (serial-given .1) ∙ read-serial-ensures))
+    (took-serial (sym (next-given .1) ∙ read-serial2-ensures))
+    (took-serial (sym (opposite-given .1) ∙ read-serial3-ensures)) (third-lacks (sym (c .enum-told4 .given .1) ∙ read-third-ensures))
 
 read-point-requires : tie.Need-read-point-requires
 read-point-requires c κs = search needs
@@ -102,9 +103,9 @@ returns-5 c =
     let read-third-ensures = (let p : tie.After-read-third = search in p .read-third .ensures) in
     let kind-given = (let p : tie.After-kind = search in p .kind .given) in
     let read-point-ensures = (let p : tie.After-read-point = search in p .read-point .ensures) in
-    no-point (serial-at (sym (serial-given .1) ∙ read-serial-ensures))
-    (serial-at (sym (next-given .1) ∙ read-serial2-ensures))
-    (serial-at (sym (opposite-given .1) ∙ read-serial3-ensures))
+    no-point (took-serial (sym (serial-given .1) ∙ read-serial-ensures))
+    (took-serial (sym (next-given .1) ∙ read-serial2-ensures))
+    (took-serial (sym (opposite-given .1) ∙ read-serial3-ensures))
     (third-got (sym (kind-given .1) ∙ read-third-ensures)) (point-lacks (sym (c .enum-told5 .given .1) ∙ read-point-ensures))
 
 returns-6 : tie.Need-returns-6
@@ -119,9 +120,9 @@ returns-6 c =
     let kind-given = (let p : tie.After-kind = search in p .kind .given) in
     let read-point-ensures = (let p : tie.After-read-point = search in p .read-point .ensures) in
     let x-given = (let p : tie.After-x = search in p .x .given) in
-    five-read (serial-at (sym (serial-given .1) ∙ read-serial-ensures))
-    (serial-at (sym (next-given .1) ∙ read-serial2-ensures))
-    (serial-at (sym (opposite-given .1) ∙ read-serial3-ensures))
+    five-read (took-serial (sym (serial-given .1) ∙ read-serial-ensures))
+    (took-serial (sym (next-given .1) ∙ read-serial2-ensures))
+    (took-serial (sym (opposite-given .1) ∙ read-serial3-ensures))
     (third-got (sym (kind-given .1) ∙ read-third-ensures))
     (point-got (sym (x-given .1) ∙ read-point-ensures))
 

@@ -2,7 +2,8 @@
 -- Assumes nothing.
 use mathlib.Core.Path.{sym, _∙_}
 use Rattle.model.specs.Layouts.{coordinate}
-use Rattle.groups.proofs.Ends.{bad-at, coordinate-at}
+use Rattle.groups.proofs.Ends.{bad-at}
+use Rattle.codec.proofs.Taking.{took-coordinate}
 use Rattle.codec.proofs.PointReads.{no-x, no-y, no-z, three-read}
 use borrow.Author.Needs.{needs}
 use Rattle.codec.proofs.entry.read_point.Statement.{statement}
@@ -36,7 +37,7 @@ returns-2 c =
     let read-coordinate-ensures = (let p : tie.After-read-coordinate = search in p .read-coordinate .ensures) in
     let x-given = (let p : tie.After-x = search in p .x .given) in
     let read-coordinate2-ensures = (let p : tie.After-read-coordinate2 = search in p .read-coordinate2 .ensures) in
-    no-y (coordinate-at (sym (x-given .1) ∙ read-coordinate-ensures))
+    no-y (took-coordinate (sym (x-given .1) ∙ read-coordinate-ensures))
     (record { value = bad-at coordinate _ _ (sym (c .enum-told2 .given .1) ∙ read-coordinate2-ensures) })
 
 read-coordinate-requires-3 : tie.Need-read-coordinate-requires-3
@@ -55,7 +56,7 @@ returns-3 c =
     let read-coordinate2-ensures = (let p : tie.After-read-coordinate2 = search in p .read-coordinate2 .ensures) in
     let y-given = (let p : tie.After-y = search in p .y .given) in
     let read-coordinate3-ensures = (let p : tie.After-read-coordinate3 = search in p .read-coordinate3 .ensures) in
-    no-z (coordinate-at (sym (x-given .1) ∙ read-coordinate-ensures)) (coordinate-at (sym (y-given .1) ∙ read-coordinate2-ensures))
+    no-z (took-coordinate (sym (x-given .1) ∙ read-coordinate-ensures)) (took-coordinate (sym (y-given .1) ∙ read-coordinate2-ensures))
     (record { value = bad-at coordinate _ _ (sym (c .enum-told3 .given .1) ∙ read-coordinate3-ensures) })
 
 returns-4 : tie.Need-returns-4
@@ -66,8 +67,8 @@ returns-4 c =
     let y-given = (let p : tie.After-y = search in p .y .given) in
     let read-coordinate3-ensures = (let p : tie.After-read-coordinate3 = search in p .read-coordinate3 .ensures) in
     let z-given = (let p : tie.After-z = search in p .z .given) in
-    three-read (coordinate-at (sym (x-given .1) ∙ read-coordinate-ensures)) (coordinate-at (sym (y-given .1) ∙ read-coordinate2-ensures))
-    (coordinate-at (sym (z-given .1) ∙ read-coordinate3-ensures))
+    three-read (took-coordinate (sym (x-given .1) ∙ read-coordinate-ensures)) (took-coordinate (sym (y-given .1) ∙ read-coordinate2-ensures))
+    (took-coordinate (sym (z-given .1) ∙ read-coordinate3-ensures))
 
 pub read-point-spec : {M : Type 1} → statement M
 read-point-spec =

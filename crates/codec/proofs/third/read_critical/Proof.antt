@@ -3,8 +3,10 @@
 use mathlib.Core.Path.{sym, _∙_}
 use Rattle.model.specs.Layouts.{at-most}
 use Rattle.groups.specs.Slices.{label-code}
-use Rattle.groups.proofs.Ends.{bad-at, at-most-at}
-use Rattle.groups.proofs.Labels.{at-most-bound, label-at}
+use Rattle.groups.proofs.Ends.{bad-at}
+use Rattle.groups.proofs.Labels.{at-most-bound}
+use Rattle.codec.proofs.Taking.{took-at-most}
+use Rattle.codec.proofs.Passing.{took-label}
 use Rattle.codec.proofs.ThirdReads.{no-other, no-label, critical-read}
 use native.Mathlib.Omega.{arith}
 use borrow.Author.Needs.{needs}
@@ -42,14 +44,14 @@ returns-2 c =
     let read-at-most-ensures = (let p : tie.After-read-at-most = search in p .read-at-most .ensures) in
     let other-given = (let p : tie.After-other = search in p .other .given) in
     let read-label-ensures = (let p : tie.After-read-label = search in p .read-label .ensures) in
-    no-label (at-most-at 15 (sym (other-given .1) ∙ read-at-most-ensures))
+    no-label (took-at-most 15 (sym (other-given .1) ∙ read-at-most-ensures))
     (record { value = bad-at label-code _ _ (sym (c .enum-told2 .given .1) ∙ read-label-ensures) })
 
 critical-with-requires : tie.Need-critical-with-requires
 critical-with-requires c κs =
     let read-at-most-ensures = (let p : tie.After-read-at-most = search in p .read-at-most .ensures) in
     let other-given = (let p : tie.After-other = search in p .other .given) in
-    omega (arith, at-most-bound 15 _ _ _ (at-most-at 15 (sym (other-given .1) ∙ read-at-most-ensures) .value))
+    omega (arith, at-most-bound 15 _ _ _ (took-at-most 15 (sym (other-given .1) ∙ read-at-most-ensures) .value))
 
 returns-3 : tie.Need-returns-3
 returns-3 c =
@@ -57,7 +59,7 @@ returns-3 c =
     let other-given = (let p : tie.After-other = search in p .other .given) in
     let read-label-ensures = (let p : tie.After-read-label = search in p .read-label .ensures) in
     let label-given = (let p : tie.After-label = search in p .label .given) in
-    critical-read _ (at-most-at 15 (sym (other-given .1) ∙ read-at-most-ensures)) (label-at (sym (label-given .1) ∙ read-label-ensures)) (c .critical-with .ensures)
+    critical-read _ (took-at-most 15 (sym (other-given .1) ∙ read-at-most-ensures)) (took-label (sym (label-given .1) ∙ read-label-ensures)) (c .critical-with .ensures)
 
 pub read-critical-spec : {M : Type 1} → statement M
 read-critical-spec =

@@ -2,7 +2,8 @@
 -- Assumes nothing.
 use mathlib.Core.Path.{sym, _∙_}
 use Rattle.model.specs.Layouts.{serial, at-most}
-use Rattle.groups.proofs.Ends.{bad-at, serial-at, at-most-at}
+use Rattle.groups.proofs.Ends.{bad-at}
+use Rattle.codec.proofs.Taking.{took-serial, took-at-most}
 use Rattle.codec.proofs.ThirdReads.{kind-is, kind-one, no-kind, free-read, sewn-read, no-sewn}
 use borrow.Author.Needs.{needs}
 use Rattle.codec.proofs.third.read_third.Statement.{statement}
@@ -26,7 +27,7 @@ returns-2 : tie.Need-returns-2
 returns-2 c =
     let read-at-most-ensures = (let p : tie.After-read-at-most = search in p .read-at-most .ensures) in
     let kind-given = (let p : tie.After-kind = search in p .kind .given) in
-    let kind = at-most-at 2 (sym (kind-given .1) ∙ read-at-most-ensures) in
+    let kind = took-at-most 2 (sym (kind-given .1) ∙ read-at-most-ensures) in
     kind-is 0 kind (c .if1 .taken) (free-read _ _ (kind .within))
 
 read-critical-requires : tie.Need-read-critical-requires
@@ -37,7 +38,7 @@ returns-3 c =
     let read-at-most-ensures = (let p : tie.After-read-at-most = search in p .read-at-most .ensures) in
     let kind-given = (let p : tie.After-kind = search in p .kind .given) in
     let if2-taken = (let p : tie.Then2 = search in p .if2 .taken) in
-    kind-is 2 (at-most-at 2 (sym (kind-given .1) ∙ read-at-most-ensures)) if2-taken (c .read-critical .ensures)
+    kind-is 2 (took-at-most 2 (sym (kind-given .1) ∙ read-at-most-ensures)) if2-taken (c .read-critical .ensures)
 
 read-serial-requires : tie.Need-read-serial-requires
 read-serial-requires c κs = search needs
@@ -55,7 +56,7 @@ returns-4 c =
     let if1-left = (let p : tie.Else1 = search in p .if1 .left) in
     let if2-left = (let p : tie.Else2 = search in p .if2 .left) in
     let read-serial-ensures = (let p : tie.After-read-serial = search in p .read-serial .ensures) in
-    let kind = at-most-at 2 (sym (kind-given .1) ∙ read-at-most-ensures) in
+    let kind = took-at-most 2 (sym (kind-given .1) ∙ read-at-most-ensures) in
     kind-is 1 kind (kind-one kind if1-left if2-left) (no-sewn (record { value = bad-at serial _ _ (sym (c .enum-told2 .given .1) ∙ read-serial-ensures) }))
 
 returns-5 : tie.Need-returns-5
@@ -66,8 +67,8 @@ returns-5 c =
     let if2-left = (let p : tie.Else2 = search in p .if2 .left) in
     let read-serial-ensures = (let p : tie.After-read-serial = search in p .read-serial .ensures) in
     let sewn-given = (let p : tie.After-sewn = search in p .sewn .given) in
-    let kind = at-most-at 2 (sym (kind-given .1) ∙ read-at-most-ensures) in
-    kind-is 1 kind (kind-one kind if1-left if2-left) (sewn-read (serial-at (sym (sewn-given .1) ∙ read-serial-ensures)))
+    let kind = took-at-most 2 (sym (kind-given .1) ∙ read-at-most-ensures) in
+    kind-is 1 kind (kind-one kind if1-left if2-left) (sewn-read (took-serial (sym (sewn-given .1) ∙ read-serial-ensures)))
 
 pub read-third-spec : {M : Type 1} → statement M
 read-third-spec =

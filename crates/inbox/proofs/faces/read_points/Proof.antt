@@ -4,7 +4,7 @@ use mathlib.Core.Path.{sym, _∙_}
 use Rattle.model.specs.Layouts.{group}
 use Rattle.model.specs.Messages.{point}
 use Rattle.groups.proofs.Ends.{bad-at}
-use Rattle.inbox.proofs.Taking.{took-group, counted-none}
+use Rattle.codec.proofs.Taking.{took-group, counted-none}
 use Rattle.inbox.proofs.Points.{points-read, points-bad}
 use native.Mathlib.Omega.{arith}
 use borrow.Author.Needs.{needs}

@@ -4,7 +4,7 @@ use mathlib.Core.Path.{sym, _∙_}
 use Rattle.model.specs.Layouts.{group}
 use Rattle.groups.proofs.Ends.{bad-at}
 use Rattle.inbox.specs.Parts.{entry}
-use Rattle.inbox.proofs.Taking.{took-group}
+use Rattle.codec.proofs.Taking.{took-group}
 use Rattle.inbox.proofs.Outlining.{counted-bad, counted-short, counted-good}
 use borrow.Author.Needs.{needs}
 use Rattle.inbox.proofs.message.counted_part.Statement.{statement}

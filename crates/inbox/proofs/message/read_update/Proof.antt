@@ -5,7 +5,7 @@ use mathlib.Core.List.{[]}
 use Rattle.model.specs.Layouts.{at-most}
 use Rattle.model.specs.Messages.{label}
 use Rattle.groups.proofs.Ends.{bad-at}
-use Rattle.inbox.proofs.Taking.{took-at-most}
+use Rattle.codec.proofs.Taking.{took-at-most}
 use Rattle.inbox.proofs.Passing.{no-sizes}
 use Rattle.inbox.proofs.Outlining.{counted-missing, counted-there, update-bad, no-block, no-labels, update-more, update-good}
 use borrow.Author.Needs.{needs}

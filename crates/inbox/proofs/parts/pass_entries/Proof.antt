@@ -4,7 +4,7 @@ use mathlib.Core.List.{List}
 use Rattle.model.specs.Messages.{FaceDart}
 use Rattle.inbox.specs.Inbox.{Sized}
 use Rattle.inbox.specs.Parts.{entry}
-use Rattle.inbox.proofs.Passing.{Passing, passing-start, passing-more, passing-stop, passing-end}
+use Rattle.codec.proofs.Passing.{Passing, passing-start, passing-more, passing-stop, passing-end}
 use native.Mathlib.Omega.{arith}
 use borrow.Author.Needs.{needs}
 use Rattle.inbox.proofs.parts.pass_entries.Statement.{statement}

@@ -1,6 +1,7 @@
 -- `inbox::parts::pass_entry` meets its contract: each part by the function that passes its entries.
 -- Assumes nothing.
-use Rattle.inbox.proofs.Passing.{label-pass, entry-as}
+use Rattle.codec.proofs.Passing.{label-pass}
+use Rattle.inbox.proofs.Passing.{entry-as}
 use borrow.Author.Needs.{needs}
 use Rattle.inbox.proofs.parts.pass_entry.Statement.{statement}
 use Rattle.inbox.proofs.parts.pass_entry.Tie as tie

@@ -3,7 +3,7 @@
 use mathlib.Core.Path.{sym, _∙_}
 use Rattle.model.specs.Layouts.{group, at-most}
 use Rattle.groups.proofs.Ends.{bad-at}
-use Rattle.inbox.proofs.Taking.{took-group, took-at-most}
+use Rattle.codec.proofs.Taking.{took-group, took-at-most}
 use Rattle.inbox.proofs.Passing.{part4-none, part4-outside, part4-alone}
 use Rattle.parts.proofs.Reading.{entry-no, entry-half, entry-yes}
 use native.Mathlib.Omega.{arith}

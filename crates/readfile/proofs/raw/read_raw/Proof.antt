@@ -4,7 +4,8 @@ use mathlib.Core.Path.{sym, _∙_}
 use Rattle.model.specs.Layouts.{group, at-most}
 use Rattle.model.specs.Image.{words-of}
 use Rattle.memory.specs.Header.{limits-of}
-use Rattle.groups.proofs.Ends.{bad-at, group-at, at-most-at}
+use Rattle.groups.proofs.Ends.{bad-at}
+use Rattle.codec.proofs.Taking.{took-group, took-at-most}
 use Rattle.readfile.proofs.Whole.{no-number, no-counter, no-count, too-many, no-darts, left-over, raw-refused, raw-served}
 use Rattle.newblock.proofs.Stored.{zeros-length}
 use native.Mathlib.Omega.{arith}
@@ -46,7 +47,7 @@ returns-2 c =
     let number-given = (let p : tie.After-number = search in p .number .given) in
     let read-group-ensures = (let p : tie.After-read-group = search in p .read-group .ensures) in
     raw-refused
-    (no-counter (limits-of (start .args .limits)) (at-most-at 15 (sym (number-given .1) ∙ read-at-most-ensures))
+    (no-counter (limits-of (start .args .limits)) (took-at-most 15 (sym (number-given .1) ∙ read-at-most-ensures))
     (record { value = bad-at group _ _ (sym (c .enum-told2 .given .1) ∙ read-group-ensures) }))
 
 read-group-requires-2 : tie.Need-read-group-requires-2
@@ -66,8 +67,8 @@ returns-3 c =
     let read-group-ensures = (let p : tie.After-read-group = search in p .read-group .ensures) in
     let counter-given = (let p : tie.After-counter = search in p .counter .given) in
     let read-group2-ensures = (let p : tie.After-read-group2 = search in p .read-group2 .ensures) in
-    raw-refused (no-count (limits-of (start .args .limits)) (at-most-at 15 (sym (number-given .1) ∙ read-at-most-ensures))
-    (group-at (sym (counter-given .1) ∙ read-group-ensures)) (record { value = bad-at group _ _ (sym (c .enum-told3 .given .1) ∙ read-group2-ensures) }))
+    raw-refused (no-count (limits-of (start .args .limits)) (took-at-most 15 (sym (number-given .1) ∙ read-at-most-ensures))
+    (took-group (sym (counter-given .1) ∙ read-group-ensures)) (record { value = bad-at group _ _ (sym (c .enum-told3 .given .1) ∙ read-group2-ensures) }))
 
 returns-4 : tie.Need-returns-4
 returns-4 c =
@@ -78,16 +79,16 @@ returns-4 c =
     let counter-given = (let p : tie.After-counter = search in p .counter .given) in
     let read-group2-ensures = (let p : tie.After-read-group2 = search in p .read-group2 .ensures) in
     let count-given = (let p : tie.After-count = search in p .count .given) in
-    raw-refused (too-many (limits-of (start .args .limits)) (at-most-at 15 (sym (number-given .1) ∙ read-at-most-ensures))
-    (group-at (sym (counter-given .1) ∙ read-group-ensures))
-    (group-at (sym (count-given .1) ∙ read-group2-ensures)) (c .if1 .taken))
+    raw-refused (too-many (limits-of (start .args .limits)) (took-at-most 15 (sym (number-given .1) ∙ read-at-most-ensures))
+    (took-group (sym (counter-given .1) ∙ read-group-ensures))
+    (took-group (sym (count-given .1) ∙ read-group2-ensures)) (c .if1 .taken))
 
 read-darts-requires : tie.Need-read-darts-requires
 read-darts-requires c κs =
     let start : tie.Start = search in
     let read-group2-ensures = (let p : tie.After-read-group2 = search in p .read-group2 .ensures) in
     let count-given = (let p : tie.After-count = search in p .count .given) in
-    (group-at (sym (count-given .1) ∙ read-group2-ensures) .within, omega (arith, zeros-length (words-of (limits-of (start .args .limits))) _ (start .pre)))
+    (took-group (sym (count-given .1) ∙ read-group2-ensures) .within, omega (arith, zeros-length (words-of (limits-of (start .args .limits))) _ (start .pre)))
 
 enum-known-past : tie.Need-enum-known-past
 enum-known-past c = search needs
@@ -108,9 +109,9 @@ returns-5 c =
     let read-group2-ensures = (let p : tie.After-read-group2 = search in p .read-group2 .ensures) in
     let count-given = (let p : tie.After-count = search in p .count .given) in
     let read-darts-ensures = (let p : tie.After-read-darts = search in p .read-darts .ensures) in
-    raw-refused (no-darts (limits-of (start .args .limits)) (at-most-at 15 (sym (number-given .1) ∙ read-at-most-ensures))
-    (group-at (sym (counter-given .1) ∙ read-group-ensures))
-    (group-at (sym (count-given .1) ∙ read-group2-ensures)) (omega arith)
+    raw-refused (no-darts (limits-of (start .args .limits)) (took-at-most 15 (sym (number-given .1) ∙ read-at-most-ensures))
+    (took-group (sym (counter-given .1) ∙ read-group-ensures))
+    (took-group (sym (count-given .1) ∙ read-group2-ensures)) (omega arith)
     (sym (c .enum-told4 .given .1) ∙ read-darts-ensures .answer))
 
 same-length-2 : tie.Need-same-length-2
@@ -127,9 +128,9 @@ returns-6 c =
     let count-given = (let p : tie.After-count = search in p .count .given) in
     let read-darts-ensures = (let p : tie.After-read-darts = search in p .read-darts .ensures) in
     let past-given = (let p : tie.After-past = search in p .past .given) in
-    raw-refused (left-over (limits-of (start .args .limits)) (at-most-at 15 (sym (number-given .1) ∙ read-at-most-ensures))
-    (group-at (sym (counter-given .1) ∙ read-group-ensures))
-    (group-at (sym (count-given .1) ∙ read-group2-ensures)) (omega arith)
+    raw-refused (left-over (limits-of (start .args .limits)) (took-at-most 15 (sym (number-given .1) ∙ read-at-most-ensures))
+    (took-group (sym (counter-given .1) ∙ read-group-ensures))
+    (took-group (sym (count-given .1) ∙ read-group2-ensures)) (omega arith)
     (sym (past-given .1) ∙ read-darts-ensures .answer) (c .if2 .taken))
 
 write-requires : tie.Need-write-requires
@@ -154,9 +155,9 @@ returns-7 c =
     let read-darts-ensures = (let p : tie.After-read-darts = search in p .read-darts .ensures) in
     let past-given = (let p : tie.After-past = search in p .past .given) in
     let write-ensures = (let p : tie.After-write = search in p .write .ensures) in
-    raw-served (limits-of (start .args .limits)) (at-most-at 15 (sym (number-given .1) ∙ read-at-most-ensures))
-    (group-at (sym (counter-given .1) ∙ read-group-ensures))
-    (group-at (sym (count-given .1) ∙ read-group2-ensures)) (omega arith) _ (start .pre)
+    raw-served (limits-of (start .args .limits)) (took-at-most 15 (sym (number-given .1) ∙ read-at-most-ensures))
+    (took-group (sym (counter-given .1) ∙ read-group-ensures))
+    (took-group (sym (count-given .1) ∙ read-group2-ensures)) (omega arith) _ (start .pre)
     (rw (past-given .1) at read-darts-ensures) (omega arith) write-ensures
 
 pub read-raw-spec : {M : Type 1} → statement M

@@ -3,7 +3,7 @@
 use mathlib.Core.Path.{sym, _∙_}
 use Rattle.model.specs.Layouts.{group}
 use Rattle.groups.proofs.Ends.{bad-at}
-use Rattle.inbox.proofs.Taking.{took-group}
+use Rattle.codec.proofs.Taking.{took-group}
 use Rattle.rounds.proofs.Cuts.{unread-length, first-length, cut-short}
 use native.Mathlib.Omega.{arith}
 use borrow.Author.Needs.{needs}

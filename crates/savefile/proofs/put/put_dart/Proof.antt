@@ -1,7 +1,5 @@
 -- `savefile::put::put_dart` meets its contract: links, third link and point, one stored after the other.
 -- Assumes nothing.
-use Prim.Native.Nat.{ℕ, _+_}
-use lib.ListN.{length}
 use Rattle.model.specs.Image.{column}
 use Rattle.groups.proofs.Writing.{stored-then}
 use Rattle.codec.proofs.DartLaws.{link-length}

@@ -1,10 +1,10 @@
--- `inbox::parts::pass_part2` meets its contract: a label, then an index.
+-- `codec::entry::pass_part2` meets its contract: a label, then an index.
 -- Assumes nothing.
 use mathlib.Core.Path.{sym, _∙_}
-use Rattle.inbox.proofs.Passing.{no-label, took-label, group-pass, part2-none, part2-pass}
+use Rattle.codec.proofs.Passing.{no-label, took-label, group-pass, part2-none, part2-pass}
 use borrow.Author.Needs.{needs}
-use Rattle.inbox.proofs.parts.pass_part2.Statement.{statement}
-use Rattle.inbox.proofs.parts.pass_part2.Tie as tie
+use Rattle.codec.proofs.entry.pass_part2.Statement.{statement}
+use Rattle.codec.proofs.entry.pass_part2.Tie as tie
 
 read-label-requires : tie.Need-read-label-requires
 read-label-requires c κs = search needs

@@ -1,17 +1,20 @@
 -- What layouts take of a slice: one after the other, counted, and item by item. Assumes nothing.
-use mathlib.Core.Path.{_≡_, refl, sym, _∙_, ap}
+use mathlib.Core.Path.{_≡_, refl, sym, _∙_, ap, subst}
 use mathlib.Core.Bool.{Bool, true, false}
 use mathlib.Core.List.{List, [], _∷_, _++_, append-assoc, append-nil}
-use mathlib.Core.Option.{none, some}
+use mathlib.Core.Option.{Option, none, some, Option·none-ne-some}
 use Prim.Native.Nat.{ℕ, suc, _+_, _-_, _≤_}
 use native.Mathlib.Omega.{arith}
 use lib.ListN.{length, drop, length-append}
-use Rattle.model.specs.Layouts.{Layout, Read, then, group, serial, at-most, as-type, such-that, _⊗_, _⊕_, get-all, times, counted}
+use Rattle.model.specs.Layouts.{Layout, Read, then, group, serial, coordinate, at-most, as-type, such-that, _⊗_, _⊕_, get-all, times, counted}
 use Rattle.model.specs.Messages.{face-dart}
 use Rattle.groups.specs.Slices.{read-at}
 use Rattle.groups.specs.declared.Read.the-variants.{Value}
-use Rattle.groups.proofs.Ends.{Reads, group-at, serial-at, at-most-at}
-use Rattle.inbox.specs.Inbox.{Took}
+use Rattle.groups.proofs.Ends.{Reads, group-at, serial-at, at-most-at, coordinate-at}
+use Rattle.codec.specs.Taken.{Took}
+use Rattle.codec.specs.Entries.{FacedSaid, FacedRead}
+use Rattle.codec.specs.declared.entry.Faced.{Faced}
+use Rattle.codec.specs.declared.entry.Faced.the-variants as faced
 
 -- NUMBERS
 pub took-reads : {A : Type 0} {l : Layout A} {s : List ℕ} {at : ℕ} {v : A} {next : ℕ} → Reads l s at v next → Took l s at v next
@@ -25,6 +28,9 @@ took-serial e = took-reads (serial-at e)
 
 pub took-at-most : (n : ℕ) {s : List ℕ} {at v next : ℕ} → Value v next ≡ read-at (at-most n) s at → Took (at-most n) s at v next
 took-at-most n e = took-reads (at-most-at n e)
+
+pub took-coordinate : {s : List ℕ} {at v next : ℕ} → Value v next ≡ read-at coordinate s at → Took coordinate s at v next
+took-coordinate e = took-reads (coordinate-at e)
 
 -- ONE AFTER THE OTHER
 module _ {A B : Type 0} (l : Layout A) (m : A → Layout B) where
@@ -74,6 +80,34 @@ module _ {A : Type 0} (l : Layout A) (q : A → Bool) where
   pub such-took : {s : List ℕ} {at p : ℕ} {a : A} → Took l s at a p → q a ≡ true → Took (such-that l q) s at a p
   unfolding such-that
   such-took w e = record { value = rw (w .value, e); onward = w .onward; within = w .within }
+
+-- NOTHING THERE, as a record: its slice and its place are found where the laws above would have to be told them
+pub record Lacks {A : Type 0} (l : Layout A) (s : List ℕ) (at : ℕ) : Type 0 where
+  pub value : l .get (drop at s) ≡ none
+
+module _ {A B : Type 0} {s : List ℕ} {at : ℕ} where
+  pub dependent-lacks : (l : Layout A) (m : A → Layout B) → Lacks l s at → Lacks (l ⊗ m) s at
+  dependent-lacks l m e = record { value = pair-none l m (drop at s) (e .value) }
+
+  pub dependent-then-lacks : (l : Layout A) (m : A → Layout B) {mid : ℕ} {a : A} → Took l s at a mid → Lacks (m a) s mid → Lacks (l ⊗ m) s at
+  dependent-then-lacks l m p e = record { value = pair-half l m p (e .value) }
+
+  pub pair-lacks : (l : Layout A) (m : Layout B) → Lacks l s at → Lacks (l ⊕ m) s at
+  pair-lacks l m e = record { value = both-none l m (drop at s) (e .value) }
+
+  pub pair-then-lacks : (l : Layout A) (m : Layout B) {mid : ℕ} {a : A} → Took l s at a mid → Lacks m s mid → Lacks (l ⊕ m) s at
+  pair-then-lacks l m p e = record { value = both-half l m p (e .value) }
+
+  pub as-lacks : (to : A → B) (from : B → A) (l : Layout A) → Lacks l s at → Lacks (as-type to from l) s at
+  as-lacks to from l e = record { value = as-none to from l (drop at s) (e .value) }
+
+  pub lacks-as : (to : A → B) (from : B → A) (l : Layout A) → Lacks (as-type to from l) s at → Lacks l s at
+  unfolding as-type
+  lacks-as to from l e = record { value = go (l .get (drop at s)) (e .value) }
+    where
+      go : (r : Option (A × List ℕ)) → then {B = B} r (λ a rest. some (to a, rest)) ≡ none → r ≡ none
+      go none q = refl
+      go (some r) q = absurd (Option·none-ne-some _ (sym q))
 
 -- COUNTED
 module _ {A : Type 0} (l : Layout A) where
@@ -140,6 +174,12 @@ module _ {A : Type 0} (l : Layout A) where
       count = omega arith
 
 -- A DART OF A FACE
+pub faced-took : {s : List ℕ} {at v x next : ℕ} {r : Faced} → r ≡ faced.Dart v x next → FacedRead s at r → Took face-dart s at (record { vertex = v; serial = x }) next
+faced-took {s} {at} e d = subst (FacedSaid s at) e (d .said)
+
+pub faced-none : {s : List ℕ} {at : ℕ} {r : Faced} → r ≡ faced.Bad → FacedRead s at r → face-dart .get (drop at s) ≡ none
+faced-none {s} {at} e d = subst (FacedSaid s at) e (d .said)
+
 pub dart-none : (bs : List ℕ) → group .get bs ≡ none → face-dart .get bs ≡ none
 unfolding face-dart
 dart-none bs e = as-none (λ p. record { vertex = p .0; serial = p .1 }) (λ c. (c .vertex, c .serial)) (group ⊕ serial) bs (both-none group serial bs e)

@@ -1,9 +1,9 @@
--- `parts::entries::read_first` meets its contract: each part by the layout of its first number.
+-- `codec::entry::read_first` meets its contract: each part by the layout of its first number.
 -- Assumes nothing.
-use Rattle.parts.proofs.Reading.{first-read}
+use Rattle.codec.proofs.Passing.{first-read}
 use borrow.Author.Needs.{needs}
-use Rattle.parts.proofs.entries.read_first.Statement.{statement}
-use Rattle.parts.proofs.entries.read_first.Tie as tie
+use Rattle.codec.proofs.entry.read_first.Statement.{statement}
+use Rattle.codec.proofs.entry.read_first.Tie as tie
 
 enum-told : tie.Need-enum-told
 enum-told c = search needs

@@ -1,13 +1,13 @@
--- `inbox::parts::pass_part3` meets its contract: a number, then an index.
+-- `codec::entry::pass_part3` meets its contract: a number, then an index.
 -- Assumes nothing.
 use mathlib.Core.Path.{sym, _∙_}
 use Rattle.model.specs.Layouts.{group}
 use Rattle.groups.proofs.Ends.{bad-at}
-use Rattle.inbox.proofs.Taking.{took-group}
-use Rattle.inbox.proofs.Passing.{group-pass, part3-none, part3-pass}
+use Rattle.codec.proofs.Taking.{took-group}
+use Rattle.codec.proofs.Passing.{group-pass, part3-none, part3-pass}
 use borrow.Author.Needs.{needs}
-use Rattle.inbox.proofs.parts.pass_part3.Statement.{statement}
-use Rattle.inbox.proofs.parts.pass_part3.Tie as tie
+use Rattle.codec.proofs.entry.pass_part3.Statement.{statement}
+use Rattle.codec.proofs.entry.pass_part3.Tie as tie
 
 read-group-requires : tie.Need-read-group-requires
 read-group-requires c κs = search needs

@@ -1,11 +1,11 @@
--- `inbox::parts::pass_labels` meets its contract. The loop's invariant: all but the last `left` are passed.
+-- `codec::entry::pass_labels` meets its contract. The loop's invariant: all but the last `left` are passed.
 -- Assumes nothing.
 use Rattle.model.specs.Messages.{label}
-use Rattle.inbox.proofs.Passing.{label-pass, Passing, passing-start, passing-more, passing-stop, passing-end}
+use Rattle.codec.proofs.Passing.{label-pass, Passing, passing-start, passing-more, passing-stop, passing-end}
 use native.Mathlib.Omega.{arith}
 use borrow.Author.Needs.{needs}
-use Rattle.inbox.proofs.parts.pass_labels.Statement.{statement}
-use Rattle.inbox.proofs.parts.pass_labels.Tie as tie
+use Rattle.codec.proofs.entry.pass_labels.Statement.{statement}
+use Rattle.codec.proofs.entry.pass_labels.Tie as tie
 
 abbrev Inv-loop : tie.InvT-loop
 Inv-loop s at count left₀ p₀ left p =
