@@ -56,7 +56,7 @@ rank-requires c κs =
         (let n = put-values-ensures .len in omega arith),
         value-small put-values-ensures (start .pre .0 .5) (start .pre .1),
       ),
-      (refl, refl, refl),
+      (start .pre .0 .5, start .pre .0 .5, start .pre .0 .5),
     )
 
 returns-2 : tie.Need-returns-2
@@ -78,8 +78,9 @@ all-clear-requires : tie.Need-all-clear-requires
 all-clear-requires c κs =
     let start : tie.Start = search in
     let rank-ensures = (let p : tie.After-rank = search in p .rank .ensures) in
+    let rank-kept = (let p : tie.After-rank = search in p .rank .kept) in
     let if2-left = (let p : tie.Else2 = search in p .if2 .left) in
-    (start .pre .0 .0, start .pre .0 .1, rank-ensures .1 .1, start .pre .0 .5, rank-ensures .1 .0 (not-false _ if2-left) .ascends)
+    (start .pre .0 .0, start .pre .0 .1, omega (arith, rank-kept), start .pre .0 .5, rank-ensures .1 (not-false _ if2-left) .ascends)
 
 returns-3 : tie.Need-returns-3
 returns-3 c =
@@ -95,7 +96,7 @@ returns-3 c =
     let rank-ensures = (let p : tie.After-rank = search in p .rank .ensures) in
     let if2-left = (let p : tie.Else2 = search in p .if2 .left) in
     clear-is block n kinds links k (sym all-own-ensures ∙ not-false _ if1-left) put-values-ensures
-    (sym (rank-ensures .0) ∙ not-false _ if2-left) (rank-ensures .1 .0 (not-false _ if2-left)) (c .all-clear .ensures)
+    (sym (rank-ensures .0) ∙ not-false _ if2-left) (rank-ensures .1 (not-false _ if2-left)) (c .all-clear .ensures)
 
 pub labels-fit-spec : {M : Type 1} → statement M
 labels-fit-spec =

@@ -37,7 +37,8 @@ new-serials-requires c κs =
     let shared-slice-known2-given = (let p : tie.After-shared-slice-known2 = search in p .shared-slice-known2 .given) in
     let start : tie.Start = search in
     let block = start .args .block .now in
-    let message = start .args .message .now in (
+    let message = start .args .message .now in
+    let few = told-of (start .pre .0 .2 .2) .few in (
       (
         refl,
         (sited block (start .pre .0 .0)) .linked .few,
@@ -46,11 +47,11 @@ new-serials-requires c κs =
         λ p h. image-passed block (start .pre .0 .0) .range .serial-small p h,
       ),
       (
-        start .pre .0 .1 .serial-size,
-        start .pre .1 .0,
-        start .pre .1 .1,
+        omega (arith, few, start .pre .0 .1 .serial-size),
+        omega (arith, few, start .pre .1 .0),
+        omega (arith, few, start .pre .1 .1),
         (told-of (start .pre .0 .2 .2)) .some-darts,
-        (told-of (start .pre .0 .2 .2)) .few,
+        few,
         (told-of (start .pre .0 .2 .2)) .points-fit,
         (serials-small (byte-list message (λ i. fits-lt-pow (shared-slice-known2-given i))) (start .pre .0 .2 .1)
             (start .pre .0 .2 .2)),
@@ -74,29 +75,31 @@ returns-2 c =
     let block = start .args .block .now in
     no-18 (limits-of (start .args .limits)) block for-here-ensures if1-left
     (let l = start .pre .0 .1 .serial-size in let f = (told-of (start .pre .0 .2 .2)) .few in omega (arith, l, f))
-    (new-serials-ensures .0) if2-taken
+    new-serials-ensures if2-taken
 
 volume-right-requires : tie.Need-volume-right-requires
 volume-right-requires c κs =
     let if2-left = (let p : tie.Else2 = search in p .if2 .left) in
     let new-serials-ensures = (let p : tie.After-new-serials = search in p .new-serials .ensures) in
+    let new-serials-kept = (let p : tie.After-new-serials = search in p .new-serials .kept) in
     let c : tie.After-new-serials = search in
-    let start : tie.Start = search in (
+    let start : tie.Start = search in
+    let few = told-of (start .pre .0 .2 .2) .few in (
       (
-        start .pre .0 .1 .vertex-size,
-        start .pre .0 .1 .serial-size,
-        start .pre .0 .1 .starts-size,
-        start .pre .0 .1 .sizes-size,
-        new-serials-ensures .1,
-        new-serials-ensures .2,
-        start .pre .1 .2,
+        omega (arith, few, start .pre .0 .1 .vertex-size),
+        omega (arith, few, start .pre .0 .1 .serial-size),
+        omega (arith, few, start .pre .0 .1 .starts-size),
+        omega (arith, few, start .pre .0 .1 .sizes-size),
+        omega (arith, few, new-serials-kept, start .pre .1 .0),
+        omega (arith, few, new-serials-kept, start .pre .1 .1),
+        omega (arith, few, start .pre .1 .2),
         start .pre .1 .3,
         start .pre .1 .6,
         start .pre .1 .7,
       ),
       (
-        new-serials-ensures .0 .ranked (not-false _ if2-left),
-        finite-told (new-serials-ensures .0) (not-false _ if2-left),
+        new-serials-ensures .ranked (not-false _ if2-left),
+        finite-told new-serials-ensures (not-false _ if2-left),
         (start .pre .0 .2 .0, (told-of (start .pre .0 .2 .2))),
       ),
     )
@@ -132,7 +135,7 @@ returns-3 c =
     let block = start .args .block .now in
     no-19 (limits-of (start .args .limits)) block for-here-ensures if1-left
     (let l = start .pre .0 .1 .serial-size in let f = (told-of (start .pre .0 .2 .2)) .few in omega (arith, l, f))
-    (new-serials-ensures .0) if2-left (volume-right-ensures .0) if3-taken
+    new-serials-ensures if2-left (volume-right-ensures .0) if3-taken
 
 parts-right-requires : tie.Need-parts-right-requires
 parts-right-requires c κs =
@@ -141,6 +144,7 @@ parts-right-requires c κs =
     let if2-left = (let p : tie.Else2 = search in p .if2 .left) in
     let c : tie.Else2 = search in
     let new-serials-ensures = (let p : tie.After-new-serials = search in p .new-serials .ensures) in
+    let new-serials-kept = (let p : tie.After-new-serials = search in p .new-serials .kept) in
     let c : tie.After-new-serials = search in
     let shared-slice-known2-given = (let p : tie.After-shared-slice-known2 = search in p .shared-slice-known2 .given) in
     let start : tie.Start = search in
@@ -151,7 +155,7 @@ parts-right-requires c κs =
         start .pre .0 .0,
         start .pre .0 .1 .starts-size,
         start .pre .0 .1 .sizes-size,
-        new-serials-ensures .2,
+        omega (arith, new-serials-kept, start .pre .1 .1),
         start .pre .1 .4,
         start .pre .1 .5,
         sender-small (byte-list message (λ i. fits-lt-pow (shared-slice-known2-given i))) (start .pre .0 .2 .1)
@@ -160,8 +164,8 @@ parts-right-requires c κs =
       (
         vertex,
         serial,
-        (new-volume (new-serials-ensures .0) if2-left (volume-right-ensures .0) if3-left
-            (volume-right-ensures .1 .0 (not-false _ if3-left)) (start .pre .0 .2 .2)),
+        (new-volume new-serials-ensures if2-left (volume-right-ensures .0) if3-left
+            (volume-right-ensures .1 (not-false _ if3-left)) (start .pre .0 .2 .2)),
       ),
     )
 
@@ -207,10 +211,10 @@ returns-4 c =
     let serial = start .args .serial .now in
     no-20 (limits-of (start .args .limits)) block for-here-ensures if1-left
     (let l = start .pre .0 .1 .serial-size in let f = (told-of (start .pre .0 .2 .2)) .few in omega (arith, l, f))
-    (new-serials-ensures .0) if2-left (volume-right-ensures .0) if3-left
+    new-serials-ensures if2-left (volume-right-ensures .0) if3-left
     (parts-right-ensures .0 vertex serial
-    (new-volume (new-serials-ensures .0) if2-left (volume-right-ensures .0) if3-left
-    (volume-right-ensures .1 .0 (not-false _ if3-left)) (start .pre .0 .2 .2))) if4-taken
+    (new-volume new-serials-ensures if2-left (volume-right-ensures .0) if3-left
+    (volume-right-ensures .1 (not-false _ if3-left)) (start .pre .0 .2 .2))) if4-taken
 
 add-if5 : tie.Need-add-if5
 add-if5 c =
@@ -268,10 +272,10 @@ returns-5 c =
     let serial = start .args .serial .now in
     no-21 (limits-of (start .args .limits)) block for-here-ensures if1-left
     (let l = start .pre .0 .1 .serial-size in let f = (told-of (start .pre .0 .2 .2)) .few in omega (arith, l, f))
-    (new-serials-ensures .0) if2-left (volume-right-ensures .0) if3-left
+    new-serials-ensures if2-left (volume-right-ensures .0) if3-left
     (parts-right-ensures .0 vertex serial
-    (new-volume (new-serials-ensures .0) if2-left (volume-right-ensures .0) if3-left
-    (volume-right-ensures .1 .0 (not-false _ if3-left)) (start .pre .0 .2 .2))) if4-left if5-taken
+    (new-volume new-serials-ensures if2-left (volume-right-ensures .0) if3-left
+    (volume-right-ensures .1 (not-false _ if3-left)) (start .pre .0 .2 .2))) if4-left if5-taken
 
 same-length-25 : tie.Need-same-length-25
 same-length-25 c =
@@ -329,6 +333,11 @@ returns-6 c =
     tie.After-volume-right = search in let c : tie.Else2 = search in let p : tie.After-new-serials = search in p .new-serials
     .ensures)
     in
+    let new-serials-kept =
+    (let c : tie.After-parts-right = search in let c : tie.Else3 = search in let c : tie.After-draft = search in let c :
+    tie.After-volume-right = search in let c : tie.Else2 = search in let p : tie.After-new-serials = search in p .new-serials
+    .kept)
+    in
     let if2-left =
     (let c : tie.After-parts-right = search in let c : tie.Else3 = search in let c : tie.After-draft = search in let c :
     tie.After-volume-right = search in let p : tie.Else2 = search in p .if2 .left)
@@ -342,12 +351,12 @@ returns-6 c =
     let if4-left = (let p : tie.Else4 = search in p .if4 .left) in
     yes-all (limits-of (start .args .limits)) block for-here-ensures if1-left
     (let l = start .pre .0 .1 .serial-size in let f = (told-of (start .pre .0 .2 .2)) .few in omega (arith, l, f))
-    (new-serials-ensures .0) if2-left (volume-right-ensures .0) if3-left
+    new-serials-ensures if2-left (volume-right-ensures .0) if3-left
     (parts-right-ensures .0 vertex serial
-    (new-volume (new-serials-ensures .0) if2-left (volume-right-ensures .0) if3-left
-    (volume-right-ensures .1 .0 (not-false _ if3-left)) (start .pre .0 .2 .2))) if4-left (omega arith)
-    (volume-right-ensures .1 .0 (not-false _ if3-left)) (parts-right-ensures .1) (parts-right-ensures .2)
-    (new-serials-ensures .2)
+    (new-volume new-serials-ensures if2-left (volume-right-ensures .0) if3-left
+    (volume-right-ensures .1 (not-false _ if3-left)) (start .pre .0 .2 .2))) if4-left (omega arith)
+    (volume-right-ensures .1 (not-false _ if3-left)) (parts-right-ensures .1) (parts-right-ensures .2)
+    (omega (arith, new-serials-kept, start .pre .1 .1))
 
 pub questions-spec : {M : Type 1} → statement M
 questions-spec =
