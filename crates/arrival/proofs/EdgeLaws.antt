@@ -11,7 +11,7 @@ use lib.Seq.{getD-take, getD-set-same, getD-set-other}
 use borrow.Author.Tests.{lt-ltb, le-ltb}
 use Rattle.laws.specs.Order.{Ascending}
 use Rattle.model.specs.Lists.{all, mem, distinct, tab}
-use Rattle.ranking.proofs.Steps.{index-fits}
+use Rattle.model.specs.Values.{message-darts}
 use Rattle.laws.proofs.Tests.{by-cases, lt-or-ge, same-truth}
 use Rattle.laws.proofs.Tables.{getD-tab, tab-all, all-tab, mem-place, mem-none, tab-apart, tab-distinct}
 use Rattle.ranking.specs.Ranks.{value-at, index-at, Ranked}
@@ -33,14 +33,14 @@ data Turned (a c x : ℕ) : Type 0 where
 turned : (a c : ℕ) → Turned a c (edge-code a c)
 turned a c = ⊎-elim (λ h. round h (sym (edge-round a c h))) (λ h. kept h (sym (edge-kept a c h))) (lt-or-ge c a)
 
-pub edge-small : (a c : ℕ) → a ≤ 512 → c ≤ 512 → edge-code a c < 2097152
+pub edge-small : (a c : ℕ) → a ≤ message-darts → c ≤ message-darts → edge-code a c < 2097152
 edge-small a c la lc = go (turned a c)
   where
     go : {x : ℕ} → Turned a c x → x < 2097152
     go (kept h e) = omega (arith, e, la, lc)
     go (round h e) = omega (arith, e, la, lc)
 
-module _ {a c d f : ℕ} (la : a ≤ 512) (lc : c ≤ 512) (ld : d ≤ 512) (lf : f ≤ 512) where
+module _ {a c d f : ℕ} (la : a ≤ message-darts) (lc : c ≤ message-darts) (ld : d ≤ message-darts) (lf : f ≤ message-darts) where
   same-ends : {x y : ℕ} → Turned a c x → Turned d f y → x ≡ y → pair-code a c ≡ pair-code d f
   same-ends (kept h e) (kept k g) s = omega (arith, e, g, s)
   same-ends (kept h e) (round k g) s = absurd (omega (arith, e, g, s))
@@ -64,7 +64,7 @@ module _ {a c d f : ℕ} (la : a ≤ 512) (lc : c ≤ 512) (ld : d ≤ 512) (lf 
 
 -- PAIRS BY INDEX
 module _ (v : List ℕ) {b z : List ℕ} {k : ℕ} (seg : Segments b z k) (small : Small v k) where
-  head-small : (i : ℕ) → i < k → getD v (next-index b z i) 0 ≤ 512
+  head-small : (i : ℕ) → i < k → getD v (next-index b z i) 0 ≤ message-darts
   head-small i h = small (next-index b z i) (next-below seg i h)
 
   pub distinct-edges : distinct (tab (edge-at v b z) k) ≡ distinct (tab (pair-at v b z) k)
@@ -124,14 +124,14 @@ ranked-apart {pairs} {k} {keys} {ranks} w p s h l e = sym (w .rank-index p h) �
 
 -- KEYS IN COUPLES: those below r are, two by two
 pub record Coupling (keys : List ℕ) (k : ℕ) (q : List ℕ) (r : ℕ) : Type 0 where
-  pub len : length q ≡ 512
+  pub inside : (p : ℕ) → p < k → index-at keys p < length q
   pub le : r ≤ k
   pub two : 0 < r → 2 ≤ r
   pub last : 2 ≤ r → value-at keys (r - 2) / 2 ≡ value-at keys (r - 1) / 2
   pub met : (p : ℕ) → p < r → (s : ℕ) × (s < r) × (value-at keys p / 2 ≡ value-at keys s / 2) × (value-at keys p ≢ value-at keys s) × (getD q (index-at keys p) 0 ≡ index-at keys s)
 
-pub coupling-none : (keys : List ℕ) (k : ℕ) {q : List ℕ} → length q ≡ 512 → Coupling keys k q 0
-coupling-none keys k e = record { len = e; le = omega arith; two = λ h. omega (arith, h); last = λ h. absurd (omega (arith, h)); met = λ p h. absurd (omega (arith, h)) }
+pub coupling-none : (keys : List ℕ) (k : ℕ) {q : List ℕ} → ((p : ℕ) → p < k → index-at keys p < length q) → Coupling keys k q 0
+coupling-none keys k e = record { inside = e; le = omega arith; two = λ h. omega (arith, h); last = λ h. absurd (omega (arith, h)); met = λ p h. absurd (omega (arith, h)) }
 
 module _ {keys : List ℕ} {k : ℕ} {q : List ℕ} {r : ℕ} (up : Ascending k (value-at keys)) (w : Coupling keys k q r) (h : r < k) where
   up-to : (p s : ℕ) → p ≤ s → s < k → value-at keys p ≤ value-at keys s
@@ -162,7 +162,7 @@ module _ {keys : List ℕ} {k : ℕ} {q : List ℕ} {r : ℕ} (up : Ascending k 
   module _ (more : r + 1 < k) (apart : (p s : ℕ) → p < k → s < k → index-at keys p ≡ index-at keys s → p ≡ s) (same : value-at keys r / 2 ≡ value-at keys (r + 1) / 2) where
     pub coupling-more : {a c : ℕ} → a ≡ index-at keys r → c ≡ index-at keys (r + 1) → Coupling keys k (set (set q a c) c a) (r + 2)
     coupling-more {a} {c} ea ec = record {
-      len = length-set (set q a c) c a ∙ length-set q a c ∙ w .len;
+      inside = λ p l. omega (arith, length-set (set q a c) c a, length-set q a c, w .inside p l);
       le = omega (arith, more);
       two = λ _. omega arith;
       last = λ _. let x : r + 2 - 2 ≡ r = omega arith in let y : r + 2 - 1 ≡ r + 1 = omega arith in rw (x, y) same;
@@ -197,7 +197,7 @@ module _ {keys : List ℕ} {k : ℕ} {q : List ℕ} {r : ℕ} (up : Ascending k 
           same,
           (λ n. omega (arith, n, rises)),
           getD-set-other (set q a c) c (index-at keys r) a 0 (λ n. away r (r + 1) h more (λ m. omega (arith, m)) (n ∙ ec))
-              ∙ ap (λ (j : ℕ). getD (set q a c) j 0) (sym ea) ∙ getD-set-same q a c 0 (omega (arith, ea, w .len, index-fits keys r)) ∙ ec,
+              ∙ ap (λ (j : ℕ). getD (set q a c) j 0) (sym ea) ∙ getD-set-same q a c 0 (omega (arith, ea, w .inside r h)) ∙ ec,
         )
 
         second : (p : ℕ) → p ≡ r + 1
@@ -208,7 +208,7 @@ module _ {keys : List ℕ} {k : ℕ} {q : List ℕ} {r : ℕ} (up : Ascending k 
           omega arith,
           sym same,
           (λ n. omega (arith, n, rises)),
-          ap (λ (j : ℕ). getD (set (set q a c) c a) j 0) (sym ec) ∙ getD-set-same (set q a c) c a 0 (omega (arith, ec, length-set q a c, w .len, index-fits keys (r + 1))) ∙ ea,
+          ap (λ (j : ℕ). getD (set (set q a c) c a) j 0) (sym ec) ∙ getD-set-same (set q a c) c a 0 (omega (arith, ec, length-set q a c, w .inside (r + 1) more)) ∙ ea,
         )
 
 pub coupling-all : {keys : List ℕ} {k : ℕ} {q : List ℕ} {r : ℕ} → Coupling keys k q r → k ≤ r → Edged keys k q true

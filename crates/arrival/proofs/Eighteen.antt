@@ -67,7 +67,7 @@ module _ (m : List ℕ) {x n : ℕ} where
     pub gap-held : Ascending n (column m 0) → {p : ℕ} → p < n → column m 0 p ≡ x → GapTold m n x NotNew
     gap-held a {p} l e = record { said = sym (found-held m x some-serial q a (sym (place-found (column m 0) n x p a l e))) }
 
-    pub gap-new : ((p : ℕ) → p < n → column m 0 p ≡ x → ⊥) → {g : ℕ} → g ≤ n → GapTold m n x (Below g)
+    pub gap-new : ((p : ℕ) → p < n → column m 0 p ≡ x → ⊥) → {g : Place} → g .0 ≤ n → GapTold m n x (Below g)
     gap-new never h = record { said = (sym (nothing-held m x some-serial q (sym (place-none (column m 0) n x never))), h) }
 
 -- what it tells
@@ -75,7 +75,7 @@ module _ {m : List ℕ} {n x : ℕ} {r : Gap} (w : GapTold m n x r) where
   pub told-old : r ≡ NotNew → is-new m x ≡ false
   told-old e = subst (GapSaid m n x) e (w .said)
 
-  pub told-new : {g : ℕ} → r ≡ Below g → (is-new m x ≡ true) × (g ≤ n)
+  pub told-new : {g : Place} → r ≡ Below g → (is-new m x ≡ true) × (g .0 ≤ n)
   told-new e = subst (GapSaid m n x) e (w .said)
 
 -- THE POINTS, by their number

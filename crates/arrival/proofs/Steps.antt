@@ -82,27 +82,27 @@ all-one-more p (y ∷ l) x = by-cases (p y) (λ e. rw e (all-one-more p l x)) (�
 
 pub record Pairing (v b z : List ℕ) (k : ℕ) (pairs : List ℕ) (ok : Bool) (i : ℕ) : Type 0 where
   pub le : i ≤ k
-  pub len : length pairs ≡ 512
+  pub len : k ≤ length pairs
   pub front : take i pairs ≡ tab (edge-at v b z) i
   pub ok-is : ok ≡ all (ends-differ v b z) (tab (λ j. j) i)
 
-pub pairing-none : (v b z : List ℕ) (k : ℕ) {pairs : List ℕ} → length pairs ≡ 512 → Pairing v b z k pairs true 0
+pub pairing-none : (v b z : List ℕ) (k : ℕ) {pairs : List ℕ} → k ≤ length pairs → Pairing v b z k pairs true 0
 pairing-none v b z k e = record { le = omega arith; len = e; front = refl; ok-is = refl }
 
-pub pairing-more : {v b z : List ℕ} {k : ℕ} {pairs : List ℕ} {ok : Bool} {i c : ℕ} {more : Bool} → Pairing v b z k pairs ok i → k ≤ 512 → i < k
+pub pairing-more : {v b z : List ℕ} {k : ℕ} {pairs : List ℕ} {ok : Bool} {i c : ℕ} {more : Bool} → Pairing v b z k pairs ok i → i < k
     → c ≡ edge-at v b z i → more ≡ (ok && ends-differ v b z i) → Pairing v b z k (set pairs i c) more (i + 1)
-pairing-more {v} {b} {z} {k} {pairs} {ok} {i} {c} w few h e o =
+pairing-more {v} {b} {z} {k} {pairs} {ok} {i} {c} w h e o =
     let s : i + 1 ≡ suc i = omega arith in
     record {
       le = omega arith;
-      len = length-set pairs i c ∙ w .len;
+      len = omega (arith, length-set pairs i c, w .len);
       front = rw s (take-suc-set pairs i c (omega (arith, w .len)) ∙ ap (λ (l : List ℕ). l ++ c ∷ []) (w .front) ∙ rw e (tab-more (edge-at v b z) i));
       ok-is = rw s (o ∙ ap (λ (a : Bool). a && ends-differ v b z i) (w .ok-is) ∙ sym (all-one-more (ends-differ v b z) (tab (λ j. j) i) i) ∙ ap (all (ends-differ v b z)) (tab-more (λ j. j) i));
     }
 
 pub pairing-all : {v b z : List ℕ} {k : ℕ} {pairs : List ℕ} {ok : Bool} {i : ℕ} → Pairing v b z k pairs ok i → k ≤ i
-    → (ok ≡ all (ends-differ v b z) (tab (λ j. j) k)) × (take k pairs ≡ tab (edge-at v b z) k) × (length pairs ≡ 512)
-pairing-all {v} {b} {z} {k} {pairs} {ok} {i} w h = let e : i ≡ k = omega (arith, w .le, h) in (rw (sym e) (w .ok-is), rw (sym e) (w .front), w .len)
+    → (ok ≡ all (ends-differ v b z) (tab (λ j. j) k)) × (take k pairs ≡ tab (edge-at v b z) k)
+pairing-all {v} {b} {z} {k} {pairs} {ok} {i} w h = let e : i ≡ k = omega (arith, w .le, h) in (rw (sym e) (w .ok-is), rw (sym e) (w .front))
 
 -- ALL OF THE PAIRS
 module _ (v b z : List ℕ) (k : ℕ) where

@@ -8,7 +8,7 @@ use Prim.Native.Nat.{ℕ, _+_, _*_, _/_, _≤_, _<_}
 use lib.Dec.{leb, eqb}
 use lib.ListN.{length, getD, take}
 use Rattle.model.specs.Lists.{all, mem, distinct, tab}
-use Rattle.model.specs.Values.{Dart, finite, finite-bits}
+use Rattle.model.specs.Values.{Dart, finite, finite-bits, message-darts}
 use Rattle.model.specs.Cells.{held}
 use Rattle.model.specs.Image.{words-for, column, block-in}
 use Rattle.model.specs.Messages.{Transfer, size-all}
@@ -60,7 +60,7 @@ pub record FiniteIn (s : List ℕ) (at : ℕ) : Type 0 where
 
 -- what there must be to draft k darts
 pub record Draftable (v b z keys q s : List ℕ) (from k : ℕ) : Type 0 where
-  pub few : k ≤ 512
+  pub few : k ≤ message-darts
   pub segs : Segments b z k
   pub index-below : (p : ℕ) → p < k → index-at keys p < k
   pub opposite-below : (i : ℕ) → i < k → getD q i 0 < k
@@ -76,7 +76,7 @@ pub record Drafted (f : ℕ → Record) (k : ℕ) (m : List ℕ) : Type 0 where
 -- all that a draft rests on
 pub record Draft (v x b z keys ranks q s : List ℕ) (from k : ℕ) (m : List ℕ) : Type 0 where
   pub some-darts : 1 ≤ k
-  pub few : k ≤ 512
+  pub few : k ≤ message-darts
   pub segs : Segments b z k
   pub small : Small v k
   pub ranked : Ranked x k keys ranks
@@ -97,17 +97,17 @@ pub record Told (t : Transfer) (v x b z s : List ℕ) (from n k : ℕ) (hollow :
   pub inside : FacesIn (t .faces) v x b z
   pub darts : k ≡ size-all (t .faces)
   pub some-darts : 1 ≤ k
-  pub few : k ≤ 512
+  pub few : k ≤ message-darts
   pub points : t .points ≡ points-in s from n
   pub points-fit : from + 24 * n ≤ length s
   pub hollow-is : hollow ≡ is-hollow (t .faces)
 
--- a serial beside a block's n darts: how many are below it, where it is new
+-- a serial beside a block's n darts: the place past those below it, where it is new
 abbrev pub is-new : List ℕ → ℕ → Bool
 is-new m x = leb 1 x && not (held (block-in m .darts) x)
 
 abbrev pub GapSaid : List ℕ → ℕ → ℕ → Gap → Type 0
-GapSaid m n x (Below g) = (is-new m x ≡ true) × (g ≤ n)
+GapSaid m n x (Below g) = (is-new m x ≡ true) × (g .0 ≤ n)
 GapSaid m n x NotNew = is-new m x ≡ false
 
 pub record GapTold (m : List ℕ) (n x : ℕ) (r : Gap) : Type 0 where

@@ -6,6 +6,7 @@ use mathlib.Core.List.{List}
 use Prim.Native.Nat.{ℕ, suc, _+_, _*_, _-_, _≤_, _<_}
 use lib.Dec.{leb, ltb, eqb}
 use lib.ListN.{getD}
+use Rattle.model.specs.Values.{message-darts}
 use Rattle.model.specs.Arrival.{Side}
 
 -- the index of the next dart along the face of the dart with index i
@@ -53,4 +54,4 @@ ends-differ v b z i = not (eqb (getD v i 0) (getD v (next-index b z i) 0))
 
 -- vertices are numbered below the count of darts
 abbrev pub Small : List ℕ → ℕ → Type 0
-Small v k = (i : ℕ) → i < k → getD v i 0 ≤ 512
+Small v k = (i : ℕ) → i < k → getD v i 0 ≤ message-darts

@@ -62,7 +62,7 @@ fn record_of(
     opposite: &[usize],
     p: DraftPlace,
 ) -> Record
-    requires { ⌜ (length (now vertex) ≡ 512) × (length (now starts) ≡ 512) × (length (now sizes) ≡ 512) × (length (now keys) ≡ 512) × (length (now ranks) ≡ 512) × (length (now opposite) ≡ 512) × (p .0 < k) ⌝ }
+    requires { ⌜ (k ≤ length (now vertex)) × (k ≤ length (now starts)) × (k ≤ length (now sizes)) × (k ≤ length (now keys)) × (k ≤ length (now ranks)) × (k ≤ length (now opposite)) × (p .0 < k) ⌝ }
     requires { ⌜ Draftable (now vertex) (now starts) (now sizes) (now keys) (now opposite) (now message) from k ⌝ }
     ensures { λ r. ⌜ r ≡ draft-record (now (vertex .entry)) (now (starts .entry)) (now (sizes .entry)) (now (keys .entry)) (now (ranks .entry)) (now (opposite .entry)) (now (message .entry)) from (p .0) ⌝ }
 {
@@ -107,7 +107,7 @@ pub fn put_draft(
     opposite: &[usize],
     draft: &mut [u64],
 )
-    requires { ⌜ (length (now vertex) ≡ 512) × (length (now starts) ≡ 512) × (length (now sizes) ≡ 512) × (length (now keys) ≡ 512) × (length (now ranks) ≡ 512) × (length (now opposite) ≡ 512) × (words-for k ≤ length (now draft)) ⌝ }
+    requires { ⌜ (k ≤ length (now vertex)) × (k ≤ length (now starts)) × (k ≤ length (now sizes)) × (k ≤ length (now keys)) × (k ≤ length (now ranks)) × (k ≤ length (now opposite)) × (words-for k ≤ length (now draft)) ⌝ }
     requires { ⌜ Draftable (now vertex) (now starts) (now sizes) (now keys) (now opposite) (now message) from k ⌝ }
     ensures { λ _. ⌜ Drafted (draft-record (now (vertex .entry)) (now (starts .entry)) (now (sizes .entry)) (now (keys .entry)) (now (ranks .entry)) (now (opposite .entry)) (now (message .entry)) from) k (now (draft .exit)) ⌝ }
 {

@@ -10,7 +10,7 @@ use memory::record::MessageIndex;
 
 // Whether the dart with index i stands in message order.
 fn order_at(serial: &[u64], starts: &[usize], i: MessageIndex) -> bool
-    requires { ⌜ (length (now serial) ≡ 512) × (length (now starts) ≡ 512) × (i .0 < 512) × (getD (now starts) (i .0) 0 ≤ i .0) × (0 < i .0 → getD (now starts) (i .0 - 1) 0 ≤ i .0) ⌝ }
+    requires { ⌜ (i .0 < length (now serial)) × (i .0 < length (now starts)) × (getD (now starts) (i .0) 0 ≤ i .0) × (0 < i .0 → getD (now starts) (i .0 - 1) 0 ≤ i .0) ⌝ }
     ensures { λ r. ⌜ r ≡ order-at (now (serial .entry)) (now (starts .entry)) (i .0) ⌝ }
 {
     let start = place::index_at(starts, i);
@@ -33,7 +33,7 @@ fn order_at(serial: &[u64], starts: &[usize], i: MessageIndex) -> bool
 
 // Whether all of the first k do.
 pub fn ordered(serial: &[u64], starts: &[usize], k: usize) -> bool
-    requires { ⌜ (length (now serial) ≡ 512) × (length (now starts) ≡ 512) × (k ≤ 512) × ((i : ℕ) → i < k → getD (now starts) i 0 ≤ i) ⌝ }
+    requires { ⌜ (k ≤ length (now serial)) × (k ≤ length (now starts)) × ((i : ℕ) → i < k → getD (now starts) i 0 ≤ i) ⌝ }
     ensures { λ r. ⌜ r ≡ all (order-at (now (serial .entry)) (now (starts .entry))) (tab (λ i. i) k) ⌝ }
 {
     // Those before i do.
@@ -49,7 +49,7 @@ pub fn ordered(serial: &[u64], starts: &[usize], k: usize) -> bool
 
 // Whether there are at most k vertices, and each of the first k darts has one of them.
 pub fn vertices_fit(vertex: &[u64], k: usize, count: u64) -> bool
-    requires { ⌜ (length (now vertex) ≡ 512) × (k ≤ 512) ⌝ }
+    requires { ⌜ k ≤ length (now vertex) ⌝ }
     ensures { λ r. ⌜ r ≡ (leb count k && all (λ i. ltb (getD (now (vertex .entry)) i 0) count) (tab (λ i. i) k)) ⌝ }
 {
     if (k as u64) < count {

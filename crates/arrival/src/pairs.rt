@@ -4,6 +4,7 @@ ghost use Prim.Native.Nat.{ℕ, _≤_, _<_};
 ghost use lib.ListN.{length, getD, take};
 ghost use Rattle.laws.specs.Order.{Ascending};
 ghost use Rattle.model.specs.Lists.{all, tab};
+ghost use Rattle.model.specs.Values.{message-darts};
 ghost use Rattle.ranking.specs.Ranks.{value-at, index-at};
 ghost use Rattle.arrival.specs.Sides.{next-index, edge-code, edge-at, ends-differ, Segments, Small};
 ghost use Rattle.arrival.specs.Draft.{Edged, Paired};
@@ -12,7 +13,7 @@ use memory::record::MessageIndex;
 
 // The index of the next dart along a face.
 pub fn next_index(starts: &[usize], sizes: &[usize], i: MessageIndex) -> MessageIndex
-    requires { ⌜ (length (now starts) ≡ 512) × (length (now sizes) ≡ 512) × (i .0 < 512) × (getD (now starts) (i .0) 0 ≤ 512) × (getD (now sizes) (i .0) 0 ≤ 512) ⌝ }
+    requires { ⌜ (i .0 < length (now starts)) × (i .0 < length (now sizes)) × (getD (now starts) (i .0) 0 ≤ message-darts) × (getD (now sizes) (i .0) 0 ≤ message-darts) ⌝ }
     ensures { λ r. ⌜ r .0 ≡ next-index (now (starts .entry)) (now (sizes .entry)) (i .0) ⌝ }
 {
     let start = place::index_at(starts, i);
@@ -26,7 +27,7 @@ pub fn next_index(starts: &[usize], sizes: &[usize], i: MessageIndex) -> Message
 
 // A pair as one number: twice that of its ends, the lesser first, and 1 more where that turned it round.
 fn edge(a: u64, c: u64) -> u64
-    requires { ⌜ (a ≤ 512) × (c ≤ 512) ⌝ }
+    requires { ⌜ (a ≤ message-darts) × (c ≤ message-darts) ⌝ }
     ensures { λ r. ⌜ r ≡ edge-code a c ⌝ }
 {
     if c < a {
@@ -43,9 +44,9 @@ pub fn put_pairs(
     k: usize,
     pairs: &mut [u64],
 ) -> bool
-    requires { ⌜ (length (now vertex) ≡ 512) × (length (now starts) ≡ 512) × (length (now sizes) ≡ 512) × (length (now pairs) ≡ 512) × (k ≤ 512) ⌝ }
+    requires { ⌜ (k ≤ length (now vertex)) × (k ≤ length (now starts)) × (k ≤ length (now sizes)) × (k ≤ length (now pairs)) × (k ≤ message-darts) ⌝ }
     requires { ⌜ Segments (now starts) (now sizes) k × Small (now vertex) k ⌝ }
-    ensures { λ r. ⌜ (r ≡ all (ends-differ (now (vertex .entry)) (now (starts .entry)) (now (sizes .entry))) (tab (λ i. i) k)) × (take k (now (pairs .exit)) ≡ tab (edge-at (now (vertex .entry)) (now (starts .entry)) (now (sizes .entry))) k) × (length (now (pairs .exit)) ≡ 512) ⌝ }
+    ensures { λ r. ⌜ (r ≡ all (ends-differ (now (vertex .entry)) (now (starts .entry)) (now (sizes .entry))) (tab (λ i. i) k)) × (take k (now (pairs .exit)) ≡ tab (edge-at (now (vertex .entry)) (now (starts .entry)) (now (sizes .entry))) k) ⌝ }
 {
     // The pairs before i are put; `ok` says whether their ends differ.
     let mut ok = true;
@@ -62,9 +63,9 @@ pub fn put_pairs(
 
 // Whether the first k keys, whose values ascend, are edges, two by two; then `opposite` has the index of each one's other.
 fn edges(keys: &[u64], k: usize, opposite: &mut [usize]) -> bool
-    requires { ⌜ (k ≤ 512) × (length (now keys) ≡ 512) × (length (now opposite) ≡ 512) × Ascending k (value-at (now keys)) ⌝ }
+    requires { ⌜ (k ≤ length (now keys)) × ((p : ℕ) → p < k → index-at (now keys) p < length (now opposite)) × Ascending k (value-at (now keys)) ⌝ }
     requires { ⌜ ((p s : ℕ) → p < k → s < k → index-at (now keys) p ≡ index-at (now keys) s → p ≡ s) ⌝ }
-    ensures { λ r. ⌜ Edged (now (keys .entry)) k (now (opposite .exit)) r × (length (now (opposite .exit)) ≡ 512) ⌝ }
+    ensures { λ r. ⌜ Edged (now (keys .entry)) k (now (opposite .exit)) r ⌝ }
 {
     // The keys below r are.
     let mut r = 0;
@@ -93,9 +94,9 @@ pub fn paired(
     k: usize,
     opposite: &mut [usize],
 ) -> bool
-    requires { ⌜ (length (now vertex) ≡ 512) × (length (now starts) ≡ 512) × (length (now sizes) ≡ 512) × (length (now opposite) ≡ 512) × (1 ≤ k) × (k ≤ 512) ⌝ }
+    requires { ⌜ (k ≤ length (now vertex)) × (k ≤ length (now starts)) × (k ≤ length (now sizes)) × (k ≤ length (now opposite)) × (1 ≤ k) × (k ≤ message-darts) ⌝ }
     requires { ⌜ Segments (now starts) (now sizes) k × Small (now vertex) k ⌝ }
-    ensures { λ r. ⌜ Paired (now (vertex .entry)) (now (starts .entry)) (now (sizes .entry)) k (now (opposite .exit)) r × (length (now (opposite .exit)) ≡ 512) ⌝ }
+    ensures { λ r. ⌜ Paired (now (vertex .entry)) (now (starts .entry)) (now (sizes .entry)) k (now (opposite .exit)) r ⌝ }
 {
     let mut pairs = [0u64; Header::VOLUME];
     if !put_pairs(vertex, starts, sizes, k, &mut pairs) {

@@ -7,7 +7,7 @@ ghost use lib.Dec.{leb};
 ghost use lib.ListN.{length, getD};
 ghost use Rattle.laws.specs.Order.{Ascending};
 ghost use Rattle.model.specs.Lists.{all, tab};
-ghost use Rattle.model.specs.Values.{finite, serial-bound, room};
+ghost use Rattle.model.specs.Values.{finite, serial-bound, room, message-darts};
 ghost use Rattle.model.specs.Cells.{held};
 ghost use Rattle.model.specs.Image.{words-for, column, block-in};
 ghost use Rattle.inbox.specs.Inbox.{point-in, points-in};
@@ -64,39 +64,40 @@ fn last_of(block: &[u64], n: usize, serial: u64) -> Place
 }
 
 // Whether a serial is above that at the place before `gap`, if there is one.
-fn is_past(block: &[u64], gap: usize, serial: u64) -> bool
-    requires { ⌜ words-for gap ≤ length (now block) ⌝ }
-    ensures { λ r. ⌜ (r ≡ true → 0 < gap → column (now (block .entry)) 0 (gap - 1) < serial) × (r ≡ false → 0 < gap) ⌝ }
+fn is_past(block: &[u64], gap: Place, serial: u64) -> bool
+    requires { ⌜ words-for (gap .0) ≤ length (now block) ⌝ }
+    ensures { λ r. ⌜ (r ≡ true → 0 < gap .0 → column (now (block .entry)) 0 (gap .0 - 1) < serial) × (r ≡ false → 0 < gap .0) ⌝ }
 {
-    if gap == 0 {
+    let past = gap.0;
+    if past == 0 {
         return true;
     }
-    record::field(block, Place(gap - 1), Record::SERIAL) < serial
+    record::field(block, Place(past - 1), Record::SERIAL) < serial
 }
 
 // Whether a serial lies between those at the places before and from `gap` on.
-fn in_gap(block: &[u64], n: usize, gap: usize, serial: u64) -> bool
-    requires { ⌜ (n ≤ room) × (words-for n ≤ length (now block)) × (gap ≤ n) × Ascending n (column (now block) 0) ⌝ }
+fn in_gap(block: &[u64], n: usize, gap: Place, serial: u64) -> bool
+    requires { ⌜ (n ≤ room) × (words-for n ≤ length (now block)) × (gap .0 ≤ n) × Ascending n (column (now block) 0) ⌝ }
     ensures { λ r. ⌜ (r ≡ true → (p : ℕ) → p < n → column (now (block .entry)) 0 p ≢ serial) × (r ≡ false → 1 ≤ n) ⌝ }
 {
     if !is_past(block, gap, serial) {
         return false;
     }
-    if gap < n {
-        return serial < record::field(block, Place(gap), Record::SERIAL);
+    if gap.0 < n {
+        return serial < record::field(block, gap, Record::SERIAL);
     }
     true
 }
 
-// How many of a block's serials are below one that is new, or that it is not: 0, or held.
+// The place past those of a block's serials that are below one that is new, or that it is not: 0, or held.
 pub enum Gap {
-    Below(usize),
+    Below(Place),
     NotNew,
 }
 
 // The gap of a serial among the first n. `near`: a guess.
-fn gap_of(block: &[u64], n: usize, serial: u64, near: usize) -> Gap
-    requires { ⌜ (n ≡ getD (now block) 2 0) × (n ≤ room) × (words-for n ≤ length (now block)) × Ascending n (column (now block) 0) × ((p : ℕ) → p < n → column (now block) 0 p < serial-bound) × (serial < serial-bound) × (near ≤ n) ⌝ }
+fn gap_of(block: &[u64], n: usize, serial: u64, near: Place) -> Gap
+    requires { ⌜ (n ≡ getD (now block) 2 0) × (n ≤ room) × (words-for n ≤ length (now block)) × Ascending n (column (now block) 0) × ((p : ℕ) → p < n → column (now block) 0 p < serial-bound) × (serial < serial-bound) × (near .0 ≤ n) ⌝ }
     ensures { λ r. ⌜ GapTold (now (block .entry)) n serial r ⌝ }
 {
     if serial == 0 {
@@ -113,24 +114,24 @@ fn gap_of(block: &[u64], n: usize, serial: u64, near: usize) -> Gap
     }
     if there < serial {
         let below = last.0 + 1;
-        return Gap::Below(below);
+        return Gap::Below(Place(below));
     }
-    Gap::Below(last.0)
+    Gap::Below(last)
 }
 
 // Whether the first k are at least 1, and the block's n darts do not have them.
 fn all_new(block: &[u64], n: usize, serial: &[u64], k: usize) -> bool
-    requires { ⌜ (n ≡ getD (now block) 2 0) × (n ≤ room) × (words-for n ≤ length (now block)) × Ascending n (column (now block) 0) × ((p : ℕ) → p < n → column (now block) 0 p < serial-bound) × (length (now serial) ≡ 512) × (k ≤ 512) × ((i : ℕ) → i < k → getD (now serial) i 0 < serial-bound) ⌝ }
+    requires { ⌜ (n ≡ getD (now block) 2 0) × (n ≤ room) × (words-for n ≤ length (now block)) × Ascending n (column (now block) 0) × ((p : ℕ) → p < n → column (now block) 0 p < serial-bound) × (k ≤ length (now serial)) × ((i : ℕ) → i < k → getD (now serial) i 0 < serial-bound) ⌝ }
     ensures { λ r. ⌜ r ≡ all (λ i. leb 1 (getD (now (serial .entry)) i 0) && not (held (block-in (now (block .entry)) .darts) (getD (now (serial .entry)) i 0))) (tab (λ i. i) k) ⌝ }
 {
     // Those before i are; `near` is the gap of the last one.
     let mut near = 0;
     let mut i = 0;
     while i < k {
-        let Gap::Below(gap) = gap_of(block, n, serial[i], near) else {
+        let Gap::Below(gap) = gap_of(block, n, serial[i], Place(near)) else {
             return false;
         };
-        near = gap;
+        near = gap.0;
         i += 1;
     }
     true
@@ -149,8 +150,8 @@ pub fn new_serials(
     ranks: &mut [usize],
 ) -> bool
     requires { ⌜ (n ≡ getD (now block) 2 0) × (n ≤ room) × (words-for n ≤ length (now block)) × Ascending n (column (now block) 0) × ((p : ℕ) → p < n → column (now block) 0 p < serial-bound) ⌝ }
-    requires { ⌜ (length (now serial) ≡ 512) × (length (now keys) ≡ 512) × (length (now ranks) ≡ 512) × (1 ≤ k) × (k ≤ 512) × (from + 24 * count ≤ length (now message)) × ((i : ℕ) → i < k → getD (now serial) i 0 < serial-bound) ⌝ }
-    ensures { λ r. ⌜ NewSerials (block-in (now (block .entry)) .darts) (now (message .entry)) from count (now (serial .entry)) k (now (keys .exit)) (now (ranks .exit)) r × (length (now (keys .exit)) ≡ 512) × (length (now (ranks .exit)) ≡ 512) ⌝ }
+    requires { ⌜ (k ≤ length (now serial)) × (k ≤ length (now keys)) × (k ≤ length (now ranks)) × (1 ≤ k) × (k ≤ message-darts) × (from + 24 * count ≤ length (now message)) × ((i : ℕ) → i < k → getD (now serial) i 0 < serial-bound) ⌝ }
+    ensures { λ r. ⌜ NewSerials (block-in (now (block .entry)) .darts) (now (message .entry)) from count (now (serial .entry)) k (now (keys .exit)) (now (ranks .exit)) r ⌝ }
 {
     if !points_finite(message, from, count as usize) {
         return false;

@@ -5,7 +5,7 @@ ghost use Prim.Native.Nat.{ℕ, _≤_, _<_};
 ghost use lib.Dec.{eqb};
 ghost use lib.ListN.{length, getD};
 ghost use Rattle.model.specs.Lists.{all, tab};
-ghost use Rattle.model.specs.Values.{finite};
+ghost use Rattle.model.specs.Values.{finite, message-darts};
 ghost use Rattle.model.specs.Image.{words-for};
 ghost use Rattle.model.specs.Messages.{Transfer};
 ghost use Rattle.model.specs.Arrival.{volume-right};
@@ -23,7 +23,7 @@ use place::DraftPlace;
 
 // Whether the k darts of a draft are the volume of the one at place `first`.
 fn one_volume(draft: &[u64], k: usize, first: DraftPlace, queue: &mut [usize]) -> bool
-    requires { ⌜ Linked (now draft) k × (first .0 < k) × (k ≤ length (now queue)) × (k ≤ 512) ⌝ }
+    requires { ⌜ Linked (now draft) k × (first .0 < k) × (k ≤ length (now queue)) × (k ≤ message-darts) ⌝ }
     ensures { λ r. ⌜ r ≡ eqb (length (places-in k (volume-of (now (draft .entry)) (first .0)))) k ⌝ }
 {
     let mut marks = [0u8; Header::VOLUME];
@@ -32,7 +32,7 @@ fn one_volume(draft: &[u64], k: usize, first: DraftPlace, queue: &mut [usize]) -
 
 // Whether each dart has the number of its vertex.
 fn numbers_same(vertex: &[u64], ranks: &[usize], k: usize, numbers: &[usize]) -> bool
-    requires { ⌜ (length (now vertex) ≡ 512) × (length (now ranks) ≡ 512) × (k ≤ length (now numbers)) × (k ≤ 512) × ((i : ℕ) → i < k → getD (now ranks) i 0 < k) ⌝ }
+    requires { ⌜ (k ≤ length (now vertex)) × (k ≤ length (now ranks)) × (k ≤ length (now numbers)) × ((i : ℕ) → i < k → getD (now ranks) i 0 < k) ⌝ }
     ensures { λ r. ⌜ r ≡ all (λ i. eqb (getD (now (vertex .entry)) i 0) (getD (now (numbers .entry)) (getD (now (ranks .entry)) i 0) 0)) (tab (λ i. i) k) ⌝ }
 {
     // Those before i have.
@@ -58,7 +58,7 @@ fn numbered(
     numbers: &mut [usize],
     firsts: &mut [usize],
 ) -> bool
-    requires { ⌜ Linked (now draft) k × (length (now vertex) ≡ 512) × (length (now ranks) ≡ 512) × (k ≤ 512) × ((i : ℕ) → i < k → getD (now ranks) i 0 < k) × (k ≤ length (now numbers)) × (k ≤ length (now firsts)) ⌝ }
+    requires { ⌜ Linked (now draft) k × (k ≤ length (now vertex)) × (k ≤ length (now ranks)) × (k ≤ message-darts) × ((i : ℕ) → i < k → getD (now ranks) i 0 < k) × (k ≤ length (now numbers)) × (k ≤ length (now firsts)) ⌝ }
     ensures { λ r. ⌜ Compared (now (vertex .entry)) (now (ranks .entry)) count k (now (draft .entry)) r ⌝ }
 {
     let found = cells::vertex::number_vertices(draft, k, ranks, k, numbers, firsts);
@@ -83,10 +83,10 @@ pub fn volume_right(
     queue: &mut [usize],
     firsts: &mut [usize],
 ) -> bool
-    requires { ⌜ (length (now vertex) ≡ 512) × (length (now serial) ≡ 512) × (length (now starts) ≡ 512) × (length (now sizes) ≡ 512) × (length (now keys) ≡ 512) × (length (now ranks) ≡ 512) × (length (now opposite) ≡ 512) × (words-for k ≤ length (now draft)) × (k ≤ length (now queue)) × (k ≤ length (now firsts)) ⌝ }
+    requires { ⌜ (k ≤ length (now vertex)) × (k ≤ length (now serial)) × (k ≤ length (now starts)) × (k ≤ length (now sizes)) × (k ≤ length (now keys)) × (k ≤ length (now ranks)) × (k ≤ length (now opposite)) × (words-for k ≤ length (now draft)) × (k ≤ length (now queue)) × (k ≤ length (now firsts)) ⌝ }
     requires { ⌜ Ranked (now serial) k (now keys) (now ranks) × (all finite (points-in (now message) from count) ≡ true) × ((t : Transfer) × Told t (now vertex) (now serial) (now starts) (now sizes) (now message) from count k hollow) ⌝ }
     ensures answer { λ r. ⌜ ((t : Transfer) → Told t (now (vertex .entry)) (now (serial .entry)) (now (starts .entry)) (now (sizes .entry)) (now (message .entry)) from count k hollow → r ≡ volume-right t) ⌝ }
-    ensures drafted { λ r. ⌜ (r ≡ true → Draft (now (vertex .entry)) (now (serial .entry)) (now (starts .entry)) (now (sizes .entry)) (now (keys .entry)) (now (ranks .entry)) (now (opposite .exit)) (now (message .entry)) from k (now (draft .exit))) × (length (now (opposite .exit)) ≡ 512) × (length (now (draft .exit)) ≡ length (now (draft .entry))) ⌝ }
+    ensures drafted { λ r. ⌜ (r ≡ true → Draft (now (vertex .entry)) (now (serial .entry)) (now (starts .entry)) (now (sizes .entry)) (now (keys .entry)) (now (ranks .entry)) (now (opposite .exit)) (now (message .entry)) from k (now (draft .exit))) ⌝ }
 {
     if hollow {
         return false;

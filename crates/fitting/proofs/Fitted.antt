@@ -95,7 +95,7 @@ module _ {m s v x b z : List ℕ} {f : Front} {l : Tail} {ranks d : List ℕ} (o
   }
 
   -- it says yes
-  module _ (yes : r ≡ true) (codes-size : length codes ≡ 512) (indices-size : length indices ≡ 512) (sizes-size : length z ≡ 512) (ranks-size : length ranks ≡ 512) (sender : f .from ≤ 15) where
+  module _ (yes : r ≡ true) (codes-size : f .darts ≤ length codes) (indices-size : f .darts ≤ length indices) (sizes-size : f .darts ≤ length z) (ranks-size : f .darts ≤ length ranks) (sender : f .from ≤ 15) where
     module _ {t : Transfer} (w : TransferOutlined t s v x b z f l) where
       a : Arrives t v x b z s (f .darts) (f .from) (f .to) l
       a = arrives w (new .right t w)
@@ -106,8 +106,8 @@ module _ {m s v x b z : List ℕ} {f : Front} {l : Tail} {ranks d : List ℕ} (o
       rest : rest-right (block-in m) t ≡ true
       rest = sym (first .answer t v x a) ∙ yes
 
-      few : l .count2 ≤ 512
-      few = by-cases (few-entries l) (λ e. few2 l e) (λ e. absurd (true≢false (sym rest ∙ sym (too-many a (told-of w .few) e (block-in m)))))
+      few : l .count2 ≤ f .darts
+      few = by-cases (few-entries l (f .darts)) (λ e. few2 l e) (λ e. absurd (true≢false (sym rest ∙ sym (too-many a e (block-in m)))))
 
       count : length (t .part2) ≡ l .count2
       count = sym (length-map (t .part2) code2) ∙ ap length (sym (told .codes-are)) ∙ length-take-le (l .count2) codes (omega (arith, codes-size, few))
@@ -135,10 +135,12 @@ module _ {m s v x b z : List ℕ} {f : Front} {l : Tail} {ranks d : List ℕ} (o
           meetable (new .draft) t (w .inside) (full w (new .right t w)) (w .darts-are) (sym (w .points-are))
           (vertices-below w (new .right t w)) m ok (points-finite w (new .right t w) m (new .fresh)) ranks-size
 
-      sewn : (places : List ℕ) → length places ≡ 512 → Sewable m d ranks z places indices (count-in m) (f .darts) (f .from) (l .count2)
+      sewn : (places : List ℕ) → l .count2 ≤ length places → Sewable m d ranks z places indices (count-in m) (f .darts) (f .from) (l .count2)
       sewn places n = subst (λ (c : ℕ). Sewable m d ranks z places indices (count-in m) (f .darts) (f .from) c) count
           (subst (λ (o : ℕ). Sewable m d ranks z places indices (count-in m) (f .darts) o (length (t .part2))) (sym (w .from-is))
-          (sewable (new .draft) t (w .inside) (full w (new .right t w)) (w .darts-are) (sym (w .points-are)) (vertices-below w (new .right t w)) m ok indices indices-are indices-size (omega (arith, count, few)) fits beside (omega (arith, sender, w .from-is)) sizes-size n))
+          (sewable (new .draft) t (w .inside) (full w (new .right t w)) (w .darts-are) (sym (w .points-are)) (vertices-below w (new .right t w)) m ok indices
+          indices-are (omega (arith, count, few, indices-size)) (omega (arith, count, few, told-of w .few)) fits beside
+          (omega (arith, sender, w .from-is)) sizes-size (omega (arith, count, n))))
 
       code-small : (e : ℕ) → e < l .count2 → getD codes e 0 < 2 ^ 54
       code-small e h =
@@ -148,9 +150,9 @@ module _ {m s v x b z : List ℕ} {f : Front} {l : Tail} {ranks d : List ℕ} (o
 
     -- THE SECOND HALF may be asked
     pub ready : Part2Ready m d ranks z codes indices (f .darts) (f .from) (l .count2)
-    ready = record { codes-size = codes-size; codes-small = code-small (new .outlined); sewable = sewn (new .outlined) }
+    ready = record { codes-size = omega (arith, few (new .outlined), codes-size); codes-small = code-small (new .outlined); sewable = sewn (new .outlined) }
 
-    pub few-second : l .count2 ≤ 512
+    pub few-second : l .count2 ≤ f .darts
     few-second = few (new .outlined)
 
     -- and has answered
@@ -158,7 +160,7 @@ module _ {m s v x b z : List ℕ} {f : Front} {l : Tail} {ranks d : List ℕ} (o
       second-is : distinct (take (l .count2) codes) ≡ true → (t : Transfer) → TransferOutlined t s v x b z f l → q ≡ halves t
       second-is e t w =
           part2-answer (new .draft) t (w .inside) (full w (new .right t w)) (w .darts-are) (sym (w .points-are))
-          (vertices-below w (new .right t w)) m ok indices (indices-are w) indices-size (omega (arith, count w, few w)) (fits w)
+          (vertices-below w (new .right t w)) m ok indices (indices-are w) (omega (arith, count w, few w, indices-size)) (omega (arith, count w, few w, told-of w .few)) (fits w)
           (codes-are w)
           (subst (λ (c : ℕ). Located m codes c (count-in m) (second .places)) (sym (count w)) (second .located e))
           (subst (λ (o : ℕ). Part2Told m d ranks z (second .places) indices (count-in m) o (length (t .part2)) kinds kinds′ links links′ q) (w .from-is)

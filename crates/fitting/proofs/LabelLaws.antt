@@ -3,9 +3,9 @@ use mathlib.Core.Path.{_≡_, refl, sym, _∙_, ap}
 use mathlib.Core.Bool.{Bool, true, false, true≢false, not, _&&_}
 use mathlib.Core.List.{List, [], _∷_, map}
 use Prim.Native.Nat.{ℕ, suc, _≤_}
-use lib.ListN.{getD, replicate}
+use lib.ListN.{length, getD}
 use Rattle.model.specs.Lists.{all, mem, distinct, find, least}
-use Rattle.model.specs.Values.{Dart, Block, label-key, or-no-dart}
+use Rattle.model.specs.Values.{Dart, Block, label-key, or-no-dart, message-darts}
 use Rattle.model.specs.Cells.{cycle, labelled, next-in}
 use Rattle.model.specs.Messages.{Part2, Transfer}
 use Rattle.model.specs.Arrival.{indices-right, part2-right, part2-apart, consecutive, labels-new, parts-right}
@@ -15,7 +15,7 @@ use Rattle.parts.specs.Entries.{code2}
 use Rattle.parts.specs.Critical.{rest-right}
 use Rattle.parts.specs.Locate.{Located}
 use Rattle.parts.specs.Meets.{Meetable}
-use Rattle.parts.specs.Sewing.{Part2Told}
+use Rattle.parts.specs.Sewing.{Sewable, Part2Told}
 use Rattle.fitting.specs.Fitting.{CodesRanked, Part2Ready, Part2Done}
 
 -- TWO HALVES
@@ -49,11 +49,15 @@ codes-differ ds ms e = distinct-map face (map code2 ms) (ap distinct (map-map co
 
 -- PART 2, from what was asked of it
 module _ {m d ranks z codes indices : List ℕ} {k from c : ℕ} (ready : Part2Ready m d ranks z codes indices k from c) where
-  pub few-entries : c ≤ 512
-  few-entries = ready .sewable (replicate 512 0) refl .few
+  pub few-entries : c ≤ message-darts
+  few-entries = ready .sewable codes (ready .codes-size) .few
 
   pub beside : Meetable m (getD m 2 0) d k ranks
-  beside = ready .sewable (replicate 512 0) refl .beside
+  beside = ready .sewable codes (ready .codes-size) .beside
+
+  -- the places that were found are as many as the entries
+  pub sewable-at : {n : ℕ} {places : List ℕ} → Located m codes c n places → c ≤ length places → Sewable m d ranks z places indices (getD m 2 0) k from c
+  sewable-at {n} {places} l h = ready .sewable places h
 
 module _ {m d ranks z codes indices : List ℕ} {from c : ℕ} {keys rows : List ℕ} {r : Bool} (ranked : CodesRanked codes c keys rows r) where
   pub same-no : {kinds links : List ℕ} → r ≡ false → Part2Done m d ranks z codes indices from c kinds kinds links links false

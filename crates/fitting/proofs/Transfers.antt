@@ -10,7 +10,7 @@ use lib.ListN.{length, getD, take, length-map}
 use lib.Seq.{getD-take, length-take-le}
 use borrow.Author.Tests.{not-true}
 use Rattle.model.specs.Lists.{all, ascending, distinct, tab, zip, concat-map}
-use Rattle.model.specs.Values.{Dart, code, finite}
+use Rattle.model.specs.Values.{Dart, code, finite, message-darts}
 use Rattle.model.specs.Cells.{cycle, held, labelled, previous-in}
 use Rattle.model.specs.Image.{column, dart-in, block-in, holds-block}
 use Rattle.model.specs.Messages.{Part2, Transfer}
@@ -111,7 +111,7 @@ abbrev no-entry : Part2
 no-entry = record { label = record { maker = 0; number = 0; position = 0 }; index = 0 }
 
 module _ (m : List ℕ) (ok : holds-block m ≡ true) {t : Transfer} {v x b z s : List ℕ} {k from to : ℕ} {l : Tail} {codes indices kinds links : List ℕ} (a : Arrives t v x b z s k from to l)
-    (told : CriticalTold t x b z k l codes indices kinds links) (right : indices-right t ≡ true) (few : k ≤ 512) (room2 : l .count2 ≤ length indices) where
+    (told : CriticalTold t x b z k l codes indices kinds links) (right : indices-right t ≡ true) (few : k ≤ message-darts) (room2 : l .count2 ≤ length indices) where
   abbrev entry : ℕ → Part2
   entry e = getD (t .part2) e no-entry
 

@@ -2,7 +2,7 @@
 use mathlib.Core.Path.{_≡_}
 use mathlib.Core.Bool.{Bool, true, false}
 use mathlib.Core.List.{List}
-use Prim.Native.Nat.{ℕ, _<_, _^_}
+use Prim.Native.Nat.{ℕ, _≤_, _<_, _^_}
 use lib.ListN.{length, getD, take}
 use Rattle.model.specs.Lists.{distinct}
 use Rattle.model.specs.Image.{block-in}
@@ -21,13 +21,12 @@ use Rattle.join.specs.Join.{Linking}
 pub record CodesRanked (codes : List ℕ) (c : ℕ) (keys ranks : List ℕ) (r : Bool) : Type 0 where
   pub is : r ≡ distinct (take c codes)
   pub ranked : r ≡ true → Ranked codes c keys ranks
-  pub keys-size : length keys ≡ 512
 
 -- the c entries of part 2 in arrays, beside a block m and a draft d of k darts
 pub record Part2Ready (m d ranks z codes indices : List ℕ) (k from c : ℕ) : Type 0 where
-  pub codes-size : length codes ≡ 512
+  pub codes-size : c ≤ length codes
   pub codes-small : (e : ℕ) → e < c → getD codes e 0 < 2 ^ 54
-  pub sewable : (places : List ℕ) → length places ≡ 512 → Sewable m d ranks z places indices (getD m 2 0) k from c
+  pub sewable : (places : List ℕ) → c ≤ length places → Sewable m d ranks z places indices (getD m 2 0) k from c
 
 -- two codes are one, or it is told of the places where the labels stand
 pub record Part2Done (m d ranks z codes indices : List ℕ) (from c : ℕ) (kinds kinds′ links links′ : List ℕ) (r : Bool) : Type 0 where

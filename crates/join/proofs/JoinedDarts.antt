@@ -35,13 +35,12 @@ third-other s s′ {k} {a} (kind-free e f) d = rw e refl
 third-other s s′ {k} {a} (kind-sewn e) d = absurd (d e)
 third-other s s′ {k} {a} (kind-critical e f g) d = rw e refl
 
-module _ {m c w kinds links ranks old new x : List ℕ} {n k : ℕ} {ls : List Link} (fits : n + k ≤ room) (few : k ≤ 512)
+module _ {m c w kinds links ranks old new x : List ℕ} {n k : ℕ} {ls : List Link} (fits : n + k ≤ room)
     (at : Stands m c w n k old new) (by : Indexed c x ranks k) (ln : Linking m n k x kinds links ls) where
   -- what sewing asks
   pub sewable : Sewable n k kinds links ranks old new
   sewable = record {
     fits = fits;
-    few = few;
     rank-below = by .rank-below;
     new-below = λ i h. at .new-lt (getD ranks i 0) (by .rank-below i h);
     new-apart = λ i j hi hj e. by .rank-apart i j hi hj (new-one at (getD ranks i 0) (getD ranks j 0) (by .rank-below i hi) (by .rank-below j hj) e);

@@ -21,7 +21,7 @@ use Rattle.join.specs.Woven.{Stands}
 use Rattle.join.specs.Join.{Indexed, Linking}
 use Rattle.join.proofs.JoinedDarts.{old-one, new-one, dart-joined}
 
-module _ {m c w kinds links ranks old new x : List ℕ} {n k : ℕ} {ls : List Link} (fits : n + k ≤ room) (few : k ≤ 512)
+module _ {m c w kinds links ranks old new x : List ℕ} {n k : ℕ} {ls : List Link} (fits : n + k ≤ room)
     (at : Stands m c w n k old new) (by : Indexed c x ranks k) (ln : Linking m n k x kinds links ls) {y : List ℕ} (sew : Sewn w kinds links ranks old new k y) where
   -- both words of a dart: as before, sewn, or labelled
   data Words (t : ℕ) : Type 0 where
@@ -144,7 +144,7 @@ module _ {m c w kinds links ranks old new x : List ℕ} {n k : ℕ} {ls : List L
         darts-now : tab (dart-in y) (getD y 2 0) ≡ map (relink ls) ds
         darts-now =
             ap (tab (dart-in y)) count-now
-            ∙ tab-cong (dart-in y) (λ t. relink ls (dart-in w t)) (n + k) (dart-joined fits few at by ln sew)
+            ∙ tab-cong (dart-in y) (λ t. relink ls (dart-in w t)) (n + k) (dart-joined fits at by ln sew)
             ∙ sym (map-tab (relink ls) (dart-in w) (n + k)) ∙ ap (map (relink ls)) e
 
         block-now : block-in y ≡ record { number = getD w 0 0; counter = getD w 1 0; darts = map (relink ls) ds }

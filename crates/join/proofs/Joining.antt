@@ -18,8 +18,8 @@ module _ {m c : List ℕ} {n k : ℕ} {kinds links ranks : List ℕ} (w : MayJoi
   at : Stands m c (woven-at m n c k) n k old new
   at = stands (w .drafted) old new refl olds news
 
-  pub may-sew : k ≤ 512 → Sewable n k kinds links ranks old new
-  may-sew few = sewable (w .drafted .weaves .fits) few at (w .indexed) (w .linking)
+  pub may-sew : Sewable n k kinds links ranks old new
+  may-sew = sewable (w .drafted .weaves .fits) at (w .indexed) (w .linking)
 
   pub joins : {z y : List ℕ} → z ≡ woven-at m n c k → Sewn z kinds links ranks old new k y → Joins m c n k kinds links ranks y
   joins {z} {y} e s = record { old = old; new = new; stand = at; sewn = subst (λ (a : List ℕ). Sewn a kinds links ranks old new k y) e s }

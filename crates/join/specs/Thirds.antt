@@ -29,7 +29,6 @@ sewn-at m kind link old p = cond (eqb kind 0) m (cond (eqb kind 1) (with-third (
 -- the places differ, and so do the darts that are sewn to
 pub record Sewable (n k : ℕ) (kinds links ranks old new : List ℕ) : Type 0 where
   pub fits : n + k ≤ room
-  pub few : k ≤ 512
   pub rank-below : (i : ℕ) → i < k → getD ranks i 0 < k
   pub new-below : (i : ℕ) → i < k → place-of ranks new i < n + k
   pub new-apart : (i j : ℕ) → i < k → j < k → place-of ranks new i ≡ place-of ranks new j → i ≡ j

@@ -19,7 +19,7 @@ pub fn join(
     new: &mut [usize],
 )
     requires { ⌜ (getD (now block) 2 0 ≤ length (now old)) × (getD (now draft) 2 0 ≤ length (now new)) ⌝ }
-    requires { ⌜ (length (now kinds) ≡ 512) × (length (now links) ≡ 512) × (length (now ranks) ≡ 512) × MayJoin (now block) (now draft) (getD (now block) 2 0) (getD (now draft) 2 0) (now kinds) (now links) (now ranks) × (getD (now draft) 2 0 ≤ 512) ⌝ }
+    requires { ⌜ (getD (now draft) 2 0 ≤ length (now kinds)) × (getD (now draft) 2 0 ≤ length (now links)) × (getD (now draft) 2 0 ≤ length (now ranks)) × MayJoin (now block) (now draft) (getD (now block) 2 0) (getD (now draft) 2 0) (now kinds) (now links) (now ranks) ⌝ }
     ensures { λ _. ⌜ Joins (now (block .entry)) (now (draft .entry)) (getD (now (block .entry)) 2 0) (getD (now (draft .entry)) 2 0) (now (kinds .entry)) (now (links .entry)) (now (ranks .entry)) (now (block .exit)) ⌝ }
 {
     let n = block[Header::COUNT] as usize;

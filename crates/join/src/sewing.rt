@@ -46,7 +46,7 @@ pub fn sew(
     old: &[usize],
     new: &[usize],
 )
-    requires { ⌜ (words-for (n + k) ≤ length (now block)) × (length (now kinds) ≡ 512) × (length (now links) ≡ 512) × (length (now ranks) ≡ 512) × (n ≤ length (now old)) × (k ≤ length (now new)) × Sewable n k (now kinds) (now links) (now ranks) (now old) (now new) ⌝ }
+    requires { ⌜ (words-for (n + k) ≤ length (now block)) × (k ≤ length (now kinds)) × (k ≤ length (now links)) × (k ≤ length (now ranks)) × (n ≤ length (now old)) × (k ≤ length (now new)) × Sewable n k (now kinds) (now links) (now ranks) (now old) (now new) ⌝ }
     ensures { λ _. ⌜ Sewn (now (block .entry)) (now (kinds .entry)) (now (links .entry)) (now (ranks .entry)) (now (old .entry)) (now (new .entry)) k (now (block .exit)) ⌝ }
 {
     // Those before i are.

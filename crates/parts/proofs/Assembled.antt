@@ -10,7 +10,7 @@ use lib.ListN.{length, getD, take, drop, length-map, replicate}
 use lib.Seq.{getD-take}
 use borrow.Author.Tests.{eqb-true, ltb-true, le-leb, not-true}
 use Rattle.model.specs.Lists.{all, mem, ascending, tab, concat-map}
-use Rattle.model.specs.Values.{Block}
+use Rattle.model.specs.Values.{Block, message-darts}
 use Rattle.model.specs.Layouts.{Layout, times}
 use Rattle.model.specs.Messages.{Part3, Transfer, size-all, part2, part3, part4}
 use Rattle.model.specs.Arrival.{face-from, indices-right, consecutive, critical-links}
@@ -45,7 +45,7 @@ unfolding times
 took-length l n {s} {at} {past} {xs} t = get-all-length l n (drop at s) xs (drop past s) (t .value)
 
 -- the indices of a part that fits
-module _ {b z : List ℕ} {k : ℕ} (segs : Segments b z k) (few : k ≤ 512) (others idx : List ℕ) (c : ℕ) (n : c ≤ length idx) (t : part-fits b k others (take c idx) ≡ true) where
+module _ {b z : List ℕ} {k : ℕ} (segs : Segments b z k) (few : k ≤ message-darts) (others idx : List ℕ) (c : ℕ) (n : c ≤ length idx) (t : part-fits b k others (take c idx) ≡ true) where
   abbrev at : ℕ → ℕ
   at e = getD idx e 0
 
@@ -67,7 +67,7 @@ module _ {b z : List ℕ} {k : ℕ} (segs : Segments b z k) (few : k ≤ 512) (o
   pub start : (e : ℕ) → e < c → getD b (at e) 0 ≡ at e
   start e h = eqb-true (getD b (at e) 0) (at e) (and-right (ltb (at e) k) _ (all-tab (starts-at b k) at c all-start e h))
 
-  pub spans : Spans z idx c
+  pub spans : Spans z idx k c
   spans = record {
     within = λ e h. let w = segs .end-within (at e) (below e h) in let s = start e h in omega arith;
     below = λ e h. let w = below e h in omega arith;
@@ -116,12 +116,12 @@ module _ {b z : List ℕ} {k : ℕ} (segs : Segments b z k) (few : k ≤ 512) (o
 
 module _ {t : Transfer} {v x b z s : List ℕ} {k from to : ℕ} {l : Tail} (w : Arrives t v x b z s k from to l) where
   -- TOO MANY ENTRIES
-  pub too-many : k ≤ 512 → few-entries l ≡ false → (block : Block) → false ≡ rest-right block t
-  too-many few e block = by-cases (indices-right t)
+  pub too-many : few-entries l k ≡ false → (block : Block) → false ≡ rest-right block t
+  too-many e block = by-cases (indices-right t)
       (λ u. absurd (true≢false (sym (fits u) ∙ e)))
       (λ u. rw u refl)
     where
-      fits : indices-right t ≡ true → few-entries l ≡ true
+      fits : indices-right t ≡ true → few-entries l k ≡ true
       fits u =
           let r =
           indices-few b (size-all (t .faces)) (map (λ m. m .index) (t .part2)) (map (λ m. m .index) (t .part3))
@@ -131,15 +131,15 @@ module _ {t : Transfer} {v x b z s : List ℕ} {k from to : ℕ} {l : Tail} (w :
           let a = r .0 in
           let c = r .1 in
           let f = r .2 in
-          and-intro (and-intro (le-leb (l .count2) 512 (omega (arith, few, d, a, length-map (t .part2) index2, took-length part2 (l .count2) (w .part2-in))))
-          (le-leb (l .count3) 512 (omega (arith, few, d, c, length-map (t .part3) index3, took-length part3 (l .count3) (w .part3-in)))))
-          (le-leb (l .count4) 512 (omega (arith, few, d, f, length-map (t .part4) index4, took-length (part4 (t .faces)) (l .count4) (w .part4-in))))
+          and-intro (and-intro (le-leb (l .count2) k (omega (arith, d, a, length-map (t .part2) index2, took-length part2 (l .count2) (w .part2-in))))
+          (le-leb (l .count3) k (omega (arith, d, c, length-map (t .part3) index3, took-length part3 (l .count3) (w .part3-in)))))
+          (le-leb (l .count4) k (omega (arith, d, f, length-map (t .part4) index4, took-length (part4 (t .faces)) (l .count4) (w .part4-in))))
 
   -- THE ENTRIES
   module _ {codes i2 numbers i3 i4 others places : List ℕ}
       (read2 : EntriesRead part2 code2 index2 s (l .part2) (l .count2) codes i2)
       (read3 : EntriesRead part3 number3 index3 s (l .part3) (l .count3) numbers i3)
-      (read4 : Part4Read (t .faces) z s (l .part4) (l .count4) i4 others places) (n4 : length i4 ≡ 512) (o4 : length others ≡ 512) (few4 : l .count4 ≤ 512) where
+      (read4 : Part4Read (t .faces) z s (l .part4) (l .count4) i4 others places) (n3 : l .count3 ≤ length i3) (n4 : l .count4 ≤ length i4) (o4 : l .count4 ≤ length others) where
     fourth : t .part4 ≡ tab (entry-at z s i4 others places) (l .count4)
     fourth = read4 .entries-are (t .part4) (w .past4) (w .part4-in)
 
@@ -177,7 +177,7 @@ module _ {t : Transfer} {v x b z s : List ℕ} {k from to : ℕ} {l : Tail} (w :
         three p q r = rw (p, q, r)
 
     -- where the indices fit
-    module _ (few : k ≤ 512) (few3 : l .count3 ≤ 512) (ok : indices-fit b k (take (l .count2) i2) (take (l .count3) i3) (take (l .count4) i4) ≡ true) where
+    module _ (few : k ≤ message-darts) (ok : indices-fit b k (take (l .count2) i2) (take (l .count3) i3) (take (l .count4) i4) ≡ true) where
       segs : Segments b z k
       segs = subst (Segments b z) (sym (w .darts)) (segments v x b z (t .faces) (w .inside))
 
@@ -188,15 +188,15 @@ module _ {t : Transfer} {v x b z s : List ℕ} {k from to : ℕ} {l : Tail} (w :
       fits4 = and-right (part-fits b k [] (take (l .count2) i2) && part-fits b k (take (l .count2) i2) (take (l .count3) i3)) _ ok
 
       room3 : l .count3 ≤ length i3
-      room3 = let n = read3 .second-size in omega arith
+      room3 = n3
 
       room4 : l .count4 ≤ length i4
-      room4 = omega arith
+      room4 = n4
 
-      pub spans3 : Spans z i3 (l .count3)
+      pub spans3 : Spans z i3 k (l .count3)
       spans3 = spans segs few (take (l .count2) i2) i3 (l .count3) room3 fits3
 
-      pub spans4 : Spans z i4 (l .count4)
+      pub spans4 : Spans z i4 k (l .count4)
       spans4 = spans segs few (take (l .count2) i2 ++ take (l .count3) i3) i4 (l .count4) room4 fits4
 
       pub numbers-small : (e : ℕ) → e < l .count3 → getD numbers e 0 < 2 ^ 32
@@ -257,10 +257,10 @@ module _ {t : Transfer} {v x b z s : List ℕ} {k from to : ℕ} {l : Tail} (w :
         pub off-faces : (q : ℕ) → q < k → mem (getD b q 0) (starts3 ++ starts4) ≡ false → getD a″ q 0 ≡ getD a q 0
         off-faces q h m = word-else q h (or-first _ _ (sym (mem-append (getD b q 0) starts3 starts4) ∙ m)) (or-second (mem (getD b q 0) starts3) _ (sym (mem-append (getD b q 0) starts3 starts4) ∙ m))
 
-      module _ {kinds kinds′ kinds″ links links′ links″ : List ℕ} (from-small : from ≤ 15) (zero-kinds : kinds ≡ replicate 512 0) (zero-links : links ≡ replicate 512 0)
+      module _ {kinds kinds′ kinds″ links links′ links″ : List ℕ} (from-small : from ≤ 15) (zero-kinds : (q : ℕ) → getD kinds q 0 ≡ 0) (zero-links : (q : ℕ) → getD links q 0 ≡ 0)
           (k3 : Faced z i3 (l .count3) (λ e j. 2 + 4 * from) kinds kinds′) (k4 : Faced z i4 (l .count4) (λ e j. 2 + 4 * getD others e 0) kinds′ kinds″)
           (l3 : Faced z i3 (l .count3) (numbered-code from numbers) links links′) (l4 : Faced z i4 (l .count4) (λ e. code-at s (getD places e 0) (getD z (getD i4 e 0) 0)) links′ links″) where
-        z-few : (i : ℕ) → i < k → getD b i 0 ≡ i → getD z i 0 ≤ 512
+        z-few : (i : ℕ) → i < k → getD b i 0 ≡ i → getD z i 0 ≤ message-darts
         z-few i h e = let r = segs .end-within i h in omega arith
 
         pub links-small : (q : ℕ) → q < k → getD links″ q 0 < 2 ^ 48
@@ -270,7 +270,7 @@ module _ {t : Transfer} {v x b z s : List ℕ} {k from to : ℕ} {l : Tail} (w :
             (below segs few (take (l .count2) i2) i3 (l .count3) room3 fits3 e c)
             (start segs few (take (l .count2) i2) i3 (l .count3) room3 fits3 e c) in omega arith)
             (λ e j c d. took-small (getD z (getD i4 e 0) 0) (labels-there e c .took) j) q h u)
-            (λ u. rw (off-faces l3 l4 q h u ∙ ap (λ (m : List ℕ). getD m q 0) zero-links ∙ getD-zeros 512 q) (omega arith))
+            (λ u. rw (off-faces l3 l4 q h u ∙ zero-links q) (omega arith))
 
         pub words : Words b z kinds″ links″ k (starts3 ++ starts4)
         words = record {
@@ -285,7 +285,7 @@ module _ {t : Transfer} {v x b z s : List ℕ} {k from to : ℕ} {l : Tail} (w :
               (ascending-distinct starts4 (up segs few (take (l .count2) i2 ++ take (l .count3) i3) i4 (l .count4) room4 fits4))
               apart3;
           kind-in = λ q h m. on-faces k3 k4 (λ y. y % 4 ≡ 2) (λ e j c d. omega arith) (λ e j c d. omega arith) q h m;
-          kind-out = λ q h m. rw (off-faces k3 k4 q h m ∙ ap (λ (y : List ℕ). getD y q 0) zero-kinds ∙ getD-zeros 512 q) (omega arith);
+          kind-out = λ q h m. rw (off-faces k3 k4 q h m ∙ zero-kinds q) (omega arith);
           small = links-small;
         }
 
@@ -296,8 +296,8 @@ module _ {t : Transfer} {v x b z s : List ℕ} {k from to : ℕ} {l : Tail} (w :
         pub words-right : (q : ℕ) → q < k → Kind (getD kinds″ q 0) (getD links″ q 0)
         words-right q h = by-cases (mem (getD b q 0) (starts3 ++ starts4))
             (λ u. kind-critical (words .kind-in q h u) (kinds-small q h u) (links-small q h))
-            (λ u. kind-free (off-faces k3 k4 q h u ∙ ap (λ (y : List ℕ). getD y q 0) zero-kinds ∙ getD-zeros 512 q)
-            (off-faces l3 l4 q h u ∙ ap (λ (y : List ℕ). getD y q 0) zero-links ∙ getD-zeros 512 q))
+            (λ u. kind-free (off-faces k3 k4 q h u ∙ zero-kinds q)
+            (off-faces l3 l4 q h u ∙ zero-links q))
 
         third-tab : t .part3 ≡ tab (λ e. record { number = getD numbers e 0; index = getD i3 e 0 }) (l .count3)
         third-tab =

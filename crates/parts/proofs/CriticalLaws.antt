@@ -7,6 +7,7 @@ use native.Mathlib.Omega.{arith}
 use lib.Dec.{eqb, leb}
 use lib.ListN.{length, getD, take, replicate}
 use borrow.Author.Tests.{leb-true}
+use Rattle.model.specs.Values.{message-darts}
 use Rattle.model.specs.Lists.{all, tab, concat-map}
 use Rattle.model.specs.Image.{column, block-in, holds-block}
 use Rattle.model.specs.Messages.{FaceDart, Transfer, part2, part3}
@@ -31,34 +32,43 @@ use Rattle.parts.proofs.Assembled.{too-many, entries-told, indices4, sp
 pub sized : {t : Transfer} {v x b z s : List ℕ} {k from to : ℕ} {l : Tail} → Arrives t v x b z s k from to l → Sized (t .faces) k z
 sized w = record { count = w .darts; front = w .inside .sizes }
 
-module _ (l : Tail) (e : few-entries l ≡ true) where
-  pub few2 : l .count2 ≤ 512
-  few2 = leb-true (l .count2) 512 (and-left (leb (l .count2) 512) _ (and-left (leb (l .count2) 512 && leb (l .count3) 512) _ e))
+module _ (l : Tail) {k : ℕ} (e : few-entries l k ≡ true) where
+  pub few2 : l .count2 ≤ k
+  few2 = leb-true (l .count2) k (and-left (leb (l .count2) k) _ (and-left (leb (l .count2) k && leb (l .count3) k) _ e))
 
-  pub few3 : l .count3 ≤ 512
-  few3 = leb-true (l .count3) 512 (and-right (leb (l .count2) 512) _ (and-left (leb (l .count2) 512 && leb (l .count3) 512) _ e))
+  pub few3 : l .count3 ≤ k
+  few3 = leb-true (l .count3) k (and-right (leb (l .count2) k) _ (and-left (leb (l .count2) k && leb (l .count3) k) _ e))
 
-  pub few4 : l .count4 ≤ 512
-  few4 = leb-true (l .count4) 512 (and-right (leb (l .count2) 512 && leb (l .count3) 512) _ e)
+  pub few4 : l .count4 ≤ k
+  few4 = leb-true (l .count4) k (and-right (leb (l .count2) k && leb (l .count3) k) _ e)
 
-pub many-no : (m s b z : List ℕ) (k from to : ℕ) (l : Tail) {codes indices kinds links : List ℕ} → k ≤ 512 → few-entries l ≡ false → CriticalRight m s b z k from to l codes indices kinds links false
-many-no m s b z k from to l few e = record { answer = λ t v x w. too-many w few e (block-in m); told = λ q. absurd (true≢false (sym q)) }
+pub many-no : (m s b z : List ℕ) (k from to : ℕ) (l : Tail) {codes indices kinds links : List ℕ} → few-entries l k ≡ false → CriticalRight m s b z k from to l codes indices kinds links false
+many-no m s b z k from to l e = record { answer = λ t v x w. too-many w e (block-in m); told = λ q. absurd (true≢false (sym q)) }
 
-module _ (m b : List ℕ) (from to : ℕ) (l : Tail) {s z : List ℕ} {k : ℕ} (small : few-entries l ≡ true) {codes i2 numbers i3 i4 others places : List ℕ}
+module _ (m b : List ℕ) (from to : ℕ) (l : Tail) {s z : List ℕ} {k : ℕ} (small : few-entries l k ≡ true) {codes i2 numbers i3 i4 others places : List ℕ}
     (read2 : EntriesRead part2 code2 index2 s (l .part2) (l .count2) codes i2) (read3 : EntriesRead part3 number3 index3 s (l .part3) (l .count3) numbers i3)
-    (read4 : (length i4 ≡ 512) × (length others ≡ 512) × (length places ≡ 512) × ((fs : List (List FaceDart)) → Sized fs k z → Part4Read fs z s (l .part4) (l .count4) i4 others places)) where
+    (read4 : ((fs : List (List FaceDart)) → Sized fs k z → Part4Read fs z s (l .part4) (l .count4) i4 others places) × (k ≤ length i3) × (k ≤ length i4) × (k ≤ length others)) where
+  long3 : l .count3 ≤ length i3
+  long3 = omega (arith, few3 l small, read4 .1)
+
+  long4 : l .count4 ≤ length i4
+  long4 = omega (arith, few4 l small, read4 .2)
+
+  long-others : l .count4 ≤ length others
+  long-others = omega (arith, few4 l small, read4 .3)
+
   abbrev fit : Bool
   fit = entries-fit b k from to i2 (l .count2) i3 numbers (l .count3) i4 others (l .count4)
 
   told-by : {t : Transfer} {v x : List ℕ} (w : Arrives t v x b z s k from to l)
       → (indices-right t && consecutive (t .part3)
       && all (λ k. not (eqb (k .other) (t .from)) && not (eqb (k .other) (t .to))) (t .part4)) ≡ fit
-  told-by {t} w = entries-told w read2 read3 (read4 .3 (t .faces) (sized w)) (read4 .0) (read4 .1) (few4 l small)
+  told-by {t} w = entries-told w read2 read3 (read4 .0 (t .faces) (sized w)) long3 long4 long-others
 
   pub entries-no : {kinds links : List ℕ} → fit ≡ false → CriticalRight m s b z k from to l codes i2 kinds links false
   entries-no e = record { answer = λ t v x w. sym (ap (λ (c : Bool). c && labels-new (block-in m) t) (told-by w ∙ e)); told = λ q. absurd (true≢false (sym q)) }
 
-  module _ (few : k ≤ 512) (ok : fit ≡ true) where
+  module _ (few : k ≤ message-darts) (ok : fit ≡ true) where
     ok-indices : indices-fit b k (take (l .count2) i2) (take (l .count3) i3) (take (l .count4) i4) ≡ true
     ok-indices =
         and-left (indices-fit b k (take (l .count2) i2) (take (l .count3) i3) (take (l .count4) i4)) _
@@ -67,26 +77,26 @@ module _ (m b : List ℕ) (from to : ℕ) (l : Tail) {s z : List ℕ} {k : ℕ} 
         && all (follows-at numbers) (tab (λ e. e) (l .count3 - 1))) _ ok)
 
     module _ {t : Transfer} {v x : List ℕ} (w : Arrives t v x b z s k from to l) where
-      pub put-spans3 : Spans z i3 (l .count3)
-      put-spans3 = spans3 w read2 read3 (read4 .3 (t .faces) (sized w)) (read4 .0) (read4 .1) (few4 l small) few (few3 l small) ok-indices
+      pub put-spans3 : Spans z i3 k (l .count3)
+      put-spans3 = spans3 w read2 read3 (read4 .0 (t .faces) (sized w)) long3 long4 long-others few ok-indices
 
-      pub put-spans4 : Spans z i4 (l .count4)
-      put-spans4 = spans4 w read2 read3 (read4 .3 (t .faces) (sized w)) (read4 .0) (read4 .1) (few4 l small) few (few3 l small) ok-indices
+      pub put-spans4 : Spans z i4 k (l .count4)
+      put-spans4 = spans4 w read2 read3 (read4 .0 (t .faces) (sized w)) long3 long4 long-others few ok-indices
 
       pub put-numbers : (e : ℕ) → e < l .count3 → getD numbers e 0 < 2 ^ 32
-      put-numbers = numbers-small w read2 read3 (read4 .3 (t .faces) (sized w)) (read4 .0) (read4 .1) (few4 l small) few (few3 l small) ok-indices
+      put-numbers = numbers-small w read2 read3 (read4 .0 (t .faces) (sized w)) long3 long4 long-others few ok-indices
 
       pub put-others : (e : ℕ) → e < l .count4 → getD others e 0 ≤ 15
-      put-others = others-small w read2 read3 (read4 .3 (t .faces) (sized w)) (read4 .0) (read4 .1) (few4 l small) few (few3 l small) ok-indices
+      put-others = others-small w read2 read3 (read4 .0 (t .faces) (sized w)) long3 long4 long-others few ok-indices
 
       pub put-labels : (e : ℕ) → e < l .count4 → LabelsThere s (getD places e 0) (getD z (getD i4 e 0) 0)
-      put-labels = labels-there w read2 read3 (read4 .3 (t .faces) (sized w)) (read4 .0) (read4 .1) (few4 l small) few (few3 l small) ok-indices
+      put-labels = labels-there w read2 read3 (read4 .0 (t .faces) (sized w)) long3 long4 long-others few ok-indices
 
-    module _ {kinds kinds′ kinds″ links links′ links″ : List ℕ} (from-small : from ≤ 15) (zero-kinds : kinds ≡ replicate 512 0) (zero-links : links ≡ replicate 512 0)
+    module _ {kinds kinds′ kinds″ links links′ links″ : List ℕ} (from-small : from ≤ 15) (zero-kinds : (q : ℕ) → getD kinds q 0 ≡ 0) (zero-links : (q : ℕ) → getD links q 0 ≡ 0)
         (k3 : Faced z i3 (l .count3) (λ e j. 2 + 4 * from) kinds kinds′) (k4 : Faced z i4 (l .count4) (λ e j. 2 + 4 * getD others e 0) kinds′ kinds″)
         (l3 : Faced z i3 (l .count3) (numbered-code from numbers) links links′) (l4 : Faced z i4 (l .count4) (λ e. code-at s (getD places e 0) (getD z (getD i4 e 0) 0)) links′ links″) where
       pub put-small : {t : Transfer} {v x : List ℕ} → Arrives t v x b z s k from to l → (q : ℕ) → q < k → getD links″ q 0 < 2 ^ 48
-      put-small {t} w = links-small w read2 read3 (read4 .3 (t .faces) (sized w)) (read4 .0) (read4 .1) (few4 l small) few (few3 l small) ok-indices from-small zero-kinds zero-links k3 k4 l3 l4
+      put-small {t} w = links-small w read2 read3 (read4 .0 (t .faces) (sized w)) long3 long4 long-others few ok-indices from-small zero-kinds zero-links k3 k4 l3 l4
 
       pub labels-tell : holds-block m ≡ true → {r : Bool} → r ≡ labels-fit m (getD m 2 0) kinds″ links″ k → CriticalRight m s b z k from to l codes i2 kinds″ links″ r
       labels-tell image {r} e = record {
@@ -98,25 +108,24 @@ module _ (m b : List ℕ) (from to : ℕ) (l : Tail) {s z : List ℕ} {k : ℕ} 
           codes-are = read2 .firsts-are (t .part2) (w .past2) (w .part2-in);
           indices-are = read2 .seconds-are (t .part2) (w .past2) (w .part2-in);
           starts = tab (λ e. getD i3 e 0) (l .count3) ++ tab (λ e. getD i4 e 0) (l .count4);
-          starts-are = two (sym (front-tab i3 (l .count3) (let n = read3 .second-size in let f = few3 l small in omega arith)) ∙ read3 .seconds-are (t .part3) (w .past3) (w .part3-in))
-              (sym (front-tab i4 (l .count4) (let n = read4 .0 in let f = few4 l small in omega arith)) ∙ sym (indices4 w read2 read3 (read4 .3 (t .faces) (sized w)) (read4 .0) (read4 .1) (few4 l small)));
+          starts-are = two (sym (front-tab i3 (l .count3) long3) ∙ read3 .seconds-are (t .part3) (w .past3) (w .part3-in))
+              (sym (front-tab i4 (l .count4) long4) ∙ sym (indices4 w read2 read3 (read4 .0 (t .faces) (sized w)) long3 long4 long-others));
           links-are = the-links w;
           kind-in = the-words w .kind-in;
           kind-out =
-              λ p h u. off-faces w read2 read3 (read4 .3 (t .faces) (sized w)) (read4 .0) (read4 .1) (few4 l small) few
-              (few3 l small) ok-indices k3 k4 p h u ∙ ap (λ (y : List ℕ). getD y p 0) zero-kinds ∙ getD-zeros 512 p;
-          words-right = words-right w read2 read3 (read4 .3 (t .faces) (sized w)) (read4 .0) (read4 .1) (few4 l small) few (few3 l small) ok-indices from-small zero-kinds zero-links k3 k4 l3 l4;
+              λ p h u. off-faces w read2 read3 (read4 .0 (t .faces) (sized w)) long3 long4 long-others few ok-indices k3 k4 p h u ∙ zero-kinds p;
+          words-right = words-right w read2 read3 (read4 .0 (t .faces) (sized w)) long3 long4 long-others few ok-indices from-small zero-kinds zero-links k3 k4 l3 l4;
         };
       }
         where
           the-words : {t : Transfer} {v x : List ℕ} → Arrives t v x b z s k from to l → Words b z kinds″ links″ k (tab (λ e. getD i3 e 0) (l .count3) ++ tab (λ e. getD i4 e 0) (l .count4))
-          the-words {t} w = words w read2 read3 (read4 .3 (t .faces) (sized w)) (read4 .0) (read4 .1) (few4 l small) few (few3 l small) ok-indices from-small zero-kinds zero-links k3 k4 l3 l4
+          the-words {t} w = words w read2 read3 (read4 .0 (t .faces) (sized w)) long3 long4 long-others few ok-indices from-small zero-kinds zero-links k3 k4 l3 l4
 
           the-links : {t : Transfer} {v x : List ℕ} (w : Arrives t v x b z s k from to l) (serials : ℕ → ℕ)
               → critical-links t
               ≡ concat-map (face-links serials x z kinds″ links″)
               (tab (λ e. getD i3 e 0) (l .count3) ++ tab (λ e. getD i4 e 0) (l .count4))
-          the-links {t} w = links-told w read2 read3 (read4 .3 (t .faces) (sized w)) (read4 .0) (read4 .1) (few4 l small) few (few3 l small) ok-indices from-small zero-kinds zero-links k3 k4 l3 l4
+          the-links {t} w = links-told w read2 read3 (read4 .0 (t .faces) (sized w)) long3 long4 long-others few ok-indices from-small zero-kinds zero-links k3 k4 l3 l4
 
           two : {p q r u : List ℕ} → p ≡ q → r ≡ u → p ++ r ≡ q ++ u
           two p q = rw (p, q) refl

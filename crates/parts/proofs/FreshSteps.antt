@@ -11,6 +11,7 @@ use lib.Seq.{take-suc-set, getD-take}
 use borrow.Author.Tests.{lt-ltb, le-ltb}
 use Rattle.model.specs.Lists.{all, mem, distinct, tab}
 use Rattle.model.specs.Image.{column}
+use Rattle.model.specs.Values.{message-darts}
 use Rattle.laws.proofs.Tests.{by-cases, same-truth}
 use Rattle.laws.proofs.Maps.{tab-more}
 use Rattle.laws.proofs.Tables.{getD-tab, mem-place, place-mem, mem-none}
@@ -35,14 +36,14 @@ fresh-critical kind link q h = rw (le-ltb kind 2 h) refl
 -- VALUES PUT
 pub record Valued (f : ℕ → ℕ) (k : ℕ) (values : List ℕ) (q : ℕ) : Type 0 where
   pub le : q ≤ k
-  pub len : length values ≡ 512
+  pub len : k ≤ length values
   pub front : take q values ≡ tab f q
 
-pub valued-none : (f : ℕ → ℕ) (k : ℕ) {values : List ℕ} → length values ≡ 512 → Valued f k values 0
+pub valued-none : (f : ℕ → ℕ) (k : ℕ) {values : List ℕ} → k ≤ length values → Valued f k values 0
 valued-none f k n = record { le = omega arith; len = n; front = refl }
 
-pub valued-more : {f : ℕ → ℕ} {k : ℕ} {values : List ℕ} {q y : ℕ} → Valued f k values q → k ≤ 512 → q < k → y ≡ f q → Valued f k (set values q y) (q + 1)
-valued-more {f} {k} {values} {q} {y} w few h e = record {
+pub valued-more : {f : ℕ → ℕ} {k : ℕ} {values : List ℕ} {q y : ℕ} → Valued f k values q → q < k → y ≡ f q → Valued f k (set values q y) (q + 1)
+valued-more {f} {k} {values} {q} {y} w h e = record {
   le = omega arith;
   len = simp length-set (w .len);
   front = ap (λ (c : ℕ). take c (set values q y)) (add-one q) ∙ take-suc-set values q y (let n = w .len in omega arith) ∙ ap (λ (l : List ℕ). l ++ y ∷ []) (w .front)
@@ -50,12 +51,12 @@ valued-more {f} {k} {values} {q} {y} w few h e = record {
 }
 
 pub valued-all : (kinds links : List ℕ) {k : ℕ} {values : List ℕ} {q : ℕ} → Valued (fresh-at kinds links) k values q → k ≤ q → ValuesPut kinds links k values
-valued-all kinds links {k} {values} {q} w h = let e : q ≡ k = (let n = w .le in omega arith) in record { front = (let f = w .front in rw e at f); len = w .len }
+valued-all kinds links {k} {values} {q} w h = let e : q ≡ k = (let n = w .le in omega arith) in record { front = (let f = w .front in rw e at f) }
 
 value-is : {kinds links : List ℕ} {k : ℕ} {values : List ℕ} → ValuesPut kinds links k values → (q : ℕ) → q < k → getD values q 0 ≡ fresh-at kinds links q
 value-is {kinds} {links} {k} {values} w q h = sym (getD-take k values q 0 h) ∙ ap (λ (l : List ℕ). getD l q 0) (w .front) ∙ getD-tab (fresh-at kinds links) k q 0 h
 
-pub value-small : {kinds links : List ℕ} {k : ℕ} {values : List ℕ} → ValuesPut kinds links k values → k ≤ 512 → ((q : ℕ) → q < k → getD links q 0 < 2 ^ 48) → (q : ℕ) → q < k → getD values q 0 < 2 ^ 54
+pub value-small : {kinds links : List ℕ} {k : ℕ} {values : List ℕ} → ValuesPut kinds links k values → k ≤ message-darts → ((q : ℕ) → q < k → getD links q 0 < 2 ^ 48) → (q : ℕ) → q < k → getD values q 0 < 2 ^ 54
 value-small {kinds} {links} {k} w few s q h = rw (value-is w q h) (by-cases (ltb (getD kinds q 0) 2) (λ e. rw e (omega arith)) (λ e. rw e (let r = s q h in omega arith)))
 
 -- ONE DART OF THE BLOCK

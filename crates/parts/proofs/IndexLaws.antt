@@ -6,14 +6,13 @@ use mathlib.Core.Logic.{⊎-elim}
 use Prim.Native.Nat.{ℕ, zero, suc, _+_, _-_, _≤_, _<_}
 use native.Mathlib.Omega.{arith}
 use lib.Dec.{ltb, eqb}
-use lib.ListN.{length, getD, take, set, replicate, length-set}
+use lib.ListN.{length, getD, take, set, length-set}
 use lib.Seq.{getD-set-same, getD-set-other, getD-take}
 use borrow.Author.Tests.{eq-eqb, ne-eqb, lt-ltb, le-ltb, ltb-true, not-true}
 use Rattle.model.specs.Lists.{all, mem, distinct, ascending, tab}
 use Rattle.model.specs.Messages.{Transfer, size-all}
 use Rattle.model.specs.Arrival.{placed-faces, indices-right}
 use Rattle.laws.specs.Order.{Ascending}
-use Rattle.laws.proofs.Lists.{getD-zeros}
 use Rattle.laws.proofs.Tests.{by-cases, and-left, and-right, and-intro, lt-or-ge, eq-or-ne, last-or-below, same-truth}
 use Rattle.laws.proofs.Members.{In, all-in, all-from, all-cong, append-in, in-append-left, in-append-right, distinct-append, distinct-left, distinct-apart, ascending-distinct}
 use Rattle.laws.proofs.Tables.{tab-all, all-tab, mem-place, place-mem, tab-ascending, ascending-tab}
@@ -52,13 +51,13 @@ front-tab l c h = sym (ap (tab (λ k. getD l k 0)) (sym (length-take l c h)) ∙
 
 -- MARKING
 pub record Marking (idx marks marks′ : List ℕ) (e : ℕ) : Type 0 where
-  pub size : length marks′ ≡ 512
+  pub size : length marks′ ≡ length marks
   pub each : (q : ℕ) → getD marks′ q 0 ≡ cond (mem q (tab (λ j. getD idx j 0) e)) 1 (getD marks q 0)
 
-pub marking-none : (idx marks : List ℕ) → length marks ≡ 512 → Marking idx marks marks 0
-marking-none idx marks n = record { size = n; each = λ q. refl }
+pub marking-none : (idx marks : List ℕ) → Marking idx marks marks 0
+marking-none idx marks = record { size = refl; each = λ q. refl }
 
-pub marking-more : {idx marks marks′ : List ℕ} {e y : ℕ} → Marking idx marks marks′ e → y ≡ getD idx e 0 → y < 512 → Marking idx marks (set marks′ y 1) (e + 1)
+pub marking-more : {idx marks marks′ : List ℕ} {e y : ℕ} → Marking idx marks marks′ e → y ≡ getD idx e 0 → y < length marks → Marking idx marks (set marks′ y 1) (e + 1)
 marking-more {idx} {marks} {marks′} {e} {y} w s h = record {
   size = simp length-set (w .size);
   each = λ q. ⊎-elim
@@ -91,8 +90,8 @@ marking-end {idx} {marks} {marks′} {e} {c} w a b n =
 pub record Marks (marks l : List ℕ) : Type 0 where
   pub tells : (q : ℕ) → eqb (getD marks q 0) 0 ≡ not (mem q l)
 
-pub marks-none : (marks : List ℕ) → marks ≡ replicate 512 0 → Marks marks []
-marks-none marks e = record { tells = λ q. eq-eqb (getD marks q 0) 0 (ap (λ (l : List ℕ). getD l q 0) e ∙ getD-zeros 512 q) }
+pub marks-none : (marks : List ℕ) → ((q : ℕ) → getD marks q 0 ≡ 0) → Marks marks []
+marks-none marks clear = record { tells = λ q. eq-eqb (getD marks q 0) 0 (clear q) }
 
 pub marks-more : {marks marks′ l m : List ℕ} → Marks marks l → MarkedBy m marks marks′ → Marks marks′ (l ++ m)
 marks-more {marks} {marks′} {l} {m} w d = record { tells = λ q. ap (λ (c : ℕ). eqb c 0) (d .each q) ∙ go (mem q m) (mem q l) (getD marks q 0) (w .tells q) ∙ ap not (sym (mem-append q l m)) }

@@ -4,7 +4,7 @@ use mathlib.Core.List.{List}
 use mathlib.Core.Logic.{⊎-elim, inl, inr}
 use Prim.Native.Nat.{ℕ, _+_, _≤_, _<_}
 use native.Mathlib.Omega.{arith}
-use lib.ListN.{length, getD, set, replicate, length-set, length-replicate, getD-replicate}
+use lib.ListN.{length, getD, set, length-set}
 use lib.Seq.{getD-set-same, getD-set-other}
 use Rattle.model.specs.Image.{column}
 use Rattle.laws.specs.Order.{Ascending}
@@ -16,19 +16,19 @@ use Rattle.ranking.proofs.Found.{rank-at, rank-nothing}
 use Rattle.parts.specs.Locate.{none-there, Noted, LocatedAt, Located}
 
 -- ONE DART
-module _ (m keys : List ℕ) (c p : ℕ) (a : List ℕ) (len : length a ≡ 512) where
+module _ (m keys : List ℕ) (c p : ℕ) (a : List ℕ) where
   pub noted-free : column m 3 p < 2 → Noted m keys c p a a
-  noted-free h = record { size = len; hit = λ k. absurd (omega arith); other = λ e k. refl }
+  noted-free h = record { size = refl; hit = λ k. absurd (omega arith); other = λ e k. refl }
 
   pub noted-none : rank-in (value-at keys) c (column m 4 p) ≡ Nothing → Noted m keys c p a a
-  noted-none e = record { size = len; hit = λ k r h q. absurd (rank-nothing (value-at keys) c (column m 4 p) e r h q); other = λ d k. refl }
+  noted-none e = record { size = refl; hit = λ k r h q. absurd (rank-nothing (value-at keys) c (column m 4 p) e r h q); other = λ d k. refl }
 
-  pub noted-found : {r : ℕ} → 2 ≤ column m 3 p → Ascending c (value-at keys) → c ≤ 512 → ((r : ℕ) → r < c → index-at keys r < c)
+  pub noted-found : {r : ℕ} → 2 ≤ column m 3 p → Ascending c (value-at keys) → c ≤ length a → ((r : ℕ) → r < c → index-at keys r < c)
       → rank-in (value-at keys) c (column m 4 p) ≡ At r → Noted m keys c p a (set a (index-at keys r) p)
   noted-found {r} h up few below e =
       let w = rank-at (value-at keys) c (column m 4 p) e in
       record {
-        size = simp length-set len;
+        size = length-set a (index-at keys r) p;
         hit = λ k s l q. let same : s ≡ r = one-place up l (w .0) (q ∙ sym (w .1)) in
             ap (λ (i : ℕ). getD (set a (index-at keys r) p) (index-at keys i) 0) same ∙ getD-set-same a (index-at keys r) p 0 (let b = below r (w .0) in omega arith);
         other = λ d k. getD-set-other a (index-at keys r) d p 0 (λ q. k (omega arith) r (w .0) (w .1) (sym q));
@@ -38,14 +38,11 @@ pub found-below : (keys : List ℕ) (c x : ℕ) {r : ℕ} → rank-in (value-at 
 found-below keys c x e = rank-at (value-at keys) c x e .0
 
 -- ALL
-pub located-none : (m codes : List ℕ) (c : ℕ) {a : List ℕ} → c ≤ 512 → a ≡ replicate 512 none-there → Located m codes c 0 a
-located-none m codes c {a} few e = record {
-  size = ap length e ∙ length-replicate 512 none-there;
-  each = λ d h. inr (ap (λ (l : List ℕ). getD l d 0) e ∙ getD-replicate 512 d none-there 0 (omega arith), λ p l. absurd (omega arith));
-}
+pub located-none : (m codes : List ℕ) (c : ℕ) {a : List ℕ} → ((e : ℕ) → e < c → getD a e 0 ≡ none-there) → Located m codes c 0 a
+located-none m codes c {a} none = record { each = λ d h. inr (none d h, λ p l. absurd (omega arith)) }
 
 pub located-more : {m codes keys ranks : List ℕ} {c p : ℕ} {a a′ : List ℕ} → Ranked codes c keys ranks → Located m codes c p a → Noted m keys c p a a′ → Located m codes c (p + 1) a′
-located-more {m} {codes} {keys} {ranks} {c} {p} {a} {a′} w l n = record { size = n .size; each = λ e h. go e h }
+located-more {m} {codes} {keys} {ranks} {c} {p} {a} {a′} w l n = record { each = λ e h. go e h }
   where
     value-of : (e : ℕ) → e < c → value-at keys (getD ranks e 0) ≡ getD codes e 0
     value-of e h = w .value-is (getD ranks e 0) (w .rank-below e h) ∙ ap (λ (i : ℕ). getD codes i 0) (w .index-rank e h)

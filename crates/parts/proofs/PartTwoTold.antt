@@ -9,7 +9,7 @@ use lib.ListN.{length, getD, take}
 use lib.Seq.{getD-take}
 use borrow.Author.Tests.{eqb-true}
 use Rattle.model.specs.Lists.{all, tab, zip}
-use Rattle.model.specs.Values.{Dart, Point, finite, finite-bits}
+use Rattle.model.specs.Values.{Dart, Point, finite, finite-bits, message-darts}
 use Rattle.model.specs.Cells.{cycle, labelled, previous-in}
 use Rattle.model.specs.Image.{count-in, column, dart-in, holds-block}
 use Rattle.model.specs.Messages.{Transfer, size-all}
@@ -77,7 +77,7 @@ module _ {v x b z keys ranks q s : List ℕ} {at k : ℕ} {d : List ℕ} (w : Dr
       finite-words d i (point-in s (at + 24 * getD v (index-at keys i) 0)) (all-tab finite (λ j. point-in s (at + 24 * j)) p (ap (all finite) (sym points) ∙ f) (getD v (index-at keys i) 0) o)
       (ap (λ (r : Record). r .x) row) (ap (λ (r : Record). r .y) row) (ap (λ (r : Record). r .z) row)
 
-  pub meetable : all finite (t .points) ≡ true → length ranks ≡ 512 → Meetable m (count-in m) d k ranks
+  pub meetable : all finite (t .points) ≡ true → k ≤ length ranks → Meetable m (count-in m) d k ranks
   meetable f n = record {
     linked = sited m ok .linked;
     finite = λ i h. finite-words m i _ (image-passed m ok .finite-points i h) refl refl refl;
@@ -101,18 +101,15 @@ module _ {v x b z keys ranks q s : List ℕ} {at k : ℕ} {d : List ℕ} (w : Dr
       (and-left (part-fits b (size-all (t .faces)) [] two && part-fits b (size-all (t .faces)) two three) (part-fits b (size-all (t .faces)) (two ++ three) four) whole)
 
   module _ (indices : List ℕ) (indices-are : take (length (t .part2)) indices ≡ map index2 (t .part2))
-      (long : length indices ≡ 512) (few : length (t .part2) ≤ 512)
+      (long : length (t .part2) ≤ length indices) (few : length (t .part2) ≤ message-darts)
       (fits : part-fits b k [] (take (length (t .part2)) indices) ≡ true) where
-    inside-it : length (t .part2) ≤ length indices
-    inside-it = omega (arith, long, few)
-
     within : (e : ℕ) → e < length (t .part2) → getD indices e 0 + getD z (getD indices e 0) 0 ≤ k
     within e h =
-        let below = assembled.below (w .segs) (w .few) [] indices (length (t .part2)) inside-it fits e h in
-        let start = assembled.start (w .segs) (w .few) [] indices (length (t .part2)) inside-it fits e h in
+        let below = assembled.below (w .segs) (w .few) [] indices (length (t .part2)) long fits e h in
+        let start = assembled.start (w .segs) (w .few) [] indices (length (t .part2)) long fits e h in
         let r = w .segs .end-within (getD indices e 0) below in omega (arith, start, r)
 
-    pub sewable : {places : List ℕ} → Meetable m (count-in m) d k ranks → t .from ≤ 15 → length z ≡ 512 → length places ≡ 512
+    pub sewable : {places : List ℕ} → Meetable m (count-in m) d k ranks → t .from ≤ 15 → k ≤ length z → length (t .part2) ≤ length places
         → Sewable m d ranks z places indices (count-in m) k (t .from) (length (t .part2))
     sewable o small nz np = record {
       beside = o;
@@ -121,8 +118,7 @@ module _ {v x b z keys ranks q s : List ℕ} {at k : ℕ} {d : List ℕ} (w : Dr
       sizes-size = nz;
       places-size = np;
       indices-size = long;
-      spans = assembled.spans (w .segs) (w .few) [] indices (length (t .part2)) inside-it fits;
-      within = within;
+      spans = assembled.spans (w .segs) (w .few) [] indices (length (t .part2)) long fits;
     }
 
     index-of : (e : ℕ) → e < length (t .part2) → entry t e .index ≡ getD indices e 0
@@ -137,8 +133,8 @@ module _ {v x b z keys ranks q s : List ℕ} {at k : ℕ} {d : List ℕ} (w : Dr
         → part2-right (darts-in m) t (entry t e) ≡ entry-right m d ranks (t .from) y (getD indices e 0) (face-size z indices e)
     each-entry e y h hy found =
         entry-is w t inside full darts points vertices m ok (entry t e) (getD indices e 0) y (index-of e h)
-        (assembled.below (w .segs) (w .few) [] indices (length (t .part2)) inside-it fits e h)
-        (assembled.start (w .segs) (w .few) [] indices (length (t .part2)) inside-it fits e h) (within e h) hy found
+        (assembled.below (w .segs) (w .few) [] indices (length (t .part2)) long fits e h)
+        (assembled.start (w .segs) (w .few) [] indices (length (t .part2)) long fits e h) (within e h) hy found
 
     module _ {codes places kinds kinds′ links links′ : List ℕ} {r : Bool}
         (codes-are : take (length (t .part2)) codes ≡ map code2 (t .part2))
@@ -164,8 +160,8 @@ module _ {v x b z keys ranks q s : List ℕ} {at k : ℕ} {d : List ℕ} (w : Dr
           (zipped
           (ap (face-from t) (index-of e h)
           ∙ face-is v x b z t inside full (getD indices e 0)
-          (let l = assembled.below (w .segs) (w .few) [] indices (length (t .part2)) inside-it fits e h in omega (arith, l, darts))
-          (assembled.start (w .segs) (w .few) [] indices (length (t .part2)) inside-it fits e h))
+          (let l = assembled.below (w .segs) (w .few) [] indices (length (t .part2)) long fits e h in omega (arith, l, darts))
+          (assembled.start (w .segs) (w .few) [] indices (length (t .part2)) long fits e h))
           (ap (λ (h : Dart). cycle (previous-in (darts-in m)) (h .serial)) (found .1) ∙ met-tab m ok (getD places e 0) (face-size z indices e) (found .0) size
           ∙ tab-cong _ _ (face-size z indices e) (λ j l. ap (column m 0) (sym (told .links-are u .inside e h j l))))
           ∙ zip-tab (λ j. getD x (getD indices e 0 + j) 0) (λ j. column m 0 (getD links′ (getD indices e 0 + j) 0)) (face-size z indices e))

@@ -32,7 +32,7 @@ use Rattle.groups.proofs.Ends.{bad-at}
 use Rattle.groups.proofs.Labels.{at-most-bound}
 use Rattle.groups.specs.declared.Read.{Read as Answer}
 use Rattle.codec.specs.Taken.{Took, PassSaid, Passes}
-use Rattle.inbox.specs.Inbox.{most, Sized}
+use Rattle.inbox.specs.Inbox.{Sized}
 use Rattle.codec.proofs.Taking.{took-group, such-took, pair-took, both-none, both-half, both-took, as-none, as-took, SoFar, so-far-start, so-far-more, so-far-stop, so-far-end}
 use Rattle.codec.proofs.Passing.{no-label, took-label}
 use Rattle.inbox.proofs.Passing.{size-there, part4-pass}
@@ -43,15 +43,15 @@ use Rattle.codec.specs.declared.entry.Paired.the-variants as paired
 use Rattle.parts.specs.Entries.{EntriesRead, Pair, pair, first, index}
 
 -- an array has the numbers f of the entries so far
-front-more : {A : Type 0} (f : A → ℕ) (items : List A) (m : A) (a : List ℕ) (i y : ℕ) → length a ≡ most → i < most → take i a ≡ map f items
+front-more : {A : Type 0} (f : A → ℕ) (items : List A) (m : A) (a : List ℕ) (i y : ℕ) → i < length a → take i a ≡ map f items
     → y ≡ f m → take (i + 1) (set a i y) ≡ map f (items ++ m ∷ [])
-front-more f items m a i y n h e q = ap (λ (k : ℕ). take k (set a i y)) (add-one i) ∙ take-suc-set a i y (omega arith) ∙ ap (λ (l : List ℕ). l ++ y ∷ []) e
+front-more f items m a i y h e q = ap (λ (k : ℕ). take k (set a i y)) (add-one i) ∙ take-suc-set a i y (omega arith) ∙ ap (λ (l : List ℕ). l ++ y ∷ []) e
     ∙ ap (λ (c : ℕ). map f items ++ c ∷ []) q ∙ sym (map-append f items (m ∷ []))
 
 module _ {A : Type 0} (l : Layout A) (f g : A → ℕ) where
   pub record Reading (s : List ℕ) (at count : ℕ) (a b : List ℕ) (i p : ℕ) : Type 0 where
-    pub first-size : length a ≡ most
-    pub second-size : length b ≡ most
+    pub first-room : count ≤ length a
+    pub second-room : count ≤ length b
     pub i-le : i ≤ count
     pub items : List A
     pub so-far : SoFar l s at p items
@@ -59,28 +59,26 @@ module _ {A : Type 0} (l : Layout A) (f g : A → ℕ) where
     pub firsts-are : take i a ≡ map f items
     pub seconds-are : take i b ≡ map g items
 
-  pub reading-start : {s : List ℕ} (at count : ℕ) (a b : List ℕ) → at ≤ length s → length a ≡ most → length b ≡ most → Reading s at count a b 0 at
-  reading-start at count a b h n k = record { first-size = n; second-size = k; i-le = omega arith; items = []; so-far = so-far-start l at h; read = refl; firsts-are = refl; seconds-are = refl }
+  pub reading-start : {s : List ℕ} (at count : ℕ) (a b : List ℕ) → at ≤ length s → count ≤ length a → count ≤ length b → Reading s at count a b 0 at
+  reading-start at count a b h n k = record { first-room = n; second-room = k; i-le = omega arith; items = []; so-far = so-far-start l at h; read = refl; firsts-are = refl; seconds-are = refl }
 
   module _ {s : List ℕ} {at count : ℕ} {a b : List ℕ} {i p : ℕ} (w : Reading s at count a b i p) where
-    pub reading-more : {m : A} {y u q : ℕ} → i < count → count ≤ most → Took l s p m q → y ≡ f m → u ≡ g m → Reading s at count (set a i y) (set b i u) (i + 1) q
-    reading-more {m} {y} {u} {q} h few t e d = record {
-      first-size = simp length-set (w .first-size);
-      second-size = simp length-set (w .second-size);
+    pub reading-more : {m : A} {y u q : ℕ} → i < count → Took l s p m q → y ≡ f m → u ≡ g m → Reading s at count (set a i y) (set b i u) (i + 1) q
+    reading-more {m} {y} {u} {q} h t e d = record {
+      first-room = omega (arith, length-set a i y, w .first-room);
+      second-room = omega (arith, length-set b i u, w .second-room);
       i-le = omega arith;
       items = w .items ++ m ∷ [];
       so-far = so-far-more l (w .so-far) t;
       read = let n = w .read in omega (arith, length-append (w .items) (m ∷ []));
-      firsts-are = front-more f (w .items) m a i y (w .first-size) (omega arith) (w .firsts-are) e;
-      seconds-are = front-more g (w .items) m b i u (w .second-size) (omega arith) (w .seconds-are) d;
+      firsts-are = front-more f (w .items) m a i y (omega (arith, h, w .first-room)) (w .firsts-are) e;
+      seconds-are = front-more g (w .items) m b i u (omega (arith, h, w .second-room)) (w .seconds-are) d;
     }
 
     -- where entries stand, none is missing
     pub reading-bad : i < count → l .get (drop p s) ≡ none → EntriesRead l f g s at count a b
     unfolding times
     reading-bad h e = record {
-      first-size = w .first-size;
-      second-size = w .second-size;
       firsts-are = λ ms past t. absurd (Option·none-ne-some _ (sym (so-far-stop l count (w .so-far) (let n = w .read in omega arith) e) ∙ t .value));
       seconds-are = λ ms past t. absurd (Option·none-ne-some _ (sym (so-far-stop l count (w .so-far) (let n = w .read in omega arith) e) ∙ t .value));
     }
@@ -91,8 +89,6 @@ module _ {A : Type 0} (l : Layout A) (f g : A → ℕ) where
         let all-read : i ≡ count = (let n = w .i-le in omega arith) in
         let t = so-far-end l count (w .so-far) (w .read ∙ all-read) in
         record {
-          first-size = w .first-size;
-          second-size = w .second-size;
           firsts-are = λ ms past u. ap (λ (k : ℕ). take k a) (sym all-read) ∙ w .firsts-are ∙ ap (map f) (same-value (sym (t .value) ∙ u .value));
           seconds-are = λ ms past u. ap (λ (k : ℕ). take k b) (sym all-read) ∙ w .seconds-are ∙ ap (map g) (same-value (sym (t .value) ∙ u .value));
         }

@@ -57,46 +57,34 @@ pub new-below : (y n : ℕ) (b : Bool) → (ltb y n && b) ≡ true → y < n
 new-below y n b e = ltb-true y n (and-left (ltb y n) b e)
 
 module _ {m d ranks : List ℕ} {n k : ℕ} (o : Meetable m n d k ranks) (from y at size : ℕ) {trail : List ℕ} where
-  pub entered-trail : y < n → at + size ≤ k → EntryRight m d ranks from y at size trail true → Trailed room size trail
+  pub entered-trail : {room : ℕ} → y < n → n ≤ room → EntryRight m d ranks from y at size trail true → Trailed room size trail
   entered-trail hy fits w =
-      let t = trailed-front (o .linked) hy {size = size} {trail = trail} (w .len) (let f = o .few in omega (arith, f, fits)) (w .front refl) in
-      record { len = t .len; below = λ j h. let b = t .below j h in let f = o .linked .few in omega (arith, b, f) }
+      let t = trailed-front (o .linked) hy {size = size} {trail = trail} (w .len) (w .front refl) in
+      record { len = t .len; below = λ j h. let b = t .below j h in omega (arith, b, fits) }
 
 module _ {m d ranks : List ℕ} {n : ℕ} (from y at size : ℕ) {trail seen : List ℕ} where
-  pub entered-old : {kinds links : List ℕ} → length trail ≡ 512 → length seen ≡ room → length kinds ≡ 512 → length links ≡ 512 → (ltb y n && eqb (getD seen y 0) 0) ≡ false
+  pub entered-old : {kinds links : List ℕ} → (ltb y n && eqb (getD seen y 0) 0) ≡ false
       → Entered m d ranks n from y at size trail seen seen kinds kinds links links false
-  entered-old a b c g e = record {
-    len = a;
-    seen-size = b;
-    kinds-size = c;
-    links-size = g;
+  entered-old e = record {
     said = old (ltb y n) (eqb (getD seen y 0) 0) (entry-right m d ranks from y at size) e;
     seen-are = λ t. absurd (true≢false (sym t));
     kinds-are = λ t. absurd (true≢false (sym t));
     links-are = λ t. absurd (true≢false (sym t));
   }
 
-  pub entered-no : {kinds links : List ℕ} → length seen ≡ room → length kinds ≡ 512 → length links ≡ 512 → (ltb y n && eqb (getD seen y 0) 0) ≡ true → EntryRight m d ranks from y at size trail false
+  pub entered-no : {kinds links : List ℕ} → (ltb y n && eqb (getD seen y 0) 0) ≡ true → EntryRight m d ranks from y at size trail false
       → Entered m d ranks n from y at size trail seen seen kinds kinds links links false
-  entered-no b c g e w = record {
-    len = w .len;
-    seen-size = b;
-    kinds-size = c;
-    links-size = g;
+  entered-no e w = record {
     said = wrong (ltb y n) (eqb (getD seen y 0) 0) (entry-right m d ranks from y at size) e (w .said);
     seen-are = λ t. absurd (true≢false (sym t));
     kinds-are = λ t. absurd (true≢false (sym t));
     links-are = λ t. absurd (true≢false (sym t));
   }
 
-  pub entered-yes : {seen′ kinds kinds′ links links′ : List ℕ} → length seen ≡ room → (ltb y n && eqb (getD seen y 0) 0) ≡ true → EntryRight m d ranks from y at size trail true
+  pub entered-yes : {seen′ kinds kinds′ links links′ : List ℕ} → (ltb y n && eqb (getD seen y 0) 0) ≡ true → EntryRight m d ranks from y at size trail true
       → Over at size (λ j. 1) kinds kinds′ → Over at size (met-at trail size) links links′ → Assigned 1 (take size trail) seen seen′
       → Entered m d ranks n from y at size trail seen seen′ kinds kinds′ links links′ true
-  entered-yes {seen′} b e w ks ls p = record {
-    len = w .len;
-    seen-size = p .size ∙ b;
-    kinds-size = ks .size;
-    links-size = ls .size;
+  entered-yes {seen′} e w ks ls p = record {
     said = wrong (ltb y n) (eqb (getD seen y 0) 0) (entry-right m d ranks from y at size) e (w .said);
     seen-are = λ t. subst (λ (l : List ℕ). Assigned 1 l seen seen′) (w .front refl) p;
     kinds-are = λ t. ks;
@@ -104,8 +92,8 @@ module _ {m d ranks : List ℕ} {n : ℕ} (from y at size : ℕ) {trail seen : L
   }
 
 -- ALL ENTRIES
-pub seen-none : (m places seen : List ℕ) → seen ≡ replicate room 0 → SeenBy m places 0 seen
-seen-none m places seen e = record { size = ap length e ∙ length-replicate {A = ℕ} room 0; each = λ q. ap (λ (l : List ℕ). getD l q 0) e ∙ getD-zeros room q }
+pub seen-none : (m places seen : List ℕ) → ((q : ℕ) → getD seen q 0 ≡ 0) → SeenBy m places 0 seen
+seen-none m places seen clear = record { each = clear }
 
 pub seen-is : {m places seen : List ℕ} {e : ℕ} → SeenBy m places e seen → (q : ℕ) → eqb (getD seen q 0) 0 ≡ clear-of m places e q
 seen-is {m} {places} {seen} {e} w q = ap (λ (v : ℕ). eqb v 0) (w .each q) ∙ bit (clear-of m places e q)
@@ -116,7 +104,6 @@ seen-is {m} {places} {seen} {e} w q = ap (λ (v : ℕ). eqb v 0) (w .each q) ∙
 
 pub seen-more : {m places seen seen′ : List ℕ} (e : ℕ) → SeenBy m places e seen → Assigned 1 (cycle (column m 1) (getD places e 0)) seen seen′ → SeenBy m places (e + 1) seen′
 seen-more {m} {places} {seen} {seen′} e w p = record {
-  size = p .size ∙ w .size;
   each = λ q.
       p .value q ∙ ap (λ (v : ℕ). cond (mem q (cycle (column m 1) (getD places e 0))) 1 v) (w .each q)
       ∙ either (clear-of m places e q) (mem q (cycle (column m 1) (getD places e 0)))

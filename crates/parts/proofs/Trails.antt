@@ -22,15 +22,15 @@ use Rattle.parts.specs.Meets.{Walked, Meetable, Trailed, meet-at, met-at
 
 -- THE WALK
 -- it is back
-pub walked-back : {m o o′ : List ℕ} {start size : ℕ} (i : ℕ) → length o ≡ 512 → Put (cycle (column m 1) start) 0 o o′ (i + 1) → Walked m start size o′ (eqb (i + 1) size)
+pub walked-back : {m o o′ : List ℕ} {start size : ℕ} (i : ℕ) → size ≤ length o → Put (cycle (column m 1) start) 0 o o′ (i + 1) → Walked m start size o′ (eqb (i + 1) size)
 walked-back {m} {o} {o′} {start} {size} i h p = record {
-  len = p .size ∙ h;
+  len = omega (arith, p .size, h);
   said = same-truth _ _ (λ t. eq-eqb size _ (let e = eqb-true (i + 1) size t in omega (arith, e, p .end))) (λ t. eq-eqb (i + 1) size (let e = eqb-true size _ t in omega (arith, e, p .end)));
   front = λ t. ap (λ (n : ℕ). take n o′) (sym (eqb-true (i + 1) size t)) ∙ p .front;
 }
 
 -- it has taken as many steps, and is not back
-pub walked-far : {m o : List ℕ} {n start size p : ℕ} (i : ℕ) → length o ≡ 512 → Going n (column m 1) start (length (cycle (column m 1) start)) (i - 0) p → size ≤ i → Walked m start size o false
+pub walked-far : {m o : List ℕ} {n start size p : ℕ} (i : ℕ) → size ≤ length o → Going n (column m 1) start (length (cycle (column m 1) start)) (i - 0) p → size ≤ i → Walked m start size o false
 walked-far {m} {o} {n} {start} {size} i h g f = record {
   len = h;
   said = sym (ne-eqb size _ (λ e. let l = g .less in omega (arith, e, l, f)));
@@ -83,17 +83,17 @@ module _ {m : List ℕ} {n : ℕ} (l : Linked m n) {y : ℕ} (hy : y < n) where
       less : (j ≡ 0 → ⊥) → length (cycle (column m 1) y) - j < length (cycle (column m 1) y)
       less z = omega (arith, z, h)
 
-  pub trailed-front : {size : ℕ} {trail : List ℕ} → length trail ≡ 512 → size ≤ 512 → take size trail ≡ cycle (column m 1) y → Trailed n size trail
-  trailed-front {size} {trail} len few front = record {
+  pub trailed-front : {size : ℕ} {trail : List ℕ} → size ≤ length trail → take size trail ≡ cycle (column m 1) y → Trailed n size trail
+  trailed-front {size} {trail} len front = record {
     len = len;
     below = λ j h.
-        let e : length (take size trail) ≡ size = length-take-le size trail (omega (arith, len, few)) in
+        let e : length (take size trail) ≡ size = length-take-le size trail len in
         let s : getD trail j 0 ≡ iter (column m 1) j y = sym (getD-take size trail j 0 h) ∙ ap (λ (c : List ℕ). getD c j 0) front ∙ face-at j (let g = ap length front in omega (arith, e, g, h)) in
         let b = iter-below (l .next-within) j y hy in omega (arith, s, b);
   }
 
-  pub trailed : {size : ℕ} {trail : List ℕ} → size ≤ 512 → Walked m y size trail true → Trailed n size trail
-  trailed few w = trailed-front (w .len) few (w .front refl)
+  pub trailed : {size : ℕ} {trail : List ℕ} → Walked m y size trail true → Trailed n size trail
+  trailed w = trailed-front (w .len) (w .front refl)
 
 met-below : {n size : ℕ} {trail : List ℕ} (j : ℕ) → j < size → Trailed n size trail → met-at trail size j < n
 met-below {n} {size} {trail} j l t = ⊎-elim
@@ -133,7 +133,7 @@ second-no true b c e = rw e refl
 second-no false b c e = refl
 
 module _ (m d ranks : List ℕ) (from y at size : ℕ) {trail : List ℕ} where
-  pub not-critical : {v : ℕ} → length trail ≡ 512 → v ≡ column m 3 y → (v ≡ 2 + 4 * from → ⊥) → EntryRight m d ranks from y at size trail false
+  pub not-critical : {v : ℕ} → size ≤ length trail → v ≡ column m 3 y → (v ≡ 2 + 4 * from → ⊥) → EntryRight m d ranks from y at size trail false
   not-critical h e ne = record { len = h; said = first-false _ _ _ (ne-eqb (column m 3 y) (2 + 4 * from) (λ s. ne (e ∙ s))); front = λ t. absurd (true≢false (sym t)) }
 
   pub not-equal : Walked m y size trail false → EntryRight m d ranks from y at size trail false

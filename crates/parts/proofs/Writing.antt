@@ -23,10 +23,10 @@ use Rattle.parts.specs.Entries.{LabelsThere}
 use Rattle.parts.proofs.Reading.{labels-are}
 
 -- ONE FACE
-pub over-none : (at : ℕ) (f : ℕ → ℕ) (a : List ℕ) → length a ≡ 512 → Over at 0 f a a
-over-none at f a n = record { size = n; inside = λ j h. absurd (omega arith); outside = λ q h. refl }
+pub over-none : (at : ℕ) (f : ℕ → ℕ) (a : List ℕ) → Over at 0 f a a
+over-none at f a = record { size = refl; inside = λ j h. absurd (omega arith); outside = λ q h. refl }
 
-pub over-more : {at j y : ℕ} {f : ℕ → ℕ} {a a′ : List ℕ} → Over at j f a a′ → at + j < 512 → y ≡ f j → Over at (j + 1) f a (set a′ (at + j) y)
+pub over-more : {at j y : ℕ} {f : ℕ → ℕ} {a a′ : List ℕ} → Over at j f a a′ → at + j < length a → y ≡ f j → Over at (j + 1) f a (set a′ (at + j) y)
 over-more {at} {j} {y} {f} {a} {a′} w h e = record {
   size = simp length-set (w .size);
   inside = λ i l. ⊎-elim
@@ -48,19 +48,19 @@ module _ (z indices : List ℕ) (e : ℕ) {i n : ℕ} (at : i ≡ getD indices e
   pub face-size-is : n ≡ getD z (getD indices e 0) 0
   face-size-is = size ∙ ap (λ (j : ℕ). getD z j 0) at
 
-  pub face-within : {c : ℕ} → Spans z indices c → e < c → i + n ≤ 512
+  pub face-within : {k c : ℕ} → Spans z indices k c → e < c → i + n ≤ k
   face-within s h = omega (arith, at, face-size-is, s .within e h)
 
   pub over-face : (g : ℕ → ℕ → ℕ) {a a′ : List ℕ} → Over i n (g n) a a′ → Over (getD indices e 0) (getD z (getD indices e 0) 0) (g (getD z (getD indices e 0) 0)) a a′
   over-face g {a} {a′} o = subst (λ (k : ℕ). Over (getD indices e 0) k (g k) a a′) face-size-is (subst (λ (j : ℕ). Over j n (g n) a a′) at o)
 
-pub faced-none : (z indices : List ℕ) (f : ℕ → ℕ → ℕ) (a : List ℕ) → length a ≡ 512 → Faced z indices 0 f a a
-faced-none z indices f a n = record { size = n; inside = λ e h. absurd (omega arith); outside = λ q h. refl }
+pub faced-none : (z indices : List ℕ) (f : ℕ → ℕ → ℕ) (a : List ℕ) → Faced z indices 0 f a a
+faced-none z indices f a = record { size = refl; inside = λ e h. absurd (omega arith); outside = λ q h. refl }
 
-pub faced-more : {z indices : List ℕ} {c e : ℕ} {f : ℕ → ℕ → ℕ} {a a′ a″ : List ℕ} → Spans z indices c → Faced z indices e f a a′ → e < c
+pub faced-more : {z indices : List ℕ} {k c e : ℕ} {f : ℕ → ℕ → ℕ} {a a′ a″ : List ℕ} → Spans z indices k c → Faced z indices e f a a′ → e < c
     → Over (getD indices e 0) (getD z (getD indices e 0) 0) (f e) a′ a″ → Faced z indices (e + 1) f a a″
-faced-more {z} {indices} {c} {e} {f} {a} {a′} {a″} s w h o = record {
-  size = o .size;
+faced-more {z} {indices} {k} {c} {e} {f} {a} {a′} {a″} s w h o = record {
+  size = o .size ∙ w .size;
   inside = λ d l j k. ⊎-elim (λ (q : d ≡ e). here d q j k) (λ (q : d < e). o .outside (getD indices d 0 + j) (inl (let r = s .apart d e q h in omega arith)) ∙ w .inside d q j k) (last-or-below l);
   outside = λ q l. o .outside q (l e (omega arith)) ∙ w .outside q (λ d k. l d (omega arith));
 }
@@ -79,15 +79,15 @@ pub record Coding (s : List ℕ) (from n at : ℕ) (a a′ : List ℕ) (j p : �
   pub read : length items ≡ j
   pub put : Over at j (λ i. getD (map code items) i 0) a a′
 
-pub coding-none : {s : List ℕ} (from n at : ℕ) (a : List ℕ) → from ≤ length s → length a ≡ 512 → Coding s from n at a a 0 from
-coding-none from n at a h k = record { le = omega arith; items = []; so-far = so-far-start label from h; read = refl; put = over-none at _ a k }
+pub coding-none : {s : List ℕ} (from n at : ℕ) (a : List ℕ) → from ≤ length s → Coding s from n at a a 0 from
+coding-none from n at a h = record { le = omega arith; items = []; so-far = so-far-start label from h; read = refl; put = over-none at _ a }
 
 module _ {s : List ℕ} {from n at : ℕ} {a a′ : List ℕ} {j p : ℕ} (w : Coding s from n at a a′ j p) where
   pub coding-bad : LabelsThere s from n → j < n → Bad ≡ read-at label-code s p → ⊥
   unfolding times
   coding-bad t h e = Option·none-ne-some _ (sym (so-far-stop label n (w .so-far) (let k = w .read in omega arith) (no-label s p e)) ∙ t .took .value)
 
-  pub coding-more : {y q : ℕ} → at + n ≤ 512 → j < n → Value y q ≡ read-at label-code s p → Coding s from n at a (set a′ (at + j) y) (j + 1) q
+  pub coding-more : {y q : ℕ} → at + n ≤ length a → j < n → Value y q ≡ read-at label-code s p → Coding s from n at a (set a′ (at + j) y) (j + 1) q
   coding-more {y} {q} fits h e = record {
     le = omega arith;
     items = w .items ++ label-in y ∷ [];

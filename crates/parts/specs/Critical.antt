@@ -20,8 +20,9 @@ use Rattle.parts.specs.Indices.{indices-fit}
 use Rattle.parts.specs.Numbers.{follows-at, neither-at}
 use Rattle.parts.specs.Segments.{face-links}
 
-abbrev pub few-entries : Tail → Bool
-few-entries l = leb (l .count2) 512 && leb (l .count3) 512 && leb (l .count4) 512
+-- no part has more entries than there are darts
+abbrev pub few-entries : Tail → ℕ → Bool
+few-entries l k = leb (l .count2) k && leb (l .count3) k && leb (l .count4) k
 
 -- the indices, numbers and blocks of the entries
 abbrev pub entries-fit : List ℕ → ℕ → ℕ → ℕ → List ℕ → ℕ → List ℕ → List ℕ → ℕ → List ℕ → List ℕ → ℕ → Bool

@@ -3,13 +3,12 @@ use mathlib.Core.Path.{_≡_}
 use mathlib.Core.List.{List, [], map}
 use mathlib.Core.Option.{none, some}
 use Prim.Native.Nat.{ℕ, _≤_, _<_}
-use lib.ListN.{length, getD, take, drop}
+use lib.ListN.{getD, take, drop}
 use Rattle.model.specs.Lists.{tab}
 use Rattle.model.specs.Values.{Label, code}
 use Rattle.model.specs.Layouts.{Layout, Read, get-all, times}
 use Rattle.model.specs.Messages.{FaceDart, Part2, Part3, Part4, label, part2, part3, part4}
 use Rattle.codec.specs.Taken.{Took}
-use Rattle.inbox.specs.Inbox.{most}
 use Rattle.codec.specs.declared.entry.Paired.{Paired}
 use Rattle.codec.specs.declared.entry.Paired.the-variants as paired
 use Rattle.parts.specs.declared.entries.EntryOrNot.{EntryOrNot}
@@ -53,8 +52,6 @@ index paired.Third = index3
 
 -- two numbers of each of the entries that stand from a place on
 pub record EntriesRead {A : Type 0} (l : Layout A) (f g : A → ℕ) (s : List ℕ) (at count : ℕ) (a b : List ℕ) : Type 0 where
-  pub first-size : length a ≡ most
-  pub second-size : length b ≡ most
   pub firsts-are : (ms : List A) (past : ℕ) → Took (times count l) s at ms past → take count a ≡ map f ms
   pub seconds-are : (ms : List A) (past : ℕ) → Took (times count l) s at ms past → take count b ≡ map g ms
 

@@ -4,7 +4,7 @@ use mathlib.Core.Bool.{Bool, cond, not, _&&_, _||_}
 use mathlib.Core.List.{List}
 use Prim.Native.Nat.{ℕ, _+_, _/_, _%_, _^_}
 use lib.Dec.{ltb, eqb}
-use lib.ListN.{length, getD, take}
+use lib.ListN.{getD, take}
 use Rattle.model.specs.Lists.{all, mem, distinct, tab}
 use Rattle.model.specs.Image.{column}
 
@@ -25,7 +25,6 @@ fresh-at kinds links q = fresh-value (getD kinds q 0) (getD links q 0) q
 -- an array that begins with the values of the first k darts
 pub record ValuesPut (kinds links : List ℕ) (k : ℕ) (values : List ℕ) : Type 0 where
   pub front : take k values ≡ tab (fresh-at kinds links) k
-  pub len : length values ≡ 512
 
 -- the dart at place p of a block has none of these for a label
 abbrev pub clear-at : List ℕ → List ℕ → ℕ → Bool

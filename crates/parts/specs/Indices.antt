@@ -21,7 +21,7 @@ pub record FitTold (indices b marks : List ℕ) (k c : ℕ) (r : Bool) : Type 0 
 
 -- indices marked, beside what was
 pub record MarkedBy (indices marks marks′ : List ℕ) : Type 0 where
-  pub size : length marks′ ≡ 512
+  pub size : length marks′ ≡ length marks
   pub each : (q : ℕ) → getD marks′ q 0 ≡ cond (mem q indices) 1 (getD marks q 0)
 
 -- i starts a face of k darts

@@ -13,7 +13,7 @@ none-there = 4096
 
 -- place p noted for the entry whose code the critical dart there has
 pub record Noted (m keys : List ℕ) (c p : ℕ) (a a′ : List ℕ) : Type 0 where
-  pub size : length a′ ≡ 512
+  pub size : length a′ ≡ length a
   pub hit : 1 < column m 3 p → (r : ℕ) → r < c → value-at keys r ≡ column m 4 p → getD a′ (index-at keys r) 0 ≡ p
   pub other : (e : ℕ) → (1 < column m 3 p → (r : ℕ) → r < c → value-at keys r ≡ column m 4 p → index-at keys r ≡ e → ⊥) → getD a′ e 0 ≡ getD a e 0
 
@@ -22,5 +22,4 @@ abbrev pub LocatedAt : List ℕ → ℕ → ℕ → ℕ → Type 0
 LocatedAt m code n y = ((y < n) × (1 < column m 3 y) × (column m 4 y ≡ code)) ⊎ ((y ≡ none-there) × ((p : ℕ) → p < n → 1 < column m 3 p → column m 4 p ≡ code → ⊥))
 
 pub record Located (m codes : List ℕ) (c n : ℕ) (places : List ℕ) : Type 0 where
-  pub size : length places ≡ 512
   pub each : (e : ℕ) → e < c → LocatedAt m (getD codes e 0) n (getD places e 0)

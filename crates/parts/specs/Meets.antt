@@ -6,7 +6,7 @@ use Prim.Native.Nat.{ℕ, _+_, _*_, _-_, _≤_, _<_}
 use lib.Dec.{eqb}
 use lib.ListN.{length, getD, take}
 use Rattle.model.specs.Lists.{all, tab}
-use Rattle.model.specs.Values.{same-point}
+use Rattle.model.specs.Values.{same-point, message-darts}
 use Rattle.model.specs.Cells.{cycle}
 use Rattle.model.specs.Image.{words-for, column, dart-in}
 use Rattle.memory.specs.Point.{FiniteAt}
@@ -18,7 +18,7 @@ meet-at m d p w = same-point (dart-in d p .point) (dart-in m (column m 1 w) .poi
 
 -- whether the face of the dart at place `start` has `size` darts; a yes leaves it in `trail`
 pub record Walked (m : List ℕ) (start size : ℕ) (trail : List ℕ) (r : Bool) : Type 0 where
-  pub len : length trail ≡ 512
+  pub len : size ≤ length trail
   pub said : r ≡ eqb size (length (cycle (column m 1) start))
   pub front : r ≡ true → take size trail ≡ cycle (column m 1) start
 
@@ -27,15 +27,15 @@ pub record Meetable (m : List ℕ) (n : ℕ) (d : List ℕ) (k : ℕ) (ranks : L
   pub linked : Linked m n
   pub finite : (p : ℕ) → p < n → FiniteAt m p
   pub draft-size : words-for k ≤ length d
-  pub few : k ≤ 512
+  pub few : k ≤ message-darts
   pub new-within : Within k (column d 1)
   pub new-finite : (p : ℕ) → p < k → FiniteAt d p
-  pub ranks-size : length ranks ≡ 512
+  pub ranks-size : k ≤ length ranks
   pub rank-below : (i : ℕ) → i < k → getD ranks i 0 < k
 
 -- the first `size` of a trail are places below n
 pub record Trailed (n size : ℕ) (trail : List ℕ) : Type 0 where
-  pub len : length trail ≡ 512
+  pub len : size ≤ length trail
   pub below : (j : ℕ) → j < size → getD trail j 0 < n
 
 -- dart j of a new face meets the first of a face, or the one j before the end
@@ -52,6 +52,6 @@ entry-right m d ranks from y at size = eqb (column m 3 y) (2 + 4 * from) && eqb 
 
 -- a yes leaves the met face in `trail`
 pub record EntryRight (m d ranks : List ℕ) (from y at size : ℕ) (trail : List ℕ) (r : Bool) : Type 0 where
-  pub len : length trail ≡ 512
+  pub len : size ≤ length trail
   pub said : r ≡ entry-right m d ranks from y at size
   pub front : r ≡ true → take size trail ≡ cycle (column m 1) y

@@ -2,23 +2,19 @@
 use mathlib.Core.Path.{_≡_}
 use mathlib.Core.Bool.{Bool, true, cond, not, _&&_}
 use mathlib.Core.List.{List}
-use Prim.Native.Nat.{ℕ, _+_, _≤_, _<_}
+use Prim.Native.Nat.{ℕ, _≤_}
 use lib.Dec.{ltb, eqb}
 use lib.ListN.{length, getD}
 use Rattle.model.specs.Lists.{all, mem, tab}
 use Rattle.model.specs.Cells.{cycle}
 use Rattle.model.specs.Image.{column}
-use Rattle.model.specs.Values.{room}
+use Rattle.model.specs.Values.{message-darts}
 use Rattle.cells.specs.Places.{Assigned}
 use Rattle.parts.specs.Faces.{Over, Spans, Faced}
 use Rattle.parts.specs.Meets.{Meetable, met-at, entry-right}
 
 -- an entry that is right, on a face not seen before: its darts are sewn to the places that they meet, and that face is seen
 pub record Entered (m d ranks : List ℕ) (n from y at size : ℕ) (trail seen seen′ kinds kinds′ links links′ : List ℕ) (r : Bool) : Type 0 where
-  pub len : length trail ≡ 512
-  pub seen-size : length seen′ ≡ room
-  pub kinds-size : length kinds′ ≡ 512
-  pub links-size : length links′ ≡ 512
   pub said : r ≡ (ltb y n && eqb (getD seen y 0) 0 && entry-right m d ranks from y at size)
   pub seen-are : r ≡ true → Assigned 1 (cycle (column m 1) y) seen seen′
   pub kinds-are : r ≡ true → Over at size (λ j. 1) kinds kinds′
@@ -30,7 +26,6 @@ clear-of m places e q = all (λ d. not (mem q (cycle (column m 1) (getD places d
 
 -- the places that are
 pub record SeenBy (m places : List ℕ) (e : ℕ) (seen : List ℕ) : Type 0 where
-  pub size : length seen ≡ room
   pub each : (q : ℕ) → getD seen q 0 ≡ cond (clear-of m places e q) 0 1
 
 -- how many darts the face of entry e has, which starts at its index
@@ -46,12 +41,11 @@ passes-at m d ranks z places indices n from e =
 pub record Sewable (m d ranks z places indices : List ℕ) (n k from c : ℕ) : Type 0 where
   pub beside : Meetable m n d k ranks
   pub sender : from ≤ 15
-  pub few : c ≤ 512
-  pub sizes-size : length z ≡ 512
-  pub places-size : length places ≡ 512
-  pub indices-size : length indices ≡ 512
-  pub spans : Spans z indices c
-  pub within : (e : ℕ) → e < c → getD indices e 0 + face-size z indices e ≤ k
+  pub few : c ≤ message-darts
+  pub sizes-size : k ≤ length z
+  pub places-size : c ≤ length places
+  pub indices-size : c ≤ length indices
+  pub spans : Spans z indices k c
 
 -- whether all entries pass; then their darts are sewn
 pub record Part2Told (m d ranks z places indices : List ℕ) (n from c : ℕ) (kinds kinds′ links links′ : List ℕ) (r : Bool) : Type 0 where

@@ -4,7 +4,7 @@ ghost use mathlib.Core.List.{List};
 ghost use Prim.Native.Nat.{_≤_};
 ghost use lib.ListN.{length};
 ghost use Rattle.model.specs.Messages.{FaceDart};
-ghost use Rattle.inbox.specs.Inbox.{most, Sized};
+ghost use Rattle.inbox.specs.Inbox.{Sized};
 ghost use Rattle.parts.specs.Entries.{EntriesRead, EntryRead, Part4Read, pair, first, index};
 use codec::entry;
 use codec::entry::Paired;
@@ -21,7 +21,7 @@ pub fn read_pairs(
     firsts: &mut [u64],
     indices: &mut [u64],
 )
-    requires { ⌜ (at ≤ length (now s)) × (count ≤ most) × (length (now firsts) ≡ most) × (length (now indices) ≡ most) ⌝ }
+    requires { ⌜ (at ≤ length (now s)) × (count ≤ length (now firsts)) × (count ≤ length (now indices)) ⌝ }
     ensures { λ _. ⌜ EntriesRead (pair part) (first part) (index part) (now (s .entry)) at count (now (firsts .exit)) (now (indices .exit)) ⌝ }
 {
     // The entries below i are read.
@@ -90,8 +90,8 @@ pub fn read_part4(
     others: &mut [u64],
     places: &mut [usize],
 )
-    requires { ⌜ (at ≤ length (now s)) × (count ≤ most) × (darts ≤ length (now sizes)) × (length (now indices) ≡ most) × (length (now others) ≡ most) × (length (now places) ≡ most) ⌝ }
-    ensures { λ _. ⌜ (length (now (indices .exit)) ≡ most) × (length (now (others .exit)) ≡ most) × (length (now (places .exit)) ≡ most) × ((fs : List (List FaceDart)) → Sized fs darts (now (sizes .entry)) → Part4Read fs (now (sizes .entry)) (now (s .entry)) at count (now (indices .exit)) (now (others .exit)) (now (places .exit))) ⌝ }
+    requires { ⌜ (at ≤ length (now s)) × (darts ≤ length (now sizes)) × (count ≤ length (now indices)) × (count ≤ length (now others)) × (count ≤ length (now places)) ⌝ }
+    ensures { λ _. ⌜ ((fs : List (List FaceDart)) → Sized fs darts (now (sizes .entry)) → Part4Read fs (now (sizes .entry)) (now (s .entry)) at count (now (indices .exit)) (now (others .exit)) (now (places .exit))) ⌝ }
 {
     // The entries below i are read.
     let mut i = 0;

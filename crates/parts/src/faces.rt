@@ -10,7 +10,7 @@ use memory::record::MessageIndex;
 
 // The same word from index `at` on, n times.
 pub fn fill(array: &mut [u64], at: MessageIndex, n: usize, word: u64)
-    requires { ⌜ (length (now array) ≡ 512) × (at .0 + n ≤ 512) ⌝ }
+    requires { ⌜ at .0 + n ≤ length (now array) ⌝ }
     ensures { λ _. ⌜ Over (at .0) n (λ j. word) (now (array .entry)) (now (array .exit)) ⌝ }
 {
     let first = at.0;
@@ -24,7 +24,7 @@ pub fn fill(array: &mut [u64], at: MessageIndex, n: usize, word: u64)
 
 // Numbers that count up from index `at` on, n of them.
 fn count_up(array: &mut [u64], at: MessageIndex, n: usize, least: u64)
-    requires { ⌜ (length (now array) ≡ 512) × (at .0 + n ≤ 512) × (least < 2 ^ 63) ⌝ }
+    requires { ⌜ (at .0 + n ≤ length (now array)) × (least < 2 ^ 63) ⌝ }
     ensures { λ _. ⌜ Over (at .0) n (λ j. least + j) (now (array .entry)) (now (array .exit)) ⌝ }
 {
     let first = at.0;
@@ -38,7 +38,7 @@ fn count_up(array: &mut [u64], at: MessageIndex, n: usize, least: u64)
 
 // The codes of n labels that stand from a place of the message on, from index `at` on.
 fn put_codes(message: &[u8], from: usize, array: &mut [u64], at: MessageIndex, n: usize)
-    requires { ⌜ (length (now array) ≡ 512) × (at .0 + n ≤ 512) × LabelsThere (now message) from n ⌝ }
+    requires { ⌜ (at .0 + n ≤ length (now array)) × LabelsThere (now message) from n ⌝ }
     ensures { λ _. ⌜ Over (at .0) n (code-at (now (message .entry)) from n) (now (array .entry)) (now (array .exit)) ⌝ }
 {
     let first = at.0;
@@ -65,8 +65,8 @@ pub fn put_part3(
     kinds: &mut [u64],
     links: &mut [u64],
 )
-    requires { ⌜ (length (now indices) ≡ 512) × (length (now numbers) ≡ 512) × (length (now sizes) ≡ 512) × (length (now kinds) ≡ 512) × (length (now links) ≡ 512) ⌝ }
-    requires { ⌜ Spans (now sizes) (now indices) c × (c ≤ 512) × (from ≤ 15) × ((e : ℕ) → e < c → getD (now numbers) e 0 < 2 ^ 32) ⌝ }
+    requires { ⌜ (c ≤ length (now indices)) × (c ≤ length (now numbers)) × (from ≤ 15) × ((e : ℕ) → e < c → getD (now numbers) e 0 < 2 ^ 32) ⌝ }
+    requires { ⌜ ((k : ℕ) × Spans (now sizes) (now indices) k c × (k ≤ length (now sizes)) × (k ≤ length (now kinds)) × (k ≤ length (now links))) ⌝ }
     ensures { λ _. ⌜ Faced (now (sizes .entry)) (now (indices .entry)) c (λ e j. 2 + 4 * from) (now (kinds .entry)) (now (kinds .exit)) × Faced (now (sizes .entry)) (now (indices .entry)) c (numbered-code from (now (numbers .entry))) (now (links .entry)) (now (links .exit)) ⌝ }
 {
     // The faces before e have their links.
@@ -96,8 +96,8 @@ pub fn put_part4(
     kinds: &mut [u64],
     links: &mut [u64],
 )
-    requires { ⌜ (length (now indices) ≡ 512) × (length (now others) ≡ 512) × (length (now places) ≡ 512) × (length (now sizes) ≡ 512) × (length (now kinds) ≡ 512) × (length (now links) ≡ 512) ⌝ }
-    requires { ⌜ Spans (now sizes) (now indices) c × (c ≤ 512) × ((e : ℕ) → e < c → getD (now others) e 0 ≤ 15) × ((e : ℕ) → e < c → LabelsThere (now message) (getD (now places) e 0) (getD (now sizes) (getD (now indices) e 0) 0)) ⌝ }
+    requires { ⌜ (c ≤ length (now indices)) × (c ≤ length (now others)) × (c ≤ length (now places)) × ((e : ℕ) → e < c → getD (now others) e 0 ≤ 15) × ((e : ℕ) → e < c → LabelsThere (now message) (getD (now places) e 0) (getD (now sizes) (getD (now indices) e 0) 0)) ⌝ }
+    requires { ⌜ ((k : ℕ) × Spans (now sizes) (now indices) k c × (k ≤ length (now sizes)) × (k ≤ length (now kinds)) × (k ≤ length (now links))) ⌝ }
     ensures { λ _. ⌜ Faced (now (sizes .entry)) (now (indices .entry)) c (λ e j. 2 + 4 * getD (now (others .entry)) e 0) (now (kinds .entry)) (now (kinds .exit)) × Faced (now (sizes .entry)) (now (indices .entry)) c (λ e. code-at (now (message .entry)) (getD (now (places .entry)) e 0) (getD (now (sizes .entry)) (getD (now (indices .entry)) e 0) 0)) (now (links .entry)) (now (links .exit)) ⌝ }
 {
     // The faces before e have their links.

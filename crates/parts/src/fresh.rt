@@ -7,7 +7,7 @@ ghost use lib.ListN.{length, getD};
 ghost use Rattle.laws.specs.Order.{Ascending};
 ghost use Rattle.model.specs.Lists.{all, tab};
 ghost use Rattle.model.specs.Image.{words-for};
-ghost use Rattle.model.specs.Values.{room};
+ghost use Rattle.model.specs.Values.{room, message-darts};
 ghost use Rattle.ranking.specs.Ranks.{value-at};
 ghost use Rattle.parts.specs.Fresh.{own-right, own-at, fresh-value, ValuesPut, clear-at, labels-fit};
 use memory::header::Header;
@@ -30,7 +30,7 @@ fn own_right(number: u64, counter: u64, kind: u64, link: u64) -> bool
 
 // Whether the words of the first k darts are not.
 fn all_own(number: u64, counter: u64, kinds: &[u64], links: &[u64], k: usize) -> bool
-    requires { ⌜ (length (now kinds) ≡ 512) × (length (now links) ≡ 512) × (k ≤ 512) ⌝ }
+    requires { ⌜ (k ≤ length (now kinds)) × (k ≤ length (now links)) ⌝ }
     ensures { λ r. ⌜ r ≡ all (own-at number counter (now (kinds .entry)) (now (links .entry))) (tab (λ q. q) k) ⌝ }
 {
     // Those before q are not.
@@ -46,7 +46,7 @@ fn all_own(number: u64, counter: u64, kinds: &[u64], links: &[u64], k: usize) ->
 
 // The label's code of a critical dart; above all codes, and its own, of any other.
 fn fresh_value(kind: u64, link: u64, q: MessageIndex) -> u64
-    requires { ⌜ q .0 < 512 ⌝ }
+    requires { ⌜ q .0 < message-darts ⌝ }
     ensures { λ r. ⌜ r ≡ fresh-value kind link (q .0) ⌝ }
 {
     if kind < 2 {
@@ -57,7 +57,7 @@ fn fresh_value(kind: u64, link: u64, q: MessageIndex) -> u64
 
 // The values of the first k darts.
 fn put_values(kinds: &[u64], links: &[u64], k: usize, values: &mut [u64])
-    requires { ⌜ (length (now kinds) ≡ 512) × (length (now links) ≡ 512) × (length (now values) ≡ 512) × (k ≤ 512) ⌝ }
+    requires { ⌜ (k ≤ length (now kinds)) × (k ≤ length (now links)) × (k ≤ length (now values)) × (k ≤ message-darts) ⌝ }
     ensures { λ _. ⌜ ValuesPut (now (kinds .entry)) (now (links .entry)) k (now (values .exit)) ⌝ }
 {
     // Those before q are put.
@@ -70,7 +70,7 @@ fn put_values(kinds: &[u64], links: &[u64], k: usize, values: &mut [u64])
 
 // Whether the dart at place p of the block has none of k values for a label.
 fn clear_at(block: &[u64], p: Place, keys: &[u64], k: usize) -> bool
-    requires { ⌜ (words-for (p .0 + 1) ≤ length (now block)) × (length (now keys) ≡ 512) × (k ≤ 512) × Ascending k (value-at (now keys)) ⌝ }
+    requires { ⌜ (words-for (p .0 + 1) ≤ length (now block)) × (k ≤ length (now keys)) × (k ≤ message-darts) × Ascending k (value-at (now keys)) ⌝ }
     ensures { λ r. ⌜ r ≡ clear-at (now (block .entry)) (tab (value-at (now (keys .entry))) k) (p .0) ⌝ }
 {
     if record::field(block, p, Record::KIND) < 2 {
@@ -84,7 +84,7 @@ fn clear_at(block: &[u64], p: Place, keys: &[u64], k: usize) -> bool
 
 // Whether the first n darts have none.
 fn all_clear(block: &[u64], n: usize, keys: &[u64], k: usize) -> bool
-    requires { ⌜ (words-for n ≤ length (now block)) × (n ≤ room) × (length (now keys) ≡ 512) × (k ≤ 512) × Ascending k (value-at (now keys)) ⌝ }
+    requires { ⌜ (words-for n ≤ length (now block)) × (n ≤ room) × (k ≤ length (now keys)) × (k ≤ message-darts) × Ascending k (value-at (now keys)) ⌝ }
     ensures { λ r. ⌜ r ≡ all (clear-at (now (block .entry)) (tab (value-at (now (keys .entry))) k)) (tab (λ p. p) n) ⌝ }
 {
     // Those before p have none.
@@ -98,9 +98,20 @@ fn all_clear(block: &[u64], n: usize, keys: &[u64], k: usize) -> bool
     true
 }
 
-// 20, of the labels of parts 3 and 4, on a block of n darts.
-pub fn labels_fit(block: &[u64], n: usize, kinds: &[u64], links: &[u64], k: usize) -> bool
-    requires { ⌜ (words-for n ≤ length (now block)) × (n ≤ room) × (length (now kinds) ≡ 512) × (length (now links) ≡ 512) × (1 ≤ k) × (k ≤ 512) ⌝ }
+// 20, of the labels of parts 3 and 4, on a block of n darts. The arrays behind k are lent to work in.
+pub fn labels_fit(
+    block: &[u64],
+    n: usize,
+    kinds: &[u64],
+    links: &[u64],
+    k: usize,
+    values: &mut [u64],
+    keys: &mut [u64],
+    scratch: &mut [u64],
+    ranks: &mut [usize],
+) -> bool
+    requires { ⌜ (words-for n ≤ length (now block)) × (n ≤ room) × (k ≤ length (now kinds)) × (k ≤ length (now links)) × (1 ≤ k) × (k ≤ message-darts) ⌝ }
+    requires { ⌜ (k ≤ length (now values)) × (k ≤ length (now keys)) × (k ≤ length (now scratch)) × (k ≤ length (now ranks)) ⌝ }
     requires { ⌜ ((q : ℕ) → q < k → getD (now links) q 0 < 2 ^ 48) ⌝ }
     ensures { λ r. ⌜ r ≡ labels-fit (now (block .entry)) n (now (kinds .entry)) (now (links .entry)) k ⌝ }
 {
@@ -113,13 +124,9 @@ pub fn labels_fit(block: &[u64], n: usize, kinds: &[u64], links: &[u64], k: usiz
     ) {
         return false;
     }
-    let mut values = [0u64; Header::VOLUME];
-    put_values(kinds, links, k, &mut values);
-    let mut keys = [0u64; Header::VOLUME];
-    let mut scratch = [0u64; Header::VOLUME];
-    let mut ranks = [0usize; Header::VOLUME];
-    if !ranking::rank(&values, k, &mut keys, &mut scratch, &mut ranks) {
+    put_values(kinds, links, k, values);
+    if !ranking::rank(values, k, keys, scratch, ranks) {
         return false;
     }
-    all_clear(block, n, &keys, k)
+    all_clear(block, n, keys, k)
 }

@@ -3,11 +3,10 @@ ghost use mathlib.Core.Path.{_≡_};
 ghost use Prim.Native.Nat.{ℕ, _≤_, _<_};
 ghost use lib.ListN.{length, getD, take};
 ghost use Rattle.parts.specs.Indices.{above-at, fits-at, FitTold, MarkedBy, indices-fit};
-use memory::header::Header;
 
 // Whether the index of entry e is above the one before it.
 fn above(indices: &[u64], e: usize) -> bool
-    requires { ⌜ (length (now indices) ≡ 512) × (e < 512) ⌝ }
+    requires { ⌜ e < length (now indices) ⌝ }
     ensures { λ r. ⌜ r ≡ above-at (now (indices .entry)) e ⌝ }
 {
     if e == 0 {
@@ -20,7 +19,7 @@ fn above(indices: &[u64], e: usize) -> bool
 
 // Whether the index of entry e names a start that is not marked, above the index before it.
 fn fits_at(indices: &[u64], e: usize, starts: &[usize], k: usize, marks: &[u8]) -> bool
-    requires { ⌜ (length (now indices) ≡ 512) × (length (now starts) ≡ 512) × (length (now marks) ≡ 512) × (e < 512) × (k ≤ 512) ⌝ }
+    requires { ⌜ (e < length (now indices)) × (k ≤ length (now starts)) × (k ≤ length (now marks)) ⌝ }
     ensures { λ r. ⌜ r ≡ fits-at (now (indices .entry)) (now (starts .entry)) (now (marks .entry)) k e ⌝ }
 {
     let i = place::entry_index(indices, e);
@@ -37,7 +36,7 @@ fn fits_at(indices: &[u64], e: usize, starts: &[usize], k: usize, marks: &[u8]) 
 
 // Whether those of the first c entries do.
 fn fit(indices: &[u64], c: usize, starts: &[usize], k: usize, marks: &[u8]) -> bool
-    requires { ⌜ (length (now indices) ≡ 512) × (length (now starts) ≡ 512) × (length (now marks) ≡ 512) × (c ≤ 512) × (k ≤ 512) ⌝ }
+    requires { ⌜ (c ≤ length (now indices)) × (k ≤ length (now starts)) × (k ≤ length (now marks)) ⌝ }
     ensures { λ r. ⌜ FitTold (now (indices .entry)) (now (starts .entry)) (now (marks .entry)) k c r ⌝ }
 {
     // Those before e do.
@@ -53,7 +52,7 @@ fn fit(indices: &[u64], c: usize, starts: &[usize], k: usize, marks: &[u8]) -> b
 
 // Marks the indices of the first c entries.
 fn mark(indices: &[u64], c: usize, marks: &mut [u8])
-    requires { ⌜ (length (now indices) ≡ 512) × (length (now marks) ≡ 512) × (c ≤ 512) × ((e : ℕ) → e < c → getD (now indices) e 0 < 512) ⌝ }
+    requires { ⌜ (c ≤ length (now indices)) × ((e : ℕ) → e < c → getD (now indices) e 0 < length (now marks)) ⌝ }
     ensures { λ _. ⌜ MarkedBy (take c (now (indices .entry))) (now (marks .entry)) (now (marks .exit)) ⌝ }
 {
     // Those before e are marked.
@@ -66,7 +65,7 @@ fn mark(indices: &[u64], c: usize, marks: &mut [u8])
     }
 }
 
-// 20, of the indices of the three parts.
+// 20, of the indices of the three parts. `marks`, which are clear, are lent to work in.
 pub fn indices_fit(
     second: &[u64],
     c2: usize,
@@ -76,19 +75,18 @@ pub fn indices_fit(
     c4: usize,
     starts: &[usize],
     k: usize,
+    marks: &mut [u8],
 ) -> bool
-    requires { ⌜ (length (now second) ≡ 512) × (length (now third) ≡ 512) × (length (now fourth) ≡ 512) × (length (now starts) ≡ 512) ⌝ }
-    requires { ⌜ (c2 ≤ 512) × (c3 ≤ 512) × (c4 ≤ 512) × (k ≤ 512) ⌝ }
+    requires { ⌜ (c2 ≤ length (now second)) × (c3 ≤ length (now third)) × (c4 ≤ length (now fourth)) × (k ≤ length (now starts)) × (k ≤ length (now marks)) × ((q : ℕ) → getD (now marks) q 0 ≡ 0) ⌝ }
     ensures { λ r. ⌜ r ≡ indices-fit (now (starts .entry)) k (take c2 (now (second .entry))) (take c3 (now (third .entry))) (take c4 (now (fourth .entry))) ⌝ }
 {
-    let mut marks = [0u8; Header::VOLUME];
-    if !fit(second, c2, starts, k, &marks) {
+    if !fit(second, c2, starts, k, marks) {
         return false;
     }
-    mark(second, c2, &mut marks);
-    if !fit(third, c3, starts, k, &marks) {
+    mark(second, c2, marks);
+    if !fit(third, c3, starts, k, marks) {
         return false;
     }
-    mark(third, c3, &mut marks);
-    fit(fourth, c4, starts, k, &marks)
+    mark(third, c3, marks);
+    fit(fourth, c4, starts, k, marks)
 }

@@ -1,10 +1,10 @@
 // The places of the block where the labels of part 2 stand, by one pass over its darts.
 ghost use mathlib.Core.Path.{_≡_};
 ghost use Prim.Native.Nat.{ℕ, _+_, _≤_, _<_};
-ghost use lib.ListN.{length, replicate};
+ghost use lib.ListN.{length, getD};
 ghost use Rattle.laws.specs.Order.{Ascending};
 ghost use Rattle.model.specs.Image.{words-for};
-ghost use Rattle.model.specs.Values.{room};
+ghost use Rattle.model.specs.Values.{room, message-darts};
 ghost use Rattle.ranking.specs.Ranks.{value-at, index-at, Ranked};
 ghost use Rattle.parts.specs.Locate.{Noted, Located, none-there};
 use memory::record;
@@ -14,7 +14,7 @@ use ranking::Ranking;
 
 // Notes place p for the entry whose label the dart at p has.
 fn note(block: &[u64], p: Place, keys: &[u64], c: usize, places: &mut [usize])
-    requires { ⌜ (words-for (p .0 + 1) ≤ length (now block)) × (length (now keys) ≡ 512) × (c ≤ 512) × (length (now places) ≡ 512) × Ascending c (value-at (now keys)) × ((r : ℕ) → r < c → index-at (now keys) r < c) ⌝ }
+    requires { ⌜ (words-for (p .0 + 1) ≤ length (now block)) × (c ≤ length (now keys)) × (c ≤ message-darts) × (c ≤ length (now places)) × Ascending c (value-at (now keys)) × ((r : ℕ) → r < c → index-at (now keys) r < c) ⌝ }
     ensures { λ _. ⌜ Noted (now (block .entry)) (now (keys .entry)) c (p .0) (now (places .entry)) (now (places .exit)) ⌝ }
 {
     if record::field(block, p, Record::KIND) < 2 {
@@ -27,7 +27,7 @@ fn note(block: &[u64], p: Place, keys: &[u64], c: usize, places: &mut [usize])
     places[e] = p.0;
 }
 
-// The place of the dart that has each of the first c codes, which are ranked; 4,096 where none of the n darts has it.
+// The place of the dart that has each of the first c codes, which are ranked; `places` keeps its 4,096 where none of the n darts has it.
 pub fn locate(
     block: &[u64],
     n: usize,
@@ -37,7 +37,7 @@ pub fn locate(
     ranks: &[usize],
     places: &mut [usize],
 )
-    requires { ⌜ (words-for n ≤ length (now block)) × (n ≤ room) × (length (now keys) ≡ 512) × (c ≤ 512) × (now places ≡ replicate 512 none-there) × Ranked (now codes) c (now keys) (now ranks) ⌝ }
+    requires { ⌜ (words-for n ≤ length (now block)) × (n ≤ room) × (c ≤ length (now keys)) × (c ≤ message-darts) × (c ≤ length (now places)) × ((e : ℕ) → e < c → getD (now places) e 0 ≡ none-there) × Ranked (now codes) c (now keys) (now ranks) ⌝ }
     ensures { λ _. ⌜ Located (now (block .entry)) (now (codes .entry)) c n (now (places .exit)) ⌝ }
 {
     // The darts before p are noted.

@@ -1,18 +1,16 @@
 // The faces of part 2: each meets a face of the block.
 ghost use mathlib.Core.Path.{_≡_};
-ghost use Prim.Native.Nat.{_+_, _≤_, _<_};
+ghost use Prim.Native.Nat.{ℕ, _+_, _≤_, _<_};
 ghost use mathlib.Core.Bool.{_&&_};
 ghost use lib.Dec.{ltb, eqb};
-ghost use lib.ListN.{length, getD, replicate, take};
+ghost use lib.ListN.{length, getD, take};
 ghost use Rattle.model.specs.Lists.{all, tab};
-ghost use Rattle.model.specs.Values.{room};
 ghost use Rattle.cells.specs.Places.{Linked, Assigned};
 ghost use Rattle.parts.specs.Meets.{Walked, Meetable, Trailed, met-at, meets-at, EntryRight};
 ghost use Rattle.parts.specs.Faces.{Over};
 ghost use Rattle.parts.specs.Sewing.{Entered, Sewable, Part2Told};
 use crate::faces;
 use crate::meet;
-use memory::header::Header;
 use memory::record;
 use memory::record::MessageIndex;
 use memory::record::Place;
@@ -20,7 +18,7 @@ use memory::record::Record;
 
 // Walks the face of the dart at place `start` into `trail`, at most `size` steps. Whether it has `size` darts.
 fn walk_face(block: &[u64], n: usize, start: Place, size: usize, trail: &mut [usize]) -> bool
-    requires { ⌜ Linked (now block) n × (start .0 < n) × (size ≤ 512) × (length (now trail) ≡ 512) ⌝ }
+    requires { ⌜ Linked (now block) n × (start .0 < n) × (size ≤ length (now trail)) ⌝ }
     ensures { λ r. ⌜ Walked (now (block .entry)) (start .0) size (now (trail .exit)) r ⌝ }
 {
     let first = start.0;
@@ -41,7 +39,7 @@ fn walk_face(block: &[u64], n: usize, start: Place, size: usize, trail: &mut [us
 
 // The place that dart j of a new face meets: the face of the block goes the other way.
 fn met(trail: &[usize], size: usize, j: usize) -> Place
-    requires { ⌜ (length (now trail) ≡ 512) × (size ≤ 512) × (j < size) ⌝ }
+    requires { ⌜ (size ≤ length (now trail)) × (j < size) ⌝ }
     ensures { λ r. ⌜ r .0 ≡ met-at (now (trail .entry)) size j ⌝ }
 {
     if j == 0 {
@@ -120,7 +118,7 @@ pub fn entry_right(
     size: usize,
     trail: &mut [usize],
 ) -> bool
-    requires { ⌜ Meetable (now block) n (now draft) k (now ranks) × (from ≤ 15) × (y .0 < n) × (at .0 + size ≤ k) × (length (now trail) ≡ 512) ⌝ }
+    requires { ⌜ Meetable (now block) n (now draft) k (now ranks) × (from ≤ 15) × (y .0 < n) × (at .0 + size ≤ k) × (size ≤ length (now trail)) ⌝ }
     ensures { λ r. ⌜ EntryRight (now (block .entry)) (now (draft .entry)) (now (ranks .entry)) from (y .0) (at .0) size (now (trail .exit)) r ⌝ }
 {
     if record::field(block, y, Record::KIND) != 2 + 4 * from {
@@ -134,7 +132,7 @@ pub fn entry_right(
 
 // The places that the darts of a new face meet, from index `at` on.
 fn put_met(trail: &[usize], size: usize, links: &mut [u64], at: MessageIndex)
-    requires { ⌜ (length (now trail) ≡ 512) × (length (now links) ≡ 512) × (at .0 + size ≤ 512) ⌝ }
+    requires { ⌜ (size ≤ length (now trail)) × (at .0 + size ≤ length (now links)) ⌝ }
     ensures { λ _. ⌜ Over (at .0) size (met-at (now (trail .entry)) size) (now (links .entry)) (now (links .exit)) ⌝ }
 {
     let first = at.0;
@@ -149,7 +147,7 @@ fn put_met(trail: &[usize], size: usize, links: &mut [u64], at: MessageIndex)
 
 // Assigns the first `size` places of a trail.
 fn assign(trail: &[usize], size: usize, seen: &mut [u8])
-    requires { ⌜ Trailed room size (now trail) × (size ≤ 512) × (length (now seen) ≡ room) ⌝ }
+    requires { ⌜ Trailed (length (now seen)) size (now trail) ⌝ }
     ensures { λ _. ⌜ Assigned 1 (take size (now (trail .entry))) (now (seen .entry)) (now (seen .exit)) ⌝ }
 {
     // The first j are assigned.
@@ -164,7 +162,7 @@ fn assign(trail: &[usize], size: usize, seen: &mut [u8])
 
 // Whether y is one of the n places, and not yet seen.
 fn is_new(seen: &[u8], n: usize, y: Place) -> bool
-    requires { ⌜ (n ≤ room) × (length (now seen) ≡ room) ⌝ }
+    requires { ⌜ n ≤ length (now seen) ⌝ }
     ensures { λ r. ⌜ r ≡ (ltb (y .0) n && eqb (getD (now (seen .entry)) (y .0) 0) 0) ⌝ }
 {
     let p = y.0;
@@ -190,7 +188,7 @@ fn enter(
     kinds: &mut [u64],
     links: &mut [u64],
 ) -> bool
-    requires { ⌜ Meetable (now block) n (now draft) k (now ranks) × (from ≤ 15) × (at .0 + size ≤ k) × (length (now trail) ≡ 512) × (length (now seen) ≡ room) × (length (now kinds) ≡ 512) × (length (now links) ≡ 512) ⌝ }
+    requires { ⌜ Meetable (now block) n (now draft) k (now ranks) × (from ≤ 15) × (at .0 + size ≤ k) × (size ≤ length (now trail)) × (n ≤ length (now seen)) × (k ≤ length (now kinds)) × (k ≤ length (now links)) ⌝ }
     ensures { λ r. ⌜ Entered (now (block .entry)) (now (draft .entry)) (now (ranks .entry)) n from (y .0) (at .0) size (now (trail .exit)) (now (seen .entry)) (now (seen .exit)) (now (kinds .entry)) (now (kinds .exit)) (now (links .entry)) (now (links .exit)) r ⌝ }
 {
     if !is_new(seen, n, y) {
@@ -205,8 +203,9 @@ fn enter(
     true
 }
 
-// The same for each of the first c entries, until one is not right.
-fn enter_all(
+// Whether each face of part 2 meets a face of its own; then its darts are sewn to the places that they meet. `trail` and `seen`, which
+// is clear, are lent to work in.
+pub fn part2_right(
     block: &[u64],
     n: usize,
     draft: &[u64],
@@ -223,7 +222,7 @@ fn enter_all(
     links: &mut [u64],
 ) -> bool
     requires { ⌜ Sewable (now block) (now draft) (now ranks) (now sizes) (now places) (now indices) n k from c ⌝ }
-    requires { ⌜ (length (now trail) ≡ 512) × (now seen ≡ replicate room 0) × (length (now kinds) ≡ 512) × (length (now links) ≡ 512) ⌝ }
+    requires { ⌜ (k ≤ length (now trail)) × (n ≤ length (now seen)) × ((q : ℕ) → getD (now seen) q 0 ≡ 0) × (k ≤ length (now kinds)) × (k ≤ length (now links)) ⌝ }
     ensures { λ r. ⌜ Part2Told (now (block .entry)) (now (draft .entry)) (now (ranks .entry)) (now (sizes .entry)) (now (places .entry)) (now (indices .entry)) n from c (now (kinds .entry)) (now (kinds .exit)) (now (links .entry)) (now (links .exit)) r ⌝ }
 {
     // Those before e are right, and the faces that they meet are seen.
@@ -252,43 +251,4 @@ fn enter_all(
         e += 1;
     }
     true
-}
-
-// Whether each face of part 2 meets a face of its own; then its darts are sewn to the places that they meet.
-pub fn part2_right(
-    block: &[u64],
-    n: usize,
-    draft: &[u64],
-    k: usize,
-    ranks: &[usize],
-    from: u64,
-    places: &[usize],
-    indices: &[u64],
-    c: usize,
-    sizes: &[usize],
-    kinds: &mut [u64],
-    links: &mut [u64],
-) -> bool
-    requires { ⌜ Sewable (now block) (now draft) (now ranks) (now sizes) (now places) (now indices) n k from c ⌝ }
-    requires { ⌜ (length (now kinds) ≡ 512) × (length (now links) ≡ 512) ⌝ }
-    ensures { λ r. ⌜ Part2Told (now (block .entry)) (now (draft .entry)) (now (ranks .entry)) (now (sizes .entry)) (now (places .entry)) (now (indices .entry)) n from c (now (kinds .entry)) (now (kinds .exit)) (now (links .entry)) (now (links .exit)) r ⌝ }
-{
-    let mut trail = [0usize; Header::VOLUME];
-    let mut seen = [0u8; Header::DARTS];
-    enter_all(
-        block,
-        n,
-        draft,
-        k,
-        ranks,
-        from,
-        places,
-        indices,
-        c,
-        sizes,
-        &mut trail,
-        &mut seen,
-        kinds,
-        links,
-    )
 }

@@ -4,6 +4,7 @@ ghost use Prim.Native.Nat.{suc, _-_, _≤_, _<_};
 ghost use lib.Dec.{eqb};
 ghost use lib.ListN.{length};
 ghost use Rattle.model.specs.Lists.{all, tab};
+ghost use Rattle.model.specs.Values.{message-darts};
 ghost use Rattle.parts.specs.Numbers.{follows-at, neither-at};
 
 // Whether b comes after a.
@@ -18,7 +19,7 @@ fn follows(a: u64, b: u64) -> bool
 
 // Whether each of the first c numbers but the first follows the one before it.
 pub fn consecutive(numbers: &[u64], c: usize) -> bool
-    requires { ⌜ (length (now numbers) ≡ 512) × (c ≤ 512) ⌝ }
+    requires { ⌜ (c ≤ length (now numbers)) × (c ≤ message-darts) ⌝ }
     ensures { λ r. ⌜ r ≡ all (follows-at (now (numbers .entry))) (tab (λ e. e) (c - 1)) ⌝ }
 {
     // Those up to e do.
@@ -34,7 +35,7 @@ pub fn consecutive(numbers: &[u64], c: usize) -> bool
 
 // Whether the first c blocks are neither end.
 pub fn neither(others: &[u64], c: usize, from: u64, to: u64) -> bool
-    requires { ⌜ (length (now others) ≡ 512) × (c ≤ 512) ⌝ }
+    requires { ⌜ c ≤ length (now others) ⌝ }
     ensures { λ r. ⌜ r ≡ all (neither-at (now (others .entry)) from to) (tab (λ e. e) c) ⌝ }
 {
     // Those before e are.

@@ -117,7 +117,7 @@ module _ {v x b z keys ranks q s : List ℕ} {from k : ℕ} {c : List ℕ} (d : 
           let len : length y ≡ words-of lim = j .sewn .size ∙ size-is weaves ∙ size in
           sym (ap (image (words-of lim)) (received-is (block-in m) t)
           ∙ (λ i. image (sym len i) (record { number = sym (number-is weaves) i; counter = sym (counter-is weaves) i; darts = map (relink (transfer-links (block-in m .darts) t)) all-darts }))
-          ∙ image-joined (weaves .weaves .fits) (omega (arith, d .few, d .drafted .count-is)) (j .stand) (subst (Indexed c x ranks) (sym (d .drafted .count-is)) indexed) ln (j .sewn)
+          ∙ image-joined (weaves .weaves .fits) (j .stand) (subst (Indexed c x ranks) (sym (d .drafted .count-is)) indexed) ln (j .sewn)
           (p .range) (omega (arith, size-is weaves, weaves .weaves .holds)) count (subst (Places w) count (places w (count-in w) (p .links)))
           (λ a h one. subst (λ (e : ℕ). column w 4 a < e) count
           (sewn-places w (count-in w) (p .thirds) a (omega (arith, h, count)) one))

@@ -1,14 +1,17 @@
 // Questions 17 to 21 of a transfer. On a yes to all its darts are drafted, and their third links known.
 ghost use mathlib.Core.Path.{_≡_};
 ghost use mathlib.Core.Bool.{true};
-ghost use Prim.Native.Nat.{_≤_};
+ghost use mathlib.Core.List.{List};
+ghost use Prim.Native.Nat.{ℕ, _≤_};
 ghost use lib.ListN.{length, replicate};
 ghost use Rattle.model.specs.Image.{words-for, holds-block, block-in};
+ghost use Rattle.model.specs.Values.{message-darts};
 ghost use Rattle.model.specs.Messages.{Transfer, a-transfer, message-in};
 ghost use Rattle.model.specs.Arrival.{addressed};
 ghost use Rattle.memory.specs.Header.{limits-of};
 ghost use Rattle.inbox.specs.Inbox.{Sides};
 ghost use Rattle.inbox.specs.Arrived.{TransferOutlined};
+ghost use Rattle.fitting.specs.Fitting.{NewVolume, Parted};
 ghost use Rattle.receive.specs.Taken.{AskedAll};
 use answers::Answer;
 use answers::Refusal;
@@ -23,6 +26,59 @@ fn for_here(block: &[u64], from: u64, to: u64) -> bool
     ensures { λ r. ⌜ r ≡ addressed from to (block-in (now (block .entry))) ⌝ }
 {
     (to == block[Header::NUMBER]) & (from != block[Header::NUMBER])
+}
+
+// 20, with the arrays that it works in.
+fn parts_fit(
+    block: &[u64],
+    message: &[u8],
+    front: Front,
+    tail: Tail,
+    starts: &[usize],
+    sizes: &[usize],
+    ranks: &[usize],
+    draft: &[u64],
+    kinds: &mut [u64],
+    links: &mut [u64],
+) -> bool
+    requires { ⌜ (holds-block (now block) ≡ true) × (front .darts ≤ length (now starts)) × (front .darts ≤ length (now sizes)) × (front .darts ≤ length (now ranks)) × (now kinds ≡ replicate message-darts 0) × (now links ≡ replicate message-darts 0) × (front .from ≤ 15) ⌝ }
+    requires { ⌜ ((v : List ℕ) × (x : List ℕ) × NewVolume (now block) (now message) v x (now starts) (now sizes) front tail (now ranks) (now draft)) ⌝ }
+    ensures { λ r. ⌜ ((v x : List ℕ) → NewVolume (now (block .entry)) (now (message .entry)) v x (now (starts .entry)) (now (sizes .entry)) front tail (now (ranks .entry)) (now (draft .entry)) → Parted (now (block .entry)) (now (message .entry)) v x (now (starts .entry)) (now (sizes .entry)) front tail (now (kinds .exit)) (now (links .exit)) r) ⌝ }
+{
+    let mut codes = [0u64; Header::MESSAGE];
+    let mut indices = [0u64; Header::MESSAGE];
+    let mut numbers = [0u64; Header::MESSAGE];
+    let mut third = [0u64; Header::MESSAGE];
+    let mut fourth = [0u64; Header::MESSAGE];
+    let mut others = [0u64; Header::MESSAGE];
+    let mut rows = [0usize; Header::MESSAGE];
+    let mut places = [Header::DARTS; Header::MESSAGE];
+    let mut trail = [0usize; Header::MESSAGE];
+    let mut marks = [0u8; Header::MESSAGE];
+    let mut seen = [0u8; Header::DARTS];
+    fitting::parts_right(
+        block,
+        message,
+        front,
+        tail,
+        starts,
+        sizes,
+        ranks,
+        draft,
+        kinds,
+        links,
+        &mut codes,
+        &mut indices,
+        &mut numbers,
+        &mut third,
+        &mut fourth,
+        &mut others,
+        &mut rows,
+        &mut places,
+        &mut trail,
+        &mut marks,
+        &mut seen,
+    )
 }
 
 // All of them, in their order: the first no, or served. `queue` and `firsts` are lent to work in.
@@ -86,7 +142,7 @@ pub fn questions(
     ) {
         return Answer::Refused(Refusal::VolumeWrong);
     }
-    if !fitting::parts_right(
+    if !parts_fit(
         block,
         message,
         front,

@@ -26,7 +26,7 @@ sew-requires c κs =
       start .pre .1 .2,
       omega (arith, insert-kept, start .pre .0 .0),
       omega (arith, insert-kept, start .pre .0 .1),
-      may-sew (start .pre .1 .3) _ _ (insert-ensures .1 .0) (insert-ensures .1 .1) (start .pre .1 .4),
+      may-sew (start .pre .1 .3) _ _ (insert-ensures .1 .0) (insert-ensures .1 .1),
     )
 
 same-length : tie.Need-same-length

@@ -53,8 +53,10 @@ join-requires c κs =
     let y = asked-yes questions-ensures (enum-told-given .1) in
     let long : start .args .front .darts ≤ length (start .args .serial .now) = omega (arith, here .3 .serial-size, told-of (here .4 .2) .few) in
     let joins = may-join lim (here .0) (here .1) (here .2) long y (here .4 .0) (here .4 .1) (here .4 .2) in
-    let few = few-new lim (here .0) (here .1) (here .2) long y (here .4 .0) (here .4 .1) (here .4 .2) in
-    ((omega (arith, y .2, questions-kept, of-places .1), omega (arith, few, questions-kept, of-places .2)), (y .3, y .4, y .5, joins, few))
+    let few = few-new lim (here .0) (here .1) (here .2) long y (here .4 .0) (here .4 .1) (here .4 .2) in (
+      (omega (arith, y .2, questions-kept, of-places .1), omega (arith, few, questions-kept, of-places .2)),
+      (omega (arith, few, y .3), omega (arith, few, y .4), omega (arith, few, y .5), joins),
+    )
 
 same-length : tie.Need-same-length
 same-length c = search needs

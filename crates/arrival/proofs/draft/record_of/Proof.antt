@@ -30,7 +30,7 @@ next-index-requires c κs =
     let index-of-ensures = (let p : tie.After-index-of = search in p .index-of .ensures) in
     let i = index-fits (start .pre .1) (start .pre .0 .6) index-of-ensures in
     let a = start .pre .1 .segs .start-le _ i in let e = start .pre .1 .segs .end-within _ i in let f = start .pre .1 .few in
-    (start .pre .0 .1, start .pre .0 .2, omega (arith, i, f), omega (arith, a, i, f), omega (arith, e, f))
+    (omega (arith, i, start .pre .0 .1), omega (arith, i, start .pre .0 .2), omega (arith, a, i, f), omega (arith, e, f))
 
 index-at-requires : tie.Need-index-at-requires
 index-at-requires c κs =

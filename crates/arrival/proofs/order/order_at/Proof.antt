@@ -19,13 +19,13 @@ mul-if1-2 : tie.Need-mul-if1-2
 mul-if1-2 c =
     let start : tie.Start = search in
     let index-at-ensures = (let p : tie.After-index-at = search in p .index-at .ensures) in
-    omega (arith, index-at-ensures, start .pre .3)
+    omega (arith, index-at-ensures, start .pre .2)
 
 shared-slice-read-if1-2 : tie.Need-shared-slice-read-if1-2
 shared-slice-read-if1-2 c =
     let start : tie.Start = search in
     let index-at-ensures = (let p : tie.After-index-at = search in p .index-at .ensures) in
-    omega (arith, index-at-ensures, start .pre .3)
+    omega (arith, index-at-ensures, start .pre .2)
 
 returns : tie.Need-returns
 returns c =
@@ -57,13 +57,13 @@ mul-result : tie.Need-mul-result
 mul-result c =
     let start : tie.Start = search in
     let index-at2-ensures = (let p : tie.After-index-at2 = search in p .index-at2 .ensures) in
-    let r = start .pre .4 (omega arith) in omega (arith, r, index-at2-ensures)
+    let r = start .pre .3 (omega arith) in omega (arith, r, index-at2-ensures)
 
 shared-slice-read-result : tie.Need-shared-slice-read-result
 shared-slice-read-result c =
     let start : tie.Start = search in
     let index-at2-ensures = (let p : tie.After-index-at2 = search in p .index-at2 .ensures) in
-    let r = start .pre .4 (omega arith) in omega (arith, r, index-at2-ensures)
+    let r = start .pre .3 (omega arith) in omega (arith, r, index-at2-ensures)
 
 mul-result-2 : tie.Need-mul-result-2
 mul-result-2 c = search needs

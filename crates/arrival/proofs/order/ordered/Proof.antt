@@ -26,7 +26,7 @@ order-at-requires : tie.Need-order-at-requires Inv-loop μ-loop
 order-at-requires c κs =
     let start : tie.Start Inv-loop μ-loop = search in
     let loop-i = (let p : tie.At-loop Inv-loop μ-loop = search in p .loop .i) in
-    (start .pre .0, start .pre .1, omega arith, start .pre .3 loop-i (omega arith), (λ h. let r = start .pre .3 (loop-i - 1) (omega arith) in omega arith))
+    (omega arith, omega arith, start .pre .2 loop-i (omega arith), (λ h. let r = start .pre .2 (loop-i - 1) (omega arith) in omega arith))
 
 returns : tie.Need-returns Inv-loop μ-loop
 returns c =

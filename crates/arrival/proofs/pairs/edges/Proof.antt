@@ -1,8 +1,8 @@
 -- `arrival::pairs::edges` meets its contract. The loop's invariant: the keys below r are edges, two by two.
 -- The measure is what is left of the keys. Assumes nothing.
-use Prim.Native.Nat.{_-_}
-use mathlib.Core.Path.{refl, sym, _∙_}
-use lib.ListN.{length-set}
+use Prim.Native.Nat.{_+_, _-_}
+use mathlib.Core.Path.{_≡_, refl, _∙_}
+use lib.ListN.{length, set, length-set}
 use Rattle.arrival.proofs.EdgeLaws.{Coupling, coupling-none, coupling-not, coupling-more, coupling-all}
 use native.Mathlib.Omega.{arith}
 use borrow.Author.Needs.{needs}
@@ -11,7 +11,7 @@ use Rattle.arrival.proofs.pairs.edges.Tie as tie
 
 abbrev Inv-loop : tie.InvT-loop
 Inv-loop keys k opposite₀ r₀ opposite r =
-    Coupling keys k opposite r
+    Coupling keys k opposite r × (length opposite ≡ length opposite₀)
 
 abbrev μ-loop : tie.MeasureT-loop
 μ-loop keys k opposite₀ r₀ opposite r =
@@ -19,23 +19,22 @@ abbrev μ-loop : tie.MeasureT-loop
 
 loop-holds : tie.Need-loop-holds Inv-loop μ-loop
 loop-holds c =
-    coupling-none _ _ (c .pre .0 .2)
+    (coupling-none _ _ (c .pre .0 .1), refl)
 
 add-if1 : tie.Need-add-if1 Inv-loop μ-loop
 add-if1 c = search needs
 
 same-length : tie.Need-same-length Inv-loop μ-loop
 same-length c =
-    let start : tie.Start Inv-loop μ-loop = search in
     let loop-inv = (let p : tie.At-loop Inv-loop μ-loop = search in p .loop .inv) in
-    loop-inv .len ∙ sym (start .pre .0 .2)
+    loop-inv .1
 
 returns : tie.Need-returns Inv-loop μ-loop
 returns c =
     let start : tie.Start Inv-loop μ-loop = search in
     let loop-inv = (let p : tie.At-loop Inv-loop μ-loop = search in p .loop .inv) in
     let loop-test-taken = (let p : tie.In-loop Inv-loop μ-loop = search in p .loop-test .taken) in
-    (coupling-not (start .pre .0 .3) loop-inv loop-test-taken (λ l. absurd (omega (arith, l, c .if1 .taken))), loop-inv .len)
+    coupling-not (start .pre .0 .2) (loop-inv .0) loop-test-taken (λ l. absurd (omega (arith, l, c .if1 .taken)))
 
 mul-a : tie.Need-mul-a Inv-loop μ-loop
 mul-a c = search needs
@@ -54,22 +53,25 @@ shared-slice-read-b c = search needs
 
 same-length-2 : tie.Need-same-length-2 Inv-loop μ-loop
 same-length-2 c =
-    let start : tie.Start Inv-loop μ-loop = search in
     let loop-inv = (let p : tie.At-loop Inv-loop μ-loop = search in p .loop .inv) in
-    loop-inv .len ∙ sym (start .pre .0 .2)
+    loop-inv .1
 
 returns-2 : tie.Need-returns-2 Inv-loop μ-loop
 returns-2 c =
     let start : tie.Start Inv-loop μ-loop = search in
     let loop-inv = (let p : tie.At-loop Inv-loop μ-loop = search in p .loop .inv) in
     let loop-test-taken = (let p : tie.In-loop Inv-loop μ-loop = search in p .loop-test .taken) in
-    (coupling-not (start .pre .0 .3) loop-inv loop-test-taken (λ l e. c .if2 .taken (omega (arith, e))), loop-inv .len)
+    coupling-not (start .pre .0 .2) (loop-inv .0) loop-test-taken (λ l e. c .if2 .taken (omega (arith, e)))
 
 mul-opposite : tie.Need-mul-opposite Inv-loop μ-loop
 mul-opposite c = search needs
 
 slice-write-opposite : tie.Need-slice-write-opposite Inv-loop μ-loop
-slice-write-opposite c = omega arith
+slice-write-opposite c =
+    let loop-inv = (let p : tie.At-loop Inv-loop μ-loop = search in p .loop .inv) in
+    let loop-test-taken = (let p : tie.In-loop Inv-loop μ-loop = search in p .loop-test .taken) in
+    let inside = loop-inv .0 .inside _ loop-test-taken in
+    omega (arith, inside)
 
 mul-opposite-2 : tie.Need-mul-opposite-2 Inv-loop μ-loop
 mul-opposite-2 c = search needs
@@ -77,7 +79,11 @@ mul-opposite-2 c = search needs
 slice-write-opposite-2 : tie.Need-slice-write-opposite-2 Inv-loop μ-loop
 slice-write-opposite-2 c =
     let loop-inv = (let p : tie.At-loop Inv-loop μ-loop = search in p .loop .inv) in
-    simp length-set (omega (arith, loop-inv .len))
+    let loop-r = (let p : tie.At-loop Inv-loop μ-loop = search in p .loop .r) in
+    let loop-test-taken = (let p : tie.In-loop Inv-loop μ-loop = search in p .loop-test .taken) in
+    let if1-left = (let p : tie.Else1 Inv-loop μ-loop = search in p .if1 .left) in
+    let inside = loop-inv .0 .inside (loop-r + 1) (omega (arith, loop-test-taken, if1-left)) in
+    simp length-set (omega (arith, inside))
 
 add-r : tie.Need-add-r Inv-loop μ-loop
 add-r c = search needs
@@ -91,18 +97,21 @@ loop-again c =
     let loop-inv = (let p : tie.At-loop Inv-loop μ-loop = search in p .loop .inv) in
     let loop-test-taken = (let p : tie.In-loop Inv-loop μ-loop = search in p .loop-test .taken) in
     let if1-left = (let p : tie.Else1 Inv-loop μ-loop = search in p .if1 .left) in
-    coupling-more (start .pre .0 .3) loop-inv loop-test-taken (omega (arith, loop-test-taken, if1-left)) (start .pre .1) (omega (arith, c .if2 .left)) refl refl
+    let loop-opposite = (let p : tie.At-loop Inv-loop μ-loop = search in p .loop .opposite) in (
+      coupling-more (start .pre .0 .2) (loop-inv .0) loop-test-taken (omega (arith, loop-test-taken, if1-left)) (start .pre .1)
+          (omega (arith, c .if2 .left)) refl refl,
+      length-set (set loop-opposite _ _) _ _ ∙ length-set loop-opposite _ _ ∙ loop-inv .1,
+    )
 
 same-length-3 : tie.Need-same-length-3 Inv-loop μ-loop
 same-length-3 c =
-    let start : tie.Start Inv-loop μ-loop = search in
     let loop-inv = (let p : tie.At-loop Inv-loop μ-loop = search in p .loop .inv) in
-    loop-inv .len ∙ sym (start .pre .0 .2)
+    loop-inv .1
 
 returns-3 : tie.Need-returns-3 Inv-loop μ-loop
 returns-3 c =
     let loop-inv = (let p : tie.At-loop Inv-loop μ-loop = search in p .loop .inv) in
-    (coupling-all loop-inv (c .loop-test .left), loop-inv .len)
+    coupling-all (loop-inv .0) (c .loop-test .left)
 
 pub edges-spec : {M : Type 1} → statement M
 edges-spec =

@@ -21,7 +21,7 @@ add-if1 c =
     let start : tie.Start = search in
     let index-at-ensures = (let p : tie.After-index-at = search in p .index-at .ensures) in
     let size-at-ensures = (let p : tie.After-size-at = search in p .size-at .ensures) in
-    omega (arith, index-at-ensures, size-at-ensures, start .pre .3, start .pre .4)
+    omega (arith, index-at-ensures, size-at-ensures, start .pre .2, start .pre .3)
 
 returns : tie.Need-returns
 returns c =

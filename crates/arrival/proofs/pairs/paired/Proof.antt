@@ -23,7 +23,7 @@ returns c =
     let sizes = start .args .sizes .now in
     let k = start .args .k in
     let put-pairs-ensures = (let p : tie.After-put-pairs = search in p .put-pairs .ensures) in
-    (paired-ends vertex starts sizes k (sym (put-pairs-ensures .0) ∙ not-true _ (c .if1 .taken)), start .pre .0 .3)
+    paired-ends vertex starts sizes k (sym (put-pairs-ensures .0) ∙ not-true _ (c .if1 .taken))
 
 slice-aggregate-rank : tie.Need-slice-aggregate-rank
 slice-aggregate-rank c = search needs
@@ -45,11 +45,12 @@ rank-requires c κs =
     let sizes = start .args .sizes .now in
     let k = start .args .k in
     let put-pairs-ensures = (let p : tie.After-put-pairs = search in p .put-pairs .ensures) in
-    let put-pairs-last = (let p : tie.After-put-pairs = search in p .put-pairs .last) in (
+    let put-pairs-last = (let p : tie.After-put-pairs = search in p .put-pairs .last) in
+    let put-pairs-kept = (let p : tie.After-put-pairs = search in p .put-pairs .kept) in (
       (
         start .pre .0 .4,
         start .pre .0 .5,
-        (let l = put-pairs-ensures .2 in let f = start .pre .0 .5 in omega (arith, l, f)),
+        omega (arith, put-pairs-kept, start .pre .0 .5),
         pair-fits vertex starts sizes k (start .pre .1 .0) (start .pre .1 .1) (put-pairs-last .1 .1 .1 .1 .0)
             (put-pairs-ensures .1),
       ),
@@ -65,11 +66,9 @@ returns-2 c =
     let k = start .args .k in
     let put-pairs-ensures = (let p : tie.After-put-pairs = search in p .put-pairs .ensures) in
     let put-pairs-last = (let p : tie.After-put-pairs = search in p .put-pairs .last) in
-    let rank-ensures = (let p : tie.After-rank = search in p .rank .ensures) in (
-      paired-twice vertex starts sizes k (start .pre .1 .0) (start .pre .1 .1) (put-pairs-last .1 .1 .1 .1 .0)
-          (put-pairs-ensures .1) (sym (rank-ensures .0) ∙ not-true _ (c .if2 .taken)),
-      start .pre .0 .3,
-    )
+    let rank-ensures = (let p : tie.After-rank = search in p .rank .ensures) in
+    paired-twice vertex starts sizes k (start .pre .1 .0) (start .pre .1 .1) (put-pairs-last .1 .1 .1 .1 .0)
+    (put-pairs-ensures .1) (sym (rank-ensures .0) ∙ not-true _ (c .if2 .taken))
 
 slice-aggregate-edges : tie.Need-slice-aggregate-edges
 slice-aggregate-edges c = search needs
@@ -79,8 +78,9 @@ edges-requires c κs =
     let start : tie.Start = search in
     let rank-ensures = (let p : tie.After-rank = search in p .rank .ensures) in
     let if2-left = (let p : tie.Else2 = search in p .if2 .left) in
-    let w = rank-ensures .1 .0 (not-false _ if2-left) in
-    ((start .pre .0 .5, rank-ensures .1 .1, start .pre .0 .3, w .ascends), ranked-apart w)
+    let rank-kept = (let p : tie.After-rank = search in p .rank .kept) in
+    let w = rank-ensures .1 (not-false _ if2-left) in
+    ((omega (arith, rank-kept, start .pre .0 .5), λ p h. omega (arith, w .index-below p h, start .pre .0 .3), w .ascends), ranked-apart w)
 
 same-length : tie.Need-same-length
 same-length c = search needs
@@ -97,12 +97,10 @@ returns-3 c =
     let if1-left = (let p : tie.Else1 = search in p .if1 .left) in
     let rank-ensures = (let p : tie.After-rank = search in p .rank .ensures) in
     let if2-left = (let p : tie.Else2 = search in p .if2 .left) in
-    let edges-ensures = (let p : tie.After-edges = search in p .edges .ensures) in (
-      paired-found vertex starts sizes k (start .pre .1 .0) (start .pre .1 .1) (put-pairs-last .1 .1 .1 .1 .0)
-          (put-pairs-ensures .1) (sym (put-pairs-ensures .0) ∙ not-false _ if1-left) (sym (rank-ensures .0) ∙ not-false _ if2-left)
-          (rank-ensures .1 .0 (not-false _ if2-left)) (edges-ensures .0),
-      edges-ensures .1,
-    )
+    let edges-ensures = (let p : tie.After-edges = search in p .edges .ensures) in
+    paired-found vertex starts sizes k (start .pre .1 .0) (start .pre .1 .1) (put-pairs-last .1 .1 .1 .1 .0)
+    (put-pairs-ensures .1) (sym (put-pairs-ensures .0) ∙ not-false _ if1-left) (sym (rank-ensures .0) ∙ not-false _ if2-left)
+    (rank-ensures .1 (not-false _ if2-left)) edges-ensures
 
 pub paired-spec : {M : Type 1} → statement M
 paired-spec =

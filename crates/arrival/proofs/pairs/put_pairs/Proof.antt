@@ -1,7 +1,8 @@
 -- `arrival::pairs::put_pairs` meets its contract.
 -- Assumes nothing.
 use Prim.Native.Nat.{_-_}
-use mathlib.Core.Path.{refl, _∙_}
+use mathlib.Core.Path.{_≡_, refl, _∙_}
+use lib.ListN.{length, length-set}
 use Rattle.arrival.proofs.SegmentLaws.{next-below}
 use Rattle.arrival.proofs.Steps.{Pairing, pairing-none, pairing-more, pairing-all}
 use native.Mathlib.Omega.{arith}
@@ -11,7 +12,7 @@ use Rattle.arrival.proofs.pairs.put_pairs.Tie as tie
 
 abbrev Inv-loop : tie.InvT-loop
 Inv-loop vertex starts sizes k pairs₀ ok₀ i₀ pairs ok i =
-    Pairing vertex starts sizes k pairs ok i
+    Pairing vertex starts sizes k pairs ok i × (length pairs ≡ length pairs₀)
 
 abbrev μ-loop : tie.MeasureT-loop
 μ-loop vertex starts sizes k pairs₀ ok₀ i₀ pairs ok i =
@@ -20,14 +21,13 @@ abbrev μ-loop : tie.MeasureT-loop
 loop-holds : tie.Need-loop-holds Inv-loop μ-loop
 loop-holds c =
     let start : tie.Start Inv-loop μ-loop = search in
-    pairing-none _ _ _ _ (start .pre .0 .3)
+    (pairing-none _ _ _ _ (start .pre .0 .3), refl)
 
 next-index-requires : tie.Need-next-index-requires Inv-loop μ-loop
 next-index-requires c κs =
     let start : tie.Start Inv-loop μ-loop = search in
     let loop-i = (let p : tie.At-loop Inv-loop μ-loop = search in p .loop .i) in (
-      start .pre .0 .1,
-      start .pre .0 .2,
+      omega arith,
       omega arith,
       (let r = start .pre .1 .0 .start-le loop-i (omega arith) in omega arith),
       (let r = start .pre .1 .0 .end-within loop-i (omega arith) in omega arith),
@@ -101,15 +101,20 @@ loop-again : tie.Need-loop-again Inv-loop μ-loop
 loop-again c =
     let loop-inv = (let p : tie.At-loop Inv-loop μ-loop = search in p .loop .inv) in
     let next-index-ensures = (let p : tie.After-next-index Inv-loop μ-loop = search in p .next-index .ensures) in
-    pairing-more loop-inv (omega arith) (omega arith) (c .edge .ensures ∙ rw next-index-ensures refl) (rw next-index-ensures refl)
+    let loop-pairs = (let p : tie.At-loop Inv-loop μ-loop = search in p .loop .pairs) in (
+      pairing-more (loop-inv .0) (omega arith) (c .edge .ensures ∙ rw next-index-ensures refl) (rw next-index-ensures refl),
+      length-set loop-pairs _ _ ∙ loop-inv .1,
+    )
 
 same-length : tie.Need-same-length Inv-loop μ-loop
-same-length c = search needs
+same-length c =
+    let loop-inv = (let p : tie.At-loop Inv-loop μ-loop = search in p .loop .inv) in
+    loop-inv .1
 
 returns : tie.Need-returns Inv-loop μ-loop
 returns c =
     let loop-inv = (let p : tie.At-loop Inv-loop μ-loop = search in p .loop .inv) in
-    pairing-all loop-inv (omega arith)
+    pairing-all (loop-inv .0) (omega arith)
 
 pub put-pairs-spec : {M : Type 1} → statement M
 put-pairs-spec =

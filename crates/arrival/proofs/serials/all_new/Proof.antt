@@ -34,7 +34,7 @@ gap-of-requires c κs =
     let loop-i = (let p : tie.At-loop Inv-loop μ-loop = search in p .loop .i) in
     let loop-inv = (let p : tie.At-loop Inv-loop μ-loop = search in p .loop .inv) in
     let loop-test-taken = (let p : tie.In-loop Inv-loop μ-loop = search in p .loop-test .taken) in
-    (start .pre .0, start .pre .1, start .pre .2, start .pre .3, start .pre .4, start .pre .7 loop-i loop-test-taken, loop-inv .0)
+    (start .pre .0, start .pre .1, start .pre .2, start .pre .3, start .pre .4, start .pre .6 loop-i loop-test-taken, loop-inv .0)
 
 enum-known-gap : tie.Need-enum-known-gap Inv-loop μ-loop
 enum-known-gap c = search needs

@@ -11,8 +11,8 @@ returns : tie.Need-returns
 returns c =
     (λ e h. omega (arith, h, c .if1 .taken), λ e. absurd (true≢false e))
 
-sub-t6 : tie.Need-sub-t6
-sub-t6 c = search needs
+sub-t7 : tie.Need-sub-t7
+sub-t7 c = search needs
 
 field-requires : tie.Need-field-requires
 field-requires c κs = search needs
@@ -24,4 +24,4 @@ returns-2 c =
     (λ e h. let l = ltb-true (c .field .result) (start .args .serial) e in omega (arith, l, c .field .ensures), λ e. omega (arith, if1-left))
 
 pub is-past-spec : {M : Type 1} → statement M
-is-past-spec = tie.close (tie.spec returns sub-t6 field-requires returns-2)
+is-past-spec = tie.close (tie.spec returns sub-t7 field-requires returns-2)

@@ -15,7 +15,7 @@ returns : tie.Need-returns
 returns c =
     let start : tie.Start = search in
     let points-finite-ensures = (let p : tie.After-points-finite = search in p .points-finite .ensures) in
-    (not-finite (sym points-finite-ensures ∙ not-true _ (c .if1 .taken)), start .pre .1 .1, start .pre .1 .2)
+    not-finite (sym points-finite-ensures ∙ not-true _ (c .if1 .taken))
 
 all-new-requires : tie.Need-all-new-requires
 all-new-requires c κs = search needs
@@ -26,7 +26,7 @@ returns-2 c =
     let points-finite-ensures = (let p : tie.After-points-finite = search in p .points-finite .ensures) in
     let if1-left = (let p : tie.Else1 = search in p .if1 .left) in
     let all-new-ensures = (let p : tie.After-all-new = search in p .all-new .ensures) in
-    (not-new (sym points-finite-ensures ∙ not-false _ if1-left) (sym all-new-ensures ∙ not-true _ (c .if2 .taken)), start .pre .1 .1, start .pre .1 .2)
+    not-new (sym points-finite-ensures ∙ not-false _ if1-left) (sym all-new-ensures ∙ not-true _ (c .if2 .taken))
 
 slice-aggregate-rank : tie.Need-slice-aggregate-rank
 slice-aggregate-rank c = search needs
@@ -37,7 +37,7 @@ rank-requires c κs =
       (
         start .pre .1 .3,
         start .pre .1 .4,
-        (let l = start .pre .1 .0 in let f = start .pre .1 .4 in omega (arith, l, f)),
+        start .pre .1 .0,
         (λ i h. let b = start .pre .1 .6 i h in omega (arith, b)),
       ),
       (start .pre .1 .1, search needs, start .pre .1 .2),
@@ -55,12 +55,9 @@ returns-3 c =
     let if1-left = (let p : tie.Else1 = search in p .if1 .left) in
     let all-new-ensures = (let p : tie.After-all-new = search in p .all-new .ensures) in
     let if2-left = (let p : tie.Else2 = search in p .if2 .left) in
-    let rank-ensures = (let p : tie.After-rank = search in p .rank .ensures) in (
-      new-ranked (sym points-finite-ensures ∙ not-false _ if1-left) (sym all-new-ensures ∙ not-false _ if2-left) (rank-ensures .0)
-          (rank-ensures .1 .0),
-      rank-ensures .1 .1,
-      rank-ensures .1 .2,
-    )
+    let rank-ensures = (let p : tie.After-rank = search in p .rank .ensures) in
+    new-ranked (sym points-finite-ensures ∙ not-false _ if1-left) (sym all-new-ensures ∙ not-false _ if2-left) (rank-ensures .0)
+    (rank-ensures .1)
 
 pub new-serials-spec : {M : Type 1} → statement M
 new-serials-spec =

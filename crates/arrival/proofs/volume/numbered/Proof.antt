@@ -12,7 +12,7 @@ number-vertices-requires c κs =
       (
         start .pre .0,
         (let f = start .pre .3 in omega (arith, f)),
-        (let l = start .pre .2 in let f = start .pre .3 in omega (arith, l, f)),
+        start .pre .2,
         start .pre .4,
       ),
       (start .pre .5, start .pre .6),

@@ -37,14 +37,14 @@ mul-if1-2 c =
     let start : tie.Start Inv-loop μ-loop = search in
     let loop-i = (let p : tie.At-loop Inv-loop μ-loop = search in p .loop .i) in
     let rank-at-ensures = (let p : tie.After-rank-at Inv-loop μ-loop = search in p .rank-at .ensures) in
-    let r = start .pre .4 loop-i (omega arith) in omega (arith, r, rank-at-ensures)
+    let r = start .pre .3 loop-i (omega arith) in omega (arith, r, rank-at-ensures)
 
 shared-slice-read-if1-2 : tie.Need-shared-slice-read-if1-2 Inv-loop μ-loop
 shared-slice-read-if1-2 c =
     let start : tie.Start Inv-loop μ-loop = search in
     let loop-i = (let p : tie.At-loop Inv-loop μ-loop = search in p .loop .i) in
     let rank-at-ensures = (let p : tie.After-rank-at Inv-loop μ-loop = search in p .rank-at .ensures) in
-    let r = start .pre .4 loop-i (omega arith) in omega (arith, r, rank-at-ensures)
+    let r = start .pre .3 loop-i (omega arith) in omega (arith, r, rank-at-ensures)
 
 returns : tie.Need-returns Inv-loop μ-loop
 returns c =

@@ -13,32 +13,32 @@ use Rattle.arrival.proofs.volume.volume_right.Tie as tie
 returns : tie.Need-returns
 returns c =
     let start : tie.Start = search in
-    ((λ t w. hollow-no w (c .if1 .taken)), ((λ y. absurd (true≢false (sym y))), start .pre .0 .6, refl))
+    ((λ t w. hollow-no w (c .if1 .taken)), λ y. absurd (true≢false (sym y)))
 
 ordered-requires : tie.Need-ordered-requires
 ordered-requires c κs =
     let start : tie.Start = search in
-    (start .pre .0 .1, start .pre .0 .2, (start .pre .1 .2 .1) .few, segs (start .pre .1 .2 .1) .start-le)
+    (start .pre .0 .1, start .pre .0 .2, segs (start .pre .1 .2 .1) .start-le)
 
 returns-2 : tie.Need-returns-2
 returns-2 c =
     let start : tie.Start = search in
     let ordered-ensures = (let p : tie.After-ordered = search in p .ordered .ensures) in (
       (λ t w. order-no w (sym ordered-ensures ∙ not-true _ (c .if2 .taken))),
-      ((λ y. absurd (true≢false (sym y))), start .pre .0 .6, refl),
+      λ y. absurd (true≢false (sym y)),
     )
 
 vertices-fit-requires : tie.Need-vertices-fit-requires
 vertices-fit-requires c κs =
     let start : tie.Start = search in
-    (start .pre .0 .0, (start .pre .1 .2 .1) .few)
+    start .pre .0 .0
 
 returns-3 : tie.Need-returns-3
 returns-3 c =
     let start : tie.Start = search in
     let vertices-fit-ensures = (let p : tie.After-vertices-fit = search in p .vertices-fit .ensures) in (
       (λ t w. fit-no w (sym vertices-fit-ensures ∙ not-true _ (c .if3 .taken))),
-      ((λ y. absurd (true≢false (sym y))), start .pre .0 .6, refl),
+      λ y. absurd (true≢false (sym y)),
     )
 
 paired-requires : tie.Need-paired-requires
@@ -66,14 +66,15 @@ returns-4 c =
     let vertices-fit-ensures = (let p : tie.After-vertices-fit = search in p .vertices-fit .ensures) in
     let if3-left = (let p : tie.Else3 = search in p .if3 .left) in
     let paired-ensures = (let p : tie.After-paired = search in p .paired .ensures) in (
-      (λ t w. paired-no w (sym vertices-fit-ensures ∙ not-false _ if3-left) (paired-ensures .0) (not-true _ (c .if4 .taken))),
-      ((λ y. absurd (true≢false (sym y))), paired-ensures .1, refl),
+      (λ t w. paired-no w (sym vertices-fit-ensures ∙ not-false _ if3-left) paired-ensures (not-true _ (c .if4 .taken))),
+      λ y. absurd (true≢false (sym y)),
     )
 
 put-draft-requires : tie.Need-put-draft-requires
 put-draft-requires c κs =
     let if4-left = (let p : tie.Else4 = search in p .if4 .left) in
     let paired-ensures = (let p : tie.After-paired = search in p .paired .ensures) in
+    let paired-kept = (let p : tie.After-paired = search in p .paired .kept) in
     let if3-left = (let p : tie.Else3 = search in p .if3 .left) in
     let vertices-fit-ensures = (let p : tie.After-vertices-fit = search in p .vertices-fit .ensures) in
     let c : tie.After-vertices-fit = search in
@@ -84,10 +85,10 @@ put-draft-requires c κs =
         start .pre .0 .3,
         start .pre .0 .4,
         start .pre .0 .5,
-        paired-ensures .1,
+        omega (arith, paired-kept, start .pre .0 .6),
         start .pre .0 .7,
       ),
-      draftable (start .pre .1 .2 .1) (sym vertices-fit-ensures ∙ not-false _ if3-left) (start .pre .1 .0) (paired-ensures .0)
+      draftable (start .pre .1 .2 .1) (sym vertices-fit-ensures ∙ not-false _ if3-left) (start .pre .1 .0) paired-ensures
           (not-false _ if4-left) (start .pre .1 .1),
     )
 
@@ -95,7 +96,7 @@ rank-at-requires : tie.Need-rank-at-requires
 rank-at-requires c κs =
     let c : tie.After-paired = search in
     let start : tie.Start = search in
-    let l = start .pre .0 .5 in omega (arith, l)
+    omega (arith, start .pre .0 .5, start .pre .1 .2 .1 .some-darts)
 
 one-volume-requires : tie.Need-one-volume-requires
 one-volume-requires c κs =
@@ -108,7 +109,7 @@ one-volume-requires c κs =
     let c : tie.After-vertices-fit = search in
     let start : tie.Start = search in (
       links
-          (draft-of (start .pre .1 .2 .1) (sym vertices-fit-ensures ∙ not-false _ if3-left) (start .pre .1 .0) (paired-ensures .0)
+          (draft-of (start .pre .1 .2 .1) (sym vertices-fit-ensures ∙ not-false _ if3-left) (start .pre .1 .0) paired-ensures
           (not-false _ if4-left) put-draft-ensures),
       omega (arith, rank-at-ensures, start .pre .1 .0 .rank-below 0 ((start .pre .1 .2 .1) .some-darts)),
       start .pre .0 .8,
@@ -129,7 +130,6 @@ returns-5 c =
     let if5-taken = (let p : tie.Then5 = search in p .if5 .taken) in
     let one-volume-ensures = (let p : tie.After-one-volume = search in p .one-volume .ensures) in
     let rank-at-ensures = (let p : tie.After-rank-at = search in p .rank-at .ensures) in
-    let put-draft-kept = (let p : tie.After-put-draft = search in p .put-draft .kept) in
     let put-draft-ensures = (let p : tie.After-put-draft = search in p .put-draft .ensures) in
     let if4-left = (let p : tie.Else4 = search in p .if4 .left) in
     let paired-ensures = (let p : tie.After-paired = search in p .paired .ensures) in
@@ -139,9 +139,9 @@ returns-5 c =
     let start : tie.Start = search in
     let vertices-fit-yes = sym vertices-fit-ensures ∙ not-false _ if3-left in (
       (λ t w. volume-no w vertices-fit-yes
-          (draft-of w vertices-fit-yes (start .pre .1 .0) (paired-ensures .0) (not-false _ if4-left) put-draft-ensures)
+          (draft-of w vertices-fit-yes (start .pre .1 .0) paired-ensures (not-false _ if4-left) put-draft-ensures)
           rank-at-ensures (sym one-volume-ensures ∙ not-true _ if5-taken)),
-      ((λ y. absurd (true≢false (sym y))), paired-ensures .1, omega (arith, put-draft-kept)),
+      λ y. absurd (true≢false (sym y)),
     )
 
 numbered-requires : tie.Need-numbered-requires
@@ -155,7 +155,7 @@ numbered-requires c κs =
     let vertices-fit-ensures = (let p : tie.After-vertices-fit = search in p .vertices-fit .ensures) in
     let start : tie.Start = search in (
       links
-          (draft-of (start .pre .1 .2 .1) (sym vertices-fit-ensures ∙ not-false _ if3-left) (start .pre .1 .0) (paired-ensures .0)
+          (draft-of (start .pre .1 .2 .1) (sym vertices-fit-ensures ∙ not-false _ if3-left) (start .pre .1 .0) paired-ensures
           (not-false _ if4-left) put-draft-ensures),
       start .pre .0 .0,
       start .pre .0 .5,
@@ -183,7 +183,6 @@ returns-6 c =
     let if5-left = (let p : tie.Else5 = search in p .if5 .left) in
     let one-volume-ensures = (let p : tie.After-one-volume = search in p .one-volume .ensures) in
     let rank-at-ensures = (let p : tie.After-rank-at = search in p .rank-at .ensures) in
-    let put-draft-kept = (let p : tie.After-put-draft = search in p .put-draft .kept) in
     let put-draft-ensures = (let p : tie.After-put-draft = search in p .put-draft .ensures) in
     let if4-left = (let p : tie.Else4 = search in p .if4 .left) in
     let c : tie.Else4 = search in
@@ -197,18 +196,12 @@ returns-6 c =
     let start : tie.Start = search in
     let vertices-fit-yes = sym vertices-fit-ensures ∙ not-false _ if3-left in (
       (λ t w. numbered-ensures .result ∙ numbers-tell w vertices-fit-yes
-          (draft-of w vertices-fit-yes (start .pre .1 .0) (paired-ensures .0) (not-false _ if4-left) put-draft-ensures)
-          rank-at-ensures (let l = start .pre .0 .5 in let f = w .few in omega (arith, l, f)) (numbered-ensures .numbered)
+          (draft-of w vertices-fit-yes (start .pre .1 .0) paired-ensures (not-false _ if4-left) put-draft-ensures)
+          rank-at-ensures (start .pre .0 .5) (numbered-ensures .numbered)
           (order-yes w if1-left (sym ordered-ensures ∙ not-false _ if2-left))
-          (paired-yes w vertices-fit-yes (start .pre .1 .0) (paired-ensures .0) (not-false _ if4-left))
+          (paired-yes w vertices-fit-yes (start .pre .1 .0) paired-ensures (not-false _ if4-left))
           (sym one-volume-ensures ∙ not-false _ if5-left)),
-      (
-        (λ y.
-            (draft-of (start .pre .1 .2 .1) vertices-fit-yes (start .pre .1 .0) (paired-ensures .0) (not-false _ if4-left)
-            put-draft-ensures)),
-        paired-ensures .1,
-        omega (arith, put-draft-kept),
-      ),
+      λ y. draft-of (start .pre .1 .2 .1) vertices-fit-yes (start .pre .1 .0) paired-ensures (not-false _ if4-left) put-draft-ensures,
     )
 
 pub volume-right-spec : {M : Type 1} → statement M

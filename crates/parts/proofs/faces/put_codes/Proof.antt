@@ -19,7 +19,7 @@ abbrev μ-loop : tie.MeasureT-loop
 loop-holds : tie.Need-loop-holds Inv-loop μ-loop
 loop-holds c =
     let start : tie.Start Inv-loop μ-loop = search in
-    coding-none _ _ _ _ (let t = start .pre .2 .took in let a = t .onward in let b = t .within in omega arith) (start .pre .0)
+    coding-none _ _ _ _ (let t = start .pre .1 .took in let a = t .onward in let b = t .within in omega arith)
 
 read-label-requires : tie.Need-read-label-requires Inv-loop μ-loop
 read-label-requires c κs = search needs
@@ -32,9 +32,8 @@ enum-told c = search needs
 
 same-length : tie.Need-same-length Inv-loop μ-loop
 same-length c =
-    let start : tie.Start Inv-loop μ-loop = search in
     let loop-inv = (let p : tie.At-loop Inv-loop μ-loop = search in p .loop .inv) in
-    loop-inv .put .size ∙ sym (start .pre .0)
+    loop-inv .put .size
 
 returns : tie.Need-returns Inv-loop μ-loop
 returns c =
@@ -42,7 +41,7 @@ returns c =
     let loop-inv = (let p : tie.At-loop Inv-loop μ-loop = search in p .loop .inv) in
     let loop-test-taken = (let p : tie.In-loop Inv-loop μ-loop = search in p .loop-test .taken) in
     let read-label-ensures = (let p : tie.After-read-label Inv-loop μ-loop = search in p .read-label .ensures) in
-    absurd (coding-bad loop-inv (start .pre .2) loop-test-taken (sym (c .enum-told .given .1) ∙ read-label-ensures))
+    absurd (coding-bad loop-inv (start .pre .1) loop-test-taken (sym (c .enum-told .given .1) ∙ read-label-ensures))
 
 add-array : tie.Need-add-array Inv-loop μ-loop
 add-array c = search needs
@@ -66,13 +65,12 @@ loop-again c =
     let loop-test-taken = (let p : tie.In-loop Inv-loop μ-loop = search in p .loop-test .taken) in
     let read-label-ensures = (let p : tie.After-read-label Inv-loop μ-loop = search in p .read-label .ensures) in
     let code-given = (let p : tie.After-code Inv-loop μ-loop = search in p .code .given) in
-    coding-more loop-inv (start .pre .1) loop-test-taken (sym (code-given .1) ∙ read-label-ensures)
+    coding-more loop-inv (start .pre .0) loop-test-taken (sym (code-given .1) ∙ read-label-ensures)
 
 same-length-2 : tie.Need-same-length-2 Inv-loop μ-loop
 same-length-2 c =
-    let start : tie.Start Inv-loop μ-loop = search in
     let loop-inv = (let p : tie.At-loop Inv-loop μ-loop = search in p .loop .inv) in
-    loop-inv .put .size ∙ sym (start .pre .0)
+    loop-inv .put .size
 
 returns-2 : tie.Need-returns-2 Inv-loop μ-loop
 returns-2 c =

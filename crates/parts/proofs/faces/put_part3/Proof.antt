@@ -19,8 +19,7 @@ abbrev μ-loop : tie.MeasureT-loop
 
 loop-holds : tie.Need-loop-holds Inv-loop μ-loop
 loop-holds c =
-    let start : tie.Start Inv-loop μ-loop = search in
-    (faced-none _ _ _ _ (start .pre .0 .3), faced-none _ _ _ _ (start .pre .0 .4), omega arith)
+    (faced-none _ _ _ _, faced-none _ _ _ _, omega arith)
 
 entry-index-requires : tie.Need-entry-index-requires Inv-loop μ-loop
 entry-index-requires c κs = search needs
@@ -29,7 +28,7 @@ size-at-requires : tie.Need-size-at-requires Inv-loop μ-loop
 size-at-requires c κs =
     let start : tie.Start Inv-loop μ-loop = search in
     let loop-e = (let p : tie.At-loop Inv-loop μ-loop = search in p .loop .e) in
-    let h = start .pre .1 .0 .below loop-e (omega arith) in omega (arith, h, c .entry-index .ensures, start .pre .0 .2)
+    let h = start .pre .1 .1 .below loop-e (omega arith) in omega (arith, h, c .entry-index .ensures, start .pre .1 .2)
 
 mul-fill : tie.Need-mul-fill Inv-loop μ-loop
 mul-fill c = search needs
@@ -46,7 +45,8 @@ fill-requires c κs =
     let size-at-ensures = (let p : tie.After-size-at Inv-loop μ-loop = search in p .size-at .ensures) in
     let loop-e = (let p : tie.At-loop Inv-loop μ-loop = search in p .loop .e) in
     let loop-inv = (let p : tie.At-loop Inv-loop μ-loop = search in p .loop .inv) in
-    (loop-inv .0 .size, face-within sizes indices loop-e entry-index-ensures size-at-ensures (start .pre .1 .0) (omega arith))
+    let within = face-within sizes indices loop-e entry-index-ensures size-at-ensures (start .pre .1 .1) (omega arith) in
+    omega (arith, within, loop-inv .0 .size, start .pre .1 .3)
 
 mul-count-up : tie.Need-mul-count-up Inv-loop μ-loop
 mul-count-up c = search needs
@@ -61,13 +61,13 @@ add-count-up : tie.Need-add-count-up Inv-loop μ-loop
 add-count-up c =
     let start : tie.Start Inv-loop μ-loop = search in
     let loop-e = (let p : tie.At-loop Inv-loop μ-loop = search in p .loop .e) in
-    let h = start .pre .1 .3 loop-e (omega arith) in omega arith
+    let h = start .pre .0 .3 loop-e (omega arith) in omega arith
 
 mul-count-up-3 : tie.Need-mul-count-up-3 Inv-loop μ-loop
 mul-count-up-3 c =
     let start : tie.Start Inv-loop μ-loop = search in
     let loop-e = (let p : tie.At-loop Inv-loop μ-loop = search in p .loop .e) in
-    let h = start .pre .1 .3 loop-e (omega arith) in omega arith
+    let h = start .pre .0 .3 loop-e (omega arith) in omega arith
 
 count-up-requires : tie.Need-count-up-requires Inv-loop μ-loop
 count-up-requires c κs =
@@ -78,7 +78,8 @@ count-up-requires c κs =
     let size-at-ensures = (let p : tie.After-size-at Inv-loop μ-loop = search in p .size-at .ensures) in
     let loop-e = (let p : tie.At-loop Inv-loop μ-loop = search in p .loop .e) in
     let loop-inv = (let p : tie.At-loop Inv-loop μ-loop = search in p .loop .inv) in
-    (loop-inv .1 .size, face-within sizes indices loop-e entry-index-ensures size-at-ensures (start .pre .1 .0) (omega arith), (let h = start .pre .1 .3 loop-e (omega arith) in omega arith))
+    let within = face-within sizes indices loop-e entry-index-ensures size-at-ensures (start .pre .1 .1) (omega arith) in
+    (omega (arith, within, loop-inv .1 .size, start .pre .1 .4), (let h = start .pre .0 .3 loop-e (omega arith) in omega (arith, h)))
 
 add-e : tie.Need-add-e Inv-loop μ-loop
 add-e c = search needs
@@ -99,24 +100,22 @@ loop-again c =
     let numbers = start .args .numbers .now in
     let fill-ensures = (let p : tie.After-fill Inv-loop μ-loop = search in p .fill .ensures) in
     let count-up-ensures = (let p : tie.After-count-up Inv-loop μ-loop = search in p .count-up .ensures) in (
-      faced-more (start .pre .1 .0) (loop-inv .0) (omega arith)
+      faced-more (start .pre .1 .1) (loop-inv .0) (omega arith)
           (over-face sizes indices loop-e entry-index-ensures size-at-ensures (λ k j. 2 + 4 * from) fill-ensures),
-      faced-more (start .pre .1 .0) (loop-inv .1) (omega arith)
+      faced-more (start .pre .1 .1) (loop-inv .1) (omega arith)
           (over-face sizes indices loop-e entry-index-ensures size-at-ensures (λ k. numbered-code from numbers loop-e) count-up-ensures),
       omega arith,
     )
 
 same-length : tie.Need-same-length Inv-loop μ-loop
 same-length c =
-    let start : tie.Start Inv-loop μ-loop = search in
     let loop-inv = (let p : tie.At-loop Inv-loop μ-loop = search in p .loop .inv) in
-    loop-inv .0 .size ∙ sym (start .pre .0 .3)
+    loop-inv .0 .size
 
 same-length-2 : tie.Need-same-length-2 Inv-loop μ-loop
 same-length-2 c =
-    let start : tie.Start Inv-loop μ-loop = search in
     let loop-inv = (let p : tie.At-loop Inv-loop μ-loop = search in p .loop .inv) in
-    loop-inv .1 .size ∙ sym (start .pre .0 .4)
+    loop-inv .1 .size
 
 returns : tie.Need-returns Inv-loop μ-loop
 returns c =

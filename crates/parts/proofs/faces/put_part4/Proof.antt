@@ -22,8 +22,7 @@ abbrev μ-loop : tie.MeasureT-loop
 
 loop-holds : tie.Need-loop-holds Inv-loop μ-loop
 loop-holds c =
-    let start : tie.Start Inv-loop μ-loop = search in
-    (faced-none _ _ _ _ (start .pre .0 .4), faced-none _ _ _ _ (start .pre .0 .5), omega arith)
+    (faced-none _ _ _ _, faced-none _ _ _ _, omega arith)
 
 entry-index-requires : tie.Need-entry-index-requires Inv-loop μ-loop
 entry-index-requires c κs = search needs
@@ -32,7 +31,7 @@ size-at-requires : tie.Need-size-at-requires Inv-loop μ-loop
 size-at-requires c κs =
     let start : tie.Start Inv-loop μ-loop = search in
     let loop-e = (let p : tie.At-loop Inv-loop μ-loop = search in p .loop .e) in
-    let h = start .pre .1 .0 .below loop-e (omega arith) in omega (arith, h, c .entry-index .ensures, start .pre .0 .3)
+    let h = start .pre .1 .1 .below loop-e (omega arith) in omega (arith, h, c .entry-index .ensures, start .pre .1 .2)
 
 mul-fill : tie.Need-mul-fill Inv-loop μ-loop
 mul-fill c = search needs
@@ -44,13 +43,13 @@ mul-fill-2 : tie.Need-mul-fill-2 Inv-loop μ-loop
 mul-fill-2 c =
     let start : tie.Start Inv-loop μ-loop = search in
     let loop-e = (let p : tie.At-loop Inv-loop μ-loop = search in p .loop .e) in
-    let h = start .pre .1 .2 loop-e (omega arith) in omega arith
+    let h = start .pre .0 .3 loop-e (omega arith) in omega arith
 
 add-fill : tie.Need-add-fill Inv-loop μ-loop
 add-fill c =
     let start : tie.Start Inv-loop μ-loop = search in
     let loop-e = (let p : tie.At-loop Inv-loop μ-loop = search in p .loop .e) in
-    let h = start .pre .1 .2 loop-e (omega arith) in omega arith
+    let h = start .pre .0 .3 loop-e (omega arith) in omega arith
 
 fill-requires : tie.Need-fill-requires Inv-loop μ-loop
 fill-requires c κs =
@@ -61,7 +60,8 @@ fill-requires c κs =
     let size-at-ensures = (let p : tie.After-size-at Inv-loop μ-loop = search in p .size-at .ensures) in
     let loop-e = (let p : tie.At-loop Inv-loop μ-loop = search in p .loop .e) in
     let loop-inv = (let p : tie.At-loop Inv-loop μ-loop = search in p .loop .inv) in
-    (loop-inv .0 .size, face-within sizes indices loop-e entry-index-ensures size-at-ensures (start .pre .1 .0) (omega arith))
+    let within = face-within sizes indices loop-e entry-index-ensures size-at-ensures (start .pre .1 .1) (omega arith) in
+    omega (arith, within, loop-inv .0 .size, start .pre .1 .3)
 
 mul-put-codes : tie.Need-mul-put-codes Inv-loop μ-loop
 mul-put-codes c = search needs
@@ -79,10 +79,10 @@ put-codes-requires c κs =
     let loop-e = (let p : tie.At-loop Inv-loop μ-loop = search in p .loop .e) in
     let loop-inv = (let p : tie.At-loop Inv-loop μ-loop = search in p .loop .inv) in
     let message = start .args .message .now in
-    let places = start .args .places .now in (
-      loop-inv .1 .size,
-      face-within sizes indices loop-e entry-index-ensures size-at-ensures (start .pre .1 .0) (omega arith),
-      subst (LabelsThere message (getD places loop-e 0)) (sym (face-size-is sizes indices loop-e entry-index-ensures size-at-ensures)) (start .pre .1 .3 loop-e (omega arith)),
+    let places = start .args .places .now in
+    let within = face-within sizes indices loop-e entry-index-ensures size-at-ensures (start .pre .1 .1) (omega arith) in (
+      omega (arith, within, loop-inv .1 .size, start .pre .1 .4),
+      subst (LabelsThere message (getD places loop-e 0)) (sym (face-size-is sizes indices loop-e entry-index-ensures size-at-ensures)) (start .pre .0 .4 loop-e (omega arith)),
     )
 
 add-e : tie.Need-add-e Inv-loop μ-loop
@@ -105,24 +105,22 @@ loop-again c =
     let places = start .args .places .now in
     let fill-ensures = (let p : tie.After-fill Inv-loop μ-loop = search in p .fill .ensures) in
     let put-codes-ensures = (let p : tie.After-put-codes Inv-loop μ-loop = search in p .put-codes .ensures) in (
-      faced-more (start .pre .1 .0) (loop-inv .0) (omega arith)
+      faced-more (start .pre .1 .1) (loop-inv .0) (omega arith)
           (over-face sizes indices loop-e entry-index-ensures size-at-ensures (λ k j. 2 + 4 * getD others loop-e 0) fill-ensures),
-      faced-more (start .pre .1 .0) (loop-inv .1) (omega arith)
+      faced-more (start .pre .1 .1) (loop-inv .1) (omega arith)
           (over-face sizes indices loop-e entry-index-ensures size-at-ensures (code-at message (getD places loop-e 0)) put-codes-ensures),
       omega arith,
     )
 
 same-length : tie.Need-same-length Inv-loop μ-loop
 same-length c =
-    let start : tie.Start Inv-loop μ-loop = search in
     let loop-inv = (let p : tie.At-loop Inv-loop μ-loop = search in p .loop .inv) in
-    loop-inv .0 .size ∙ sym (start .pre .0 .4)
+    loop-inv .0 .size
 
 same-length-2 : tie.Need-same-length-2 Inv-loop μ-loop
 same-length-2 c =
-    let start : tie.Start Inv-loop μ-loop = search in
     let loop-inv = (let p : tie.At-loop Inv-loop μ-loop = search in p .loop .inv) in
-    loop-inv .1 .size ∙ sym (start .pre .0 .5)
+    loop-inv .1 .size
 
 returns : tie.Need-returns Inv-loop μ-loop
 returns c =

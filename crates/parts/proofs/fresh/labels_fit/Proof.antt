@@ -1,6 +1,6 @@
 -- `parts::fresh::labels_fit` meets its contract.
 -- Assumes nothing.
-use mathlib.Core.Path.{refl, sym, _∙_}
+use mathlib.Core.Path.{sym, _∙_}
 use borrow.Author.Tests.{not-true, not-false}
 use Rattle.parts.proofs.FreshSteps.{own-no, twice-no, clear-is, value-small}
 use native.Mathlib.Omega.{arith}
@@ -28,36 +28,36 @@ returns c =
     let all-own-ensures = (let p : tie.After-all-own = search in p .all-own .ensures) in
     own-no block n kinds links k (sym all-own-ensures ∙ not-true _ (c .if1 .taken))
 
-slice-aggregate-put-values : tie.Need-slice-aggregate-put-values
-slice-aggregate-put-values c = search needs
-
 put-values-requires : tie.Need-put-values-requires
-put-values-requires c κs = search needs
-
-slice-aggregate-rank : tie.Need-slice-aggregate-rank
-slice-aggregate-rank c = search needs
-
-slice-aggregate-rank-2 : tie.Need-slice-aggregate-rank-2
-slice-aggregate-rank-2 c = search needs
-
-slice-aggregate-rank-3 : tie.Need-slice-aggregate-rank-3
-slice-aggregate-rank-3 c = search needs
-
-slice-aggregate-rank-4 : tie.Need-slice-aggregate-rank-4
-slice-aggregate-rank-4 c = search needs
+put-values-requires c κs =
+    let start : tie.Start = search in
+    (start .pre .0 .2, start .pre .0 .3, start .pre .1 .0 .0, start .pre .0 .5)
 
 rank-requires : tie.Need-rank-requires
 rank-requires c κs =
     let start : tie.Start = search in
-    let put-values-ensures = (let p : tie.After-put-values = search in p .put-values .ensures) in (
+    let put-values-ensures = (let p : tie.After-put-values = search in p .put-values .ensures) in
+    let put-values-kept = (let p : tie.After-put-values = search in p .put-values .kept) in (
       (
         start .pre .0 .4,
         start .pre .0 .5,
-        (let n = put-values-ensures .len in omega arith),
-        value-small put-values-ensures (start .pre .0 .5) (start .pre .1),
+        omega (arith, put-values-kept, start .pre .1 .0 .0),
+        value-small put-values-ensures (start .pre .0 .5) (start .pre .1 .1),
       ),
-      (refl, refl, refl),
+      (start .pre .1 .0 .1, start .pre .1 .0 .2, start .pre .1 .0 .3),
     )
+
+same-length : tie.Need-same-length
+same-length c = search needs
+
+same-length-2 : tie.Need-same-length-2
+same-length-2 c = search needs
+
+same-length-3 : tie.Need-same-length-3
+same-length-3 c = search needs
+
+same-length-4 : tie.Need-same-length-4
+same-length-4 c = search needs
 
 returns-2 : tie.Need-returns-2
 returns-2 c =
@@ -71,15 +71,25 @@ returns-2 c =
     let rank-ensures = (let p : tie.After-rank = search in p .rank .ensures) in
     twice-no block n kinds links k put-values-ensures (sym (rank-ensures .0) ∙ not-true _ (c .if2 .taken))
 
-slice-aggregate-all-clear : tie.Need-slice-aggregate-all-clear
-slice-aggregate-all-clear c = search needs
-
 all-clear-requires : tie.Need-all-clear-requires
 all-clear-requires c κs =
     let start : tie.Start = search in
     let rank-ensures = (let p : tie.After-rank = search in p .rank .ensures) in
+    let rank-kept = (let p : tie.After-rank = search in p .rank .kept) in
     let if2-left = (let p : tie.Else2 = search in p .if2 .left) in
-    (start .pre .0 .0, start .pre .0 .1, rank-ensures .1 .1, start .pre .0 .5, rank-ensures .1 .0 (not-false _ if2-left) .ascends)
+    (start .pre .0 .0, start .pre .0 .1, omega (arith, rank-kept, start .pre .1 .0 .1), start .pre .0 .5, rank-ensures .1 (not-false _ if2-left) .ascends)
+
+same-length-5 : tie.Need-same-length-5
+same-length-5 c = search needs
+
+same-length-6 : tie.Need-same-length-6
+same-length-6 c = search needs
+
+same-length-7 : tie.Need-same-length-7
+same-length-7 c = search needs
+
+same-length-8 : tie.Need-same-length-8
+same-length-8 c = search needs
 
 returns-3 : tie.Need-returns-3
 returns-3 c =
@@ -95,7 +105,7 @@ returns-3 c =
     let rank-ensures = (let p : tie.After-rank = search in p .rank .ensures) in
     let if2-left = (let p : tie.Else2 = search in p .if2 .left) in
     clear-is block n kinds links k (sym all-own-ensures ∙ not-false _ if1-left) put-values-ensures
-    (sym (rank-ensures .0) ∙ not-false _ if2-left) (rank-ensures .1 .0 (not-false _ if2-left)) (c .all-clear .ensures)
+    (sym (rank-ensures .0) ∙ not-false _ if2-left) (rank-ensures .1 (not-false _ if2-left)) (c .all-clear .ensures)
 
 pub labels-fit-spec : {M : Type 1} → statement M
 labels-fit-spec =
@@ -105,14 +115,16 @@ labels-fit-spec =
     shared-slice-read-all-own-2
     all-own-requires
     returns
-    slice-aggregate-put-values
     put-values-requires
-    slice-aggregate-rank
-    slice-aggregate-rank-2
-    slice-aggregate-rank-3
-    slice-aggregate-rank-4
     rank-requires
+    same-length
+    same-length-2
+    same-length-3
+    same-length-4
     returns-2
-    slice-aggregate-all-clear
     all-clear-requires
+    same-length-5
+    same-length-6
+    same-length-7
+    same-length-8
     returns-3)

@@ -1,7 +1,8 @@
 -- `parts::fresh::put_values` meets its contract.
 -- Assumes nothing.
 use Prim.Native.Nat.{_-_}
-use mathlib.Core.Path.{sym, _∙_}
+use mathlib.Core.Path.{_≡_, refl, _∙_}
+use lib.ListN.{length, length-set}
 use Rattle.parts.specs.Fresh.{fresh-at}
 use Rattle.parts.proofs.FreshSteps.{Valued, valued-none, valued-more, valued-all}
 use native.Mathlib.Omega.{arith}
@@ -11,7 +12,7 @@ use Rattle.parts.proofs.fresh.put_values.Tie as tie
 
 abbrev Inv-loop : tie.InvT-loop
 Inv-loop kinds links k values₀ q₀ values q =
-    Valued (fresh-at kinds links) k values q
+    Valued (fresh-at kinds links) k values q × (length values ≡ length values₀)
 
 abbrev μ-loop : tie.MeasureT-loop
 μ-loop kinds links k values₀ q₀ values q =
@@ -20,7 +21,7 @@ abbrev μ-loop : tie.MeasureT-loop
 loop-holds : tie.Need-loop-holds Inv-loop μ-loop
 loop-holds c =
     let start : tie.Start Inv-loop μ-loop = search in
-    valued-none _ _ (start .pre .2)
+    (valued-none _ _ (start .pre .2), refl)
 
 mul-fresh-value : tie.Need-mul-fresh-value Inv-loop μ-loop
 mul-fresh-value c = search needs
@@ -43,7 +44,7 @@ mul-values c = search needs
 slice-write-values : tie.Need-slice-write-values Inv-loop μ-loop
 slice-write-values c =
     let loop-inv = (let p : tie.At-loop Inv-loop μ-loop = search in p .loop .inv) in
-    let n = loop-inv .len in omega arith
+    let n = loop-inv .0 .len in omega arith
 
 add-q : tie.Need-add-q Inv-loop μ-loop
 add-q c = search needs
@@ -53,20 +54,19 @@ loop-less c = search needs
 
 loop-again : tie.Need-loop-again Inv-loop μ-loop
 loop-again c =
-    let start : tie.Start Inv-loop μ-loop = search in
     let loop-inv = (let p : tie.At-loop Inv-loop μ-loop = search in p .loop .inv) in
-    valued-more loop-inv (start .pre .3) (omega arith) (c .fresh-value .ensures)
+    let loop-values = (let p : tie.At-loop Inv-loop μ-loop = search in p .loop .values) in
+    (valued-more (loop-inv .0) (omega arith) (c .fresh-value .ensures), length-set loop-values _ _ ∙ loop-inv .1)
 
 same-length : tie.Need-same-length Inv-loop μ-loop
 same-length c =
-    let start : tie.Start Inv-loop μ-loop = search in
     let loop-inv = (let p : tie.At-loop Inv-loop μ-loop = search in p .loop .inv) in
-    loop-inv .len ∙ sym (start .pre .2)
+    loop-inv .1
 
 returns : tie.Need-returns Inv-loop μ-loop
 returns c =
     let loop-inv = (let p : tie.At-loop Inv-loop μ-loop = search in p .loop .inv) in
-    valued-all _ _ loop-inv (omega arith)
+    valued-all _ _ (loop-inv .0) (omega arith)
 
 pub put-values-spec : {M : Type 1} → statement M
 put-values-spec =

@@ -36,13 +36,13 @@ index-at-requires : tie.Need-index-at-requires
 index-at-requires c κs =
     let start : tie.Start = search in
     let if1-left = (let p : tie.Else1 = search in p .if1 .left) in
-    omega (arith, if1-left, start .pre .1, start .pre .4)
+    omega (arith, if1-left, start .pre .1)
 
 shared-slice-read-result : tie.Need-shared-slice-read-result
 shared-slice-read-result c =
     let start : tie.Start = search in
     let if1-left = (let p : tie.Else1 = search in p .if1 .left) in
-    omega (arith, if1-left, start .pre .2, start .pre .4)
+    omega (arith, if1-left, start .pre .2)
 
 returns-3 : tie.Need-returns-3
 returns-3 c =

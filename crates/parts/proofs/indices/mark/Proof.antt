@@ -1,7 +1,6 @@
 -- `parts::indices::mark` meets its contract.
 -- Assumes nothing.
 use Prim.Native.Nat.{_-_, _≤_}
-use mathlib.Core.Path.{sym, _∙_}
 use Rattle.parts.proofs.IndexLaws.{Marking, marking-none, marking-more, marking-end}
 use native.Mathlib.Omega.{arith}
 use borrow.Author.Needs.{needs}
@@ -18,8 +17,7 @@ abbrev μ-loop : tie.MeasureT-loop
 
 loop-holds : tie.Need-loop-holds Inv-loop μ-loop
 loop-holds c =
-    let start : tie.Start Inv-loop μ-loop = search in
-    (marking-none _ _ (start .pre .1), omega arith)
+    (marking-none _ _, omega arith)
 
 entry-index-requires : tie.Need-entry-index-requires Inv-loop μ-loop
 entry-index-requires c κs = search needs
@@ -30,7 +28,7 @@ slice-write-marks c =
     let loop-e = (let p : tie.At-loop Inv-loop μ-loop = search in p .loop .e) in
     let loop-inv = (let p : tie.At-loop Inv-loop μ-loop = search in p .loop .inv) in
     let entry-index-ensures = (let p : tie.After-entry-index Inv-loop μ-loop = search in p .entry-index .ensures) in
-    omega (arith, loop-inv .0 .size, start .pre .3 loop-e (omega arith), entry-index-ensures)
+    omega (arith, loop-inv .0 .size, start .pre .1 loop-e (omega arith), entry-index-ensures)
 
 add-e : tie.Need-add-e Inv-loop μ-loop
 add-e c = search needs
@@ -44,13 +42,12 @@ loop-again c =
     let loop-e = (let p : tie.At-loop Inv-loop μ-loop = search in p .loop .e) in
     let loop-inv = (let p : tie.At-loop Inv-loop μ-loop = search in p .loop .inv) in
     let entry-index-ensures = (let p : tie.After-entry-index Inv-loop μ-loop = search in p .entry-index .ensures) in
-    (marking-more (loop-inv .0) entry-index-ensures (omega (arith, entry-index-ensures, start .pre .3 loop-e (omega arith))), omega arith)
+    (marking-more (loop-inv .0) entry-index-ensures (omega (arith, entry-index-ensures, start .pre .1 loop-e (omega arith))), omega arith)
 
 same-length : tie.Need-same-length Inv-loop μ-loop
 same-length c =
-    let start : tie.Start Inv-loop μ-loop = search in
     let loop-inv = (let p : tie.At-loop Inv-loop μ-loop = search in p .loop .inv) in
-    loop-inv .0 .size ∙ sym (start .pre .1)
+    loop-inv .0 .size
 
 returns : tie.Need-returns Inv-loop μ-loop
 returns c =

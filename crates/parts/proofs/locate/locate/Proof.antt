@@ -1,7 +1,7 @@
 -- `parts::locate::locate` meets its contract.
 -- Assumes nothing.
 use Prim.Native.Nat.{_-_, _≤_}
-use mathlib.Core.Path.{refl, sym, _∙_, ap}
+use mathlib.Core.Path.{_≡_, refl, _∙_}
 use lib.ListN.{length}
 use Rattle.parts.specs.Locate.{Located}
 use Rattle.parts.proofs.Locating.{located-none, located-more, located-all}
@@ -12,7 +12,7 @@ use Rattle.parts.proofs.locate.locate.Tie as tie
 
 abbrev Inv-loop : tie.InvT-loop
 Inv-loop block n codes c keys ranks places₀ p₀ places p =
-    Located block codes c p places × (p ≤ n)
+    Located block codes c p places × (p ≤ n) × (length places ≡ length places₀)
 
 abbrev μ-loop : tie.MeasureT-loop
 μ-loop block n codes c keys ranks places₀ p₀ places p =
@@ -21,13 +21,13 @@ abbrev μ-loop : tie.MeasureT-loop
 loop-holds : tie.Need-loop-holds Inv-loop μ-loop
 loop-holds c =
     let start : tie.Start Inv-loop μ-loop = search in
-    (located-none _ _ _ (start .pre .3) (start .pre .4), omega arith)
+    (located-none _ _ _ (start .pre .5), omega arith, refl)
 
 note-requires : tie.Need-note-requires Inv-loop μ-loop
 note-requires c κs =
     let start : tie.Start Inv-loop μ-loop = search in
     let loop-inv = (let p : tie.At-loop Inv-loop μ-loop = search in p .loop .inv) in
-    (omega (arith, start .pre .0), start .pre .2, start .pre .3, loop-inv .0 .size, start .pre .5 .ascends, start .pre .5 .index-below)
+    (omega (arith, start .pre .0), start .pre .2, start .pre .3, omega (arith, loop-inv .2, start .pre .4), start .pre .6 .ascends, start .pre .6 .index-below)
 
 add-p : tie.Need-add-p Inv-loop μ-loop
 add-p c = search needs
@@ -40,13 +40,12 @@ loop-again c =
     let start : tie.Start Inv-loop μ-loop = search in
     let loop-inv = (let p : tie.At-loop Inv-loop μ-loop = search in p .loop .inv) in
     let note-ensures = (let p : tie.After-note Inv-loop μ-loop = search in p .note .ensures) in
-    (located-more (start .pre .5) (loop-inv .0) note-ensures, omega arith)
+    (located-more (start .pre .6) (loop-inv .0) note-ensures, omega arith, note-ensures .size ∙ loop-inv .2)
 
 same-length : tie.Need-same-length Inv-loop μ-loop
 same-length c =
-    let start : tie.Start Inv-loop μ-loop = search in
     let loop-inv = (let p : tie.At-loop Inv-loop μ-loop = search in p .loop .inv) in
-    loop-inv .0 .size ∙ sym (ap length (start .pre .4) ∙ refl)
+    loop-inv .2
 
 returns : tie.Need-returns Inv-loop μ-loop
 returns c =

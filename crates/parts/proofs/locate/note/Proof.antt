@@ -20,7 +20,7 @@ returns c =
     let p' = start .args .p .0 in
     let places = start .args .places .now in
     let field-ensures = (let p : tie.After-field = search in p .field .ensures) in
-    noted-free block keys c' p' places (start .pre .3) (let e = field-ensures in omega arith)
+    noted-free block keys c' p' places (let e = field-ensures in omega arith)
 
 field-requires-2 : tie.Need-field-requires-2
 field-requires-2 c κs = search needs
@@ -44,7 +44,7 @@ returns-2 c =
     let places = start .args .places .now in
     let field2-ensures = (let p : tie.After-field2 = search in p .field2 .ensures) in
     let find-ensures = (let p : tie.After-find = search in p .find .ensures) in
-    noted-none block keys c' p' places (start .pre .3) (ap (rank-in (value-at keys) c') (sym field2-ensures) ∙ sym find-ensures ∙ c .enum-told .given .1)
+    noted-none block keys c' p' places (ap (rank-in (value-at keys) c') (sym field2-ensures) ∙ sym find-ensures ∙ c .enum-told .given .1)
 
 mul-e : tie.Need-mul-e
 mul-e c =
@@ -64,7 +64,12 @@ mul-places : tie.Need-mul-places
 mul-places c = search needs
 
 slice-write-places : tie.Need-slice-write-places
-slice-write-places c = search needs
+slice-write-places c =
+    let start : tie.Start = search in
+    let find-ensures = (let p : tie.After-find = search in p .find .ensures) in
+    let r-given = (let p : tie.After-r = search in p .r .given) in
+    let b = found-below (start .args .keys .now) (start .args .c) _ (sym find-ensures ∙ r-given .1) in
+    let i = start .pre .5 _ b in omega (arith, i, start .pre .3)
 
 same-length : tie.Need-same-length
 same-length c = search needs
@@ -81,7 +86,7 @@ returns-3 c =
     let field2-ensures = (let p : tie.After-field2 = search in p .field2 .ensures) in
     let find-ensures = (let p : tie.After-find = search in p .find .ensures) in
     let r-given = (let p : tie.After-r = search in p .r .given) in
-    noted-found block keys c' p' places (start .pre .3) (let e = field-ensures in omega arith) (start .pre .4) (start .pre .2)
+    noted-found block keys c' p' places (let e = field-ensures in omega arith) (start .pre .4) (start .pre .3)
     (start .pre .5) (ap (rank-in (value-at keys) c') (sym field2-ensures) ∙ sym find-ensures ∙ r-given .1)
 
 pub note-spec : {M : Type 1} → statement M

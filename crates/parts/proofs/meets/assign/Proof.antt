@@ -25,7 +25,7 @@ loop-holds c =
 place-at-requires : tie.Need-place-at-requires Inv-loop μ-loop
 place-at-requires c κs =
     let start : tie.Start Inv-loop μ-loop = search in
-    omega (arith, start .pre .0 .len)
+    omega (arith, start .pre .len)
 
 slice-write-seen : tie.Need-slice-write-seen Inv-loop μ-loop
 slice-write-seen c =
@@ -33,7 +33,7 @@ slice-write-seen c =
     let loop-inv = (let p : tie.At-loop Inv-loop μ-loop = search in p .loop .inv) in
     let loop-j = (let p : tie.At-loop Inv-loop μ-loop = search in p .loop .j) in
     let place-at-ensures = (let p : tie.After-place-at Inv-loop μ-loop = search in p .place-at .ensures) in
-    omega (arith, start .pre .0 .below loop-j (omega arith), loop-inv .0 .size, start .pre .2, place-at-ensures)
+    omega (arith, start .pre .below loop-j (omega arith), loop-inv .0 .size, place-at-ensures)
 
 add-j : tie.Need-add-j Inv-loop μ-loop
 add-j c = search needs
@@ -48,8 +48,8 @@ loop-again c =
     let loop-inv = (let p : tie.At-loop Inv-loop μ-loop = search in p .loop .inv) in
     let loop-j = (let p : tie.At-loop Inv-loop μ-loop = search in p .loop .j) in
     let place-at-ensures = (let p : tie.After-place-at Inv-loop μ-loop = search in p .place-at .ensures) in (
-      assign-trail trail loop-j (loop-inv .0) (let l = start .pre .0 .len in omega (arith, l))
-          (let b = start .pre .0 .below loop-j (omega arith) in let l = start .pre .2 in omega (arith, b, l))
+      assign-trail trail loop-j (loop-inv .0) (let l = start .pre .len in omega (arith, l))
+          (start .pre .below loop-j (omega arith))
           place-at-ensures,
       omega arith,
     )

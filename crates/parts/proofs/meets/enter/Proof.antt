@@ -12,7 +12,7 @@ use Rattle.parts.proofs.meets.enter.Tie as tie
 is-new-requires : tie.Need-is-new-requires
 is-new-requires c κs =
     let start : tie.Start = search in
-    (start .pre .0 .linked .few, start .pre .4)
+    start .pre .4
 
 same-length : tie.Need-same-length
 same-length c = search needs
@@ -25,7 +25,7 @@ returns c =
     let at = start .args .at .0 in
     let size = start .args .size in
     let is-new-ensures = (let p : tie.After-is-new = search in p .is-new .ensures) in
-    entered-old from y at size (start .pre .3) (start .pre .4) (start .pre .5) (start .pre .6) (sym is-new-ensures ∙ not-true _ (c .if1 .taken))
+    entered-old from y at size (sym is-new-ensures ∙ not-true _ (c .if1 .taken))
 
 entry-right-requires : tie.Need-entry-right-requires
 entry-right-requires c κs =
@@ -35,10 +35,7 @@ entry-right-requires c κs =
     (start .pre .0, start .pre .1, new-below (start .args .y .0) (start .args .n) _ (sym is-new-ensures ∙ not-false _ if1-left), start .pre .2, start .pre .3)
 
 same-length-2 : tie.Need-same-length-2
-same-length-2 c =
-    let start : tie.Start = search in
-    let entry-right-ensures = (let p : tie.After-entry-right = search in p .entry-right .ensures) in
-    entry-right-ensures .len ∙ sym (start .pre .3)
+same-length-2 c = search needs
 
 same-length-3 : tie.Need-same-length-3
 same-length-3 c = search needs
@@ -56,19 +53,19 @@ returns-2 c =
     let is-new-ensures = (let p : tie.After-is-new = search in p .is-new .ensures) in
     let if1-left = (let p : tie.Else1 = search in p .if1 .left) in
     let entry-right-ensures = (let p : tie.After-entry-right = search in p .entry-right .ensures) in
-    entered-no from y at size (start .pre .4) (start .pre .5) (start .pre .6) (sym is-new-ensures ∙ not-false _ if1-left)
+    entered-no from y at size (sym is-new-ensures ∙ not-false _ if1-left)
     (subst (EntryRight block draft ranks from y at size _) (not-true _ (c .if2 .taken)) entry-right-ensures)
 
 fill-requires : tie.Need-fill-requires
 fill-requires c κs =
     let start : tie.Start = search in
-    (start .pre .5, (let f = start .pre .0 .few in let h = start .pre .2 in omega (arith, f, h)))
+    omega (arith, start .pre .2, start .pre .5)
 
 put-met-requires : tie.Need-put-met-requires
 put-met-requires c κs =
     let start : tie.Start = search in
     let entry-right-ensures = (let p : tie.After-entry-right = search in p .entry-right .ensures) in
-    (entry-right-ensures .len, start .pre .6, (let f = start .pre .0 .few in let h = start .pre .2 in omega (arith, f, h)))
+    (entry-right-ensures .len, omega (arith, start .pre .2, start .pre .6))
 
 assign-requires : tie.Need-assign-requires
 assign-requires c κs =
@@ -85,12 +82,9 @@ assign-requires c κs =
     let n = start .args .n in
     let block = start .args .block .now in
     let draft = start .args .draft .now in
-    let ranks = start .args .ranks .now in (
-      entered-trail (start .pre .0) from y at size (new-below y n _ (sym is-new-ensures ∙ not-false _ if1-left)) (start .pre .2)
-          (subst (EntryRight block draft ranks from y at size _) (not-false _ if2-left) entry-right-ensures),
-      (let f = start .pre .0 .few in let h = start .pre .2 in omega (arith, f, h)),
-      start .pre .4,
-    )
+    let ranks = start .args .ranks .now in
+    entered-trail (start .pre .0) from y at size (new-below y n _ (sym is-new-ensures ∙ not-false _ if1-left)) (start .pre .4)
+    (subst (EntryRight block draft ranks from y at size _) (not-false _ if2-left) entry-right-ensures)
 
 same-length-4 : tie.Need-same-length-4
 same-length-4 c = search needs
@@ -122,7 +116,7 @@ returns-3 c =
     let block = start .args .block .now in
     let draft = start .args .draft .now in
     let ranks = start .args .ranks .now in
-    entered-yes from y at size (start .pre .4) (sym is-new-ensures ∙ not-false _ if1-left)
+    entered-yes from y at size (sym is-new-ensures ∙ not-false _ if1-left)
     (subst (EntryRight block draft ranks from y at size _) (not-false _ if2-left) entry-right-ensures) fill-ensures
     put-met-ensures assign-ensures
 

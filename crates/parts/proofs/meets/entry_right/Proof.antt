@@ -36,7 +36,7 @@ returns c =
 walk-face-requires : tie.Need-walk-face-requires
 walk-face-requires c κs =
     let start : tie.Start = search in
-    (start .pre .0 .linked, start .pre .2, (let f = start .pre .0 .few in omega (arith, f)), start .pre .4)
+    (start .pre .0 .linked, start .pre .2, start .pre .4)
 
 same-length : tie.Need-same-length
 same-length c = search needs
@@ -64,7 +64,7 @@ all-meet-requires c κs =
     let if2-left = (let p : tie.Else2 = search in p .if2 .left) in (
       start .pre .0,
       start .pre .3,
-      trailed (start .pre .0 .linked) (start .pre .2) (let f = start .pre .0 .few in omega (arith, f))
+      trailed (start .pre .0 .linked) (start .pre .2)
           (subst (Walked block y size _) (not-false _ if2-left) walk-face-ensures),
     )
 

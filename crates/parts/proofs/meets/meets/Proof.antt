@@ -8,7 +8,7 @@ use Rattle.parts.proofs.meets.meets.Tie as tie
 met-requires : tie.Need-met-requires
 met-requires c κs =
     let start : tie.Start = search in
-    (start .pre .3 .len, (let f = start .pre .0 .few in omega (arith, f)), start .pre .2)
+    (start .pre .3 .len, start .pre .2)
 
 add-i : tie.Need-add-i
 add-i c =

@@ -20,13 +20,12 @@ abbrev μ-loop : tie.MeasureT-loop
 
 loop-holds : tie.Need-loop-holds Inv-loop μ-loop
 loop-holds c =
-    let start : tie.Start Inv-loop μ-loop = search in
-    (over-none _ _ _ (start .pre .1), omega arith)
+    (over-none _ _ _, omega arith)
 
 met-requires : tie.Need-met-requires Inv-loop μ-loop
 met-requires c κs =
     let start : tie.Start Inv-loop μ-loop = search in
-    (start .pre .0, omega arith, omega arith)
+    (start .pre .0, omega arith)
 
 add-links : tie.Need-add-links Inv-loop μ-loop
 add-links c = search needs
@@ -54,9 +53,8 @@ loop-again c =
 
 same-length : tie.Need-same-length Inv-loop μ-loop
 same-length c =
-    let start : tie.Start Inv-loop μ-loop = search in
     let loop-inv = (let p : tie.At-loop Inv-loop μ-loop = search in p .loop .inv) in
-    loop-inv .0 .size ∙ sym (start .pre .1)
+    loop-inv .0 .size
 
 returns : tie.Need-returns Inv-loop μ-loop
 returns c =

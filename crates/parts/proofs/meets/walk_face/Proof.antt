@@ -57,8 +57,8 @@ returns c =
     let loop-trail = (let p : tie.At-loop Inv-loop μ-loop = search in p .loop .trail) in
     let next-of-ensures = (let p : tie.After-next-of Inv-loop μ-loop = search in p .next-of .ensures) in
     let R = round (start .pre .0 .few) (start .pre .0 .next-within) (start .pre .0 .next-apart) _ (start .pre .1) in
-    let left : loop-i < length loop-trail = omega (arith, loop-inv .1 .size, start .pre .3, start .pre .2) in
-    walked-back loop-i (start .pre .3) (writing-end (start .pre .0 .next-within) R (loop-inv .0) (loop-inv .1) left next-of-ensures (c .if1 .taken) refl)
+    let left : loop-i < length loop-trail = omega (arith, loop-inv .1 .size, start .pre .2) in
+    walked-back loop-i (start .pre .2) (writing-end (start .pre .0 .next-within) R (loop-inv .0) (loop-inv .1) left next-of-ensures (c .if1 .taken) refl)
 
 loop-less : tie.Need-loop-less Inv-loop μ-loop
 loop-less c = search needs
@@ -71,7 +71,7 @@ loop-again c =
     let loop-trail = (let p : tie.At-loop Inv-loop μ-loop = search in p .loop .trail) in
     let next-of-ensures = (let p : tie.After-next-of Inv-loop μ-loop = search in p .next-of .ensures) in
     let R = round (start .pre .0 .few) (start .pre .0 .next-within) (start .pre .0 .next-apart) _ (start .pre .1) in
-    let left : loop-i < length loop-trail = omega (arith, loop-inv .1 .size, start .pre .3, start .pre .2) in (
+    let left : loop-i < length loop-trail = omega (arith, loop-inv .1 .size, start .pre .2) in (
       going-again (start .pre .0 .next-within) R (loop-inv .0) (loop-inv .1) left next-of-ensures (c .if1 .left),
       writing-on (start .pre .0 .next-within) R (loop-inv .0) (loop-inv .1) left,
       omega arith,
@@ -87,7 +87,7 @@ returns-2 c =
     let start : tie.Start Inv-loop μ-loop = search in
     let loop-i = (let p : tie.At-loop Inv-loop μ-loop = search in p .loop .i) in
     let loop-inv = (let p : tie.At-loop Inv-loop μ-loop = search in p .loop .inv) in
-    walked-far loop-i (loop-inv .1 .size ∙ start .pre .3) (loop-inv .0) (omega arith)
+    walked-far loop-i (omega (arith, loop-inv .1 .size, start .pre .2)) (loop-inv .0) (omega arith)
 
 pub walk-face-spec : {M : Type 1} → statement M
 walk-face-spec =

@@ -1,6 +1,7 @@
 -- `receive::asks::questions` meets its contract.
 -- Assumes nothing.
-use mathlib.Core.Path.{refl}
+use mathlib.Core.Path.{refl, ap}
+use lib.ListN.{length}
 use mir.Facts.{fits-lt-pow}
 use borrow.Author.Tests.{not-false}
 use Rattle.theory.proofs.LayoutLaws.{byte-list}
@@ -37,7 +38,8 @@ new-serials-requires c κs =
     let shared-slice-known2-given = (let p : tie.After-shared-slice-known2 = search in p .shared-slice-known2 .given) in
     let start : tie.Start = search in
     let block = start .args .block .now in
-    let message = start .args .message .now in (
+    let message = start .args .message .now in
+    let few = told-of (start .pre .0 .2 .2) .few in (
       (
         refl,
         (sited block (start .pre .0 .0)) .linked .few,
@@ -46,11 +48,11 @@ new-serials-requires c κs =
         λ p h. image-passed block (start .pre .0 .0) .range .serial-small p h,
       ),
       (
-        start .pre .0 .1 .serial-size,
-        start .pre .1 .0,
-        start .pre .1 .1,
+        omega (arith, few, start .pre .0 .1 .serial-size),
+        omega (arith, few, start .pre .1 .0),
+        omega (arith, few, start .pre .1 .1),
         (told-of (start .pre .0 .2 .2)) .some-darts,
-        (told-of (start .pre .0 .2 .2)) .few,
+        few,
         (told-of (start .pre .0 .2 .2)) .points-fit,
         (serials-small (byte-list message (λ i. fits-lt-pow (shared-slice-known2-given i))) (start .pre .0 .2 .1)
             (start .pre .0 .2 .2)),
@@ -74,29 +76,31 @@ returns-2 c =
     let block = start .args .block .now in
     no-18 (limits-of (start .args .limits)) block for-here-ensures if1-left
     (let l = start .pre .0 .1 .serial-size in let f = (told-of (start .pre .0 .2 .2)) .few in omega (arith, l, f))
-    (new-serials-ensures .0) if2-taken
+    new-serials-ensures if2-taken
 
 volume-right-requires : tie.Need-volume-right-requires
 volume-right-requires c κs =
     let if2-left = (let p : tie.Else2 = search in p .if2 .left) in
     let new-serials-ensures = (let p : tie.After-new-serials = search in p .new-serials .ensures) in
+    let new-serials-kept = (let p : tie.After-new-serials = search in p .new-serials .kept) in
     let c : tie.After-new-serials = search in
-    let start : tie.Start = search in (
+    let start : tie.Start = search in
+    let few = told-of (start .pre .0 .2 .2) .few in (
       (
-        start .pre .0 .1 .vertex-size,
-        start .pre .0 .1 .serial-size,
-        start .pre .0 .1 .starts-size,
-        start .pre .0 .1 .sizes-size,
-        new-serials-ensures .1,
-        new-serials-ensures .2,
-        start .pre .1 .2,
+        omega (arith, few, start .pre .0 .1 .vertex-size),
+        omega (arith, few, start .pre .0 .1 .serial-size),
+        omega (arith, few, start .pre .0 .1 .starts-size),
+        omega (arith, few, start .pre .0 .1 .sizes-size),
+        omega (arith, few, new-serials-kept, start .pre .1 .0),
+        omega (arith, few, new-serials-kept, start .pre .1 .1),
+        omega (arith, few, start .pre .1 .2),
         start .pre .1 .3,
         start .pre .1 .6,
         start .pre .1 .7,
       ),
       (
-        new-serials-ensures .0 .ranked (not-false _ if2-left),
-        finite-told (new-serials-ensures .0) (not-false _ if2-left),
+        new-serials-ensures .ranked (not-false _ if2-left),
+        finite-told new-serials-ensures (not-false _ if2-left),
         (start .pre .0 .2 .0, (told-of (start .pre .0 .2 .2))),
       ),
     )
@@ -132,26 +136,28 @@ returns-3 c =
     let block = start .args .block .now in
     no-19 (limits-of (start .args .limits)) block for-here-ensures if1-left
     (let l = start .pre .0 .1 .serial-size in let f = (told-of (start .pre .0 .2 .2)) .few in omega (arith, l, f))
-    (new-serials-ensures .0) if2-left (volume-right-ensures .0) if3-taken
+    new-serials-ensures if2-left (volume-right-ensures .0) if3-taken
 
-parts-right-requires : tie.Need-parts-right-requires
-parts-right-requires c κs =
+parts-fit-requires : tie.Need-parts-fit-requires
+parts-fit-requires c κs =
     let if3-left = (let p : tie.Else3 = search in p .if3 .left) in
     let volume-right-ensures = (let p : tie.After-volume-right = search in p .volume-right .ensures) in
     let if2-left = (let p : tie.Else2 = search in p .if2 .left) in
     let c : tie.Else2 = search in
     let new-serials-ensures = (let p : tie.After-new-serials = search in p .new-serials .ensures) in
+    let new-serials-kept = (let p : tie.After-new-serials = search in p .new-serials .kept) in
     let c : tie.After-new-serials = search in
     let shared-slice-known2-given = (let p : tie.After-shared-slice-known2 = search in p .shared-slice-known2 .given) in
     let start : tie.Start = search in
     let message = start .args .message .now in
     let vertex = start .args .vertex .now in
-    let serial = start .args .serial .now in (
+    let serial = start .args .serial .now in
+    let few = told-of (start .pre .0 .2 .2) .few in (
       (
         start .pre .0 .0,
-        start .pre .0 .1 .starts-size,
-        start .pre .0 .1 .sizes-size,
-        new-serials-ensures .2,
+        omega (arith, few, start .pre .0 .1 .starts-size),
+        omega (arith, few, start .pre .0 .1 .sizes-size),
+        omega (arith, few, new-serials-kept, start .pre .1 .1),
         start .pre .1 .4,
         start .pre .1 .5,
         sender-small (byte-list message (λ i. fits-lt-pow (shared-slice-known2-given i))) (start .pre .0 .2 .1)
@@ -160,8 +166,8 @@ parts-right-requires c κs =
       (
         vertex,
         serial,
-        (new-volume (new-serials-ensures .0) if2-left (volume-right-ensures .0) if3-left
-            (volume-right-ensures .1 .0 (not-false _ if3-left)) (start .pre .0 .2 .2)),
+        (new-volume new-serials-ensures if2-left (volume-right-ensures .0) if3-left
+            (volume-right-ensures .1 (not-false _ if3-left)) (start .pre .0 .2 .2)),
       ),
     )
 
@@ -192,7 +198,7 @@ same-length-16 c = search needs
 returns-4 : tie.Need-returns-4
 returns-4 c =
     let if4-taken = (let p : tie.Then4 = search in p .if4 .taken) in
-    let parts-right-ensures = (let p : tie.After-parts-right = search in p .parts-right .ensures) in
+    let parts-fit-ensures = (let p : tie.After-parts-fit = search in p .parts-fit .ensures) in
     let if3-left = (let p : tie.Else3 = search in p .if3 .left) in
     let volume-right-ensures = (let p : tie.After-volume-right = search in p .volume-right .ensures) in
     let c : tie.After-volume-right = search in
@@ -207,10 +213,10 @@ returns-4 c =
     let serial = start .args .serial .now in
     no-20 (limits-of (start .args .limits)) block for-here-ensures if1-left
     (let l = start .pre .0 .1 .serial-size in let f = (told-of (start .pre .0 .2 .2)) .few in omega (arith, l, f))
-    (new-serials-ensures .0) if2-left (volume-right-ensures .0) if3-left
-    (parts-right-ensures .0 vertex serial
-    (new-volume (new-serials-ensures .0) if2-left (volume-right-ensures .0) if3-left
-    (volume-right-ensures .1 .0 (not-false _ if3-left)) (start .pre .0 .2 .2))) if4-taken
+    new-serials-ensures if2-left (volume-right-ensures .0) if3-left
+    (parts-fit-ensures vertex serial
+    (new-volume new-serials-ensures if2-left (volume-right-ensures .0) if3-left
+    (volume-right-ensures .1 (not-false _ if3-left)) (start .pre .0 .2 .2))) if4-taken
 
 add-if5 : tie.Need-add-if5
 add-if5 c =
@@ -221,7 +227,7 @@ add-if5 c =
 
 same-length-17 : tie.Need-same-length-17
 same-length-17 c =
-    let c : tie.After-parts-right = search in
+    let c : tie.After-parts-fit = search in
     let c : tie.Else3 = search in
     let c : tie.After-draft = search in
     let c : tie.After-volume-right = search in
@@ -253,7 +259,7 @@ returns-5 : tie.Need-returns-5
 returns-5 c =
     let if5-taken = (let p : tie.Then5 = search in p .if5 .taken) in
     let if4-left = (let p : tie.Else4 = search in p .if4 .left) in
-    let parts-right-ensures = (let p : tie.After-parts-right = search in p .parts-right .ensures) in
+    let parts-fit-ensures = (let p : tie.After-parts-fit = search in p .parts-fit .ensures) in
     let if3-left = (let p : tie.Else3 = search in p .if3 .left) in
     let volume-right-ensures = (let p : tie.After-volume-right = search in p .volume-right .ensures) in
     let c : tie.After-volume-right = search in
@@ -268,14 +274,14 @@ returns-5 c =
     let serial = start .args .serial .now in
     no-21 (limits-of (start .args .limits)) block for-here-ensures if1-left
     (let l = start .pre .0 .1 .serial-size in let f = (told-of (start .pre .0 .2 .2)) .few in omega (arith, l, f))
-    (new-serials-ensures .0) if2-left (volume-right-ensures .0) if3-left
-    (parts-right-ensures .0 vertex serial
-    (new-volume (new-serials-ensures .0) if2-left (volume-right-ensures .0) if3-left
-    (volume-right-ensures .1 .0 (not-false _ if3-left)) (start .pre .0 .2 .2))) if4-left if5-taken
+    new-serials-ensures if2-left (volume-right-ensures .0) if3-left
+    (parts-fit-ensures vertex serial
+    (new-volume new-serials-ensures if2-left (volume-right-ensures .0) if3-left
+    (volume-right-ensures .1 (not-false _ if3-left)) (start .pre .0 .2 .2))) if4-left if5-taken
 
 same-length-25 : tie.Need-same-length-25
 same-length-25 c =
-    let c : tie.After-parts-right = search in
+    let c : tie.After-parts-fit = search in
     let c : tie.Else3 = search in
     let c : tie.After-draft = search in
     let c : tie.After-volume-right = search in
@@ -306,7 +312,7 @@ same-length-32 c = search needs
 returns-6 : tie.Need-returns-6
 returns-6 c =
     let start : tie.Start =
-    (let c : tie.After-parts-right = search in let c : tie.Else3 = search in let c : tie.After-draft = search in let c :
+    (let c : tie.After-parts-fit = search in let c : tie.Else3 = search in let c : tie.After-draft = search in let c :
     tie.After-volume-right = search in let c : tie.Else2 = search in let c : tie.After-new-serials = search in let c :
     tie.After-for-here = search in let c : tie.After-slice-known2 = search in let c : tie.After-shared-slice-known = search in
     search)
@@ -315,39 +321,45 @@ returns-6 c =
     let vertex = start .args .vertex .now in
     let serial = start .args .serial .now in
     let for-here-ensures =
-    (let c : tie.After-parts-right = search in let c : tie.Else3 = search in let c : tie.After-draft = search in let c :
+    (let c : tie.After-parts-fit = search in let c : tie.Else3 = search in let c : tie.After-draft = search in let c :
     tie.After-volume-right = search in let c : tie.Else2 = search in let c : tie.After-new-serials = search in let p :
     tie.After-for-here = search in p .for-here .ensures)
     in
     let if1-left =
-    (let c : tie.After-parts-right = search in let c : tie.Else3 = search in let c : tie.After-draft = search in let c :
+    (let c : tie.After-parts-fit = search in let c : tie.Else3 = search in let c : tie.After-draft = search in let c :
     tie.After-volume-right = search in let c : tie.Else2 = search in let c : tie.After-new-serials = search in let p :
     tie.Else1 = search in p .if1 .left)
     in
     let new-serials-ensures =
-    (let c : tie.After-parts-right = search in let c : tie.Else3 = search in let c : tie.After-draft = search in let c :
+    (let c : tie.After-parts-fit = search in let c : tie.Else3 = search in let c : tie.After-draft = search in let c :
     tie.After-volume-right = search in let c : tie.Else2 = search in let p : tie.After-new-serials = search in p .new-serials
     .ensures)
     in
+    let new-serials-kept =
+    (let c : tie.After-parts-fit = search in let c : tie.Else3 = search in let c : tie.After-draft = search in let c :
+    tie.After-volume-right = search in let c : tie.Else2 = search in let p : tie.After-new-serials = search in p .new-serials
+    .kept)
+    in
     let if2-left =
-    (let c : tie.After-parts-right = search in let c : tie.Else3 = search in let c : tie.After-draft = search in let c :
+    (let c : tie.After-parts-fit = search in let c : tie.Else3 = search in let c : tie.After-draft = search in let c :
     tie.After-volume-right = search in let p : tie.Else2 = search in p .if2 .left)
     in
     let volume-right-ensures =
-    (let c : tie.After-parts-right = search in let c : tie.Else3 = search in let c : tie.After-draft = search in let p :
+    (let c : tie.After-parts-fit = search in let c : tie.Else3 = search in let c : tie.After-draft = search in let p :
     tie.After-volume-right = search in p .volume-right .ensures)
     in
-    let if3-left = (let c : tie.After-parts-right = search in let p : tie.Else3 = search in p .if3 .left) in
-    let parts-right-ensures = (let p : tie.After-parts-right = search in p .parts-right .ensures) in
+    let if3-left = (let c : tie.After-parts-fit = search in let p : tie.Else3 = search in p .if3 .left) in
+    let parts-fit-ensures = (let p : tie.After-parts-fit = search in p .parts-fit .ensures) in
+    let parts-fit-kept = (let p : tie.After-parts-fit = search in p .parts-fit .kept) in
     let if4-left = (let p : tie.Else4 = search in p .if4 .left) in
     yes-all (limits-of (start .args .limits)) block for-here-ensures if1-left
     (let l = start .pre .0 .1 .serial-size in let f = (told-of (start .pre .0 .2 .2)) .few in omega (arith, l, f))
-    (new-serials-ensures .0) if2-left (volume-right-ensures .0) if3-left
-    (parts-right-ensures .0 vertex serial
-    (new-volume (new-serials-ensures .0) if2-left (volume-right-ensures .0) if3-left
-    (volume-right-ensures .1 .0 (not-false _ if3-left)) (start .pre .0 .2 .2))) if4-left (omega arith)
-    (volume-right-ensures .1 .0 (not-false _ if3-left)) (parts-right-ensures .1) (parts-right-ensures .2)
-    (new-serials-ensures .2)
+    new-serials-ensures if2-left (volume-right-ensures .0) if3-left
+    (parts-fit-ensures vertex serial
+    (new-volume new-serials-ensures if2-left (volume-right-ensures .0) if3-left
+    (volume-right-ensures .1 (not-false _ if3-left)) (start .pre .0 .2 .2))) if4-left (omega arith)
+    (volume-right-ensures .1 (not-false _ if3-left)) (omega (arith, parts-fit-kept, ap length (start .pre .1 .4))) (omega (arith, parts-fit-kept, ap length (start .pre .1 .5)))
+    (omega (arith, new-serials-kept, start .pre .1 .1))
 
 pub questions-spec : {M : Type 1} → statement M
 questions-spec =
@@ -368,7 +380,7 @@ questions-spec =
     same-length-7
     same-length-8
     returns-3
-    parts-right-requires
+    parts-fit-requires
     same-length-9
     same-length-10
     same-length-11

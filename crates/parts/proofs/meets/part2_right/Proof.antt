@@ -1,7 +1,7 @@
--- `parts::meets::enter_all` meets its contract.
+-- `parts::meets::part2_right` meets its contract.
 -- Assumes nothing.
 use Prim.Native.Nat.{_-_, _≤_}
-use mathlib.Core.Path.{_≡_, sym, _∙_}
+use mathlib.Core.Path.{_≡_, refl, sym, _∙_}
 use lib.ListN.{length, getD}
 use borrow.Author.Tests.{not-true, not-false}
 use Rattle.model.specs.Cells.{cycle}
@@ -14,14 +14,15 @@ use Rattle.parts.proofs.Writing.{face-size-is, faced-none, faced-more, 
 use Rattle.parts.proofs.SewnFaces.{seen-none, seen-more, entered-at, entered-said, part2-no}
 use native.Mathlib.Omega.{arith}
 use borrow.Author.Needs.{needs}
-use Rattle.parts.proofs.meets.enter_all.Statement.{statement}
-use Rattle.parts.proofs.meets.enter_all.Tie as tie
+use Rattle.parts.proofs.meets.part2_right.Statement.{statement}
+use Rattle.parts.proofs.meets.part2_right.Tie as tie
 
 abbrev Inv-loop : tie.InvT-loop
 Inv-loop block n draft k ranks from places indices c sizes trail₀ seen₀ kinds₀ links₀ e₀ trail seen kinds links e =
     SeenBy block places e seen × Faced sizes indices e (λ d j. 1) kinds₀ kinds
     × Faced sizes indices e (λ d. met-at (cycle (column block 1) (getD places d 0)) (face-size sizes indices d)) links₀ links
-    × Passing (passes-at block draft ranks sizes places indices n from) e × (e ≤ c) × (length trail ≡ 512)
+    × Passing (passes-at block draft ranks sizes places indices n from) e × (e ≤ c)
+    × (length trail ≡ length trail₀) × (length seen ≡ length seen₀)
 
 abbrev μ-loop : tie.MeasureT-loop
 μ-loop block n draft k ranks from places indices c sizes trail₀ seen₀ kinds₀ links₀ e₀ trail seen kinds links e =
@@ -30,23 +31,24 @@ abbrev μ-loop : tie.MeasureT-loop
 loop-holds : tie.Need-loop-holds Inv-loop μ-loop
 loop-holds c =
     let start : tie.Start Inv-loop μ-loop = search in (
-      seen-none _ _ _ (start .pre .1 .1),
-      faced-none _ _ _ _ (start .pre .1 .2),
-      faced-none _ _ _ _ (start .pre .1 .3),
+      seen-none _ _ _ (start .pre .1 .2),
+      faced-none _ _ _ _,
+      faced-none _ _ _ _,
       passing-none _,
       omega arith,
-      start .pre .1 .0,
+      refl,
+      refl,
     )
 
 place-at-requires : tie.Need-place-at-requires Inv-loop μ-loop
 place-at-requires c κs =
     let start : tie.Start Inv-loop μ-loop = search in
-    omega (arith, start .pre .0 .places-size, start .pre .0 .few)
+    omega (arith, start .pre .0 .places-size)
 
 entry-index-requires : tie.Need-entry-index-requires Inv-loop μ-loop
 entry-index-requires c κs =
     let start : tie.Start Inv-loop μ-loop = search in
-    omega (arith, start .pre .0 .indices-size, start .pre .0 .few)
+    omega (arith, start .pre .0 .indices-size)
 
 size-at-requires : tie.Need-size-at-requires Inv-loop μ-loop
 size-at-requires c κs =
@@ -61,43 +63,40 @@ enter-requires c κs =
     let loop-inv = (let p : tie.At-loop Inv-loop μ-loop = search in p .loop .inv) in
     let entry-index-ensures = (let p : tie.After-entry-index Inv-loop μ-loop = search in p .entry-index .ensures) in
     let size-at-ensures = (let p : tie.After-size-at Inv-loop μ-loop = search in p .size-at .ensures) in
-    let size-is = face-size-is (start .args .sizes .now) (start .args .indices .now) loop-e entry-index-ensures size-at-ensures in (
+    let size-is = face-size-is (start .args .sizes .now) (start .args .indices .now) loop-e entry-index-ensures size-at-ensures in
+    let within = start .pre .0 .spans .within loop-e (omega arith) in (
       start .pre .0 .beside,
       start .pre .0 .sender,
-      omega (arith, start .pre .0 .within loop-e (omega arith), entry-index-ensures, size-is),
-      loop-inv .5,
-      loop-inv .0 .size,
-      loop-inv .1 .size,
-      loop-inv .2 .size,
+      omega (arith, within, entry-index-ensures, size-is),
+      omega (arith, within, size-is, loop-inv .5, start .pre .1 .0),
+      omega (arith, loop-inv .6, start .pre .1 .1),
+      omega (arith, loop-inv .1 .size, start .pre .1 .3),
+      omega (arith, loop-inv .2 .size, start .pre .1 .4),
     )
 
 same-length : tie.Need-same-length Inv-loop μ-loop
 same-length c =
-    let enter-ensures = (let p : tie.After-enter Inv-loop μ-loop = search in p .enter .ensures) in
-    let c : tie.After-enter Inv-loop μ-loop = search in
-    let start : tie.Start Inv-loop μ-loop = search in
-    enter-ensures .len ∙ sym (start .pre .1 .0)
+    let enter-kept = (let p : tie.After-enter Inv-loop μ-loop = search in p .enter .kept) in
+    let loop-inv = (let p : tie.At-loop Inv-loop μ-loop = search in p .loop .inv) in
+    omega (arith, enter-kept, loop-inv .5)
 
 same-length-2 : tie.Need-same-length-2 Inv-loop μ-loop
 same-length-2 c =
-    let enter-ensures = (let p : tie.After-enter Inv-loop μ-loop = search in p .enter .ensures) in
-    let c : tie.After-enter Inv-loop μ-loop = search in
-    let start : tie.Start Inv-loop μ-loop = search in
-    enter-ensures .seen-size ∙ sym (seen-none (start .args .block .now) (start .args .places .now) _ (start .pre .1 .1) .size)
+    let enter-kept = (let p : tie.After-enter Inv-loop μ-loop = search in p .enter .kept) in
+    let loop-inv = (let p : tie.At-loop Inv-loop μ-loop = search in p .loop .inv) in
+    omega (arith, enter-kept, loop-inv .6)
 
 same-length-3 : tie.Need-same-length-3 Inv-loop μ-loop
 same-length-3 c =
-    let enter-ensures = (let p : tie.After-enter Inv-loop μ-loop = search in p .enter .ensures) in
-    let c : tie.After-enter Inv-loop μ-loop = search in
-    let start : tie.Start Inv-loop μ-loop = search in
-    enter-ensures .kinds-size ∙ sym (start .pre .1 .2)
+    let enter-kept = (let p : tie.After-enter Inv-loop μ-loop = search in p .enter .kept) in
+    let loop-inv = (let p : tie.At-loop Inv-loop μ-loop = search in p .loop .inv) in
+    omega (arith, enter-kept, loop-inv .1 .size)
 
 same-length-4 : tie.Need-same-length-4 Inv-loop μ-loop
 same-length-4 c =
-    let enter-ensures = (let p : tie.After-enter Inv-loop μ-loop = search in p .enter .ensures) in
-    let c : tie.After-enter Inv-loop μ-loop = search in
-    let start : tie.Start Inv-loop μ-loop = search in
-    enter-ensures .links-size ∙ sym (start .pre .1 .3)
+    let enter-kept = (let p : tie.After-enter Inv-loop μ-loop = search in p .enter .kept) in
+    let loop-inv = (let p : tie.At-loop Inv-loop μ-loop = search in p .loop .inv) in
+    omega (arith, enter-kept, loop-inv .2 .size)
 
 returns : tie.Need-returns Inv-loop μ-loop
 returns c =
@@ -144,6 +143,7 @@ loop-again c =
     let entry-index-ensures = (let p : tie.After-entry-index Inv-loop μ-loop = search in p .entry-index .ensures) in
     let size-at-ensures = (let p : tie.After-size-at Inv-loop μ-loop = search in p .size-at .ensures) in
     let entered = entered-at (sizes .now) (places .now) (indices .now) loop-e place-at-ensures entry-index-ensures size-at-ensures enter-ensures in
+    let enter-kept = (let p : tie.After-enter Inv-loop μ-loop = search in p .enter .kept) in
     let yes = not-false _ (c .if1 .left) in (
       seen-more loop-e (loop-inv .0) (entered .seen-are yes),
       faced-more (pre .0 .spans) (loop-inv .1) (omega arith) (entered .kinds-are yes),
@@ -151,32 +151,29 @@ loop-again c =
       passing-more (loop-inv .3)
           (sym (entered-said (sizes .now) (places .now) (indices .now) loop-e (loop-inv .0) entered) ∙ yes),
       omega arith,
-      entered .len,
+      omega (arith, enter-kept, loop-inv .5),
+      omega (arith, enter-kept, loop-inv .6),
     )
 
 same-length-5 : tie.Need-same-length-5 Inv-loop μ-loop
 same-length-5 c =
-    let start : tie.Start Inv-loop μ-loop = search in
     let loop-inv = (let p : tie.At-loop Inv-loop μ-loop = search in p .loop .inv) in
-    loop-inv .5 ∙ sym (start .pre .1 .0)
+    loop-inv .5
 
 same-length-6 : tie.Need-same-length-6 Inv-loop μ-loop
 same-length-6 c =
-    let start : tie.Start Inv-loop μ-loop = search in
     let loop-inv = (let p : tie.At-loop Inv-loop μ-loop = search in p .loop .inv) in
-    loop-inv .0 .size ∙ sym (seen-none (start .args .block .now) (start .args .places .now) _ (start .pre .1 .1) .size)
+    loop-inv .6
 
 same-length-7 : tie.Need-same-length-7 Inv-loop μ-loop
 same-length-7 c =
-    let start : tie.Start Inv-loop μ-loop = search in
     let loop-inv = (let p : tie.At-loop Inv-loop μ-loop = search in p .loop .inv) in
-    loop-inv .1 .size ∙ sym (start .pre .1 .2)
+    loop-inv .1 .size
 
 same-length-8 : tie.Need-same-length-8 Inv-loop μ-loop
 same-length-8 c =
-    let start : tie.Start Inv-loop μ-loop = search in
     let loop-inv = (let p : tie.At-loop Inv-loop μ-loop = search in p .loop .inv) in
-    loop-inv .2 .size ∙ sym (start .pre .1 .3)
+    loop-inv .2 .size
 
 returns-2 : tie.Need-returns-2 Inv-loop μ-loop
 returns-2 c =
@@ -190,8 +187,8 @@ returns-2 c =
       links-are = λ t. faced-all (loop-inv .2) (loop-inv .4) (omega arith);
     }
 
-pub enter-all-spec : {M : Type 1} → statement M
-enter-all-spec =
+pub part2-right-spec : {M : Type 1} → statement M
+part2-right-spec =
     tie.close
     (tie.spec
     Inv-loop
