@@ -2,7 +2,7 @@
 use corners::Mean;
 use corners::thousandths::Thousandths;
 use stats::rows::Told;
-use store::say;
+use system::say;
 
 // Word i; 0 past the end.
 fn word(words: &[u64], i: usize) -> u64 {

@@ -1,30 +1,29 @@
 // One program for the desk and for the restart: it keeps a basin as block files in the folder that it is run in.
-mod arguments; // arguments.rt: the words of a command
-mod inspect; // inspect.rt: what is told of a basin
-mod moving; // moving.rt: the moves of a balance, as lines
-mod playing; // playing.rt: requests, from lines and told line by line
 mod status; // status.rt: how a command ended
 mod tasks; // tasks.rt: what is done to a basin, and saved
 
 use answers::Answer;
-use arguments::Given;
-use arguments::Named;
-use arguments::Options;
 use commands::command;
 use commands::command::Command;
 use commands::command::OracleWord;
 use commands::names;
 use commands::words::Number;
+use console::arguments;
+use console::arguments::Given;
+use console::arguments::Named;
+use console::arguments::Options;
+use console::inspect;
+use console::playing;
+use console::playing::Input;
 use memory::header::Header;
 use oracle::Oracle;
-use playing::Input;
 use status::Status;
-use store::files;
-use store::files::Contents;
-use store::process;
 use store::reading;
 use store::reading::Basin;
-use store::say;
+use system::files;
+use system::files::Contents;
+use system::process;
+use system::say;
 use tasks::Task;
 
 fn help() {

@@ -1,18 +1,18 @@
 // What a command does to a basin that it may save: it plays requests, balances, or adds blocks.
-use crate::arguments::Options;
-use crate::inspect;
-use crate::moving;
-use crate::playing;
 use crate::status::Status;
+use console::arguments::Options;
+use console::inspect;
+use console::moving;
+use console::playing;
 use memory::header::Header;
 use oracle::Oracle;
 use rebalance::Balanced;
 use store::disk;
-use store::lock;
-use store::lock::Taken;
 use store::reading;
 use store::reading::Basin;
-use store::say;
+use system::lock;
+use system::lock::Taken;
+use system::say;
 
 // Plays so many requests; balances; adds empty blocks up to so many, and balances or does not.
 pub enum Task {

@@ -1,8 +1,5 @@
 // The blocks of a basin: block-00.dmap and so on, as many as there are. What a save writes under which name, and in which order, is told
 // by `saving`.
-use crate::files;
-use crate::files::Contents;
-use crate::say;
 use commands::names;
 use commands::names::File;
 use commands::names::Name;
@@ -15,6 +12,9 @@ use saving::plan;
 use saving::plan::Step;
 use saving::prepare;
 use saving::prepare::Act;
+use system::files;
+use system::files::Contents;
+use system::say;
 
 // A file's name is the first n bytes of a text.
 fn write_named(name: &[u8], n: usize, bytes: &[u8]) -> i32 {

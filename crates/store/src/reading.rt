@@ -4,17 +4,17 @@
 // and digest. Without a commit it is what stands under the names. Those files are opened one after the other and held; where there is no
 // commit afterwards, and each name still leads to the file that was opened, all of them stood under their names at one moment at which
 // no save was between its commit and its end.
-use crate::files;
-use crate::files::Contents;
-use crate::files::Opened;
-use crate::process;
-use crate::say;
 use answers::Answer;
 use commands::names;
 use commands::names::File;
 use memory::header::Header;
 use saving::commit;
 use saving::look;
+use system::files;
+use system::files::Contents;
+use system::files::Opened;
+use system::process;
+use system::say;
 
 // What is wrong with a file.
 pub enum Fault {

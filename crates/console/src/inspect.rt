@@ -1,0 +1,166 @@
+// What is told of a basin: a line for each block, and whether it is sound.
+use answers::Answer;
+use commands::names;
+use memory::header::Header;
+use memory::kind;
+use oracle::Oracle;
+use system::say;
+
+// Into how many pieces a block's volumes fall.
+fn show_pieces(n: u64) {
+    say::text(b" in ");
+    say::number(n);
+    if n == 1 {
+        say::text(b" piece");
+        return;
+    }
+    say::text(b" pieces");
+}
+
+// A block's darts, volumes and their pieces, critical faces and counter.
+fn show_block(b: usize, block: &[u64]) {
+    say::text(b"block ");
+    say::number(b as u64);
+    say::text(b": ");
+    let t = stats::count_block(block);
+    say::number(t.darts);
+    say::text(b" darts, ");
+    say::number(t.volumes);
+    say::text(b" volumes");
+    show_pieces(t.pieces);
+    say::text(b", ");
+    say::number(t.critical);
+    say::text(b" critical faces, counter ");
+    say::number(t.counter);
+    say::text(b"\n");
+}
+
+// A line for each block.
+pub fn show_blocks(mesh: &[u64]) {
+    let k = mesh.len() / Header::WORDS;
+    let mut b = 0;
+    while b < k {
+        show_block(b, mesh::part_of(mesh, b));
+        b += 1;
+    }
+}
+
+// The first of the blocks that are refused by a number when those behind it are left out.
+fn first_refused(question: u32, mesh: &[u64], scratch: &mut [u64]) -> usize {
+    let k = mesh.len() / Header::WORDS;
+    let mut b = 0;
+    while b < k {
+        let end = b * Header::WORDS + Header::WORDS;
+        if answers::answer_number(checkmesh::check_mesh(&mesh[0..end], scratch)) == question {
+            return b;
+        }
+        b += 1;
+    }
+    b
+}
+
+// Whether the dart at place p has a kind, which is that of a third link and of the other block.
+fn has_kind_at(block: &[u64], p: usize, kind: u64) -> bool {
+    if p < Header::DARTS {
+        let at = p * 8 + 11;
+        if at < block.len() {
+            return block[at] == kind;
+        }
+    }
+    false
+}
+
+// Whether some dart of a block has a kind.
+fn has_kind(block: &[u64], kind: u64) -> bool {
+    // None before p has it.
+    let mut p: usize = 0;
+    while p < Header::DARTS {
+        if has_kind_at(block, p, kind) {
+            return true;
+        }
+        p += 1;
+    }
+    false
+}
+
+// The first block that has a dart of a kind; how many there are where none has.
+fn first_with_kind(kind: u64, mesh: &[u64]) -> usize {
+    let k = mesh.len() / Header::WORDS;
+    let mut b = 0;
+    while b < k {
+        if has_kind(mesh::part_of(mesh, b), kind) {
+            return b;
+        }
+        b += 1;
+    }
+    b
+}
+
+// Says which block is named by a critical dart and has no file, the first of them; whether there is one.
+fn say_missing(mesh: &[u64]) -> bool {
+    let k = mesh.len() / Header::WORDS;
+    let mut m = k;
+    while m < memory::header::BLOCKS {
+        let b = first_with_kind(kind::critical_with(m as u64), mesh);
+        if b < k {
+            say::text(&names::block(m));
+            say::text(b" is missing, and ");
+            say::text(&names::block(b));
+            say::text(b" names it");
+            return true;
+        }
+        m += 1;
+    }
+    false
+}
+
+// Which file a refusal is about: one of them, where its number or a serial is wrong; one that is missing and named; or all together.
+fn say_where(question: u32, mesh: &[u64], scratch: &mut [u64]) {
+    if (question == 23) | (question == 24) {
+        let b = first_refused(question, mesh, scratch);
+        say::text(&names::block(b));
+        return;
+    }
+    if question == 25 {
+        if say_missing(mesh) {
+            return;
+        }
+    }
+    say::text(b"the blocks together");
+}
+
+// Whether the blocks are a sound mesh; where not, why.
+pub fn is_sound(mesh: &[u64], scratch: &mut [u64]) -> bool {
+    match checkmesh::check_mesh(mesh, scratch) {
+        Answer::Served => true,
+        Answer::Refused(r) => {
+            let question = answers::refusal_number(r);
+            say::refused(question);
+            say_where(question, mesh, scratch);
+            say::text(b": ");
+            say::meaning(question);
+            say::text(b"\n");
+            false
+        }
+    }
+}
+
+// How many volumes an oracle picks in a block.
+fn picked(block: &[u64], o: Oracle) -> u64 {
+    if sound::is_sound(block) {
+        return selection::count(block, o) as u64;
+    }
+    0
+}
+
+// The same for each block, in a line.
+pub fn show_picked(mesh: &[u64], o: Oracle) {
+    let k = mesh.len() / Header::WORDS;
+    let mut b = 0;
+    while b < k {
+        say::text(b" ");
+        say::number(picked(mesh::part_of(mesh, b), o));
+        b += 1;
+    }
+    say::text(b"\n");
+}
