@@ -21,7 +21,7 @@ use Rattle.inbox.specs.Inbox.{word-in}
 use Rattle.ranking.specs.Ranks.{value-at, index-at}
 use Rattle.inbox.proofs.Points.{word-took}
 use Rattle.arrival.specs.Sides.{next-index}
-use Rattle.arrival.specs.Draft.{draft-record, FiniteIn, Draftable, Drafted}
+use Rattle.arrival.specs.Draft.{draft-record, FiniteIn, Draftable, RecordsDrafted}
 
 -- the records below p are put
 pub record Drafting (f : ℕ → Record) (k : ℕ) (m : List ℕ) (p : ℕ) : Type 0 where
@@ -74,7 +74,7 @@ module _ {f : ℕ → Record} {k : ℕ} {m : List ℕ} {p : ℕ} (w : Drafting f
   pub drafting-more : {r : Record} {n : List ℕ} → r ≡ f p → n ≡ put m p (record-words r) → Drafting f k n (p + 1)
   drafting-more e g = rw g (more e)
 
-pub drafting-all : {f : ℕ → Record} {k : ℕ} {m : List ℕ} {p : ℕ} {n : List ℕ} → Drafting f k m p → k ≤ p → n ≡ set m 2 k → Drafted f k n
+pub drafting-all : {f : ℕ → Record} {k : ℕ} {m : List ℕ} {p : ℕ} {n : List ℕ} → Drafting f k m p → k ≤ p → n ≡ set m 2 k → RecordsDrafted f k n
 drafting-all {f} {k} {m} {p} w h g = rw g (record {
   size = omega (arith, length-set m 2 k, w .len);
   count-is = getD-set-same m 2 k 0 (omega (arith, w .len));

@@ -15,7 +15,7 @@ use Rattle.model.specs.Values.{message-darts}
 use Rattle.laws.proofs.Tests.{by-cases, lt-or-ge, same-truth}
 use Rattle.laws.proofs.Tables.{getD-tab, tab-all, all-tab, mem-place, mem-none, tab-apart, tab-distinct}
 use Rattle.ranking.specs.Ranks.{value-at, index-at, Ranked}
-use Rattle.arrival.specs.Sides.{next-index, pair-code, pair-at, reverse-at, edge-code, edge-at, Segments, Small}
+use Rattle.arrival.specs.Sides.{next-index, pair-code, pair-at, reverse-at, edge-code, edge-at, Segments, VerticesSmall}
 use Rattle.arrival.specs.Draft.{Opposed, Edged}
 use Rattle.arrival.proofs.SegmentLaws.{next-below}
 
@@ -63,7 +63,7 @@ module _ {a c d f : ℕ} (la : a ≤ message-darts) (lc : c ≤ message-darts) (
   ends-same s = let p : a ≡ d = omega (arith, s, la, lc, ld, lf) in let q : c ≡ f = omega (arith, s, la, lc, ld, lf) in rw (p, q) refl
 
 -- PAIRS BY INDEX
-module _ (v : List ℕ) {b z : List ℕ} {k : ℕ} (seg : Segments b z k) (small : Small v k) where
+module _ (v : List ℕ) {b z : List ℕ} {k : ℕ} (seg : Segments b z k) (small : VerticesSmall v k) where
   head-small : (i : ℕ) → i < k → getD v (next-index b z i) 0 ≤ message-darts
   head-small i h = small (next-index b z i) (next-below seg i h)
 

@@ -28,7 +28,7 @@ use Rattle.ranking.specs.Ranks.{Ranked}
 use Rattle.arrival.specs.Sides.{side-at}
 use Rattle.arrival.specs.declared.serials.Gap.{Gap}
 use Rattle.arrival.specs.declared.serials.Gap.the-variants.{Below, NotNew}
-use Rattle.arrival.specs.Draft.{FiniteIn, is-new, GapSaid, GapTold, NewSerials, Told}
+use Rattle.arrival.specs.Draft.{FiniteIn, is-new, GapSaid, GapTold, NewSerials, TransferTold}
 use Rattle.arrival.proofs.SideLaws.{sides-are}
 use Rattle.arrival.proofs.PairLaws.{all-index}
 
@@ -116,7 +116,7 @@ module _ {ds : List Dart} {s : List ℕ} {from n : ℕ} {x : List ℕ} {k : ℕ}
       new = all (λ i. leb 1 (getD x i 0) && not (held ds (getD x i 0))) (tab (λ i. i) k)
 
 -- of a transfer
-pub eighteen-is : {t : Transfer} {v x b z s : List ℕ} {from n k : ℕ} {hollow : Bool} (ds : List Dart) → Told t v x b z s from n k hollow → k ≤ length x
+pub eighteen-is : {t : Transfer} {v x b z s : List ℕ} {from n k : ℕ} {hollow : Bool} (ds : List Dart) → TransferTold t v x b z s from n k hollow → k ≤ length x
     → serials-new ds t ≡ (all finite (points-in s from n) && all (λ i. leb 1 (getD x i 0) && not (held ds (getD x i 0))) (tab (λ i. i) k) && distinct (take k x))
 unfolding serials-new points-in word-in finite sides
 eighteen-is {t} {v} {x} {b} {z} {s} {from} {n} {k} {hollow} ds w fit =

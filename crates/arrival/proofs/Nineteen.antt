@@ -23,8 +23,8 @@ use Rattle.model.specs.Values.{finite}
 use Rattle.inbox.specs.Inbox.{point-in, points-in}
 use Rattle.arrival.proofs.Eighteen.{point-there}
 use Rattle.ranking.specs.Ranks.{Ranked}
-use Rattle.arrival.specs.Sides.{side-at, order-at, pair-at, reverse-at, ends-differ, Segments, Small}
-use Rattle.arrival.specs.Draft.{Paired, draft-record, Draftable, Drafted, Told, Draft}
+use Rattle.arrival.specs.Sides.{side-at, order-at, pair-at, reverse-at, ends-differ, Segments, VerticesSmall}
+use Rattle.arrival.specs.Draft.{EdgesPaired, draft-record, Draftable, RecordsDrafted, TransferTold, Draft}
 use Rattle.arrival.proofs.SideLaws.{sides-are}
 use Rattle.arrival.proofs.OrderLaws.{order-is}
 use Rattle.arrival.proofs.SegmentLaws.{segments}
@@ -41,7 +41,7 @@ module _ (nx op : ℕ → ℕ) (order : List ℕ) where
   unfolding vertex-number vertices
   number-below x h = place-back (vertex nx op x) (firsts (map (vertex nx op) order)) (mem-firsts (vertex nx op x) (map (vertex nx op) order) ∙ in-map (vertex nx op) x order h) .1
 
-module _ {t : Transfer} {v x b z s : List ℕ} {from n k : ℕ} {hollow : Bool} (w : Told t v x b z s from n k hollow) where
+module _ {t : Transfer} {v x b z s : List ℕ} {from n k : ℕ} {hollow : Bool} (w : TransferTold t v x b z s from n k hollow) where
   pub segs : Segments b z k
   segs = subst (Segments b z) (sym (w .darts)) (segments v x b z (t .faces) (w .inside))
 
@@ -127,7 +127,7 @@ module _ {t : Transfer} {v x b z s : List ℕ} {from n k : ℕ} {hollow : Bool} 
     pub each-below : (i : ℕ) → i < k → getD v i 0 < n
     each-below i h = ltb-true (getD v i 0) n (all-tab (λ i. ltb (getD v i 0) n) (λ i. i) k (and-right (leb n k) _ fit) i h)
 
-    pub small : Small v k
+    pub small : VerticesSmall v k
     small i h = let a = each-below i h in let c = leb-true n k (and-left (leb n k) _ fit) in omega (arith, a, c, w .few)
 
     paired-by-index : pairs-right (sides t)
@@ -154,7 +154,7 @@ module _ {t : Transfer} {v x b z s : List ℕ} {from n k : ℕ} {hollow : Bool} 
       numbers-tell at fit-ranks numbered o p e = rw (o, p, from-first at ∙ e) (sym (vertices-are d t (w .inside) (w .darts) (w .points) each-below fit-ranks numbered))
 
     -- THE DRAFT, where serials are ranked and pairs are right
-    module _ {keys ranks q : List ℕ} (ranked : Ranked x k keys ranks) {r : Bool} (paired : Paired v b z k q r) (yes : r ≡ true) where
+    module _ {keys ranks q : List ℕ} (ranked : Ranked x k keys ranks) {r : Bool} (paired : EdgesPaired v b z k q r) (yes : r ≡ true) where
       tests : ((all (ends-differ v b z) (tab (λ i. i) k) && distinct (tab (pair-at v b z) k)) && all (λ i. mem (reverse-at v b z i) (tab (pair-at v b z) k)) (tab (λ i. i) k)) ≡ true
       tests = sym (paired .is) ∙ yes
 
@@ -174,7 +174,7 @@ module _ {t : Transfer} {v x b z s : List ℕ} {from n k : ℕ} {hollow : Bool} 
         point-finite = λ i h. point-there s from n points-finite (getD v i 0) (each-below i h);
       }
 
-      pub draft-of : {m : List ℕ} → Drafted (draft-record v b z keys ranks q s from) k m → Draft v x b z keys ranks q s from k m
+      pub draft-of : {m : List ℕ} → RecordsDrafted (draft-record v b z keys ranks q s from) k m → Draft v x b z keys ranks q s from k m
       draft-of d = record {
         some-darts = w .some-darts;
         few = w .few;
@@ -186,5 +186,5 @@ module _ {t : Transfer} {v x b z s : List ℕ} {from n k : ℕ} {hollow : Bool} 
         drafted = d;
       }
 
-    pub paired-no : {q : List ℕ} {r : Bool} → Paired v b z k q r → r ≡ false → false ≡ volume-right t
+    pub paired-no : {q : List ℕ} {r : Bool} → EdgesPaired v b z k q r → r ≡ false → false ≡ volume-right t
     paired-no p e = right-when (pairs-right (sides t)) is-paired (paired-by-index ∙ sym (p .is) ∙ e)

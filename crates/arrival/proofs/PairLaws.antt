@@ -13,7 +13,7 @@ use Rattle.model.specs.Arrival.{Side, reverses, pairs-right}
 use Rattle.laws.proofs.Tests.{and-intro, and-left, and-right, same-truth}
 use Rattle.laws.proofs.Members.{Each, all-map, each-tab}
 use Rattle.laws.proofs.Tables.{map-tab, tab-any, any-tab, tab-all, all-tab}
-use Rattle.arrival.specs.Sides.{next-index, side-at, pair-code, pair-at, reverse-at, ends-differ, Segments, Small}
+use Rattle.arrival.specs.Sides.{next-index, side-at, pair-code, pair-at, reverse-at, ends-differ, Segments, VerticesSmall}
 use Rattle.arrival.proofs.SegmentLaws.{next-below}
 
 -- ends that a code tells apart
@@ -67,7 +67,7 @@ any-same q r f g n h = same-truth _ _
     (λ t. let w = any-tab q f n t in tab-any r g n (w .0) (w .1) (sym (h (w .0) (w .1)) ∙ w .2))
     (λ t. let w = any-tab r g n t in tab-any q f n (w .0) (w .1) (h (w .0) (w .1) ∙ w .2))
 
-module _ (v x : List ℕ) {b z : List ℕ} {k : ℕ} (w : Segments b z k) (small : Small v k) where
+module _ (v x : List ℕ) {b z : List ℕ} {k : ℕ} (w : Segments b z k) (small : VerticesSmall v k) where
   fits : (i : ℕ) → i < k → Fit (getD v i 0, getD v (next-index b z i) 0)
   fits i h =
       let a = small i h in let c = small (next-index b z i) (next-below w i h) in

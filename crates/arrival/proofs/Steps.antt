@@ -14,8 +14,8 @@ use Rattle.laws.proofs.Tests.{by-cases, last-or-below, and-false}
 use Rattle.laws.proofs.Maps.{tab-more}
 use Rattle.laws.proofs.Tables.{getD-tab, tab-all, all-tab}
 use Rattle.ranking.specs.Ranks.{Ranked}
-use Rattle.arrival.specs.Sides.{next-index, order-at, pair-at, edge-at, ends-differ, Segments, Small}
-use Rattle.arrival.specs.Draft.{Edged, Paired}
+use Rattle.arrival.specs.Sides.{next-index, order-at, pair-at, edge-at, ends-differ, Segments, VerticesSmall}
+use Rattle.arrival.specs.Draft.{Edged, EdgesPaired}
 use Rattle.arrival.proofs.EdgeLaws.{edge-small, distinct-edges, edged-is, edged-opposed}
 use Rattle.arrival.proofs.SegmentLaws.{next-below}
 
@@ -106,18 +106,18 @@ pairing-all {v} {b} {z} {k} {pairs} {ok} {i} w h = let e : i ≡ k = omega (arit
 
 -- ALL OF THE PAIRS
 module _ (v b z : List ℕ) (k : ℕ) where
-  pub paired-ends : {q : List ℕ} → all (ends-differ v b z) (tab (λ i. i) k) ≡ false → Paired v b z k q false
+  pub paired-ends : {q : List ℕ} → all (ends-differ v b z) (tab (λ i. i) k) ≡ false → EdgesPaired v b z k q false
   paired-ends e = record { is = rw e refl; opposed = λ y. absurd (true≢false (sym y)) }
 
-  module _ (seg : Segments b z k) (small : Small v k) (pairs : List ℕ) (are : take k pairs ≡ tab (edge-at v b z) k) where
+  module _ (seg : Segments b z k) (small : VerticesSmall v k) (pairs : List ℕ) (are : take k pairs ≡ tab (edge-at v b z) k) where
     once : distinct (take k pairs) ≡ distinct (tab (pair-at v b z) k)
     once = ap distinct are ∙ distinct-edges v seg small
 
-    pub paired-twice : {q : List ℕ} → distinct (take k pairs) ≡ false → Paired v b z k q false
+    pub paired-twice : {q : List ℕ} → distinct (take k pairs) ≡ false → EdgesPaired v b z k q false
     paired-twice e = record { is = rw (sym once ∙ e, and-false (all (ends-differ v b z) (tab (λ i. i) k))) refl; opposed = λ y. absurd (true≢false (sym y)) }
 
     pub paired-found : {keys ranks q : List ℕ} {r : Bool} → all (ends-differ v b z) (tab (λ i. i) k) ≡ true → distinct (take k pairs) ≡ true
-        → Ranked pairs k keys ranks → Edged keys k q r → Paired v b z k q r
+        → Ranked pairs k keys ranks → Edged keys k q r → EdgesPaired v b z k q r
     paired-found {keys} {ranks} {q} {r} e d w c = record { is = rw (e, sym once ∙ d) (edged-is v seg small are w c apart); opposed = edged-opposed v seg small are w c }
       where
         apart : (i : ℕ) → i < k → getD v i 0 ≡ getD v (next-index b z i) 0 → ⊥

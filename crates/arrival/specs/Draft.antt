@@ -19,7 +19,7 @@ use Rattle.inbox.specs.Inbox.{FacesIn, is-hollow, points-in, word-in}
 use Rattle.ranking.specs.Ranks.{value-at, index-at, Ranked}
 use Rattle.arrival.specs.declared.serials.Gap.{Gap}
 use Rattle.arrival.specs.declared.serials.Gap.the-variants.{Below, NotNew}
-use Rattle.arrival.specs.Sides.{next-index, pair-at, reverse-at, ends-differ, Segments, Small}
+use Rattle.arrival.specs.Sides.{next-index, pair-at, reverse-at, ends-differ, Segments, VerticesSmall}
 
 -- whether the values of the first k keys, which ascend, are edges that differ in the last bit; then q has the index of each one's other
 pub record Edged (keys : List ℕ) (k : ℕ) (q : List ℕ) (r : Bool) : Type 0 where
@@ -32,7 +32,7 @@ pub record Opposed (v b z : List ℕ) (k : ℕ) (q : List ℕ) : Type 0 where
   pub reversed : (i : ℕ) → i < k → reverse-at v b z i ≡ pair-at v b z (getD q i 0)
 
 -- whether pairs are there once, with different ends and with their reverses; then q has the opposites
-pub record Paired (v b z : List ℕ) (k : ℕ) (q : List ℕ) (r : Bool) : Type 0 where
+pub record EdgesPaired (v b z : List ℕ) (k : ℕ) (q : List ℕ) (r : Bool) : Type 0 where
   pub is : r ≡ ((all (ends-differ v b z) (tab (λ i. i) k) && distinct (tab (pair-at v b z) k)) && all (λ i. mem (reverse-at v b z i) (tab (pair-at v b z) k)) (tab (λ i. i) k))
   pub opposed : r ≡ true → Opposed v b z k q
 
@@ -68,7 +68,7 @@ pub record Draftable (v b z keys q s : List ℕ) (from k : ℕ) : Type 0 where
   pub point-finite : (i : ℕ) → i < k → FiniteIn s (from + 24 * getD v i 0)
 
 -- a block's memory with k such records
-pub record Drafted (f : ℕ → Record) (k : ℕ) (m : List ℕ) : Type 0 where
+pub record RecordsDrafted (f : ℕ → Record) (k : ℕ) (m : List ℕ) : Type 0 where
   pub size : words-for k ≤ length m
   pub count-is : getD m 2 0 ≡ k
   pub rows : (p : ℕ) → p < k → record-in m p ≡ f p
@@ -78,11 +78,11 @@ pub record Draft (v x b z keys ranks q s : List ℕ) (from k : ℕ) (m : List �
   pub some-darts : 1 ≤ k
   pub few : k ≤ message-darts
   pub segs : Segments b z k
-  pub small : Small v k
+  pub small : VerticesSmall v k
   pub ranked : Ranked x k keys ranks
   pub opposed : Opposed v b z k q
   pub once : (i j : ℕ) → i < k → j < k → pair-at v b z i ≡ pair-at v b z j → i ≡ j
-  pub drafted : Drafted (draft-record v b z keys ranks q s from) k m
+  pub drafted : RecordsDrafted (draft-record v b z keys ranks q s from) k m
 
 -- how the vertices of a draft are numbered by first use, beside what the message says
 pub record Compared (v ranks : List ℕ) (n k : ℕ) (m : List ℕ) (r : Bool) : Type 0 where
@@ -93,7 +93,7 @@ pub record Compared (v ranks : List ℕ) (n k : ℕ) (m : List ℕ) (r : Bool) :
   pub result : r ≡ (all (λ i. eqb (getD v i 0) (getD numbers (getD ranks i 0) 0)) (tab (λ i. i) k) && eqb n count)
 
 -- what was told of part 1 of a transfer: its k darts in arrays, its n points in the message
-pub record Told (t : Transfer) (v x b z s : List ℕ) (from n k : ℕ) (hollow : Bool) : Type 0 where
+pub record TransferTold (t : Transfer) (v x b z s : List ℕ) (from n k : ℕ) (hollow : Bool) : Type 0 where
   pub inside : FacesIn (t .faces) v x b z
   pub darts : k ≡ size-all (t .faces)
   pub some-darts : 1 ≤ k

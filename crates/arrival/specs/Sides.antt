@@ -53,5 +53,5 @@ abbrev pub ends-differ : List ℕ → List ℕ → List ℕ → ℕ → Bool
 ends-differ v b z i = not (eqb (getD v i 0) (getD v (next-index b z i) 0))
 
 -- vertices are numbered below the count of darts
-abbrev pub Small : List ℕ → ℕ → Type 0
-Small v k = (i : ℕ) → i < k → getD v i 0 ≤ message-darts
+abbrev pub VerticesSmall : List ℕ → ℕ → Type 0
+VerticesSmall v k = (i : ℕ) → i < k → getD v i 0 ≤ message-darts

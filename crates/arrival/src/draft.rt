@@ -6,7 +6,7 @@ ghost use Rattle.model.specs.Image.{words-for};
 ghost use Rattle.memory.specs.Point.{point-of};
 ghost use Rattle.inbox.specs.Inbox.{word-in};
 ghost use Rattle.ranking.specs.Ranks.{index-at};
-ghost use Rattle.arrival.specs.Draft.{draft-record, FiniteIn, Draftable, Drafted};
+ghost use Rattle.arrival.specs.Draft.{draft-record, FiniteIn, Draftable, RecordsDrafted};
 use crate::pairs;
 use groups::Read;
 use memory::header::Header;
@@ -109,7 +109,7 @@ pub fn put_draft(
 )
     requires { ⌜ (k ≤ length (now vertex)) × (k ≤ length (now starts)) × (k ≤ length (now sizes)) × (k ≤ length (now keys)) × (k ≤ length (now ranks)) × (k ≤ length (now opposite)) × (words-for k ≤ length (now draft)) ⌝ }
     requires { ⌜ Draftable (now vertex) (now starts) (now sizes) (now keys) (now opposite) (now message) from k ⌝ }
-    ensures { λ _. ⌜ Drafted (draft-record (now (vertex .entry)) (now (starts .entry)) (now (sizes .entry)) (now (keys .entry)) (now (ranks .entry)) (now (opposite .entry)) (now (message .entry)) from) k (now (draft .exit)) ⌝ }
+    ensures { λ _. ⌜ RecordsDrafted (draft-record (now (vertex .entry)) (now (starts .entry)) (now (sizes .entry)) (now (keys .entry)) (now (ranks .entry)) (now (opposite .entry)) (now (message .entry)) from) k (now (draft .exit)) ⌝ }
 {
     // The records below p are put.
     let mut p = 0;

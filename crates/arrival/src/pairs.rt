@@ -6,8 +6,8 @@ ghost use Rattle.laws.specs.Order.{Ascending};
 ghost use Rattle.model.specs.Lists.{all, tab};
 ghost use Rattle.model.specs.Values.{message-darts};
 ghost use Rattle.ranking.specs.Ranks.{value-at, index-at};
-ghost use Rattle.arrival.specs.Sides.{next-index, edge-code, edge-at, ends-differ, Segments, Small};
-ghost use Rattle.arrival.specs.Draft.{Edged, Paired};
+ghost use Rattle.arrival.specs.Sides.{next-index, edge-code, edge-at, ends-differ, Segments, VerticesSmall};
+ghost use Rattle.arrival.specs.Draft.{Edged, EdgesPaired};
 use memory::header::Header;
 use memory::record::MessageIndex;
 
@@ -45,7 +45,7 @@ pub fn put_pairs(
     pairs: &mut [u64],
 ) -> bool
     requires { ⌜ (k ≤ length (now vertex)) × (k ≤ length (now starts)) × (k ≤ length (now sizes)) × (k ≤ length (now pairs)) × (k ≤ message-darts) ⌝ }
-    requires { ⌜ Segments (now starts) (now sizes) k × Small (now vertex) k ⌝ }
+    requires { ⌜ Segments (now starts) (now sizes) k × VerticesSmall (now vertex) k ⌝ }
     ensures { λ r. ⌜ (r ≡ all (ends-differ (now (vertex .entry)) (now (starts .entry)) (now (sizes .entry))) (tab (λ i. i) k)) × (take k (now (pairs .exit)) ≡ tab (edge-at (now (vertex .entry)) (now (starts .entry)) (now (sizes .entry))) k) ⌝ }
 {
     // The pairs before i are put; `ok` says whether their ends differ.
@@ -95,8 +95,8 @@ pub fn paired(
     opposite: &mut [usize],
 ) -> bool
     requires { ⌜ (k ≤ length (now vertex)) × (k ≤ length (now starts)) × (k ≤ length (now sizes)) × (k ≤ length (now opposite)) × (1 ≤ k) × (k ≤ message-darts) ⌝ }
-    requires { ⌜ Segments (now starts) (now sizes) k × Small (now vertex) k ⌝ }
-    ensures { λ r. ⌜ Paired (now (vertex .entry)) (now (starts .entry)) (now (sizes .entry)) k (now (opposite .exit)) r ⌝ }
+    requires { ⌜ Segments (now starts) (now sizes) k × VerticesSmall (now vertex) k ⌝ }
+    ensures { λ r. ⌜ EdgesPaired (now (vertex .entry)) (now (starts .entry)) (now (sizes .entry)) k (now (opposite .exit)) r ⌝ }
 {
     let mut pairs = [0u64; Header::VOLUME];
     if !put_pairs(vertex, starts, sizes, k, &mut pairs) {

@@ -12,7 +12,7 @@ ghost use Rattle.model.specs.Arrival.{volume-right};
 ghost use Rattle.cells.specs.Places.{Linked, places-in, volume-of};
 ghost use Rattle.inbox.specs.Inbox.{points-in};
 ghost use Rattle.ranking.specs.Ranks.{Ranked};
-ghost use Rattle.arrival.specs.Draft.{Compared, Told, Draft};
+ghost use Rattle.arrival.specs.Draft.{Compared, TransferTold, Draft};
 use crate::draft;
 use crate::order;
 use crate::pairs;
@@ -84,8 +84,8 @@ pub fn volume_right(
     firsts: &mut [usize],
 ) -> bool
     requires { ⌜ (k ≤ length (now vertex)) × (k ≤ length (now serial)) × (k ≤ length (now starts)) × (k ≤ length (now sizes)) × (k ≤ length (now keys)) × (k ≤ length (now ranks)) × (k ≤ length (now opposite)) × (words-for k ≤ length (now draft)) × (k ≤ length (now queue)) × (k ≤ length (now firsts)) ⌝ }
-    requires { ⌜ Ranked (now serial) k (now keys) (now ranks) × (all finite (points-in (now message) from count) ≡ true) × ((t : Transfer) × Told t (now vertex) (now serial) (now starts) (now sizes) (now message) from count k hollow) ⌝ }
-    ensures answer { λ r. ⌜ ((t : Transfer) → Told t (now (vertex .entry)) (now (serial .entry)) (now (starts .entry)) (now (sizes .entry)) (now (message .entry)) from count k hollow → r ≡ volume-right t) ⌝ }
+    requires { ⌜ Ranked (now serial) k (now keys) (now ranks) × (all finite (points-in (now message) from count) ≡ true) × ((t : Transfer) × TransferTold t (now vertex) (now serial) (now starts) (now sizes) (now message) from count k hollow) ⌝ }
+    ensures answer { λ r. ⌜ ((t : Transfer) → TransferTold t (now (vertex .entry)) (now (serial .entry)) (now (starts .entry)) (now (sizes .entry)) (now (message .entry)) from count k hollow → r ≡ volume-right t) ⌝ }
     ensures drafted { λ r. ⌜ (r ≡ true → Draft (now (vertex .entry)) (now (serial .entry)) (now (starts .entry)) (now (sizes .entry)) (now (keys .entry)) (now (ranks .entry)) (now (opposite .exit)) (now (message .entry)) from k (now (draft .exit))) ⌝ }
 {
     if hollow {

@@ -10,7 +10,7 @@ use Rattle.model.specs.Values.{Point, Third, Dart}
 use Rattle.model.specs.Layouts.{Layout, serial, at-most, _⊗_, _⊕_, as-type}
 use Rattle.model.specs.Messages.{third, point, a-dart}
 use Rattle.groups.proofs.Ends.{Ends, from-onward, place-back, as-type-ends, ⊕-ends, serial-ends}
-use Rattle.codec.specs.Darts.{values-of, placed-dart, dart-read}
+use Rattle.codec.specs.Darts.{dart-values, placed-dart, dart-read}
 use Rattle.codec.specs.Taken.{Took}
 use Rattle.codec.specs.declared.dart.FileDart.{FileDart}
 use Rattle.codec.specs.declared.dart.Parsed.the-variants as parsed
@@ -28,7 +28,7 @@ dart-ends = as-type-ends _ _ four (⊕-ends serial _ serial-ends (⊕-ends seria
 pub record DartGot (s : List ℕ) (at : ℕ) (r : FileDart) (next : ℕ) : Type 0 where
   pub dart : Dart
   pub reads : Took a-dart s at dart next
-  pub values-are : r ≡ values-of dart
+  pub values-are : r ≡ dart-values dart
 
 pub dart-got : {s : List ℕ} {at : ℕ} {w : FileDart} {next : ℕ} → parsed.Dart w next ≡ dart-read s at → DartGot s at w next
 unfolding dart-read
@@ -37,7 +37,7 @@ dart-got {s} {at} {w} {next} h = go (a-dart .get (drop at s)) refl h
     go : (r : Option (Dart × List ℕ)) → a-dart .get (drop at s) ≡ r → parsed.Dart w next ≡ placed-dart (length s) r → DartGot s at w next
     go none e q = let z : _≡_ {A = ℕ} 0 1 = cc in absurd (omega arith)
     go (some r) e q =
-        let ew : w ≡ values-of (r .0) = cc in
+        let ew : w ≡ dart-values (r .0) = cc in
         let en : next ≡ length s - length (r .1) = cc in
         record { dart = r .0; reads = rw en (took-reads (from-onward a-dart s (r .1) at (r .0) e (dart-ends (drop at s) (r .0) (r .1) e))); values-are = ew }
 

@@ -18,8 +18,8 @@ use Rattle.codec.specs.declared.dart.Parsed.the-variants as parsed
 unfoldable pub link-bytes : ℕ → ℕ → ℕ → List ℕ
 link-bytes s n o = serial .put s ++ (serial .put n ++ serial .put o)
 
-abbrev pub values-of : Dart → FileDart
-values-of d = record {
+abbrev pub dart-values : Dart → FileDart
+dart-values d = record {
   serial = d .serial;
   next = d .next;
   opposite = d .opposite;
@@ -32,7 +32,7 @@ values-of d = record {
 
 abbrev pub placed-dart : ℕ → Option (Dart × List ℕ) → Parsed
 placed-dart n none = parsed.Bad
-placed-dart n (some r) = parsed.Dart (values-of (r .0)) (n - length (r .1))
+placed-dart n (some r) = parsed.Dart (dart-values (r .0)) (n - length (r .1))
 
 unfoldable pub dart-read : List ℕ → ℕ → Parsed
 dart-read s at = placed-dart (length s) (a-dart .get (drop at s))

@@ -5,7 +5,7 @@ use mathlib.Core.List.{List}
 use mathlib.Core.Option.{Option, none, some}
 use Prim.Native.Nat.{ℕ, _-_, _^_, _<_}
 use lib.ListN.{length, drop}
-use Rattle.model.specs.Values.{Third, free, sewn, critical, code, serial-bound}
+use Rattle.model.specs.Values.{Third, free, sewn, critical, code, serial-bound, blocks}
 use Rattle.model.specs.Layouts.{Layout, as-type, at-most, _⊗_}
 use Rattle.model.specs.Image.{kind-word, is-sewn-word, other-in, third-in}
 use Rattle.model.specs.Messages.{kind-of, third}
@@ -18,7 +18,7 @@ third-bytes k a = let t = third-in (λ x. x) k a in (at-most 2 ⊗ third) .put (
 
 -- numbers in range
 pub record ThirdSmall (k a : ℕ) : Type 0 where
-  pub other-small : other-in k < 16
+  pub other-small : other-in k < blocks
   pub named-small : a < 2 ^ 48
   pub sewn-small : is-sewn-word k ≡ true → a < serial-bound
 

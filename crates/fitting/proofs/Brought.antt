@@ -22,7 +22,7 @@ use Rattle.parts.specs.Indices.{starts-at}
 use Rattle.parts.specs.Segments.{link-of, face-links}
 use Rattle.parts.proofs.FaceLinks.{link-found}
 use Rattle.join.specs.Join.{Linking}
-use Rattle.fitting.specs.Bringing.{met-links, Apart, Meets, Sewing2}
+use Rattle.fitting.specs.Bringing.{met-links, LabelsApart, Meets, Sewing2}
 use Rattle.fitting.proofs.Found.{found-left, found-right, never-found, found-at, sewn-none, sewn-new, sewn-old}
 
 -- the index of a dart on the face of entry e of part 2
@@ -73,7 +73,7 @@ module _ {b z indices : List ℕ} {n k c : ℕ} {w : ℕ → ℕ → ℕ} (o : M
       (lt-or-ge q (getD indices e 0))
 
 -- AMONG PART 2'S LINKS
-module _ {A : Type 0} (part : A → List Link) (entry : ℕ → A) (s : ℕ → ℕ) (x : List ℕ) {b z indices : List ℕ} {n k c : ℕ} {w : ℕ → ℕ → ℕ} (r : Apart s x n k) (o : Meets b z indices n k c w)
+module _ {A : Type 0} (part : A → List Link) (entry : ℕ → A) (s : ℕ → ℕ) (x : List ℕ) {b z indices : List ℕ} {n k c : ℕ} {w : ℕ → ℕ → ℕ} (r : LabelsApart s x n k) (o : Meets b z indices n k c w)
     (part-is : (e : ℕ) → e < c → part (entry e) ≡ met-links s x (getD indices e 0) (getD z (getD indices e 0) 0) (w e)) where
   abbrev size : ℕ → ℕ
   size e = getD z (getD indices e 0) 0
@@ -114,7 +114,7 @@ module _ {A : Type 0} (part : A → List Link) (entry : ℕ → A) (s : ℕ → 
       (λ i hi q. let one = old-one e j d i he hj hd hi q in omega (arith, one .0, l)))
 
 -- ALL LINKS
-module _ (s : ℕ → ℕ) (x : List ℕ) {b z : List ℕ} (kinds links : List ℕ) {n k : ℕ} (segs : Segments b z k) (r : Apart s x n k) where
+module _ (s : ℕ → ℕ) (x : List ℕ) {b z : List ℕ} (kinds links : List ℕ) {n k : ℕ} (segs : Segments b z k) (r : LabelsApart s x n k) where
   -- no dart of the block is among those of parts 3 and 4
   pub critical-none : (p : ℕ) → p < n → (l : List ℕ) → all (starts-at b k) l ≡ true → find (λ m. m .dart) (s p) (concat-map (face-links s x z kinds links) l) ≡ none
   critical-none p h [] t = refl

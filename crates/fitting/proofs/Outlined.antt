@@ -18,13 +18,13 @@ use Rattle.inbox.specs.declared.message.Front.{Front}
 use Rattle.inbox.specs.declared.message.Tail.{Tail}
 use Rattle.inbox.specs.Inbox.{is-hollow, points-in, some-darts}
 use Rattle.inbox.specs.Arrived.{TransferOutlined}
-use Rattle.arrival.specs.Draft.{Told, NewSerials}
+use Rattle.arrival.specs.Draft.{TransferTold, NewSerials}
 use Rattle.arrival.proofs.Nineteen.{hollow-no, each-below, vertices-fit, is-numbered}
 use Rattle.parts.specs.Critical.{Arrives}
 
 module _ {s v x b z : List ℕ} {f : Front} {l : Tail} where
   -- what is told of part 1
-  pub told-of : {t : Transfer} → TransferOutlined t s v x b z f l → Told t v x b z s (f .points) (f .vertices) (f .darts) (f .hollow)
+  pub told-of : {t : Transfer} → TransferOutlined t s v x b z f l → TransferTold t v x b z s (f .points) (f .vertices) (f .darts) (f .hollow)
   told-of {t} w =
       let low = leb-true 1 (size-all (t .faces)) (and-left (leb 1 (size-all (t .faces))) _ (w .some-there)) in
       let high = leb-true (size-all (t .faces)) 512 (and-right (leb 1 (size-all (t .faces))) _ (w .some-there)) in

@@ -42,7 +42,7 @@ use Rattle.parts.proofs.Assembled.{up, below, start}
 use Rattle.parts.proofs.LabelledDarts.{labelled-at}
 use Rattle.parts.proofs.Backwards.{met-face}
 use Rattle.join.specs.Join.{Linking}
-use Rattle.fitting.specs.Bringing.{met-links, Apart, Meets, Sewing2, steps, Placing2, MetOnce}
+use Rattle.fitting.specs.Bringing.{met-links, LabelsApart, Meets, Sewing2, steps, Placing2, MetOnce}
 use Rattle.fitting.proofs.Found.{sew-tab}
 use Rattle.fitting.proofs.Brought.{linking}
 use Rattle.fitting.proofs.MetFaces.{apart-differ, differ-apart}
@@ -53,7 +53,7 @@ steps-iter f (suc k) y = steps-iter f k (f y)
 
 -- THE SERIALS of new darts that the block does not hold
 pub serials-apart : (m x : List ℕ) (k : ℕ) → Sited m → ((i j : ℕ) → i < k → j < k → getD x i 0 ≡ getD x j 0 → i ≡ j)
-    → ((i : ℕ) → i < k → held (darts-in m) (getD x i 0) ≡ false) → Apart (column m 0) x (getD m 2 0) k
+    → ((i : ℕ) → i < k → held (darts-in m) (getD x i 0) ≡ false) → LabelsApart (column m 0) x (getD m 2 0) k
 serials-apart m x k site differ free = record {
   new-differ = differ;
   old-differ = λ p q hp hq e. one-place (site .ascends) hp hq e;
@@ -63,7 +63,7 @@ serials-apart m x k site differ free = record {
 -- those that question 18 finds new, in a draft
 pub drafted-apart : (m : List ℕ) {v x b z keys ranks q s d : List ℕ} {from from′ n k : ℕ} {r : Bool} → Sited m
     → Draft v x b z keys ranks q s from k d → NewSerials (darts-in m) s from′ n x k keys ranks r → r ≡ true
-    → Apart (column m 0) x (getD m 2 0) k
+    → LabelsApart (column m 0) x (getD m 2 0) k
 drafted-apart m {x =
     x} {s = s} {from′ = from′} {n = n} {k = k} site draft new e = serials-apart m x k site (serials-differ draft) (λ i h. not-true
     _
@@ -205,7 +205,7 @@ module _ (m : List ℕ) (ok : holds-block m ≡ true) {t : Transfer} {v x b z s 
         two p q = rw (p, q) refl
 
     -- the words with part 2's put over those of parts 3 and 4 are the links of the transfer
-    pub brought : {kinds′ links′ : List ℕ} → MetOnce z indices (l .count2) w → Apart (column m 0) x (getD m 2 0) k → ((q : ℕ) → q < k → Kind (getD kinds q 0) (getD links q 0))
+    pub brought : {kinds′ links′ : List ℕ} → MetOnce z indices (l .count2) w → LabelsApart (column m 0) x (getD m 2 0) k → ((q : ℕ) → q < k → Kind (getD kinds q 0) (getD links q 0))
         → Faced z indices (l .count2) (λ e j. 1) kinds kinds′ → Faced z indices (l .count2) w links links′ → Linking m (getD m 2 0) k x kinds′ links′ (transfer-links (block-in m .darts) t)
     brought {kinds′} {links′} o serials kind-right kinds-put links-put =
         subst (Linking m (getD m 2 0) k x kinds′ links′) (sym links-are)

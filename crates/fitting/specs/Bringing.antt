@@ -20,7 +20,7 @@ abbrev pub met-links : (ℕ → ℕ) → List ℕ → ℕ → ℕ → (ℕ → �
 met-links s x i n w = sew-both (tab (λ j. (getD x (i + j) 0, s (w j))) n)
 
 -- serials of k new darts and of the block's n, all different
-pub record Apart (s : ℕ → ℕ) (x : List ℕ) (n k : ℕ) : Type 0 where
+pub record LabelsApart (s : ℕ → ℕ) (x : List ℕ) (n k : ℕ) : Type 0 where
   pub new-differ : (i j : ℕ) → i < k → j < k → getD x i 0 ≡ getD x j 0 → i ≡ j
   pub old-differ : (p q : ℕ) → p < n → q < n → s p ≡ s q → p ≡ q
   pub not-held : (i p : ℕ) → i < k → p < n → getD x i 0 ≡ s p → ⊥
@@ -43,7 +43,7 @@ pub record Before (b kinds links starts : List ℕ) (k : ℕ) : Type 0 where
 
 -- the words with part 2's put over them
 pub record Sewing2 (s : ℕ → ℕ) (x b z indices starts kinds links kinds′ links′ : List ℕ) (n k c : ℕ) (w : ℕ → ℕ → ℕ) : Type 0 where
-  pub serials : Apart s x n k
+  pub serials : LabelsApart s x n k
   pub meets : Meets b z indices n k c w
   pub before : Before b kinds links starts k
   pub kinds-put : Faced z indices c (λ e j. 1) kinds kinds′

@@ -5,7 +5,7 @@ ghost use mathlib.Core.List.{List};
 ghost use Prim.Native.Nat.{ℕ, _≤_, _<_, _^_};
 ghost use lib.ListN.{length, getD};
 ghost use Rattle.model.specs.Image.{holds-block};
-ghost use Rattle.model.specs.Values.{message-darts};
+ghost use Rattle.model.specs.Values.{message-darts, last-block};
 ghost use Rattle.parts.specs.Locate.{none-there};
 ghost use Rattle.fitting.specs.Fitting.{CodesRanked, Part2Ready, Part2Done, NewVolume, Parted};
 use inbox::message::Front;
@@ -103,7 +103,7 @@ pub fn parts_right(
     marks: &mut [u8],
     seen: &mut [u8],
 ) -> bool
-    requires { ⌜ (holds-block (now block) ≡ true) × (front .darts ≤ length (now starts)) × (front .darts ≤ length (now sizes)) × (front .darts ≤ length (now ranks)) × ((q : ℕ) → getD (now kinds) q 0 ≡ 0) × ((q : ℕ) → getD (now links) q 0 ≡ 0) × (front .from ≤ 15) × (front .darts ≤ length (now kinds)) × (front .darts ≤ length (now links)) ⌝ }
+    requires { ⌜ (holds-block (now block) ≡ true) × (front .darts ≤ length (now starts)) × (front .darts ≤ length (now sizes)) × (front .darts ≤ length (now ranks)) × ((q : ℕ) → getD (now kinds) q 0 ≡ 0) × ((q : ℕ) → getD (now links) q 0 ≡ 0) × (front .from ≤ last-block) × (front .darts ≤ length (now kinds)) × (front .darts ≤ length (now links)) ⌝ }
     requires { ⌜ ((v : List ℕ) × (x : List ℕ) × NewVolume (now block) (now message) v x (now starts) (now sizes) front tail (now ranks) (now draft)) ⌝ }
     requires { ⌜ (front .darts ≤ length (now codes)) × (front .darts ≤ length (now indices)) × (front .darts ≤ length (now numbers)) × (front .darts ≤ length (now third)) × (front .darts ≤ length (now fourth)) × (front .darts ≤ length (now others)) × (front .darts ≤ length (now rows)) × (front .darts ≤ length (now places)) × (front .darts ≤ length (now trail)) × (front .darts ≤ length (now marks)) × (getD (now block) 2 0 ≤ length (now seen)) ⌝ }
     requires { ⌜ ((e : ℕ) → e < front .darts → getD (now places) e 0 ≡ none-there) × ((q : ℕ) → getD (now marks) q 0 ≡ 0) × ((q : ℕ) → getD (now seen) q 0 ≡ 0) ⌝ }

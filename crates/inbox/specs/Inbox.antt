@@ -7,7 +7,7 @@ use Prim.Native.Nat.{ℕ, _+_, _*_, _≤_, _<_}
 use lib.Dec.{leb, eqb}
 use lib.ListN.{length, take, drop, set, replicate}
 use Rattle.model.specs.Lists.{any, tab, concat}
-use Rattle.model.specs.Values.{Point}
+use Rattle.model.specs.Values.{Point, message-darts}
 use Rattle.model.specs.Layouts.{Read as Reading, coordinate, times, counted, get-all}
 use Rattle.model.specs.Messages.{FaceDart, face-dart, point, size-all}
 use Rattle.groups.specs.declared.Read.{Read}
@@ -18,7 +18,7 @@ use Rattle.inbox.specs.declared.faces.FacesOrNot.the-variants as faces
 
 -- darts that a message may have
 abbrev pub most : ℕ
-most = 512
+most = message-darts
 
 -- POINTS stay where they stand, 24 bytes each
 abbrev pub value-or-zero : Reading ℕ → ℕ
@@ -101,7 +101,7 @@ pub record FacesIn (fs : List (List FaceDart)) (v x b z : List ℕ) : Type 0 whe
 
 -- "1 to 512 darts"
 abbrev pub some-darts : List (List FaceDart) → Bool
-some-darts fs = leb 1 (size-all fs) && leb (size-all fs) 512
+some-darts fs = leb 1 (size-all fs) && leb (size-all fs) message-darts
 
 -- a face of size 0
 abbrev pub is-hollow : List (List FaceDart) → Bool

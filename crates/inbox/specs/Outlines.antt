@@ -5,6 +5,7 @@ use mathlib.Core.List.{List}
 use mathlib.Core.Option.{none, some}
 use Prim.Native.Nat.{ℕ, _+_, _*_, _≤_}
 use lib.ListN.{length, drop}
+use Rattle.model.specs.Values.{last-block}
 use Rattle.model.specs.Layouts.{Layout, group, _⊕_, at-most, exactly, times, counted, whole, unframed}
 use Rattle.model.specs.Messages.{FaceDart, Part2, Part3, Part4, Update, transfer, update, label, part1, part2, part3, part4, size-all}
 use Rattle.reader.specs.declared.Head.{Head}
@@ -29,8 +30,8 @@ pub record Headed (k : ℕ) (s : List ℕ) (at from to next : ℕ) : Type 0 wher
   pub past : ℕ
   pub after : ℕ
   pub kind-read : Took (exactly k) s at k past
-  pub from-read : Took (at-most 15) s past from after
-  pub to-read : Took (at-most 15) s after to next
+  pub from-read : Took (at-most last-block) s past from after
+  pub to-read : Took (at-most last-block) s after to next
 
 -- in its frame, "Its first number is the length of the rest": both kinds of message are read behind that number
 pub record Framed (s : List ℕ) (h : Head) : Type 0 where
@@ -39,8 +40,8 @@ pub record Framed (s : List ℕ) (h : Head) : Type 0 where
   pub past : ℕ
   pub after : ℕ
   pub kind-read : Took group s (h .body) (h .kind) past
-  pub from-read : Took (at-most 15) s past (h .from) after
-  pub to-read : Took (at-most 15) s after (h .to) (h .next)
+  pub from-read : Took (at-most last-block) s past (h .from) after
+  pub to-read : Took (at-most last-block) s after (h .to) (h .next)
 
 abbrev pub HeadSaid : List ℕ → HeadOrNot → Type 0
 HeadSaid s head.Not = (unframed transfer s ≡ none) × (unframed update s ≡ none)
@@ -107,8 +108,8 @@ pub record UpdateOutlined (u : Update) (s : List ℕ) (r : UpdateOutline) : Type
   pub from-is : r .from ≡ u .from
   pub to-is : r .to ≡ u .to
   pub block-is : r .block ≡ u .block
-  pub from-small : r .from ≤ 15
-  pub block-small : r .block ≤ 15
+  pub from-small : r .from ≤ last-block
+  pub block-small : r .block ≤ last-block
   pub past : ℕ
   pub labels-in : Took (times (r .count) label) s (r .labels) (u .labels) past
 

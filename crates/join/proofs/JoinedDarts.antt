@@ -17,9 +17,9 @@ use Rattle.columns.proofs.Thirds.{third-sewn}
 use Rattle.laws.proofs.Tests.{by-cases, and-intro, and-left, and-right, eq-or-ne}
 use Rattle.laws.proofs.Tables.{any-tab, tab-any, one-place}
 use Rattle.columns.specs.Columns.{Kind, kind-free, kind-sewn, kind-critical}
-use Rattle.join.specs.Thirds.{place-of, Sewable, Sewn}
-use Rattle.join.specs.Woven.{Stands}
-use Rattle.join.specs.Join.{Indexed, Linking}
+use Rattle.join.specs.Thirds.{place-of, JoinSewable, Sewn}
+use Rattle.join.specs.Interleaved.{Stands}
+use Rattle.join.specs.Join.{JoinIndexed, Linking}
 
 -- no two darts stand at one place
 pub old-one : {m c w : List ℕ} {n k : ℕ} {old new : List ℕ} → Stands m c w n k old new → (p q : ℕ) → p < n → q < n → getD old p 0 ≡ getD old q 0 → p ≡ q
@@ -36,9 +36,9 @@ third-other s s′ {k} {a} (kind-sewn e) d = absurd (d e)
 third-other s s′ {k} {a} (kind-critical e f g) d = rw e refl
 
 module _ {m c w kinds links ranks old new x : List ℕ} {n k : ℕ} {ls : List Link} (fits : n + k ≤ room)
-    (at : Stands m c w n k old new) (by : Indexed c x ranks k) (ln : Linking m n k x kinds links ls) where
+    (at : Stands m c w n k old new) (by : JoinIndexed c x ranks k) (ln : Linking m n k x kinds links ls) where
   -- what sewing asks
-  pub sewable : Sewable n k kinds links ranks old new
+  pub sewable : JoinSewable n k kinds links ranks old new
   sewable = record {
     fits = fits;
     rank-below = by .rank-below;

@@ -17,12 +17,12 @@ use Rattle.laws.proofs.Tables.{any-tab, tab-any, map-tab, tab-cong}
 use Rattle.columns.specs.Columns.{Kind, kind-sewn, Ranged, Places, before}
 use Rattle.columns.proofs.Images.{image-back}
 use Rattle.join.specs.Thirds.{place-of, Sewn}
-use Rattle.join.specs.Woven.{Stands}
-use Rattle.join.specs.Join.{Indexed, Linking}
+use Rattle.join.specs.Interleaved.{Stands}
+use Rattle.join.specs.Join.{JoinIndexed, Linking}
 use Rattle.join.proofs.JoinedDarts.{old-one, new-one, dart-joined}
 
 module _ {m c w kinds links ranks old new x : List ℕ} {n k : ℕ} {ls : List Link} (fits : n + k ≤ room)
-    (at : Stands m c w n k old new) (by : Indexed c x ranks k) (ln : Linking m n k x kinds links ls) {y : List ℕ} (sew : Sewn w kinds links ranks old new k y) where
+    (at : Stands m c w n k old new) (by : JoinIndexed c x ranks k) (ln : Linking m n k x kinds links ls) {y : List ℕ} (sew : Sewn w kinds links ranks old new k y) where
   -- both words of a dart: as before, sewn, or labelled
   data Words (t : ℕ) : Type 0 where
     same : column y 3 t ≡ column w 3 t → column y 4 t ≡ column w 4 t → Words t

@@ -1,8 +1,8 @@
-pub mod Weaving
+pub mod Interleaving
 pub mod Positions
 pub mod Inserted
-pub mod WovenImage
-pub mod WovenPlaces
+pub mod InterleavedImage
+pub mod InterleavedPlaces
 pub mod SewLaws
 pub mod JoinedDarts
 pub mod JoinedImage

@@ -1,8 +1,8 @@
--- A weave of records by ascending keys: where each stands, that every place has one, and that the keys ascend. Assumes nothing.
---   by-weaving     a weave is made from the front, each record behind all that are there
---   woven-rows     how many, and where each stands
---   woven-keys     the keys ascend
---   map-weave, keep-weave    a map of a weave, and the records of one side
+-- A interleave of records by ascending keys: where each stands, that every place has one, and that the keys ascend. Assumes nothing.
+--   by-interleaving     a interleave is made from the front, each record behind all that are there
+--   interleaved-rows     how many, and where each stands
+--   interleaved-keys     the keys ascend
+--   map-interleave, keep-interleave    a map of a interleave, and the records of one side
 use mathlib.Core.Path.{_≡_, refl, sym, _∙_, ap, subst}
 use mathlib.Core.Bool.{Bool, true, false}
 use mathlib.Core.List.{List, [], _∷_, _++_, map, append-nil}
@@ -20,15 +20,15 @@ use Rattle.laws.proofs.Members.{map-append}
 use Rattle.laws.proofs.Tables.{index-place}
 use Rattle.theory.proofs.ImageLaws.{tab-list}
 use Rattle.cells.proofs.FaceLaws.{keep-append}
-use Rattle.join.specs.Weave.{below, up, Between, last-old, weave}
-use Rattle.join.proofs.Weaving.{below-is, last-yes, last-no, weave-old, weave-new}
+use Rattle.join.specs.Interleave.{below, up, Between, last-old, interleave}
+use Rattle.join.proofs.Interleaving.{below-is, last-yes, last-no, interleave-old, interleave-new}
 
 -- INDUCTION: the last of the first i and j is behind all others
-pub by-weaving : {s : ℕ → ℕ} {n : ℕ} {f : ℕ → ℕ} {k : ℕ} → Between s n f k → (P : ℕ → ℕ → Type 0) → P 0 0
+pub by-interleaving : {s : ℕ → ℕ} {n : ℕ} {f : ℕ → ℕ} {k : ℕ} → Between s n f k → (P : ℕ → ℕ → Type 0) → P 0 0
     → ((p j : ℕ) → p < n → j ≤ k → ((x : ℕ) → x < p → s x < s p) → ((y : ℕ) → y < j → f y < s p) → P p j → P (suc p) j)
     → ((i q : ℕ) → i ≤ n → q < k → ((x : ℕ) → x < i → s x < f q) → ((y : ℕ) → y < q → f y < f q) → P i q → P i (suc q))
     → P n k
-by-weaving {s} {n} {f} {k} w P none old new = go (n + k) n k (omega arith) (omega arith) (omega arith)
+by-interleaving {s} {n} {f} {k} w P none old new = go (n + k) n k (omega arith) (omega arith) (omega arith)
   where
     go : (t i j : ℕ) → i + j ≤ t → i ≤ n → j ≤ k → P i j
     go zero i j l il jl =
@@ -48,11 +48,11 @@ by-weaving {s} {n} {f} {k} w P none old new = go (n + k) n k (omega arith) (omeg
 
 -- WHERE EACH STANDS
 pub record Rows {A : Type 0} (s f : ℕ → ℕ) (g h : ℕ → A) (d : A) (i j : ℕ) : Type 0 where
-  pub count : length (weave s f g h i j) ≡ i + j
+  pub count : length (interleave s f g h i j) ≡ i + j
   pub old-lt : (x : ℕ) → x < i → x + below f j (s x) < i + j
-  pub old-at : (x : ℕ) → x < i → getD (weave s f g h i j) (x + below f j (s x)) d ≡ g x
+  pub old-at : (x : ℕ) → x < i → getD (interleave s f g h i j) (x + below f j (s x)) d ≡ g x
   pub new-lt : (y : ℕ) → y < j → y + below s i (f y) < i + j
-  pub new-at : (y : ℕ) → y < j → getD (weave s f g h i j) (y + below s i (f y)) d ≡ h y
+  pub new-at : (y : ℕ) → y < j → getD (interleave s f g h i j) (y + below s i (f y)) d ≡ h y
   pub from : (t : ℕ) → t < i + j → ((x : ℕ) × (x < i) × (t ≡ x + below f j (s x))) ⊎ ((y : ℕ) × (y < j) × (t ≡ y + below s i (f y)))
 
 below-skip : (f : ℕ → ℕ) (k v : ℕ) → v ≤ f k → below f (suc k) v ≡ below f k v
@@ -94,13 +94,13 @@ module _ {A : Type 0} (s f : ℕ → ℕ) (g h : ℕ → A) (d : A) where
   }
     where
       l : List A
-      l = weave s f g h p j
+      l = interleave s f g h p j
 
       m : List A
-      m = weave s f g h (suc p) j
+      m = interleave s f g h (suc p) j
 
       e : m ≡ l ++ g p ∷ []
-      e = weave-old s f g h p j uf
+      e = interleave-old s f g h p j uf
 
       here : (x : ℕ) → x ≡ p → x + below f j (s x) ≡ p + j
       here x q = ap (λ (z : ℕ). z + below f j (s z)) q ∙ ap (λ (z : ℕ). p + z) (below-all f j (s p) uf)
@@ -125,13 +125,13 @@ module _ {A : Type 0} (s f : ℕ → ℕ) (g h : ℕ → A) (d : A) where
   }
     where
       l : List A
-      l = weave s f g h i q
+      l = interleave s f g h i q
 
       m : List A
-      m = weave s f g h i (suc q)
+      m = interleave s f g h i (suc q)
 
       e : m ≡ l ++ h q ∷ []
-      e = weave-new s f g h i q us
+      e = interleave-new s f g h i q us
 
       here : (y : ℕ) → y ≡ q → y + below s i (f y) ≡ i + q
       here y r = ap (λ (z : ℕ). z + below s i (f z)) r ∙ omega (arith, below-all s i (f q) us)
@@ -140,7 +140,7 @@ module _ {A : Type 0} (s f : ℕ → ℕ) (g h : ℕ → A) (d : A) where
       same x v = below-skip f q (s x) (omega (arith, us x v))
 
   none-yet : Rows s f g h d 0 0
-  unfolding weave
+  unfolding interleave
   none-yet =
       record {
         count = refl;
@@ -151,21 +151,21 @@ module _ {A : Type 0} (s f : ℕ → ℕ) (g h : ℕ → A) (d : A) where
         from = λ t v. absurd (omega arith);
       }
 
-pub woven-rows : {A : Type 0} {s : ℕ → ℕ} {n : ℕ} {f : ℕ → ℕ} {k : ℕ} → Between s n f k → (g h : ℕ → A) (d : A) → Rows s f g h d n k
-woven-rows {A} {s} {n} {f} {k} w g h d = by-weaving w (Rows s f g h d) (none-yet s f g h d) (λ p j a b us uf r. more-old s f g h d p j uf r) (λ i q a b us uf r. more-new s f g h d i q us r)
+pub interleaved-rows : {A : Type 0} {s : ℕ → ℕ} {n : ℕ} {f : ℕ → ℕ} {k : ℕ} → Between s n f k → (g h : ℕ → A) (d : A) → Rows s f g h d n k
+interleaved-rows {A} {s} {n} {f} {k} w g h d = by-interleaving w (Rows s f g h d) (none-yet s f g h d) (λ p j a b us uf r. more-old s f g h d p j uf r) (λ i q a b us uf r. more-new s f g h d i q us r)
 
 -- of none
-empty-map : {A B : Type 0} (φ : A → B) (s f : ℕ → ℕ) (g h : ℕ → A) (g′ h′ : ℕ → B) → map φ (weave s f g h 0 0) ≡ weave s f g′ h′ 0 0
-unfolding weave
+empty-map : {A B : Type 0} (φ : A → B) (s f : ℕ → ℕ) (g h : ℕ → A) (g′ h′ : ℕ → B) → map φ (interleave s f g h 0 0) ≡ interleave s f g′ h′ 0 0
+unfolding interleave
 empty-map φ s f g h g′ h′ = refl
 
-empty-keep : {A : Type 0} (t : A → Bool) (s f : ℕ → ℕ) (g h : ℕ → A) → keep t (weave s f g h 0 0) ≡ []
-unfolding weave
+empty-keep : {A : Type 0} (t : A → Bool) (s f : ℕ → ℕ) (g h : ℕ → A) → keep t (interleave s f g h 0 0) ≡ []
+unfolding interleave
 empty-keep t s f g h = refl
 
 -- THE KEYS
 abbrev pub keys : (ℕ → ℕ) → (ℕ → ℕ) → ℕ → ℕ → List ℕ
-keys s f i j = weave s f s f i j
+keys s f i j = interleave s f s f i j
 
 module _ {s : ℕ → ℕ} {n : ℕ} {f : ℕ → ℕ} {k : ℕ} (w : Between s n f k) where
   -- all are below what is above both
@@ -186,21 +186,21 @@ module _ {s : ℕ → ℕ} {n : ℕ} {f : ℕ → ℕ} {k : ℕ} (w : Between s 
   Order i j = Rows s f s f 0 i j × Ascending (i + j) (λ t. getD (keys s f i j) t 0)
 
   both : Order n k
-  both = by-weaving w Order (none-yet s f s f 0, λ x y h b. absurd (omega arith))
+  both = by-interleaving w Order (none-yet s f s f 0, λ x y h b. absurd (omega arith))
       (λ p j a b us uf r. let z : suc (p + j) ≡ suc p + j = omega arith in
-      (more-old s f s f 0 p j uf (r .0), subst (λ (c : ℕ). Ascending c (λ t. getD (keys s f (suc p) j) t 0)) z (longer (keys s f p j) (s p) (keys s f (suc p) j) (p + j) (weave-old s f s f p j uf) (r .0 .count) (low p j (s p) (r .0) us uf) (r .1))))
+      (more-old s f s f 0 p j uf (r .0), subst (λ (c : ℕ). Ascending c (λ t. getD (keys s f (suc p) j) t 0)) z (longer (keys s f p j) (s p) (keys s f (suc p) j) (p + j) (interleave-old s f s f p j uf) (r .0 .count) (low p j (s p) (r .0) us uf) (r .1))))
       (λ i q a b us uf r. let z : suc (i + q) ≡ i + suc q = omega arith in
-      (more-new s f s f 0 i q us (r .0), subst (λ (c : ℕ). Ascending c (λ t. getD (keys s f i (suc q)) t 0)) z (longer (keys s f i q) (f q) (keys s f i (suc q)) (i + q) (weave-new s f s f i q us) (r .0 .count) (low i q (f q) (r .0) us uf) (r .1))))
+      (more-new s f s f 0 i q us (r .0), subst (λ (c : ℕ). Ascending c (λ t. getD (keys s f i (suc q)) t 0)) z (longer (keys s f i q) (f q) (keys s f i (suc q)) (i + q) (interleave-new s f s f i q us) (r .0 .count) (low i q (f q) (r .0) us uf) (r .1))))
 
-  pub woven-keys : Ascending (n + k) (λ t. getD (keys s f n k) t 0)
-  woven-keys = both .1
+  pub interleaved-keys : Ascending (n + k) (λ t. getD (keys s f n k) t 0)
+  interleaved-keys = both .1
 
   -- the place of a key
   index-at : (t : ℕ) → t < n + k → index-of (getD (keys s f n k) t 0) (keys s f n k) ≡ t
   index-at t h =
       let size : length (keys s f n k) ≡ n + k = both .0 .count in
       ap (index-of (getD (keys s f n k) t 0)) (sym (tab-list 0 (keys s f n k) (λ q. getD (keys s f n k) q 0) (λ q b. refl)) ∙ ap (tab (λ q. getD (keys s f n k) q 0)) size)
-      ∙ index-place (λ q. getD (keys s f n k) q 0) (n + k) t woven-keys h
+      ∙ index-place (λ q. getD (keys s f n k) q 0) (n + k) t interleaved-keys h
 
   pub index-old : (x : ℕ) → x < n → index-of (s x) (keys s f n k) ≡ up s f k x
   index-old x h = ap (λ (v : ℕ). index-of v (keys s f n k)) (sym (both .0 .old-at x h)) ∙ index-at (up s f k x) (both .0 .old-lt x h)
@@ -209,20 +209,20 @@ module _ {s : ℕ → ℕ} {n : ℕ} {f : ℕ → ℕ} {k : ℕ} (w : Between s 
   index-new y h = ap (λ (v : ℕ). index-of v (keys s f n k)) (sym (both .0 .new-at y h)) ∙ index-at (up f s n y) (both .0 .new-lt y h)
 
   -- A MAP OF A WEAVE
-  pub map-weave : {A B : Type 0} (φ : A → B) (g h : ℕ → A) (g′ h′ : ℕ → B) → ((p : ℕ) → p < n → φ (g p) ≡ g′ p) → ((q : ℕ) → q < k → φ (h q) ≡ h′ q)
-      → map φ (weave s f g h n k) ≡ weave s f g′ h′ n k
-  map-weave {A} {B} φ g h g′ h′ eg eh = by-weaving w (λ i j. map φ (weave s f g h i j) ≡ weave s f g′ h′ i j) start
-      (λ p j a b us uf r. ap (map φ) (weave-old s f g h p j uf) ∙ one (weave s f g h p j) (g p) (weave s f g′ h′ p j) (g′ p) r (eg p a) ∙ sym (weave-old s f g′ h′ p j uf))
-      (λ i q a b us uf r. ap (map φ) (weave-new s f g h i q us) ∙ one (weave s f g h i q) (h q) (weave s f g′ h′ i q) (h′ q) r (eh q b) ∙ sym (weave-new s f g′ h′ i q us))
+  pub map-interleave : {A B : Type 0} (φ : A → B) (g h : ℕ → A) (g′ h′ : ℕ → B) → ((p : ℕ) → p < n → φ (g p) ≡ g′ p) → ((q : ℕ) → q < k → φ (h q) ≡ h′ q)
+      → map φ (interleave s f g h n k) ≡ interleave s f g′ h′ n k
+  map-interleave {A} {B} φ g h g′ h′ eg eh = by-interleaving w (λ i j. map φ (interleave s f g h i j) ≡ interleave s f g′ h′ i j) start
+      (λ p j a b us uf r. ap (map φ) (interleave-old s f g h p j uf) ∙ one (interleave s f g h p j) (g p) (interleave s f g′ h′ p j) (g′ p) r (eg p a) ∙ sym (interleave-old s f g′ h′ p j uf))
+      (λ i q a b us uf r. ap (map φ) (interleave-new s f g h i q us) ∙ one (interleave s f g h i q) (h q) (interleave s f g′ h′ i q) (h′ q) r (eh q b) ∙ sym (interleave-new s f g′ h′ i q us))
     where
-      start : map φ (weave s f g h 0 0) ≡ weave s f g′ h′ 0 0
+      start : map φ (interleave s f g h 0 0) ≡ interleave s f g′ h′ 0 0
       start = empty-map φ s f g h g′ h′
 
       one : (l : List A) (a : A) (m : List B) (b : B) → map φ l ≡ m → φ a ≡ b → map φ (l ++ a ∷ []) ≡ m ++ b ∷ []
       one l a m b e c = map-append φ l (a ∷ []) ∙ (λ i. e i ++ c i ∷ [])
 
   -- THE RECORDS OF ONE SIDE
-  pub keep-weave : {A : Type 0} (t : A → Bool) (g h : ℕ → A) → ((p : ℕ) → p < n → t (g p) ≡ true) → ((q : ℕ) → q < k → t (h q) ≡ false) → keep t (weave s f g h n k) ≡ tab g n
-  keep-weave {A} t g h eg eh = by-weaving w (λ i j. keep t (weave s f g h i j) ≡ tab g i) (empty-keep t s f g h)
-      (λ p j a b us uf r. ap (keep t) (weave-old s f g h p j uf) ∙ keep-append t (weave s f g h p j) (g p ∷ []) ∙ rw (eg p a, r) (tab-more g p))
-      (λ i q a b us uf r. ap (keep t) (weave-new s f g h i q us) ∙ keep-append t (weave s f g h i q) (h q ∷ []) ∙ rw (eh q b, r) (append-nil (tab g i)))
+  pub keep-interleave : {A : Type 0} (t : A → Bool) (g h : ℕ → A) → ((p : ℕ) → p < n → t (g p) ≡ true) → ((q : ℕ) → q < k → t (h q) ≡ false) → keep t (interleave s f g h n k) ≡ tab g n
+  keep-interleave {A} t g h eg eh = by-interleaving w (λ i j. keep t (interleave s f g h i j) ≡ tab g i) (empty-keep t s f g h)
+      (λ p j a b us uf r. ap (keep t) (interleave-old s f g h p j uf) ∙ keep-append t (interleave s f g h p j) (g p ∷ []) ∙ rw (eg p a, r) (tab-more g p))
+      (λ i q a b us uf r. ap (keep t) (interleave-new s f g h i q us) ∙ keep-append t (interleave s f g h i q) (h q ∷ []) ∙ rw (eh q b, r) (append-nil (tab g i)))

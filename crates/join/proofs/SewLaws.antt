@@ -11,30 +11,30 @@ use lib.Seq.{getD-set-same, getD-set-other}
 use borrow.Author.Tests.{eqb-true, eqb-false, eq-eqb, ne-eqb}
 use Rattle.model.specs.Image.{words-for, column}
 use Rattle.laws.proofs.Tests.{by-cases, last-or-below}
-use Rattle.join.specs.Thirds.{place-of, with-third, sewn-at, Sewable, Sewn}
+use Rattle.join.specs.Thirds.{place-of, joined-third, sewn-at, JoinSewable, Sewn}
 
 -- ONE DART'S WORDS
 module _ (m : List ℕ) (p kind link : ℕ) where
-  pub third-length : length (with-third m p kind link) ≡ length m
+  pub third-length : length (joined-third m p kind link) ≡ length m
   third-length = length-set (set m (8 + p * 8 + 3) kind) (8 + p * 8 + 4) link ∙ length-set m (8 + p * 8 + 3) kind
 
-  third-else : (i : ℕ) → (i ≡ 8 + p * 8 + 3 → ⊥) → (i ≡ 8 + p * 8 + 4 → ⊥) → getD (with-third m p kind link) i 0 ≡ getD m i 0
+  third-else : (i : ℕ) → (i ≡ 8 + p * 8 + 3 → ⊥) → (i ≡ 8 + p * 8 + 4 → ⊥) → getD (joined-third m p kind link) i 0 ≡ getD m i 0
   third-else i a b = getD-set-other (set m (8 + p * 8 + 3) kind) (8 + p * 8 + 4) i link 0 b ∙ getD-set-other m (8 + p * 8 + 3) i kind 0 a
 
   module _ (fit : 16 + p * 8 ≤ length m) where
-    kind-put : column (with-third m p kind link) 3 p ≡ kind
+    kind-put : column (joined-third m p kind link) 3 p ≡ kind
     kind-put = getD-set-other (set m (8 + p * 8 + 3) kind) (8 + p * 8 + 4) (8 + p * 8 + 3) link 0 (λ e. omega (arith, e)) ∙ getD-set-same m (8 + p * 8 + 3) kind 0 (omega (arith, fit))
 
-    link-put : column (with-third m p kind link) 4 p ≡ link
+    link-put : column (joined-third m p kind link) 4 p ≡ link
     link-put = getD-set-same (set m (8 + p * 8 + 3) kind) (8 + p * 8 + 4) link 0 (omega (arith, fit, length-set m (8 + p * 8 + 3) kind))
 
-  head-kept : (j : ℕ) → j < 8 → getD (with-third m p kind link) j 0 ≡ getD m j 0
+  head-kept : (j : ℕ) → j < 8 → getD (joined-third m p kind link) j 0 ≡ getD m j 0
   head-kept j h = third-else j (λ e. omega (arith, h, e)) (λ e. omega (arith, h, e))
 
-  others-kept : (f q : ℕ) → f < 8 → (f ≡ 3 → ⊥) → (f ≡ 4 → ⊥) → column (with-third m p kind link) f q ≡ column m f q
+  others-kept : (f q : ℕ) → f < 8 → (f ≡ 3 → ⊥) → (f ≡ 4 → ⊥) → column (joined-third m p kind link) f q ≡ column m f q
   others-kept f q h a b = third-else (8 + q * 8 + f) (λ e. a (omega (arith, h, e))) (λ e. b (omega (arith, h, e)))
 
-  place-kept : (f q : ℕ) → f < 8 → (q ≡ p → ⊥) → column (with-third m p kind link) f q ≡ column m f q
+  place-kept : (f q : ℕ) → f < 8 → (q ≡ p → ⊥) → column (joined-third m p kind link) f q ≡ column m f q
   place-kept f q h d = third-else (8 + q * 8 + f) (λ e. d (omega (arith, h, e))) (λ e. d (omega (arith, h, e)))
 
 -- ONE NEW DART
@@ -62,7 +62,7 @@ module _ (m : List ℕ) (kind link : ℕ) (old : List ℕ) (p : ℕ) (fit : 16 +
     kept = λ f q h a b. refl;
   }
 
-  critical-step : (kind ≡ 0 → ⊥) → (kind ≡ 1 → ⊥) → Step m (with-third m p kind link) kind link old p
+  critical-step : (kind ≡ 0 → ⊥) → (kind ≡ 1 → ⊥) → Step m (joined-third m p kind link) kind link old p
   critical-step z s = record {
     size = third-length m p kind link;
     head = head-kept m p kind link;
@@ -74,10 +74,10 @@ module _ (m : List ℕ) (kind link : ℕ) (old : List ℕ) (p : ℕ) (fit : 16 +
     kept = λ f q h a b. place-kept m p kind link f q h (a z);
   }
 
-  sewn-step : kind ≡ 1 → 16 + getD old link 0 * 8 ≤ length m → (p ≡ getD old link 0 → ⊥) → Step m (with-third (with-third m p 1 (getD old link 0)) (getD old link 0) 1 p) kind link old p
+  sewn-step : kind ≡ 1 → 16 + getD old link 0 * 8 ≤ length m → (p ≡ getD old link 0 → ⊥) → Step m (joined-third (joined-third m p 1 (getD old link 0)) (getD old link 0) 1 p) kind link old p
   sewn-step e met d =
       let o = getD old link 0 in
-      let n = with-third m p 1 o in
+      let n = joined-third m p 1 o in
       let met′ : 16 + o * 8 ≤ length n = omega (arith, met, third-length m p 1 o) in
       record {
         size = third-length n o 1 p ∙ third-length m p 1 o;
@@ -111,7 +111,7 @@ sewn-none w kinds links ranks old new = record {
   stays = λ f p h a b. refl;
 }
 
-module _ {w kinds links ranks old new : List ℕ} {n k i : ℕ} {m : List ℕ} (ok : Sewable n k kinds links ranks old new)
+module _ {w kinds links ranks old new : List ℕ} {n k i : ℕ} {m : List ℕ} (ok : JoinSewable n k kinds links ranks old new)
     (size : words-for (n + k) ≤ length m) (so-far : Sewn w kinds links ranks old new i m) (h : i < k) where
   stepped : Step m (sewn-at m (getD kinds i 0) (getD links i 0) old (place-of ranks new i)) (getD kinds i 0) (getD links i 0) old (place-of ranks new i)
   stepped = step m (getD kinds i 0) (getD links i 0) old (place-of ranks new i)
@@ -171,11 +171,11 @@ module _ (m : List ℕ) (kind link : ℕ) (old : List ℕ) (p : ℕ) where
   unfolding sewn-at
   at-free e = rw (eq-eqb kind 0 e) refl
 
-  pub at-critical : (kind ≡ 0 → ⊥) → (kind ≡ 1 → ⊥) → with-third m p kind link ≡ sewn-at m kind link old p
+  pub at-critical : (kind ≡ 0 → ⊥) → (kind ≡ 1 → ⊥) → joined-third m p kind link ≡ sewn-at m kind link old p
   unfolding sewn-at
   at-critical z s = rw (ne-eqb kind 0 z, ne-eqb kind 1 s) refl
 
-  pub at-sewn : kind ≡ 1 → with-third (with-third m p 1 (getD old link 0)) (getD old link 0) 1 p ≡ sewn-at m kind link old p
+  pub at-sewn : kind ≡ 1 → joined-third (joined-third m p 1 (getD old link 0)) (getD old link 0) 1 p ≡ sewn-at m kind link old p
   unfolding sewn-at
   at-sewn e = rw (ne-eqb kind 0 (λ z. omega (arith, e, z)), eq-eqb kind 1 e) refl
 

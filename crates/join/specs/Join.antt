@@ -11,12 +11,12 @@ use Rattle.model.specs.Values.{sewn}
 use Rattle.model.specs.Image.{column, third-in}
 use Rattle.model.specs.Links.{Link}
 use Rattle.columns.specs.Columns.{Kind}
-use Rattle.join.specs.Weave.{woven-at}
-use Rattle.join.specs.Woven.{Drafted, Stands}
+use Rattle.join.specs.Interleave.{interleaved-at}
+use Rattle.join.specs.Interleaved.{Drafted, Stands}
 use Rattle.join.specs.Thirds.{Sewn}
 
 -- every place of the draft is that of one index, which has its serial
-pub record Indexed (c x ranks : List ℕ) (k : ℕ) : Type 0 where
+pub record JoinIndexed (c x ranks : List ℕ) (k : ℕ) : Type 0 where
   pub rank-below : (i : ℕ) → i < k → getD ranks i 0 < k
   pub rank-apart : (i j : ℕ) → i < k → j < k → getD ranks i 0 ≡ getD ranks j 0 → i ≡ j
   pub index-of : (q : ℕ) → q < k → (i : ℕ) × (i < k) × (getD ranks i 0 ≡ q)
@@ -38,12 +38,12 @@ pub record MayJoin (m c : List ℕ) (n k : ℕ) (kinds links ranks : List ℕ) :
   pub drafted : Drafted m c n k
   pub serials : List ℕ
   pub brings : List Link
-  pub indexed : Indexed c serials ranks k
+  pub indexed : JoinIndexed c serials ranks k
   pub linking : Linking m n k serials kinds links brings
 
--- it has joined: woven, then sewn
+-- it has joined: interleaved, then sewn
 pub record Joins (m c : List ℕ) (n k : ℕ) (kinds links ranks y : List ℕ) : Type 0 where
   pub old : List ℕ
   pub new : List ℕ
-  pub stand : Stands m c (woven-at m n c k) n k old new
-  pub sewn : Sewn (woven-at m n c k) kinds links ranks old new k y
+  pub stand : Stands m c (interleaved-at m n c k) n k old new
+  pub sewn : Sewn (interleaved-at m n c k) kinds links ranks old new k y

@@ -1,4 +1,4 @@
-pub mod Weave
-pub mod Woven
+pub mod Interleave
+pub mod Interleaved
 pub mod Thirds
 pub mod Join

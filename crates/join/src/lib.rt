@@ -1,5 +1,5 @@
 // New darts join a block: put among its darts by serial, then sewn to them or labelled.
-pub mod weave; // weave.rt: the darts of a draft put among those of the block, renumbered
+pub mod interleave; // interleave.rt: the darts of a draft put among those of the block, renumbered
 pub mod sewing; // sewing.rt: words 3 and 4 of the new darts, and of those they meet
 
 ghost use mathlib.Core.Path.{_≡_};
@@ -24,6 +24,6 @@ pub fn join(
 {
     let n = block[Header::COUNT] as usize;
     let k = draft[Header::COUNT] as usize;
-    weave::insert(block, draft, old, new);
+    interleave::insert(block, draft, old, new);
     sewing::sew(block, n, k, kinds, links, ranks, old, new);
 }

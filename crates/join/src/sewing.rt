@@ -3,7 +3,7 @@ ghost use mathlib.Core.Path.{_≡_};
 ghost use Prim.Native.Nat.{_+_, _≤_, _<_};
 ghost use lib.ListN.{length, getD};
 ghost use Rattle.model.specs.Image.{words-for};
-ghost use Rattle.join.specs.Thirds.{with-third, sewn-at, Sewable, Sewn};
+ghost use Rattle.join.specs.Thirds.{joined-third, sewn-at, JoinSewable, Sewn};
 use memory::record;
 use memory::record::MessageIndex;
 use memory::record::Place;
@@ -12,7 +12,7 @@ use memory::record::Record;
 // The kind word and the link word of the dart at place p.
 fn put_third(block: &mut [u64], p: Place, kind: u64, link: u64)
     requires { ⌜ words-for (p .0 + 1) ≤ length (now block) ⌝ }
-    ensures { λ _. ⌜ now (block .exit) ≡ with-third (now (block .entry)) (p .0) kind link ⌝ }
+    ensures { λ _. ⌜ now (block .exit) ≡ joined-third (now (block .entry)) (p .0) kind link ⌝ }
 {
     record::put_field(block, p, Record::KIND, kind);
     record::put_field(block, p, Record::LINK, link);
@@ -46,7 +46,7 @@ pub fn sew(
     old: &[usize],
     new: &[usize],
 )
-    requires { ⌜ (words-for (n + k) ≤ length (now block)) × (k ≤ length (now kinds)) × (k ≤ length (now links)) × (k ≤ length (now ranks)) × (n ≤ length (now old)) × (k ≤ length (now new)) × Sewable n k (now kinds) (now links) (now ranks) (now old) (now new) ⌝ }
+    requires { ⌜ (words-for (n + k) ≤ length (now block)) × (k ≤ length (now kinds)) × (k ≤ length (now links)) × (k ≤ length (now ranks)) × (n ≤ length (now old)) × (k ≤ length (now new)) × JoinSewable n k (now kinds) (now links) (now ranks) (now old) (now new) ⌝ }
     ensures { λ _. ⌜ Sewn (now (block .entry)) (now (kinds .entry)) (now (links .entry)) (now (ranks .entry)) (now (old .entry)) (now (new .entry)) k (now (block .exit)) ⌝ }
 {
     // Those before i are.

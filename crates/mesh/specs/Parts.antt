@@ -7,7 +7,7 @@ use lib.Dec.{eqb, ltb}
 use lib.ListN.{length, getD, take, drop}
 use Rattle.model.specs.Lists.{tab}
 use Rattle.columns.specs.Columns.{all-below}
-use Rattle.model.specs.Image.{words, column, is-free-word, is-sewn-word}
+use Rattle.model.specs.Image.{label-in, words, column, is-free-word, is-sewn-word}
 use Rattle.model.specs.Values.{room}
 
 -- how many blocks
@@ -43,7 +43,7 @@ pub record Put (at : ℕ) (new before after : List ℕ) (r : ℕ) : Type 0 where
 -- 27, of a kind word and a link word: a label's maker is one of the blocks, and its number is below the maker's counter
 unfoldable pub made-test : List ℕ → ℕ → ℕ → Bool
 made-test m k a = (is-free-word k || is-sewn-word k)
-    || (ltb (a / 4096 / 2 ^ 32) (blocks m) && ltb (a / 4096 % 2 ^ 32) (getD m (a / 4096 / 2 ^ 32 * words + 1) 0))
+    || (ltb (label-in a .maker) (blocks m) && ltb (label-in a .number) (getD m (label-in a .maker * words + 1) 0))
 
 -- of all darts of a block
 abbrev pub made-darts : List ℕ → List ℕ → ℕ → Bool

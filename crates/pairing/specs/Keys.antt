@@ -5,6 +5,7 @@ use mathlib.Core.List.{List, [], _∷_, _++_}
 use Prim.Native.Nat.{ℕ, zero, suc, _+_, _*_, _/_, _%_, _<_, _^_}
 use lib.Dec.{eqb}
 use lib.ListN.{length, getD}
+use Rattle.model.specs.Values.{room}
 use Rattle.model.specs.Image.{column, is-critical-word}
 use Rattle.columns.specs.Columns.{count}
 use Rattle.mesh.specs.Parts.{part}
@@ -15,7 +16,7 @@ abbrev pub Short : List ℕ → Type 0
 Short b = (p : ℕ) → p < count b → is-critical-word (column b 3 p) ≡ true → column b 4 p < 2 ^ 48
 
 abbrev pub dart-key : List ℕ → ℕ → ℕ → ℕ
-dart-key b i p = column b 4 p * 65536 + (i * 4096 + p)
+dart-key b i p = column b 4 p * 65536 + (i * room + p)
 
 -- of the dart at place p of block i, none where it is not critical
 abbrev pub key-of : List ℕ → ℕ → ℕ → List ℕ

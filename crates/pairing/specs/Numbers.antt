@@ -5,6 +5,7 @@ use mathlib.Core.List.{List, map}
 use Prim.Native.Nat.{ℕ, _+_, _*_, _/_, _%_, _<_}
 use lib.Dec.{eqb}
 use lib.ListN.{length, getD}
+use Rattle.model.specs.Values.{room}
 use Rattle.model.specs.Lists.{all}
 use Rattle.model.specs.Sound.{blocks-right}
 use Rattle.model.specs.Image.{column, other-in, block-in, holds-block}
@@ -21,30 +22,30 @@ pub record MeshAsked (m : List ℕ) : Type 0 where
 
 -- word f of dart g
 abbrev pub word : List ℕ → ℕ → ℕ → ℕ
-word m f g = column (part m (g / 4096)) f (g % 4096)
+word m f g = column (part m (g / room)) f (g % room)
 
 -- a dart of the mesh
 pub record Held (m : List ℕ) (g : ℕ) : Type 0 where
-  pub block-lt : g / 4096 < blocks m
-  pub place-lt : g % 4096 < count (part m (g / 4096))
+  pub block-lt : g / room < blocks m
+  pub place-lt : g % room < count (part m (g / room))
 
 -- the next dart
 abbrev pub next-number : List ℕ → ℕ → ℕ
-next-number m g = g / 4096 * 4096 + word m 1 g
+next-number m g = g / room * room + word m 1 g
 
 -- where each dart's previous one stands, by the dart's number
 pub record PlacesBefore (m t : List ℕ) : Type 0 where
   pub len : length t ≡ 65536
-  pub at : (i p : ℕ) → i < blocks m → p < count (part m i) → getD t (i * 4096 + column (part m i) 1 p) 0 ≡ p
+  pub at : (i p : ℕ) → i < blocks m → p < count (part m i) → getD t (i * room + column (part m i) 1 p) 0 ≡ p
 
 -- the same of the blocks below i and of the places below p of block i
 pub record BeforeBelow (m t : List ℕ) (i p : ℕ) : Type 0 where
   pub len : length t ≡ 65536
-  pub below : (j q : ℕ) → j < i → q < count (part m j) → getD t (j * 4096 + column (part m j) 1 q) 0 ≡ q
-  pub here : (q : ℕ) → q < p → getD t (i * 4096 + column (part m i) 1 q) 0 ≡ q
+  pub below : (j q : ℕ) → j < i → q < count (part m j) → getD t (j * room + column (part m j) 1 q) 0 ≡ q
+  pub here : (q : ℕ) → q < p → getD t (i * room + column (part m i) 1 q) 0 ≡ q
 
 abbrev pub before-of : List ℕ → ℕ → ℕ
-before-of t g = g / 4096 * 4096 + getD t g 0
+before-of t g = g / room * room + getD t g 0
 
 -- the point of dart g
 abbrev pub point-by : List ℕ → ℕ → Point
@@ -52,7 +53,7 @@ point-by m g = point-of (word m 5 g) (word m 6 g) (word m 7 g)
 
 -- 25, of g that has a label with h: g names h's block, and next of g has the label of the dart before h
 unfoldable pub side-test : List ℕ → List ℕ → ℕ → ℕ → Bool
-side-test m t g h = eqb (other-in (word m 3 g)) (h / 4096) && eqb (word m 4 (next-number m g)) (word m 4 (before-of t h))
+side-test m t g h = eqb (other-in (word m 3 g)) (h / room) && eqb (word m 4 (next-number m g)) (word m 4 (before-of t h))
 
 -- 26: g and next of h have one point
 unfoldable pub meet-test : List ℕ → ℕ → ℕ → Bool

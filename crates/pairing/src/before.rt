@@ -2,6 +2,7 @@
 ghost use mathlib.Core.Path.{_≡_};
 ghost use Prim.Native.Nat.{_+_, _<_};
 ghost use lib.ListN.{length, getD};
+ghost use Rattle.model.specs.Values.{room};
 ghost use Rattle.model.specs.Image.{column};
 ghost use Rattle.mesh.specs.Parts.{blocks, part};
 ghost use Rattle.pairing.specs.Numbers.{MeshAsked, PlacesBefore, BeforeBelow};
@@ -13,7 +14,7 @@ use memory::record::Record;
 // The place of the dart next to the one at place p of block i.
 fn next_place(mesh: &[u64], i: usize, p: Place) -> Place
     requires { ⌜ MeshAsked (now mesh) × (i < blocks (now mesh)) × (p .0 < getD (part (now mesh) i) 2 0) ⌝ }
-    ensures { λ r. ⌜ (r .0 ≡ column (part (now (mesh .entry)) i) 1 (p .0)) × (r .0 < 4096) ⌝ }
+    ensures { λ r. ⌜ (r .0 ≡ column (part (now (mesh .entry)) i) 1 (p .0)) × (r .0 < room) ⌝ }
 {
     Place(dart::word(mesh, i * Header::DARTS + p.0, Record::NEXT) as usize)
 }

@@ -4,7 +4,7 @@ ghost use Prim.Native.Nat.{_+_, _≤_, _<_};
 ghost use lib.ListN.{length, getD, take};
 ghost use Rattle.model.specs.Lists.{sorted};
 ghost use Rattle.model.specs.Image.{words-for};
-ghost use Rattle.model.specs.Values.{room};
+ghost use Rattle.model.specs.Values.{room, blocks as most-blocks};
 ghost use Rattle.mesh.specs.Parts.{blocks, part, Put};
 ghost use Rattle.pairing.specs.Numbers.{MeshAsked};
 ghost use Rattle.pairing.specs.Keys.{Short, key-of, keys-of, all-keys};
@@ -16,7 +16,7 @@ use memory::record::Record;
 
 // Puts the key of the dart at place p of block i, if it is critical; where the keys end.
 fn put_key(block: &[u64], i: usize, p: Place, out: &mut [u64], at: usize) -> usize
-    requires { ⌜ (words-for (getD (now block) 2 0) ≤ length (now block)) × (getD (now block) 2 0 ≤ room) × Short (now block) × (i < 16) × (p .0 < getD (now block) 2 0) × (at < length (now out)) ⌝ }
+    requires { ⌜ (words-for (getD (now block) 2 0) ≤ length (now block)) × (getD (now block) 2 0 ≤ room) × Short (now block) × (i < most-blocks) × (p .0 < getD (now block) 2 0) × (at < length (now out)) ⌝ }
     ensures { λ r. ⌜ (r ≤ at + 1) × Put at (key-of (now (block .entry)) i (p .0)) (now (out .entry)) (now (out .exit)) r ⌝ }
 {
     let kind = record::field(block, p, Record::KIND);
@@ -30,7 +30,7 @@ fn put_key(block: &[u64], i: usize, p: Place, out: &mut [u64], at: usize) -> usi
 
 // Puts a block's keys from `at` on; where they end.
 fn put_keys(block: &[u64], i: usize, out: &mut [u64], at: usize) -> usize
-    requires { ⌜ (words-for (getD (now block) 2 0) ≤ length (now block)) × (getD (now block) 2 0 ≤ room) × Short (now block) × (i < 16) × (at + room ≤ length (now out)) ⌝ }
+    requires { ⌜ (words-for (getD (now block) 2 0) ≤ length (now block)) × (getD (now block) 2 0 ≤ room) × Short (now block) × (i < most-blocks) × (at + room ≤ length (now out)) ⌝ }
     ensures { λ r. ⌜ (r ≤ at + room) × Put at (keys-of (now (block .entry)) i (getD (now (block .entry)) 2 0)) (now (out .entry)) (now (out .exit)) r ⌝ }
 {
     let n = block[Header::COUNT] as usize;

@@ -40,7 +40,7 @@ use Rattle.laws.proofs.Labels.{code-in}
 use Rattle.codec.specs.Entries.{first-layout}
 use Rattle.codec.specs.declared.entry.Paired.{Paired}
 use Rattle.codec.specs.declared.entry.Paired.the-variants as paired
-use Rattle.parts.specs.Entries.{EntriesRead, Pair, pair, first, index}
+use Rattle.parts.specs.Entries.{EntriesRead, Pair, pair, first-number, index}
 
 -- an array has the numbers f of the entries so far
 front-more : {A : Type 0} (f : A → ℕ) (items : List A) (m : A) (a : List ℕ) (i y : ℕ) → i < length a → take i a ≡ map f items
@@ -108,7 +108,7 @@ no-index paired.Third s at a q e d = as-none _ _ _ (drop at s) (both-half group 
 pub record PairTook (p : Paired) (s : List ℕ) (at a i next : ℕ) : Type 0 where
   pub pair-there : Pair p
   pub took : Took (pair p) s at pair-there next
-  pub first-is : a ≡ first p pair-there
+  pub first-is : a ≡ first-number p pair-there
   pub index-is : i ≡ index p pair-there
 
 pub took-pair : (p : Paired) {s : List ℕ} {at a q i r : ℕ} → Value a q ≡ read-at (first-layout p) s at → Value i r ≡ read-at group s q → PairTook p s at a i r
@@ -149,10 +149,10 @@ module _ (fs : List (List FaceDart)) {z s : List ℕ} {at : ℕ} {r : EntryOrNot
   entry-there e = subst (EntrySaid fs z s at) e (w .said)
 
 module _ (fs : List (List FaceDart)) {s z : List ℕ} {at p index other labels darts n : ℕ} (sized : Sized fs darts z)
-    (first : Took group s at index p) (h : index < darts) (second : Took (at-most 15) s p other labels)
+    (first-number : Took group s at index p) (h : index < darts) (second : Took (at-most 15) s p other labels)
     (same : n ≡ getD z index 0) where
   pub entry-half : {a : Answer} → a ≡ Bad → Passes (times n label) s labels a → EntryRead fs z s at entry.Not
-  entry-half q d = entry-no fs (part4-pass fs first sized h second same (subst (λ (b : Answer). Passes (times n label) s labels b) q d))
+  entry-half q d = entry-no fs (part4-pass fs first-number sized h second same (subst (λ (b : Answer). Passes (times n label) s labels b) q d))
 
   pub entry-yes : {a : Answer} {u next : ℕ} → a ≡ Value u next → Passes (times n label) s labels a
       → EntryRead fs z s at (entry.Entry (record { index = record { 0 = index }; other = other; labels = labels; next = next }))
@@ -171,7 +171,7 @@ module _ (fs : List (List FaceDart)) {s z : List ℕ} {at p index other labels d
           record {
             small = at-most-bound 15 _ other _ (second .value);
             there = record { past = next; took = t′ };
-            took = part4-took fs (such-took group (λ i. ltb i (size-all fs)) first (lt-ltb index (size-all fs) (let a = sized .count in omega arith))) second t″;
+            took = part4-took fs (such-took group (λ i. ltb i (size-all fs)) first-number (lt-ltb index (size-all fs) (let a = sized .count in omega arith))) second t″;
           }
 
 -- ALL ENTRIES of part 4

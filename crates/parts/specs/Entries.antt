@@ -5,7 +5,7 @@ use mathlib.Core.Option.{none, some}
 use Prim.Native.Nat.{ℕ, _≤_, _<_}
 use lib.ListN.{getD, take, drop}
 use Rattle.model.specs.Lists.{tab}
-use Rattle.model.specs.Values.{Label, code}
+use Rattle.model.specs.Values.{Label, code, last-block}
 use Rattle.model.specs.Layouts.{Layout, Read, get-all, times}
 use Rattle.model.specs.Messages.{FaceDart, Part2, Part3, Part4, label, part2, part3, part4}
 use Rattle.codec.specs.Taken.{Took}
@@ -42,9 +42,9 @@ abbrev pub pair : (p : Paired) → Layout (Pair p)
 pair paired.Second = part2
 pair paired.Third = part3
 
-abbrev pub first : (p : Paired) → Pair p → ℕ
-first paired.Second = code2
-first paired.Third = number3
+abbrev pub first-number : (p : Paired) → Pair p → ℕ
+first-number paired.Second = code2
+first-number paired.Third = number3
 
 abbrev pub index : (p : Paired) → Pair p → ℕ
 index paired.Second = index2
@@ -70,7 +70,7 @@ pub record LabelsThere (s : List ℕ) (at n : ℕ) : Type 0 where
 
 -- the entry of part 4 at a place, whose labels are as many as its face has darts
 pub record EntryThere (fs : List (List FaceDart)) (z s : List ℕ) (at index other labels next : ℕ) : Type 0 where
-  pub small : other ≤ 15
+  pub small : other ≤ last-block
   pub there : LabelsThere s labels (getD z index 0)
   pub took : Took (part4 fs) s at (record { index = index; other = other; labels = labels-at s labels (getD z index 0) }) next
 
@@ -92,5 +92,5 @@ entry-at z s indices others places e = record {
 -- the entries of part 4 that stand from a place on
 pub record Part4Read (fs : List (List FaceDart)) (z s : List ℕ) (at count : ℕ) (indices others places : List ℕ) : Type 0 where
   pub entries-are : (ms : List Part4) (past : ℕ) → Took (times count (part4 fs)) s at ms past → ms ≡ tab (entry-at z s indices others places) count
-  pub small : (ms : List Part4) (past : ℕ) → Took (times count (part4 fs)) s at ms past → (e : ℕ) → e < count → getD others e 0 ≤ 15
+  pub small : (ms : List Part4) (past : ℕ) → Took (times count (part4 fs)) s at ms past → (e : ℕ) → e < count → getD others e 0 ≤ last-block
   pub there : (ms : List Part4) (past : ℕ) → Took (times count (part4 fs)) s at ms past → (e : ℕ) → e < count → LabelsThere s (getD places e 0) (getD z (getD indices e 0) 0)

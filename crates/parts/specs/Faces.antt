@@ -4,7 +4,7 @@ use mathlib.Core.Logic.{_⊎_}
 use mathlib.Core.List.{List, map}
 use Prim.Native.Nat.{ℕ, _+_, _*_, _≤_, _<_, _^_}
 use lib.ListN.{length, getD}
-use Rattle.model.specs.Values.{code}
+use Rattle.model.specs.Values.{code, number-bound, positions}
 use Rattle.parts.specs.Entries.{labels-at}
 
 -- n words written from index `at` on
@@ -27,7 +27,7 @@ pub record Faced (z indices : List ℕ) (c : ℕ) (f : ℕ → ℕ → ℕ) (a a
 
 -- the code of the label of a part 3 face at a position
 abbrev pub numbered-code : ℕ → List ℕ → ℕ → ℕ → ℕ
-numbered-code from numbers e j = (from * 2 ^ 32 + getD numbers e 0) * 4096 + j
+numbered-code from numbers e j = (from * number-bound + getD numbers e 0) * positions + j
 
 -- the code of a label that stands from a place on
 abbrev pub code-at : List ℕ → ℕ → ℕ → ℕ → ℕ

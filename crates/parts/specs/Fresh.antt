@@ -6,11 +6,11 @@ use Prim.Native.Nat.{ℕ, _+_, _/_, _%_, _^_}
 use lib.Dec.{ltb, eqb}
 use lib.ListN.{getD, take}
 use Rattle.model.specs.Lists.{all, mem, distinct, tab}
-use Rattle.model.specs.Image.{column}
+use Rattle.model.specs.Image.{column, label-in}
 
 -- of block `me`, with its counter: no own-made label from the counter on
 abbrev pub own-right : ℕ → ℕ → ℕ → ℕ → Bool
-own-right me counter kind link = ltb kind 2 || (not (eqb (link / 4096 / 2 ^ 32) me) || ltb (link / 4096 % 2 ^ 32) counter)
+own-right me counter kind link = ltb kind 2 || (not (eqb (label-in link .maker) me) || ltb (label-in link .number) counter)
 
 abbrev pub own-at : ℕ → ℕ → List ℕ → List ℕ → ℕ → Bool
 own-at me counter kinds links q = own-right me counter (getD kinds q 0) (getD links q 0)

@@ -4,12 +4,13 @@ use mathlib.Core.Logic.{_⊎_}
 use mathlib.Core.List.{List}
 use Prim.Native.Nat.{ℕ, _<_}
 use lib.ListN.{length, getD}
+use Rattle.model.specs.Values.{room}
 use Rattle.model.specs.Image.{column}
 use Rattle.ranking.specs.Ranks.{value-at, index-at}
 
 -- stands for no place
 abbrev pub none-there : ℕ
-none-there = 4096
+none-there = room
 
 -- place p noted for the entry whose code the critical dart there has
 pub record Noted (m keys : List ℕ) (c p : ℕ) (a a′ : List ℕ) : Type 0 where

@@ -8,7 +8,7 @@ use lib.ListN.{length, getD}
 use Rattle.model.specs.Lists.{all, mem, tab}
 use Rattle.model.specs.Cells.{cycle}
 use Rattle.model.specs.Image.{column}
-use Rattle.model.specs.Values.{message-darts}
+use Rattle.model.specs.Values.{message-darts, last-block}
 use Rattle.cells.specs.Places.{Assigned}
 use Rattle.parts.specs.Faces.{Over, Spans, Faced}
 use Rattle.parts.specs.Meets.{Meetable, met-at, entry-right}
@@ -40,7 +40,7 @@ passes-at m d ranks z places indices n from e =
 -- what the entries need: their faces lie in the k new darts
 pub record Sewable (m d ranks z places indices : List ℕ) (n k from c : ℕ) : Type 0 where
   pub beside : Meetable m n d k ranks
-  pub sender : from ≤ 15
+  pub sender : from ≤ last-block
   pub few : c ≤ message-darts
   pub sizes-size : k ≤ length z
   pub places-size : c ≤ length places

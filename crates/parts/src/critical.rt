@@ -6,7 +6,7 @@ ghost use Prim.Native.Nat.{ℕ, _≤_};
 ghost use lib.ListN.{length, getD};
 ghost use Rattle.model.specs.Image.{holds-block};
 ghost use Rattle.model.specs.Messages.{Transfer};
-ghost use Rattle.model.specs.Values.{message-darts};
+ghost use Rattle.model.specs.Values.{message-darts, last-block};
 ghost use Rattle.parts.specs.Critical.{few-entries, entries-fit, Arrives, CriticalRight};
 use crate::entries;
 use crate::faces;
@@ -72,7 +72,7 @@ pub fn critical_right(
     places: &mut [usize],
     marks: &mut [u8],
 ) -> bool
-    requires { ⌜ (holds-block (now block) ≡ true) × (k ≤ length (now starts)) × (k ≤ length (now sizes)) × (k ≤ length (now codes)) × (k ≤ length (now indices)) × ((q : ℕ) → getD (now kinds) q 0 ≡ 0) × ((q : ℕ) → getD (now links) q 0 ≡ 0) × (1 ≤ k) × (k ≤ message-darts) × (from ≤ 15) × (k ≤ length (now kinds)) × (k ≤ length (now links)) ⌝ }
+    requires { ⌜ (holds-block (now block) ≡ true) × (k ≤ length (now starts)) × (k ≤ length (now sizes)) × (k ≤ length (now codes)) × (k ≤ length (now indices)) × ((q : ℕ) → getD (now kinds) q 0 ≡ 0) × ((q : ℕ) → getD (now links) q 0 ≡ 0) × (1 ≤ k) × (k ≤ message-darts) × (from ≤ last-block) × (k ≤ length (now kinds)) × (k ≤ length (now links)) ⌝ }
     requires { ⌜ ((t : Transfer) × (v : List ℕ) × (x : List ℕ) × Arrives t v x (now starts) (now sizes) (now message) k from to tail) ⌝ }
     requires { ⌜ (k ≤ length (now numbers)) × (k ≤ length (now third)) × (k ≤ length (now fourth)) × (k ≤ length (now others)) × (k ≤ length (now places)) × (k ≤ length (now marks)) × ((q : ℕ) → getD (now marks) q 0 ≡ 0) ⌝ }
     ensures { λ r. ⌜ CriticalRight (now (block .entry)) (now (message .entry)) (now (starts .entry)) (now (sizes .entry)) k from to tail (now (codes .exit)) (now (indices .exit)) (now (kinds .exit)) (now (links .exit)) r ⌝ }

@@ -5,7 +5,7 @@ ghost use Prim.Native.Nat.{_≤_};
 ghost use lib.ListN.{length};
 ghost use Rattle.model.specs.Messages.{FaceDart};
 ghost use Rattle.inbox.specs.Inbox.{Sized};
-ghost use Rattle.parts.specs.Entries.{EntriesRead, EntryRead, Part4Read, pair, first, index};
+ghost use Rattle.parts.specs.Entries.{EntriesRead, EntryRead, Part4Read, pair, first-number, index};
 use codec::entry;
 use codec::entry::Paired;
 use groups::Read;
@@ -22,19 +22,19 @@ pub fn read_pairs(
     indices: &mut [u64],
 )
     requires { ⌜ (at ≤ length (now s)) × (count ≤ length (now firsts)) × (count ≤ length (now indices)) ⌝ }
-    ensures { λ _. ⌜ EntriesRead (pair part) (first part) (index part) (now (s .entry)) at count (now (firsts .exit)) (now (indices .exit)) ⌝ }
+    ensures { λ _. ⌜ EntriesRead (pair part) (first-number part) (index part) (now (s .entry)) at count (now (firsts .exit)) (now (indices .exit)) ⌝ }
 {
     // The entries below i are read.
     let mut i = 0;
     let mut p = at;
     while i < count {
-        let Read::Value(first, past) = entry::read_first(s, p, part) else {
+        let Read::Value(first-number, past) = entry::read_first(s, p, part) else {
             return;
         };
         let Read::Value(index, next) = reader::read_group(s, past) else {
             return;
         };
-        firsts[i] = first;
+        firsts[i] = first-number;
         indices[i] = index;
         p = next;
         i += 1;

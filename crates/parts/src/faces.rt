@@ -2,6 +2,7 @@
 ghost use mathlib.Core.Path.{_≡_};
 ghost use Prim.Native.Nat.{ℕ, _+_, _*_, _≤_, _<_, _^_};
 ghost use lib.ListN.{length, getD};
+ghost use Rattle.model.specs.Values.{last-block};
 ghost use Rattle.parts.specs.Faces.{Over, Spans, Faced, numbered-code, code-at};
 ghost use Rattle.parts.specs.Entries.{LabelsThere};
 use groups::Read;
@@ -65,7 +66,7 @@ pub fn put_part3(
     kinds: &mut [u64],
     links: &mut [u64],
 )
-    requires { ⌜ (c ≤ length (now indices)) × (c ≤ length (now numbers)) × (from ≤ 15) × ((e : ℕ) → e < c → getD (now numbers) e 0 < 2 ^ 32) ⌝ }
+    requires { ⌜ (c ≤ length (now indices)) × (c ≤ length (now numbers)) × (from ≤ last-block) × ((e : ℕ) → e < c → getD (now numbers) e 0 < 2 ^ 32) ⌝ }
     requires { ⌜ ((k : ℕ) × Spans (now sizes) (now indices) k c × (k ≤ length (now sizes)) × (k ≤ length (now kinds)) × (k ≤ length (now links))) ⌝ }
     ensures { λ _. ⌜ Faced (now (sizes .entry)) (now (indices .entry)) c (λ e j. 2 + 4 * from) (now (kinds .entry)) (now (kinds .exit)) × Faced (now (sizes .entry)) (now (indices .entry)) c (numbered-code from (now (numbers .entry))) (now (links .entry)) (now (links .exit)) ⌝ }
 {
@@ -96,7 +97,7 @@ pub fn put_part4(
     kinds: &mut [u64],
     links: &mut [u64],
 )
-    requires { ⌜ (c ≤ length (now indices)) × (c ≤ length (now others)) × (c ≤ length (now places)) × ((e : ℕ) → e < c → getD (now others) e 0 ≤ 15) × ((e : ℕ) → e < c → LabelsThere (now message) (getD (now places) e 0) (getD (now sizes) (getD (now indices) e 0) 0)) ⌝ }
+    requires { ⌜ (c ≤ length (now indices)) × (c ≤ length (now others)) × (c ≤ length (now places)) × ((e : ℕ) → e < c → getD (now others) e 0 ≤ last-block) × ((e : ℕ) → e < c → LabelsThere (now message) (getD (now places) e 0) (getD (now sizes) (getD (now indices) e 0) 0)) ⌝ }
     requires { ⌜ ((k : ℕ) × Spans (now sizes) (now indices) k c × (k ≤ length (now sizes)) × (k ≤ length (now kinds)) × (k ≤ length (now links))) ⌝ }
     ensures { λ _. ⌜ Faced (now (sizes .entry)) (now (indices .entry)) c (λ e j. 2 + 4 * getD (now (others .entry)) e 0) (now (kinds .entry)) (now (kinds .exit)) × Faced (now (sizes .entry)) (now (indices .entry)) c (λ e. code-at (now (message .entry)) (getD (now (places .entry)) e 0) (getD (now (sizes .entry)) (getD (now (indices .entry)) e 0) 0)) (now (links .entry)) (now (links .exit)) ⌝ }
 {

@@ -11,6 +11,7 @@ ghost use Rattle.model.specs.Values.{room, message-darts};
 ghost use Rattle.ranking.specs.Ranks.{value-at};
 ghost use Rattle.parts.specs.Fresh.{own-right, own-at, fresh-value, ValuesPut, clear-at, labels-fit};
 use memory::header::Header;
+use memory::kind;
 use memory::label;
 use memory::record;
 use memory::record::MessageIndex;
@@ -22,7 +23,7 @@ use ranking::Ranking;
 fn own_right(number: u64, counter: u64, kind: u64, link: u64) -> bool
     ensures { λ r. ⌜ r ≡ own-right number counter kind link ⌝ }
 {
-    if kind < 2 {
+    if kind < kind::CRITICAL {
         return true;
     }
     (label::maker_of(link) != number) | (label::number_of(link) < counter)
@@ -49,8 +50,8 @@ fn fresh_value(kind: u64, link: u64, q: MessageIndex) -> u64
     requires { ⌜ q .0 < message-darts ⌝ }
     ensures { λ r. ⌜ r ≡ fresh-value kind link (q .0) ⌝ }
 {
-    if kind < 2 {
-        return 281474976710656 + q.0 as u64;
+    if kind < kind::CRITICAL {
+        return label::CODES + q.0 as u64;
     }
     link
 }
@@ -73,7 +74,7 @@ fn clear_at(block: &[u64], p: Place, keys: &[u64], k: usize) -> bool
     requires { ⌜ (words-for (p .0 + 1) ≤ length (now block)) × (k ≤ length (now keys)) × (k ≤ message-darts) × Ascending k (value-at (now keys)) ⌝ }
     ensures { λ r. ⌜ r ≡ clear-at (now (block .entry)) (tab (value-at (now (keys .entry))) k) (p .0) ⌝ }
 {
-    if record::field(block, p, Record::KIND) < 2 {
+    if record::field(block, p, Record::KIND) < kind::CRITICAL {
         return true;
     }
     let Ranking::At(r) = ranking::find(keys, k, record::field(block, p, Record::LINK)) else {

@@ -7,6 +7,7 @@ ghost use Rattle.model.specs.Image.{words-for};
 ghost use Rattle.model.specs.Values.{room, message-darts};
 ghost use Rattle.ranking.specs.Ranks.{value-at, index-at, Ranked};
 ghost use Rattle.parts.specs.Locate.{Noted, Located, none-there};
+use memory::kind;
 use memory::record;
 use memory::record::Place;
 use memory::record::Record;
@@ -17,7 +18,7 @@ fn note(block: &[u64], p: Place, keys: &[u64], c: usize, places: &mut [usize])
     requires { ⌜ (words-for (p .0 + 1) ≤ length (now block)) × (c ≤ length (now keys)) × (c ≤ message-darts) × (c ≤ length (now places)) × Ascending c (value-at (now keys)) × ((r : ℕ) → r < c → index-at (now keys) r < c) ⌝ }
     ensures { λ _. ⌜ Noted (now (block .entry)) (now (keys .entry)) c (p .0) (now (places .entry)) (now (places .exit)) ⌝ }
 {
-    if record::field(block, p, Record::KIND) < 2 {
+    if record::field(block, p, Record::KIND) < kind::CRITICAL {
         return;
     }
     let Ranking::At(r) = ranking::find(keys, c, record::field(block, p, Record::LINK)) else {

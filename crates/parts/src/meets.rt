@@ -4,6 +4,7 @@ ghost use Prim.Native.Nat.{ℕ, _+_, _≤_, _<_};
 ghost use mathlib.Core.Bool.{_&&_};
 ghost use lib.Dec.{ltb, eqb};
 ghost use lib.ListN.{length, getD, take};
+ghost use Rattle.model.specs.Values.{last-block};
 ghost use Rattle.model.specs.Lists.{all, tab};
 ghost use Rattle.cells.specs.Places.{Linked, Assigned};
 ghost use Rattle.parts.specs.Meets.{Walked, Meetable, Trailed, met-at, meets-at, EntryRight};
@@ -118,7 +119,7 @@ pub fn entry_right(
     size: usize,
     trail: &mut [usize],
 ) -> bool
-    requires { ⌜ Meetable (now block) n (now draft) k (now ranks) × (from ≤ 15) × (y .0 < n) × (at .0 + size ≤ k) × (size ≤ length (now trail)) ⌝ }
+    requires { ⌜ Meetable (now block) n (now draft) k (now ranks) × (from ≤ last-block) × (y .0 < n) × (at .0 + size ≤ k) × (size ≤ length (now trail)) ⌝ }
     ensures { λ r. ⌜ EntryRight (now (block .entry)) (now (draft .entry)) (now (ranks .entry)) from (y .0) (at .0) size (now (trail .exit)) r ⌝ }
 {
     if record::field(block, y, Record::KIND) != 2 + 4 * from {
@@ -188,7 +189,7 @@ fn enter(
     kinds: &mut [u64],
     links: &mut [u64],
 ) -> bool
-    requires { ⌜ Meetable (now block) n (now draft) k (now ranks) × (from ≤ 15) × (at .0 + size ≤ k) × (size ≤ length (now trail)) × (n ≤ length (now seen)) × (k ≤ length (now kinds)) × (k ≤ length (now links)) ⌝ }
+    requires { ⌜ Meetable (now block) n (now draft) k (now ranks) × (from ≤ last-block) × (at .0 + size ≤ k) × (size ≤ length (now trail)) × (n ≤ length (now seen)) × (k ≤ length (now kinds)) × (k ≤ length (now links)) ⌝ }
     ensures { λ r. ⌜ Entered (now (block .entry)) (now (draft .entry)) (now (ranks .entry)) n from (y .0) (at .0) size (now (trail .exit)) (now (seen .entry)) (now (seen .exit)) (now (kinds .entry)) (now (kinds .exit)) (now (links .entry)) (now (links .exit)) r ⌝ }
 {
     if !is_new(seen, n, y) {

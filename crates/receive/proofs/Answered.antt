@@ -32,7 +32,7 @@ use Rattle.soundness.proofs.Passed.{high}
 use Rattle.soundness.proofs.Served.{transfer-read}
 use Rattle.arrival.specs.Sides.{side-at}
 use Rattle.arrival.proofs.SideLaws.{sides-are}
-use Rattle.arrival.specs.Draft.{NewSerials, Told, Draft}
+use Rattle.arrival.specs.Draft.{NewSerials, TransferTold, Draft}
 use Rattle.arrival.proofs.Eighteen.{eighteen-is}
 use Rattle.fitting.specs.Fitting.{NewVolume, Parted}
 use Rattle.fitting.proofs.Outlined.{told-of}
@@ -64,7 +64,7 @@ module _ (lim : Limits) (m : List ℕ) {s v x b z : List ℕ} {f : Front} {l : T
       no-18 h = record { said = λ t e w. alone _ (ask-yes (said-yes (here-is t w) yes-17) (ask-no refl (said-no (new-is t w) h) refl)) }
 
       -- 19
-      module _ (yes-18 : not fresh ≡ false) {right : Bool} (nineteen : (t : Transfer) → Told t v x b z s (f .points) (f .vertices) (f .darts) (f .hollow) → right ≡ volume-right t) where
+      module _ (yes-18 : not fresh ≡ false) {right : Bool} (nineteen : (t : Transfer) → TransferTold t v x b z s (f .points) (f .vertices) (f .darts) (f .hollow) → right ≡ volume-right t) where
         pub no-19 : {q c kinds links : List ℕ} → not right ≡ true → AskedAll lim m s v x b z f l keys ranks q c kinds links (answer.Refused refusal.VolumeWrong)
         unfolding receive-checks
         no-19 h = record { said = λ t e w. alone _ (ask-yes (said-yes (here-is t w) yes-17) (ask-yes (said-yes (new-is t w) yes-18) (ask-no refl (said-no (nineteen t (told-of w)) h) refl))) }
@@ -130,7 +130,7 @@ sender-small {s} {t = t} bytes e w = let a = fits t (transfer-read s bytes t e) 
 -- what question 20 asks of a transfer
 pub new-volume : {m s v x b z : List ℕ} {f : Front} {l : Tail} {keys ranks q c : List ℕ} {fresh right : Bool}
     → NewSerials (block-in m .darts) s (f .points) (f .vertices) x (f .darts) keys ranks fresh → not fresh ≡ false
-    → ((t : Transfer) → Told t v x b z s (f .points) (f .vertices) (f .darts) (f .hollow) → right ≡ volume-right t) → not right ≡ false → Draft v x b z keys ranks q s (f .points) (f .darts) c
+    → ((t : Transfer) → TransferTold t v x b z s (f .points) (f .vertices) (f .darts) (f .hollow) → right ≡ volume-right t) → not right ≡ false → Draft v x b z keys ranks q s (f .points) (f .darts) c
     → {t : Transfer} → TransferOutlined t s v x b z f l → NewVolume m s v x b z f l ranks c
 new-volume {m} {s} {v} {x} {b} {z} {f} {l} {keys} {ranks} {q} {c} eighteen yes-18 nineteen yes-19 d {t} w = record {
   keys = keys;

@@ -26,14 +26,14 @@ use Rattle.inbox.specs.Inbox.{points-in}
 use Rattle.inbox.specs.Arrived.{TransferOutlined}
 use Rattle.arrival.specs.Draft.{Draft}
 use Rattle.arrival.proofs.Eighteen.{eighteen-is}
-use Rattle.join.specs.Join.{Indexed, Linking}
+use Rattle.join.specs.Join.{JoinIndexed, Linking}
 use Rattle.soundness.proofs.Served.{transfer-read}
-use Rattle.join.specs.Woven.{Drafted}
+use Rattle.join.specs.Interleaved.{Drafted}
 use Rattle.fitting.proofs.Outlined.{told-of}
 use Rattle.join.specs.Join.{MayJoin, Joins}
 use Rattle.receive.specs.Taken.{AskedSaid, receive-by}
 use Rattle.answers.specs.declared.Answer.the-variants as answer
-use Rattle.receive.proofs.TakenImage.{indexed, weaves, taken-image}
+use Rattle.receive.proofs.TakenImage.{indexed, interleaves, taken-image}
 use Rattle.receive.proofs.Answered.{transfer-served, none-no}
 
 module _ (lim : Limits) (bound : lim .block-darts ≤ room) {m s v x b z : List ℕ} {f : Front} {l : Tail} {keys ranks q c kinds links : List ℕ} (size : length m ≡ words-of lim)
@@ -56,18 +56,18 @@ module _ (lim : Limits) (bound : lim .block-darts ≤ room) {m s v x b z : List 
   small : getD m 2 0 + f .darts ≤ lim .block-darts
   small = h .2
 
-  abbrev weaving : Drafted m c (getD m 2 0) (getD c 2 0)
-  weaving = weaves d lim bound m size ok absent small
+  abbrev interleaving : Drafted m c (getD m 2 0) (getD c 2 0)
+  interleaving = interleaves d lim bound m size ok absent small
 
   linked : Linking m (getD m 2 0) (getD c 2 0) x kinds links (transfer-links (block-in m .darts) t)
   linked = subst (λ (k : ℕ). Linking m (getD m 2 0) k x kinds links (transfer-links (block-in m .darts) t)) (sym (d .drafted .count-is)) (h .0 t e w .1)
 
   pub may-join : MayJoin m c (getD m 2 0) (getD c 2 0) kinds links ranks
   may-join = record {
-    drafted = weaving;
+    drafted = interleaving;
     serials = x;
     brings = transfer-links (block-in m .darts) t;
-    indexed = subst (Indexed c x ranks) (sym (d .drafted .count-is)) (indexed d);
+    indexed = subst (JoinIndexed c x ranks) (sym (d .drafted .count-is)) (indexed d);
     linking = linked;
   }
 

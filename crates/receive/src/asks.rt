@@ -5,7 +5,7 @@ ghost use mathlib.Core.List.{List};
 ghost use Prim.Native.Nat.{ℕ, _≤_};
 ghost use lib.ListN.{length, replicate};
 ghost use Rattle.model.specs.Image.{words-for, holds-block, block-in};
-ghost use Rattle.model.specs.Values.{message-darts};
+ghost use Rattle.model.specs.Values.{message-darts, last-block};
 ghost use Rattle.model.specs.Messages.{Transfer, a-transfer, message-in};
 ghost use Rattle.model.specs.Arrival.{addressed};
 ghost use Rattle.memory.specs.Header.{limits-of};
@@ -41,7 +41,7 @@ fn parts_fit(
     kinds: &mut [u64],
     links: &mut [u64],
 ) -> bool
-    requires { ⌜ (holds-block (now block) ≡ true) × (front .darts ≤ length (now starts)) × (front .darts ≤ length (now sizes)) × (front .darts ≤ length (now ranks)) × (now kinds ≡ replicate message-darts 0) × (now links ≡ replicate message-darts 0) × (front .from ≤ 15) ⌝ }
+    requires { ⌜ (holds-block (now block) ≡ true) × (front .darts ≤ length (now starts)) × (front .darts ≤ length (now sizes)) × (front .darts ≤ length (now ranks)) × (now kinds ≡ replicate message-darts 0) × (now links ≡ replicate message-darts 0) × (front .from ≤ last-block) ⌝ }
     requires { ⌜ ((v : List ℕ) × (x : List ℕ) × NewVolume (now block) (now message) v x (now starts) (now sizes) front tail (now ranks) (now draft)) ⌝ }
     ensures { λ r. ⌜ ((v x : List ℕ) → NewVolume (now (block .entry)) (now (message .entry)) v x (now (starts .entry)) (now (sizes .entry)) front tail (now (ranks .entry)) (now (draft .entry)) → Parted (now (block .entry)) (now (message .entry)) v x (now (starts .entry)) (now (sizes .entry)) front tail (now (kinds .exit)) (now (links .exit)) r) ⌝ }
 {
@@ -102,7 +102,7 @@ pub fn questions(
     firsts: &mut [usize],
 ) -> Answer
     requires { ⌜ (holds-block (now block) ≡ true) × Sides (now vertex) (now serial) (now starts) (now sizes) × ((t : Transfer) × (message-in (now message) ≡ a-transfer t) × TransferOutlined t (now message) (now vertex) (now serial) (now starts) (now sizes) front tail) ⌝ }
-    requires { ⌜ (length (now keys) ≡ 512) × (length (now ranks) ≡ 512) × (length (now opposite) ≡ 512) × (words-for (front .darts) ≤ length (now draft)) × (now kinds ≡ replicate 512 0) × (now links ≡ replicate 512 0) × (front .darts ≤ length (now queue)) × (front .darts ≤ length (now firsts)) ⌝ }
+    requires { ⌜ (length (now keys) ≡ message-darts) × (length (now ranks) ≡ message-darts) × (length (now opposite) ≡ message-darts) × (words-for (front .darts) ≤ length (now draft)) × (now kinds ≡ replicate message-darts 0) × (now links ≡ replicate message-darts 0) × (front .darts ≤ length (now queue)) × (front .darts ≤ length (now firsts)) ⌝ }
     ensures { λ r. ⌜ AskedAll (limits-of limits) (now (block .entry)) (now (message .entry)) (now (vertex .entry)) (now (serial .entry)) (now (starts .entry)) (now (sizes .entry)) front tail (now (keys .exit)) (now (ranks .exit)) (now (opposite .exit)) (now (draft .exit)) (now (kinds .exit)) (now (links .exit)) r ⌝ }
 {
     if !for_here(block, front.from, front.to) {

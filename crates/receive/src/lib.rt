@@ -5,7 +5,7 @@ ghost use mathlib.Core.Path.{_≡_};
 ghost use mathlib.Core.Bool.{true};
 ghost use Prim.Native.Nat.{_≤_};
 ghost use lib.ListN.{length, replicate};
-ghost use Rattle.model.specs.Values.{room, rack};
+ghost use Rattle.model.specs.Values.{room, rack, message-darts};
 ghost use Rattle.model.specs.Image.{words-for, words-of, holds-block};
 ghost use Rattle.model.specs.Messages.{Transfer, a-transfer, message-in};
 ghost use Rattle.model.specs.Calls as calls;
@@ -46,8 +46,8 @@ fn take(
     new: &mut [usize],
 ) -> Answer
     requires { ⌜ (limits .block ≤ room) × (length (now block) ≡ words-of (limits-of limits)) × (holds-block (now block) ≡ true) × Sides (now vertex) (now serial) (now starts) (now sizes) × ((t : Transfer) × (message-in (now message) ≡ a-transfer t) × TransferOutlined t (now message) (now vertex) (now serial) (now starts) (now sizes) front tail) ⌝ }
-    requires { ⌜ (length (now keys) ≡ 512) × (length (now ranks) ≡ 512) × (length (now opposite) ≡ 512) × (words-for 512 ≤ length (now draft)) × (now kinds ≡ replicate 512 0) × (now links ≡ replicate 512 0) ⌝ }
-    requires { ⌜ (512 ≤ length (now old)) × (limits .block ≤ length (now old)) × (512 ≤ length (now new)) ⌝ }
+    requires { ⌜ (length (now keys) ≡ message-darts) × (length (now ranks) ≡ message-darts) × (length (now opposite) ≡ message-darts) × (words-for message-darts ≤ length (now draft)) × (now kinds ≡ replicate message-darts 0) × (now links ≡ replicate message-darts 0) ⌝ }
+    requires { ⌜ (message-darts ≤ length (now old)) × (limits .block ≤ length (now old)) × (message-darts ≤ length (now new)) ⌝ }
     ensures { λ r. ⌜ Takes (limits-of limits) (now (block .entry)) (now (message .entry)) (now (vertex .entry)) (now (serial .entry)) (now (starts .entry)) (now (sizes .entry)) front tail (answer-of r) (now (block .exit)) ⌝ }
 {
     // The questions work in `old` and `new`; then they are for the places of all darts.
@@ -99,8 +99,8 @@ pub fn receive_by(
     new: &mut [usize],
 ) -> Answer
     requires { ⌜ (limits .block ≤ room) × Sides (now vertex) (now serial) (now starts) (now sizes) ⌝ }
-    requires { ⌜ (length (now keys) ≡ 512) × (length (now ranks) ≡ 512) × (length (now opposite) ≡ 512) × (words-for 512 ≤ length (now draft)) × (now kinds ≡ replicate 512 0) × (now links ≡ replicate 512 0) ⌝ }
-    requires { ⌜ (512 ≤ length (now old)) × (limits .block ≤ length (now old)) × (512 ≤ length (now new)) ⌝ }
+    requires { ⌜ (length (now keys) ≡ message-darts) × (length (now ranks) ≡ message-darts) × (length (now opposite) ≡ message-darts) × (words-for message-darts ≤ length (now draft)) × (now kinds ≡ replicate message-darts 0) × (now links ≡ replicate message-darts 0) ⌝ }
+    requires { ⌜ (message-darts ≤ length (now old)) × (limits .block ≤ length (now old)) × (message-darts ≤ length (now new)) ⌝ }
     ensures { λ r. ⌜ Gives (calls.receive (limits-of limits) (now (block .entry)) (now (message .entry))) (answer-of r) (now (block .exit)) ⌝ }
 {
     if block.len() != limits.words() {

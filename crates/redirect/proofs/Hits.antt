@@ -16,7 +16,7 @@ use Rattle.columns.proofs.Below.{all-tests}
 use Rattle.cells.specs.Places.{Clear, Assigned}
 use Rattle.cells.proofs.Walks.{eq-or-ne}
 use Rattle.departure.specs.ByPlaces.{critical-with}
-use Rattle.redirect.specs.ByPlaces.{face-code, names-at, Ready, code-index, Unset, Indexed, HitsAre, all-hit, EachNamed}
+use Rattle.redirect.specs.ByPlaces.{face-code, names-at, Ready, code-index, Unset, LeastIndexed, HitsAre, all-hit, EachNamed}
 
 -- MARKS, beside a table of indices that is filled face by face
 pub record Hitting (index : ℕ → ℕ) (n : ℕ) (table hits : List ℕ) : Type 0 where
@@ -43,7 +43,7 @@ hitting-face {index} {n} {p} {k} {f} {table} {table′} {hits} w below e h d = r
     at-k : {j : ℕ} → j ≡ k → getD (set hits k 1) j 0 ≡ 1
     at-k s = ap (λ (i : ℕ). getD (set hits k 1) i 0) s ∙ getD-set-same hits k 1 0 h
 
-pub hitting-end : {index : ℕ → ℕ} {n : ℕ} {table hits : List ℕ} → Indexed index n table → Hitting index n table hits → HitsAre index n hits
+pub hitting-end : {index : ℕ → ℕ} {n : ℕ} {table hits : List ℕ} → LeastIndexed index n table → Hitting index n table hits → HitsAre index n hits
 hitting-end {index} {n} {table} {hits} d w = record {
   only = w .only;
   marked = λ p h l. ap (λ (j : ℕ). getD hits j 0) (sym (d .index-is p h)) ∙ w .marked p h (omega (arith, d .index-is p h, l));
@@ -80,7 +80,7 @@ module _ (m : List ℕ) (from : ℕ) {codes : List ℕ} {c : ℕ} (ready : Ready
           eq-eqb (getD hits k 0) 1 (ap (λ (j : ℕ). getD hits j 0) (sym i) ∙ w .marked (r .0) (r .1) (omega (arith, i, h, ready .few)))
 
   -- what table and marks say
-  pub each-named : {table hits : List ℕ} {n : ℕ} {r : Bool} → n ≡ getD m 2 0 → Indexed (code-index m from codes c) n table
+  pub each-named : {table hits : List ℕ} {n : ℕ} {r : Bool} → n ≡ getD m 2 0 → LeastIndexed (code-index m from codes c) n table
       → HitsAre (code-index m from codes c) n hits → r ≡ all-hit hits c → EachNamed m from codes c table r
   each-named {table} {hits} {n} {r} e d w k = record { said = k ∙ hits-names (rw e at w); indexed = rw e at d }
 

@@ -19,7 +19,7 @@ use Rattle.cells.specs.Places.{Linked, Assigned}
 use Rattle.cells.proofs.Walks.{eq-or-ne}
 use Rattle.cells.proofs.Sited.{sited}
 use Rattle.departure.specs.ByPlaces.{critical-with}
-use Rattle.redirect.specs.ByPlaces.{face-code, code-index, Unset, Indexed}
+use Rattle.redirect.specs.ByPlaces.{face-code, code-index, Unset, LeastIndexed}
 use Rattle.redirect.proofs.Faces.{self-in, one-code, one-kind}
 
 -- THE INDEX OF A DART'S CODE
@@ -102,7 +102,7 @@ module _ {index : ℕ → ℕ} {n p : ℕ} {t : List ℕ} (w : Indexing index n 
       go q i (inl a) = inl (d .value q ∙ rw i a)
       go q i (inr a) = inr (above (λ s. true≢false (sym (in-eq q p f (sym s) self) ∙ i)) (a .0), d .value q ∙ rw i (a .1))
 
-pub indexing-end : {index : ℕ → ℕ} {n p : ℕ} {t : List ℕ} → Indexing index n p t → n ≤ p → Indexed index n t
+pub indexing-end : {index : ℕ → ℕ} {n p : ℕ} {t : List ℕ} → Indexing index n p t → n ≤ p → LeastIndexed index n t
 indexing-end {index} {n} {p} {t} w h = record { index-is = λ q k. go q k (w .each q k) }
   where
     go : (q : ℕ) → q < n → (getD t q 0 ≡ index q) ⊎ ((p ≤ q) × (getD t q 0 ≡ 4097)) → getD t q 0 ≡ index q

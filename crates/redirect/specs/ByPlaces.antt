@@ -51,7 +51,7 @@ abbrev pub Unset : ℕ → List ℕ → Type 0
 Unset n table = (q : ℕ) → q < n → getD table q 0 ≡ 4097
 
 -- a table of these, by place
-pub record Indexed (index : ℕ → ℕ) (n : ℕ) (table : List ℕ) : Type 0 where
+pub record LeastIndexed (index : ℕ → ℕ) (n : ℕ) (table : List ℕ) : Type 0 where
   pub index-is : (q : ℕ) → q < n → getD table q 0 ≡ index q
 
 -- the indices of the faces that have one, at the places below n, are marked, and no other
@@ -66,7 +66,7 @@ all-hit hits c = all-below (λ k. eqb (getD hits k 0) 1) c
 -- each of the first c codes names a face; the table has the index of each dart's code
 pub record EachNamed (m : List ℕ) (from : ℕ) (codes : List ℕ) (c : ℕ) (table : List ℕ) (r : Bool) : Type 0 where
   pub said : r ≡ all (names-at m from) (take c codes)
-  pub indexed : Indexed (code-index m from codes c) (getD m 2 0) table
+  pub indexed : LeastIndexed (code-index m from codes c) (getD m 2 0) table
 
 -- labels that differ and each name a face; the table tells the darts of these faces
 pub record AllNamed (m s : List ℕ) (from at count : ℕ) (table : List ℕ) (r : Bool) : Type 0 where

@@ -4,7 +4,7 @@ use mathlib.Core.Bool.{true}
 use mathlib.Core.List.{List, _++_}
 use Prim.Native.Nat.{ℕ, _≤_}
 use lib.ListN.{length}
-use Rattle.model.specs.Values.{Limits}
+use Rattle.model.specs.Values.{Limits, last-block}
 use Rattle.model.specs.Image.{words-of, block-in, is-image, memory-checks}
 use Rattle.model.specs.Messages.{Transfer, Update, Message, a-transfer, an-update, no-message, message-in}
 use Rattle.model.specs.Arrival.{redirect-checks, redirected-from}
@@ -26,8 +26,8 @@ pub record KindRead (s : List ℕ) (r : Received) : Type 0 where
 
 -- an outline that can be followed
 pub record Follows (s : List ℕ) (o : UpdateOutline) : Type 0 where
-  pub from-small : o .from ≤ 15
-  pub block-small : o .block ≤ 15
+  pub from-small : o .from ≤ last-block
+  pub block-small : o .block ≤ last-block
   pub labels-within : o .labels ≤ length s
 
 -- the call on a message that was read, by the block's limits

@@ -7,7 +7,7 @@ ghost use lib.ListN.{length, getD};
 ghost use Rattle.model.specs.Values.{room, last-block};
 ghost use Rattle.model.specs.Image.{words-for, holds-block};
 ghost use Rattle.cells.specs.Places.{Clear};
-ghost use Rattle.redirect.specs.ByPlaces.{code-index, Ready, Unset, Indexed, HitsAre, all-hit, Rewritten};
+ghost use Rattle.redirect.specs.ByPlaces.{code-index, Ready, Unset, LeastIndexed, HitsAre, all-hit, Rewritten};
 use crate::codes;
 use crate::least;
 use memory::kind;
@@ -28,7 +28,7 @@ pub fn index_faces(
 )
     requires { ⌜ (holds-block (now block) ≡ true) × (n ≡ getD (now block) 2 0) × (from ≤ last-block) × Ready (now codes) c ⌝ }
     requires { ⌜ (n ≤ length (now table)) × Unset n (now table) × (c < length (now hits)) × Clear (now hits) ⌝ }
-    ensures { λ _. ⌜ Indexed (code-index (now (block .entry)) from (now (codes .entry)) c) n (now (table .exit)) × HitsAre (code-index (now (block .entry)) from (now (codes .entry)) c) n (now (hits .exit)) ⌝ }
+    ensures { λ _. ⌜ LeastIndexed (code-index (now (block .entry)) from (now (codes .entry)) c) n (now (table .exit)) × HitsAre (code-index (now (block .entry)) from (now (codes .entry)) c) n (now (hits .exit)) ⌝ }
 {
     let word = kind::critical_with(from);
     // The places below p have their index, and so has each place whose face has a dart below p.

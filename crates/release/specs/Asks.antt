@@ -4,7 +4,7 @@ use mathlib.Core.List.{List, _++_}
 use Prim.Native.Nat.{ℕ, _+_, _*_, _%_, _≤_, _<_}
 use lib.ListN.{length, getD, take, drop}
 use Rattle.model.specs.Image.{words-for, column}
-use Rattle.model.specs.Values.{room}
+use Rattle.model.specs.Values.{room, blocks}
 use Rattle.cells.specs.Places.{Within, Apart, Closed}
 use Rattle.departure.specs.Asked.{Departs}
 use Rattle.departure.specs.declared.Counts.{Counts}
@@ -23,7 +23,7 @@ pub record MayGo (m : List ℕ) (j : ℕ) (c : Counts) (marks order starts : Lis
 pub record Sewing (m marks : List ℕ) (n : ℕ) : Type 0 where
   pub size : words-for n ≤ length m
   pub few : n ≤ room
-  pub number-small : getD m 0 0 < 16
+  pub number-small : getD m 0 0 < blocks
   pub next-within : Within n (column m 1)
   pub next-apart : Apart n (column m 1)
   pub closed : Closed n (column m 1) marks

@@ -1,6 +1,6 @@
 -- `join::join` meets its contract.
 -- Assumes nothing.
-use Rattle.join.proofs.Joining.{may-sew, joins, woven-size}
+use Rattle.join.proofs.Joining.{may-sew, joins, interleaved-size}
 use native.Mathlib.Omega.{arith}
 use borrow.Author.Needs.{needs}
 use Rattle.join.proofs.join.Statement.{statement}
@@ -20,7 +20,7 @@ sew-requires c κs =
     let start : tie.Start = (let c : tie.After-insert = search in search) in
     let insert-ensures = (let p : tie.After-insert = search in p .insert .ensures) in
     let insert-kept = (let p : tie.After-insert = search in p .insert .kept) in (
-      woven-size (start .pre .1 .3) (insert-ensures .0),
+      interleaved-size (start .pre .1 .3) (insert-ensures .0),
       start .pre .1 .0,
       start .pre .1 .1,
       start .pre .1 .2,

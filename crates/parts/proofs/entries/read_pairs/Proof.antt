@@ -3,7 +3,7 @@
 use Prim.Native.Nat.{_-_}
 use mathlib.Core.Path.{_≡_, refl, sym, _∙_}
 use lib.ListN.{length, length-set}
-use Rattle.parts.specs.Entries.{pair, first, index}
+use Rattle.parts.specs.Entries.{pair, first-number, index}
 use Rattle.parts.proofs.Reading.{Reading, reading-start, reading-more, reading-bad, reading-end, no-first, no-index, took-pair}
 use native.Mathlib.Omega.{arith}
 use borrow.Author.Needs.{needs}
@@ -12,7 +12,7 @@ use Rattle.parts.proofs.entries.read_pairs.Tie as tie
 
 abbrev Inv-loop : tie.InvT-loop
 Inv-loop s at part count firsts₀ indices₀ i₀ p₀ firsts indices i p =
-    Reading (pair part) (first part) (index part) s at count firsts indices i p × (length firsts ≡ length firsts₀)
+    Reading (pair part) (first-number part) (index part) s at count firsts indices i p × (length firsts ≡ length firsts₀)
     × (length indices ≡ length indices₀)
 
 abbrev μ-loop : tie.MeasureT-loop
@@ -23,7 +23,7 @@ loop-holds : tie.Need-loop-holds Inv-loop μ-loop
 loop-holds c =
     let start : tie.Start Inv-loop μ-loop = search in
     let part = start .args .part in
-    (reading-start (pair part) (first part) (index part) _ _ _ _ (start .pre .0) (start .pre .1) (start .pre .2), refl, refl)
+    (reading-start (pair part) (first-number part) (index part) _ _ _ _ (start .pre .0) (start .pre .1) (start .pre .2), refl, refl)
 
 read-first-requires : tie.Need-read-first-requires Inv-loop μ-loop
 read-first-requires c κs = search needs
@@ -51,7 +51,7 @@ returns c =
     let loop-inv = (let p : tie.At-loop Inv-loop μ-loop = search in p .loop .inv) in
     let loop-test-taken = (let p : tie.In-loop Inv-loop μ-loop = search in p .loop-test .taken) in
     let read-first-ensures = (let p : tie.After-read-first Inv-loop μ-loop = search in p .read-first .ensures) in
-    reading-bad (pair part) (first part) (index part) (loop-inv .0) loop-test-taken (no-first part _ _ (sym (c .enum-told .given .1) ∙ read-first-ensures))
+    reading-bad (pair part) (first-number part) (index part) (loop-inv .0) loop-test-taken (no-first part _ _ (sym (c .enum-told .given .1) ∙ read-first-ensures))
 
 read-group-requires : tie.Need-read-group-requires Inv-loop μ-loop
 read-group-requires c κs = search needs
@@ -81,7 +81,7 @@ returns-2 c =
     let read-first-ensures = (let p : tie.After-read-first Inv-loop μ-loop = search in p .read-first .ensures) in
     let first-given = (let p : tie.After-first Inv-loop μ-loop = search in p .first .given) in
     let read-group-ensures = (let p : tie.After-read-group Inv-loop μ-loop = search in p .read-group .ensures) in
-    reading-bad (pair part) (first part) (index part) (loop-inv .0) loop-test-taken
+    reading-bad (pair part) (first-number part) (index part) (loop-inv .0) loop-test-taken
     (no-index part _ _ _ _ (sym (first-given .1) ∙ read-first-ensures) (sym (c .enum-told2 .given .1) ∙ read-group-ensures))
 
 mul-firsts : tie.Need-mul-firsts Inv-loop μ-loop
@@ -115,7 +115,7 @@ loop-again c =
     let there = took-pair part (sym (first-given .1) ∙ read-first-ensures) (sym (index-given .1) ∙ read-group-ensures) in
     let loop-firsts = (let p : tie.At-loop Inv-loop μ-loop = search in p .loop .firsts) in
     let loop-indices = (let p : tie.At-loop Inv-loop μ-loop = search in p .loop .indices) in (
-      reading-more (pair part) (first part) (index part) (loop-inv .0) loop-test-taken (there .took) (there .first-is) (there .index-is),
+      reading-more (pair part) (first-number part) (index part) (loop-inv .0) loop-test-taken (there .took) (there .first-is) (there .index-is),
       length-set loop-firsts _ _ ∙ loop-inv .1,
       length-set loop-indices _ _ ∙ loop-inv .2,
     )
@@ -135,7 +135,7 @@ returns-3 c =
     let start : tie.Start Inv-loop μ-loop = search in
     let part = start .args .part in
     let loop-inv = (let p : tie.At-loop Inv-loop μ-loop = search in p .loop .inv) in
-    reading-end (pair part) (first part) (index part) (loop-inv .0) (c .loop-test .left)
+    reading-end (pair part) (first-number part) (index part) (loop-inv .0) (c .loop-test .left)
 
 pub read-pairs-spec : {M : Type 1} → statement M
 read-pairs-spec =

@@ -1,14 +1,14 @@
--- `join::weave::tables` meets its contract. The loop's invariant: the darts from i and j on have their places.
+-- `join::interleave::tables` meets its contract. The loop's invariant: the darts from i and j on have their places.
 -- The measure is what is left of both. Assumes nothing.
 use Prim.Native.Nat.{_+_}
 use mathlib.Core.Path.{_≡_, refl, sym, _∙_}
 use lib.ListN.{length, length-set}
 use Rattle.model.specs.Image.{column}
-use Rattle.join.proofs.Weaving.{Placing, placing-start, place-old, place-new, placing-end, last-yes, last-no}
+use Rattle.join.proofs.Interleaving.{Placing, placing-start, place-old, place-new, placing-end, last-yes, last-no}
 use native.Mathlib.Omega.{arith}
 use borrow.Author.Needs.{needs}
-use Rattle.join.proofs.weave.tables.Statement.{statement}
-use Rattle.join.proofs.weave.tables.Tie as tie
+use Rattle.join.proofs.interleave.tables.Statement.{statement}
+use Rattle.join.proofs.interleave.tables.Tie as tie
 
 abbrev Inv-loop : tie.InvT-loop
 Inv-loop block n draft k old₀ new₀ i₀ j₀ old new i j =

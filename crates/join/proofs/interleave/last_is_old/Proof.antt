@@ -1,8 +1,8 @@
--- `join::weave::last_is_old` meets its contract: the greater of two serials, or the one that is left. Assumes nothing.
-use Rattle.join.proofs.Weaving.{last-end, last-none, last-both}
+-- `join::interleave::last_is_old` meets its contract: the greater of two serials, or the one that is left. Assumes nothing.
+use Rattle.join.proofs.Interleaving.{last-end, last-none, last-both}
 use borrow.Author.Needs.{needs}
-use Rattle.join.proofs.weave.last_is_old.Statement.{statement}
-use Rattle.join.proofs.weave.last_is_old.Tie as tie
+use Rattle.join.proofs.interleave.last_is_old.Statement.{statement}
+use Rattle.join.proofs.interleave.last_is_old.Tie as tie
 
 returns : tie.Need-returns
 returns c =

@@ -9,11 +9,11 @@ use Rattle.laws.specs.Order.{Ascending}
 use Rattle.columns.specs.Columns.{Kind}
 use Rattle.cells.specs.Places.{Linked}
 use Rattle.place.specs.Renumber.{moved-link}
-use Rattle.join.specs.Weave.{Weaves}
+use Rattle.join.specs.Interleave.{Interleaves}
 
 -- memory of n darts with zeros behind them, and a draft of k free darts
 pub record Drafted (m c : List ℕ) (n k : ℕ) : Type 0 where
-  pub weaves : Weaves m c n k
+  pub interleaves : Interleaves m c n k
   pub block-linked : Linked m n
   pub draft-linked : Linked c k
   pub kinds : (p : ℕ) → p < n → Kind (column m 3 p) (column m 4 p)

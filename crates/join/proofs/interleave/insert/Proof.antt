@@ -1,10 +1,10 @@
--- `join::weave::insert` meets its contract: the tables, the records merged, the header stored. Assumes nothing.
+-- `join::interleave::insert` meets its contract: the tables, the records merged, the header stored. Assumes nothing.
 use lib.ListN.{getD}
-use Rattle.join.proofs.Weaving.{all-woven}
+use Rattle.join.proofs.Interleaving.{all-interleaved}
 use native.Mathlib.Omega.{arith}
 use borrow.Author.Needs.{needs}
-use Rattle.join.proofs.weave.insert.Statement.{statement}
-use Rattle.join.proofs.weave.insert.Tie as tie
+use Rattle.join.proofs.interleave.insert.Statement.{statement}
+use Rattle.join.proofs.interleave.insert.Tie as tie
 
 slice-read-number : tie.Need-slice-read-number
 slice-read-number c = search needs
@@ -52,7 +52,7 @@ returns c =
     let start : tie.Start = search in
     let block = start .args .block .now in
     let draft = start .args .draft .now in (
-      all-woven block draft (getD block 2 0) (getD draft 2 0) (omega (arith, start .pre .0 .block .size)) merge-ensures write-ensures,
+      all-interleaved block draft (getD block 2 0) (getD draft 2 0) (omega (arith, start .pre .0 .block .size)) merge-ensures write-ensures,
       tables-ensures,
     )
 

@@ -1,7 +1,7 @@
 -- The block with new darts among its own, by places: where each dart stands, and what a caller may rest on to go on. Assumes nothing.
 --   stands         each dart at its new place, with its links there
---   woven-sited    the memory is that of darts in ascending serial whose links are places
---   woven-block    the block that is read from it
+--   interleaved-sited    the memory is that of darts in ascending serial whose links are places
+--   interleaved-block    the block that is read from it
 use mathlib.Core.Path.{_≡_, refl, sym, _∙_, ap, subst}
 use mathlib.Core.Bool.{true}
 use mathlib.Core.List.{List, map}
@@ -26,11 +26,11 @@ use Rattle.cells.proofs.Sited.{Sited, darts-in}
 use Rattle.release.specs.LetGo.{moved-words}
 use Rattle.place.proofs.Renumbering.{link-sewn, link-other}
 use Rattle.release.specs.Asks.{Tabled}
-use Rattle.join.specs.Weave.{up, woven-at}
-use Rattle.join.proofs.Weaving.{by-table}
-use Rattle.join.specs.Woven.{Drafted, MovedTo, Stands}
+use Rattle.join.specs.Interleave.{up, interleaved-at}
+use Rattle.join.proofs.Interleaving.{by-table}
+use Rattle.join.specs.Interleaved.{Drafted, MovedTo, Stands}
 use Rattle.join.proofs.Inserted.{all-there}
-use Rattle.join.proofs.WovenImage.{all-darts, darts-at, darts-ascend, darts-tab, old-words, new-words, both, image-both, darts-both}
+use Rattle.join.proofs.InterleavedImage.{all-darts, darts-at, darts-ascend, darts-tab, old-words, new-words, both, image-both, darts-both}
 
 -- ONE RECORD
 moved-to : (m x : List ℕ) (t : ℕ → ℕ) (p q : ℕ) → ((g : ℕ) → g < 8 → column x g q ≡ getD (moved-words t m p) g 0) → MovedTo m x t p q
@@ -83,7 +83,7 @@ module _ {m c : List ℕ} {n k : ℕ} (a : Drafted m c n k) where
   to-new = up f s n
 
   abbrev x : List ℕ
-  x = woven-at m n c k
+  x = interleaved-at m n c k
 
   -- THE WORDS
   column-at : (t g : ℕ) → t < n + k → g < 8 → column x g t ≡ getD (dart-words (serials (all-darts a)) (getD (all-darts a) t no-dart)) g 0
@@ -111,11 +111,11 @@ module _ {m c : List ℕ} {n k : ℕ} (a : Drafted m c n k) where
 
   -- THE DARTS
   old-dart : (p : ℕ) → p < n → dart-in x (to-old p) ≡ dart-in m p
-  old-dart p h = let b = a .weaves .block in
+  old-dart p h = let b = a .interleaves .block in
       dart-same (old-record p h) (a .kinds p h) (old-serial (column m 1 p) (b .next-lt p h)) (old-serial (column m 2 p) (b .opposite-lt p h)) (λ e. old-serial (column m 4 p) (b .sewn-lt p h e))
 
   new-dart : (q : ℕ) → q < k → dart-in x (to-new q) ≡ dart-in c q
-  new-dart q h = let b = a .weaves .draft in
+  new-dart q h = let b = a .interleaves .draft in
       dart-same (new-record q h) (kind-free (a .free q h .0) (a .free q h .1)) (new-serial (column c 1 q) (b .next-lt q h))
       (new-serial (column c 2 q) (b .opposite-lt q h)) (λ e. new-serial (column c 4 q) (b .sewn-lt q h e))
 
@@ -140,29 +140,29 @@ module _ {m c : List ℕ} {n k : ℕ} (a : Drafted m c n k) where
           (lt-or-ge (to q) (to p))
 
   old-ascend : Ascending n to-old
-  old-ascend = places-ascend n s to-old (a .weaves .keys .s-up) old-serial (darts-at a .old-lt)
+  old-ascend = places-ascend n s to-old (a .interleaves .keys .s-up) old-serial (darts-at a .old-lt)
 
   new-ascend : Ascending k to-new
-  new-ascend = places-ascend k f to-new (a .weaves .keys .f-up) new-serial (darts-at a .new-lt)
+  new-ascend = places-ascend k f to-new (a .interleaves .keys .f-up) new-serial (darts-at a .new-lt)
 
   never-meet : (p q : ℕ) → p < n → q < k → to-old p ≡ to-new q → ⊥
-  never-meet p q h b e = a .weaves .keys .differ p q h b (sym (old-serial p h) ∙ ap (column x 0) e ∙ new-serial q b)
+  never-meet p q h b e = a .interleaves .keys .differ p q h b (sym (old-serial p h) ∙ ap (column x 0) e ∙ new-serial q b)
 
   -- THE HEADER
   pub number-is : getD x 0 0 ≡ getD m 0 0
-  unfolding woven-at
+  unfolding interleaved-at
   number-is = refl
 
   pub counter-is : getD x 1 0 ≡ getD m 1 0
-  unfolding woven-at
+  unfolding interleaved-at
   counter-is = refl
 
   pub count-is : count-in x ≡ n + k
-  unfolding woven-at
+  unfolding interleaved-at
   count-is = refl
 
   pub size-is : length x ≡ length m
-  size-is = ap length (sym (image-both a)) ∙ image-length (length m) (both a) (omega (arith, darts-at a .count, a .weaves .holds))
+  size-is = ap length (sym (image-both a)) ∙ image-length (length m) (both a) (omega (arith, darts-at a .count, a .interleaves .holds))
 
   -- THE LINKS of one kind, next or opposite, by their columns
   module _ (g : ℕ) (old-is : (p : ℕ) → p < n → column x g (to-old p) ≡ to-old (column m g p))
@@ -194,12 +194,12 @@ module _ {m c : List ℕ} {n k : ℕ} (a : Drafted m c n k) where
       (λ r. let w = old-record (r .0) (r .1) in
       let one : column m 3 (r .0) ≡ 1 = kind-one (a .kinds (r .0) (r .1)) (omega (arith, ap (column x 3) (r .2), w .kind)) in
       omega
-      (arith, ap (column x 4) (r .2), w .link, link-sewn to-old (column m 3 (r .0)) (column m 4 (r .0)) one, darts-at a .old-lt (column m 4 (r .0)) (a .weaves .block .sewn-lt (r .0) (r .1) one)))
+      (arith, ap (column x 4) (r .2), w .link, link-sewn to-old (column m 3 (r .0)) (column m 4 (r .0)) one, darts-at a .old-lt (column m 4 (r .0)) (a .interleaves .block .sewn-lt (r .0) (r .1) one)))
       (λ r. let w = new-record (r .0) (r .1) in absurd (omega (arith, ap (column x 3) (r .2), w .kind, a .free (r .0) (r .1) .0)))
       (darts-at a .from t h)
 
-  pub woven-linked : Linked x (n + k)
-  woven-linked =
+  pub interleaved-linked : Linked x (n + k)
+  interleaved-linked =
       let b = a .block-linked in
       let d = a .draft-linked in
       let old-next : (p : ℕ) → p < n → column x 1 (to-old p) ≡ to-old (column m 1 p) = λ p h. old-record p h .next in
@@ -207,8 +207,8 @@ module _ {m c : List ℕ} {n k : ℕ} (a : Drafted m c n k) where
       let old-opposite : (p : ℕ) → p < n → column x 2 (to-old p) ≡ to-old (column m 2 p) = λ p h. old-record p h .opposite in
       let new-opposite : (q : ℕ) → q < k → column x 2 (to-new q) ≡ to-new (column c 2 q) = λ q h. new-record q h .opposite in
       record {
-        few = a .weaves .fits;
-        size = omega (arith, size-is, a .weaves .holds);
+        few = a .interleaves .fits;
+        size = omega (arith, size-is, a .interleaves .holds);
         next-within = link-within 1 old-next new-next (b .next-within) (d .next-within);
         next-apart = link-apart 1 old-next new-next (b .next-within) (d .next-within) (b .next-apart) (d .next-apart);
         opposite-within = link-within 2 old-opposite new-opposite (b .opposite-within) (d .opposite-within);
@@ -221,7 +221,7 @@ module _ {m c : List ℕ} {n k : ℕ} (a : Drafted m c n k) where
       let order = subst (λ (z : ℕ). Ascending z (column x 0)) (sym count-is) serials-ascend in
       let at : (p : ℕ) → p < count-in x → dart-at (darts-in x) (column x 0 p) ≡ dart-in x p = λ p h. dart-place (dart-in x) (count-in x) p order h in
       record {
-        linked = subst (Linked x) (sym count-is) woven-linked;
+        linked = subst (Linked x) (sym count-is) interleaved-linked;
         ascends = order;
         next-is = λ p h. sym (ap (λ (d : Dart). d .next) (at p h));
         opposite-is = λ p h. sym (ap (λ (d : Dart). d .opposite) (at p h));
@@ -229,8 +229,8 @@ module _ {m c : List ℕ} {n k : ℕ} (a : Drafted m c n k) where
       }
 
   -- the memory that the code leaves
-  pub woven-sited : {y : List ℕ} → y ≡ x → Sited y
-  woven-sited e = subst Sited (sym e) site
+  pub interleaved-sited : {y : List ℕ} → y ≡ x → Sited y
+  interleaved-sited e = subst Sited (sym e) site
 
   -- THE TABLES
   standing : (old new : List ℕ) → Tabled to-old n old → Tabled to-new k new → Stands m c x n k old new
@@ -241,10 +241,10 @@ module _ {m c : List ℕ} {n k : ℕ} (a : Drafted m c n k) where
     new-dart = λ q h. ap (dart-in x) (w q h) ∙ new-dart q h;
     old-moved =
         λ p h. moved-to m x (λ y. getD old y 0) p (getD old p 0)
-        (λ g b. ap (column x g) (o p h) ∙ old-word p g h b ∙ ap (λ (l : List ℕ). getD l g 0) (sym (by-table m old to-old n p (a .weaves .block) o h)));
+        (λ g b. ap (column x g) (o p h) ∙ old-word p g h b ∙ ap (λ (l : List ℕ). getD l g 0) (sym (by-table m old to-old n p (a .interleaves .block) o h)));
     new-moved =
         λ q h. moved-to c x (λ y. getD new y 0) q (getD new q 0)
-        (λ g b. ap (column x g) (w q h) ∙ new-word q g h b ∙ ap (λ (l : List ℕ). getD l g 0) (sym (by-table c new to-new k q (a .weaves .draft) w h)));
+        (λ g b. ap (column x g) (w q h) ∙ new-word q g h b ∙ ap (λ (l : List ℕ). getD l g 0) (sym (by-table c new to-new k q (a .interleaves .draft) w h)));
     old-up = λ p q l h. omega (arith, o p (omega arith), o q h, old-ascend p q l h);
     new-up = λ p q l h. omega (arith, w p (omega arith), w q h, new-ascend p q l h);
     apart = λ p q h b e. never-meet p q h b (sym (o p h) ∙ e ∙ w q b);
@@ -260,9 +260,9 @@ module _ {m c : List ℕ} {n k : ℕ} (a : Drafted m c n k) where
       let darts : tab (dart-in x) (count-in x) ≡ all-darts a = ap (tab (dart-in x)) count-is ∙ darts-tab a (dart-in x) dart-is in
       λ i. record { number = number-is i; counter = counter-is i; darts = darts i }
 
-pub woven-block : {m c : List ℕ} (a : Drafted m c (count-in m) (count-in c)) (ps : List ℕ) → distinct ps ≡ true → length ps ≡ count-in c → ((q : ℕ) → In q ps → q < count-in c)
-    → block-in (woven-at m (count-in m) c (count-in c)) ≡ record { number = getD m 0 0; counter = getD m 1 0; darts = insert-all (map (dart-in c) ps) (block-in m .darts) }
-woven-block {m} {c} a ps once size low =
+pub interleaved-block : {m c : List ℕ} (a : Drafted m c (count-in m) (count-in c)) (ps : List ℕ) → distinct ps ≡ true → length ps ≡ count-in c → ((q : ℕ) → In q ps → q < count-in c)
+    → block-in (interleaved-at m (count-in m) c (count-in c)) ≡ record { number = getD m 0 0; counter = getD m 1 0; darts = insert-all (map (dart-in c) ps) (block-in m .darts) }
+interleaved-block {m} {c} a ps once size low =
     block-both a
     ∙ ap (λ (l : List Dart). record { number = getD m 0 0; counter = getD m 1 0; darts = l })
     (sym (darts-both a ps once low (all-there (count-in c) ps once size low)))

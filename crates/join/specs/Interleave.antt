@@ -43,9 +43,9 @@ module _ {A : Type 0} (s f : ℕ → ℕ) (g h : ℕ → A) where
   behind v r rest (suc i) = cond (ltb v (s i)) (behind v r rest i ++ g i ∷ []) (rest (suc i) ++ r ∷ [])
 
   -- the first i of g and the first j of h, by ascending key
-  unfoldable pub weave : ℕ → ℕ → List A
-  weave i zero = tab g i
-  weave i (suc j) = behind (f j) (h j) (λ p. weave p j) i
+  unfoldable pub interleave : ℕ → ℕ → List A
+  interleave i zero = tab g i
+  interleave i (suc j) = behind (f j) (h j) (λ p. interleave p j) i
 
 -- the words of a record with places moved by t
 abbrev pub moved-record : (ℕ → ℕ) → Record → List ℕ
@@ -53,15 +53,15 @@ moved-record t r = record-words (renumbered t r)
 
 -- of n darts of m and k darts of c, the records of the first i and the first j, each with its links as they are afterwards
 abbrev pub rows : List ℕ → ℕ → List ℕ → ℕ → ℕ → ℕ → List (List ℕ)
-rows m n c k i j = weave (column m 0) (column c 0) (moved-words (up (column m 0) (column c 0) k) m) (moved-words (up (column c 0) (column m 0) n) c) i j
+rows m n c k i j = interleave (column m 0) (column c 0) (moved-words (up (column m 0) (column c 0) k) m) (moved-words (up (column c 0) (column m 0) n) c) i j
 
 -- THE MEMORY AFTERWARDS: m with n darts, and the k darts of c among them
-unfoldable pub woven-at : List ℕ → ℕ → List ℕ → ℕ → List ℕ
-woven-at m n c k = (getD m 0 0 ∷ getD m 1 0 ∷ (n + k) ∷ 0 ∷ 0 ∷ 0 ∷ 0 ∷ 0 ∷ [])
+unfoldable pub interleaved-at : List ℕ → ℕ → List ℕ → ℕ → List ℕ
+interleaved-at m n c k = (getD m 0 0 ∷ getD m 1 0 ∷ (n + k) ∷ 0 ∷ 0 ∷ 0 ∷ 0 ∷ 0 ∷ [])
     ++ (concat (rows m n c k n k) ++ drop (8 + (n + k) * 8) m)
 
 -- what it asks: links that are places, serials that ascend and differ, and room for all
-pub record Weaves (m c : List ℕ) (n k : ℕ) : Type 0 where
+pub record Interleaves (m c : List ℕ) (n k : ℕ) : Type 0 where
   pub block : Bounded m n
   pub draft : Bounded c k
   pub keys : Between (column m 0) n (column c 0) k

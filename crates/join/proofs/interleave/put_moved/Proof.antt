@@ -1,10 +1,10 @@
--- `join::weave::put_moved` meets its contract: the record with its places moved is stored. Assumes nothing.
+-- `join::interleave::put_moved` meets its contract: the record with its places moved is stored. Assumes nothing.
 use mathlib.Core.Path.{_∙_, ap}
 use Rattle.memory.specs.Record.{put, record-words}
 use Rattle.memory.specs.declared.record.Record.{Record}
 use borrow.Author.Needs.{needs}
-use Rattle.join.proofs.weave.put_moved.Statement.{statement}
-use Rattle.join.proofs.weave.put_moved.Tie as tie
+use Rattle.join.proofs.interleave.put_moved.Statement.{statement}
+use Rattle.join.proofs.interleave.put_moved.Tie as tie
 
 renumbered-requires : tie.Need-renumbered-requires
 renumbered-requires c κs = search needs

@@ -1,4 +1,4 @@
--- Records woven from the back, renumbered: which comes last, where each goes, the loop that puts them there, and the whole memory.
+-- Records interleaved from the back, renumbered: which comes last, where each goes, the loop that puts them there, and the whole memory.
 -- Assumes nothing.
 use mathlib.Core.Path.{_≡_, refl, sym, _∙_, ap}
 use mathlib.Core.Bool.{Bool, true, false, false≢true}
@@ -25,7 +25,7 @@ use Rattle.place.specs.Renumber.{LinksBelow}
 use Rattle.release.specs.LetGo.{moved-words}
 use Rattle.release.specs.Asks.{Tabled, Bounded}
 use Rattle.release.proofs.Removing.{length-moved, same-words}
-use Rattle.join.specs.Weave.{below, up, Between, last-old, behind, weave, moved-record, rows, woven-at, Weaves}
+use Rattle.join.specs.Interleave.{below, up, Between, last-old, behind, interleave, moved-record, rows, interleaved-at, Interleaves}
 
 -- COUNTS
 pub below-is : (f : ℕ → ℕ) (k v j : ℕ) → j ≤ k → ((y : ℕ) → y < j → f y < v) → ((y : ℕ) → j ≤ y → y < k → v ≤ f y) → below f k v ≡ j
@@ -152,17 +152,17 @@ pub placing-end : {s : ℕ → ℕ} {n : ℕ} {f : ℕ → ℕ} {k : ℕ} {old n
     → Tabled (up s f k) n old × Tabled (up f s n) k new
 placing-end v h = (λ x l. v .olds x (omega arith) l, λ y l. v .news y (omega arith) l)
 
--- ONE RECORD MORE in a weave
+-- ONE RECORD MORE in a interleave
 module _ {A : Type 0} (s f : ℕ → ℕ) (g h : ℕ → A) where
-  pub weave-old : (p j : ℕ) → ((y : ℕ) → y < j → f y < s p) → weave s f g h (suc p) j ≡ weave s f g h p j ++ g p ∷ []
-  unfolding weave behind
-  weave-old p zero a = sym (tab-more g p)
-  weave-old p (suc q) a = rw (lt-ltb (f q) (s p) (a q (omega arith))) refl
+  pub interleave-old : (p j : ℕ) → ((y : ℕ) → y < j → f y < s p) → interleave s f g h (suc p) j ≡ interleave s f g h p j ++ g p ∷ []
+  unfolding interleave behind
+  interleave-old p zero a = sym (tab-more g p)
+  interleave-old p (suc q) a = rw (lt-ltb (f q) (s p) (a q (omega arith))) refl
 
-  pub weave-new : (i q : ℕ) → ((x : ℕ) → x < i → s x < f q) → weave s f g h i (suc q) ≡ weave s f g h i q ++ h q ∷ []
-  unfolding weave behind
-  weave-new zero q a = refl
-  weave-new (suc p) q a = let l = a p (omega arith) in rw (le-ltb (f q) (s p) (omega arith)) refl
+  pub interleave-new : (i q : ℕ) → ((x : ℕ) → x < i → s x < f q) → interleave s f g h i (suc q) ≡ interleave s f g h i q ++ h q ∷ []
+  unfolding interleave behind
+  interleave-new zero q a = refl
+  interleave-new (suc p) q a = let l = a p (omega arith) in rw (le-ltb (f q) (s p) (omega arith)) refl
 
 -- A RECORD STORED at place t
 module _ (x r : List ℕ) (t : ℕ) (fits : 16 + t * 8 ≤ length x) where
@@ -172,16 +172,16 @@ module _ (x r : List ℕ) (t : ℕ) (fits : 16 + t * 8 ≤ length x) where
   take-put : (i : ℕ) → i ≤ t → take (8 + i * 8) (put x t r) ≡ take (8 + i * 8) x
   take-put i l = take-append-le (8 + i * 8) (take (8 + t * 8) x) _ (simp length-take (omega arith)) ∙ take-take (8 + i * 8) (8 + t * 8) x (omega arith)
 
--- THE LOOP: i and j records are left to weave; what they make, and what stands behind them in x, is the whole
-pub record Weaving (m c : List ℕ) (n k : ℕ) (x : List ℕ) (i j : ℕ) : Type 0 where
+-- THE LOOP: i and j records are left to interleave; what they make, and what stands behind them in x, is the whole
+pub record Interleaving (m c : List ℕ) (n k : ℕ) (x : List ℕ) (i j : ℕ) : Type 0 where
   pub i-le : i ≤ n
   pub j-le : j ≤ k
   pub size : length x ≡ length m
   pub front : take (8 + i * 8) x ≡ take (8 + i * 8) m
   pub done : concat (rows m n c k i j) ++ drop (8 + (i + j) * 8) x ≡ concat (rows m n c k n k) ++ drop (8 + (n + k) * 8) m
 
-pub weaving-start : (m c : List ℕ) (n k : ℕ) → Weaving m c n k m n k
-weaving-start m c n k = record { i-le = omega arith; j-le = omega arith; size = refl; front = refl; done = refl }
+pub interleaving-start : (m c : List ℕ) (n k : ℕ) → Interleaving m c n k m n k
+interleaving-start m c n k = record { i-le = omega arith; j-le = omega arith; size = refl; front = refl; done = refl }
 
 -- a word of a record that is left
 pub front-column : (x m : List ℕ) (i p f : ℕ) → take (8 + i * 8) x ≡ take (8 + i * 8) m → p < i → f < 8 → column x f p ≡ column m f p
@@ -211,7 +211,7 @@ record-fits m n p size b l h e =
     rw e (record { next-lt = omega (arith, b .next-lt p l, h); opposite-lt = omega (arith, b .opposite-lt p l, h); sewn-lt = λ q. omega (arith, b .sewn-lt p l q, h) })
 
 -- one turn
-module _ {m c : List ℕ} {n k : ℕ} (a : Weaves m c n k) {x : List ℕ} {i j : ℕ} (w : Weaving m c n k x i j) (more : 0 < i + j) {b : Bool} (told : b ≡ last-old (column x 0) (column c 0) i j) where
+module _ {m c : List ℕ} {n k : ℕ} (a : Interleaves m c n k) {x : List ℕ} {i j : ℕ} (w : Interleaving m c n k x i j) (more : 0 < i + j) {b : Bool} (told : b ≡ last-old (column x 0) (column c 0) i j) where
   is-last : b ≡ last-old (column m 0) (column c 0) i j
   is-last = told ∙ front-last x m (column c 0) i j (w .front)
 
@@ -221,7 +221,7 @@ module _ {m c : List ℕ} {n k : ℕ} (a : Weaves m c n k) {x : List ℕ} {i j :
   pub new-left : b ≡ false → 0 < j
   new-left e = last-no (a .keys) (w .i-le) (w .j-le) (sym is-last ∙ e) .0
 
-  step : (r : List ℕ) (i′ j′ : ℕ) → rows m n c k i j ≡ rows m n c k i′ j′ ++ r ∷ [] → length r ≡ 8 → i + j ≡ i′ + j′ + 1 → i′ ≤ i → j′ ≤ j → Weaving m c n k (put x (i + j - 1) r) i′ j′
+  step : (r : List ℕ) (i′ j′ : ℕ) → rows m n c k i j ≡ rows m n c k i′ j′ ++ r ∷ [] → length r ≡ 8 → i + j ≡ i′ + j′ + 1 → i′ ≤ i → j′ ≤ j → Interleaving m c n k (put x (i + j - 1) r) i′ j′
   step r i′ j′ e l f il jl = record {
     i-le = omega (arith, w .i-le);
     j-le = omega (arith, w .j-le);
@@ -260,7 +260,7 @@ module _ {m c : List ℕ} {n k : ℕ} (a : Weaves m c n k) {x : List ℕ} {i j :
           sewn-lt = λ q. omega (arith, at 4 (omega arith), a .block .sewn-lt (i - 1) old-lt (sym (at 3 (omega arith)) ∙ q), h);
         })
 
-    pub old-turn : (old : List ℕ) → Tabled (up (column m 0) (column c 0) k) n old → {y : List ℕ} → y ≡ put x (i + j - 1) (moved-record (λ p. getD old p 0) r) → Weaving m c n k y (i - 1) j
+    pub old-turn : (old : List ℕ) → Tabled (up (column m 0) (column c 0) k) n old → {y : List ℕ} → y ≡ put x (i + j - 1) (moved-record (λ p. getD old p 0) r) → Interleaving m c n k y (i - 1) j
     old-turn old t q =
         let last = last-yes (a .keys) (w .i-le) (w .j-le) more (sym is-last ∙ e) in
         let u : ℕ → ℕ = up (column m 0) (column c 0) k in
@@ -271,7 +271,7 @@ module _ {m c : List ℕ} {n k : ℕ} (a : Weaves m c n k) {x : List ℕ} {i j :
         in
         let z : i ≡ suc (i - 1) = omega (arith, last .0) in
         rw (q ∙ ap (put x (i + j - 1)) is) (step (moved-words u m (i - 1)) (i - 1) j
-        (ap (λ (y : ℕ). rows m n c k y j) z ∙ weave-old (column m 0) (column c 0) (moved-words u m) (moved-words (up (column c 0) (column m 0) n) c) (i - 1) j (last .1))
+        (ap (λ (y : ℕ). rows m n c k y j) z ∙ interleave-old (column m 0) (column c 0) (moved-words u m) (moved-words (up (column c 0) (column m 0) n) c) (i - 1) j (last .1))
         (length-moved u m (i - 1)) (omega (arith, last .0)) (omega arith) (omega arith))
 
   module _ (e : b ≡ false) {r : Record} (read : r ≡ record-in c (j - 1)) where
@@ -281,19 +281,19 @@ module _ {m c : List ℕ} {n k : ℕ} (a : Weaves m c n k) {x : List ℕ} {i j :
     pub new-fits : (size : ℕ) → k ≤ size → LinksBelow size r
     new-fits size h = record-fits c k (j - 1) size (a .draft) new-lt h read
 
-    pub new-turn : (new : List ℕ) → Tabled (up (column c 0) (column m 0) n) k new → {y : List ℕ} → y ≡ put x (i + j - 1) (moved-record (λ p. getD new p 0) r) → Weaving m c n k y i (j - 1)
+    pub new-turn : (new : List ℕ) → Tabled (up (column c 0) (column m 0) n) k new → {y : List ℕ} → y ≡ put x (i + j - 1) (moved-record (λ p. getD new p 0) r) → Interleaving m c n k y i (j - 1)
     new-turn new t q =
         let last = last-no (a .keys) (w .i-le) (w .j-le) (sym is-last ∙ e) in
         let u : ℕ → ℕ = up (column c 0) (column m 0) n in
         let is : moved-record (λ p. getD new p 0) r ≡ moved-words u c (j - 1) = moved-read (λ p. getD new p 0) c (j - 1) read ∙ by-table c new u k (j - 1) (a .draft) t new-lt in
         let z : j ≡ suc (j - 1) = omega (arith, last .0) in
         rw (q ∙ ap (put x (i + j - 1)) is) (step (moved-words u c (j - 1)) i (j - 1)
-        (ap (λ (y : ℕ). rows m n c k i y) z ∙ weave-new (column m 0) (column c 0) (moved-words (up (column m 0) (column c 0) k) m) (moved-words u c) i (j - 1) (last .1))
+        (ap (λ (y : ℕ). rows m n c k i y) z ∙ interleave-new (column m 0) (column c 0) (moved-words (up (column m 0) (column c 0) k) m) (moved-words u c) i (j - 1) (last .1))
         (length-moved u c (j - 1)) (omega (arith, last .0)) (omega arith) (omega arith))
 
-pub weaving-end : {m c : List ℕ} {n k : ℕ} {x : List ℕ} {i j : ℕ} → Weaving m c n k x i j → i + j ≤ 0 → x ≡ take 8 m ++ (concat (rows m n c k n k) ++ drop (8 + (n + k) * 8) m)
-unfolding concat weave
-weaving-end {m} {c} {n} {k} {x} {i} {j} w h =
+pub interleaving-end : {m c : List ℕ} {n k : ℕ} {x : List ℕ} {i j : ℕ} → Interleaving m c n k x i j → i + j ≤ 0 → x ≡ take 8 m ++ (concat (rows m n c k n k) ++ drop (8 + (n + k) * 8) m)
+unfolding concat interleave
+interleaving-end {m} {c} {n} {k} {x} {i} {j} w h =
     let i0 : i ≡ 0 = omega arith in
     let j0 : j ≡ 0 = omega arith in
     let d : drop 8 x ≡ concat (rows m n c k n k) ++ drop (8 + (n + k) * 8) m = rw (i0, j0) at (w .done) in
@@ -301,8 +301,8 @@ weaving-end {m} {c} {n} {k} {x} {i} {j} w h =
     sym (take-append-drop 8 x) ∙ ap (λ (l : List ℕ). l ++ drop 8 x) a ∙ ap (λ (l : List ℕ). take 8 m ++ l) d
 
 -- THE WHOLE MEMORY AFTERWARDS
-pub all-woven : (m c : List ℕ) (n k : ℕ) {y z : List ℕ} → 8 ≤ length m → y ≡ take 8 m ++ (concat (rows m n c k n k) ++ drop (8 + (n + k) * 8) m)
-    → z ≡ (getD m 0 0 ∷ getD m 1 0 ∷ (n + k) ∷ 0 ∷ 0 ∷ 0 ∷ 0 ∷ 0 ∷ []) ++ drop 8 y → z ≡ woven-at m n c k
-unfolding woven-at
-all-woven m c n k size e f = f ∙ ap (λ (l : List ℕ). (getD m 0 0 ∷ getD m 1 0 ∷ (n + k) ∷ 0 ∷ 0 ∷ 0 ∷ 0 ∷ 0 ∷ []) ++ l)
+pub all-interleaved : (m c : List ℕ) (n k : ℕ) {y z : List ℕ} → 8 ≤ length m → y ≡ take 8 m ++ (concat (rows m n c k n k) ++ drop (8 + (n + k) * 8) m)
+    → z ≡ (getD m 0 0 ∷ getD m 1 0 ∷ (n + k) ∷ 0 ∷ 0 ∷ 0 ∷ 0 ∷ 0 ∷ []) ++ drop 8 y → z ≡ interleaved-at m n c k
+unfolding interleaved-at
+all-interleaved m c n k size e f = f ∙ ap (λ (l : List ℕ). (getD m 0 0 ∷ getD m 1 0 ∷ (n + k) ∷ 0 ∷ 0 ∷ 0 ∷ 0 ∷ 0 ∷ []) ++ l)
     (ap (drop 8) e ∙ drop-at (take 8 m) (concat (rows m n c k n k) ++ drop (8 + (n + k) * 8) m) 8 (length-take-le 8 m (omega arith)))

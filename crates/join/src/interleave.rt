@@ -8,7 +8,7 @@ ghost use Rattle.model.specs.Image.{words-for, column};
 ghost use Rattle.memory.specs.Record.{put};
 ghost use Rattle.place.specs.Renumber.{LinksBelow};
 ghost use Rattle.release.specs.Asks.{Tabled};
-ghost use Rattle.join.specs.Weave.{up, last-old, moved-record, rows, woven-at, Weaves};
+ghost use Rattle.join.specs.Interleave.{up, last-old, moved-record, rows, interleaved-at, Interleaves};
 use memory::header::Header;
 use memory::record;
 use memory::record::Place;
@@ -32,7 +32,7 @@ fn last_is_old(block: &[u64], draft: &[u64], i: usize, j: usize) -> bool
 
 // Where the darts of both go.
 fn tables(block: &[u64], n: usize, draft: &[u64], k: usize, old: &mut [usize], new: &mut [usize])
-    requires { ⌜ Weaves (now block) (now draft) n k × (n ≤ length (now old)) × (k ≤ length (now new)) ⌝ }
+    requires { ⌜ Interleaves (now block) (now draft) n k × (n ≤ length (now old)) × (k ≤ length (now new)) ⌝ }
     ensures { λ _. ⌜ Tabled (up (column (now (block .entry)) 0) (column (now (draft .entry)) 0) k) n (now (old .exit)) × Tabled (up (column (now (draft .entry)) 0) (column (now (block .entry)) 0) n) k (now (new .exit)) ⌝ }
 {
     // The darts from place i of the block and place j of the draft on have their new places.
@@ -62,7 +62,7 @@ fn put_moved(block: &mut [u64], at: Place, r: Record, table: &[usize])
 
 // Puts the draft's k records among the block's n, each with its links by its table.
 fn merge(block: &mut [u64], n: usize, draft: &[u64], k: usize, old: &[usize], new: &[usize])
-    requires { ⌜ Weaves (now block) (now draft) n k × (n ≤ length (now old)) × (k ≤ length (now new)) ⌝ }
+    requires { ⌜ Interleaves (now block) (now draft) n k × (n ≤ length (now old)) × (k ≤ length (now new)) ⌝ }
     requires { ⌜ Tabled (up (column (now block) 0) (column (now draft) 0) k) n (now old) × Tabled (up (column (now draft) 0) (column (now block) 0) n) k (now new) ⌝ }
     ensures { λ _. ⌜ now (block .exit) ≡ take 8 (now (block .entry)) ++ (concat (rows (now (block .entry)) n (now (draft .entry)) k n k) ++ drop (8 + (n + k) * 8) (now (block .entry))) ⌝ }
 {
@@ -87,8 +87,8 @@ fn merge(block: &mut [u64], n: usize, draft: &[u64], k: usize, old: &[usize], ne
 
 // Puts the darts of the draft among those of the block. `old` and `new` get the new place of each dart of the block and of the draft.
 pub fn insert(block: &mut [u64], draft: &[u64], old: &mut [usize], new: &mut [usize])
-    requires { ⌜ Weaves (now block) (now draft) (getD (now block) 2 0) (getD (now draft) 2 0) × (getD (now block) 2 0 ≤ length (now old)) × (getD (now draft) 2 0 ≤ length (now new)) ⌝ }
-    ensures woven { λ _. ⌜ now (block .exit) ≡ woven-at (now (block .entry)) (getD (now (block .entry)) 2 0) (now (draft .entry)) (getD (now (draft .entry)) 2 0) ⌝ }
+    requires { ⌜ Interleaves (now block) (now draft) (getD (now block) 2 0) (getD (now draft) 2 0) × (getD (now block) 2 0 ≤ length (now old)) × (getD (now draft) 2 0 ≤ length (now new)) ⌝ }
+    ensures interleaved { λ _. ⌜ now (block .exit) ≡ interleaved-at (now (block .entry)) (getD (now (block .entry)) 2 0) (now (draft .entry)) (getD (now (draft .entry)) 2 0) ⌝ }
     ensures olds { λ _. ⌜ Tabled (up (column (now (block .entry)) 0) (column (now (draft .entry)) 0) (getD (now (draft .entry)) 2 0)) (getD (now (block .entry)) 2 0) (now (old .exit)) ⌝ }
     ensures news { λ _. ⌜ Tabled (up (column (now (draft .entry)) 0) (column (now (block .entry)) 0) (getD (now (block .entry)) 2 0)) (getD (now (draft .entry)) 2 0) (now (new .exit)) ⌝ }
 {

@@ -25,9 +25,9 @@ use Rattle.cells.specs.Places.{Linked}
 use Rattle.cells.proofs.Sited.{sited}
 use Rattle.release.specs.LetGo.{moved-words}
 use Rattle.release.proofs.ReleasedImage.{link-moved}
-use Rattle.join.specs.Weave.{up, Between, weave, rows, woven-at}
-use Rattle.join.specs.Woven.{Drafted}
-use Rattle.join.proofs.Positions.{Rows, woven-rows, keys, woven-keys, index-old, index-new, map-weave, keep-weave}
+use Rattle.join.specs.Interleave.{up, Between, interleave, rows, interleaved-at}
+use Rattle.join.specs.Interleaved.{Drafted}
+use Rattle.join.proofs.Positions.{Rows, interleaved-rows, keys, interleaved-keys, index-old, index-new, map-interleave, keep-interleave}
 use Rattle.join.proofs.Inserted.{inserted, all-there}
 
 -- the words of a dart where the serial at place x has index t x
@@ -50,7 +50,7 @@ drafted m c ok l up-c free differ fits holds =
     let b = site .linked in
     let range = image-passed m ok .range in
     record {
-      weaves = record {
+      interleaves = record {
         block = record { size = b .size; few = b .few; next-lt = b .next-within; opposite-lt = b .opposite-within; sewn-lt = λ p h e. b .sewn-within p h (omega arith) };
         draft = record { size = l .size; few = l .few; next-lt = l .next-within; opposite-lt = l .opposite-within; sewn-lt = λ p h e. l .sewn-within p h (omega arith) };
         keys = record { s-up = site .ascends; f-up = up-c; differ = differ };
@@ -77,22 +77,22 @@ module _ {m c : List ℕ} {n k : ℕ} (a : Drafted m c n k) where
 
   -- THE DARTS OF BOTH, by ascending serial
   abbrev pub all-darts : List Dart
-  all-darts = weave s f (dart-in m) (dart-in c) n k
+  all-darts = interleave s f (dart-in m) (dart-in c) n k
 
   abbrev w : Between s n f k
-  w = a .weaves .keys
+  w = a .interleaves .keys
 
   pub darts-at : Rows s f (dart-in m) (dart-in c) no-dart n k
-  darts-at = woven-rows w (dart-in m) (dart-in c) no-dart
+  darts-at = interleaved-rows w (dart-in m) (dart-in c) no-dart
 
   pub serials-are : serials all-darts ≡ keys s f n k
-  serials-are = map-weave w (λ d. d .serial) (dart-in m) (dart-in c) s f (λ p h. refl) (λ q h. refl)
+  serials-are = map-interleave w (λ d. d .serial) (dart-in m) (dart-in c) s f (λ p h. refl) (λ q h. refl)
 
   pub dart-serial : (t : ℕ) → getD all-darts t no-dart .serial ≡ getD (keys s f n k) t 0
   dart-serial t = sym (getD-serial all-darts t) ∙ ap (λ (l : List ℕ). getD l t 0) serials-are
 
   pub darts-ascend : Ascending (n + k) (λ t. getD all-darts t no-dart .serial)
-  darts-ascend x y h b = omega (arith, dart-serial x, dart-serial y, woven-keys w x y h b)
+  darts-ascend x y h b = omega (arith, dart-serial x, dart-serial y, interleaved-keys w x y h b)
 
   -- as a table
   pub darts-tab : (g : ℕ → Dart) → ((t : ℕ) → t < n + k → g t ≡ getD all-darts t no-dart) → tab g (n + k) ≡ all-darts
@@ -106,22 +106,22 @@ module _ {m c : List ℕ} {n k : ℕ} (a : Drafted m c n k) where
 
   -- their words
   pub old-words : (p : ℕ) → p < n → dart-words (serials all-darts) (dart-in m p) ≡ moved-words (up s f k) m p
-  old-words p h = let b = a .weaves .block in
+  old-words p h = let b = a .interleaves .block in
       words-moved m (serials all-darts) (up s f k) p (a .kinds p h) (old-index (column m 1 p) (b .next-lt p h))
       (old-index (column m 2 p) (b .opposite-lt p h)) (λ e. old-index (column m 4 p) (b .sewn-lt p h e))
 
   pub new-words : (q : ℕ) → q < k → dart-words (serials all-darts) (dart-in c q) ≡ moved-words (up f s n) c q
-  new-words q h = let b = a .weaves .draft in
+  new-words q h = let b = a .interleaves .draft in
       words-moved c (serials all-darts) (up f s n) q (kind-free (a .free q h .0) (a .free q h .1))
       (new-index (column c 1 q) (b .next-lt q h)) (new-index (column c 2 q) (b .opposite-lt q h))
       (λ e. new-index (column c 4 q) (b .sewn-lt q h e))
 
   all-words : map (dart-words (serials all-darts)) all-darts ≡ rows m n c k n k
-  all-words = map-weave w (dart-words (serials all-darts)) (dart-in m) (dart-in c) (moved-words (up s f k) m) (moved-words (up f s n) c) old-words new-words
+  all-words = map-interleave w (dart-words (serials all-darts)) (dart-in m) (dart-in c) (moved-words (up s f k) m) (moved-words (up f s n) c) old-words new-words
 
   rest-zero : drop (8 + (n + k) * 8) m ≡ replicate (length m - words-for (n + k)) 0
   rest-zero =
-      let size : length (drop (8 + (n + k) * 8) m) ≡ length m - words-for (n + k) = omega (arith, length-drop (8 + (n + k) * 8) m, a .weaves .holds) in
+      let size : length (drop (8 + (n + k) * 8) m) ≡ length m - words-for (n + k) = omega (arith, length-drop (8 + (n + k) * 8) m, a .interleaves .holds) in
       ext-getD 0 (drop (8 + (n + k) * 8) m) (replicate (length m - words-for (n + k)) 0) (size ∙ sym (length-replicate {A = ℕ} (length m - words-for (n + k)) 0))
       (λ i u. getD-drop (8 + (n + k) * 8) m i 0 ∙ a .rest (8 + (n + k) * 8 + i) (omega arith) ∙ sym (getD-zeros (length m - words-for (n + k)) i))
 
@@ -129,8 +129,8 @@ module _ {m c : List ℕ} {n k : ℕ} (a : Drafted m c n k) where
   abbrev pub both : Block
   both = record { number = getD m 0 0; counter = getD m 1 0; darts = all-darts }
 
-  pub image-both : image (length m) both ≡ woven-at m n c k
-  unfolding image woven-at
+  pub image-both : image (length m) both ≡ interleaved-at m n c k
+  unfolding image interleaved-at
   image-both = λ i. parts (getD m 0 0) (getD m 1 0) (darts-at .count i) (concat (all-words i)) ((ap (λ (x : ℕ). replicate (length m - words-for x) 0) (darts-at .count) ∙ sym rest-zero) i)
 
   -- IN WHATEVER ORDER THE NEW ONES COME
@@ -166,12 +166,12 @@ module _ {m c : List ℕ} {n k : ℕ} (a : Drafted m c n k) where
     darts-both =
         ap (insert-all (map (dart-in c) ps))
         (sym
-        (keep-weave w (λ e. not (mem (e .serial) (serials (map (dart-in c) ps)) || false)) (dart-in m) (dart-in c)
+        (keep-interleave w (λ e. not (mem (e .serial) (serials (map (dart-in c) ps)) || false)) (dart-in m) (dart-in c)
         (λ p h. rw (old-out p h)) (λ q h. rw (new-in q h))))
         ∙ inserted (map (dart-in c) ps) all-darts order (each-map (λ d. find (λ e. e .serial) (d .serial) all-darts ≡ some d) (dart-in c) ps (λ q i. new-found q (low q i))) new-once
 
 -- THE LAW: whatever order the new darts come in, the block is the same
-pub woven-image : {m c : List ℕ} → Drafted m c (count-in m) (count-in c) → (ps : List ℕ) → distinct ps ≡ true → length ps ≡ count-in c → ((q : ℕ) → In q ps → q < count-in c)
-    → image (length m) (record { number = getD m 0 0; counter = getD m 1 0; darts = insert-all (map (dart-in c) ps) (block-in m .darts) }) ≡ woven-at m (count-in m) c (count-in c)
-woven-image {m} {c} a ps once size low =
+pub interleaved-image : {m c : List ℕ} → Drafted m c (count-in m) (count-in c) → (ps : List ℕ) → distinct ps ≡ true → length ps ≡ count-in c → ((q : ℕ) → In q ps → q < count-in c)
+    → image (length m) (record { number = getD m 0 0; counter = getD m 1 0; darts = insert-all (map (dart-in c) ps) (block-in m .darts) }) ≡ interleaved-at m (count-in m) c (count-in c)
+interleaved-image {m} {c} a ps once size low =
     ap (λ (l : List Dart). image (length m) (record { number = getD m 0 0; counter = getD m 1 0; darts = l })) (darts-both a ps once low (all-there (count-in c) ps once size low)) ∙ image-both a

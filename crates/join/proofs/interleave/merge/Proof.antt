@@ -1,15 +1,15 @@
--- `join::weave::merge` meets its contract. The loop's invariant: what is left to weave, and what stands behind it, is the whole.
+-- `join::interleave::merge` meets its contract. The loop's invariant: what is left to interleave, and what stands behind it, is the whole.
 -- The measure is what is left of both. Assumes nothing.
 use Prim.Native.Nat.{_+_}
-use Rattle.join.proofs.Weaving.{Weaving, weaving-start, weaving-end, old-left, new-left, old-fits, new-fits, old-turn, new-turn}
+use Rattle.join.proofs.Interleaving.{Interleaving, interleaving-start, interleaving-end, old-left, new-left, old-fits, new-fits, old-turn, new-turn}
 use native.Mathlib.Omega.{arith}
 use borrow.Author.Needs.{needs}
-use Rattle.join.proofs.weave.merge.Statement.{statement}
-use Rattle.join.proofs.weave.merge.Tie as tie
+use Rattle.join.proofs.interleave.merge.Statement.{statement}
+use Rattle.join.proofs.interleave.merge.Tie as tie
 
 abbrev Inv-loop : tie.InvT-loop
 Inv-loop block₀ n draft k old new i₀ j₀ block i j =
-    Weaving block₀ draft n k block i j
+    Interleaving block₀ draft n k block i j
 
 abbrev μ-loop : tie.MeasureT-loop
 μ-loop block₀ n draft k old new i₀ j₀ block i j =
@@ -17,7 +17,7 @@ abbrev μ-loop : tie.MeasureT-loop
 
 loop-holds : tie.Need-loop-holds Inv-loop μ-loop
 loop-holds c =
-    weaving-start _ _ _ _
+    interleaving-start _ _ _ _
 
 add-loop : tie.Need-add-loop Inv-loop μ-loop
 add-loop c = omega arith
@@ -143,7 +143,7 @@ same-length c =
 returns : tie.Need-returns Inv-loop μ-loop
 returns c =
     let loop-inv = (let p : tie.At-loop Inv-loop μ-loop = search in p .loop .inv) in
-    weaving-end loop-inv (c .loop-test .left)
+    interleaving-end loop-inv (c .loop-test .left)
 
 pub merge-spec : {M : Type 1} → statement M
 merge-spec =
