@@ -28,13 +28,13 @@ pub fn read_pairs(
     let mut i = 0;
     let mut p = at;
     while i < count {
-        let Read::Value(first-number, past) = entry::read_first(s, p, part) else {
+        let Read::Value(first, past) = entry::read_first(s, p, part) else {
             return;
         };
         let Read::Value(index, next) = reader::read_group(s, past) else {
             return;
         };
-        firsts[i] = first-number;
+        firsts[i] = first;
         indices[i] = index;
         p = next;
         i += 1;

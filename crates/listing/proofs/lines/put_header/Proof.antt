@@ -26,7 +26,7 @@ put-decimal-requires c κs =
     let start : tie.Start = search in
     let put-text-ensures = (let p : tie.After-put-text = search in p .put-text .ensures) in
     let p = stored-past 6 put-text-ensures (omega arith) in
-    (number-small (start .args .block .now) (start .pre .0), omega (arith, block-short (start .args .block .now) (start .pre .0), start .pre .1))
+    (omega (arith, number-small (start .args .block .now) (start .pre .0)), omega (arith, block-short (start .args .block .now) (start .pre .0), start .pre .1))
 
 slice-aggregate-put-text-2 : tie.Need-slice-aggregate-put-text-2
 slice-aggregate-put-text-2 c = search needs
