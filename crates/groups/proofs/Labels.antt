@@ -15,7 +15,6 @@ use Rattle.laws.proofs.Labels.{in-code}
 use Rattle.theory.proofs.LayoutLaws.{same-value, then-some, when-some}
 use Rattle.groups.specs.Slices.{read-at, label-code}
 use Rattle.groups.specs.declared.Read.the-variants.{Value, Bad}
-use Rattle.theory.proofs.GroupLaws.{group-most}
 use Rattle.groups.proofs.Ends.{Reads, same-rest, value-at, at-value, label-code-ends}
 
 -- PUT
@@ -26,10 +25,6 @@ label-put a = refl
 pub label-length : (a : ℕ)
     → length (label .put (label-in a)) ≡ length (group .put (a / 4096 / 2 ^ 32)) + (length (group .put (a / 4096 % 2 ^ 32)) + length (group .put (a % 4096)))
 label-length a = rw (label-put a, length-append (group .put (a / 4096 / 2 ^ 32)), length-append (group .put (a / 4096 % 2 ^ 32)))
-
--- fifteen bytes at the most, of any code that a word holds
-pub label-most : (a : ℕ) → a < 2 ^ 64 → length (label .put (label-in a)) ≤ 15
-label-most a h = omega (arith, label-length a, group-most (a / 4096 / 2 ^ 32) (omega arith), group-most (a / 4096 % 2 ^ 32) (omega arith), group-most (a % 4096) (omega arith))
 
 -- READ
 pub group-bound : (bs : List ℕ) (v : ℕ) (rest : List ℕ) → group .get bs ≡ some (v, rest) → v < 2 ^ 32

@@ -16,7 +16,7 @@ use Rattle.commands.proofs.NameLaws.{one-file, names-tell}
 use Rattle.saving.specs.declared.plan.Step.{Step}
 use Rattle.saving.specs.declared.plan.Step.the-variants as step
 use Rattle.saving.specs.Plan.{plan-steps}
-use Rattle.saving.specs.Folder.{Folder, put-file, moved, does, all-of, folder-at, SomeFile, no-more, not-done, done, in-part, Cut, at-end, within, past, touches}
+use Rattle.saving.specs.Folder.{Folder, put-file, moved, does, all-of, folder-at, SomeDone, no-more, not-done, done, in-part, Cut, at-end, within, past, touches}
 
 -- ONE NAME
 pub put-at : (f g : File) (x : Option (List ℕ)) (d : Folder) → is-basins f ≡ true → is-basins g ≡ true → put-file f x d g ≡ cond (one-file f g) x (d g)
@@ -43,7 +43,7 @@ module _ (c : File → List ℕ) where
     pub whole : (d : Folder) → P d → P (does c s d)
     pub part : (f : File) → s ≡ step.Write f → (x : Option (List ℕ)) (d : Folder) → P d → P (put-file f x d)
 
-  pub some-keeps : (P : Folder → Type 0) {ss : List Step} {d e : Folder} → SomeFile c ss d e → Each (Steady P) ss → P d → P e
+  pub some-keeps : (P : Folder → Type 0) {ss : List Step} {d e : Folder} → SomeDone c ss d e → Each (Steady P) ss → P d → P e
   some-keeps P no-more h p = p
   some-keeps P (not-done t) h p = some-keeps P t (h .1) p
   some-keeps P (done {d = d} t) h p = some-keeps P t (h .1) (h .0 .whole d p)
@@ -90,11 +90,11 @@ module _ (c : File → List ℕ) where
       ∙ at-untouched ss d g a n (λ t l k. h t l (omega arith))
 
   -- A PLAN THAT NOTHING CUTS is one that is cut after its last step so far
-  some-none : (ss : List Step) (d : Folder) → SomeFile c ss d d
+  some-none : (ss : List Step) (d : Folder) → SomeDone c ss d d
   some-none [] d = no-more
   some-none (s ∷ ss) d = not-done (some-none ss d)
 
-  some-at : (ss : List Step) (d : Folder) (n : ℕ) → SomeFile c ss d (folder-at c ss d n)
+  some-at : (ss : List Step) (d : Folder) (n : ℕ) → SomeDone c ss d (folder-at c ss d n)
   some-at ss d zero = some-none ss d
   some-at [] d (suc n) = no-more
   some-at (s ∷ ss) d (suc n) = done (some-at ss (does c s d) n)
@@ -111,16 +111,16 @@ module _ (c : File → List ℕ) where
       go r (inr l) = rw (at-first stage (step.Keep ∷ plan-steps stages) d n l) (within (some-at stage d n))
 
 -- A CUT, taken apart
-pub cut-first : {c : File → List ℕ} {stage : List Step} {stages : List (List Step)} {d e : Folder} → Cut c (stage ∷ stages) d e → (SomeFile c stage d e) ⊎ (Cut c stages (all-of c stage d) e)
+pub cut-first : {c : File → List ℕ} {stage : List Step} {stages : List (List Step)} {d e : Folder} → Cut c (stage ∷ stages) d e → (SomeDone c stage d e) ⊎ (Cut c stages (all-of c stage d) e)
 cut-first (within t) = inl t
 cut-first (past t) = inr t
 
 pub cut-none : {c : File → List ℕ} {d e : Folder} → Cut c [] d e → e ≡ d
 cut-none at-end = refl
 
-pub some-end : {c : File → List ℕ} {d e : Folder} → SomeFile c [] d e → e ≡ d
+pub some-end : {c : File → List ℕ} {d e : Folder} → SomeDone c [] d e → e ≡ d
 some-end no-more = refl
 
-pub some-rename : {c : File → List ℕ} {f g : File} {d e : Folder} → SomeFile c (step.Rename f g ∷ []) d e → (e ≡ d) ⊎ (e ≡ does c (step.Rename f g) d)
+pub some-rename : {c : File → List ℕ} {f g : File} {d e : Folder} → SomeDone c (step.Rename f g ∷ []) d e → (e ≡ d) ⊎ (e ≡ does c (step.Rename f g) d)
 some-rename (not-done t) = inl (some-end t)
 some-rename (done t) = inr (some-end t)

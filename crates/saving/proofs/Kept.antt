@@ -17,7 +17,7 @@ use Rattle.saving.specs.declared.plan.Step.{Step}
 use Rattle.saving.specs.declared.plan.Step.the-variants as step
 use Rattle.saving.specs.Plan.{plan-steps, write-steps, committing, placing, ending, save-stages}
 use Rattle.saving.specs.Commit.{entry-of, commit-of, committed}
-use Rattle.saving.specs.Folder.{Folder, put-file, moved, does, all-of, folder-at, SomeFile, Cut, seen, Alike, saves, renewed, saving, saved, SaveKeeps, Reading, read, ReadsOne}
+use Rattle.saving.specs.Folder.{Folder, put-file, moved, does, all-of, folder-at, SomeDone, Cut, seen, Alike, saves, renewed, saving, saved, SaveKeeps, Reading, read, ReadsOne}
 use Rattle.saving.proofs.Commits.{committed-back, entry-back}
 use Rattle.saving.proofs.Folders.{Steady, some-keeps, all-keeps, all-append, at-first, at-later, at-untouched, cut-at, cut-first, cut-none, some-end, some-rename}
 use Rattle.saving.proofs.Looked.{Right, sees-right, free-right, saved-right}
@@ -53,7 +53,7 @@ module _ (k : ℕ) (c : ℕ → List ℕ) (few : 1 ≤ k) (many : k ≤ 16) (d :
       (steady-write (saves k c) Old file.NewCommit sees-newcommit, tt)
 
   start : Old d
-  start = rw free folder-at (sees-itself d)
+  start = rw free at (sees-itself d)
 
   abbrev written : Folder
   written = all-of (saves k c) (write-steps k) d
@@ -107,8 +107,8 @@ module _ (k : ℕ) (c : ℕ → List ℕ) (few : 1 ≤ k) (many : k ≤ 16) (d :
   named-sees : Placing named
   named-sees = record {
     commit = ap (λ (e : Folder). e file.Commit) named-is ∙ newcommit-commit none (put-file file.Commit (some bytes) written) ∙ commit-commit (some bytes) written;
-    below = λ b h l. let m : b < k = rw of-k folder-at l in rw (lt-ltb b k m, new b h, written-new b h m);
-    above = λ b h l. let m : k ≤ b = rw of-k folder-at l in rw (le-ltb b k m) (own b h ∙ written-sees .above b h (omega arith) ∙ seen-old b h);
+    below = λ b h l. let m : b < k = rw of-k at l in rw (lt-ltb b k m, new b h, written-new b h m);
+    above = λ b h l. let m : k ≤ b = rw of-k at l in rw (le-ltb b k m) (own b h ∙ written-sees .above b h (omega arith) ∙ seen-old b h);
   }
     where
       new : (b : ℕ) → b < 16 → named (file.NewBlock b) ≡ written (file.NewBlock b)
@@ -150,7 +150,7 @@ module _ (k : ℕ) (c : ℕ → List ℕ) (few : 1 ≤ k) (many : k ≤ 16) (d :
   all-ended = all-keeps (saves k c) Placed ending (all-of (saves k c) (placing k) named) ending-steady all-placed
 
   -- WHAT A CUT LEAVES
-  early : (e : Folder) → SomeFile (saves k c) (write-steps k) d e → Old e
+  early : (e : Folder) → SomeDone (saves k c) (write-steps k) d e → Old e
   early e t = some-keeps (saves k c) Old t writing-steady start
 
   late : (e : Folder) → Cut (saves k c) (placing k ∷ ending ∷ []) named e → New e
@@ -162,7 +162,7 @@ module _ (k : ℕ) (c : ℕ → List ℕ) (few : 1 ≤ k) (many : k ≤ 16) (d :
       (cut-first s)))
       (cut-first t)
 
-  middle : (e : Folder) → SomeFile (saves k c) committing written e → Old e ⊎ New e
+  middle : (e : Folder) → SomeDone (saves k c) committing written e → Old e ⊎ New e
   unfolding committing
   middle e t = ⊎-elim (λ q. inl (subst Old (sym q) written-sees)) (λ q. inr (subst New (sym q) (inl named-sees))) (some-rename t)
 
@@ -272,8 +272,8 @@ module _ (k : ℕ) (c : ℕ → List ℕ) (few : 1 ≤ k) (many : k ≤ 16) (d :
   -- what is left looks right
   new-right : ((b : ℕ) → b < k → length (c b) < 2 ^ 64) → Right (some bytes) (renewed k c d)
   new-right f = saved-right (some bytes) (renewed k c d) c
-      (λ b h l. let m : b < k = rw of-k folder-at l in rw (lt-ltb b k m))
-      (λ b h l. let m : b < k = rw of-k folder-at l in entry-back c k b m (f b m))
+      (λ b h l. let m : b < k = rw of-k at l in rw (lt-ltb b k m))
+      (λ b h l. let m : b < k = rw of-k at l in entry-back c k b m (f b m))
 
   pub save-keeps : SaveKeeps k c d
   save-keeps = record {

@@ -59,16 +59,16 @@ folder-at c (s ∷ ss) d (suc n) = folder-at c ss (does c s d) n
 
 -- A CUT, of power or of the program. Of the stage under way the disk has each step or has it not; of a writing it may have any bytes, or
 -- no file
-pub data SomeFile (c : File → List ℕ) : List Step → Folder → Folder → Type 0 where
-  no-more : {d : Folder} → SomeFile c [] d d
-  not-done : {s : Step} {ss : List Step} {d e : Folder} → SomeFile c ss d e → SomeFile c (s ∷ ss) d e
-  done : {s : Step} {ss : List Step} {d e : Folder} → SomeFile c ss (does c s d) e → SomeFile c (s ∷ ss) d e
-  in-part : {f : File} {ss : List Step} {d e : Folder} (x : Option (List ℕ)) → SomeFile c ss (put-file f x d) e → SomeFile c (step.Write f ∷ ss) d e
+pub data SomeDone (c : File → List ℕ) : List Step → Folder → Folder → Type 0 where
+  no-more : {d : Folder} → SomeDone c [] d d
+  not-done : {s : Step} {ss : List Step} {d e : Folder} → SomeDone c ss d e → SomeDone c (s ∷ ss) d e
+  done : {s : Step} {ss : List Step} {d e : Folder} → SomeDone c ss (does c s d) e → SomeDone c (s ∷ ss) d e
+  in-part : {f : File} {ss : List Step} {d e : Folder} (x : Option (List ℕ)) → SomeDone c ss (put-file f x d) e → SomeDone c (step.Write f ∷ ss) d e
 
 -- of the stages before it all, since a Keep ended them; of later ones nothing
 pub data Cut (c : File → List ℕ) : List (List Step) → Folder → Folder → Type 0 where
   at-end : {d : Folder} → Cut c [] d d
-  within : {stage : List Step} {stages : List (List Step)} {d e : Folder} → SomeFile c stage d e → Cut c (stage ∷ stages) d e
+  within : {stage : List Step} {stages : List (List Step)} {d e : Folder} → SomeDone c stage d e → Cut c (stage ∷ stages) d e
   past : {stage : List Step} {stages : List (List Step)} {d e : Folder} → Cut c stages (all-of c stage d) e → Cut c (stage ∷ stages) d e
 
 -- WHAT IS SEEN: where there is a commit of k blocks, a block below k by its new file, if that is there; else by its own. The program asks
