@@ -303,7 +303,7 @@ module _ (k : ℕ) (c : ℕ → List ℕ) (few : 1 ≤ k) (many : k ≤ 16) (d :
 
     read-is : (t : ℕ → Option (List ℕ)) → Alike (seen (saving k c d (r .instant))) t → Alike (read r) t
     unfolding seen
-    read-is t w b h = sym (still b h) ∙ rw (r .no-commit, le-ltb b 0 (omega arith)) folder-at (w b h)
+    read-is t w b h = sym (still b h) ∙ rw (r .no-commit, le-ltb b 0 (omega arith)) at (w b h)
 
     pub reads-one : ReadsOne k c d r
     reads-one = ⊎-elim
