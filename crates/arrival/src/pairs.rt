@@ -8,7 +8,6 @@ ghost use Rattle.model.specs.Values.{message-darts};
 ghost use Rattle.ranking.specs.Ranks.{value-at, index-at};
 ghost use Rattle.arrival.specs.Sides.{next-index, edge-code, edge-at, ends-differ, Segments, VerticesSmall};
 ghost use Rattle.arrival.specs.Draft.{Edged, EdgesPaired};
-use memory::header::Header;
 use memory::record::MessageIndex;
 
 // The index of the next dart along a face.
@@ -86,27 +85,28 @@ fn edges(keys: &[u64], k: usize, opposite: &mut [usize]) -> bool
 }
 
 // Whether every ordered vertex pair is there once, with different ends and with its reverse; then `opposite` has the index of each
-// dart's opposite.
+// dart's opposite. The arrays behind it are lent to work in.
 pub fn paired(
     vertex: &[u64],
     starts: &[usize],
     sizes: &[usize],
     k: usize,
     opposite: &mut [usize],
+    pairs: &mut [u64],
+    keys: &mut [u64],
+    scratch: &mut [u64],
+    ranks: &mut [usize],
 ) -> bool
     requires { ⌜ (k ≤ length (now vertex)) × (k ≤ length (now starts)) × (k ≤ length (now sizes)) × (k ≤ length (now opposite)) × (1 ≤ k) × (k ≤ message-darts) ⌝ }
+    requires { ⌜ (k ≤ length (now pairs)) × (k ≤ length (now keys)) × (k ≤ length (now scratch)) × (k ≤ length (now ranks)) ⌝ }
     requires { ⌜ Segments (now starts) (now sizes) k × VerticesSmall (now vertex) k ⌝ }
     ensures { λ r. ⌜ EdgesPaired (now (vertex .entry)) (now (starts .entry)) (now (sizes .entry)) k (now (opposite .exit)) r ⌝ }
 {
-    let mut pairs = [0u64; Header::VOLUME];
-    if !put_pairs(vertex, starts, sizes, k, &mut pairs) {
+    if !put_pairs(vertex, starts, sizes, k, pairs) {
         return false;
     }
-    let mut keys = [0u64; Header::VOLUME];
-    let mut scratch = [0u64; Header::VOLUME];
-    let mut ranks = [0usize; Header::VOLUME];
-    if !ranking::rank(&pairs, k, &mut keys, &mut scratch, &mut ranks) {
+    if !ranking::rank(pairs, k, keys, scratch, ranks) {
         return false;
     }
-    edges(&keys, k, opposite)
+    edges(keys, k, opposite)
 }

@@ -13,7 +13,6 @@ ghost use Rattle.model.specs.Image.{words-for, column, block-in};
 ghost use Rattle.inbox.specs.Inbox.{point-in, points-in};
 ghost use Rattle.arrival.specs.Draft.{GapTold, NewSerials};
 use crate::draft;
-use memory::header::Header;
 use memory::point;
 use memory::record;
 use memory::record::Place;
@@ -137,7 +136,7 @@ fn all_new(block: &[u64], n: usize, serial: &[u64], k: usize) -> bool
     true
 }
 
-// 18, of a transfer with k darts and `count` points; on a yes its serials are ranked.
+// 18, of a transfer with k darts and `count` points; on a yes its serials are ranked. `scratch` is lent to work in.
 pub fn new_serials(
     message: &[u8],
     from: usize,
@@ -148,9 +147,10 @@ pub fn new_serials(
     k: usize,
     keys: &mut [u64],
     ranks: &mut [usize],
+    scratch: &mut [u64],
 ) -> bool
     requires { ⌜ (n ≡ getD (now block) 2 0) × (n ≤ room) × (words-for n ≤ length (now block)) × Ascending n (column (now block) 0) × ((p : ℕ) → p < n → column (now block) 0 p < serial-bound) ⌝ }
-    requires { ⌜ (k ≤ length (now serial)) × (k ≤ length (now keys)) × (k ≤ length (now ranks)) × (1 ≤ k) × (k ≤ message-darts) × (from + 24 * count ≤ length (now message)) × ((i : ℕ) → i < k → getD (now serial) i 0 < serial-bound) ⌝ }
+    requires { ⌜ (k ≤ length (now serial)) × (k ≤ length (now keys)) × (k ≤ length (now ranks)) × (k ≤ length (now scratch)) × (1 ≤ k) × (k ≤ message-darts) × (from + 24 * count ≤ length (now message)) × ((i : ℕ) → i < k → getD (now serial) i 0 < serial-bound) ⌝ }
     ensures { λ r. ⌜ NewSerials (block-in (now (block .entry)) .darts) (now (message .entry)) from count (now (serial .entry)) k (now (keys .exit)) (now (ranks .exit)) r ⌝ }
 {
     if !points_finite(message, from, count as usize) {
@@ -159,6 +159,5 @@ pub fn new_serials(
     if !all_new(block, n, serial, k) {
         return false;
     }
-    let mut scratch = [0u64; Header::VOLUME];
-    ranking::rank(serial, k, keys, &mut scratch, ranks)
+    ranking::rank(serial, k, keys, scratch, ranks)
 }

@@ -9,25 +9,32 @@ ghost use Rattle.model.specs.Values.{finite, message-darts};
 ghost use Rattle.model.specs.Image.{words-for};
 ghost use Rattle.model.specs.Messages.{Transfer};
 ghost use Rattle.model.specs.Arrival.{volume-right};
-ghost use Rattle.cells.specs.Places.{Linked, places-in, volume-of};
+ghost use Rattle.cells.specs.Places.{Clear, Linked, places-in, volume-of};
 ghost use Rattle.inbox.specs.Inbox.{points-in};
 ghost use Rattle.ranking.specs.Ranks.{Ranked};
 ghost use Rattle.arrival.specs.Draft.{Compared, TransferTold, Draft};
 use crate::draft;
 use crate::order;
 use crate::pairs;
-use memory::header::Header;
 use memory::record::MessageIndex;
 use memory::record::Place;
 use place::DraftPlace;
 
-// Whether the k darts of a draft are the volume of the one at place `first`.
-fn one_volume(draft: &[u64], k: usize, first: DraftPlace, queue: &mut [usize]) -> bool
-    requires { ⌜ Linked (now draft) k × (first .0 < k) × (k ≤ length (now queue)) × (k ≤ message-darts) ⌝ }
-    ensures { λ r. ⌜ r ≡ eqb (length (places-in k (volume-of (now (draft .entry)) (first .0)))) k ⌝ }
+// Whether the k darts of a draft are the volume of the one at place `first`. `marks` are clear, and so again.
+fn one_volume(
+    draft: &[u64],
+    k: usize,
+    first: DraftPlace,
+    queue: &mut [usize],
+    marks: &mut [u8],
+) -> bool
+    requires { ⌜ Linked (now draft) k × (first .0 < k) × (k ≤ length (now queue)) × (k ≤ length (now marks)) × Clear (now marks) ⌝ }
+    ensures answer { λ r. ⌜ r ≡ eqb (length (places-in k (volume-of (now (draft .entry)) (first .0)))) k ⌝ }
+    ensures unmarked { λ r. ⌜ Clear (now (marks .exit)) ⌝ }
 {
-    let mut marks = [0u8; Header::VOLUME];
-    cells::walk::volume(draft, k, Place(first.0), queue, &mut marks) == k
+    let size = cells::walk::volume(draft, k, Place(first.0), queue, marks);
+    cells::reset::unmark(queue, size, marks);
+    size == k
 }
 
 // Whether each dart has the number of its vertex.
@@ -65,7 +72,8 @@ fn numbered(
     numbers_same(vertex, ranks, k, numbers) & (count == found as u64)
 }
 
-// 19, of a transfer whose points are finite and whose serials are ranked; on a yes its darts are drafted. `queue` and `firsts` are lent to work in.
+// 19, of a transfer whose points are finite and whose serials are ranked; on a yes its darts are drafted. The arrays behind `draft` are lent to
+// work in; `marks` are clear, and so again.
 pub fn volume_right(
     message: &[u8],
     from: usize,
@@ -82,11 +90,17 @@ pub fn volume_right(
     draft: &mut [u64],
     queue: &mut [usize],
     firsts: &mut [usize],
+    pairs: &mut [u64],
+    sorted: &mut [u64],
+    scratch: &mut [u64],
+    marks: &mut [u8],
 ) -> bool
-    requires { ⌜ (k ≤ length (now vertex)) × (k ≤ length (now serial)) × (k ≤ length (now starts)) × (k ≤ length (now sizes)) × (k ≤ length (now keys)) × (k ≤ length (now ranks)) × (k ≤ length (now opposite)) × (words-for k ≤ length (now draft)) × (k ≤ length (now queue)) × (k ≤ length (now firsts)) ⌝ }
+    requires { ⌜ (k ≤ length (now vertex)) × (k ≤ length (now serial)) × (k ≤ length (now starts)) × (k ≤ length (now sizes)) × (k ≤ length (now keys)) × (k ≤ length (now ranks)) × (k ≤ length (now opposite)) × (words-for k ≤ length (now draft)) ⌝ }
+    requires { ⌜ (k ≤ length (now queue)) × (k ≤ length (now firsts)) × (k ≤ length (now pairs)) × (k ≤ length (now sorted)) × (k ≤ length (now scratch)) × (k ≤ length (now marks)) × Clear (now marks) ⌝ }
     requires { ⌜ Ranked (now serial) k (now keys) (now ranks) × (all finite (points-in (now message) from count) ≡ true) × ((t : Transfer) × TransferTold t (now vertex) (now serial) (now starts) (now sizes) (now message) from count k hollow) ⌝ }
     ensures answer { λ r. ⌜ ((t : Transfer) → TransferTold t (now (vertex .entry)) (now (serial .entry)) (now (starts .entry)) (now (sizes .entry)) (now (message .entry)) from count k hollow → r ≡ volume-right t) ⌝ }
     ensures drafted { λ r. ⌜ (r ≡ true → Draft (now (vertex .entry)) (now (serial .entry)) (now (starts .entry)) (now (sizes .entry)) (now (keys .entry)) (now (ranks .entry)) (now (opposite .exit)) (now (message .entry)) from k (now (draft .exit))) ⌝ }
+    ensures unmarked { λ r. ⌜ Clear (now (marks .exit)) ⌝ }
 {
     if hollow {
         return false;
@@ -97,7 +111,17 @@ pub fn volume_right(
     if !order::vertices_fit(vertex, k, count) {
         return false;
     }
-    if !pairs::paired(vertex, starts, sizes, k, opposite) {
+    if !pairs::paired(
+        vertex,
+        starts,
+        sizes,
+        k,
+        opposite,
+        pairs,
+        sorted,
+        scratch,
+        queue,
+    ) {
         return false;
     }
     draft::put_draft(
@@ -113,7 +137,7 @@ pub fn volume_right(
         draft,
     );
     let first = place::rank_at(ranks, MessageIndex(0));
-    if !one_volume(draft, k, first, queue) {
+    if !one_volume(draft, k, first, queue, marks) {
         return false;
     }
     numbered(draft, k, vertex, count, ranks, queue, firsts)

@@ -27,7 +27,7 @@ use Rattle.cells.proofs.Reached.{places, places-below}
 use Rattle.cells.proofs.Sited.{sited, darts-in}
 use Rattle.selection.specs.Picked.{picked-size, Sizes}
 use Rattle.selection.proofs.PickedPlaces.{picked-places, size-is}
-use Rattle.mesh.specs.Parts.{blocks, part}
+use Rattle.mesh.specs.Parts.{block-count, part}
 use Rattle.mesh.proofs.Parts.{mesh-tab, sound-test, sound-is}
 use Rattle.balance.specs.Moves.{can-leave, fits, leaves-at, Untried-in, going, candidate-of, at}
 use Rattle.balance.specs.Moves.{SoundParts, mesh-in, count-at, CellsCounted, Surpluses, moves-between, moves-from, all-moves, move-found}
@@ -62,12 +62,12 @@ moves-are o mesh =
     pairs : ℕ → ℕ → List Move
     pairs d r = map (λ s. record { donor = d; recipient = r; serial = s }) (picked o (block-at (mesh-in mesh) d .darts))
 
-pub block-is : (mesh : List ℕ) (i : ℕ) → i < blocks mesh → block-at (mesh-in mesh) i ≡ block-in (part mesh i)
+pub block-is : (mesh : List ℕ) (i : ℕ) → i < block-count mesh → block-at (mesh-in mesh) i ≡ block-in (part mesh i)
 unfolding block-at
-block-is mesh i h = getD-tab (λ j. block-in (part mesh j)) (blocks mesh) i no-block h
+block-is mesh i h = getD-tab (λ j. block-in (part mesh j)) (block-count mesh) i no-block h
 
 -- BETWEEN TWO BLOCKS
-module _ (o : Oracle) (mesh : List ℕ) (sp : SoundParts mesh) (d r : ℕ) (hd : d < blocks mesh) (hr : r < blocks mesh) (apart : r ≡ d → ⊥) where
+module _ (o : Oracle) (mesh : List ℕ) (sp : SoundParts mesh) (d r : ℕ) (hd : d < block-count mesh) (hr : r < block-count mesh) (apart : r ≡ d → ⊥) where
   abbrev b : List ℕ
   b = part mesh d
 
@@ -142,13 +142,8 @@ sizes-there {o} {l} {m} {s} z e = subst (λ (x : List ℕ). Sizes o x s) e z
 pub count-word : (mesh : List ℕ) (i : ℕ) → getD (part mesh i) 2 0 ≡ getD mesh (i * words + 2) 0
 count-word mesh i = getD-take words (drop (i * words) mesh) 2 0 (omega arith) ∙ getD-drop (i * words) mesh 2 0
 
-pub count-few : {mesh : List ℕ} → SoundParts mesh → (i : ℕ) → i < blocks mesh → getD mesh (i * words + 2) 0 ≤ 4096
+pub count-few : {mesh : List ℕ} → SoundParts mesh → (i : ℕ) → i < block-count mesh → getD mesh (i * words + 2) 0 ≤ 4096
 count-few {mesh} sp i h = omega (arith, count-word mesh i, sited (part mesh i) (sp .image i h) .linked .few)
-
-pub leaving-ready : {mesh : List ℕ} → SoundParts mesh → (d r : ℕ) → d < blocks mesh → r < blocks mesh → (r ≡ d → ⊥) → {l : List ℕ} → l ≡ part mesh d
-    → (holds-block l ≡ true) × (r ≤ 15) × (r ≡ getD l 0 0 → ⊥)
-leaving-ready {mesh} sp d r hd hr apart {l} e =
-    (subst (λ (x : List ℕ). holds-block x ≡ true) (sym e) (sp .image d hd), omega (arith, sp .few), λ q. apart (q ∙ ap (λ (x : List ℕ). getD x 0 0) e ∙ sp .number d hd))
 
 pub between-there : (s : List ℕ) {l m s′ : List ℕ} {r : Candidate} {a b : ℕ} → l ≡ m → a ≡ b → r ≡ candidate-of (going (at s) l a) → Untried-in (at s) l s′
     → (r ≡ candidate-of (going (at s) m b)) × Untried-in (at s) m s′
@@ -168,7 +163,7 @@ picked-few o m ok =
     few-of : {a b c n : ℕ} → a ≡ b → b ≤ c → c ≡ n → n ≤ 4096 → a ≤ 4096
     few-of e f g h = omega arith
 
-pub counted-small : {o : Oracle} {mesh cs : List ℕ} → SoundParts mesh → CellsCounted o mesh cs → (i : ℕ) → i < blocks mesh → getD cs i 0 ≤ 4096
+pub counted-small : {o : Oracle} {mesh cs : List ℕ} → SoundParts mesh → CellsCounted o mesh cs → (i : ℕ) → i < block-count mesh → getD cs i 0 ≤ 4096
 counted-small {o} {mesh} {cs} sp c i h = small-of (c .entry i h) (picked-few o (part mesh i) (sp .image i h))
   where
     small-of : {a b : ℕ} → a ≡ b → b ≤ 4096 → a ≤ 4096
@@ -207,31 +202,31 @@ not-both (pos n) a b = let p = ltb-true 0 n a in let q = ltb-true n 0 b in omega
 not-both (negsuc n) a b = true≢false (sym a)
 
 module _ (o : Oracle) (mesh : List ℕ) where
-  pub surpluses-length : length (surpluses (counts o (mesh-in mesh))) ≡ blocks mesh
-  surpluses-length = ap length (surpluses-are o mesh) ∙ length-tab (λ i. subℕ (count-at o mesh i) (sum (tab (count-at o mesh) (blocks mesh)) / blocks mesh)) (blocks mesh)
+  pub surpluses-length : length (surpluses (counts o (mesh-in mesh))) ≡ block-count mesh
+  surpluses-length = ap length (surpluses-are o mesh) ∙ length-tab (λ i. subℕ (count-at o mesh i) (sum (tab (count-at o mesh) (block-count mesh)) / block-count mesh)) (block-count mesh)
 
-  pub from-is : (d : ℕ) → moves-from o mesh d ≡ joined (λ b. is-below (surplus-at o mesh b)) (moves-between o mesh d) (blocks mesh)
+  pub from-is : (d : ℕ) → moves-from o mesh d ≡ joined (λ b. is-below (surplus-at o mesh b)) (moves-between o mesh d) (block-count mesh)
   from-is d = ap (λ (n : ℕ). joined (λ b. is-below (surplus-at o mesh b)) (moves-between o mesh d) n) surpluses-length
 
-  pub all-are : all-moves o mesh ≡ joined (λ b. is-above (surplus-at o mesh b)) (moves-from o mesh) (blocks mesh)
+  pub all-are : all-moves o mesh ≡ joined (λ b. is-above (surplus-at o mesh b)) (moves-from o mesh) (block-count mesh)
   all-are = ap (λ (n : ℕ). joined (λ b. is-above (surplus-at o mesh b)) (moves-from o mesh) n) surpluses-length
 
 -- THE LOOP over recipients of block d
 pub record Giving (o : Oracle) (mesh : List ℕ) (d : ℕ) (s : List ℕ) (r : ℕ) : Type 0 where
   pub untried : Untried-in (picked-size o (part mesh d)) (part mesh d) s
-  pub search : Searching (λ b. is-below (surplus-at o mesh b)) (moves-between o mesh d) (blocks mesh) r
+  pub search : Searching (λ b. is-below (surplus-at o mesh b)) (moves-between o mesh d) (block-count mesh) r
 
 pub giving-start : {o : Oracle} {mesh : List ℕ} {d : ℕ} {s : List ℕ} → Sizes o (part mesh d) s → Giving o mesh d s 0
 giving-start {o} {mesh} {d} {s} z = record {
   untried = record { len = z .len; entry = λ p h. inl (z .entry p h) };
-  search = searching-start (λ b. is-below (surplus-at o mesh b)) (moves-between o mesh d) (blocks mesh);
+  search = searching-start (λ b. is-below (surplus-at o mesh b)) (moves-between o mesh d) (block-count mesh);
 }
 
-module _ {o : Oracle} {mesh : List ℕ} {d : ℕ} {s : List ℕ} {r : ℕ} (w : Giving o mesh d s r) (h : r < blocks mesh) where
+module _ {o : Oracle} {mesh : List ℕ} {d : ℕ} {s : List ℕ} {r : ℕ} (w : Giving o mesh d s r) (h : r < block-count mesh) where
   pub giving-skip : is-below (surplus-at o mesh r) ≡ false → Giving o mesh d s (r + 1)
   giving-skip e = record { untried = w .untried; search = searching-skip (w .search) h e }
 
-  module _ (sp : SoundParts mesh) (hd : d < blocks mesh) (apart : r ≡ d → ⊥) {c : Candidate}
+  module _ (sp : SoundParts mesh) (hd : d < block-count mesh) (apart : r ≡ d → ⊥) {c : Candidate}
       (e : c ≡ candidate-of (going (at s) (part mesh d) (4096 - getD (part mesh r) 2 0))) where
     abbrev there : List ℕ
     there = going (picked-size o (part mesh d)) (part mesh d) (4096 - getD (part mesh r) 2 0)
@@ -253,7 +248,7 @@ module _ {o : Oracle} {mesh : List ℕ} {d : ℕ} {s : List ℕ} {r : ℕ} (w : 
         (between-is o mesh sp d r hd h apart ∙ ap (map (λ x. record { donor = d; recipient = r; serial = x })) (g .1)) in
         sym (ap (first-or blocked) (from-is o mesh d ∙ f .1))
 
-pub giving-end : {o : Oracle} {mesh : List ℕ} {d : ℕ} {s : List ℕ} {r : ℕ} → Giving o mesh d s r → blocks mesh ≤ r → move-found d found.Nothing ≡ first-or blocked (moves-from o mesh d)
+pub giving-end : {o : Oracle} {mesh : List ℕ} {d : ℕ} {s : List ℕ} {r : ℕ} → Giving o mesh d s r → block-count mesh ≤ r → move-found d found.Nothing ≡ first-or blocked (moves-from o mesh d)
 giving-end {o} {mesh} {d} w h = sym (ap (first-or blocked) (from-is o mesh d ∙ search-end (w .search) h))
 
 -- THE NEXT MOVE
@@ -261,15 +256,15 @@ module _ (o : Oracle) (mesh : List ℕ) {s : List ℤ} (ss : Surpluses o mesh s)
   abbrev model-surpluses : List ℤ
   model-surpluses = surpluses (counts o (mesh-in mesh))
 
-  any-same : (q : ℤ → Bool) → any q (tab (λ i. getD s i (pos 0)) (blocks mesh)) ≡ any q model-surpluses
-  any-same q = ap (any q) (tab-cong (λ i. getD s i (pos 0)) f (blocks mesh) (λ i h. ss .entry i h ∙ ap (λ (l : List ℤ). getD l i (pos 0)) (surpluses-are o mesh) ∙ getD-tab f (blocks mesh) i (pos 0) h)
+  any-same : (q : ℤ → Bool) → any q (tab (λ i. getD s i (pos 0)) (block-count mesh)) ≡ any q model-surpluses
+  any-same q = ap (any q) (tab-cong (λ i. getD s i (pos 0)) f (block-count mesh) (λ i h. ss .entry i h ∙ ap (λ (l : List ℤ). getD l i (pos 0)) (surpluses-are o mesh) ∙ getD-tab f (block-count mesh) i (pos 0) h)
       ∙ sym (surpluses-are o mesh))
     where
       f : ℕ → ℤ
-      f i = subℕ (count-at o mesh i) (sum (tab (count-at o mesh) (blocks mesh)) / blocks mesh)
+      f i = subℕ (count-at o mesh i) (sum (tab (count-at o mesh) (block-count mesh)) / block-count mesh)
 
-  none-passes : (q : ℤ → Bool) → any q model-surpluses ≡ false → (b : ℕ) → b < blocks mesh → q (surplus-at o mesh b) ≡ true → ⊥
-  none-passes q e b h t = true≢false (sym (tab-any q (λ i. getD s i (pos 0)) (blocks mesh) b h (ap q (ss .entry b h) ∙ t)) ∙ any-same q ∙ e)
+  none-passes : (q : ℤ → Bool) → any q model-surpluses ≡ false → (b : ℕ) → b < block-count mesh → q (surplus-at o mesh b) ≡ true → ⊥
+  none-passes q e b h t = true≢false (sym (tab-any q (λ i. getD s i (pos 0)) (block-count mesh) b h (ap q (ss .entry b h) ∙ t)) ∙ any-same q ∙ e)
 
   next-is : next-of all-rack o (mesh-in mesh) ≡ first-or (cond (not (any is-above model-surpluses) || not (any is-below model-surpluses)) level blocked) (all-moves o mesh)
   unfolding next-of
@@ -282,24 +277,24 @@ module _ (o : Oracle) (mesh : List ℕ) {s : List ℤ} (ss : Surpluses o mesh s)
   or-true true = refl
   or-true false = refl
 
-  pub nobody-above : {r : Bool} → r ≡ any is-above (tab (λ i. getD s i (pos 0)) (blocks mesh)) → not r ≡ true → served level ≡ served (next-of all-rack o (mesh-in mesh))
+  pub nobody-above : {r : Bool} → r ≡ any is-above (tab (λ i. getD s i (pos 0)) (block-count mesh)) → not r ≡ true → served level ≡ served (next-of all-rack o (mesh-in mesh))
   nobody-above {r} e h = ap served (sym (next-is ∙ level-if (any is-above model-surpluses) (any is-below model-surpluses) (all-moves o mesh)
       (ap (λ (t : Bool). not t || not (any is-below model-surpluses)) is-none)
-      (all-are o mesh ∙ none-from (λ b. is-above (surplus-at o mesh b)) (moves-from o mesh) (λ b. b) (blocks mesh) (λ b l t. absurd (none-passes is-above is-none b l t)))))
+      (all-are o mesh ∙ none-from (λ b. is-above (surplus-at o mesh b)) (moves-from o mesh) (λ b. b) (block-count mesh) (λ b l t. absurd (none-passes is-above is-none b l t)))))
     where
       is-none : any is-above model-surpluses ≡ false
       is-none = sym (any-same is-above) ∙ sym e ∙ not-true r h
 
-  pub nobody-below : {r : Bool} → r ≡ any is-below (tab (λ i. getD s i (pos 0)) (blocks mesh)) → not r ≡ true → served level ≡ served (next-of all-rack o (mesh-in mesh))
+  pub nobody-below : {r : Bool} → r ≡ any is-below (tab (λ i. getD s i (pos 0)) (block-count mesh)) → not r ≡ true → served level ≡ served (next-of all-rack o (mesh-in mesh))
   nobody-below {r} e h = ap served (sym (next-is ∙ level-if (any is-above model-surpluses) (any is-below model-surpluses) (all-moves o mesh)
       (ap (λ (t : Bool). not (any is-above model-surpluses) || not t) is-none ∙ or-true (not (any is-above model-surpluses)))
-      (all-are o mesh ∙ none-from (λ b. is-above (surplus-at o mesh b)) (moves-from o mesh) (λ b. b) (blocks mesh) (λ b l t.
-      from-is o mesh b ∙ none-from (λ c. is-below (surplus-at o mesh c)) (moves-between o mesh b) (λ c. c) (blocks mesh) (λ c k u. absurd (none-passes is-below is-none c k u))))))
+      (all-are o mesh ∙ none-from (λ b. is-above (surplus-at o mesh b)) (moves-from o mesh) (λ b. b) (block-count mesh) (λ b l t.
+      from-is o mesh b ∙ none-from (λ c. is-below (surplus-at o mesh c)) (moves-between o mesh b) (λ c. c) (block-count mesh) (λ c k u. absurd (none-passes is-below is-none c k u))))))
     where
       is-none : any is-below model-surpluses ≡ false
       is-none = sym (any-same is-below) ∙ sym e ∙ not-true r h
 
-  pub some-of-both : {r t : Bool} → r ≡ any is-above (tab (λ i. getD s i (pos 0)) (blocks mesh)) → not r ≡ false → t ≡ any is-below (tab (λ i. getD s i (pos 0)) (blocks mesh)) → not t ≡ false
+  pub some-of-both : {r t : Bool} → r ≡ any is-above (tab (λ i. getD s i (pos 0)) (block-count mesh)) → not r ≡ false → t ≡ any is-below (tab (λ i. getD s i (pos 0)) (block-count mesh)) → not t ≡ false
       → served (first-or blocked (all-moves o mesh)) ≡ served (next-of all-rack o (mesh-in mesh))
   some-of-both {r} {t} e h f k =
       ap served
@@ -312,7 +307,7 @@ module _ (o : Oracle) (mesh : List ℕ) {s : List ℤ} (ss : Surpluses o mesh s)
       both a b x y = rw (x, y) refl
 
 -- THE LOOP over donors
-pub donor-found : (o : Oracle) (mesh : List ℕ) {d to serial : ℕ} {f : Found} → Searching (λ b. is-above (surplus-at o mesh b)) (moves-from o mesh) (blocks mesh) d → d < blocks mesh
+pub donor-found : (o : Oracle) (mesh : List ℕ) {d to serial : ℕ} {f : Found} → Searching (λ b. is-above (surplus-at o mesh b)) (moves-from o mesh) (block-count mesh) d → d < block-count mesh
     → is-above (surplus-at o mesh d) ≡ true → move-found d f ≡ first-or blocked (moves-from o mesh d) → f ≡ found.Move to serial
     → served (move (record { donor = d; recipient = to; serial = serial })) ≡ served (first-or blocked (all-moves o mesh))
 donor-found o mesh {d} {to} {serial} w h a e q =
@@ -323,7 +318,7 @@ donor-found o mesh {d} {to} {serial} w h a e q =
 pub donor-none : (o : Oracle) (mesh : List ℕ) (d : ℕ) {f : Found} → move-found d f ≡ first-or blocked (moves-from o mesh d) → f ≡ found.Nothing → moves-from o mesh d ≡ []
 donor-none o mesh d e q = no-move (moves-from o mesh d) (sym (ap (move-found d) q) ∙ e)
 
-pub donor-end : (o : Oracle) (mesh : List ℕ) {d : ℕ} → Searching (λ b. is-above (surplus-at o mesh b)) (moves-from o mesh) (blocks mesh) d → blocks mesh ≤ d
+pub donor-end : (o : Oracle) (mesh : List ℕ) {d : ℕ} → Searching (λ b. is-above (surplus-at o mesh b)) (moves-from o mesh) (block-count mesh) d → block-count mesh ≤ d
     → served blocked ≡ served (first-or blocked (all-moves o mesh))
 donor-end o mesh w h = ap served (sym (ap (first-or blocked) (all-are o mesh ∙ search-end w h)))
 
@@ -343,20 +338,20 @@ right-says m e =
 pub sound-parts : (mesh : List ℕ) → all (λ b. holds-block b) (memories mesh) ≡ true → blocks-right (map block-in (memories mesh)) ≡ true → SoundParts mesh
 sound-parts mesh images right =
     let q = right-says (mesh-in mesh) (sym (ap blocks-right (mesh-tab mesh)) ∙ right) in
-    let n = length-tab (λ i. block-in (part mesh i)) (blocks mesh) in
+    let n = length-tab (λ i. block-in (part mesh i)) (block-count mesh) in
     record {
       some = omega (arith, q .0);
       few = omega (arith, q .1);
-      image = below-at (sound-test mesh) (blocks mesh) (sound-is mesh ∙ images);
-      number = λ i h. omega (arith, numbered-at (λ i. block-in (part mesh i)) (blocks mesh) 0 (q .2) i h);
+      image = below-at (sound-test mesh) (block-count mesh) (sound-is mesh ∙ images);
+      number = λ i h. omega (arith, numbered-at (λ i. block-in (part mesh i)) (block-count mesh) 0 (q .2) i h);
     }
 
 -- WHAT A SIGN SAYS
-pub below-told : {o : Oracle} {mesh : List ℕ} {s : List ℤ} → Surpluses o mesh s → (b : ℕ) → b < blocks mesh → {x : ℤ} → x ≡ getD s b (pos 0)
+pub below-told : {o : Oracle} {mesh : List ℕ} {s : List ℤ} → Surpluses o mesh s → (b : ℕ) → b < block-count mesh → {x : ℤ} → x ≡ getD s b (pos 0)
     → {t : Bool} → t ≡ is-below x → t ≡ is-below (surplus-at o mesh b)
 below-told ss b h e f = f ∙ ap is-below (e ∙ ss .entry b h)
 
-pub above-told : {o : Oracle} {mesh : List ℕ} {s : List ℤ} → Surpluses o mesh s → (b : ℕ) → b < blocks mesh → {x : ℤ} → x ≡ getD s b (pos 0)
+pub above-told : {o : Oracle} {mesh : List ℕ} {s : List ℤ} → Surpluses o mesh s → (b : ℕ) → b < block-count mesh → {x : ℤ} → x ≡ getD s b (pos 0)
     → {t : Bool} → t ≡ is-above x → t ≡ is-above (surplus-at o mesh b)
 above-told ss b h e f = f ∙ ap is-above (e ∙ ss .entry b h)
 

@@ -11,12 +11,14 @@ use lib.ListN.{length, getD, set, length-set}
 use lib.Seq.{getD-set-same, getD-set-other}
 use borrow.Author.Tests.{ne-eqb, le-leb, lt-leb, lt-ltb}
 use Rattle.model.specs.Lists.{keep, tab, Check, first-no}
-use Rattle.model.specs.Image.{column, block-in}
+use Rattle.model.specs.Image.{count-in, column, dart-in, block-in}
 use Rattle.model.specs.Values.{Limits, rack}
 use Rattle.model.specs.Departure.{departure-checks}
 use Rattle.model.specs.Calls.{served, refused, Result, asked}
 use Rattle.answers.specs.Answers.{answered}
 use Rattle.laws.proofs.Tests.{eq-or-ne, last-or-below}
+use Rattle.laws.proofs.Tables.{held-place}
+use Rattle.departure.specs.Asked.{volume-checks}
 use Rattle.balance.specs.Moves.{can-leave, fits, Untried, leaves-at, Untried-in, going, candidate-of, at}
 use Rattle.balance.specs.declared.leaving.Candidate.the-variants.{Volume, Nothing}
 
@@ -41,20 +43,25 @@ one-refused qs n h = go (eqb (first-no qs) 0) h
     go false q = refl
 
 -- the questions by the limits of the rack
-pub by-rack : (m : List ℕ) (j s : ℕ) {l : Limits} → l ≡ rack → answered (departure-checks (l .volume-darts) (block-in m) j s) ≡ answered (departure-checks 512 (block-in m) j s)
-by-rack m j s e = ap (λ (l : Limits). answered (departure-checks (l .volume-darts) (block-in m) j s)) e
+pub by-rack : (m : List ℕ) (p : ℕ) {l : Limits} → l ≡ rack → answered (volume-checks (l .volume-darts) m p) ≡ answered (volume-checks 512 m p)
+by-rack m p e = ap (λ (l : Limits). answered (volume-checks (l .volume-darts) m p)) e
 
 -- any other block will do
 pub leaves-any : (m : List ℕ) (j s : ℕ) → j ≤ 15 → (j ≡ getD m 0 0 → ⊥) → eqb (first-no (departure-checks 512 (block-in m) j s)) 0 ≡ can-leave m s
 unfolding departure-checks can-leave first-no
 leaves-any m j s h e = rw (le-leb j 15 h, ne-eqb j (getD m 0 0) e) refl
 
-module _ (m : List ℕ) (j s : ℕ) (h : j ≤ 15) (e : j ≡ getD m 0 0 → ⊥) where
-  pub leaves-yes : served (tt {0}) ≡ answered (departure-checks 512 (block-in m) j s) → true ≡ can-leave m s
-  leaves-yes a = none-refused _ a ∙ leaves-any m j s h e
+module _ (m : List ℕ) (p : ℕ) (below : p < count-in m) where
+  -- and a dart at a place is held
+  leaves-here : eqb (first-no (volume-checks 512 m p)) 0 ≡ leaves-at m p
+  unfolding departure-checks can-leave first-no
+  leaves-here = rw (held-place (dart-in m) (count-in m) p (column m 0 p) below refl) refl
 
-  pub leaves-no : (n : ℕ) → refused n ≡ answered (departure-checks 512 (block-in m) j s) → false ≡ can-leave m s
-  leaves-no n a = one-refused _ n a ∙ leaves-any m j s h e
+  pub leaves-yes : served (tt {0}) ≡ answered (volume-checks 512 m p) → true ≡ leaves-at m p
+  leaves-yes a = none-refused _ a ∙ leaves-here
+
+  pub leaves-no : (n : ℕ) → refused n ≡ answered (volume-checks 512 m p) → false ≡ leaves-at m p
+  leaves-no n a = one-refused _ n a ∙ leaves-here
 
 -- STRUCK OFF
 pub untried-self : (leaves : ℕ → Bool) (n : ℕ) (s : List ℕ) → n ≤ length s → Untried (at s) leaves n s

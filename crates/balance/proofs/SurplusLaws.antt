@@ -22,7 +22,7 @@ use Rattle.model.specs.Image.{block-in}
 use Rattle.laws.proofs.Tests.{last-or-below}
 use Rattle.laws.proofs.Maps.{tab-more}
 use Rattle.laws.proofs.Tables.{length-tab, getD-tab, map-tab, tab-cong, tab-any, none-tab}
-use Rattle.mesh.specs.Parts.{blocks, part}
+use Rattle.mesh.specs.Parts.{block-count, part}
 use Rattle.balance.specs.Moves.{count-at, mesh-in, CellsCounted, Surpluses}
 
 -- A DIFFERENCE of two small counts, as an i32
@@ -111,7 +111,7 @@ module _ {q : ℤ → Bool} {s : List ℤ} {i : ℕ} (w : Seeking q s i) where
 -- THE MODEL'S SURPLUSES
 module _ (o : Oracle) (mesh : List ℕ) where
   abbrev k : ℕ
-  k = blocks mesh
+  k = block-count mesh
 
   counts-are : counts o (mesh-in mesh) ≡ tab (count-at o mesh) k
   unfolding counts

@@ -14,7 +14,7 @@ use Rattle.model.specs.Image.{column, block-in, holds-block}
 use Rattle.model.specs.Departure.{departure-checks}
 use Rattle.model.specs.Balance.{Oracle, Move, NextMove, move, blocked, picked, counts, surpluses, is-above, is-below, can-move, blocks-with}
 use Rattle.cells.specs.Places.{Clear}
-use Rattle.mesh.specs.Parts.{blocks, part}
+use Rattle.mesh.specs.Parts.{block-count, part}
 use Rattle.balance.specs.declared.Found.{Found}
 use Rattle.balance.specs.declared.Found.the-variants as found
 use Rattle.balance.specs.declared.leaving.Candidate.{Candidate}
@@ -67,14 +67,14 @@ at sizes p = getD sizes p 0
 
 -- one to 16 sound blocks in memory, numbered in order
 pub record SoundParts (mesh : List ℕ) : Type 0 where
-  pub some : 1 ≤ blocks mesh
-  pub few : blocks mesh ≤ 16
-  pub image : (i : ℕ) → i < blocks mesh → holds-block (part mesh i) ≡ true
-  pub number : (i : ℕ) → i < blocks mesh → getD (part mesh i) 0 0 ≡ i
+  pub some : 1 ≤ block-count mesh
+  pub few : block-count mesh ≤ 16
+  pub image : (i : ℕ) → i < block-count mesh → holds-block (part mesh i) ≡ true
+  pub number : (i : ℕ) → i < block-count mesh → getD (part mesh i) 0 0 ≡ i
 
 -- the model's blocks
 abbrev pub mesh-in : List ℕ → List Block
-mesh-in mesh = tab (λ i. block-in (part mesh i)) (blocks mesh)
+mesh-in mesh = tab (λ i. block-in (part mesh i)) (block-count mesh)
 
 -- how many volumes of block i are picked
 abbrev pub count-at : Oracle → List ℕ → ℕ → ℕ
@@ -83,12 +83,12 @@ count-at o mesh i = length (picked o (block-in (part mesh i) .darts))
 -- these counts in a table
 pub record CellsCounted (o : Oracle) (mesh cs : List ℕ) : Type 0 where
   pub size : length cs ≡ 16
-  pub entry : (i : ℕ) → i < blocks mesh → getD cs i 0 ≡ count-at o mesh i
+  pub entry : (i : ℕ) → i < block-count mesh → getD cs i 0 ≡ count-at o mesh i
 
 -- the surpluses in a table
 pub record Surpluses (o : Oracle) (mesh : List ℕ) (ss : List ℤ) : Type 0 where
   pub size : length ss ≡ 16
-  pub entry : (i : ℕ) → i < blocks mesh → getD ss i (pos 0) ≡ getD (surpluses (counts o (mesh-in mesh))) i (pos 0)
+  pub entry : (i : ℕ) → i < block-count mesh → getD ss i (pos 0) ≡ getD (surpluses (counts o (mesh-in mesh))) i (pos 0)
 
 -- the moves from block d to block r
 abbrev pub moves-between : Oracle → List ℕ → ℕ → ℕ → List Move

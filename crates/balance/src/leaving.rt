@@ -1,11 +1,10 @@
-// Which picked volumes of a block may go to another: questions 9 to 14 of each, put once.
+// Which picked volumes of a block may go to another: questions 11 to 14 of each, put once.
 ghost use mathlib.Core.Path.{_≡_};
 ghost use mathlib.Core.Bool.{true, false};
 ghost use Prim.Native.Nat.{_≤_, _<_};
-ghost use lib.ListN.{length, getD};
-ghost use Rattle.model.specs.Values.{last-block};
+ghost use lib.ListN.{length};
 ghost use Rattle.model.specs.Image.{count-in, holds-block};
-ghost use Rattle.balance.specs.Moves.{Asking, can-leave, Untried-in, going, candidate-of, at};
+ghost use Rattle.balance.specs.Moves.{Asking, leaves-at, Untried-in, going, candidate-of, at};
 use departure::Leaving;
 use memory::header::Header;
 use memory::header::Limits;
@@ -19,12 +18,12 @@ pub enum Candidate {
     Nothing,
 }
 
-// Whether the volume of the dart with this serial may go to another block: 9 to 14. On a no `marks` and `seen` are clear again; what
-// stands in the other arrays is written before it is read. So no asking clears more than its volume has.
+// Whether the volume of the dart at this place may go to another block: 11 to 14. 9 is a yes between two blocks of a mesh, and 10 at a place.
+// On a no `marks` and `seen` are clear again; what stands in the other arrays is written before it is read. So no asking clears more than its
+// volume has.
 fn may_leave(
     block: &[u64],
-    to: u64,
-    serial: u64,
+    place: Place,
     marks: &mut [u8],
     order: &mut [usize],
     starts: &mut [usize],
@@ -33,16 +32,15 @@ fn may_leave(
     firsts: &mut [usize],
     colours: &mut [usize],
 ) -> bool
-    requires { ⌜ (holds-block (now block) ≡ true) × (to ≤ last-block) × (to ≡ getD (now block) 0 0 → ⊥) ⌝ }
+    requires { ⌜ (holds-block (now block) ≡ true) × (place .0 < count-in (now block)) ⌝ }
     requires { ⌜ Asking (count-in (now block)) (now marks) (now order) (now starts) (now seen) (now numbers) (now firsts) (now colours) ⌝ }
-    ensures answer { λ r. ⌜ r ≡ can-leave (now (block .entry)) serial ⌝ }
+    ensures answer { λ r. ⌜ r ≡ leaves-at (now (block .entry)) (place .0) ⌝ }
     ensures again { λ r. ⌜ (r ≡ false → Asking (count-in (now (block .entry))) (now (marks .exit)) (now (order .exit)) (now (starts .exit)) (now (seen .exit)) (now (numbers .exit)) (now (firsts .exit)) (now (colours .exit))) ⌝ }
 {
-    match departure::leaves(
+    match departure::volume_leaves(
         block,
         Limits::rack(),
-        to,
-        serial,
+        place,
         marks,
         order,
         starts,
@@ -59,7 +57,6 @@ fn may_leave(
 // The first volume that may go, with the arrays of an asking lent.
 fn first_asked(
     block: &[u64],
-    to: u64,
     left: usize,
     sizes: &mut [usize],
     marks: &mut [u8],
@@ -70,7 +67,7 @@ fn first_asked(
     firsts: &mut [usize],
     colours: &mut [usize],
 ) -> Candidate
-    requires { ⌜ (holds-block (now block) ≡ true) × (to ≤ last-block) × (to ≡ getD (now block) 0 0 → ⊥) × (count-in (now block) ≤ length (now sizes)) ⌝ }
+    requires { ⌜ (holds-block (now block) ≡ true) × (count-in (now block) ≤ length (now sizes)) ⌝ }
     requires { ⌜ Asking (count-in (now block)) (now marks) (now order) (now starts) (now seen) (now numbers) (now firsts) (now colours) ⌝ }
     ensures candidate { λ r. ⌜ r ≡ candidate-of (going (at (now (sizes .entry))) (now (block .entry)) left) ⌝ }
     ensures untried { λ r. ⌜ Untried-in (at (now (sizes .entry))) (now (block .entry)) (now (sizes .exit)) ⌝ }
@@ -91,8 +88,7 @@ fn first_asked(
         let serial = record::field(block, Place(p), Record::SERIAL);
         if may_leave(
             block,
-            to,
-            serial,
+            Place(p),
             marks,
             order,
             starts,
@@ -110,8 +106,8 @@ fn first_asked(
 
 // The first volume of at most `left` darts that may go. `sizes` has the size of each volume at its least place. One that may not go is
 // struck off.
-pub fn first_leaving(block: &[u64], to: u64, left: usize, sizes: &mut [usize]) -> Candidate
-    requires { ⌜ (holds-block (now block) ≡ true) × (to ≤ last-block) × (to ≡ getD (now block) 0 0 → ⊥) × (count-in (now block) ≤ length (now sizes)) ⌝ }
+pub fn first_leaving(block: &[u64], left: usize, sizes: &mut [usize]) -> Candidate
+    requires { ⌜ (holds-block (now block) ≡ true) × (count-in (now block) ≤ length (now sizes)) ⌝ }
     ensures candidate { λ r. ⌜ r ≡ candidate-of (going (at (now (sizes .entry))) (now (block .entry)) left) ⌝ }
     ensures untried { λ r. ⌜ Untried-in (at (now (sizes .entry))) (now (block .entry)) (now (sizes .exit)) ⌝ }
 {
@@ -124,7 +120,6 @@ pub fn first_leaving(block: &[u64], to: u64, left: usize, sizes: &mut [usize]) -
     let mut colours = [0usize; Header::VOLUME];
     first_asked(
         block,
-        to,
         left,
         sizes,
         &mut marks,

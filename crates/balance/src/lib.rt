@@ -18,7 +18,7 @@ ghost use Rattle.model.specs.Balance.{blocked, first-or, is-above, next-of as m
 ghost use Rattle.answers.specs.Answers.{move-of};
 ghost use Rattle.oracle.specs.Oracle.{oracle-of};
 ghost use Rattle.selection.specs.Picked.{Sizes};
-ghost use Rattle.mesh.specs.Parts.{blocks, part};
+ghost use Rattle.mesh.specs.Parts.{block-count, part};
 ghost use Rattle.balance.specs.Moves.{SoundParts, Surpluses, Untried-in, going, candidate-of, at, move-found, moves-from, all-moves};
 use crate::leaving::Candidate;
 use answers::NextMove;
@@ -27,7 +27,7 @@ use oracle::Oracle;
 
 // The sizes of the picked volumes of block i.
 fn sizes_at(mesh: &[u64], i: usize, o: Oracle, sizes: &mut [usize])
-    requires { ⌜ SoundParts (now mesh) × (i < blocks (now mesh)) × (count-in (part (now mesh) i) ≤ length (now sizes)) ⌝ }
+    requires { ⌜ SoundParts (now mesh) × (i < block-count (now mesh)) × (count-in (part (now mesh) i) ≤ length (now sizes)) ⌝ }
     ensures { λ _. ⌜ Sizes (oracle-of o) (part (now (mesh .entry)) i) (now (sizes .exit)) ⌝ }
 {
     selection::sizes_of(mesh::part_of(mesh, i), o, sizes)
@@ -35,12 +35,12 @@ fn sizes_at(mesh: &[u64], i: usize, o: Oracle, sizes: &mut [usize])
 
 // The first volume that may go from block d to block `to`.
 fn between(mesh: &[u64], d: usize, to: usize, sizes: &mut [usize]) -> Candidate
-    requires { ⌜ SoundParts (now mesh) × (d < blocks (now mesh)) × (to < blocks (now mesh)) × (to ≡ d → ⊥) × (count-in (part (now mesh) d) ≤ length (now sizes)) ⌝ }
+    requires { ⌜ SoundParts (now mesh) × (d < block-count (now mesh)) × (to < block-count (now mesh)) × (count-in (part (now mesh) d) ≤ length (now sizes)) ⌝ }
     ensures candidate { λ r. ⌜ r ≡ candidate-of (going (at (now (sizes .entry))) (part (now (mesh .entry)) d) (room - getD (part (now (mesh .entry)) to) 2 0)) ⌝ }
     ensures untried { λ r. ⌜ Untried-in (at (now (sizes .entry))) (part (now (mesh .entry)) d) (now (sizes .exit)) ⌝ }
 {
     let left = Header::DARTS - mesh[to * Header::WORDS + Header::COUNT] as usize;
-    leaving::first_leaving(mesh::part_of(mesh, d), to as u64, left, sizes)
+    leaving::first_leaving(mesh::part_of(mesh, d), left, sizes)
 }
 
 // A move from a known block: the recipient, and the serial of the volume.
@@ -57,7 +57,7 @@ fn from_donor(
     d: usize,
     sizes: &mut [usize],
 ) -> Found
-    requires { ⌜ SoundParts (now mesh) × (d < blocks (now mesh)) × (count-in (part (now mesh) d) ≤ length (now sizes)) ⌝ }
+    requires { ⌜ SoundParts (now mesh) × (d < block-count (now mesh)) × (count-in (part (now mesh) d) ≤ length (now sizes)) ⌝ }
     requires { ⌜ Surpluses (oracle-of o) (now mesh) surplus × (is-above (getD surplus d (pos 0)) ≡ true) ⌝ }
     ensures { λ r. ⌜ move-found d r ≡ first-or blocked (moves-from (oracle-of o) (now (mesh .entry)) d) ⌝ }
 {
@@ -88,7 +88,7 @@ fn first_move(
     sizes: &mut [usize],
 ) -> NextMove
     requires { ⌜ SoundParts (now mesh) × Surpluses (oracle-of o) (now mesh) surplus
-        × ((i : ℕ) → i < blocks (now mesh) → count-in (part (now mesh) i) ≤ length (now sizes)) ⌝ }
+        × ((i : ℕ) → i < block-count (now mesh) → count-in (part (now mesh) i) ≤ length (now sizes)) ⌝ }
     ensures { λ r. ⌜ move-of r ≡ served (first-or blocked (all-moves (oracle-of o) (now (mesh .entry)))) ⌝ }
 {
     let k = mesh.len() / Header::WORDS;

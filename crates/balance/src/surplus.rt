@@ -3,11 +3,11 @@ ghost use mathlib.Core.Path.{_≡_};
 ghost use Prim.Native.Nat.{ℕ, _≤_, _<_};
 ghost use lib.ListN.{length, getD};
 ghost use lib.IntN.{pos, subℕ};
-ghost use Rattle.model.specs.Values.{room, blocks as most-blocks};
+ghost use Rattle.model.specs.Values.{room, blocks};
 ghost use Rattle.model.specs.Lists.{any, sum, tab};
 ghost use Rattle.model.specs.Balance.{is-above as above-zero, is-below as below-zero};
 ghost use Rattle.oracle.specs.Oracle.{oracle-of};
-ghost use Rattle.mesh.specs.Parts.{blocks};
+ghost use Rattle.mesh.specs.Parts.{block-count};
 ghost use Rattle.balance.specs.Moves.{SoundParts, count-at, CellsCounted, Surpluses};
 use memory::header::BLOCKS;
 use memory::header::Header;
@@ -15,7 +15,7 @@ use oracle::Oracle;
 
 // How many volumes of block i are picked.
 fn count_part(mesh: &[u64], i: usize, o: Oracle) -> u32
-    requires { ⌜ SoundParts (now mesh) × (i < blocks (now mesh)) ⌝ }
+    requires { ⌜ SoundParts (now mesh) × (i < block-count (now mesh)) ⌝ }
     ensures { λ r. ⌜ (r ≡ count-at (oracle-of o) (now (mesh .entry)) i) × (r ≤ room) ⌝ }
 {
     selection::count(mesh::part_of(mesh, i), o) as u32
@@ -39,7 +39,7 @@ fn counts(mesh: &[u64], o: Oracle) -> [u32; BLOCKS]
 
 // The sum of the first k counts.
 fn total(c: [u32; BLOCKS], k: usize) -> u32
-    requires { ⌜ (k ≤ most-blocks) × ((i : ℕ) → i < k → getD c i 0 ≤ room) ⌝ }
+    requires { ⌜ (k ≤ blocks) × ((i : ℕ) → i < k → getD c i 0 ≤ room) ⌝ }
     ensures { λ r. ⌜ (r ≡ sum (tab (λ i. getD c i 0) k)) × (r ≤ 65536) ⌝ }
 {
     // Those before i sum up to t.
@@ -62,7 +62,7 @@ fn surplus_of(count: u32, mean: u32) -> i32
 
 // The surpluses of the first k counts.
 fn less_mean(c: [u32; BLOCKS], k: usize, mean: u32) -> [i32; BLOCKS]
-    requires { ⌜ (k ≤ most-blocks) × (mean ≤ 65536) × ((i : ℕ) → i < k → getD c i 0 ≤ room) ⌝ }
+    requires { ⌜ (k ≤ blocks) × (mean ≤ 65536) × ((i : ℕ) → i < k → getD c i 0 ≤ room) ⌝ }
     ensures { λ r. ⌜ (length r ≡ 16) × ((i : ℕ) → i < k → getD r i (pos 0) ≡ subℕ (getD c i 0) mean) ⌝ }
 {
     // Those before i are told.
@@ -102,7 +102,7 @@ pub fn is_below(s: i32) -> bool
 
 // Whether some of the first k blocks is above.
 pub fn some_above(s: [i32; BLOCKS], k: usize) -> bool
-    requires { ⌜ k ≤ most-blocks ⌝ }
+    requires { ⌜ k ≤ blocks ⌝ }
     ensures { λ r. ⌜ r ≡ any above-zero (tab (λ i. getD s i (pos 0)) k) ⌝ }
 {
     // None before i is.
@@ -119,7 +119,7 @@ pub fn some_above(s: [i32; BLOCKS], k: usize) -> bool
 
 // Whether some of the first k blocks is below.
 pub fn some_below(s: [i32; BLOCKS], k: usize) -> bool
-    requires { ⌜ k ≤ most-blocks ⌝ }
+    requires { ⌜ k ≤ blocks ⌝ }
     ensures { λ r. ⌜ r ≡ any below-zero (tab (λ i. getD s i (pos 0)) k) ⌝ }
 {
     // None before i is.

@@ -20,7 +20,7 @@ use Rattle.laws.proofs.Members.{In, in-here, in-there, in-cons, in-map, map-in,
 use Rattle.laws.proofs.Faces.{along-face, face-distinct}
 use Rattle.laws.proofs.Tables.{tab-all, all-tab}
 use Rattle.theory.proofs.ImageLaws.{place-back}
-use Rattle.cells.specs.Places.{Within, Apart, Closed, Marked, Numbered, Whole, Ended, ends-of, ends-once, marked, volume-of}
+use Rattle.cells.specs.Places.{Within, Apart, Closed, Marked, Numbered, WholeCells, Ended, ends-of, ends-once, marked, volume-of}
 use Rattle.cells.proofs.Reached.{places, in-places, within-places}
 use Rattle.cells.proofs.Paths.{apart-places, few-places}
 use Rattle.cells.proofs.Sited.{Sited, darts-in}
@@ -95,7 +95,7 @@ getD-map g (x ∷ l) (suc k) h = getD-map g l k (omega arith)
 
 -- BY RINGS AND NUMBERS
 module _ (n : ℕ) (nx op : ℕ → ℕ) (few : n ≤ room) (wn : Within n nx) (an : Apart n nx) (wo : Within n op) (ao : Apart n op)
-    {l numbers first : List ℕ} {count : ℕ} (w : Whole n nx op l) (m : Numbered nx op l numbers first count) where
+    {l numbers first : List ℕ} {count : ℕ} (w : WholeCells n nx op l) (m : Numbered nx op l numbers first count) where
   number-is : (x : ℕ) → In x l → getD numbers x 0 ≡ index-of (vertex nx op x) (vertices nx op l)
   unfolding vertex-number
   number-is x h = m .number x h
@@ -198,7 +198,7 @@ module _ (n : ℕ) (nx op : ℕ → ℕ) (marks : List ℕ) (few : n ≤ room) (
   stays-op : (x : ℕ) → In x (marked n marks) → In (op x) (marked n marks)
   stays-op x h = let r = marked-in n marks x h in in-marked n marks (op x) (wo x (r .0)) (co x (r .0) (r .1))
 
-  pub order-whole : Whole n nx op (concat (faces nx (marked n marks)))
+  pub order-whole : WholeCells n nx op (concat (faces nx (marked n marks)))
   order-whole =
       let in-marks = only n nx marks few wn an cn in
       let in-order = has n nx marks few wn an cn in

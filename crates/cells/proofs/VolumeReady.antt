@@ -9,7 +9,7 @@ use lib.Seq.{getD-take, length-take-le}
 use Rattle.model.specs.Lists.{any, concat}
 use Rattle.model.specs.Cells.{faces}
 use Rattle.model.specs.Image.{column}
-use Rattle.cells.specs.Places.{Ended, InOrder, Linked, Marked, Numbered, Whole, bit, marked, volume-of}
+use Rattle.cells.specs.Places.{Ended, InOrder, Linked, Marked, Numbered, WholeCells, bit, marked, volume-of}
 use Rattle.laws.proofs.Members.{In, getD-in}
 use Rattle.laws.proofs.Tests.{same-truth}
 use Rattle.cells.proofs.Reached.{volume-below}
@@ -21,11 +21,11 @@ use Rattle.cells.proofs.StartLaws.{in-order-few}
 use Rattle.cells.proofs.PairsNumbered.{ended, order-whole}
 
 module _ {b : List ℕ} {n d : ℕ} (l : Linked b n) (h : d < n) {marks : List ℕ} (mk : Marked (volume-of b d) marks) where
-  pub whole : Whole n (column b 1) (column b 2) (concat (faces (column b 1) (marked n marks)))
+  pub whole : WholeCells n (column b 1) (column b 2) (concat (faces (column b 1) (marked n marks)))
   whole = order-whole n (column b 1) (column b 2) marks (l .few) (l .next-within) (l .next-apart) (l .opposite-within) (closed-next l h mk) (closed-opposite l h mk)
 
   module _ {out starts : List ℕ} {darts count : ℕ} (o : InOrder (faces (column b 1) (marked n marks)) out starts darts count) where
-    pub out-whole : Whole n (column b 1) (column b 2) (take darts out)
+    pub out-whole : WholeCells n (column b 1) (column b 2) (take darts out)
     out-whole = rw (o .order) whole
 
     -- what `number_vertices` asks of the order

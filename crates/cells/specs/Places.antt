@@ -118,7 +118,7 @@ pub record Numbered (nx op : ℕ → ℕ) (l numbers firsts : List ℕ) (count :
   pub firsts-in : (k : ℕ) → k < count → mem (getD firsts k 0) l ≡ true
 
 -- places below n that two links lead to themselves, each once
-pub record Whole (n : ℕ) (nx op : ℕ → ℕ) (l : List ℕ) : Type 0 where
+pub record WholeCells (n : ℕ) (nx op : ℕ → ℕ) (l : List ℕ) : Type 0 where
   pub few : length l ≤ room
   pub once : distinct l ≡ true
   pub below : (p : ℕ) → mem p l ≡ true → p < n

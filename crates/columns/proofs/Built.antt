@@ -2,7 +2,7 @@
 use mathlib.Core.Path.{_≡_, refl, sym, ap, _∙_}
 use mathlib.Core.Bool.{true, _&&_}
 use mathlib.Core.List.{List}
-use Prim.Native.Nat.{ℕ, zero, suc, _<_, _^_}
+use Prim.Native.Nat.{ℕ, zero, suc, _+_, _*_, _<_, _^_}
 use native.Mathlib.Omega.{arith}
 use lib.Dec.{leb, ltb}
 use lib.ListN.{length, getD}
@@ -17,6 +17,7 @@ use Rattle.laws.specs.Order.{Ascending}
 use Rattle.laws.proofs.Tables.{map-tab, ascending-tab}
 use Rattle.theory.proofs.ImageLaws.{tab-list, column-is, ranges-of}
 use Rattle.columns.specs.Columns.{before, Kind, kind-free, kind-sewn, kind-critical, Ranged}
+use Rattle.columns.proofs.Thirds.{with-critical}
 use Rattle.columns.proofs.Images.{image-rest}
 
 third-kind : (ss : List ℕ) (t : Third) → third-in-range t ≡ true → Kind (kind-word t) (link-word ss t)
@@ -32,7 +33,7 @@ third-kind ss (critical o l) r =
     let maker = leb-true (l .maker) 15 (and-right (leb o 15) _ e2) in
     let number = ltb-true (l .number) (2 ^ 32) (and-right two _ e3) in
     let position = leb-true (l .position) 4095 (and-right three _ r) in
-    kind-critical (omega arith) (omega (arith, other)) (omega (arith, maker, number, position))
+    kind-critical (with-critical (2 + 4 * o) o refl) (omega (arith, other)) (omega (arith, maker, number, position))
 
 module _ (size : ℕ) (b : Block) (r : ranges-right widest b ≡ true) where
   dart : ℕ → Dart

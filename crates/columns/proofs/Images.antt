@@ -15,14 +15,14 @@ use Rattle.model.specs.Lists.{all, tab, ascending, concat, index-of}
 use Rattle.model.specs.Values.{free, sewn, critical, no-dart, Block, widest, serial-bound, room}
 use Rattle.model.specs.Cells.{serials}
 use Rattle.model.specs.Sound.{third-in-range, dart-in-range, ranges-right}
-use Rattle.model.specs.Image.{words-for, kind-word, link-word, dart-words, image, column, label-in, third-in, dart-in, block-in}
+use Rattle.model.specs.Image.{words-for, kind-word, link-word, dart-words, image, column, is-sewn-word, label-in, third-in, dart-in, block-in}
 use Rattle.laws.proofs.Tests.{by-cases, lt-or-ge, and-intro, and-left, and-right}
 use Rattle.laws.proofs.Lists.{getD-zeros}
 use Rattle.laws.specs.Order.{Ascending}
 use Rattle.laws.proofs.Tables.{length-tab, getD-tab, all-tab, tab-all, map-tab, tab-ascending, ascending-tab, index-place}
 use Rattle.theory.proofs.ImageLaws.{column-is, image-length, ranges-of, rows-length}
 use Rattle.columns.specs.Columns.{count, before, Kind, kind-free, kind-sewn, kind-critical, Ranged, Places, SewnPlaces}
-use Rattle.columns.proofs.Thirds.{third-free, third-sewn, third-critical, kind-back, link-back}
+use Rattle.columns.proofs.Thirds.{with-critical, third-free, third-sewn, third-critical, kind-back, link-back}
 
 -- serials each above the one before ascend
 pub ascends : (s : ℕ → ℕ) (n : ℕ) → ((p : ℕ) → p < n → before s p < s p) → Ascending n s
@@ -67,7 +67,7 @@ module _ (m : List ℕ) where
       let kw : k ≡ 2 + 4 * (k / 4) = ek ∙ ap kind-word e in
       let other = leb-true (k / 4) 15 (and-left (leb (k / 4) 15) _ three) in
       let maker = leb-true (a / 4096 / 2 ^ 32) 15 (and-right (leb (k / 4) 15) _ three) in
-      kind-critical (omega (arith, kw)) (omega (arith, other)) (omega (arith, maker))))
+      kind-critical (with-critical k (k / 4) kw) (omega (arith, other)) (omega (arith, maker))))
     where
       k : ℕ
       k = column m 3 p
@@ -137,7 +137,7 @@ module _ (m : List ℕ) (w : Ranged m) where
     words-back p h (suc zero) k = place-back (column m 1 p) (g .next-lt p h)
     words-back p h (suc (suc zero)) k = place-back (column m 2 p) (g .opposite-lt p h)
     words-back p h (suc (suc (suc zero))) k = kind-back (column m 0) (column m 3 p) (column m 4 p) (w .kinds p h)
-    words-back p h (suc (suc (suc (suc zero)))) k = link-back (column m 0) (tab (column m 0) (count m)) (column m 3 p) (column m 4 p) (w .kinds p h) (λ e. place-back (column m 4 p) (s p h e))
+    words-back p h (suc (suc (suc (suc zero)))) k = link-back (column m 0) (tab (column m 0) (count m)) (column m 3 p) (column m 4 p) (w .kinds p h) (λ e. place-back (column m 4 p) (s p h (ap is-sewn-word e)))
     words-back p h (suc (suc (suc (suc (suc zero))))) k = refl
     words-back p h (suc (suc (suc (suc (suc (suc zero)))))) k = refl
     words-back p h (suc (suc (suc (suc (suc (suc (suc zero))))))) k = refl

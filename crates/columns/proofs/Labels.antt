@@ -6,7 +6,6 @@ use mathlib.Core.Option.{Option, none, some}
 use Prim.Native.Nat.{ℕ, zero, suc, _<_}
 use native.Mathlib.Omega.{arith}
 use lib.ListN.{getD}
-use borrow.Author.Tests.{le-ltb, lt-ltb}
 use Rattle.model.specs.Lists.{tab, more, collect, distinct}
 use Rattle.model.specs.Values.{Label, Dart, code, label-of}
 use Rattle.model.specs.Cells.{labels}
@@ -23,7 +22,7 @@ pub label-is : (s : ℕ → ℕ) (me counter k a : ℕ) → Kind k a → label-r
 unfolding label-test
 label-is s me counter k a (kind-free e f) = rw (third-free s k a e, e) refl
 label-is s me counter k a (kind-sewn e) = rw (third-sewn s k a e, e) refl
-label-is s me counter k a (kind-critical e f g) = rw (third-critical s k a e, le-ltb k 2 (omega arith)) refl
+label-is s me counter k a (kind-critical e f g) = rw (third-critical s k a e, e) refl
 
 -- THE LABELS, in the order of the darts
 labels-append : (x y : List Dart) → labels (x ++ y) ≡ labels x ++ labels y
@@ -46,9 +45,9 @@ codes-are m (suc n) h =
     ∙ last (h n (omega arith))
   where
     last : Kind (column m 3 n) (column m 4 n) → codes m n ++ map code (labels (dart-in m n ∷ [])) ≡ codes m (suc n)
-    last (kind-free e f) = rw (third-free (column m 0) (column m 3 n) (column m 4 n) e, le-ltb 1 (column m 3 n) (omega arith)) (append-nil (codes m n))
-    last (kind-sewn e) = rw (third-sewn (column m 0) (column m 3 n) (column m 4 n) e, le-ltb 1 (column m 3 n) (omega arith)) (append-nil (codes m n))
-    last (kind-critical e f g) = rw (third-critical (column m 0) (column m 3 n) (column m 4 n) e, lt-ltb 1 (column m 3 n) (omega arith)) (ap (λ (z : ℕ). codes m n ++ z ∷ []) (code-in (column m 4 n)))
+    last (kind-free e f) = rw (third-free (column m 0) (column m 3 n) (column m 4 n) e, e) (append-nil (codes m n))
+    last (kind-sewn e) = rw (third-sewn (column m 0) (column m 3 n) (column m 4 n) e, e) (append-nil (codes m n))
+    last (kind-critical e f g) = rw (third-critical (column m 0) (column m 3 n) (column m 4 n) e, e) (ap (λ (z : ℕ). codes m n ++ z ∷ []) (code-in (column m 4 n)))
 
 -- QUESTION 7
 pub labels-are : (m : List ℕ) → Ranged m → (all-below (own-test m) (count m) && distinct (codes m (count m))) ≡ labels-right (block-in m)

@@ -1,15 +1,14 @@
 -- Question 2 of one dart: what its own test and its far test say, beside questions 3 to 8. Assumes nothing.
-use mathlib.Core.Path.{_≡_, refl, _∙_}
+use mathlib.Core.Path.{_≡_, refl, ap, _∙_}
 use mathlib.Core.Bool.{true, not, _&&_}
 use mathlib.Core.List.{List}
-use mathlib.Core.Logic.{⊎-elim}
 use Prim.Native.Nat.{ℕ, _<_, _^_}
 use lib.Dec.{ltb, eqb}
 use lib.ListN.{getD}
-use borrow.Author.Tests.{eqb-true, eq-eqb, ne-eqb, eqb-false, ltb-true, lt-ltb, not-true}
+use borrow.Author.Tests.{eqb-true, eq-eqb, eqb-false, ltb-true, lt-ltb, not-true}
 use Rattle.model.specs.Values.{finite}
-use Rattle.model.specs.Image.{column, dart-in}
-use Rattle.laws.proofs.Tests.{eq-or-ne, and-intro, and-left, and-right, not-equal}
+use Rattle.model.specs.Image.{column, is-sewn-word, dart-in}
+use Rattle.laws.proofs.Tests.{by-cases, and-intro, and-left, and-right, not-equal}
 use Rattle.columns.specs.Columns.{before, count, place-test, dart-test, same-at, far-test, sewn-test, link-test, third-test, point-test}
 use Rattle.columns.proofs.Thirds.{KindRight, kind-says, kind-yes}
 use Rattle.columns.proofs.Links.{linked, link-yes}
@@ -66,7 +65,7 @@ pub record FarRight (m : List ℕ) (p : ℕ) : Type 0 where
   pub back : column m 2 (column m 2 p) ≡ p
   pub next-kind : column m 3 (column m 1 p) ≡ column m 3 p
   pub point : same-at m p (column m 1 (column m 2 p)) ≡ true
-  pub if-sewn : column m 3 p ≡ 1 → (sewn-test m p (column m 4 p) (column m 4 (column m 1 p)) ≡ true) × (same-at m p (column m 1 (column m 4 p)) ≡ true)
+  pub if-sewn : is-sewn-word (column m 3 p) ≡ true → (sewn-test m p (column m 4 p) (column m 4 (column m 1 p)) ≡ true) × (same-at m p (column m 1 (column m 4 p)) ≡ true)
 
 pub far-says : (m : List ℕ) (p : ℕ) → far-test m p ≡ true → FarRight m p
 unfolding far-test
@@ -82,23 +81,23 @@ far-says m p e =
       next-kind = eqb-true _ _ (and-right a _ eb);
       point = and-right b _ ec;
       if-sewn = λ k.
-          let t : (s && same-at m p (column m 1 (column m 4 p))) ≡ true = rw (eq-eqb (column m 3 p) 1 k) at (and-right c _ e) in
+          let t : (s && same-at m p (column m 1 (column m 4 p))) ≡ true = rw k at (and-right c _ e) in
           (and-left s _ t, and-right s _ t);
     }
 
 pub far-yes : (m : List ℕ) (p : ℕ) → FarRight m p → far-test m p ≡ true
 unfolding far-test
 far-yes m p f = and-intro (and-intro (and-intro (eq-eqb _ _ (f .back)) (eq-eqb _ _ (f .next-kind))) (f .point))
-    (⊎-elim (λ k. rw (eq-eqb (column m 3 p) 1 k) (and-intro (f .if-sewn k .0) (f .if-sewn k .1))) (λ k. rw (ne-eqb (column m 3 p) 1 k) refl) (eq-or-ne (column m 3 p) 1))
+    (by-cases (is-sewn-word (column m 3 p)) (λ k. rw k (and-intro (f .if-sewn k .0) (f .if-sewn k .1))) (λ k. rw k refl))
 
 -- QUESTIONS 5, 6 AND 8 of one dart
 module _ (m : List ℕ) (n : ℕ) (d : (p : ℕ) → p < n → DartRight m n p) (p : ℕ) (h : p < n) where
-  sewn-here : FarRight m p → column m 3 p ≡ 1 → Sewn m n p
+  sewn-here : FarRight m p → is-sewn-word (column m 3 p) ≡ true → Sewn m n p
   unfolding sewn-test
   sewn-here f k =
       let l = column m 4 p in
       let z = column m 4 (column m 1 p) in
-      let a = eqb (column m 3 l) 1 in
+      let a = is-sewn-word (column m 3 l) in
       let b = a && eqb (column m 4 l) p in
       let c = b && not (eqb l p) in
       let e = f .if-sewn k .0 in
@@ -106,8 +105,8 @@ module _ (m : List ℕ) (n : ℕ) (d : (p : ℕ) → p < n → DartRight m n p) 
       let eb = and-left b _ ec in
       record {
         sewn-lt = d p h .words-right .sewn-lt k;
-        next-sewn-lt = d (column m 1 p) (d p h .next-lt) .words-right .sewn-lt (f .next-kind ∙ k);
-        kind = eqb-true _ _ (and-left a _ eb);
+        next-sewn-lt = d (column m 1 p) (d p h .next-lt) .words-right .sewn-lt (ap is-sewn-word (f .next-kind) ∙ k);
+        kind = and-left a _ eb;
         back = eqb-true _ _ (and-right a _ eb);
         other = eqb-false _ _ (not-true _ (and-right b _ ec));
         along = eqb-true _ _ (and-right c _ e);
@@ -121,18 +120,18 @@ module _ (m : List ℕ) (n : ℕ) (d : (p : ℕ) → p < n → DartRight m n p) 
 
   pub points-here : FarRight m p → point-test m p ≡ true
   unfolding point-test
-  points-here f = and-intro (f .point) (⊎-elim (λ k. rw (eq-eqb (column m 3 p) 1 k) (f .if-sewn k .1)) (λ k. rw (ne-eqb (column m 3 p) 1 k) refl) (eq-or-ne (column m 3 p) 1))
+  points-here f = and-intro (f .point) (by-cases (is-sewn-word (column m 3 p)) (λ k. rw k (f .if-sewn k .1)) (λ k. rw k refl))
 
 -- back again
-points-says : (m : List ℕ) (p : ℕ) → point-test m p ≡ true → (same-at m p (column m 1 (column m 2 p)) ≡ true) × (column m 3 p ≡ 1 → same-at m p (column m 1 (column m 4 p)) ≡ true)
+points-says : (m : List ℕ) (p : ℕ) → point-test m p ≡ true → (same-at m p (column m 1 (column m 2 p)) ≡ true) × (is-sewn-word (column m 3 p) ≡ true → same-at m p (column m 1 (column m 4 p)) ≡ true)
 unfolding point-test
 points-says m p e =
     let a = same-at m p (column m 1 (column m 2 p)) in
-    (and-left a _ e, λ k. rw (eq-eqb (column m 3 p) 1 k) at (and-right a _ e))
+    (and-left a _ e, λ k. rw k at (and-right a _ e))
 
 sewn-yes : (m : List ℕ) (n p : ℕ) → Sewn m n p → sewn-test m p (column m 4 p) (column m 4 (column m 1 p)) ≡ true
 unfolding sewn-test
-sewn-yes m n p s = and-intro (and-intro (and-intro (eq-eqb _ _ (s .kind)) (eq-eqb _ _ (s .back))) (not-equal _ _ (s .other))) (eq-eqb _ _ (s .along))
+sewn-yes m n p s = and-intro (and-intro (and-intro (s .kind) (eq-eqb _ _ (s .back))) (not-equal _ _ (s .other))) (eq-eqb _ _ (s .along))
 
 pub far-from : (m : List ℕ) (n p : ℕ) → link-test m n p ≡ true → third-test m n p ≡ true → point-test m p ≡ true → FarRight m p
 far-from m n p l t q =

@@ -3,15 +3,13 @@ use mathlib.Core.Path.{_≡_, refl, ap, _∙_}
 use mathlib.Core.Bool.{Bool, _&&_}
 use mathlib.Core.List.{List}
 use Prim.Native.Nat.{ℕ, _<_}
-use native.Mathlib.Omega.{arith}
-use borrow.Author.Tests.{ne-eqb}
 use Rattle.model.specs.Values.{Dart, same-point, finite}
 use Rattle.model.specs.Cells.{dart-at, next-in}
 use Rattle.model.specs.Sound.{coordinates-finite, sewn-points, points-agree}
-use Rattle.model.specs.Image.{column, third-in, dart-in}
+use Rattle.model.specs.Image.{column, is-sewn-word, third-in, dart-in}
 use Rattle.columns.specs.Columns.{all-below, count, Kind, kind-free, kind-sewn, kind-critical, Ranged, Places, SewnPlaces, same-at, point-test}
 use Rattle.columns.proofs.Below.{all-is, all-tests}
-use Rattle.columns.proofs.Thirds.{third-free, third-sewn, third-critical}
+use Rattle.columns.proofs.Thirds.{critical-unsewn, third-free, third-sewn, third-critical}
 use Rattle.columns.proofs.Held.{darts, dart-is}
 
 -- QUESTION 4
@@ -36,12 +34,12 @@ module _ (m : List ℕ) (w : Ranged m) (g : Places m (count m)) (s : SewnPlaces 
       && sewn-points (darts m) (dart-in m p) (third-in (column m 0) (column m 3 p) (column m 4 p))) ≡ point-test m p
   unfolding point-test
   point-is p h (kind-free e _) = rw (agrees p (column m 2 p) (g .opposite-lt p h), third-free (column m 0) (column m 3 p) (column m 4 p) e, e) refl
-  point-is p h (kind-sewn e) = rw (agrees p (column m 2 p) (g .opposite-lt p h), third-sewn (column m 0) (column m 3 p) (column m 4 p) e, agrees p (column m 4 p) (s p h e), e) refl
+  point-is p h (kind-sewn e) = rw (agrees p (column m 2 p) (g .opposite-lt p h), third-sewn (column m 0) (column m 3 p) (column m 4 p) e, agrees p (column m 4 p) (s p h (ap is-sewn-word e)), e) refl
   point-is p h (kind-critical e o a) =
       rw (
         agrees p (column m 2 p) (g .opposite-lt p h),
         third-critical (column m 0) (column m 3 p) (column m 4 p) e,
-        ne-eqb (column m 3 p) 1 (λ q. omega (arith, e, q)),
+        critical-unsewn (column m 3 p) e,
       ) refl
 
   pub points-are : all-below (point-test m) (count m) ≡ points-agree (darts m)

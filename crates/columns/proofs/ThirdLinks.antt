@@ -2,26 +2,25 @@
 use mathlib.Core.Path.{_≡_, refl, sym, ap, _∙_}
 use mathlib.Core.Bool.{true, false, false≢true, not, _&&_}
 use mathlib.Core.List.{List}
-use mathlib.Core.Logic.{⊎-elim}
-use Prim.Native.Nat.{ℕ, _/_, _%_, _<_}
+use Prim.Native.Nat.{ℕ, _/_, _<_}
 use native.Mathlib.Omega.{arith}
 use lib.Dec.{ltb, eqb}
 use borrow.Author.Tests.{eq-eqb, ne-eqb, eqb-true, eqb-false, lt-ltb, ltb-true, not-true}
 use Rattle.model.specs.Values.{Third, sewn, Dart, is-free, is-sewn-to, is-critical-with}
 use Rattle.model.specs.Cells.{held, next-in, third-at}
 use Rattle.model.specs.Sound.{sewn-along, third-right, thirds-right}
-use Rattle.model.specs.Image.{column, third-in, dart-in}
-use Rattle.laws.proofs.Tests.{eq-or-ne, and-intro, and-left, and-right, not-equal}
+use Rattle.model.specs.Image.{column, is-sewn-word, is-critical-word, third-in, dart-in}
+use Rattle.laws.proofs.Tests.{by-cases, and-intro, and-left, and-right, not-equal}
 use Rattle.laws.proofs.Tables.{all-tab, tab-all, held-place}
 use Rattle.columns.specs.Columns.{count, Kind, kind-free, kind-sewn, kind-critical, Ranged, Places, SewnPlaces, sewn-test, third-test}
-use Rattle.columns.proofs.Thirds.{third-free, third-sewn, third-critical}
+use Rattle.columns.proofs.Thirds.{critical-two, third-free, third-sewn, third-critical, kind-one}
 use Rattle.columns.proofs.Held.{darts, dart-is, one-serial, eq-place, held-lt}
 
 -- what the test says of a sewn dart
 pub record Sewn (m : List ℕ) (n p : ℕ) : Type 0 where
   pub sewn-lt : column m 4 p < n
   pub next-sewn-lt : column m 4 (column m 1 p) < n
-  pub kind : column m 3 (column m 4 p) ≡ 1
+  pub kind : is-sewn-word (column m 3 (column m 4 p)) ≡ true
   pub back : column m 4 (column m 4 p) ≡ p
   pub other : column m 4 p ≡ p → ⊥
   pub along : column m 1 (column m 4 (column m 1 p)) ≡ column m 4 p
@@ -30,15 +29,15 @@ pub same-kind : (m : List ℕ) (n p : ℕ) → third-test m n p ≡ true → col
 unfolding third-test
 same-kind m n p e = eqb-true _ _ (and-left (eqb (column m 3 (column m 1 p)) (column m 3 p)) _ e)
 
-pub sewn-says : (m : List ℕ) (n p : ℕ) → third-test m n p ≡ true → column m 3 p ≡ 1 → Sewn m n p
+pub sewn-says : (m : List ℕ) (n p : ℕ) → third-test m n p ≡ true → is-sewn-word (column m 3 p) ≡ true → Sewn m n p
 unfolding third-test sewn-test
 sewn-says m n p e k =
     let l = column m 4 p in
     let z = column m 4 (column m 1 p) in
     let within = ltb l n && ltb z n in
-    let two = eqb (column m 3 l) 1 && eqb (column m 4 l) p in
+    let two = is-sewn-word (column m 3 l) && eqb (column m 4 l) p in
     let three = two && not (eqb l p) in
-    let s : (within && (three && eqb (column m 1 z) l)) ≡ true = rw (eq-eqb (column m 3 p) 1 k) at (and-right (eqb (column m 3 (column m 1 p)) (column m 3 p)) _ e) in
+    let s : (within && (three && eqb (column m 1 z) l)) ≡ true = rw k at (and-right (eqb (column m 3 (column m 1 p)) (column m 3 p)) _ e) in
     let a = and-left within _ s in
     let b = and-right within _ s in
     let c = and-left three _ b in
@@ -46,20 +45,20 @@ sewn-says m n p e k =
     record {
       sewn-lt = ltb-true _ _ (and-left (ltb l n) _ a);
       next-sewn-lt = ltb-true _ _ (and-right (ltb l n) _ a);
-      kind = eqb-true _ _ (and-left (eqb (column m 3 l) 1) _ d);
-      back = eqb-true _ _ (and-right (eqb (column m 3 l) 1) _ d);
+      kind = and-left (is-sewn-word (column m 3 l)) _ d;
+      back = eqb-true _ _ (and-right (is-sewn-word (column m 3 l)) _ d);
       other = eqb-false _ _ (not-true _ (and-right two _ c));
       along = eqb-true _ _ (and-right three _ b);
     }
 
-pub third-yes : (m : List ℕ) (n p : ℕ) → column m 3 (column m 1 p) ≡ column m 3 p → (column m 3 p ≡ 1 → Sewn m n p) → third-test m n p ≡ true
+pub third-yes : (m : List ℕ) (n p : ℕ) → column m 3 (column m 1 p) ≡ column m 3 p → (is-sewn-word (column m 3 p) ≡ true → Sewn m n p) → third-test m n p ≡ true
 unfolding third-test sewn-test
-third-yes m n p e s = and-intro (eq-eqb _ _ e) (⊎-elim (λ k. rw (eq-eqb (column m 3 p) 1 k) (yes (s k))) (λ k. rw (ne-eqb (column m 3 p) 1 k) refl) (eq-or-ne (column m 3 p) 1))
+third-yes m n p e s = and-intro (eq-eqb _ _ e) (by-cases (is-sewn-word (column m 3 p)) (λ k. rw k (yes (s k))) (λ k. rw k refl))
   where
     yes : Sewn m n p → ((ltb (column m 4 p) n && ltb (column m 4 (column m 1 p)) n)
-        && (eqb (column m 3 (column m 4 p)) 1 && eqb (column m 4 (column m 4 p)) p && not (eqb (column m 4 p) p) && eqb (column m 1 (column m 4 (column m 1 p))) (column m 4 p))) ≡ true
+        && (is-sewn-word (column m 3 (column m 4 p)) && eqb (column m 4 (column m 4 p)) p && not (eqb (column m 4 p) p) && eqb (column m 1 (column m 4 (column m 1 p))) (column m 4 p))) ≡ true
     yes t = and-intro (and-intro (lt-ltb _ _ (t .sewn-lt)) (lt-ltb _ _ (t .next-sewn-lt)))
-        (and-intro (and-intro (and-intro (eq-eqb _ _ (t .kind)) (eq-eqb _ _ (t .back))) (not-equal _ _ (t .other))) (eq-eqb _ _ (t .along)))
+        (and-intro (and-intro (and-intro (t .kind) (eq-eqb _ _ (t .back))) (not-equal _ _ (t .other))) (eq-eqb _ _ (t .along)))
 
 pub sewn-places : (m : List ℕ) (n : ℕ) → ((p : ℕ) → p < n → third-test m n p ≡ true) → SewnPlaces m n
 sewn-places m n t p h k = sewn-says m n p (t p h) k .sewn-lt
@@ -87,12 +86,12 @@ module _ (m : List ℕ) (w : Ranged m) (g : Places m (count m)) where
             third-free (column m 0) (column m 3 (column m 1 p)) (column m 4 (column m 1 p)) (same-kind m (count m) p (t p h) ∙ e),
           ) refl
       one p h (kind-sewn e) =
-          let s = sewn-says m (count m) p (t p h) e in
+          let s = sewn-says m (count m) p (t p h) (ap is-sewn-word e) in
           let l = s .sewn-lt in
           rw (third-sewn (column m 0) (column m 3 p) (column m 4 p) e)
           (and-intro (and-intro (and-intro
           (held-place (dart-in m) (count m) (column m 4 p) _ l refl)
-          (rw (third-is (column m 4 p) l, third-sewn (column m 0) (column m 3 (column m 4 p)) (column m 4 (column m 4 p)) (s .kind)) (eq-eqb _ _ (ap (column m 0) (sym (s .back))))))
+          (rw (third-is (column m 4 p) l, third-sewn (column m 0) (column m 3 (column m 4 p)) (column m 4 (column m 4 p)) (kind-one (w .kinds (column m 4 p) l) (s .kind))) (eq-eqb _ _ (ap (column m 0) (sym (s .back))))))
           (rw (eq-place m w (column m 4 p) p l h, ne-eqb (column m 4 p) p (s .other)) refl))
           (rw (third-is (column m 1 p) (g .next-lt p h), third-sewn (column m 0) (column m 3 (column m 1 p)) (column m 4 (column m 1 p)) (same-kind m (count m) p (t p h) ∙ e))
           (eq-eqb _ _ (next-is (column m 4 (column m 1 p)) (s .next-sewn-lt) ∙ ap (column m 0) (s .along)))))
@@ -101,7 +100,7 @@ module _ (m : List ℕ) (w : Ranged m) (g : Places m (count m)) where
           rw (
             third-critical (column m 0) (column m 3 p) (column m 4 p) e,
             third-is (column m 1 p) (g .next-lt p h),
-            third-critical (column m 0) (column m 3 (column m 1 p)) (column m 4 (column m 1 p)) (ap (λ (x : ℕ). x % 4) same ∙ e),
+            third-critical (column m 0) (column m 3 (column m 1 p)) (column m 4 (column m 1 p)) (ap (λ (x : ℕ). is-critical-word x) same ∙ e),
           )
           (eq-eqb _ _ (ap (λ (x : ℕ). x / 4) (sym same)))
 
@@ -200,20 +199,21 @@ module _ (m : List ℕ) (w : Ranged m) (g : Places m (count m)) where
         go (kind-sewn c) t = absurd (false≢true (sym (ap (is-critical-with (column m 3 p / 4)) (third-sewn (column m 0) (column m 3 x) (column m 4 x) c)) ∙ t))
         go (kind-critical c d f) t =
             let q : column m 3 p / 4 ≡ column m 3 x / 4 = eqb-true _ _ (sym (ap (is-critical-with (column m 3 p / 4)) (third-critical (column m 0) (column m 3 x) (column m 4 x) c)) ∙ t) in
-            omega (arith, q, e, c)
+            omega (arith, q, critical-two (column m 3 p) e, critical-two (column m 3 x) c)
 
     pub thirds-says : (p : ℕ) → p < count m → third-test m (count m) p ≡ true
     thirds-says p h =
         let x = g .next-lt p h in
         let same = kinds-same p h (w .kinds p h) (w .kinds (column m 1 p) x) in
-        third-yes m (count m) p same (λ e.
+        third-yes m (count m) p same (λ is-sewn.
+        let e = kind-one (w .kinds p h) is-sewn in
         let l = sewn-lt p h e in
         let b = sewn-back p h e (w .kinds (column m 4 p) l) in
         let n = sewn-next p h e (w .kinds (column m 1 p) x) in
         record {
           sewn-lt = l;
           next-sewn-lt = sewn-lt (column m 1 p) x (n .0);
-          kind = b .0;
+          kind = ap is-sewn-word (b .0);
           back = b .1;
           other = λ q. eqb-false _ _ (not-true _ (sewn-right p h e .other)) (ap (column m 0) q);
           along = n .1;

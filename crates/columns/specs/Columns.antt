@@ -11,7 +11,7 @@ use Prim.Native.Nat.{ℕ, zero, suc, _+_, _*_, _/_, _%_, _≤_, _<_, _^_}
 use lib.Dec.{leb, ltb, eqb}
 use lib.ListN.{getD}
 use Rattle.model.specs.Values.{same-point, finite, room, blocks}
-use Rattle.model.specs.Image.{column, dart-in, label-in, is-critical-word, other-in}
+use Rattle.model.specs.Image.{column, dart-in, label-in, is-sewn-word, is-critical-word, other-in}
 
 unfoldable pub all-below : (ℕ → Bool) → ℕ → Bool
 all-below t zero = true
@@ -37,15 +37,15 @@ link-test m n p = (ltb (column m 1 p) n && ltb (column m 2 p) n) && (not (eqb (c
 
 -- 6: p is sewn to the dart at l, and next p to the one at z
 unfoldable pub sewn-test : List ℕ → ℕ → ℕ → ℕ → Bool
-sewn-test m p l z = eqb (column m 3 l) 1 && eqb (column m 4 l) p && not (eqb l p) && eqb (column m 1 z) l
+sewn-test m p l z = is-sewn-word (column m 3 l) && eqb (column m 4 l) p && not (eqb l p) && eqb (column m 1 z) l
 
 unfoldable pub third-test : List ℕ → ℕ → ℕ → Bool
 third-test m n p = eqb (column m 3 (column m 1 p)) (column m 3 p)
-    && (not (eqb (column m 3 p) 1) || ((ltb (column m 4 p) n && ltb (column m 4 (column m 1 p)) n) && sewn-test m p (column m 4 p) (column m 4 (column m 1 p))))
+    && (not (is-sewn-word (column m 3 p)) || ((ltb (column m 4 p) n && ltb (column m 4 (column m 1 p)) n) && sewn-test m p (column m 4 p) (column m 4 (column m 1 p))))
 
 -- 7, but for labels being different: of block `me`, with its counter
 unfoldable pub label-test : ℕ → ℕ → ℕ → ℕ → Bool
-label-test me counter k a = ltb k 2 || (not (eqb (other-in k) me) && (not (eqb (label-in a .maker) me) || ltb (label-in a .number) counter))
+label-test me counter k a = not (is-critical-word k) || (not (eqb (other-in k) me) && (not (eqb (label-in a .maker) me) || ltb (label-in a .number) counter))
 
 abbrev pub own-test : List ℕ → ℕ → Bool
 own-test m p = label-test (getD m 0 0) (getD m 1 0) (column m 3 p) (column m 4 p)
@@ -53,14 +53,14 @@ own-test m p = label-test (getD m 0 0) (getD m 1 0) (column m 3 p) (column m 4 p
 -- the labels of the critical of the first n darts, in order
 unfoldable pub codes : List ℕ → ℕ → List ℕ
 codes m zero = []
-codes m (suc n) = cond (ltb 1 (column m 3 n)) (codes m n ++ column m 4 n ∷ []) (codes m n)
+codes m (suc n) = cond (is-critical-word (column m 3 n)) (codes m n ++ column m 4 n ∷ []) (codes m n)
 
 -- 8: the points at p and v are one
 abbrev pub same-at : List ℕ → ℕ → ℕ → Bool
 same-at m p v = same-point (dart-in m p .point) (dart-in m v .point)
 
 unfoldable pub point-test : List ℕ → ℕ → Bool
-point-test m p = same-at m p (column m 1 (column m 2 p)) && (not (eqb (column m 3 p) 1) || same-at m p (column m 1 (column m 4 p)))
+point-test m p = same-at m p (column m 1 (column m 2 p)) && (not (is-sewn-word (column m 3 p)) || same-at m p (column m 1 (column m 4 p)))
 
 -- QUESTION 2 of one dart
 -- its serial is above the last one, its point finite, next and opposite held
@@ -68,13 +68,13 @@ unfoldable pub place-test : List ℕ → ℕ → ℕ → ℕ → Bool
 place-test m n last p = ltb last (column m 0 p) && ltb (column m 0 p) (2 ^ 32) && finite (dart-in m p .point)
     && ltb (column m 1 p) n && ltb (column m 2 p) n && not (eqb (column m 2 p) p)
 
--- of block `me`, with its counter: a kind word and a label that are right
+-- of block `me`, with its counter: what a critical dart's words name is right
 unfoldable pub critical-test : ℕ → ℕ → ℕ → ℕ → Bool
-critical-test me counter k a = is-critical-word k && ltb (other-in k) blocks && ltb a (2 ^ 48)
+critical-test me counter k a = ltb (other-in k) blocks && ltb a (2 ^ 48)
     && not (eqb (other-in k) me) && (not (eqb (label-in a .maker) me) || ltb (label-in a .number) counter)
 
 unfoldable pub kind-test : ℕ → ℕ → ℕ → ℕ → ℕ → Bool
-kind-test me counter n k a = cond (ltb k 2) ((eqb k 0 && eqb a 0) || (eqb k 1 && ltb a n)) (critical-test me counter k a)
+kind-test me counter n k a = cond (is-critical-word k) (critical-test me counter k a) ((eqb k 0 && eqb a 0) || (eqb k 1 && ltb a n))
 
 unfoldable pub dart-test : List ℕ → ℕ → ℕ → Bool
 dart-test m n p = place-test m n (before (column m 0) p) p && kind-test (getD m 0 0) (getD m 1 0) n (column m 3 p) (column m 4 p)
@@ -82,13 +82,13 @@ dart-test m n p = place-test m n (before (column m 0) p) p && kind-test (getD m 
 -- with the darts that it links to, where each passes its own test
 unfoldable pub far-test : List ℕ → ℕ → Bool
 far-test m p = (eqb (column m 2 (column m 2 p)) p && eqb (column m 3 (column m 1 p)) (column m 3 p) && same-at m p (column m 1 (column m 2 p)))
-    && (not (eqb (column m 3 p) 1) || (sewn-test m p (column m 4 p) (column m 4 (column m 1 p)) && same-at m p (column m 1 (column m 4 p))))
+    && (not (is-sewn-word (column m 3 p)) || (sewn-test m p (column m 4 p) (column m 4 (column m 1 p)) && same-at m p (column m 1 (column m 4 p))))
 
 -- FACTS that the tests leave behind
 pub data Kind (k a : ℕ) : Type 0 where
   kind-free : k ≡ 0 → a ≡ 0 → Kind k a
   kind-sewn : k ≡ 1 → Kind k a
-  kind-critical : k % 4 ≡ 2 → other-in k < blocks → a < 2 ^ 48 → Kind k a
+  kind-critical : is-critical-word k ≡ true → other-in k < blocks → a < 2 ^ 48 → Kind k a
 
 pub record Ranged (m : List ℕ) : Type 0 where
   pub number-small : getD m 0 0 < blocks
@@ -107,7 +107,7 @@ pub record Places (m : List ℕ) (n : ℕ) : Type 0 where
 
 -- and so do sewn darts' third links
 abbrev pub SewnPlaces : List ℕ → ℕ → Type 0
-SewnPlaces m n = (p : ℕ) → p < n → column m 3 p ≡ 1 → column m 4 p < n
+SewnPlaces m n = (p : ℕ) → p < n → is-sewn-word (column m 3 p) ≡ true → column m 4 p < n
 
 -- f is one to one below n
 abbrev pub OneToOne : (ℕ → ℕ) → ℕ → Type 0

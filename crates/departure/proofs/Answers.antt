@@ -13,22 +13,21 @@ use Rattle.model.specs.Lists.{all, any}
 use Rattle.model.specs.Values.{room}
 use Rattle.model.specs.Cells.{held, next-in, opposite-in, third-at, volume-in}
 use Rattle.model.specs.Image.{count-in, column}
-use Rattle.model.specs.Departure.{is-sewn-into, sewn-faces}
+use Rattle.model.specs.Departure.{is-sewn-into}
 use Rattle.model.specs.Links.{pairs-once, vertex-pairs}
 use Rattle.memory.specs.Lookup.{place-in}
 use Rattle.memory.specs.declared.record.Place.{Place}
 use Rattle.memory.specs.declared.lookup.Found.{Found}
 use Rattle.memory.specs.declared.lookup.Found.the-variants.{At, Nothing}
 use Rattle.memory.proofs.Lookups.{place-at, held-at, held-nothing}
-use Rattle.cells.specs.Places.{InOrder, Marked, Numbered, Whole, ends-once, places-in, sewn-in, volume-of}
+use Rattle.cells.specs.Places.{InOrder, Marked, Numbered, WholeCells, ends-once, places-in, sewn-in, volume-of}
 use Rattle.cells.proofs.Sited.{Sited, darts-in}
 use Rattle.cells.proofs.Serials.{volume-size}
 use Rattle.cells.proofs.SewnLaws.{question-12}
-use Rattle.cells.proofs.StartLaws.{question-14}
 use Rattle.cells.proofs.VolumeReady.{out-few, out-long, out-below, out-marked, out-any}
 use Rattle.cells.proofs.VolumeArrays.{out-count, pairs-answer}
 use Rattle.departure.specs.Asked.{faces-at}
-use Rattle.departure.specs.Questions.{VolumeWalked, sewn-away}
+use Rattle.departure.specs.Questions.{VolumeWalked}
 
 -- 10: a dart of the block, by its serial and its place
 pub record HeldAt (m : List ℕ) (s p : ℕ) : Type 0 where
@@ -37,7 +36,7 @@ pub record HeldAt (m : List ℕ) (s p : ℕ) : Type 0 where
   pub is-held : held (darts-in m) s ≡ true
 
 -- what 13 asks of a list by its places
-module _ (out : List ℕ) (darts : ℕ) {n : ℕ} {nx op : ℕ → ℕ} (w : Whole n nx op (take darts out)) (long : darts ≤ length out) where
+module _ (out : List ℕ) (darts : ℕ) {n : ℕ} {nx op : ℕ → ℕ} (w : WholeCells n nx op (take darts out)) (long : darts ≤ length out) where
   pub taken : length (take darts out) ≡ darts
   taken = length-take-le darts out long
 
@@ -59,47 +58,38 @@ module _ (m : List ℕ) (s : ℕ) {look : Found} (ten : look ≡ place-in (colum
       let there = place-at (column m 0) (count-in m) s found in
       record { below = there .0; serial-is = there .1; is-held = held-at m s (site .ascends) found }
 
-module _ {m : List ℕ} {s p : ℕ} (site : Sited m) (h : HeldAt m s p) where
+-- of the volume of the dart at place p
+module _ {m : List ℕ} {p : ℕ} (site : Sited m) (below : p < count-in m) where
   -- 11
-  size-is : length (volume-in (darts-in m) s) ≡ length (places-in (count-in m) (volume-of m p))
-  size-is = ap (λ (x : ℕ). length (volume-in (darts-in m) x)) (sym (h .serial-is)) ∙ volume-size site p (h .below)
+  pub within-no : (most : ℕ) → most < length (places-in (count-in m) (volume-of m p)) → leb (length (volume-in (darts-in m) (column m 0 p))) most ≡ false
+  within-no most few = lt-leb (length (volume-in (darts-in m) (column m 0 p))) most (omega (arith, volume-size site p below))
 
-  pub within-no : (most : ℕ) → most < length (places-in (count-in m) (volume-of m p)) → leb (length (volume-in (darts-in m) s)) most ≡ false
-  within-no most few = lt-leb (length (volume-in (darts-in m) s)) most (omega (arith, size-is))
+  pub within-yes : {most t : ℕ} {marks out : List ℕ} → VolumeWalked m p t marks out → t ≤ most → leb (length (volume-in (darts-in m) (column m 0 p))) most ≡ true
+  within-yes {most} w few = le-leb (length (volume-in (darts-in m) (column m 0 p))) most (omega (arith, volume-size site p below, w .size-is))
 
-  pub within-yes : {most t : ℕ} {marks out : List ℕ} → VolumeWalked m p t marks out → t ≤ most → leb (length (volume-in (darts-in m) s)) most ≡ true
-  within-yes {most} w few = le-leb (length (volume-in (darts-in m) s)) most (omega (arith, size-is, w .size-is))
+  module _ {marks : List ℕ} (mk : Marked (volume-of m p) marks) {out starts : List ℕ} {darts count : ℕ} (o : InOrder (faces-at m marks) out starts darts count) where
+    pub as-many : {t : ℕ} {out′ : List ℕ} → VolumeWalked m p t marks out′ → darts ≡ t
+    as-many w = out-count site p below mk o ∙ volume-size site p below ∙ sym (w .size-is)
 
-  module _ {marks : List ℕ} (mk : Marked (volume-of m p) marks) where
-    module _ {out starts : List ℕ} {darts count : ℕ} (o : InOrder (faces-at m marks) out starts darts count) where
-      pub as-many : {t : ℕ} {out′ : List ℕ} → VolumeWalked m p t marks out′ → darts ≡ t
-      as-many w = out-count site p (h .below) mk o ∙ ap (λ (x : ℕ). length (volume-in (darts-in m) x)) (h .serial-is) ∙ size-is ∙ sym (w .size-is)
+    -- what 12 and `unmark-both` ask of the list
+    pub list-ready : (darts ≤ room) × (darts ≤ length out) × ((k : ℕ) → k < darts → getD out k 0 < count-in m)
+    list-ready =
+        let l = site .linked in
+        (omega (arith, out-few l below mk o, l .few), out-long l below mk o, out-below l below mk o)
 
-      -- what 12 and `unmark-both` ask of the list
-      pub list-ready : (darts ≤ room) × (darts ≤ length out) × ((k : ℕ) → k < darts → getD out k 0 < count-in m)
-      list-ready =
-          let l = site .linked in
-          (omega (arith, out-few l (h .below) mk o, l .few), out-long l (h .below) mk o, out-below l (h .below) mk o)
+    pub unmark-both-ready : {seen : List ℕ} → Marked (take darts out) seen → count-in m ≤ length marks → count-in m ≤ length seen
+        → (darts ≤ room) × (darts ≤ length out) × ((k : ℕ) → k < darts → (getD out k 0 < length marks) × (getD out k 0 < length seen))
+        × Marked (take darts out) marks × Marked (take darts out) seen
+    unmark-both-ready sm lm ls =
+        let ready = list-ready in
+        (ready .0, ready .1, (λ k j. (omega (arith, ready .2 k j), omega (arith, ready .2 k j))), out-marked (site .linked) below mk o, sm)
 
-      pub unmark-both-ready : {seen : List ℕ} → Marked (take darts out) seen → count-in m ≤ length marks → count-in m ≤ length seen
-          → (darts ≤ room) × (darts ≤ length out) × ((k : ℕ) → k < darts → (getD out k 0 < length marks) × (getD out k 0 < length seen))
-          × Marked (take darts out) marks × Marked (take darts out) seen
-      unmark-both-ready sm lm ls =
-          let ready = list-ready in
-          (ready .0, ready .1, (λ k j. (omega (arith, ready .2 k j), omega (arith, ready .2 k j))), out-marked (site .linked) (h .below) mk o, sm)
+    -- 12
+    pub sewn-answer : all (λ x. not (is-sewn-into (volume-in (darts-in m) (column m 0 p)) (third-at (darts-in m) x))) (volume-in (darts-in m) (column m 0 p))
+        ≡ not (any (sewn-in m marks) (take darts out))
+    sewn-answer = question-12 site p below mk ∙ ap not (sym (out-any (site .linked) below mk o (sewn-in m marks)))
 
-      -- 12
-      pub sewn-answer : all (λ x. not (is-sewn-into (volume-in (darts-in m) s) (third-at (darts-in m) x))) (volume-in (darts-in m) s)
-          ≡ not (any (sewn-in m marks) (take darts out))
-      sewn-answer = ap (λ (y : ℕ). all (λ x. not (is-sewn-into (volume-in (darts-in m) y) (third-at (darts-in m) x))) (volume-in (darts-in m) y)) (sym (h .serial-is))
-          ∙ question-12 site p (h .below) mk ∙ ap not (sym (out-any (site .linked) (h .below) mk o (sewn-in m marks)))
-
-      -- 13
-      pub pairs-told : {numbers firsts : List ℕ} {vs : ℕ} → Numbered (column m 1) (column m 2) (take darts out) numbers firsts vs
-          → pairs-once (vertex-pairs (next-in (darts-in m)) (opposite-in (darts-in m)) (volume-in (darts-in m) s)) ≡ ends-once (column m 1) (column m 2) numbers firsts vs
-      pairs-told nb = ap (λ (x : ℕ). pairs-once (vertex-pairs (next-in (darts-in m)) (opposite-in (darts-in m)) (volume-in (darts-in m) x))) (sym (h .serial-is))
-          ∙ sym (pairs-answer site p (h .below) mk o nb)
-
-    -- 14
-    pub sewn-count : length (sewn-faces (darts-in m) s) ≡ sewn-away m marks
-    sewn-count = ap (λ (x : ℕ). length (sewn-faces (darts-in m) x)) (sym (h .serial-is)) ∙ question-14 site p (h .below) mk
+    -- 13
+    pub pairs-told : {numbers firsts : List ℕ} {vs : ℕ} → Numbered (column m 1) (column m 2) (take darts out) numbers firsts vs
+        → pairs-once (vertex-pairs (next-in (darts-in m)) (opposite-in (darts-in m)) (volume-in (darts-in m) (column m 0 p))) ≡ ends-once (column m 1) (column m 2) numbers firsts vs
+    pairs-told nb = sym (pairs-answer site p below mk o nb)

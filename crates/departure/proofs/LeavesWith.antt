@@ -5,14 +5,14 @@ use mathlib.Core.List.{List, [], _∷_, map}
 use mathlib.Core.Option.{Option, none, some}
 use Prim.Native.Nat.{ℕ, _+_, _*_, _/_, _<_}
 use native.Mathlib.Omega.{arith}
-use lib.Dec.{ltb, eqb}
+use lib.Dec.{eqb}
 use lib.ListN.{length, getD, take, length-map, length-take}
 use lib.Seq.{getD-take}
-use borrow.Author.Tests.{eqb-true, ltb-true}
+use borrow.Author.Tests.{eqb-true}
 use Rattle.model.specs.Lists.{keep, collect, concat, concat-map, tab}
 use Rattle.model.specs.Values.{Label, Dart, is-critical-with}
 use Rattle.model.specs.Cells.{cycle, ring, vertex, vertices, vertex-number, start-of, faces, faces-in, dart-at, next-in, opposite-in, third-at, volume-in}
-use Rattle.model.specs.Image.{count-in, column, third-in, dart-in, block-in}
+use Rattle.model.specs.Image.{count-in, column, is-critical-word, third-in, dart-in, block-in}
 use Rattle.model.specs.Messages.{FaceDart}
 use Rattle.model.specs.Departure.{part2-entry, part3-from, part4-entry, is-sewn-out-of, least-labels, transfer-of, update-for, updates-of}
 use Rattle.model.specs.Links.{Placed, placed}
@@ -22,6 +22,7 @@ use Rattle.laws.proofs.Tables.{dart-place}
 use Rattle.laws.proofs.Faces.{along-face, start-map}
 use Rattle.theory.proofs.BlockLaws.{same-point-is}
 use Rattle.columns.specs.Columns.{Kind, point-test, same-at}
+use Rattle.columns.proofs.Thirds.{with-critical}
 use Rattle.columns.proofs.Question.{Passed}
 use Rattle.cells.specs.Places.{InOrder, Marked, Numbered, marked, sewn-out, volume-of}
 use Rattle.cells.proofs.Reached.{places, in-places, places-below, within-places}
@@ -134,7 +135,7 @@ module _ {m : List ℕ} (site : Sited m) (ok : Passed m) where
         ∙ part4-is s ds (column m 3 (start-of (f .face))) (column m 4 (start-of (f .face))) j (serial-face s f) (start-kind (f .face) w)
         ∙ by-cases (critical-beside m j (start-of (f .face)))
         (λ e. rw e (ap (λ (l : List Label). some (record { index = f .at; other = column m 3 (start-of (f .face)) / 4; labels = l }))
-        (labels-are site ok (f .face) w (ltb-true 1 _ (and-left (ltb 1 (column m 3 (start-of (f .face)))) _ e)))))
+        (labels-are site ok (f .face) w (and-left (is-critical-word (column m 3 (start-of (f .face)))) _ e))))
         (λ e. rw e)
 
     part4-law : (j : ℕ)
@@ -161,7 +162,7 @@ module _ {m : List ℕ} (site : Sited m) (ok : Passed m) where
     labels-told k = concat-map-map (least-labels ds) (map s) (shared k)
         ∙ concat-one (λ f. Face m f × (critical-with m k (start-of f) ≡ true)) (λ f. least-labels ds (map s f)) (least-at m)
         (shared k) (each-kept (Face m) (λ f. critical-with m k (start-of f)) fs each)
-        (λ f w. least-is site ok f (w .0) (omega (arith, eqb-true (column m 3 (start-of f)) (2 + 4 * k) (w .1))))
+        (λ f w. least-is site ok f (w .0) (with-critical (column m 3 (start-of f)) k (eqb-true (column m 3 (start-of f)) (2 + 4 * k) (w .1))))
 
     update-one : (j k : ℕ) (gs : List (List ℕ)) → concat-map (least-labels ds) (map (map s) gs) ≡ map (least-at m) gs → update-for (block-in m) j k (map (map s) gs) ≡ update-at m j k gs
     unfolding update-for

@@ -1,18 +1,18 @@
 -- The faces of a volume that leaves, as places: each has one kind, and its third links by place are those by serial. Assumes nothing.
-use mathlib.Core.Path.{_≡_, refl, sym, _∙_, ap}
+use mathlib.Core.Path.{_≡_, refl, sym, _∙_, ap, subst}
 use mathlib.Core.Logic.{_≢_}
 use mathlib.Core.Bool.{Bool, true, true≢false, cond, not, _&&_}
 use mathlib.Core.List.{List, [], _∷_, _++_, map}
 use mathlib.Core.Option.{none, some}
-use Prim.Native.Nat.{ℕ, zero, suc, _+_, _*_, _/_, _%_, _<_}
+use Prim.Native.Nat.{ℕ, zero, suc, _+_, _*_, _/_, _<_}
 use native.Mathlib.Omega.{arith}
-use lib.Dec.{leb, ltb, eqb}
+use lib.Dec.{leb, eqb}
 use lib.ListN.{length}
-use borrow.Author.Tests.{eqb-true, eqb-false, eq-eqb, ne-eqb, lt-ltb, le-ltb}
+use borrow.Author.Tests.{eqb-true, eqb-false, eq-eqb, ne-eqb}
 use Rattle.model.specs.Lists.{all, keep, collect, distinct, least}
 use Rattle.model.specs.Values.{Label, Dart, code, label-of, is-critical-with}
 use Rattle.model.specs.Cells.{cycle, faces, start-of, third-at, labels-along, least-label}
-use Rattle.model.specs.Image.{count-in, column, third-in, label-in}
+use Rattle.model.specs.Image.{count-in, column, is-critical-word, third-in, label-in}
 use Rattle.model.specs.Departure.{part2-entry, part4-entry, least-labels}
 use Rattle.model.specs.Links.{Placed}
 use Rattle.laws.proofs.Tests.{by-cases, and-left, eqb-swap}
@@ -20,7 +20,7 @@ use Rattle.laws.proofs.Members.{In, in-here, in-there, in-eq, in-append-left, i
 use Rattle.laws.proofs.Faces.{face-stays, along-face, face-distinct}
 use Rattle.laws.proofs.Labels.{code-in}
 use Rattle.columns.specs.Columns.{Kind, kind-free, kind-sewn, kind-critical, codes, third-test}
-use Rattle.columns.proofs.Thirds.{third-free, third-sewn, third-critical}
+use Rattle.columns.proofs.Thirds.{critical-two, third-free, third-sewn, third-critical}
 use Rattle.columns.proofs.Question.{Passed}
 use Rattle.cells.specs.Places.{Marked, marked, volume-of}
 use Rattle.cells.proofs.Reached.{places, in-places, places-below, within-places}
@@ -72,37 +72,37 @@ module _ {m : List ℕ} (site : Sited m) (ok : Passed m) where
       (λ x k. cycle-face x (marked-below site p h mk x (keep-in (λ x. all (leb x) (cycle (column m 1) x)) (marked (count-in m) marks) x k .0)))
 
 -- LABELS stand once in a block's memory
-pub in-codes : (m : List ℕ) (n p : ℕ) → p < n → 1 < column m 3 p → In (column m 4 p) (codes m n)
+pub in-codes : (m : List ℕ) (n p : ℕ) → p < n → is-critical-word (column m 3 p) ≡ true → In (column m 4 p) (codes m n)
 unfolding codes
 in-codes m zero p h c = absurd (omega arith)
 in-codes m (suc n) p h c = by-cases (eqb p n)
-    (λ e. let w = eqb-true p n e in rw (lt-ltb 1 (column m 3 n) (rw w at c)) (rw w (in-append-right (column m 4 n) (codes m n) (column m 4 n ∷ []) (in-here (column m 4 n) []))))
+    (λ e. let w = eqb-true p n e in rw (subst (λ (x : ℕ). is-critical-word (column m 3 x) ≡ true) w c) (rw w (in-append-right (column m 4 n) (codes m n) (column m 4 n ∷ []) (in-here (column m 4 n) []))))
     (λ e. let less : p < n = omega (arith, eqb-false p n e) in
-    by-cases (ltb 1 (column m 3 n)) (λ k. rw k (in-append-left (column m 4 p) (codes m n) (column m 4 n ∷ []) (in-codes m n p less c))) (λ k. rw k (in-codes m n p less c)))
+    by-cases (is-critical-word (column m 3 n)) (λ k. rw k (in-append-left (column m 4 p) (codes m n) (column m 4 n ∷ []) (in-codes m n p less c))) (λ k. rw k (in-codes m n p less c)))
 
 fewer-codes : (m : List ℕ) (n : ℕ) → distinct (codes m (suc n)) ≡ true → distinct (codes m n) ≡ true
 unfolding codes
-fewer-codes m n d = by-cases (ltb 1 (column m 3 n)) (λ k. distinct-left (codes m n) (column m 4 n ∷ []) (rw k at d)) (λ k. rw k at d)
+fewer-codes m n d = by-cases (is-critical-word (column m 3 n)) (λ k. distinct-left (codes m n) (column m 4 n ∷ []) (rw k at d)) (λ k. rw k at d)
 
-last-apart : (m : List ℕ) (n q : ℕ) → distinct (codes m (suc n)) ≡ true → q < n → 1 < column m 3 n → 1 < column m 3 q → column m 4 q ≢ column m 4 n
+last-apart : (m : List ℕ) (n q : ℕ) → distinct (codes m (suc n)) ≡ true → q < n → is-critical-word (column m 3 n) ≡ true → is-critical-word (column m 3 q) ≡ true → column m 4 q ≢ column m 4 n
 unfolding codes
 last-apart m n q d h cn cq e =
-    let d′ : distinct (codes m n ++ column m 4 n ∷ []) ≡ true = rw (lt-ltb 1 (column m 3 n) cn) at d in
+    let d′ : distinct (codes m n ++ column m 4 n ∷ []) ≡ true = rw cn at d in
     true≢false (sym (in-eq (column m 4 n) (column m 4 q) (codes m n) (sym e) (in-codes m n q h cq)) ∙ distinct-apart (codes m n) (column m 4 n ∷ []) d′ (column m 4 n) (in-here (column m 4 n) []))
 
-pub labels-apart : (m : List ℕ) (n p q : ℕ) → distinct (codes m n) ≡ true → p < n → q < n → 1 < column m 3 p → 1 < column m 3 q → column m 4 p ≡ column m 4 q → p ≡ q
+pub labels-apart : (m : List ℕ) (n p q : ℕ) → distinct (codes m n) ≡ true → p < n → q < n → is-critical-word (column m 3 p) ≡ true → is-critical-word (column m 3 q) ≡ true → column m 4 p ≡ column m 4 q → p ≡ q
 labels-apart m zero p q d hp hq cp cq e = absurd (omega arith)
 labels-apart m (suc n) p q d hp hq cp cq e = by-cases (eqb p n)
     (λ a. let ep = eqb-true p n a in by-cases (eqb q n)
     (λ b. ep ∙ sym (eqb-true q n b))
-    (λ b. absurd (last-apart m n q d (omega (arith, eqb-false q n b)) (rw ep at cp) cq (sym e ∙ ap (column m 4) ep))))
+    (λ b. absurd (last-apart m n q d (omega (arith, eqb-false q n b)) (subst (λ (x : ℕ). is-critical-word (column m 3 x) ≡ true) ep cp) cq (sym e ∙ ap (column m 4) ep))))
     (λ a. let less : p < n = omega (arith, eqb-false p n a) in by-cases (eqb q n)
-    (λ b. let eq = eqb-true q n b in absurd (last-apart m n p d less (rw eq at cq) cp (e ∙ ap (column m 4) eq)))
+    (λ b. let eq = eqb-true q n b in absurd (last-apart m n p d less (subst (λ (x : ℕ). is-critical-word (column m 3 x) ≡ true) eq cq) cp (e ∙ ap (column m 4) eq)))
     (λ b. labels-apart m n p q (fewer-codes m n d) less (omega (arith, eqb-false q n b)) cp cq e))
 
 -- THIRD LINKS by their words
-same-other : (k j : ℕ) → k % 4 ≡ 2 → eqb (k / 4) j ≡ eqb k (2 + 4 * j)
-same-other k j e = by-cases (eqb (k / 4) j)
+same-other : (k j : ℕ) → is-critical-word k ≡ true → eqb (k / 4) j ≡ eqb k (2 + 4 * j)
+same-other k j e = let two = critical-two k e in by-cases (eqb (k / 4) j)
     (λ a. let w = eqb-true (k / 4) j a in rw a (sym (eq-eqb k (2 + 4 * j) (omega arith))))
     (λ a. let w = eqb-false (k / 4) j a in rw a (sym (ne-eqb k (2 + 4 * j) (λ x. w (omega arith)))))
 
@@ -117,27 +117,27 @@ part2-is s k a j i (kind-sewn e) = rw (third-sewn s k a e, ne-eqb k (2 + 4 * j) 
 part2-is s k a j i (kind-critical e f g) = rw (third-critical s k a e) (ap (λ (c : Bool). cond c (some (record { label = label-in a; index = i })) none) (same-other k j e))
 
 pub part4-is : (s : ℕ → ℕ) (ds : List Dart) (k a j : ℕ) (f : Placed) → Kind k a
-    → part4-entry ds j f (third-in s k a) ≡ cond (ltb 1 k && not (eqb k (2 + 4 * j))) (some (record { index = f .at; other = k / 4; labels = labels-along ds (f .face) })) none
-part4-is s ds k a j f (kind-free e g) = rw (third-free s k a e, le-ltb 1 k (omega arith))
-part4-is s ds k a j f (kind-sewn e) = rw (third-sewn s k a e, le-ltb 1 k (omega arith))
-part4-is s ds k a j f (kind-critical e g h) = rw (third-critical s k a e, lt-ltb 1 k (omega arith), same-other k j e) (by-cases (eqb k (2 + 4 * j)) (λ c. rw c) (λ c. rw c))
+    → part4-entry ds j f (third-in s k a) ≡ cond (is-critical-word k && not (eqb k (2 + 4 * j))) (some (record { index = f .at; other = k / 4; labels = labels-along ds (f .face) })) none
+part4-is s ds k a j f (kind-free e g) = rw (third-free s k a e, ap is-critical-word e)
+part4-is s ds k a j f (kind-sewn e) = rw (third-sewn s k a e, ap is-critical-word e)
+part4-is s ds k a j f (kind-critical e g h) = rw (third-critical s k a e, e, same-other k j e) (by-cases (eqb k (2 + 4 * j)) (λ c. rw c) (λ c. rw c))
 
-label-is : (s : ℕ → ℕ) (k a : ℕ) → Kind k a → 1 < k → label-of (third-in s k a) ≡ some (label-in a)
-label-is s k a (kind-free e f) h = absurd (omega arith)
-label-is s k a (kind-sewn e) h = absurd (omega arith)
+label-is : (s : ℕ → ℕ) (k a : ℕ) → Kind k a → is-critical-word k ≡ true → label-of (third-in s k a) ≡ some (label-in a)
+label-is s k a (kind-free e f) h = absurd (omega (arith, critical-two k h))
+label-is s k a (kind-sewn e) h = absurd (omega (arith, critical-two k h))
 label-is s k a (kind-critical e f g) h = rw (third-critical s k a e)
 
 -- ALONG A CRITICAL FACE
 module _ {m : List ℕ} (site : Sited m) (ok : Passed m) where
-  labels-by : (f : List ℕ) → ((q : ℕ) → In q f → (q < count-in m) × (1 < column m 3 q)) → collect (λ q. label-of (third-at (darts-in m) (column m 0 q))) f ≡ map (label-at m) f
+  labels-by : (f : List ℕ) → ((q : ℕ) → In q f → (q < count-in m) × (is-critical-word (column m 3 q) ≡ true)) → collect (λ q. label-of (third-at (darts-in m) (column m 0 q))) f ≡ map (label-at m) f
   labels-by [] h = refl
   labels-by (x ∷ f) h = let w = h x (in-here x f) in
       rw (site .third-is x (w .0), label-is (column m 0) (column m 3 x) (column m 4 x) (ok .range .kinds x (w .0)) (w .1))
       (ap (λ (l : List Label). label-at m x ∷ l) (labels-by f (λ q k. h q (in-there q x f k))))
 
-  module _ (f : List ℕ) (w : Face m f) (c : 1 < column m 3 (start-of f)) where
-    critical-all : (q : ℕ) → In q f → 1 < column m 3 q
-    critical-all q k = omega (arith, w .one-kind q k)
+  module _ (f : List ℕ) (w : Face m f) (c : is-critical-word (column m 3 (start-of f)) ≡ true) where
+    critical-all : (q : ℕ) → In q f → is-critical-word (column m 3 q) ≡ true
+    critical-all q k = ap is-critical-word (w .one-kind q k) ∙ c
 
     pub labels-are : labels-along (darts-in m) (map (column m 0) f) ≡ map (label-at m) f
     unfolding labels-along

@@ -2,9 +2,9 @@
 use mathlib.Core.Path.{_≡_}
 use mathlib.Core.List.{List}
 use Prim.Native.Nat.{ℕ, _+_, _≤_, _<_, _^_}
-use lib.ListN.{length, getD, take}
+use lib.ListN.{length, getD, take, drop}
 use Rattle.model.specs.Values.{message-darts, last-block}
-use Rattle.model.specs.Lists.{keep}
+use Rattle.model.specs.Lists.{keep, Check}
 use Rattle.model.specs.Cells.{faces, start-of}
 use Rattle.model.specs.Image.{column, block-in}
 use Rattle.model.specs.Departure.{departure-checks}
@@ -29,6 +29,21 @@ pub record Surveyed (m : List ℕ) (c : Counts) (marks out starts numbers firsts
   pub numbering : Numbered (column m 1) (column m 2) (take (c .darts) out) numbers firsts (c .vertices)
   pub sewn-is : c .sewn ≡ length (keep (λ f. sewn-out m marks (start-of f)) (faces-at m marks))
   pub few : c .darts ≤ message-darts
+
+-- 11 to 14 of the volume of the dart at place p: where it goes is not asked in them
+abbrev pub volume-checks : ℕ → List ℕ → ℕ → List Check
+volume-checks most m p = drop 2 (departure-checks most (block-in m) 0 (column m 0 p))
+
+-- each answer of 11 to 14 is yes: the volume of the dart at place p, of at most `most` darts, may go
+pub record VolumeDeparts (most : ℕ) (m : List ℕ) (p : ℕ) (c : Counts) (marks out starts numbers firsts : List ℕ) : Type 0 where
+  pub asked : served tt ≡ answered (volume-checks most m p)
+  pub survey : Surveyed m c marks out starts numbers firsts
+  pub place-is : survey .place ≡ p
+  pub counter-fits : getD m 1 0 + c .sewn < 2 ^ 32
+
+unfoldable pub VolumeLeaves : ℕ → List ℕ → ℕ → Leaving → List ℕ → List ℕ → List ℕ → List ℕ → List ℕ → Type 0
+VolumeLeaves most m p (Volume c) marks out starts numbers firsts = VolumeDeparts most m p c marks out starts numbers firsts
+VolumeLeaves most m p (Refused r) marks out starts numbers firsts = refused (question r) ≡ answered (volume-checks most m p)
 
 -- each answer is yes: the volume of the dart with serial s, of at most `most` darts, may go to block j
 pub record Departs (most : ℕ) (m : List ℕ) (j s : ℕ) (c : Counts) (marks out starts numbers firsts : List ℕ) : Type 0 where

@@ -4,12 +4,12 @@ use mathlib.Core.Bool.{Bool, cond, not, _&&_}
 use mathlib.Core.List.{List, [], _∷_, map}
 use mathlib.Core.Option.{Option, none, some}
 use Prim.Native.Nat.{ℕ, _+_, _*_, _/_}
-use lib.Dec.{ltb, eqb}
+use lib.Dec.{eqb}
 use lib.ListN.{getD, take}
 use Rattle.model.specs.Lists.{keep, collect, least, tab}
 use Rattle.model.specs.Values.{Label, blocks}
 use Rattle.model.specs.Cells.{start-of}
-use Rattle.model.specs.Image.{column, dart-in, label-in}
+use Rattle.model.specs.Image.{column, dart-in, is-critical-word, label-in}
 use Rattle.model.specs.Messages.{FaceDart, Part2, Part4, Transfer, Update}
 use Rattle.model.specs.Departure.{part3-from}
 use Rattle.model.specs.Links.{Placed, placed}
@@ -20,7 +20,7 @@ abbrev pub critical-with : List ℕ → ℕ → ℕ → Bool
 critical-with m j p = eqb (column m 3 p) (2 + 4 * j)
 
 abbrev pub critical-beside : List ℕ → ℕ → ℕ → Bool
-critical-beside m j p = ltb 1 (column m 3 p) && not (critical-with m j p)
+critical-beside m j p = is-critical-word (column m 3 p) && not (critical-with m j p)
 
 -- the label of a critical dart
 abbrev pub label-at : List ℕ → ℕ → Label

@@ -9,7 +9,7 @@ ghost use Rattle.model.specs.Values.{room, message-darts};
 ghost use Rattle.model.specs.Image.{count-in, holds-block};
 ghost use Rattle.memory.specs.Header.{limits-of};
 ghost use Rattle.cells.specs.Places.{Clear, Marked};
-ghost use Rattle.departure.specs.Asked.{Forgotten, Leaves};
+ghost use Rattle.departure.specs.Asked.{Forgotten, Leaves, VolumeLeaves};
 use crate::questions::Pairs;
 use crate::questions::Sewn;
 use crate::questions::Walk;
@@ -17,6 +17,7 @@ use answers::Refusal;
 use memory::header::Header;
 use memory::header::Limits;
 use memory::lookup::Found;
+use memory::record::Place;
 
 // How many darts, faces and vertices a volume has, and how many of its faces are sewn to another volume.
 pub struct Counts {
@@ -41,15 +42,14 @@ fn unmark_both(out: &[usize], darts: usize, marks: &mut [u8], seen: &mut [u8])
     cells::reset::unmark(out, darts, seen);
 }
 
-// Whether the volume of the dart with this serial may go to another block, by the limits of this one. On a yes it is marked, by place, in `marks`; its faces
-// stand in `out` in message order, the index of each one's start in `starts`; `numbers` has the number of each dart's vertex, by
-// place, and `firsts` a dart of each vertex. On a no `marks` and `seen` are clear again, at a cost that goes by the volume's size, so
-// that many volumes may be asked in turn.
-pub fn leaves(
+// Whether the volume of the dart at this place may go to another block, by the limits of this one: 11 to 14, whichever block that is. On a
+// yes it is marked, by place, in `marks`; its faces stand in `out` in message order, the index of each one's start in `starts`; `numbers` has
+// the number of each dart's vertex, by place, and `firsts` a dart of each vertex. On a no `marks` and `seen` are clear again, at a cost that
+// goes by the volume's size, so that many volumes may be asked in turn.
+pub fn volume_leaves(
     block: &[u64],
     limits: Limits,
-    to: u64,
-    serial: u64,
+    place: Place,
     marks: &mut [u8],
     out: &mut [usize],
     starts: &mut [usize],
@@ -58,19 +58,13 @@ pub fn leaves(
     firsts: &mut [usize],
     colours: &mut [usize],
 ) -> Leaving
-    requires { ⌜ (holds-block (now block) ≡ true) × (limits .volume ≤ message-darts) ⌝ }
+    requires { ⌜ (holds-block (now block) ≡ true) × (limits .volume ≤ message-darts) × (place .0 < count-in (now block)) ⌝ }
     requires { ⌜ (count-in (now block) ≤ length (now marks)) × Clear (now marks) × (count-in (now block) ≤ length (now seen)) × Clear (now seen) ⌝ }
     requires { ⌜ (count-in (now block) ≤ length (now out)) × (count-in (now block) ≤ length (now starts)) × (count-in (now block) ≤ length (now numbers)) ⌝ }
     requires { ⌜ (count-in (now block) ≤ length (now firsts)) × (limits .volume ≤ length (now colours)) ⌝ }
-    ensures answer { λ r. ⌜ Leaves (limits-of limits .volume-darts) (now (block .entry)) to serial r (now (marks .exit)) (now (out .exit)) (now (starts .exit)) (now (numbers .exit)) (now (firsts .exit)) ⌝ }
+    ensures answer { λ r. ⌜ VolumeLeaves (limits-of limits .volume-darts) (now (block .entry)) (place .0) r (now (marks .exit)) (now (out .exit)) (now (starts .exit)) (now (numbers .exit)) (now (firsts .exit)) ⌝ }
     ensures clear { λ r. ⌜ Forgotten r (now (marks .exit)) (now (seen .exit)) ⌝ }
 {
-    if !questions::destination_right(block, to) {
-        return Leaving::Refused(Refusal::Destination);
-    }
-    let Found::At(place) = questions::place_held(block, serial) else {
-        return Leaving::Refused(Refusal::SerialNotHeld);
-    };
     let Walk::Volume(size) = questions::volume_within(block, place, limits.volume, out, marks)
     else {
         return Leaving::Refused(Refusal::VolumeTooLarge);
@@ -98,4 +92,45 @@ pub fn leaves(
         vertices,
         sewn,
     })
+}
+
+// Whether the volume of the dart with this serial may go to another block: 9 to 14. What the arrays hold then is what `volume_leaves` says.
+pub fn leaves(
+    block: &[u64],
+    limits: Limits,
+    to: u64,
+    serial: u64,
+    marks: &mut [u8],
+    out: &mut [usize],
+    starts: &mut [usize],
+    seen: &mut [u8],
+    numbers: &mut [usize],
+    firsts: &mut [usize],
+    colours: &mut [usize],
+) -> Leaving
+    requires { ⌜ (holds-block (now block) ≡ true) × (limits .volume ≤ message-darts) ⌝ }
+    requires { ⌜ (count-in (now block) ≤ length (now marks)) × Clear (now marks) × (count-in (now block) ≤ length (now seen)) × Clear (now seen) ⌝ }
+    requires { ⌜ (count-in (now block) ≤ length (now out)) × (count-in (now block) ≤ length (now starts)) × (count-in (now block) ≤ length (now numbers)) ⌝ }
+    requires { ⌜ (count-in (now block) ≤ length (now firsts)) × (limits .volume ≤ length (now colours)) ⌝ }
+    ensures answer { λ r. ⌜ Leaves (limits-of limits .volume-darts) (now (block .entry)) to serial r (now (marks .exit)) (now (out .exit)) (now (starts .exit)) (now (numbers .exit)) (now (firsts .exit)) ⌝ }
+    ensures clear { λ r. ⌜ Forgotten r (now (marks .exit)) (now (seen .exit)) ⌝ }
+{
+    if !questions::destination_right(block, to) {
+        return Leaving::Refused(Refusal::Destination);
+    }
+    let Found::At(place) = questions::place_held(block, serial) else {
+        return Leaving::Refused(Refusal::SerialNotHeld);
+    };
+    volume_leaves(
+        block,
+        limits,
+        place,
+        marks,
+        out,
+        starts,
+        seen,
+        numbers,
+        firsts,
+        colours,
+    )
 }

@@ -9,7 +9,7 @@ ghost use Rattle.model.specs.Lists.{any};
 ghost use Rattle.model.specs.Values.{room, last-block};
 ghost use Rattle.model.specs.Image.{words-for, count-in, column};
 ghost use Rattle.memory.specs.Lookup.{place-in};
-ghost use Rattle.cells.specs.Places.{Clear, InOrder, Linked, Whole, sewn-in};
+ghost use Rattle.cells.specs.Places.{Clear, InOrder, Linked, WholeCells, sewn-in};
 ghost use Rattle.departure.specs.Asked.{faces-at};
 ghost use Rattle.departure.specs.Questions.{WalkedWithin, PairsOnce, CounterFits};
 use memory::header::Header;
@@ -94,7 +94,7 @@ pub fn pairs_once(
     firsts: &mut [usize],
     colours: &mut [usize],
 ) -> Pairs
-    requires { ⌜ Linked (now block) (count-in (now block)) × Whole (count-in (now block)) (column (now block) 1) (column (now block) 2) (take darts (now out)) × (darts ≤ length (now out)) ⌝ }
+    requires { ⌜ Linked (now block) (count-in (now block)) × WholeCells (count-in (now block)) (column (now block) 1) (column (now block) 2) (take darts (now out)) × (darts ≤ length (now out)) ⌝ }
     requires { ⌜ (count-in (now block) ≤ length (now numbers)) × (darts ≤ length (now firsts)) × (darts ≤ length (now colours)) ⌝ }
     ensures { λ r. ⌜ PairsOnce (now (block .entry)) (now (out .entry)) darts r (now (numbers .exit)) (now (firsts .exit)) ⌝ }
 {

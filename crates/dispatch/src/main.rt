@@ -389,8 +389,64 @@ fn do_planned(
     }
 }
 
-// Runs a command, with all memory that any of them needs: sixteen blocks and what is made of them, 6.5 MB.
-fn run(c: Command, o: Options) -> Status {
+// Check takes no word more.
+fn check_word(o: Options, mesh: &mut [u64], scratch: &mut [u64], room: &mut [u8]) -> Status {
+    if words_are(2, o) {
+        return check(mesh, scratch, room);
+    }
+    wrong_words(b"check")
+}
+
+// Play takes options alone.
+fn play_word(
+    o: Options,
+    text: &mut [u8],
+    requests: &mut [u64],
+    outcomes: &mut [u64],
+    mesh: &mut [u64],
+    scratch: &mut [u64],
+    outbox: &mut [u8],
+    room: &mut [u8],
+) -> Status {
+    if arguments::count() == 2 {
+        return play(o, text, requests, outcomes, mesh, scratch, outbox, room);
+    }
+    wrong_words(b"play [--dry-run] [--all-or-nothing]")
+}
+
+// The task that a command's words ask for.
+fn plan(c: Command) -> Planned {
+    match c {
+        Command::Balance => balance_words(),
+        Command::Split => split_words(),
+        Command::Add => add_words(),
+        _ => Planned::Told,
+    }
+}
+
+// A command that reads a basin, in memory that is lent to it.
+fn work(
+    c: Command,
+    o: Options,
+    text: &mut [u8],
+    requests: &mut [u64],
+    outcomes: &mut [u64],
+    mesh: &mut [u64],
+    scratch: &mut [u64],
+    outbox: &mut [u8],
+    room: &mut [u8],
+) -> Status {
+    match c {
+        Command::Check => check_word(o, mesh, scratch, room),
+        Command::List => tell_word(false, o, mesh, requests, text, room),
+        Command::Cells => tell_word(true, o, mesh, requests, text, room),
+        Command::Play => play_word(o, text, requests, outcomes, mesh, scratch, outbox, room),
+        _ => do_planned(plan(c), o, requests, outcomes, mesh, scratch, outbox, room),
+    }
+}
+
+// The same, with all memory that any command needs: sixteen blocks and what is made of them, 6.5 MB.
+fn with_memory(c: Command, o: Options) -> Status {
     let mut mesh = [0u64; 524416];
     let mut scratch = [0u64; Header::SCRATCH];
     let mut outbox = [0u8; Header::OUTBOX];
@@ -398,60 +454,22 @@ fn run(c: Command, o: Options) -> Status {
     let mut text = [0u8; 524288];
     let mut requests = [0u64; 98304];
     let mut outcomes = [0u64; 16384];
+    work(
+        c,
+        o,
+        &mut text,
+        &mut requests,
+        &mut outcomes,
+        &mut mesh,
+        &mut scratch,
+        &mut outbox,
+        &mut room,
+    )
+}
+
+// Runs a command.
+fn run(c: Command, o: Options) -> Status {
     match c {
-        Command::Check => {
-            if words_are(2, o) {
-                return check(&mut mesh, &mut scratch, &mut room);
-            }
-            wrong_words(b"check")
-        }
-        Command::List => tell_word(false, o, &mut mesh, &mut requests, &mut text, &mut room),
-        Command::Cells => tell_word(true, o, &mut mesh, &mut requests, &mut text, &mut room),
-        Command::Play => {
-            if arguments::count() == 2 {
-                return play(
-                    o,
-                    &mut text,
-                    &mut requests,
-                    &mut outcomes,
-                    &mut mesh,
-                    &mut scratch,
-                    &mut outbox,
-                    &mut room,
-                );
-            }
-            wrong_words(b"play [--dry-run] [--all-or-nothing]")
-        }
-        Command::Balance => do_planned(
-            balance_words(),
-            o,
-            &mut requests,
-            &mut outcomes,
-            &mut mesh,
-            &mut scratch,
-            &mut outbox,
-            &mut room,
-        ),
-        Command::Split => do_planned(
-            split_words(),
-            o,
-            &mut requests,
-            &mut outcomes,
-            &mut mesh,
-            &mut scratch,
-            &mut outbox,
-            &mut room,
-        ),
-        Command::Add => do_planned(
-            add_words(),
-            o,
-            &mut requests,
-            &mut outcomes,
-            &mut mesh,
-            &mut scratch,
-            &mut outbox,
-            &mut room,
-        ),
         Command::Help => {
             help();
             Status::Done
@@ -460,6 +478,7 @@ fn run(c: Command, o: Options) -> Status {
             say::error(b"unknown command: dispatch help tells what there is");
             Status::Error
         }
+        _ => with_memory(c, o),
     }
 }
 

@@ -4,19 +4,19 @@ use mathlib.Core.Bool.{Bool, true, false, cond, true≢false}
 use mathlib.Core.List.{List, [], _∷_, _++_}
 use mathlib.Core.Logic.{_⊎_, inl, inr, ⊎-elim}
 use mathlib.Core.Option.{Option, none, some}
-use Prim.Native.Nat.{ℕ, _+_, _-_, _%_, _≤_, _<_}
+use Prim.Native.Nat.{ℕ, _+_, _-_, _≤_, _<_}
 use native.Mathlib.Omega.{arith}
 use lib.Dec.{ltb}
 use lib.ListN.{getD}
 use borrow.Author.Tests.{eqb-true, ltb-true}
 use Rattle.model.specs.Lists.{all, mem, tab, find, concat-map}
 use Rattle.model.specs.Values.{Third, sewn}
-use Rattle.model.specs.Image.{column, third-in}
+use Rattle.model.specs.Image.{column, is-critical-word, third-in}
 use Rattle.model.specs.Links.{Link}
 use Rattle.laws.proofs.Tests.{by-cases, lt-or-ge, and-left, and-right}
 use Rattle.laws.proofs.Tables.{find-none, mem-place, place-mem}
 use Rattle.columns.specs.Columns.{Kind, kind-sewn}
-use Rattle.columns.proofs.Thirds.{third-sewn}
+use Rattle.columns.proofs.Thirds.{critical-two, third-sewn}
 use Rattle.arrival.specs.Sides.{Segments}
 use Rattle.parts.specs.Indices.{starts-at}
 use Rattle.parts.specs.Segments.{link-of, face-links}
@@ -150,8 +150,8 @@ module _ {A : Type 0} (part : A → List Link) (entry : ℕ → A) (s : ℕ → 
   not-one : (q : ℕ) → q < k → getD kinds q 0 ≡ 1 → ⊥
   not-one q h e = by-cases (mem (getD b q 0) starts) (λ t. let m = g .before .kind-in q h t in one-two (getD kinds q 0) e m) (λ t. let m = g .before .kind-out q h t in omega (arith, m, e))
     where
-      one-two : (a : ℕ) → a ≡ 1 → a % 4 ≡ 2 → ⊥
-      one-two a e m = omega arith
+      one-two : (a : ℕ) → a ≡ 1 → is-critical-word a ≡ true → ⊥
+      one-two a e m = omega (arith, critical-two a m)
 
   sewn-on : (q : ℕ) → q < k → getD kinds′ q 0 ≡ 1 → On b z indices c q
   sewn-on q h e = ⊎-elim (λ (v : On b z indices c q). v) (λ (u : (e : ℕ) → e < c → getD b q 0 ≡ getD indices e 0 → ⊥). absurd (not-one q h (sym (kind-off q u) ∙ e))) (on-or-not o q h)
@@ -198,8 +198,8 @@ module _ {A : Type 0} (part : A → List Link) (entry : ℕ → A) (s : ℕ → 
       (λ t. absurd (zero-two (getD kinds q 0) (sym (kind-off q u) ∙ v) (g .before .kind-in q h t)))
       (λ t. found-off q h u ∙ ap (λ (d : Bool). cond d (some (link-of s x kinds links q)) none) t)
     where
-      zero-two : (a : ℕ) → a ≡ 0 → a % 4 ≡ 2 → ⊥
-      zero-two a e m = omega arith
+      zero-two : (a : ℕ) → a ≡ 0 → is-critical-word a ≡ true → ⊥
+      zero-two a e m = omega (arith, critical-two a m)
 
   new-linked-on : {q : ℕ} (v : On b z indices c q) → find (λ l. l .dart) (getD x q 0) all-links ≡ some (record { dart = getD x q 0; third = third-in s (getD kinds′ q 0) (getD links′ q 0) })
   new-linked-on {q} v =

@@ -11,7 +11,7 @@ use lib.Seq.{getD-take, length-take-le}
 use borrow.Author.Tests.{eqb-true, ltb-true}
 use Rattle.model.specs.Lists.{all, distinct, tab}
 use Rattle.model.specs.Cells.{cycle}
-use Rattle.model.specs.Image.{count-in, column, block-in, holds-block}
+use Rattle.model.specs.Image.{count-in, column, is-critical-word, block-in, holds-block}
 use Rattle.model.specs.Messages.{Transfer}
 use Rattle.model.specs.Arrival.{indices-right, consecutive, part2-right, part2-apart, labels-new, parts-right, transfer-links}
 use Rattle.laws.proofs.Tests.{by-cases, and-left, and-right}
@@ -53,10 +53,10 @@ module _ {m d ranks z codes places indices kinds kinds′ links links′ : List 
   below : (e : ℕ) → e < c → place e < count-in m
   below e h = ltb-true (place e) (count-in m) (passed e h .0)
 
-  there : (e : ℕ) → e < c → (place e < count-in m) × (1 < column m 3 (place e)) × (column m 4 (place e) ≡ getD codes e 0)
+  there : (e : ℕ) → e < c → (place e < count-in m) × (is-critical-word (column m 3 (place e)) ≡ true) × (column m 4 (place e) ≡ getD codes e 0)
   there e h = go (located .each e h)
     where
-      go : LocatedAt m (getD codes e 0) (count-in m) (getD places e 0) → (getD places e 0 < count-in m) × (1 < column m 3 (getD places e 0)) × (column m 4 (getD places e 0) ≡ getD codes e 0)
+      go : LocatedAt m (getD codes e 0) (count-in m) (getD places e 0) → (getD places e 0 < count-in m) × (is-critical-word (column m 3 (getD places e 0)) ≡ true) × (column m 4 (getD places e 0) ≡ getD codes e 0)
       go (inl f) = f
       go (inr f) = absurd (let few = sited m ok .linked .few in let y = f .0 in let l = below e h in omega (arith, few, y, l))
 

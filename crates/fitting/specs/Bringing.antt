@@ -4,11 +4,11 @@
 use mathlib.Core.Path.{_≡_}
 use mathlib.Core.Bool.{true, false}
 use mathlib.Core.List.{List}
-use Prim.Native.Nat.{ℕ, zero, suc, _+_, _-_, _%_, _<_}
+use Prim.Native.Nat.{ℕ, zero, suc, _+_, _-_, _<_}
 use lib.ListN.{length, getD}
 use Rattle.model.specs.Lists.{all, mem, tab}
 use Rattle.model.specs.Cells.{cycle}
-use Rattle.model.specs.Image.{column}
+use Rattle.model.specs.Image.{column, is-critical-word}
 use Rattle.model.specs.Links.{Link, sew-both}
 use Rattle.columns.specs.Columns.{Kind}
 use Rattle.arrival.specs.Sides.{Segments}
@@ -38,7 +38,7 @@ pub record Meets (b z indices : List ℕ) (n k c : ℕ) (w : ℕ → ℕ → ℕ
 pub record Before (b kinds links starts : List ℕ) (k : ℕ) : Type 0 where
   pub kind-right : (q : ℕ) → q < k → Kind (getD kinds q 0) (getD links q 0)
   pub all-start : all (starts-at b k) starts ≡ true
-  pub kind-in : (q : ℕ) → q < k → mem (getD b q 0) starts ≡ true → getD kinds q 0 % 4 ≡ 2
+  pub kind-in : (q : ℕ) → q < k → mem (getD b q 0) starts ≡ true → is-critical-word (getD kinds q 0) ≡ true
   pub kind-out : (q : ℕ) → q < k → mem (getD b q 0) starts ≡ false → getD kinds q 0 ≡ 0
 
 -- the words with part 2's put over them
@@ -57,7 +57,7 @@ steps f (suc k) y = steps f k (f y)
 -- the places where the labels of part 2 stand, and the faces of equal size that are met from there, against next
 pub record Placing2 (m codes indices places z : List ℕ) (c : ℕ) (w : ℕ → ℕ → ℕ) : Type 0 where
   pub place-below : (e : ℕ) → e < c → getD places e 0 < getD m 2 0
-  pub is-critical : (e : ℕ) → e < c → 1 < column m 3 (getD places e 0)
+  pub is-critical : (e : ℕ) → e < c → is-critical-word (column m 3 (getD places e 0)) ≡ true
   pub code-is : (e : ℕ) → e < c → column m 4 (getD places e 0) ≡ getD codes e 0
   pub size-is : (e : ℕ) → e < c → getD z (getD indices e 0) 0 ≡ length (cycle (column m 1) (getD places e 0))
   pub met-is : (e j : ℕ) → e < c → j < getD z (getD indices e 0) 0 → w e j ≡ steps (column m 1) (getD z (getD indices e 0) 0 - j) (getD places e 0)

@@ -12,7 +12,7 @@ use Rattle.model.specs.Layouts.{Layout, Read, when, read-groups, group-below, g
 use Rattle.model.specs.Messages.{label}
 use Rattle.laws.proofs.Tests.{by-cases}
 use Rattle.theory.proofs.LayoutLaws.{then-some, when-some}
-use Rattle.groups.specs.Slices.{placed, read-at, label-code}
+use Rattle.groups.specs.Slices.{as-read, read-at, label-code}
 use Rattle.groups.specs.declared.Read.the-variants.{Value, Bad}
 
 -- some bytes were read, and the rest is left
@@ -48,7 +48,7 @@ pub value-at : (l : Layout ℕ) → Ends l → {s : List ℕ} {at v next : ℕ} 
 unfolding read-at
 value-at l E {s} {at} {v} {next} h = go (l .get (drop at s)) refl h
   where
-    go : (r : Option (ℕ × List ℕ)) → l .get (drop at s) ≡ r → Value v next ≡ placed (length s) r → Reads l s at v next
+    go : (r : Option (ℕ × List ℕ)) → l .get (drop at s) ≡ r → Value v next ≡ as-read (length s) r → Reads l s at v next
     go none e q = let z : _≡_ {A = ℕ} 0 1 = cc in absurd (omega arith)
     go (some r) e q =
         let a : v ≡ r .0 = cc in
@@ -60,7 +60,7 @@ pub bad-at : (l : Layout ℕ) (s : List ℕ) (at : ℕ) → Bad ≡ read-at l s 
 unfolding read-at
 bad-at l s at h = go (l .get (drop at s)) h
   where
-    go : (r : Option (ℕ × List ℕ)) → Bad ≡ placed (length s) r → r ≡ none
+    go : (r : Option (ℕ × List ℕ)) → Bad ≡ as-read (length s) r → r ≡ none
     go none q = refl
     go (some r) q = let z : _≡_ {A = ℕ} 0 1 = cc in absurd (omega arith)
 

@@ -13,7 +13,7 @@ use lib.Seq.{drop-cons}
 use borrow.Author.Tests.{lt-ltb, le-ltb, le-leb, lt-leb, ne-eqb, eqb-false}
 use Rattle.model.specs.Layouts.{then, when, read-groups, group-below, group, such-that, at-most}
 use Rattle.laws.proofs.Tests.{by-cases}
-use Rattle.groups.specs.Slices.{placed, read-at, over, kept, number-from}
+use Rattle.groups.specs.Slices.{as-read, read-at, over, kept, number-from}
 use Rattle.groups.specs.declared.Read.{Read}
 use Rattle.groups.specs.declared.Read.the-variants.{Value, Bad}
 
@@ -49,10 +49,10 @@ over-over low scale d (some r) = by-cases (eqb (r .0) 0)
     rw (e, ne-eqb (d + 128 * r .0) 0 (λ z. eqb-false (r .0) 0 e (omega arith)), m))
 
 -- WHERE A VALUE STANDS
-pub placed-at : (v at : ℕ) (s : List ℕ) → at < length s → placed (length s) (some (v, drop (at + 1) s)) ≡ Value v (at + 1)
+pub placed-at : (v at : ℕ) (s : List ℕ) → at < length s → as-read (length s) (some (v, drop (at + 1) s)) ≡ Value v (at + 1)
 placed-at v at s h = let e : length s - (length s - (at + 1)) ≡ at + 1 = omega arith in rw (length-drop (at + 1) s, e)
 
-pub kept-at : (v at bound : ℕ) (s : List ℕ) → at < length s → placed (length s) (kept bound (some (v, drop (at + 1) s))) ≡ cond (ltb v bound) (Value v (at + 1)) Bad
+pub kept-at : (v at bound : ℕ) (s : List ℕ) → at < length s → as-read (length s) (kept bound (some (v, drop (at + 1) s))) ≡ cond (ltb v bound) (Value v (at + 1)) Bad
 kept-at v at bound s h = by-cases (ltb v bound) (λ e. rw e (placed-at v at s h)) (λ e. rw e)
 
 -- WHILE A NUMBER IS READ: the groups read so far, with what is read from p on, give the number
@@ -133,7 +133,7 @@ passed-at : (n at : ℕ) (s : List ℕ) → passed (λ v. leb v n) (read-at grou
 unfolding read-at at-most such-that
 passed-at n at s = go (group .get (drop at s))
   where
-    go : (r : Option (ℕ × List ℕ)) → passed (λ v. leb v n) (placed (length s) r) ≡ placed (length s) (then r (λ v rest. when (leb v n) (some (v, rest))))
+    go : (r : Option (ℕ × List ℕ)) → passed (λ v. leb v n) (as-read (length s) r) ≡ as-read (length s) (then r (λ v rest. when (leb v n) (some (v, rest))))
     go none = refl
     go (some r) = by-cases (leb (r .0) n) (λ e. rw e) (λ e. rw e)
 

@@ -15,13 +15,13 @@ use Rattle.groups.specs.declared.Read.{Read}
 use Rattle.groups.specs.declared.Read.the-variants.{Value, Bad}
 
 -- what was read of a slice of n bytes: the value, and the place past it, which the bytes that are left tell
-abbrev pub placed : ℕ → Option (ℕ × List ℕ) → Read
-placed n none = Bad
-placed n (some r) = Value (r .0) (n - length (r .1))
+abbrev pub as-read : ℕ → Option (ℕ × List ℕ) → Read
+as-read n none = Bad
+as-read n (some r) = Value (r .0) (n - length (r .1))
 
 -- what a layout reads at a place of a slice
 unfoldable pub read-at : Layout ℕ → List ℕ → ℕ → Read
-read-at l s at = placed (length s) (l .get (drop at s))
+read-at l s at = as-read (length s) (l .get (drop at s))
 
 -- bytes written into a slice at a place: the slice afterwards, and the place past them
 pub record Stored (before : List ℕ) (at : ℕ) (bytes after : List ℕ) (next : ℕ) : Type 0 where
@@ -43,4 +43,4 @@ kept bound r = then r (λ v rest. when (ltb v bound) (some (v, rest)))
 
 -- a number below a bound whose first group gave a low part, and whose other groups stand at a place: one and at most so many more
 abbrev pub number-from : List ℕ → ℕ → ℕ → ℕ → ℕ → Read
-number-from s at first more bound = placed (length s) (kept bound (over first 128 (read-groups more (drop at s))))
+number-from s at first more bound = as-read (length s) (kept bound (over first 128 (read-groups more (drop at s))))

@@ -10,7 +10,7 @@ use lib.Seq.{ext-getD, getD-drop}
 use Rattle.model.specs.Lists.{concat, mem, distinct, tab, ascending, find, index-of}
 use Rattle.model.specs.Values.{Dart, Block, no-dart, room}
 use Rattle.model.specs.Cells.{serials}
-use Rattle.model.specs.Image.{words-for, count-in, image, column, block-in, dart-in, dart-words, holds-block}
+use Rattle.model.specs.Image.{words-for, count-in, image, column, is-sewn-word, block-in, dart-in, dart-words, holds-block}
 use Rattle.model.specs.Arrival.{insert-all}
 use Rattle.laws.specs.Order.{Ascending}
 use Rattle.laws.proofs.Tests.{by-cases}
@@ -19,7 +19,7 @@ use Rattle.laws.proofs.Members.{In, in-map, map-in, map-map, each-map, distinct
 use Rattle.laws.proofs.Tables.{one-place, find-place, tab-ascending, map-tab}
 use Rattle.theory.proofs.ImageLaws.{tab-list, getD-serial}
 use Rattle.columns.specs.Columns.{Kind, kind-free}
-use Rattle.columns.proofs.Thirds.{kind-back}
+use Rattle.columns.proofs.Thirds.{sewn-one, kind-back}
 use Rattle.columns.proofs.Question.{image-passed}
 use Rattle.cells.specs.Places.{Linked}
 use Rattle.cells.proofs.Sited.{sited}
@@ -51,8 +51,8 @@ drafted m c ok l up-c free differ fits holds =
     let range = image-passed m ok .range in
     record {
       interleaves = record {
-        block = record { size = b .size; few = b .few; next-lt = b .next-within; opposite-lt = b .opposite-within; sewn-lt = λ p h e. b .sewn-within p h (omega arith) };
-        draft = record { size = l .size; few = l .few; next-lt = l .next-within; opposite-lt = l .opposite-within; sewn-lt = λ p h e. l .sewn-within p h (omega arith) };
+        block = record { size = b .size; few = b .few; next-lt = b .next-within; opposite-lt = b .opposite-within; sewn-lt = λ p h e. b .sewn-within p h (sewn-one (column m 3 p) e) };
+        draft = record { size = l .size; few = l .few; next-lt = l .next-within; opposite-lt = l .opposite-within; sewn-lt = λ p h e. l .sewn-within p h (sewn-one (column c 3 p) e) };
         keys = record { s-up = site .ascends; f-up = up-c; differ = differ };
         fits = fits;
         holds = holds;
@@ -108,13 +108,13 @@ module _ {m c : List ℕ} {n k : ℕ} (a : Drafted m c n k) where
   pub old-words : (p : ℕ) → p < n → dart-words (serials all-darts) (dart-in m p) ≡ moved-words (up s f k) m p
   old-words p h = let b = a .interleaves .block in
       words-moved m (serials all-darts) (up s f k) p (a .kinds p h) (old-index (column m 1 p) (b .next-lt p h))
-      (old-index (column m 2 p) (b .opposite-lt p h)) (λ e. old-index (column m 4 p) (b .sewn-lt p h e))
+      (old-index (column m 2 p) (b .opposite-lt p h)) (λ e. old-index (column m 4 p) (b .sewn-lt p h (ap is-sewn-word e)))
 
   pub new-words : (q : ℕ) → q < k → dart-words (serials all-darts) (dart-in c q) ≡ moved-words (up f s n) c q
   new-words q h = let b = a .interleaves .draft in
       words-moved c (serials all-darts) (up f s n) q (kind-free (a .free q h .0) (a .free q h .1))
       (new-index (column c 1 q) (b .next-lt q h)) (new-index (column c 2 q) (b .opposite-lt q h))
-      (λ e. new-index (column c 4 q) (b .sewn-lt q h e))
+      (λ e. new-index (column c 4 q) (b .sewn-lt q h (ap is-sewn-word e)))
 
   all-words : map (dart-words (serials all-darts)) all-darts ≡ rows m n c k n k
   all-words = map-interleave w (dart-words (serials all-darts)) (dart-in m) (dart-in c) (moved-words (up s f k) m) (moved-words (up f s n) c) old-words new-words

@@ -9,10 +9,11 @@ use mathlib.Core.Logic.{_⊎_, inl, inr, ⊎-elim}
 use Prim.Native.Nat.{ℕ, _+_, _/_, _%_, _≤_, _<_}
 use native.Mathlib.Omega.{arith}
 use lib.ListN.{length, getD}
+use borrow.Author.Tests.{eq-eqb}
 use Rattle.model.specs.Lists.{distinct, tab}
 use Rattle.model.specs.Values.{Dart, critical, sewn, no-dart}
 use Rattle.model.specs.Cells.{serials, dart-at}
-use Rattle.model.specs.Image.{count-in, column, block-in, dart-in, dart-words, third-in, label-in}
+use Rattle.model.specs.Image.{count-in, column, is-sewn-word, is-critical-word, block-in, dart-in, dart-words, third-in, label-in}
 use Rattle.model.specs.Arrival.{insert-all}
 use Rattle.laws.specs.Order.{Ascending}
 use Rattle.laws.proofs.Tests.{lt-or-ge}
@@ -20,7 +21,7 @@ use Rattle.laws.proofs.Members.{In}
 use Rattle.laws.proofs.Tables.{one-place, dart-place}
 use Rattle.theory.proofs.ImageLaws.{column-is, image-length}
 use Rattle.columns.specs.Columns.{Kind, kind-free, kind-sewn, kind-critical}
-use Rattle.columns.proofs.Thirds.{third-free, third-sewn, third-critical, kind-one}
+use Rattle.columns.proofs.Thirds.{critical-unsewn, third-free, third-sewn, third-critical}
 use Rattle.cells.specs.Places.{Within, Apart, Linked}
 use Rattle.cells.proofs.Sited.{Sited, darts-in}
 use Rattle.release.specs.LetGo.{moved-words}
@@ -53,11 +54,11 @@ module _ {m x : List ℕ} {t : ℕ → ℕ} {p q : ℕ} (r : MovedTo m x t p q) 
   third-same (kind-free e f) h = third-free (column x 0) (column x 3 q) (column x 4 q) (r .kind ∙ e) ∙ sym (third-free (column m 0) (column m 3 p) (column m 4 p) e)
   third-same (kind-sewn e) h =
       third-sewn (column x 0) (column x 3 q) (column x 4 q) (r .kind ∙ e)
-      ∙ ap sewn (ap (column x 0) (r .link ∙ sym (link-sewn t (column m 3 p) (column m 4 p) e)) ∙ h e)
+      ∙ ap sewn (ap (column x 0) (r .link ∙ sym (link-sewn t (column m 3 p) (column m 4 p) (ap is-sewn-word e))) ∙ h e)
       ∙ sym (third-sewn (column m 0) (column m 3 p) (column m 4 p) e)
   third-same (kind-critical e f g) h =
-      let same : column x 4 q ≡ column m 4 p = r .link ∙ sym (link-other t (column m 3 p) (column m 4 p) (λ z. omega arith)) in
-      third-critical (column x 0) (column x 3 q) (column x 4 q) (omega (arith, r .kind))
+      let same : column x 4 q ≡ column m 4 p = r .link ∙ sym (link-other t (column m 3 p) (column m 4 p) (critical-unsewn (column m 3 p) e)) in
+      third-critical (column x 0) (column x 3 q) (column x 4 q) (ap is-critical-word (r .kind) ∙ e)
       ∙ (λ i. critical (r .kind i / 4) (label-in (same i)))
       ∙ sym (third-critical (column m 0) (column m 3 p) (column m 4 p) e)
 
@@ -112,12 +113,12 @@ module _ {m c : List ℕ} {n k : ℕ} (a : Drafted m c n k) where
   -- THE DARTS
   old-dart : (p : ℕ) → p < n → dart-in x (to-old p) ≡ dart-in m p
   old-dart p h = let b = a .interleaves .block in
-      dart-same (old-record p h) (a .kinds p h) (old-serial (column m 1 p) (b .next-lt p h)) (old-serial (column m 2 p) (b .opposite-lt p h)) (λ e. old-serial (column m 4 p) (b .sewn-lt p h e))
+      dart-same (old-record p h) (a .kinds p h) (old-serial (column m 1 p) (b .next-lt p h)) (old-serial (column m 2 p) (b .opposite-lt p h)) (λ e. old-serial (column m 4 p) (b .sewn-lt p h (ap is-sewn-word e)))
 
   new-dart : (q : ℕ) → q < k → dart-in x (to-new q) ≡ dart-in c q
   new-dart q h = let b = a .interleaves .draft in
       dart-same (new-record q h) (kind-free (a .free q h .0) (a .free q h .1)) (new-serial (column c 1 q) (b .next-lt q h))
-      (new-serial (column c 2 q) (b .opposite-lt q h)) (λ e. new-serial (column c 4 q) (b .sewn-lt q h e))
+      (new-serial (column c 2 q) (b .opposite-lt q h)) (λ e. new-serial (column c 4 q) (b .sewn-lt q h (ap is-sewn-word e)))
 
   dart-is : (t : ℕ) → t < n + k → dart-in x t ≡ getD (all-darts a) t no-dart
   dart-is t h = ⊎-elim
@@ -192,9 +193,9 @@ module _ {m c : List ℕ} {n k : ℕ} (a : Drafted m c n k) where
   sewn-within : (t : ℕ) → t < n + k → column x 3 t % 4 ≡ 1 → column x 4 t < n + k
   sewn-within t h e = ⊎-elim
       (λ r. let w = old-record (r .0) (r .1) in
-      let one : column m 3 (r .0) ≡ 1 = kind-one (a .kinds (r .0) (r .1)) (omega (arith, ap (column x 3) (r .2), w .kind)) in
+      let sewn-here = eq-eqb (column m 3 (r .0) % 4) 1 (omega (arith, ap (column x 3) (r .2), w .kind)) in
       omega
-      (arith, ap (column x 4) (r .2), w .link, link-sewn to-old (column m 3 (r .0)) (column m 4 (r .0)) one, darts-at a .old-lt (column m 4 (r .0)) (a .interleaves .block .sewn-lt (r .0) (r .1) one)))
+      (arith, ap (column x 4) (r .2), w .link, link-sewn to-old (column m 3 (r .0)) (column m 4 (r .0)) sewn-here, darts-at a .old-lt (column m 4 (r .0)) (a .interleaves .block .sewn-lt (r .0) (r .1) sewn-here)))
       (λ r. let w = new-record (r .0) (r .1) in absurd (omega (arith, ap (column x 3) (r .2), w .kind, a .free (r .0) (r .1) .0)))
       (darts-at a .from t h)
 

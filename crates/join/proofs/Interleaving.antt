@@ -12,7 +12,7 @@ use lib.ListN.{length, getD, set, take, drop, length-set, length-take, take-appe
 use lib.Seq.{getD-set-same, getD-set-other, getD-take, drop-at, length-take-le, take-take, take-append-le}
 use borrow.Author.Tests.{eq-eqb, ne-eqb, lt-ltb, le-ltb, ltb-true, ltb-false}
 use Rattle.model.specs.Lists.{concat}
-use Rattle.model.specs.Image.{column}
+use Rattle.model.specs.Image.{column, is-sewn-word}
 use Rattle.model.specs.Values.{room}
 use Rattle.laws.specs.Order.{Ascending}
 use Rattle.laws.proofs.Tests.{lt-or-ge, eq-or-ne}
@@ -257,7 +257,7 @@ module _ {m c : List ℕ} {n k : ℕ} (a : Interleaves m c n k) {x : List ℕ} {
         rw read (record {
           next-lt = omega (arith, at 1 (omega arith), a .block .next-lt (i - 1) old-lt, h);
           opposite-lt = omega (arith, at 2 (omega arith), a .block .opposite-lt (i - 1) old-lt, h);
-          sewn-lt = λ q. omega (arith, at 4 (omega arith), a .block .sewn-lt (i - 1) old-lt (sym (at 3 (omega arith)) ∙ q), h);
+          sewn-lt = λ q. omega (arith, at 4 (omega arith), a .block .sewn-lt (i - 1) old-lt (ap is-sewn-word (sym (at 3 (omega arith))) ∙ q), h);
         })
 
     pub old-turn : (old : List ℕ) → Tabled (up (column m 0) (column c 0) k) n old → {y : List ℕ} → y ≡ put x (i + j - 1) (moved-record (λ p. getD old p 0) r) → Interleaving m c n k y (i - 1) j

@@ -13,7 +13,7 @@ use Rattle.model.specs.Lists.{any, find, tab}
 use Rattle.model.specs.Values.{Third, sewn, Dart, with-third, room}
 use Rattle.model.specs.Image.{column, third-in, dart-in}
 use Rattle.model.specs.Links.{Link, third-or, relink}
-use Rattle.columns.proofs.Thirds.{third-sewn}
+use Rattle.columns.proofs.Thirds.{critical-two, third-sewn}
 use Rattle.laws.proofs.Tests.{by-cases, and-intro, and-left, and-right, eq-or-ne}
 use Rattle.laws.proofs.Tables.{any-tab, tab-any, one-place}
 use Rattle.columns.specs.Columns.{Kind, kind-free, kind-sewn, kind-critical}
@@ -33,7 +33,7 @@ third-other : (s s′ : ℕ → ℕ) {k a : ℕ} → Kind k a → (k ≡ 1 → �
 unfolding third-in
 third-other s s′ {k} {a} (kind-free e f) d = rw e refl
 third-other s s′ {k} {a} (kind-sewn e) d = absurd (d e)
-third-other s s′ {k} {a} (kind-critical e f g) d = rw e refl
+third-other s s′ {k} {a} (kind-critical e f g) d = rw (critical-two k e) refl
 
 module _ {m c w kinds links ranks old new x : List ℕ} {n k : ℕ} {ls : List Link} (fits : n + k ≤ room)
     (at : Stands m c w n k old new) (by : JoinIndexed c x ranks k) (ln : Linking m n k x kinds links ls) where

@@ -10,11 +10,12 @@ use lib.ListN.{length, getD}
 use borrow.Author.Tests.{eqb-true, eq-eqb, ne-eqb}
 use Rattle.model.specs.Lists.{any, tab}
 use Rattle.model.specs.Values.{Dart, room}
-use Rattle.model.specs.Image.{words-for, image, column, dart-in, block-in}
+use Rattle.model.specs.Image.{words-for, image, column, is-sewn-word, dart-in, block-in}
 use Rattle.model.specs.Links.{Link, relink}
 use Rattle.laws.proofs.Tests.{by-cases, and-intro, and-left, and-right, eq-or-ne}
 use Rattle.laws.proofs.Tables.{any-tab, tab-any, map-tab, tab-cong}
 use Rattle.columns.specs.Columns.{Kind, kind-sewn, Ranged, Places, before}
+use Rattle.columns.proofs.Thirds.{kind-one}
 use Rattle.columns.proofs.Images.{image-back}
 use Rattle.join.specs.Thirds.{place-of, Sewn}
 use Rattle.join.specs.Interleaved.{Stands}
@@ -78,7 +79,7 @@ module _ {m c w kinds links ranks old new x : List ℕ} {n k : ℕ} {ls : List L
       (λ j u d g. let b = at .old-lt (getD links j 0) (ln .link-below j u d) in omega (arith, b, g, h))
 
   module _ (ranged : Ranged w) (size : words-for (n + k) ≤ length w) (count : getD w 2 0 ≡ n + k) (places : Places w (n + k))
-      (sewn-in : (t : ℕ) → t < n + k → column w 3 t ≡ 1 → column w 4 t < n + k) where
+      (sewn-in : (t : ℕ) → t < n + k → is-sewn-word (column w 3 t) ≡ true → column w 4 t < n + k) where
     count-now : getD y 2 0 ≡ n + k
     count-now = sew .head 2 (omega arith) ∙ count
 
@@ -93,13 +94,13 @@ module _ {m c w kinds links ranks old new x : List ℕ} {n k : ℕ} {ls : List L
         go (sewed e f) = kind-sewn e
         go (labelled q d) = q
 
-    sewn-now : (t : ℕ) → t < n + k → column y 3 t ≡ 1 → column y 4 t < n + k
+    sewn-now : (t : ℕ) → t < n + k → is-sewn-word (column y 3 t) ≡ true → column y 4 t < n + k
     sewn-now t h one = go (words-at t h)
       where
         go : Words t → column y 4 t < n + k
-        go (same e f) = let b = sewn-in t h (sym e ∙ one) in omega (arith, b, f)
+        go (same e f) = let b = sewn-in t h (ap is-sewn-word (sym e) ∙ one) in omega (arith, b, f)
         go (sewed e f) = f
-        go (labelled q d) = absurd (d one)
+        go (labelled q d) = absurd (d (kind-one q one))
 
     ranged-now : Ranged y
     ranged-now = record {

@@ -10,18 +10,18 @@ use Rattle.model.specs.Lists.{mem, distinct}
 use Rattle.laws.proofs.Tests.{by-cases, and-intro, and-right}
 use Rattle.laws.proofs.Members.{In, in-here, in-there, distinct-not, getD-in}
 use Rattle.theory.proofs.ImageLaws.{place-back}
-use Rattle.keyset.specs.Slots.{Apart, Searched}
+use Rattle.keyset.specs.Slots.{KeysApart, Searched}
 use Rattle.keyset.specs.declared.Search.{Search}
 use Rattle.keyset.specs.declared.Search.the-variants.{Distinct, Repeated}
 
-apart-distinct : (l : List ℕ) → Apart l (length l) → distinct l ≡ true
+apart-distinct : (l : List ℕ) → KeysApart l (length l) → distinct l ≡ true
 apart-distinct [] a = refl
 apart-distinct (x ∷ l) a = and-intro {a = not (mem x l)} (by-cases (mem x l)
     (λ e. let r = place-back x l e in absurd (a 0 (suc _) (omega arith) (omega (arith, r .1)) (sym (r .0))))
     (λ e. rw e refl))
     (apart-distinct l (λ p q h k. a (suc p) (suc q) (omega arith) (omega arith)))
 
-distinct-apart : (l : List ℕ) → distinct l ≡ true → Apart l (length l)
+distinct-apart : (l : List ℕ) → distinct l ≡ true → KeysApart l (length l)
 distinct-apart [] d p q h k = absurd (omega arith)
 distinct-apart (x ∷ l) d p zero h k = absurd (omega arith)
 distinct-apart (x ∷ l) d zero (suc q) h k = λ e. distinct-not x l d (getD l q 0) (getD-in l q (omega arith)) (sym e)

@@ -9,7 +9,7 @@ use lib.ListN.{length, getD, set, replicate, length-set, length-replicate}
 use lib.Seq.{getD-set-same, getD-set-other}
 use Rattle.laws.proofs.Tests.{lt-or-ge, eq-or-ne, last-or-below}
 use Rattle.laws.proofs.Lists.{getD-zeros}
-use Rattle.keyset.specs.Slots.{slot-of, key-at, Probed, Apart, Searched}
+use Rattle.keyset.specs.Slots.{slot-of, key-at, Probed, KeysApart, Searched}
 use Rattle.keyset.specs.declared.Search.the-variants.{Distinct, Repeated}
 
 -- A SEARCH that has come to t
@@ -49,7 +49,7 @@ pub record Spread (keys table : List ℕ) (i : ℕ) : Type 0 where
   pub len : length table ≡ 8256
   pub only : (t : ℕ) → getD table t 0 ≤ i
   pub kept : (k : ℕ) → k < i → (t : ℕ) × (slot-of (getD keys k 0) ≤ t) × (getD table t 0 ≡ k + 1) × ((u : ℕ) → slot-of (getD keys k 0) ≤ u → u < t → getD table u 0 ≡ 0 → ⊥)
-  pub apart : Apart keys i
+  pub apart : KeysApart keys i
 
 pub none-spread : (keys table : List ℕ) → table ≡ replicate 8256 0 → Spread keys table 0
 none-spread keys table e = record {

@@ -7,6 +7,10 @@ use lib.ListN.{getD}
 use Rattle.keyset.specs.declared.Search.{Search}
 use Rattle.keyset.specs.declared.Search.the-variants.{Distinct, Repeated, GaveUp}
 
+-- how many slots the table has: one for each value of `slot-of`, and 64 that a search from the last may go through
+abbrev pub slot-count : ℕ
+slot-count = 8256
+
 -- the low and the high 32 bits of a key, each spread over the slots
 unfoldable pub low-part : ℕ → ℕ
 low-part x = x % 2 ^ 32 * 2246822519 / 2 ^ 19 % 8192
@@ -30,11 +34,11 @@ pub record Probed (keys table : List ℕ) (x h r : ℕ) : Type 0 where
   pub found : r < h + 64 → (getD table r 0 ≡ 0) ⊎ (key-at keys table r ≡ x)
 
 -- the first n keys, no two the same
-abbrev pub Apart : List ℕ → ℕ → Type 0
-Apart keys n = (p q : ℕ) → p < q → q < n → getD keys p 0 ≡ getD keys q 0 → ⊥
+abbrev pub KeysApart : List ℕ → ℕ → Type 0
+KeysApart keys n = (p q : ℕ) → p < q → q < n → getD keys p 0 ≡ getD keys q 0 → ⊥
 
 -- what a search found of the first n keys; one that gave up says nothing
 abbrev pub Searched : List ℕ → ℕ → Search → Type 0
-Searched keys n Distinct = Apart keys n
-Searched keys n Repeated = Apart keys n → ⊥
+Searched keys n Distinct = KeysApart keys n
+Searched keys n Repeated = KeysApart keys n → ⊥
 Searched keys n GaveUp = Unit {0}

@@ -3,7 +3,10 @@ ghost use mathlib.Core.Path.{_≡_};
 ghost use Prim.Native.Nat.{ℕ, _≤_, _<_};
 ghost use lib.ListN.{length, getD, replicate};
 ghost use Rattle.model.specs.Values.{room};
-ghost use Rattle.keyset.specs.Slots.{low-part, high-part, slot-of, Probed, Searched};
+ghost use Rattle.keyset.specs.Slots.{low-part, high-part, slot-of, slot-count, Probed, Searched};
+
+// Slots of the table: one for each value of `slot_of`, and 64 more, through which a search from the last may go.
+pub const SLOTS: usize = 8256;
 
 // The low and the high 32 bits of a key, each spread over the slots.
 fn low_part(x: u64) -> u64
@@ -34,8 +37,8 @@ fn wide(x: u16) -> usize
 }
 
 // The first slot from h on that is free or has the key x, or the one past the last of 64.
-fn probe(keys: &[u64], table: &[u16; 8256], x: u64, h: usize) -> usize
-    requires { ⌜ (h < 8192) × (length (now keys) ≤ room) × ((t : ℕ) → getD (now table) t 0 ≤ length (now keys)) ⌝ }
+fn probe(keys: &[u64], table: &[u16; SLOTS], x: u64, h: usize) -> usize
+    requires { ⌜ (h < 8192) × ((t : ℕ) → getD (now table) t 0 ≤ room) × ((t : ℕ) → getD (now table) t 0 ≤ length (now keys)) ⌝ }
     ensures { λ r. ⌜ Probed (now (keys .entry)) (now (table .entry)) x h r ⌝ }
 {
     // The slots from h on and below t have other keys.
@@ -61,8 +64,8 @@ pub enum Search {
 }
 
 // Searches for each of the first n keys, and puts it into a slot.
-pub fn search_slots(keys: &[u64], n: usize, table: &mut [u16; 8256]) -> Search
-    requires { ⌜ (n ≤ length (now keys)) × (length (now keys) ≤ room) × (now table ≡ replicate 8256 0) ⌝ }
+pub fn search_slots(keys: &[u64], n: usize, table: &mut [u16; SLOTS]) -> Search
+    requires { ⌜ (n ≤ length (now keys)) × (n ≤ room) × (now table ≡ replicate slot-count 0) ⌝ }
     ensures { λ r. ⌜ Searched (now (keys .entry)) n r ⌝ }
 {
     // The keys below i differ, and each is in a slot.

@@ -8,9 +8,6 @@ pub const FREE: u64 = 0;
 
 pub const SEWN: u64 = 1;
 
-// The least word of a critical dart.
-pub const CRITICAL: u64 = 2;
-
 pub fn is_free(kind: u64) -> bool
     ensures { λ r. ⌜ r ≡ is-free-word kind ⌝ }
 {

@@ -5,8 +5,8 @@ use mathlib.Core.List.{List, [], _∷_, _++_, map, append-nil, append-assoc}
 use Prim.Native.Nat.{ℕ, zero, suc, _+_, _*_, _-_, _/_, _≤_, _<_}
 use native.Mathlib.Omega.{arith}
 use lib.Dec.{leb, eqb}
-use lib.ListN.{length, getD, take, drop, set, replicate, length-drop, length-set, length-replicate, replicate-append-replicate}
-use lib.Seq.{length-take-le, take-suc-set, take-length, ext-getD}
+use lib.ListN.{length, getD, take, drop, set, replicate, length-drop, length-set, length-replicate}
+use lib.Seq.{length-take-le, take-suc-set, ext-getD}
 use borrow.Author.Tests.{eqb-true, leb-true}
 use Rattle.laws.proofs.Tests.{and-left, and-right, all-at}
 use Rattle.laws.proofs.Lists.{getD-zeros}
@@ -21,14 +21,14 @@ use Rattle.model.specs.Sound.{all-darts, blocks-right, serials-distinct}
 use Rattle.model.specs.Image.{words-for, words, count-in, column, block-in, holds-block}
 use Rattle.model.specs.Calls.{memories, mesh-lent, scratch-entries}
 use Rattle.columns.proofs.Question.{image-passed}
-use Rattle.mesh.specs.Parts.{blocks, part, Roomy, serials-of, gathered, Put}
+use Rattle.mesh.specs.Parts.{block-count, part, Roomy, serials-of, gathered, PutAfter}
 use Rattle.mesh.proofs.Parts.{mesh-tab}
 
 -- THE PART that is lent
 part-ends : (n i : ℕ) → i < n / 32776 → i * 32776 + 32776 ≤ n
 part-ends n i h = omega arith
 
-pub part-length : (m : List ℕ) (i : ℕ) → i < blocks m → length (part m i) ≡ words
+pub part-length : (m : List ℕ) (i : ℕ) → i < block-count m → length (part m i) ≡ words
 part-length m i h = length-take-le words (drop (i * words) m) (go (length-drop (i * words) m) (part-ends (length m) i h))
   where
     go : {a n : ℕ} → a ≡ n - i * 32776 → i * 32776 + 32776 ≤ n → 32776 ≤ a
@@ -68,14 +68,14 @@ module _ {block out₀ : List ℕ} {at : ℕ} {out : List ℕ} {i : ℕ} (w : Pu
       one-more : (k : ℕ) → k + 1 ≡ suc k
       one-more k = omega arith
 
-  pub putting-end : getD block 2 0 ≤ i → Put at (serials-of block) out₀ out (at + getD block 2 0)
+  pub putting-end : getD block 2 0 ≤ i → PutAfter at (serials-of block) out₀ out (at + getD block 2 0)
   putting-end h = let e : i ≡ getD block 2 0 = omega (arith, w .i-le) in record {
     len = w .len;
     put = ap (λ (k : ℕ). take (at + k) out) (sym e) ∙ w .put ∙ ap (λ (k : ℕ). take at out₀ ++ tab (column block 0) k) e;
   }
 
 -- a block that is a part of a mesh
-module _ (m : List ℕ) (i : ℕ) {b : List ℕ} (is : b ≡ part m i) (held : i < blocks m) (roomy : Roomy m) where
+module _ (m : List ℕ) (i : ℕ) {b : List ℕ} (is : b ≡ part m i) (held : i < block-count m) (roomy : Roomy m) where
   part-few : count-in b ≤ room
   part-few = subst (λ (x : List ℕ). count-in x ≤ room) (sym is) (roomy i held)
 
@@ -91,51 +91,43 @@ module _ (m : List ℕ) (i : ℕ) {b : List ℕ} (is : b ≡ part m i) (held : i
       fits : {k : ℕ} → k ≤ 4096 → at + 4096 ≤ n → at + k ≤ n
       fits a c = omega arith
 
-  pub part-told : {at r : ℕ} {before after : List ℕ} → r ≡ at + getD b 2 0 → Put at (serials-of b) before after r
-      → (r ≤ at + room) × Put at (serials-of (part m i)) before after r
-  part-told {at} {r} {before} {after} e p = (below part-few e, subst (λ (x : List ℕ). Put at (serials-of x) before after r) is p)
+  pub part-told : {at r : ℕ} {before after : List ℕ} → r ≡ at + getD b 2 0 → PutAfter at (serials-of b) before after r
+      → (r ≤ at + room) × PutAfter at (serials-of (part m i)) before after r
+  part-told {at} {r} {before} {after} e p = (below part-few e, subst (λ (x : List ℕ). PutAfter at (serials-of x) before after r) is p)
     where
       below : {k : ℕ} → k ≤ 4096 → r ≡ at + k → r ≤ at + 4096
       below a c = omega arith
 
--- ALL BLOCKS: the first c entries are the serials of the blocks below i
-pub record Gathering (m out : List ℕ) (c i : ℕ) : Type 0 where
-  pub i-le : i ≤ blocks m
+-- ALL BLOCKS: the first c entries are what the blocks below i gave, one block after the other
+pub record Gathering (given : ℕ → List ℕ) (m out : List ℕ) (c i : ℕ) : Type 0 where
+  pub i-le : i ≤ block-count m
   pub c-le : c ≤ i * room
   pub len : length out ≡ 65536
-  pub got : take c out ≡ gathered m i
+  pub got : take c out ≡ given i
 
-pub gathering-none : {m out : List ℕ} → length out ≡ 65536 → Gathering m out 0 0
-unfolding gathered
-gathering-none {m} {out} e = record { i-le = omega arith; c-le = omega arith; len = e; got = refl }
+pub gathering-none : (given : ℕ → List ℕ) {m out : List ℕ} → [] ≡ given 0 → length out ≡ 65536 → Gathering given m out 0 0
+gathering-none given z e = record { i-le = omega arith; c-le = omega arith; len = e; got = z }
 
-gathered-more : (m : List ℕ) (i : ℕ) → gathered m i ++ serials-of (part m i) ≡ gathered m (i + 1)
-unfolding gathered
-gathered-more m i = rw (one-more i) refl
-  where
-    one-more : (k : ℕ) → k + 1 ≡ suc k
-    one-more k = omega arith
-
-module _ {m out : List ℕ} {c i : ℕ} (w : Gathering m out c i) where
-  pub gathering-more : i < blocks m → {out′ : List ℕ} {r : ℕ} → r ≤ c + room → Put c (serials-of (part m i)) out out′ r → Gathering m out′ r (i + 1)
-  gathering-more h {out′} {r} l p = record {
+module _ {given : ℕ → List ℕ} {m out : List ℕ} {c i : ℕ} (w : Gathering given m out c i) where
+  pub gathering-more : i < block-count m → {xs out′ : List ℕ} {r : ℕ} → r ≤ c + room → PutAfter c xs out out′ r → given i ++ xs ≡ given (i + 1) → Gathering given m out′ r (i + 1)
+  gathering-more h {xs} {out′} {r} l p e = record {
     i-le = h′ h;
     c-le = omega (arith, w .c-le);
     len = p .len ∙ w .len;
-    got = p .put ∙ ap (λ (l : List ℕ). l ++ serials-of (part m i)) (w .got) ∙ gathered-more m i;
+    got = p .put ∙ ap (λ (l : List ℕ). l ++ xs) (w .got) ∙ e;
   }
     where
       h′ : {n : ℕ} → i < n → i + 1 ≤ n
       h′ a = omega arith
 
-  pub gathering-room : i < blocks m → blocks m ≤ 16 → c + room ≤ length out
+  pub gathering-room : i < block-count m → block-count m ≤ 16 → c + room ≤ length out
   gathering-room h k = go h k (w .c-le) (w .len)
     where
       go : {n : ℕ} → i < n → n ≤ 16 → c ≤ i * 4096 → length out ≡ 65536 → c + 4096 ≤ length out
       go a b d e = omega arith
 
-  pub gathering-end : blocks m ≤ i → blocks m ≤ 16 → (c ≤ 65536) × (length out ≡ 65536) × (take c out ≡ gathered m (blocks m))
-  gathering-end h k = (few h k (w .c-le) (w .i-le), w .len, w .got ∙ ap (gathered m) (same h (w .i-le)))
+  pub gathering-end : block-count m ≤ i → block-count m ≤ 16 → (c ≤ 65536) × (length out ≡ 65536) × (take c out ≡ given (block-count m))
+  gathering-end h k = (few h k (w .c-le) (w .i-le), w .len, w .got ∙ ap given (same h (w .i-le)))
     where
       few : {n : ℕ} → n ≤ i → n ≤ 16 → c ≤ i * 4096 → i ≤ n → c ≤ 65536
       few a b d e = omega arith
@@ -143,29 +135,17 @@ module _ {m out : List ℕ} {c i : ℕ} (w : Gathering m out c i) where
       same : {n : ℕ} → n ≤ i → i ≤ n → i ≡ n
       same a b = omega arith
 
--- THE SCRATCH, cleared below i
-pub record Clearing (s₀ s : List ℕ) (i : ℕ) : Type 0 where
-  pub i-le : i ≤ length s₀
-  pub len : length s ≡ length s₀
-  pub cleared : _≡_ {A = List ℕ} (take i s) (replicate i 0)
+-- of the serials
+pub gathered-none : (m : List ℕ) → [] ≡ gathered m 0
+unfolding gathered
+gathered-none m = refl
 
-pub clearing-none : {s : List ℕ} → Clearing s s 0
-clearing-none {s} = record { i-le = omega arith; len = refl; cleared = refl }
-
-module _ {s₀ s : List ℕ} {i : ℕ} (w : Clearing s₀ s i) where
-  pub clearing-more : i < length s → Clearing s₀ (set s i 0) (i + 1)
-  clearing-more h = record {
-    i-le = omega (arith, w .len);
-    len = length-set s i 0 ∙ w .len;
-    cleared = ap (λ (k : ℕ). take k (set s i 0)) (one-more i) ∙ take-suc-set s i 0 h ∙ ap (λ (l : List ℕ). l ++ 0 ∷ []) (w .cleared) ∙ replicate-append-replicate i 1 0;
-  }
-    where
-      one-more : (k : ℕ) → k + 1 ≡ suc k
-      one-more k = omega arith
-
-  pub clearing-end : length s ≤ i → s ≡ replicate (length s₀) 0
-  clearing-end h = let e : i ≡ length s = omega (arith, w .len, w .i-le) in
-      sym (take-length s) ∙ ap (λ (k : ℕ). take k s) (sym e) ∙ w .cleared ∙ ap (λ (k : ℕ). replicate k 0) (e ∙ w .len)
+pub gathered-more : (m : List ℕ) (i : ℕ) → gathered m i ++ serials-of (part m i) ≡ gathered m (i + 1)
+unfolding gathered
+gathered-more m i = rw (one-more i) refl
+  where
+    one-more : (k : ℕ) → k + 1 ≡ suc k
+    one-more k = omega arith
 
 -- zeros of one length are one list
 pub zero-again : (s : List ℕ) → all (eqb 0) s ≡ true → replicate (length s) 0 ≡ s
@@ -201,9 +181,9 @@ gathered-is m (suc k) = sym (ap (λ (l : List Block). serials (all-darts l)) (sy
     ∙ ap (λ (l : List ℕ). l ++ serials (all-darts (block-in (part m k) ∷ []))) (sym (gathered-is m k))
     ∙ ap (λ (l : List ℕ). gathered m k ++ l) (ap serials (one-block (block-in (part m k))) ∙ serials-tab (part m k)))
 
-pub gathered-all : (m : List ℕ) → distinct (gathered m (blocks m)) ≡ serials-distinct (map block-in (memories m))
+pub gathered-all : (m : List ℕ) → distinct (gathered m (block-count m)) ≡ serials-distinct (map block-in (memories m))
 unfolding serials-distinct
-gathered-all m = ap distinct (gathered-is m (blocks m) ∙ ap (λ (l : List Block). serials (all-darts l)) (sym (mesh-tab m)))
+gathered-all m = ap distinct (gathered-is m (block-count m) ∙ ap (λ (l : List Block). serials (all-darts l)) (sym (mesh-tab m)))
 
 -- WHAT WAS ASKED before gives the room
 pub roomy : (m : List ℕ) → all (λ b. holds-block b) (memories m) ≡ true → Roomy m
@@ -217,8 +197,8 @@ few-tab g n e =
     (and-right (leb 1 (length (tab g n))) _ (and-left (leb 1 (length (tab g n)) && leb (length (tab g n)) 16) _ e)) in omega
     (arith, l, length-tab g n)
 
-pub few-blocks : (m : List ℕ) → blocks-right (map block-in (memories m)) ≡ true → blocks m ≤ 16
-few-blocks m e = few-tab (λ i. block-in (part m i)) (blocks m) (ap blocks-right (sym (mesh-tab m)) ∙ e)
+pub few-blocks : (m : List ℕ) → blocks-right (map block-in (memories m)) ≡ true → block-count m ≤ 16
+few-blocks m e = few-tab (λ i. block-in (part m i)) (block-count m) (ap blocks-right (sym (mesh-tab m)) ∙ e)
 
 module _ (m s : List ℕ) (lent : mesh-lent scratch-entries m s ≡ true) where
   pub scratch-length : length s ≡ 65536

@@ -17,7 +17,7 @@ use Rattle.model.specs.Image.{words, block-in, holds-block}
 use Rattle.model.specs.Calls.{memories, mesh-lent, scratch-entries}
 use Rattle.columns.specs.Columns.{all-below}
 use Rattle.columns.proofs.Below.{below-at, at-below, below-none, below-step, all-is}
-use Rattle.mesh.specs.Parts.{blocks, part, number-test}
+use Rattle.mesh.specs.Parts.{block-count, part, number-test}
 
 -- THE PARTS
 -- the part from one end to the other
@@ -78,7 +78,7 @@ module _ (m s : List ℕ) where
 abbrev pub sound-test : List ℕ → ℕ → Bool
 sound-test m i = holds-block (part m i)
 
-pub sound-is : (m : List ℕ) → all-below (sound-test m) (blocks m) ≡ all (λ b. holds-block b) (memories m)
+pub sound-is : (m : List ℕ) → all-below (sound-test m) (block-count m) ≡ all (λ b. holds-block b) (memories m)
 unfolding memories
 sound-is m = all-is (λ b. holds-block b) (part m) (length m / words)
 
@@ -115,7 +115,7 @@ numbered-tests m g n h = same-truth (all-below (number-test m) n) (numbered-from
     from-zero : (p : ℕ) → 0 + p ≡ p
     from-zero p = omega arith
 
-pub mesh-tab : (m : List ℕ) → map block-in (memories m) ≡ tab (λ i. block-in (part m i)) (blocks m)
+pub mesh-tab : (m : List ℕ) → map block-in (memories m) ≡ tab (λ i. block-in (part m i)) (block-count m)
 unfolding memories
 mesh-tab m = map-tab block-in (part m) (length m / words)
 
@@ -123,7 +123,7 @@ right-tab : (g : ℕ → Block) (n : ℕ) → blocks-right (tab g n) ≡ (leb 1 
 unfolding blocks-right
 right-tab g n = rw (length-tab g n) refl
 
-module _ (m : List ℕ) {k : ℕ} (is : k ≡ blocks m) where
+module _ (m : List ℕ) {k : ℕ} (is : k ≡ block-count m) where
   abbrev block-of : ℕ → Block
   block-of i = block-in (part m i)
 

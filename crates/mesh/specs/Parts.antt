@@ -11,8 +11,8 @@ use Rattle.model.specs.Image.{label-in, words, column, is-free-word, is-sewn-wo
 use Rattle.model.specs.Values.{room}
 
 -- how many blocks
-abbrev pub blocks : List ℕ → ℕ
-blocks m = length m / words
+abbrev pub block-count : List ℕ → ℕ
+block-count m = length m / words
 
 -- the memory of block i
 abbrev pub part : List ℕ → ℕ → List ℕ
@@ -24,7 +24,7 @@ number-test m i = eqb (getD m (i * words) 0) i
 
 -- no block has more darts than memory has room for
 abbrev pub Roomy : List ℕ → Type 0
-Roomy m = (i : ℕ) → i < blocks m → getD (part m i) 2 0 ≤ room
+Roomy m = (i : ℕ) → i < block-count m → getD (part m i) 2 0 ≤ room
 
 -- a block's serials, by place
 abbrev pub serials-of : List ℕ → List ℕ
@@ -36,14 +36,14 @@ gathered m zero = []
 gathered m (suc i) = gathered m i ++ serials-of (part m i)
 
 -- the words from `at` on up to r are new, those before stay
-pub record Put (at : ℕ) (new before after : List ℕ) (r : ℕ) : Type 0 where
+pub record PutAfter (at : ℕ) (new before after : List ℕ) (r : ℕ) : Type 0 where
   pub len : length after ≡ length before
   pub put : take r after ≡ take at before ++ new
 
 -- 27, of a kind word and a link word: a label's maker is one of the blocks, and its number is below the maker's counter
 unfoldable pub made-test : List ℕ → ℕ → ℕ → Bool
 made-test m k a = (is-free-word k || is-sewn-word k)
-    || (ltb (label-in a .maker) (blocks m) && ltb (label-in a .number) (getD m (label-in a .maker * words + 1) 0))
+    || (ltb (label-in a .maker) (block-count m) && ltb (label-in a .number) (getD m (label-in a .maker * words + 1) 0))
 
 -- of all darts of a block
 abbrev pub made-darts : List ℕ → List ℕ → ℕ → Bool

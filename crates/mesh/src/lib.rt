@@ -12,7 +12,7 @@ ghost use Rattle.model.specs.Sound.{blocks-right as right-blocks};
 ghost use Rattle.model.specs.Image.{block-in, holds-block};
 ghost use Rattle.model.specs.Calls.{memories, mesh-lent as lent, scratch-entries};
 ghost use Rattle.columns.specs.Columns.{all-below};
-ghost use Rattle.mesh.specs.Parts.{blocks, part, number-test};
+ghost use Rattle.mesh.specs.Parts.{block-count, part, number-test};
 use memory::header::Header;
 
 // Whether all entries are zero.
@@ -44,7 +44,7 @@ pub fn mesh_lent(mesh: &[u64], scratch: &[u64]) -> bool
 
 // The memory of block i.
 pub fn part_of<'a>(mesh: &'a [u64], i: usize) -> &'a [u64]
-    requires { ⌜ i < blocks (now mesh) ⌝ }
+    requires { ⌜ i < block-count (now mesh) ⌝ }
     ensures { λ r. ⌜ now r ≡ part (now (mesh .entry)) i ⌝ }
 {
     let from = i * Header::WORDS;
@@ -54,7 +54,7 @@ pub fn part_of<'a>(mesh: &'a [u64], i: usize) -> &'a [u64]
 
 // The same, lent to be written. What the mesh is then no contract of it can say: a caller that promises it cuts the part itself.
 pub fn part_mut<'a>(mesh: &'a mut [u64], i: usize) -> &'a mut [u64]
-    requires { ⌜ i < blocks (now mesh) ⌝ }
+    requires { ⌜ i < block-count (now mesh) ⌝ }
     ensures { λ r. ⌜ now r ≡ part (now (mesh .entry)) i ⌝ }
 {
     let from = i * Header::WORDS;
@@ -64,7 +64,7 @@ pub fn part_mut<'a>(mesh: &'a mut [u64], i: usize) -> &'a mut [u64]
 
 // Whether block i is sound.
 fn sound_at(mesh: &[u64], i: usize) -> bool
-    requires { ⌜ i < blocks (now mesh) ⌝ }
+    requires { ⌜ i < block-count (now mesh) ⌝ }
     ensures { λ r. ⌜ r ≡ holds-block (part (now (mesh .entry)) i) ⌝ }
 {
     sound::is_sound(part_of(mesh, i))
@@ -88,7 +88,7 @@ pub fn all_sound(mesh: &[u64]) -> bool
 
 // Whether each of k blocks has its place as its number.
 fn numbered(mesh: &[u64], k: usize) -> bool
-    requires { ⌜ k ≡ blocks (now mesh) ⌝ }
+    requires { ⌜ k ≡ block-count (now mesh) ⌝ }
     ensures { λ r. ⌜ r ≡ all-below (number-test (now (mesh .entry))) k ⌝ }
 {
     // The blocks below i are numbered in order, if ok.

@@ -8,7 +8,7 @@ ghost use Rattle.model.specs.Lists.{all};
 ghost use Rattle.model.specs.Sound.{makers-right as right-makers};
 ghost use Rattle.model.specs.Image.{words-for, count-in, block-in, holds-block};
 ghost use Rattle.model.specs.Calls.{memories};
-ghost use Rattle.mesh.specs.Parts.{blocks, part, Roomy, made-test, made-block};
+ghost use Rattle.mesh.specs.Parts.{block-count, part, Roomy, made-test, made-block};
 use memory::header::Header;
 use memory::kind;
 use memory::record;
@@ -50,7 +50,7 @@ fn made_darts(mesh: &[u64], block: &[u64]) -> bool
 
 // Of block i.
 fn made_part(mesh: &[u64], i: usize) -> bool
-    requires { ⌜ (i < blocks (now mesh)) × Roomy (now mesh) ⌝ }
+    requires { ⌜ (i < block-count (now mesh)) × Roomy (now mesh) ⌝ }
     ensures { λ r. ⌜ r ≡ made-block (now (mesh .entry)) (part (now (mesh .entry)) i) ⌝ }
 {
     made_darts(mesh, crate::part_of(mesh, i))

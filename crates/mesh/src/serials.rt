@@ -4,13 +4,13 @@ ghost use mathlib.Core.Bool.{true};
 ghost use mathlib.Core.List.{map};
 ghost use Prim.Native.Nat.{_+_, _≤_, _<_};
 ghost use lib.Dec.{eqb};
-ghost use lib.ListN.{length, take, replicate};
+ghost use lib.ListN.{length, take};
 ghost use Rattle.model.specs.Lists.{all, distinct};
 ghost use Rattle.model.specs.Values.{room};
 ghost use Rattle.model.specs.Sound.{blocks-right, serials-distinct as distinct-serials};
 ghost use Rattle.model.specs.Image.{words-for, count-in, block-in, holds-block};
 ghost use Rattle.model.specs.Calls.{memories, mesh-lent, scratch-entries};
-ghost use Rattle.mesh.specs.Parts.{blocks, part, Roomy, serials-of, gathered, Put};
+ghost use Rattle.mesh.specs.Parts.{block-count, part, Roomy, serials-of, gathered, PutAfter};
 use memory::header::Header;
 use memory::record;
 use memory::record::Place;
@@ -19,7 +19,7 @@ use memory::record::Record;
 // Puts a block's serials from `at` on; where they end.
 fn put_serials(block: &[u64], out: &mut [u64], at: usize) -> usize
     requires { ⌜ (words-for (count-in (now block)) ≤ length (now block)) × (at + count-in (now block) ≤ length (now out)) ⌝ }
-    ensures { λ r. ⌜ (r ≡ at + count-in (now (block .entry))) × Put at (serials-of (now (block .entry))) (now (out .entry)) (now (out .exit)) r ⌝ }
+    ensures { λ r. ⌜ (r ≡ at + count-in (now (block .entry))) × PutAfter at (serials-of (now (block .entry))) (now (out .entry)) (now (out .exit)) r ⌝ }
 {
     let n = block[Header::COUNT] as usize;
     // The serials of the darts below i are put.
@@ -33,16 +33,16 @@ fn put_serials(block: &[u64], out: &mut [u64], at: usize) -> usize
 
 // The same of block i of a mesh.
 fn put_part(mesh: &[u64], i: usize, out: &mut [u64], at: usize) -> usize
-    requires { ⌜ (i < blocks (now mesh)) × Roomy (now mesh) × (at + room ≤ length (now out)) ⌝ }
-    ensures { λ r. ⌜ (r ≤ at + room) × Put at (serials-of (part (now (mesh .entry)) i)) (now (out .entry)) (now (out .exit)) r ⌝ }
+    requires { ⌜ (i < block-count (now mesh)) × Roomy (now mesh) × (at + room ≤ length (now out)) ⌝ }
+    ensures { λ r. ⌜ (r ≤ at + room) × PutAfter at (serials-of (part (now (mesh .entry)) i)) (now (out .entry)) (now (out .exit)) r ⌝ }
 {
     put_serials(crate::part_of(mesh, i), out, at)
 }
 
 // Puts the serials of all blocks, one block after the other; how many there are.
 fn gather(mesh: &[u64], out: &mut [u64]) -> usize
-    requires { ⌜ (blocks (now mesh) ≤ 16) × Roomy (now mesh) × (length (now out) ≡ 65536) ⌝ }
-    ensures { λ r. ⌜ (r ≤ 65536) × (length (now (out .exit)) ≡ 65536) × (take r (now (out .exit)) ≡ gathered (now (mesh .entry)) (blocks (now (mesh .entry)))) ⌝ }
+    requires { ⌜ (block-count (now mesh) ≤ 16) × Roomy (now mesh) × (length (now out) ≡ 65536) ⌝ }
+    ensures { λ r. ⌜ (r ≤ 65536) × (length (now (out .exit)) ≡ 65536) × (take r (now (out .exit)) ≡ gathered (now (mesh .entry)) (block-count (now (mesh .entry)))) ⌝ }
 {
     let k = mesh.len() / Header::WORDS;
     // The first c entries are the serials of the blocks below i.
@@ -72,18 +72,6 @@ fn apart(keys: &mut [u64], c: usize) -> bool
     differ(keys, &mut other, c)
 }
 
-// Sets all entries to zero.
-pub fn clear(scratch: &mut [u64])
-    ensures { λ _. ⌜ now (scratch .exit) ≡ replicate (length (now (scratch .entry))) 0 ⌝ }
-{
-    // The entries below i are zero.
-    let mut i = 0;
-    while i < scratch.len() {
-        scratch[i] = 0;
-        i += 1;
-    }
-}
-
 // 24: whether no two darts of the mesh have one serial; asked after 1, 2 and 23.
 pub fn serials_distinct(mesh: &[u64], scratch: &mut [u64]) -> bool
     requires { ⌜ (mesh-lent scratch-entries (now mesh) (now scratch) ≡ true) × (all (λ b. holds-block b) (memories (now mesh)) ≡ true) × (blocks-right (map block-in (memories (now mesh))) ≡ true) ⌝ }
@@ -91,6 +79,6 @@ pub fn serials_distinct(mesh: &[u64], scratch: &mut [u64]) -> bool
 {
     let c = gather(mesh, scratch);
     let ok = apart(scratch, c);
-    clear(scratch);
+    memory::header::clear(scratch);
     ok
 }

@@ -8,7 +8,7 @@ use native.Mathlib.Nat.{add-assoc}
 use lib.Dec.{leb, ltb}
 use lib.ListN.{length, getD, replicate, length-append, length-replicate, length-map}
 use lib.Seq.{drop-append-add, drop-at}
-use borrow.Author.Tests.{ne-eqb, leb-true, ltb-true}
+use borrow.Author.Tests.{leb-true, ltb-true}
 use Rattle.laws.specs.Order.{Ascending}
 use Rattle.laws.proofs.Tests.{and-left, and-right, all-at}
 use Rattle.laws.proofs.Maps.{map-at}
@@ -21,7 +21,7 @@ use Rattle.model.specs.Image.{words-for, kind-word, link-word, dart-words, imag
 use Rattle.theory.proofs.ImageLaws.{tab-list, getD-serial, label-back, ranges-of, image-length}
 use Rattle.columns.specs.Columns.{count, Ranged}
 use Rattle.columns.proofs.Built.{built}
-use Rattle.columns.proofs.Thirds.{third-critical}
+use Rattle.columns.proofs.Thirds.{critical-unsewn, with-critical, third-critical}
 use Rattle.codec.specs.Thirds.{named-by}
 use Rattle.newblock.specs.Serials.{raw-words, raw, raw-dart, raw-block, InSerials, behind}
 use Rattle.newblock.specs.Places.{place-link, place-words, serials-in, resolved}
@@ -31,7 +31,7 @@ use Rattle.newblock.proofs.Stored.{raw-8}
 link-placed : (ss : List ℕ) (t : Third) → place-link ss (kind-word t) (named-by t) ≡ link-word ss t
 link-placed ss free = refl
 link-placed ss (sewn y) = refl
-link-placed ss (critical o l) = rw (ne-eqb (2 + 4 * o) 1 (λ e. omega arith)) refl
+link-placed ss (critical o l) = rw (critical-unsewn (2 + 4 * o) (with-critical (2 + 4 * o) o refl)) refl
 
 -- a third link is read back from its words
 third-raw : (t : Third) → third-in-range t ≡ true → third-in (λ s. s) (kind-word t) (named-by t) ≡ t
@@ -43,7 +43,7 @@ third-raw (critical o l) r =
     let position = and-right (low && ltb (l .number) (2 ^ 32)) _ r in
     let number = and-right low _ (and-left (low && ltb (l .number) (2 ^ 32)) _ r) in
     let other : (2 + 4 * o) / 4 ≡ o = omega arith in
-    third-critical (λ s. s) (2 + 4 * o) (code l) (omega arith)
+    third-critical (λ s. s) (2 + 4 * o) (code l) (with-critical (2 + 4 * o) o refl)
     ∙ rw (other, label-back l (ltb-true (l .number) (2 ^ 32) number) (leb-true (l .position) 4095 position)) refl
 
 pub third-ranged : (b : Block) → ranges-right widest b ≡ true → (p : ℕ) → p < length (b .darts) → third-in-range (getD (b .darts) p no-dart .third) ≡ true
@@ -186,6 +186,10 @@ module _ {m : List ℕ} (w : InSerials m) where
 
     pub image-ranged : Ranged x
     image-ranged = rw is-image (built (length m) (raw-block m) (w .ranges))
+
+    pub image-count : count x ≡ count-in m
+    unfolding b image
+    image-count = ap (λ (y : List ℕ). count y) is-image ∙ few
 
     pub image-fits : words-for (count x) ≤ length x
     unfolding b image

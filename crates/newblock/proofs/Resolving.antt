@@ -1,18 +1,18 @@
 -- Serials replaced by places, dart by dart; a block with serials becomes its image. Assumes nothing.
 use mathlib.Core.Path.{_≡_, refl, sym, ap, _∙_}
+use mathlib.Core.Bool.{true, false}
 use mathlib.Core.List.{List, [], _∷_, _++_}
 use mathlib.Core.Logic.{⊎-elim}
 use Prim.Native.Nat.{ℕ, _+_, _*_, _<_, _≤_}
 use native.Mathlib.Omega.{arith}
 use native.Mathlib.Numerals.{add-one}
 use lib.ListN.{length, getD}
-use borrow.Author.Tests.{eq-eqb, ne-eqb}
 use Rattle.laws.specs.Order.{Ascending}
 use Rattle.laws.proofs.Tables.{length-tab, getD-tab, tab-cong, index-place, index-none}
 use Rattle.laws.proofs.Tests.{lt-or-ge}
 use Rattle.laws.proofs.Maps.{tab-more}
 use Rattle.model.specs.Lists.{tab, index-of}
-use Rattle.model.specs.Image.{column}
+use Rattle.model.specs.Image.{column, is-sewn-word}
 use Rattle.memory.specs.Record.{record-in, record-words, put}
 use Rattle.memory.specs.Lookup.{place-in}
 use Rattle.memory.specs.declared.record.Place.{Place}
@@ -35,11 +35,11 @@ module _ (s : ℕ → ℕ) (n x : ℕ) where
   pub no-place : {f : Found} → f ≡ place-in s n x → f ≡ Nothing → n ≡ index-of x (tab s n)
   no-place h e = sym (index-none s n x (place-nothing s n x (sym h ∙ e)))
 
-pub sewn-place : (ss : List ℕ) (k l r : ℕ) → k ≡ 1 → r ≡ index-of l ss → r ≡ place-link ss k l
-sewn-place ss k l r e h = rw (eq-eqb k 1 e) h
+pub sewn-place : (ss : List ℕ) (k l r : ℕ) → is-sewn-word k ≡ true → r ≡ index-of l ss → r ≡ place-link ss k l
+sewn-place ss k l r e h = rw e h
 
-pub other-link : (ss : List ℕ) (k l : ℕ) → (k ≡ 1 → ⊥) → l ≡ place-link ss k l
-other-link ss k l e = rw (ne-eqb k 1 e) refl
+pub other-link : (ss : List ℕ) (k l : ℕ) → is-sewn-word k ≡ false → l ≡ place-link ss k l
+other-link ss k l e = rw e refl
 
 -- ONE DART
 pub record-placed : (ss m : List ℕ) (p : ℕ) {r : Record} {next opposite link : ℕ} {after : List ℕ} → r ≡ record-in m p

@@ -2,15 +2,14 @@
 use mathlib.Core.Bool.{cond}
 use mathlib.Core.List.{List, [], _∷_}
 use Prim.Native.Nat.{ℕ}
-use lib.Dec.{eqb}
 use lib.ListN.{getD}
 use Rattle.model.specs.Lists.{tab, index-of}
-use Rattle.model.specs.Image.{column}
+use Rattle.model.specs.Image.{column, is-sewn-word}
 use Rattle.newblock.specs.Serials.{behind}
 
 -- a link word: the place of the dart that a sewn one is sewn to
 abbrev pub place-link : List ℕ → ℕ → ℕ → ℕ
-place-link ss k l = cond (eqb k 1) (index-of l ss) l
+place-link ss k l = cond (is-sewn-word k) (index-of l ss) l
 
 -- the words of the dart at place p, among darts with these serials
 unfoldable pub place-words : List ℕ → List ℕ → ℕ → List ℕ

@@ -42,7 +42,7 @@ fn link_place(block: &[u64], n: usize, p: Place, own: u64, kind: u64, link: u64)
     requires { ⌜ (words-for n ≤ length (now block)) × Ascending n (column (now block) 0) ⌝ }
     ensures { λ r. ⌜ r ≡ place-link (tab (column (now (block .entry)) 0) n) kind link ⌝ }
 {
-    if kind == kind::SEWN {
+    if kind::is_sewn(kind) {
         return place_near(block, n, p, own, link);
     }
     link

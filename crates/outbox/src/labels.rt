@@ -1,6 +1,6 @@
 // The labels of updates: of each critical face the least one, which goes to the block that shares the face.
 ghost use mathlib.Core.Path.{_≡_};
-ghost use Prim.Native.Nat.{_+_, _≤_, _<_, _^_, min};
+ghost use Prim.Native.Nat.{_+_, _≤_, _<_, _^_};
 ghost use lib.ListN.{length, getD, replicate, set};
 ghost use Rattle.model.specs.Values.{blocks, last-block};
 ghost use Rattle.model.specs.Image.{label-in};
@@ -16,15 +16,6 @@ use memory::record::MessageIndex;
 use memory::record::Place;
 use memory::record::Record;
 
-fn lesser(a: u64, b: u64) -> u64
-    ensures { λ r. ⌜ r ≡ min a b ⌝ }
-{
-    if a < b {
-        return a;
-    }
-    b
-}
-
 // The least label, as a code, of the `size` darts of a face from index `start` of the order on.
 fn least_code(block: &[u64], order: &[usize], start: MessageIndex, size: usize) -> u64
     requires { ⌜ DartsListed (now block) (now order) (start .0 + size) × (0 < size) ⌝ }
@@ -37,7 +28,7 @@ fn least_code(block: &[u64], order: &[usize], start: MessageIndex, size: usize) 
     let mut k = 1;
     while k < size {
         let p = order[first + k];
-        least = lesser(least, record::field(block, Place(p), Record::LINK));
+        least = sort::lesser(least, record::field(block, Place(p), Record::LINK));
         k += 1;
     }
     least

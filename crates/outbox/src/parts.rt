@@ -32,7 +32,7 @@ fn critical_beside(block: &[u64], to: u64, p: Place) -> bool
     ensures { λ r. ⌜ r ≡ critical-beside (now (block .entry)) to (p .0) ⌝ }
 {
     let word = record::field(block, p, Record::KIND);
-    (1 < word) & (word != kind::critical_with(to))
+    kind::is_critical(word) & (word != kind::critical_with(to))
 }
 
 // How many entries part 2 has.

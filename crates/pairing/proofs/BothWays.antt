@@ -1,12 +1,12 @@
 -- Questions 25 and 26 of a mesh are the tests of its keys in order, two by two. Assumes nothing.
 use mathlib.Core.Path.{_≡_, refl, sym, ap, _∙_}
-use mathlib.Core.Bool.{Bool, true, false, _&&_}
+use mathlib.Core.Bool.{Bool, true, false, true≢false, _&&_}
 use mathlib.Core.List.{List}
 use Prim.Native.Nat.{ℕ, _+_, _*_, _/_, _%_, _<_}
 use native.Mathlib.Omega.{arith}
 use lib.Dec.{eqb}
 use lib.ListN.{getD}
-use borrow.Author.Tests.{eqb-true, eqb-false, eq-eqb}
+use borrow.Author.Tests.{eqb-true, eq-eqb}
 use Rattle.model.specs.Lists.{all, sorted}
 use Rattle.model.specs.Values.{Dart, Block, same-point}
 use Rattle.model.specs.Sound.{paired, labels-paired, same-across, points-across}
@@ -18,7 +18,7 @@ use Rattle.columns.specs.Columns.{count, Kind, kind-free, kind-sewn, kind-criti
 use Rattle.columns.proofs.Thirds.{third-free, third-sewn}
 use Rattle.sort.specs.Order.{Sorted}
 use Rattle.sort.proofs.Order.{sorted-in-order, sorted-keys}
-use Rattle.mesh.specs.Parts.{blocks, part}
+use Rattle.mesh.specs.Parts.{block-count, part}
 use Rattle.mesh.proofs.Parts.{mesh-tab}
 use Rattle.pairing.specs.Numbers.{MeshAsked, word, next-number, before-of, PlacesBefore, side-test, meet-test}
 use Rattle.pairing.specs.Keys.{dart-key, all-keys, in-pairs, each-pair, label-pair, point-pair}
@@ -104,65 +104,65 @@ easy-label : (M : List Block) (b : Block) (d : Dart) (s : ℕ → ℕ) (k x : �
 unfolding paired
 easy-label M b d s k x (kind-free e f) n = ap (paired M b d) (third-free s k x e)
 easy-label M b d s k x (kind-sewn e) n = ap (paired M b d) (third-sewn s k x e)
-easy-label M b d s k x (kind-critical e f g) n = absurd (eqb-false (k % 4) 2 n e)
+easy-label M b d s k x (kind-critical e f g) n = absurd (true≢false (sym e ∙ n))
 
 easy-point : (M : List Block) (d : Dart) (s : ℕ → ℕ) (k x : ℕ) → Kind k x → is-critical-word k ≡ false → same-across M d (third-in s k x) ≡ true
 unfolding same-across
 easy-point M d s k x (kind-free e f) n = ap (same-across M d) (third-free s k x e)
 easy-point M d s k x (kind-sewn e) n = ap (same-across M d) (third-sewn s k x e)
-easy-point M d s k x (kind-critical e f g) n = absurd (eqb-false (k % 4) 2 n e)
+easy-point M d s k x (kind-critical e f g) n = absurd (true≢false (sym e ∙ n))
 
 -- ALL DARTS
 module _ (m : List ℕ) (q : Block → Dart → Bool) where
   abbrev every : List Block → Bool
   every M = all (λ b. all (q b) (b .darts)) M
 
-  every-at : every (mesh-of m) ≡ true → (i p : ℕ) → i < blocks m → p < count (part m i) → q (block-in (part m i)) (dart-in (part m i) p) ≡ true
+  every-at : every (mesh-of m) ≡ true → (i p : ℕ) → i < block-count m → p < count (part m i) → q (block-in (part m i)) (dart-in (part m i) p) ≡ true
   every-at e i p h l = all-tab (q (block-in (part m i))) (dart-in (part m i)) (count (part m i))
-      (all-tab (λ b. all (q b) (b .darts)) (λ j. block-in (part m j)) (blocks m) (ap every (sym (mesh-tab m)) ∙ e) i h) p l
+      (all-tab (λ b. all (q b) (b .darts)) (λ j. block-in (part m j)) (block-count m) (ap every (sym (mesh-tab m)) ∙ e) i h) p l
 
-  at-every : ((i p : ℕ) → i < blocks m → p < count (part m i) → q (block-in (part m i)) (dart-in (part m i) p) ≡ true) → every (mesh-of m) ≡ true
-  at-every each = ap every (mesh-tab m) ∙ tab-all (λ b. all (q b) (b .darts)) (λ j. block-in (part m j)) (blocks m)
+  at-every : ((i p : ℕ) → i < block-count m → p < count (part m i) → q (block-in (part m i)) (dart-in (part m i) p) ≡ true) → every (mesh-of m) ≡ true
+  at-every each = ap every (mesh-tab m) ∙ tab-all (λ b. all (q b) (b .darts)) (λ j. block-in (part m j)) (block-count m)
       (λ i h. tab-all (q (block-in (part m i))) (dart-in (part m i)) (count (part m i)) (λ p l. each i p h l))
 
 -- BOTH WAYS
 module _ {m : List ℕ} (a : MeshAsked m) where
   abbrev keys : List ℕ
-  keys = sorted (all-keys m (blocks m))
+  keys = sorted (all-keys m (block-count m))
 
   in-order : Sorted keys
-  in-order = sorted-in-order (all-keys m (blocks m))
+  in-order = sorted-in-order (all-keys m (block-count m))
 
-  small : (i p : ℕ) → i < blocks m → p < count (part m i) → p < 4096
+  small : (i p : ℕ) → i < block-count m → p < count (part m i) → p < 4096
   small i p hi hp = let f = passed a i hi .range .few in omega (arith, hp, f)
 
-  next-small : (i p : ℕ) → i < blocks m → p < count (part m i) → column (part m i) 1 p < 4096
+  next-small : (i p : ℕ) → i < block-count m → p < count (part m i) → column (part m i) 1 p < 4096
   next-small i p hi hp = small i (column (part m i) 1 p) hi (next-lt (passed a i hi) p hp)
 
-  block-small : (i : ℕ) → i < blocks m → i < 16
+  block-small : (i : ℕ) → i < block-count m → i < 16
   block-small i hi = omega (arith, few a, hi)
 
   -- a key that is there
-  pub origin : (v : ℕ) → In v keys → Origin m (blocks m) v
-  origin v h = all-in m (blocks m) v (same-members (all-keys m (blocks m)) keys (sorted-keys (all-keys m (blocks m))) v h)
+  pub origin : (v : ℕ) → In v keys → Origin m (block-count m) v
+  origin v h = all-in m (block-count m) v (same-members (all-keys m (block-count m)) keys (sorted-keys (all-keys m (block-count m))) v h)
 
-  there : (i p : ℕ) → i < blocks m → p < count (part m i) → is-critical-word (column (part m i) 3 p) ≡ true → In (dart-key (part m i) i p) keys
-  there i p hi hp c = same-back (all-keys m (blocks m)) keys (sorted-keys (all-keys m (blocks m))) (dart-key (part m i) i p) (in-all m (blocks m) i p hi hp c)
+  there : (i p : ℕ) → i < block-count m → p < count (part m i) → is-critical-word (column (part m i) 3 p) ≡ true → In (dart-key (part m i) i p) keys
+  there i p hi hp c = same-back (all-keys m (block-count m)) keys (sorted-keys (all-keys m (block-count m))) (dart-key (part m i) i p) (in-all m (block-count m) i p hi hp c)
 
-  pub sits : (v i p : ℕ) → i < blocks m → p < count (part m i) → v ≡ dart-key (part m i) i p → Sits (v % 65536) i p
+  pub sits : (v i p : ℕ) → i < block-count m → p < count (part m i) → v ≡ dart-key (part m i) i p → Sits (v % 65536) i p
   sits v i p hi hp e = key-sits (column (part m i) 4 p) i p e (block-small i hi) (small i p hi hp)
 
-  code-is : (v i p : ℕ) → i < blocks m → p < count (part m i) → v ≡ dart-key (part m i) i p → v / 65536 ≡ column (part m i) 4 p
+  code-is : (v i p : ℕ) → i < block-count m → p < count (part m i) → v ≡ dart-key (part m i) i p → v / 65536 ≡ column (part m i) 4 p
   code-is v i p hi hp e = ap (λ (x : ℕ). x / 65536) e ∙ key-code (column (part m i) 4 p) i p (block-small i hi) (small i p hi hp)
 
-  times-same : (x : ℕ) → times x (all-keys m (blocks m)) ≡ times x keys
-  times-same x = sorted-keys (all-keys m (blocks m)) (λ y. eqb x (y / 65536))
+  times-same : (x : ℕ) → times x (all-keys m (block-count m)) ≡ times x keys
+  times-same x = sorted-keys (all-keys m (block-count m)) (λ y. eqb x (y / 65536))
 
   -- the other way round
-  turned : {i p j q : ℕ} → i < blocks m → p < count (part m i) → is-critical-word (column (part m i) 3 p) ≡ true → Facing m i p j q → Facing m j q i p
+  turned : {i p j q : ℕ} → i < block-count m → p < count (part m i) → is-critical-word (column (part m i) 3 p) ≡ true → Facing m i p j q → Facing m j q i p
   turned hi hp c f = record { block-lt = hi; place-lt = hp; critical-there = c; same = sym (f .same); names = f .named; named = f .names }
 
-  meets : {g h i p j q : ℕ} → j < blocks m → q < count (part m j) → Sits g i p → Sits h j q
+  meets : {g h i p j q : ℕ} → j < block-count m → q < count (part m j) → Sits g i p → Sits h j q
       → meet-test m g h ≡ same-point (dart-in (part m i) p .point) (dart-in (part m j) (column (part m j) 1 q) .point)
   meets {g} {h} {i} {p} {j} {q} hj hq s u = meet-is m s u (next-small j q hj hq)
 
@@ -170,7 +170,7 @@ module _ {m : List ℕ} (a : MeshAsked m) where
     abbrev labels-right : Bool
     labels-right = labels-paired (mesh-of m)
 
-    module _ {g h i p j q : ℕ} (hi : i < blocks m) (hp : p < count (part m i)) (hj : j < blocks m) (hq : q < count (part m j)) (s : Sits g i p) (u : Sits h j q) where
+    module _ {g h i p j q : ℕ} (hi : i < block-count m) (hp : p < count (part m i)) (hj : j < block-count m) (hq : q < count (part m j)) (s : Sits g i p) (u : Sits h j q) where
       abbrev last : ℕ
       last = before-at (passed a j hj) q hq .0
 
@@ -180,23 +180,23 @@ module _ {m : List ℕ} (a : MeshAsked m) where
           side-is m t s u (next-small i p hi hp) (ap (λ (x : ℕ). getD t (j * 4096 + x) 0) (sym (r .2)) ∙ b .at j (r .0) hj (r .1)) (small j (r .0) hj (r .1))
 
       paired-side : is-critical-word (column (part m i) 3 p) ≡ true → Facing m i p j q
-          → paired (mesh-of m) (block-in (part m i)) (dart-in (part m i) p) (third-of (part m i) p) ≡ (eqb (times (column (part m i) 4 p) (all-keys m (blocks m))) 2 && side-test m t g h)
+          → paired (mesh-of m) (block-in (part m i)) (dart-in (part m i) p) (third-of (part m i) p) ≡ (eqb (times (column (part m i) 4 p) (all-keys m (block-count m))) 2 && side-test m t g h)
       paired-side c f =
           let r = before-at (passed a j hj) q hq in
           paired-is a i p hi hp c f (r .0) (r .1) (r .2)
-          ∙ ap (λ (x : Bool). eqb (times (column (part m i) 4 p) (all-keys m (blocks m))) 2 && x)
+          ∙ ap (λ (x : Bool). eqb (times (column (part m i) 4 p) (all-keys m (block-count m))) 2 && x)
           (sym (sides ∙ first (eqb (other-in (column (part m i) 3 p)) j) (eq-eqb (other-in (column (part m i) 3 p)) j (f .names))))
         where
           first : (x : Bool) {y : Bool} → x ≡ true → (x && y) ≡ y
           first x e = rw e refl
 
     -- A YES TO 25 gives each key its mate
-    labels-at : labels-right ≡ true → (i p : ℕ) → i < blocks m → p < count (part m i) → paired (mesh-of m) (block-in (part m i)) (dart-in (part m i) p) (third-of (part m i) p) ≡ true
+    labels-at : labels-right ≡ true → (i p : ℕ) → i < block-count m → p < count (part m i) → paired (mesh-of m) (block-in (part m i)) (dart-in (part m i) p) (third-of (part m i) p) ≡ true
     unfolding labels-paired
     labels-at e i p h l = every-at m (λ b d. paired (mesh-of m) b d (d .third)) e i p h l
 
     record Met (v : ℕ) : Type 0 where
-      from : Origin m (blocks m) v
+      from : Origin m (block-count m) v
       block : ℕ
       place : ℕ
       faces : Facing m (from .block) (from .place) block place
@@ -225,11 +225,11 @@ module _ {m : List ℕ} (a : MeshAsked m) where
           faces = F;
           twice =
               sym (times-same (v / 65536))
-              ∙ ap (λ (x : ℕ). times x (all-keys m (blocks m))) (code-is v i p (o .block-lt) (o .place-lt) (o .is))
+              ∙ ap (λ (x : ℕ). times x (all-keys m (block-count m))) (code-is v i p (o .block-lt) (o .place-lt) (o .is))
               ∙ stands-twice a i p (o .block-lt) (o .place-lt) (o .labelled) yes;
           so = and-intro
-              (and-right (eqb (times (column (part m i) 4 p) (all-keys m (blocks m))) 2) _ (sym (paired-side (o .block-lt) (o .place-lt) (F .block-lt) (F .place-lt) s u (o .labelled) F) ∙ yes))
-              (and-right (eqb (times (column (part m j) 4 q) (all-keys m (blocks m))) 2) _ (sym (paired-side (F .block-lt) (F .place-lt) (o .block-lt) (o .place-lt) u s (F .critical-there) (turned (o .block-lt) (o .place-lt) (o .labelled) F)) ∙ back));
+              (and-right (eqb (times (column (part m i) 4 p) (all-keys m (block-count m))) 2) _ (sym (paired-side (o .block-lt) (o .place-lt) (F .block-lt) (F .place-lt) s u (o .labelled) F) ∙ yes))
+              (and-right (eqb (times (column (part m j) 4 q) (all-keys m (block-count m))) 2) _ (sym (paired-side (F .block-lt) (F .place-lt) (o .block-lt) (o .place-lt) u s (F .critical-there) (turned (o .block-lt) (o .place-lt) (o .labelled) F)) ∙ back));
         }
 
     mate-by : (r : ℕ → ℕ → Bool) (v : ℕ) (k : Met v) → r v (dart-key (part m (k .block)) (k .block) (k .place)) ≡ true → Mate r keys v
@@ -256,7 +256,7 @@ module _ {m : List ℕ} (a : MeshAsked m) where
       faces : Facing m i p block place
       is : w ≡ dart-key (part m block) block place
 
-    faced : (i p : ℕ) → i < blocks m → p < count (part m i) → is-critical-word (column (part m i) 3 p) ≡ true → (w : ℕ) → In w keys → w / 65536 ≡ dart-key (part m i) i p / 65536
+    faced : (i p : ℕ) → i < block-count m → p < count (part m i) → is-critical-word (column (part m i) 3 p) ≡ true → (w : ℕ) → In w keys → w / 65536 ≡ dart-key (part m i) i p / 65536
         → label-pair m t (dart-key (part m i) i p) w ≡ true → Faced i p (dart-key (part m i) i p) w
     unfolding label-pair
     faced i p hi hp c w h e l =
@@ -291,7 +291,7 @@ module _ {m : List ℕ} (a : MeshAsked m) where
     point-flip x y e = and-intro (and-right (meet-test m (x % 65536) (y % 65536)) _ e) (and-left (meet-test m (x % 65536) (y % 65536)) _ e)
 
     -- 25
-    tests-labels : in-pairs (label-pair m t) keys ≡ true → (i p : ℕ) → i < blocks m → p < count (part m i)
+    tests-labels : in-pairs (label-pair m t) keys ≡ true → (i p : ℕ) → i < block-count m → p < count (part m i)
         → paired (mesh-of m) (block-in (part m i)) (dart-in (part m i) p) (third-of (part m i) p) ≡ true
     unfolding label-pair
     tests-labels e i p hi hp = by-cases (is-critical-word (column (part m i) 3 p))
@@ -327,7 +327,7 @@ module _ {m : List ℕ} (a : MeshAsked m) where
     both-flip : (x y : ℕ) → both x y ≡ true → both y x ≡ true
     both-flip x y e = and-intro (label-flip x y (and-left (label-pair m t x y) _ e)) (point-flip x y (and-right (label-pair m t x y) _ e))
 
-    points-at : points-across (mesh-of m) ≡ true → (i p : ℕ) → i < blocks m → p < count (part m i) → same-across (mesh-of m) (dart-in (part m i) p) (third-of (part m i) p) ≡ true
+    points-at : points-across (mesh-of m) ≡ true → (i p : ℕ) → i < block-count m → p < count (part m i) → same-across (mesh-of m) (dart-in (part m i) p) (third-of (part m i) p) ≡ true
     unfolding points-across
     points-at e i p h l = every-at m (λ b d. same-across (mesh-of m) d (d .third)) e i p h l
 
@@ -346,7 +346,7 @@ module _ {m : List ℕ} (a : MeshAsked m) where
         (meets (F .block-lt) (F .place-lt) s u ∙ sym (across-is a i p (o .block-lt) (o .place-lt) (o .labelled) F) ∙ points-at f i p (o .block-lt) (o .place-lt))
         (meets (o .block-lt) (o .place-lt) u s ∙ sym (across-is a j q (F .block-lt) (F .place-lt) (F .critical-there) (turned (o .block-lt) (o .place-lt) (o .labelled) F)) ∙ points-at f j q (F .block-lt) (F .place-lt)))
 
-    tests-points : in-pairs both keys ≡ true → (i p : ℕ) → i < blocks m → p < count (part m i) → same-across (mesh-of m) (dart-in (part m i) p) (third-of (part m i) p) ≡ true
+    tests-points : in-pairs both keys ≡ true → (i p : ℕ) → i < block-count m → p < count (part m i) → same-across (mesh-of m) (dart-in (part m i) p) (third-of (part m i) p) ≡ true
     unfolding point-pair
     tests-points e i p hi hp = by-cases (is-critical-word (column (part m i) 3 p))
         yes

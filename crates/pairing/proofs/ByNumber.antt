@@ -14,7 +14,7 @@ use Rattle.laws.proofs.Tests.{last-or-below}
 use Rattle.laws.proofs.Members.{In, in-here, in-there}
 use Rattle.columns.specs.Columns.{count, Kind, kind-free, kind-sewn, kind-critical}
 use Rattle.columns.proofs.Question.{Passed}
-use Rattle.mesh.specs.Parts.{blocks, part}
+use Rattle.mesh.specs.Parts.{block-count, part}
 use Rattle.pairing.specs.Numbers.{MeshAsked, word, Held, next-number, before-of, PlacesBefore, BeforeBelow}
 use Rattle.pairing.specs.Keys.{Short, HeldKeys, all-keys}
 use Rattle.pairing.proofs.InBlocks.{kind-at, before-at, next-lt, few, passed}
@@ -37,7 +37,7 @@ below-room : {x n : ℕ} → x < n → n ≤ 4096 → x < 4096
 below-room a b = omega arith
 
 module _ {m : List ℕ} (a : MeshAsked m) where
-  pub short : (i : ℕ) → i < blocks m → Short (part m i)
+  pub short : (i : ℕ) → i < block-count m → Short (part m i)
   short i h p l c = go (kind-at (passed a i h) p l) c
     where
       go : {k x : ℕ} → Kind k x → is-critical-word k ≡ true → x < 2 ^ 48
@@ -45,7 +45,7 @@ module _ {m : List ℕ} (a : MeshAsked m) where
       go {k} (kind-sewn e) c = let two = eqb-true (k % 4) 2 c in absurd (omega arith)
       go (kind-critical e f g) c = g
 
-  pub roomy : (i : ℕ) → i < blocks m → count (part m i) ≤ 4096
+  pub roomy : (i : ℕ) → i < block-count m → count (part m i) ≤ 4096
   roomy i h = passed a i h .range .few
 
   module _ {g : ℕ} (h : Held m g) where
@@ -57,7 +57,7 @@ module _ {m : List ℕ} (a : MeshAsked m) where
 
     held-by : {x r : ℕ} → Sits x (g / 4096) r → r < count (part m (g / 4096)) → Held m x
     held-by {x} {r} s l = record {
-      block-lt = subst (λ (i : ℕ). i < blocks m) (sym (s .in-block)) (h .block-lt);
+      block-lt = subst (λ (i : ℕ). i < block-count m) (sym (s .in-block)) (h .block-lt);
       place-lt = subst (λ (i : ℕ). x % 4096 < count (part m i)) (sym (s .in-block)) (subst (λ (p : ℕ). p < count (part m (g / 4096))) (sym (s .at-place)) l);
     }
 
@@ -97,12 +97,12 @@ module _ {m : List ℕ} (a : MeshAsked m) where
   getD-in (x ∷ l) zero h = in-here x l
   getD-in (x ∷ l) (suc t) h = in-there (getD l t 0) x l (getD-in l t (omega arith))
 
-  pub held-keys : {l : List ℕ} → l ≡ sorted (all-keys m (blocks m)) → HeldKeys m l
+  pub held-keys : {l : List ℕ} → l ≡ sorted (all-keys m (block-count m)) → HeldKeys m l
   held-keys {l} e t h =
       let o = origin a (getD l t 0) (subst (In (getD l t 0)) e (getD-in l t h)) in
       let s = sits a (getD l t 0) (o .block) (o .place) (o .block-lt) (o .place-lt) (o .is) in
       record {
-        block-lt = subst (λ (i : ℕ). i < blocks m) (sym (s .in-block)) (o .block-lt);
+        block-lt = subst (λ (i : ℕ). i < block-count m) (sym (s .in-block)) (o .block-lt);
         place-lt = subst (λ (i : ℕ). getD l t 0 % 65536 % 4096 < count (part m i)) (sym (s .in-block)) (subst (λ (p : ℕ). p < count (part m (o .block))) (sym (s .at-place)) (o .place-lt));
       }
 
@@ -123,14 +123,14 @@ module _ {m : List ℕ} (a : MeshAsked m) where
       less : {q n : ℕ} → q < n → n ≤ p → q < p
       less a b = omega arith
 
-  pub table-all : {t : List ℕ} {i p : ℕ} → BeforeBelow m t i p → blocks m ≤ i → PlacesBefore m t
+  pub table-all : {t : List ℕ} {i p : ℕ} → BeforeBelow m t i p → block-count m ≤ i → PlacesBefore m t
   table-all {t} {i} {p} w h = record { len = w .len; at = λ j q l k. w .below j q (less l h) k }
     where
       less : {j n : ℕ} → j < n → n ≤ i → j < i
       less a b = omega arith
 
-  module _ {t : List ℕ} {i p : ℕ} (w : BeforeBelow m t i p) (hi : i < blocks m) (hp : p < count (part m i)) where
-    next-in : (j q : ℕ) → j < blocks m → q < count (part m j) → column (part m j) 1 q < 4096
+  module _ {t : List ℕ} {i p : ℕ} (w : BeforeBelow m t i p) (hi : i < block-count m) (hp : p < count (part m i)) where
+    next-in : (j q : ℕ) → j < block-count m → q < count (part m j) → column (part m j) 1 q < 4096
     next-in j q hj hq = below-room (next-lt (passed a j hj) q hq) (roomy j hj)
 
     pub write-lt : {x : ℕ} → x ≡ column (part m i) 1 p → i * 4096 + x < length t

@@ -7,7 +7,7 @@ use lib.ListN.{length, take}
 use borrow.Author.Tests.{not-true, not-false}
 use Rattle.model.specs.Lists.{sorted}
 use Rattle.model.specs.Sound.{labels-paired, points-across}
-use Rattle.mesh.specs.Parts.{blocks}
+use Rattle.mesh.specs.Parts.{block-count}
 use Rattle.pairing.specs.Numbers.{MeshAsked, PlacesBefore}
 use Rattle.pairing.specs.Keys.{all-keys, in-pairs, each-pair, label-pair, point-pair}
 use Rattle.pairing.proofs.InBlocks.{mesh-of}
@@ -15,7 +15,7 @@ use Rattle.pairing.proofs.BothWays.{labels-are, points-are}
 use Rattle.pairing.specs.Told.{pairing-of}
 use Rattle.pairing.specs.declared.Pairing.the-variants.{Right, Unpaired, Apart}
 
-module _ {m t keys : List ℕ} (a : MeshAsked m) (b : PlacesBefore m t) (is : keys ≡ sorted (all-keys m (blocks m))) where
+module _ {m t keys : List ℕ} (a : MeshAsked m) (b : PlacesBefore m t) (is : keys ≡ sorted (all-keys m (block-count m))) where
   labels-same : in-pairs (label-pair m t) keys ≡ labels-paired (mesh-of m)
   labels-same = ap (in-pairs (label-pair m t)) is ∙ labels-are a b
 

@@ -18,7 +18,7 @@ use Rattle.laws.proofs.Labels.{code-in}
 use Rattle.columns.specs.Columns.{count}
 use Rattle.columns.proofs.Held.{darts, dart-is}
 use Rattle.columns.proofs.Question.{Passed}
-use Rattle.mesh.specs.Parts.{blocks, part}
+use Rattle.mesh.specs.Parts.{block-count, part}
 use Rattle.mesh.proofs.Parts.{mesh-tab}
 use Rattle.pairing.specs.Numbers.{MeshAsked}
 use Rattle.pairing.specs.Keys.{all-keys}
@@ -29,7 +29,7 @@ use Rattle.pairing.proofs.InBlocks.{kind-along, critical-third, mesh-of
 
 -- the dart at place q of block j shares the label of the one at place p of block i, and each names the other's block
 pub record Facing (m : List ℕ) (i p j q : ℕ) : Type 0 where
-  pub block-lt : j < blocks m
+  pub block-lt : j < block-count m
   pub place-lt : q < count (part m j)
   pub critical-there : is-critical-word (column (part m j) 3 q) ≡ true
   pub same : column (part m j) 4 q ≡ column (part m i) 4 p
@@ -73,7 +73,7 @@ middle : (a b c : Bool) → b ≡ true → (a && b && c) ≡ (a && c)
 middle true b c e = rw e refl
 middle false b c e = refl
 
-module _ {m : List ℕ} (a : MeshAsked m) (i p : ℕ) (hi : i < blocks m) (hp : p < count (part m i)) (c : is-critical-word (column (part m i) 3 p) ≡ true) where
+module _ {m : List ℕ} (a : MeshAsked m) (i p : ℕ) (hi : i < block-count m) (hp : p < count (part m i)) (c : is-critical-word (column (part m i) 3 p) ≡ true) where
   abbrev here : Passed (part m i)
   here = passed a i hi
 
@@ -83,11 +83,11 @@ module _ {m : List ℕ} (a : MeshAsked m) (i p : ℕ) (hi : i < blocks m) (hp : 
   abbrev other : ℕ
   other = other-in (column (part m i) 3 p)
 
-  count-is : length (keep (λ d. has-label label (d .third)) (all-darts (mesh-of m))) ≡ times (column (part m i) 4 p) (all-keys m (blocks m))
+  count-is : length (keep (λ d. has-label label (d .third)) (all-darts (mesh-of m))) ≡ times (column (part m i) 4 p) (all-keys m (block-count m))
   count-is =
       ap (λ (M : List Block). length (keep (λ d. has-label label (d .third)) (all-darts M))) (mesh-tab m)
-      ∙ all-times label m (blocks m) (few a) (λ j h. passed a j h .range .few) (λ j q h l. kind-at (passed a j h) q l)
-      ∙ ap (λ (x : ℕ). times x (all-keys m (blocks m))) (code-in (column (part m i) 4 p))
+      ∙ all-times label m (block-count m) (few a) (λ j h. passed a j h .range .few) (λ j q h l. kind-at (passed a j h) q l)
+      ∙ ap (λ (x : ℕ). times x (all-keys m (block-count m))) (code-in (column (part m i) 4 p))
 
   module _ {j q : ℕ} (f : Facing m i p j q) where
     found : labelled label (darts (part m j)) ≡ dart-in (part m j) q
@@ -103,12 +103,12 @@ module _ {m : List ℕ} (a : MeshAsked m) (i p : ℕ) (hi : i < blocks m) (hp : 
     -- 25, where r stands before q
     pub paired-is : (r : ℕ) → r < count (part m j) → column (part m j) 1 r ≡ q
         → paired (mesh-of m) (block-in (part m i)) (dart-in (part m i) p) (third-of (part m i) p)
-        ≡ (eqb (times (column (part m i) 4 p) (all-keys m (blocks m))) 2 && eqb (column (part m i) 4 (column (part m i) 1 p)) (column (part m j) 4 r))
+        ≡ (eqb (times (column (part m i) 4 p) (all-keys m (block-count m))) 2 && eqb (column (part m i) 4 (column (part m i) 1 p)) (column (part m j) 4 r))
     paired-is r hr e =
         ap (paired (mesh-of m) (block-in (part m i)) (dart-in (part m i) p)) (critical-third here p hp c)
         ∙ paired-by (mesh-of m) (block-in (part m i)) (dart-in (part m i) p) other label there found count-is
-        ∙ middle (eqb (times (column (part m i) 4 p) (all-keys m (blocks m))) 2) _ _ back
-        ∙ ap (λ (x : Bool). eqb (times (column (part m i) 4 p) (all-keys m (blocks m))) 2 && x) share
+        ∙ middle (eqb (times (column (part m i) 4 p) (all-keys m (block-count m))) 2) _ _ back
+        ∙ ap (λ (x : Bool). eqb (times (column (part m i) 4 p) (all-keys m (block-count m))) 2 && x) share
       where
         w : Passed (part m j)
         w = passed a j (f .block-lt)
@@ -142,28 +142,28 @@ module _ {m : List ℕ} (a : MeshAsked m) (i p : ℕ) (hi : i < blocks m) (hp : 
     abbrev es : List Dart
     es = block-at (mesh-of m) other .darts
 
-    tests : (eqb (times (column (part m i) 4 p) (all-keys m (blocks m))) 2 && is-critical-with (getD (part m i) 0 0) (labelled label es .third)
+    tests : (eqb (times (column (part m i) 4 p) (all-keys m (block-count m))) 2 && is-critical-with (getD (part m i) 0 0) (labelled label es .third)
         && share-label (third-at (darts (part m i)) (column (part m i) 0 (column (part m i) 1 p))) (third-at es (previous-in es (labelled label es .serial)))) ≡ true
     tests = sym (ap (paired (mesh-of m) (block-in (part m i)) (dart-in (part m i) p)) (critical-third here p hp c)
         ∙ paired-by (mesh-of m) (block-in (part m i)) (dart-in (part m i) p) other label refl refl count-is) ∙ yes
 
-    pub stands-twice : times (column (part m i) 4 p) (all-keys m (blocks m)) ≡ 2
+    pub stands-twice : times (column (part m i) 4 p) (all-keys m (block-count m)) ≡ 2
     stands-twice =
         eqb-true _ _
-        (and-left (eqb (times (column (part m i) 4 p) (all-keys m (blocks m))) 2) _
+        (and-left (eqb (times (column (part m i) 4 p) (all-keys m (block-count m))) 2) _
         (and-left
-        (eqb (times (column (part m i) 4 p) (all-keys m (blocks m))) 2
+        (eqb (times (column (part m i) 4 p) (all-keys m (block-count m))) 2
         && is-critical-with (getD (part m i) 0 0) (labelled label es .third)) _ tests))
 
     names-back : is-critical-with (getD (part m i) 0 0) (labelled label es .third) ≡ true
     names-back =
-        and-right (eqb (times (column (part m i) 4 p) (all-keys m (blocks m))) 2) _
+        and-right (eqb (times (column (part m i) 4 p) (all-keys m (block-count m))) 2) _
         (and-left
-        (eqb (times (column (part m i) 4 p) (all-keys m (blocks m))) 2
+        (eqb (times (column (part m i) 4 p) (all-keys m (block-count m))) 2
         && is-critical-with (getD (part m i) 0 0) (labelled label es .third)) _ tests)
 
-    known : other < blocks m
-    known = ⊎-elim (λ h. h) (λ h. absurd (nobody (getD (part m i) 0 0) label (ap (λ (b : Block). b .darts) (block-none m other h)) names-back)) (lt-or-ge other (blocks m))
+    known : other < block-count m
+    known = ⊎-elim (λ h. h) (λ h. absurd (nobody (getD (part m i) 0 0) label (ap (λ (b : Block). b .darts) (block-none m other h)) names-back)) (lt-or-ge other (block-count m))
 
     there-is : es ≡ darts (part m other)
     there-is = ap (λ (b : Block). b .darts) (block-is m other known)

@@ -7,7 +7,7 @@ use Prim.Native.Nat.{ℕ, zero, suc, _+_, _/_, _%_, _≤_, _<_, _^_}
 use native.Mathlib.Omega.{arith}
 use lib.Dec.{leb, eqb, ltb}
 use lib.ListN.{length, getD, List·getD-eq-default}
-use borrow.Author.Tests.{eqb-true, eqb-false, eq-eqb, lt-ltb, le-ltb, not-true}
+use borrow.Author.Tests.{eqb-true, eqb-false, not-true}
 use Rattle.model.specs.Lists.{tab, find}
 use Rattle.model.specs.Values.{Third, critical, Dart, Block, no-dart, no-block, or-no-dart, code, label-key, is-critical-with}
 use Rattle.model.specs.Cells.{third-at, previous-in, labelled}
@@ -17,14 +17,14 @@ use Rattle.model.specs.Calls.{memories}
 use Rattle.laws.proofs.Tests.{by-cases, and-left, and-right}
 use Rattle.laws.proofs.Tables.{all-tab, length-tab, getD-tab, find-only}
 use Rattle.laws.proofs.Labels.{code-in}
-use Rattle.columns.specs.Columns.{count, Kind, kind-free, kind-sewn, kind-critical, label-test}
+use Rattle.columns.specs.Columns.{count, Kind, label-test}
 use Rattle.columns.proofs.Thirds.{third-critical, label-word}
 use Rattle.columns.proofs.Held.{darts, dart-is, one-serial, onto}
 use Rattle.columns.proofs.Links.{linked}
 use Rattle.columns.proofs.ThirdLinks.{same-kind}
 use Rattle.columns.proofs.Question.{Passed, image-passed}
 use Rattle.departure.proofs.LeavingFaces.{labels-apart}
-use Rattle.mesh.specs.Parts.{blocks, part}
+use Rattle.mesh.specs.Parts.{block-count, part}
 use Rattle.mesh.proofs.Parts.{mesh-tab, numbered-at}
 use Rattle.mesh.proofs.Gathers.{few-blocks}
 use Rattle.pairing.specs.Numbers.{MeshAsked}
@@ -37,18 +37,6 @@ found-at key f (suc n) x d e = by-cases (eqb x (key (f 0)))
     (λ t. (0, omega arith, sym (eqb-true x (key (f 0)) t)))
     (λ t. let r = found-at key (λ k. f (suc k)) n x d (rw t at e) in (suc (r .0), omega (arith, r .1), r .2))
 
--- CRITICAL WORDS of the kinds that an image has
-critical-more : (k : ℕ) → is-critical-word k ≡ true → 1 < k
-critical-more k e = let two = eqb-true (k % 4) 2 e in omega arith
-
-critical-is : {k a : ℕ} → Kind k a → ltb 1 k ≡ is-critical-word k
-critical-is (kind-free e f) = rw e refl
-critical-is (kind-sewn e) = rw e refl
-critical-is {k} (kind-critical e f g) = lt-ltb 1 k (omega arith) ∙ sym (eq-eqb (k % 4) 2 e)
-
-pub word-key : (s : ℕ → ℕ) (k a : ℕ) → Kind k a → label-key (third-in s k a) ≡ cond (is-critical-word k) (suc a) 0
-word-key s k a w = label-word s k a w ∙ ap (λ (t : Bool). cond t (suc a) 0) (critical-is w)
-
 -- A BLOCK that passed question 2
 abbrev pub third-of : List ℕ → ℕ → Third
 third-of b p = third-in (column b 0) (column b 3 p) (column b 4 p)
@@ -58,7 +46,7 @@ module _ {b : List ℕ} (w : Passed b) where
   kind-at p h = w .range .kinds p h
 
   pub key-at : (p : ℕ) → p < count b → label-key (third-of b p) ≡ cond (is-critical-word (column b 3 p)) (suc (column b 4 p)) 0
-  key-at p h = word-key (column b 0) (column b 3 p) (column b 4 p) (kind-at p h)
+  key-at p h = label-word (column b 0) (column b 3 p) (column b 4 p) (kind-at p h)
 
   pub key-critical : (p : ℕ) → p < count b → is-critical-word (column b 3 p) ≡ true → label-key (third-of b p) ≡ suc (column b 4 p)
   key-critical p h c = key-at p h ∙ chosen (is-critical-word (column b 3 p)) c
@@ -90,7 +78,7 @@ module _ {b : List ℕ} (w : Passed b) where
       same = ap suc (code-in a ∙ sym e) ∙ sym (key-critical q h c)
 
       only : (i : ℕ) → i < count b → label-key (third-of b i) ≡ label-key (third-of b q) → i ≡ q
-      only i l u = let r = critical-key i (column b 4 q) l (u ∙ key-critical q h c) in labels-apart b (count b) i q (w .differ) l h (critical-more _ (r .0)) (critical-more _ c) (r .1)
+      only i l u = let r = critical-key i (column b 4 q) l (u ∙ key-critical q h c) in labels-apart b (count b) i q (w .differ) l h (r .0) c (r .1)
 
   -- where it is critical with a block, it is there
   pub labelled-there : (o a : ℕ) → is-critical-with o (labelled (label-in a) (darts b) .third) ≡ true → (q : ℕ) × (q < count b) × (is-critical-word (column b 3 q) ≡ true) × (column b 4 q ≡ a)
@@ -134,15 +122,14 @@ module _ {b : List ℕ} (w : Passed b) where
   unfolding label-test
   names-other p h c e =
       let k = column b 3 p in
-      let more = critical-more k c in
-      let t : (ltb k 2 || (not (eqb (other-in k) (getD b 0 0)) && (not (eqb (column b 4 p / 4096 / 2 ^ 32) (getD b 0 0)) || ltb (column b 4 p / 4096 % 2 ^ 32) (getD b 1 0)))) ≡ true = w .labels p h in
+      let t : (not (is-critical-word k) || (not (eqb (other-in k) (getD b 0 0)) && (not (eqb (column b 4 p / 4096 / 2 ^ 32) (getD b 0 0)) || ltb (column b 4 p / 4096 % 2 ^ 32) (getD b 1 0)))) ≡ true = w .labels p h in
       let u : (not (eqb (other-in k) (getD b 0 0)) && (not (eqb (column b 4 p / 4096 / 2 ^ 32) (getD b 0 0)) || ltb (column b 4 p / 4096 % 2 ^ 32) (getD b 1 0))) ≡ true =
-      rw (le-ltb k 2 (omega arith)) at t
+      rw c at t
       in
       eqb-false (other-in k) (getD b 0 0) (not-true _ (and-left (not (eqb (other-in k) (getD b 0 0))) _ u)) e
 
   pub critical-third : (p : ℕ) → p < count b → is-critical-word (column b 3 p) ≡ true → third-of b p ≡ critical (other-in (column b 3 p)) (label-in (column b 4 p))
-  critical-third p h c = third-critical (column b 0) (column b 3 p) (column b 4 p) (eqb-true (column b 3 p % 4) 2 c)
+  critical-third p h c = third-critical (column b 0) (column b 3 p) (column b 4 p) c
 
 -- THE BLOCKS OF A MESH
 abbrev pub mesh-of : List ℕ → List Block
@@ -152,33 +139,33 @@ in-order : (g : ℕ → Block) (n : ℕ) → blocks-right (tab g n) ≡ true →
 unfolding blocks-right
 in-order g n e = and-right (leb 1 (length (tab g n)) && leb (length (tab g n)) 16) _ e
 
-pub block-is : (m : List ℕ) (i : ℕ) → i < blocks m → block-at (mesh-of m) i ≡ block-in (part m i)
+pub block-is : (m : List ℕ) (i : ℕ) → i < block-count m → block-at (mesh-of m) i ≡ block-in (part m i)
 unfolding block-at
-block-is m i h = ap (λ (M : List Block). getD M i no-block) (mesh-tab m) ∙ getD-tab (λ j. block-in (part m j)) (blocks m) i no-block h
+block-is m i h = ap (λ (M : List Block). getD M i no-block) (mesh-tab m) ∙ getD-tab (λ j. block-in (part m j)) (block-count m) i no-block h
 
-pub block-none : (m : List ℕ) (i : ℕ) → blocks m ≤ i → block-at (mesh-of m) i ≡ no-block
+pub block-none : (m : List ℕ) (i : ℕ) → block-count m ≤ i → block-at (mesh-of m) i ≡ no-block
 unfolding block-at
 block-none m i h =
     ap (λ (M : List Block). getD M i no-block) (mesh-tab m)
-    ∙ List·getD-eq-default (tab (λ j. block-in (part m j)) (blocks m)) no-block
-    (past (length-tab (λ j. block-in (part m j)) (blocks m)) h)
+    ∙ List·getD-eq-default (tab (λ j. block-in (part m j)) (block-count m)) no-block
+    (past (length-tab (λ j. block-in (part m j)) (block-count m)) h)
   where
     past : {k n : ℕ} → k ≡ n → n ≤ i → k ≤ i
     past e l = omega arith
 
 module _ {m : List ℕ} (a : MeshAsked m) where
-  pub few : blocks m ≤ 16
+  pub few : block-count m ≤ 16
   few = few-blocks m (a .numbered)
 
-  pub passed : (i : ℕ) → i < blocks m → Passed (part m i)
+  pub passed : (i : ℕ) → i < block-count m → Passed (part m i)
   unfolding memories
   passed i h = image-passed (part m i) (all-tab (λ b. holds-block b) (part m) (length m / words) (a .images) i h)
 
-  pub number-is : (i : ℕ) → i < blocks m → getD (part m i) 0 0 ≡ i
+  pub number-is : (i : ℕ) → i < block-count m → getD (part m i) 0 0 ≡ i
   number-is i h =
       eqb-true _ _
-      (numbered-at (λ j. block-in (part m j)) (blocks m) 0
-      (in-order (λ j. block-in (part m j)) (blocks m) (ap blocks-right (sym (mesh-tab m)) ∙ a .numbered)) i h) ∙ from-zero i
+      (numbered-at (λ j. block-in (part m j)) (block-count m) 0
+      (in-order (λ j. block-in (part m j)) (block-count m) (ap blocks-right (sym (mesh-tab m)) ∙ a .numbered)) i h) ∙ from-zero i
     where
       from-zero : (p : ℕ) → 0 + p ≡ p
       from-zero p = omega arith

@@ -17,12 +17,12 @@ use Rattle.laws.proofs.Tests.{by-cases}
 use Rattle.laws.proofs.Members.{In, in-here, in-cons, in-append-left, in-append-right, append-in}
 use Rattle.laws.proofs.Maps.{tab-more}
 use Rattle.columns.specs.Columns.{count, Kind}
+use Rattle.columns.proofs.Thirds.{label-word}
 use Rattle.sort.specs.Order.{weight}
 use Rattle.sort.proofs.Order.{total-append}
 use Rattle.mesh.specs.Parts.{part}
 use Rattle.mesh.proofs.Gathers.{concat-append, one-block}
 use Rattle.pairing.specs.Keys.{dart-key, key-of, keys-of, all-keys}
-use Rattle.pairing.proofs.InBlocks.{word-key}
 use Rattle.pairing.proofs.InPairs.{times}
 
 -- A KEY TAKEN APART
@@ -107,8 +107,8 @@ one-kept q d = by-cases (q d) (λ e. rw e refl) (λ e. rw e refl)
 one-dart : (l : Label) (b : List ℕ) (i p : ℕ) → i < 16 → p < 4096 → Kind (column b 3 p) (column b 4 p)
     → weight (has-label l (third-in (column b 0) (column b 3 p) (column b 4 p))) ≡ times (code l) (key-of b i p)
 one-dart l b i p hi hp kind = by-cases (is-critical-word (column b 3 p))
-    (λ e. ap (λ (x : ℕ). weight (eqb (suc (code l)) x)) (word-key (column b 0) (column b 3 p) (column b 4 p) kind) ∙ yes e)
-    (λ e. ap (λ (x : ℕ). weight (eqb (suc (code l)) x)) (word-key (column b 0) (column b 3 p) (column b 4 p) kind) ∙ not-it e)
+    (λ e. ap (λ (x : ℕ). weight (eqb (suc (code l)) x)) (label-word (column b 0) (column b 3 p) (column b 4 p) kind) ∙ yes e)
+    (λ e. ap (λ (x : ℕ). weight (eqb (suc (code l)) x)) (label-word (column b 0) (column b 3 p) (column b 4 p) kind) ∙ not-it e)
   where
     yes : is-critical-word (column b 3 p) ≡ true → weight (eqb (suc (code l)) (cond (is-critical-word (column b 3 p)) (suc (column b 4 p)) 0)) ≡ times (code l) (key-of b i p)
     yes e = rw e (ap weight (suc-eqb (code l) (column b 4 p) ∙ ap (eqb (code l)) (sym (key-code (column b 4 p) i p hi hp))) ∙ plus-zero (weight (eqb (code l) (dart-key b i p / 65536))))

@@ -13,28 +13,28 @@ use Rattle.model.specs.Image.{column, is-critical-word}
 use Rattle.laws.proofs.Tests.{eq-or-ne}
 use Rattle.laws.proofs.Lists.{drop-at-cons, drop-end}
 use Rattle.columns.specs.Columns.{count}
-use Rattle.mesh.specs.Parts.{blocks, part, Put}
+use Rattle.mesh.specs.Parts.{part, PutAfter}
 use Rattle.pairing.specs.Keys.{dart-key, key-of, keys-of, all-keys, fresh, two-test, in-pairs, each-pair}
 
 -- PUTTING
-put-none : (at : ℕ) (out : List ℕ) → Put at [] out out at
+put-none : (at : ℕ) (out : List ℕ) → PutAfter at [] out out at
 put-none at out = record { len = refl; put = sym (append-nil (take at out)) }
 
-put-more : {at r s : ℕ} {xs ys out mid end : List ℕ} → Put at xs out mid r → Put r ys mid end s → Put at (xs ++ ys) out end s
+put-more : {at r s : ℕ} {xs ys out mid end : List ℕ} → PutAfter at xs out mid r → PutAfter r ys mid end s → PutAfter at (xs ++ ys) out end s
 put-more {at} {r} {s} {xs} {ys} {out} {mid} {end} p q = record {
   len = q .len ∙ p .len;
   put = q .put ∙ ap (λ (l : List ℕ). l ++ ys) (p .put) ∙ append-assoc (take at out) xs ys;
 }
 
 -- one key
-pub key-none : (b : List ℕ) (i p at : ℕ) (out : List ℕ) {k : ℕ} → k ≡ column b 3 p → is-critical-word k ≡ false → (at ≤ at + 1) × Put at (key-of b i p) out out at
-key-none b i p at out e h = (omega arith, subst (λ (l : List ℕ). Put at l out out at) (sym nothing) (put-none at out))
+pub key-none : (b : List ℕ) (i p at : ℕ) (out : List ℕ) {k : ℕ} → k ≡ column b 3 p → is-critical-word k ≡ false → (at ≤ at + 1) × PutAfter at (key-of b i p) out out at
+key-none b i p at out e h = (omega arith, subst (λ (l : List ℕ). PutAfter at l out out at) (sym nothing) (put-none at out))
   where
     nothing : key-of b i p ≡ []
     nothing = rw (ap is-critical-word (sym e) ∙ h) refl
 
 pub key-put : (b : List ℕ) (i p at : ℕ) (out : List ℕ) {k a : ℕ} → at < length out → k ≡ column b 3 p → is-critical-word k ≡ true → a ≡ column b 4 p
-    → (at + 1 ≤ at + 1) × Put at (key-of b i p) out (set out at (a * 65536 + (i * 4096 + p))) (at + 1)
+    → (at + 1 ≤ at + 1) × PutAfter at (key-of b i p) out (set out at (a * 65536 + (i * 4096 + p))) (at + 1)
 key-put b i p at out {k} {a} l e h f = (
   omega arith,
   record {
@@ -54,7 +54,7 @@ key-put b i p at out {k} {a} l e h f = (
 pub record Putting (b : List ℕ) (i : ℕ) (out₀ : List ℕ) (at : ℕ) (out : List ℕ) (end p : ℕ) : Type 0 where
   pub p-le : p ≤ count b
   pub end-le : end ≤ at + p
-  pub done : Put at (keys-of b i p) out₀ out end
+  pub done : PutAfter at (keys-of b i p) out₀ out end
 
 pub putting-none : (b : List ℕ) (i : ℕ) (out : List ℕ) (at : ℕ) → Putting b i out at out at 0
 unfolding keys-of
@@ -68,11 +68,11 @@ keys-more b i p = rw (one-more p) refl
     one-more k = omega arith
 
 module _ {b : List ℕ} {i : ℕ} {out₀ : List ℕ} {at : ℕ} {out : List ℕ} {end p : ℕ} (w : Putting b i out₀ at out end p) where
-  pub putting-more : p < count b → {out′ : List ℕ} {r : ℕ} → r ≤ end + 1 → Put end (key-of b i p) out out′ r → Putting b i out₀ at out′ r (p + 1)
+  pub putting-more : p < count b → {out′ : List ℕ} {r : ℕ} → r ≤ end + 1 → PutAfter end (key-of b i p) out out′ r → Putting b i out₀ at out′ r (p + 1)
   putting-more h {out′} {r} l q = record {
     p-le = omega (arith, h);
     end-le = omega (arith, w .end-le, l);
-    done = subst (λ (x : List ℕ). Put at x out₀ out′ r) (keys-more b i p) (put-more (w .done) q);
+    done = subst (λ (x : List ℕ). PutAfter at x out₀ out′ r) (keys-more b i p) (put-more (w .done) q);
   }
 
   pub putting-room : p < count b → count b ≤ 4096 → at + 4096 ≤ length out₀ → end < length out
@@ -81,8 +81,8 @@ module _ {b : List ℕ} {i : ℕ} {out₀ : List ℕ} {at : ℕ} {out : List ℕ
       go : {n y z : ℕ} → end ≤ at + p → p < n → n ≤ 4096 → at + 4096 ≤ y → z ≡ y → end < z
       go a b c d e = omega arith
 
-  pub putting-end : count b ≤ p → count b ≤ 4096 → (end ≤ at + 4096) × Put at (keys-of b i (count b)) out₀ out end
-  putting-end h k = (few h (w .p-le) (w .end-le) k, subst (λ (n : ℕ). Put at (keys-of b i n) out₀ out end) (same h (w .p-le)) (w .done))
+  pub putting-end : count b ≤ p → count b ≤ 4096 → (end ≤ at + 4096) × PutAfter at (keys-of b i (count b)) out₀ out end
+  putting-end h k = (few h (w .p-le) (w .end-le) k, subst (λ (n : ℕ). PutAfter at (keys-of b i n) out₀ out end) (same h (w .p-le)) (w .done))
     where
       few : {n : ℕ} → n ≤ p → p ≤ n → end ≤ at + p → n ≤ 4096 → end ≤ at + 4096
       few a b c d = omega arith
@@ -91,49 +91,16 @@ module _ {b : List ℕ} {i : ℕ} {out₀ : List ℕ} {at : ℕ} {out : List ℕ
       same a b = omega arith
 
 -- all blocks' keys
-pub record Gathering (m out : List ℕ) (c i : ℕ) : Type 0 where
-  pub i-le : i ≤ blocks m
-  pub c-le : c ≤ i * 4096
-  pub len : length out ≡ 65536
-  pub got : take c out ≡ all-keys m i
-
-pub gathering-none : {m out : List ℕ} → length out ≡ 65536 → Gathering m out 0 0
+pub all-none : (m : List ℕ) → [] ≡ all-keys m 0
 unfolding all-keys
-gathering-none {m} {out} e = record { i-le = omega arith; c-le = omega arith; len = e; got = refl }
+all-none m = refl
 
-all-more : (m : List ℕ) (i : ℕ) → all-keys m i ++ keys-of (part m i) i (count (part m i)) ≡ all-keys m (i + 1)
+pub all-more : (m : List ℕ) (i : ℕ) → all-keys m i ++ keys-of (part m i) i (count (part m i)) ≡ all-keys m (i + 1)
 unfolding all-keys
 all-more m i = rw (one-more i) refl
   where
     one-more : (k : ℕ) → k + 1 ≡ suc k
     one-more k = omega arith
-
-module _ {m out : List ℕ} {c i : ℕ} (w : Gathering m out c i) where
-  pub gathering-more : i < blocks m → {out′ : List ℕ} {r : ℕ} → r ≤ c + 4096 → Put c (keys-of (part m i) i (count (part m i))) out out′ r → Gathering m out′ r (i + 1)
-  gathering-more h {out′} {r} l p = record {
-    i-le = h′ h;
-    c-le = omega (arith, w .c-le);
-    len = p .len ∙ w .len;
-    got = p .put ∙ ap (λ (l : List ℕ). l ++ keys-of (part m i) i (count (part m i))) (w .got) ∙ all-more m i;
-  }
-    where
-      h′ : {n : ℕ} → i < n → i + 1 ≤ n
-      h′ a = omega arith
-
-  pub gathering-room : i < blocks m → blocks m ≤ 16 → c + 4096 ≤ length out
-  gathering-room h k = go h k (w .c-le) (w .len)
-    where
-      go : {n : ℕ} → i < n → n ≤ 16 → c ≤ i * 4096 → length out ≡ 65536 → c + 4096 ≤ length out
-      go a b d e = omega arith
-
-  pub gathering-end : blocks m ≤ i → blocks m ≤ 16 → (c ≤ 65536) × (length out ≡ 65536) × (take c out ≡ all-keys m (blocks m))
-  gathering-end h k = (few h k (w .c-le) (w .i-le), w .len, w .got ∙ ap (all-keys m) (same h (w .i-le)))
-    where
-      few : {n : ℕ} → n ≤ i → n ≤ 16 → c ≤ i * 4096 → i ≤ n → c ≤ 65536
-      few a b d e = omega arith
-
-      same : {n : ℕ} → n ≤ i → i ≤ n → i ≡ n
-      same a b = omega arith
 
 -- TWO BY TWO
 pub fresh-end : (a : ℕ) (l : List ℕ) (t : ℕ) → length l ≤ t → true ≡ fresh a (drop t l)

@@ -13,7 +13,7 @@ use Rattle.memory.specs.Point.{point-of, patterns, FinitePoint, FiniteAt}
 use Rattle.memory.proofs.Points.{point-finite, point-patterns}
 use Rattle.memory.proofs.Points.{finite-at}
 use Rattle.columns.specs.Columns.{count}
-use Rattle.mesh.specs.Parts.{blocks, part, Put}
+use Rattle.mesh.specs.Parts.{block-count, part, PutAfter}
 use Rattle.mesh.proofs.Gathers.{part-length}
 use Rattle.pairing.specs.Numbers.{MeshAsked, Held, word, next-number, before-of, PlacesBefore, point-by, side-test, meet-test}
 use Rattle.pairing.specs.Keys.{Short, keys-of, label-pair, point-pair}
@@ -23,14 +23,14 @@ use Rattle.pairing.proofs.ByNumber.{short, roomy, held-next, held-befor
 
 -- A WORD of the next dart, and of the one before
 module _ {m : List ℕ} {g : ℕ} (a : MeshAsked m) (h : Held m g) where
-  pub read-next : {r : ℕ} → r ≡ next-number m g → (f : ℕ) → f < 8 → (r / 4096 < blocks m) × (f < 8)
-  read-next e f l = (subst (λ (x : ℕ). x / 4096 < blocks m) (sym e) (held-next a h .block-lt), l)
+  pub read-next : {r : ℕ} → r ≡ next-number m g → (f : ℕ) → f < 8 → (r / 4096 < block-count m) × (f < 8)
+  read-next e f l = (subst (λ (x : ℕ). x / 4096 < block-count m) (sym e) (held-next a h .block-lt), l)
 
   pub next-held : {r : ℕ} → r ≡ next-number m g → Held m r
   next-held e = subst (Held m) (sym e) (held-next a h)
 
-  pub read-before : {t : List ℕ} {r : ℕ} → PlacesBefore m t → r ≡ before-of t g → (f : ℕ) → f < 8 → (r / 4096 < blocks m) × (f < 8)
-  read-before b e f l = (subst (λ (x : ℕ). x / 4096 < blocks m) (sym e) (held-before a h b .block-lt), l)
+  pub read-before : {t : List ℕ} {r : ℕ} → PlacesBefore m t → r ≡ before-of t g → (f : ℕ) → f < 8 → (r / 4096 < block-count m) × (f < 8)
+  read-before b e f l = (subst (λ (x : ℕ). x / 4096 < block-count m) (sym e) (held-before a h b .block-lt), l)
 
 -- TESTS
 pub side-told : (m t : List ℕ) (g h : ℕ) {k a b c n q : ℕ} → k ≡ word m 3 g → a ≡ other-in k → n ≡ next-number m g → b ≡ word m 4 n → q ≡ before-of t h → c ≡ word m 4 q
@@ -84,7 +84,7 @@ pub code-fits : (b : List ℕ) (p : ℕ) {k a : ℕ} → Short b → p < count b
 code-fits b p {k} {a} s h e l f = subst (λ (x : ℕ). x < 281474976710656) (sym f) (s p h (ap is-critical-word (sym e) ∙ l))
 
 -- a block that is a part of a mesh
-module _ (m : List ℕ) (i : ℕ) {b : List ℕ} (is : b ≡ part m i) (a : MeshAsked m) (held : i < blocks m) where
+module _ (m : List ℕ) (i : ℕ) {b : List ℕ} (is : b ≡ part m i) (a : MeshAsked m) (held : i < block-count m) where
   pub part-asked : (at n : ℕ) → at + 4096 ≤ n → (words-for (getD b 2 0) ≤ length b) × (getD b 2 0 ≤ room) × Short b × (i < 16) × (at + 4096 ≤ n)
   part-asked at n h = (
     within (ap length is ∙ part-length m i held) few-here,
@@ -103,24 +103,24 @@ module _ (m : List ℕ) (i : ℕ) {b : List ℕ} (is : b ≡ part m i) (a : Mesh
       small : {n : ℕ} → i < n → n ≤ 16 → i < 16
       small u v = omega arith
 
-  pub part-told : {at r : ℕ} {before after : List ℕ} → (r ≤ at + 4096) × Put at (keys-of b i (getD b 2 0)) before after r
-      → (r ≤ at + 4096) × Put at (keys-of (part m i) i (getD (part m i) 2 0)) before after r
-  part-told {at} {r} {before} {after} p = (p .0, subst (λ (x : List ℕ). Put at (keys-of x i (getD x 2 0)) before after r) is (p .1))
+  pub part-told : {at r : ℕ} {before after : List ℕ} → (r ≤ at + 4096) × PutAfter at (keys-of b i (getD b 2 0)) before after r
+      → (r ≤ at + 4096) × PutAfter at (keys-of (part m i) i (getD (part m i) 2 0)) before after r
+  part-told {at} {r} {before} {after} p = (p .0, subst (λ (x : List ℕ). PutAfter at (keys-of x i (getD x 2 0)) before after r) is (p .1))
 
 -- THE NUMBER of the dart at place p of block i
 pub number-sits : (i p : ℕ) → p < 4096 → Sits (i * 4096 + p) i p
 number-sits i p h = record { in-block = omega arith; at-place = omega arith }
 
-pub place-in : {m : List ℕ} → MeshAsked m → (i p : ℕ) → i < blocks m → p < count (part m i) → p < 4096
+pub place-in : {m : List ℕ} → MeshAsked m → (i p : ℕ) → i < block-count m → p < count (part m i) → p < 4096
 place-in a i p hi hp = go (roomy a i hi) hp
   where
     go : {k : ℕ} → k ≤ 4096 → p < k → p < 4096
     go u v = omega arith
 
-pub number-held : (m : List ℕ) (i p : ℕ) → i < blocks m → p < 4096 → ((i * 4096 + p) / 4096 < blocks m) × (1 < 8)
-number-held m i p h l = (subst (λ (x : ℕ). x < blocks m) (sym (number-sits i p l .in-block)) h, omega arith)
+pub number-held : (m : List ℕ) (i p : ℕ) → i < block-count m → p < 4096 → ((i * 4096 + p) / 4096 < block-count m) × (1 < 8)
+number-held m i p h l = (subst (λ (x : ℕ). x < block-count m) (sym (number-sits i p l .in-block)) h, omega arith)
 
-pub next-told : {m : List ℕ} → MeshAsked m → (i p : ℕ) {x : ℕ} → i < blocks m → p < count (part m i) → x ≡ word m 1 (i * 4096 + p) → (x ≡ column (part m i) 1 p) × (x < 4096)
+pub next-told : {m : List ℕ} → MeshAsked m → (i p : ℕ) {x : ℕ} → i < block-count m → p < count (part m i) → x ≡ word m 1 (i * 4096 + p) → (x ≡ column (part m i) 1 p) × (x < 4096)
 next-told {m} a i p hi hp e =
     let w = e ∙ word-at m 1 (number-sits i p (place-in a i p hi hp)) in
     (w, subst (λ (y : ℕ). y < 4096) (sym w) (place-in a i (column (part m i) 1 p) hi (next-lt (passed a i hi) p hp)))

@@ -13,7 +13,7 @@ use Rattle.model.specs.Calls.{memories}
 use Rattle.columns.specs.Columns.{count}
 use Rattle.memory.specs.declared.point.Point.{Point}
 use Rattle.memory.specs.Point.{point-of}
-use Rattle.mesh.specs.Parts.{blocks, part}
+use Rattle.mesh.specs.Parts.{block-count, part}
 
 -- questions 2 and 23 were answered yes
 pub record MeshAsked (m : List ℕ) : Type 0 where
@@ -26,7 +26,7 @@ word m f g = column (part m (g / room)) f (g % room)
 
 -- a dart of the mesh
 pub record Held (m : List ℕ) (g : ℕ) : Type 0 where
-  pub block-lt : g / room < blocks m
+  pub block-lt : g / room < block-count m
   pub place-lt : g % room < count (part m (g / room))
 
 -- the next dart
@@ -36,7 +36,7 @@ next-number m g = g / room * room + word m 1 g
 -- where each dart's previous one stands, by the dart's number
 pub record PlacesBefore (m t : List ℕ) : Type 0 where
   pub len : length t ≡ 65536
-  pub at : (i p : ℕ) → i < blocks m → p < count (part m i) → getD t (i * room + column (part m i) 1 p) 0 ≡ p
+  pub at : (i p : ℕ) → i < block-count m → p < count (part m i) → getD t (i * room + column (part m i) 1 p) 0 ≡ p
 
 -- the same of the blocks below i and of the places below p of block i
 pub record BeforeBelow (m t : List ℕ) (i p : ℕ) : Type 0 where

@@ -4,7 +4,7 @@ ghost use Prim.Native.Nat.{_+_, _<_};
 ghost use lib.ListN.{length, getD};
 ghost use Rattle.model.specs.Values.{room};
 ghost use Rattle.model.specs.Image.{column};
-ghost use Rattle.mesh.specs.Parts.{blocks, part};
+ghost use Rattle.mesh.specs.Parts.{block-count, part};
 ghost use Rattle.pairing.specs.Numbers.{MeshAsked, PlacesBefore, BeforeBelow};
 use crate::dart;
 use memory::header::Header;
@@ -13,7 +13,7 @@ use memory::record::Record;
 
 // The place of the dart next to the one at place p of block i.
 fn next_place(mesh: &[u64], i: usize, p: Place) -> Place
-    requires { ⌜ MeshAsked (now mesh) × (i < blocks (now mesh)) × (p .0 < getD (part (now mesh) i) 2 0) ⌝ }
+    requires { ⌜ MeshAsked (now mesh) × (i < block-count (now mesh)) × (p .0 < getD (part (now mesh) i) 2 0) ⌝ }
     ensures { λ r. ⌜ (r .0 ≡ column (part (now (mesh .entry)) i) 1 (p .0)) × (r .0 < room) ⌝ }
 {
     Place(dart::word(mesh, i * Header::DARTS + p.0, Record::NEXT) as usize)
@@ -21,7 +21,7 @@ fn next_place(mesh: &[u64], i: usize, p: Place) -> Place
 
 // Of block i; the blocks below it are done.
 fn fill_part(mesh: &[u64], i: usize, table: &mut [u64])
-    requires { ⌜ MeshAsked (now mesh) × (i < blocks (now mesh)) × BeforeBelow (now mesh) (now table) i 0 ⌝ }
+    requires { ⌜ MeshAsked (now mesh) × (i < block-count (now mesh)) × BeforeBelow (now mesh) (now table) i 0 ⌝ }
     ensures { λ _. ⌜ BeforeBelow (now (mesh .entry)) (now (table .exit)) (i + 1) 0 ⌝ }
 {
     let n = mesh[i * Header::WORDS + Header::COUNT] as usize;

@@ -2,7 +2,7 @@
 ghost use mathlib.Core.Path.{_≡_};
 ghost use Prim.Native.Nat.{_/_, _%_, _<_};
 ghost use Rattle.model.specs.Values.{room};
-ghost use Rattle.mesh.specs.Parts.{blocks};
+ghost use Rattle.mesh.specs.Parts.{block-count};
 ghost use Rattle.pairing.specs.Numbers.{MeshAsked, Held, PlacesBefore, word as word-of, next-number, before-of, point-by, side-test, meet-test};
 ghost use Rattle.pairing.specs.Keys.{label-pair, point-pair};
 use memory::header::Header;
@@ -14,7 +14,7 @@ use memory::record::Record;
 
 // Word f of dart g.
 pub fn word(mesh: &[u64], g: usize, f: usize) -> u64
-    requires { ⌜ (g / room < blocks (now mesh)) × (f < 8) ⌝ }
+    requires { ⌜ (g / room < block-count (now mesh)) × (f < 8) ⌝ }
     ensures { λ r. ⌜ r ≡ word-of (now (mesh .entry)) f g ⌝ }
 {
     mesh[g / Header::DARTS * Header::WORDS + (8 + g % Header::DARTS * 8 + f)]

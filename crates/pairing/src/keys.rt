@@ -4,8 +4,8 @@ ghost use Prim.Native.Nat.{_+_, _≤_, _<_};
 ghost use lib.ListN.{length, getD, take};
 ghost use Rattle.model.specs.Lists.{sorted};
 ghost use Rattle.model.specs.Image.{words-for};
-ghost use Rattle.model.specs.Values.{room, blocks as most-blocks};
-ghost use Rattle.mesh.specs.Parts.{blocks, part, Put};
+ghost use Rattle.model.specs.Values.{room, blocks};
+ghost use Rattle.mesh.specs.Parts.{block-count, part, PutAfter};
 ghost use Rattle.pairing.specs.Numbers.{MeshAsked};
 ghost use Rattle.pairing.specs.Keys.{Short, key-of, keys-of, all-keys};
 use memory::header::Header;
@@ -16,8 +16,8 @@ use memory::record::Record;
 
 // Puts the key of the dart at place p of block i, if it is critical; where the keys end.
 fn put_key(block: &[u64], i: usize, p: Place, out: &mut [u64], at: usize) -> usize
-    requires { ⌜ (words-for (getD (now block) 2 0) ≤ length (now block)) × (getD (now block) 2 0 ≤ room) × Short (now block) × (i < most-blocks) × (p .0 < getD (now block) 2 0) × (at < length (now out)) ⌝ }
-    ensures { λ r. ⌜ (r ≤ at + 1) × Put at (key-of (now (block .entry)) i (p .0)) (now (out .entry)) (now (out .exit)) r ⌝ }
+    requires { ⌜ (words-for (getD (now block) 2 0) ≤ length (now block)) × (getD (now block) 2 0 ≤ room) × Short (now block) × (i < blocks) × (p .0 < getD (now block) 2 0) × (at < length (now out)) ⌝ }
+    ensures { λ r. ⌜ (r ≤ at + 1) × PutAfter at (key-of (now (block .entry)) i (p .0)) (now (out .entry)) (now (out .exit)) r ⌝ }
 {
     let kind = record::field(block, p, Record::KIND);
     if !kind::is_critical(kind) {
@@ -30,8 +30,8 @@ fn put_key(block: &[u64], i: usize, p: Place, out: &mut [u64], at: usize) -> usi
 
 // Puts a block's keys from `at` on; where they end.
 fn put_keys(block: &[u64], i: usize, out: &mut [u64], at: usize) -> usize
-    requires { ⌜ (words-for (getD (now block) 2 0) ≤ length (now block)) × (getD (now block) 2 0 ≤ room) × Short (now block) × (i < most-blocks) × (at + room ≤ length (now out)) ⌝ }
-    ensures { λ r. ⌜ (r ≤ at + room) × Put at (keys-of (now (block .entry)) i (getD (now (block .entry)) 2 0)) (now (out .entry)) (now (out .exit)) r ⌝ }
+    requires { ⌜ (words-for (getD (now block) 2 0) ≤ length (now block)) × (getD (now block) 2 0 ≤ room) × Short (now block) × (i < blocks) × (at + room ≤ length (now out)) ⌝ }
+    ensures { λ r. ⌜ (r ≤ at + room) × PutAfter at (keys-of (now (block .entry)) i (getD (now (block .entry)) 2 0)) (now (out .entry)) (now (out .exit)) r ⌝ }
 {
     let n = block[Header::COUNT] as usize;
     // The keys of the darts below p stand from `at` up to the end.
@@ -46,8 +46,8 @@ fn put_keys(block: &[u64], i: usize, out: &mut [u64], at: usize) -> usize
 
 // The same of block i of a mesh.
 fn put_part(mesh: &[u64], i: usize, out: &mut [u64], at: usize) -> usize
-    requires { ⌜ MeshAsked (now mesh) × (i < blocks (now mesh)) × (at + room ≤ length (now out)) ⌝ }
-    ensures { λ r. ⌜ (r ≤ at + room) × Put at (keys-of (part (now (mesh .entry)) i) i (getD (part (now (mesh .entry)) i) 2 0)) (now (out .entry)) (now (out .exit)) r ⌝ }
+    requires { ⌜ MeshAsked (now mesh) × (i < block-count (now mesh)) × (at + room ≤ length (now out)) ⌝ }
+    ensures { λ r. ⌜ (r ≤ at + room) × PutAfter at (keys-of (part (now (mesh .entry)) i) i (getD (part (now (mesh .entry)) i) 2 0)) (now (out .entry)) (now (out .exit)) r ⌝ }
 {
     put_keys(mesh::part_of(mesh, i), i, out, at)
 }
@@ -55,7 +55,7 @@ fn put_part(mesh: &[u64], i: usize, out: &mut [u64], at: usize) -> usize
 // Puts the keys of all blocks; how many there are.
 pub fn gather(mesh: &[u64], out: &mut [u64]) -> usize
     requires { ⌜ MeshAsked (now mesh) × (length (now out) ≡ 65536) ⌝ }
-    ensures { λ r. ⌜ (r ≤ 65536) × (length (now (out .exit)) ≡ 65536) × (take r (now (out .exit)) ≡ all-keys (now (mesh .entry)) (blocks (now (mesh .entry)))) ⌝ }
+    ensures { λ r. ⌜ (r ≤ 65536) × (length (now (out .exit)) ≡ 65536) × (take r (now (out .exit)) ≡ all-keys (now (mesh .entry)) (block-count (now (mesh .entry)))) ⌝ }
 {
     let k = mesh.len() / Header::WORDS;
     // The first c entries are the keys of the blocks below i.

@@ -13,7 +13,7 @@ ghost use Rattle.model.specs.Lists.{sorted};
 ghost use Rattle.model.specs.Sound.{labels-paired, points-across};
 ghost use Rattle.model.specs.Image.{block-in};
 ghost use Rattle.model.specs.Calls.{memories, mesh-lent, scratch-entries};
-ghost use Rattle.mesh.specs.Parts.{blocks};
+ghost use Rattle.mesh.specs.Parts.{block-count};
 ghost use Rattle.pairing.specs.Numbers.{MeshAsked, PlacesBefore};
 ghost use Rattle.pairing.specs.Keys.{all-keys};
 ghost use Rattle.pairing.specs.Told.{pairing-of};
@@ -28,7 +28,7 @@ pub enum Pairing {
 
 // Of keys in order.
 fn tested(mesh: &[u64], table: &[u64], keys: &[u64]) -> Pairing
-    requires { ⌜ MeshAsked (now mesh) × PlacesBefore (now mesh) (now table) × (now keys ≡ sorted (all-keys (now mesh) (blocks (now mesh)))) ⌝ }
+    requires { ⌜ MeshAsked (now mesh) × PlacesBefore (now mesh) (now table) × (now keys ≡ sorted (all-keys (now mesh) (block-count (now mesh)))) ⌝ }
     ensures { λ r. ⌜ r ≡ pairing-of (labels-paired (map block-in (memories (now (mesh .entry))))) (points-across (map block-in (memories (now (mesh .entry))))) ⌝ }
 {
     if !pairs::labels(mesh, table, keys) {
@@ -42,7 +42,7 @@ fn tested(mesh: &[u64], table: &[u64], keys: &[u64]) -> Pairing
 
 // Of the first c keys.
 fn front(mesh: &[u64], table: &[u64], keys: &[u64], c: usize) -> Pairing
-    requires { ⌜ MeshAsked (now mesh) × PlacesBefore (now mesh) (now table) × (c ≤ length (now keys)) × (take c (now keys) ≡ sorted (all-keys (now mesh) (blocks (now mesh)))) ⌝ }
+    requires { ⌜ MeshAsked (now mesh) × PlacesBefore (now mesh) (now table) × (c ≤ length (now keys)) × (take c (now keys) ≡ sorted (all-keys (now mesh) (block-count (now mesh)))) ⌝ }
     ensures { λ r. ⌜ r ≡ pairing-of (labels-paired (map block-in (memories (now (mesh .entry))))) (points-across (map block-in (memories (now (mesh .entry))))) ⌝ }
 {
     tested(mesh, table, &keys[..c])
@@ -50,7 +50,7 @@ fn front(mesh: &[u64], table: &[u64], keys: &[u64], c: usize) -> Pairing
 
 // Of the first c keys in any order, with as much room again.
 fn ordered(mesh: &[u64], keys: &mut [u64], other: &mut [u64], c: usize) -> Pairing
-    requires { ⌜ MeshAsked (now mesh) × (c ≤ 65536) × (length (now keys) ≡ 65536) × (length (now other) ≡ 65536) × (take c (now keys) ≡ all-keys (now mesh) (blocks (now mesh))) ⌝ }
+    requires { ⌜ MeshAsked (now mesh) × (c ≤ 65536) × (length (now keys) ≡ 65536) × (length (now other) ≡ 65536) × (take c (now keys) ≡ all-keys (now mesh) (block-count (now mesh))) ⌝ }
     ensures { λ r. ⌜ (r ≡ pairing-of (labels-paired (map block-in (memories (now (mesh .entry))))) (points-across (map block-in (memories (now (mesh .entry)))))) × (length (now (keys .exit)) ≡ 65536) ⌝ }
 {
     keys::order(keys, other, c);
@@ -60,7 +60,7 @@ fn ordered(mesh: &[u64], keys: &mut [u64], other: &mut [u64], c: usize) -> Pairi
 
 // The same, with room for the sort and the table.
 fn with_room(mesh: &[u64], keys: &mut [u64], c: usize) -> Pairing
-    requires { ⌜ MeshAsked (now mesh) × (c ≤ 65536) × (length (now keys) ≡ 65536) × (take c (now keys) ≡ all-keys (now mesh) (blocks (now mesh))) ⌝ }
+    requires { ⌜ MeshAsked (now mesh) × (c ≤ 65536) × (length (now keys) ≡ 65536) × (take c (now keys) ≡ all-keys (now mesh) (block-count (now mesh))) ⌝ }
     ensures { λ r. ⌜ (r ≡ pairing-of (labels-paired (map block-in (memories (now (mesh .entry))))) (points-across (map block-in (memories (now (mesh .entry)))))) × (length (now (keys .exit)) ≡ 65536) ⌝ }
 {
     let mut other = [0u64; Header::SCRATCH];
@@ -74,6 +74,6 @@ pub fn paired(mesh: &[u64], scratch: &mut [u64]) -> Pairing
 {
     let c = keys::gather(mesh, scratch);
     let r = with_room(mesh, scratch, c);
-    mesh::serials::clear(scratch);
+    memory::header::clear(scratch);
     r
 }

@@ -3,7 +3,7 @@ use mathlib.Core.Path.{_≡_, refl, sym, _∙_, ap, subst}
 use mathlib.Core.Bool.{Bool, true, false, true≢false, not, _&&_}
 use mathlib.Core.List.{List, [], _++_, map}
 use mathlib.Core.Logic.{_⊎_, ⊎-elim, inl, inr}
-use Prim.Native.Nat.{ℕ, _/_, _+_, _*_, _-_, _≤_, _<_, _%_, _^_}
+use Prim.Native.Nat.{ℕ, _/_, _+_, _*_, _-_, _≤_, _<_, _^_}
 use native.Mathlib.Omega.{arith}
 use lib.Dec.{eqb, ltb}
 use lib.ListN.{length, getD, take, drop, length-map, replicate}
@@ -13,6 +13,7 @@ use Rattle.model.specs.Lists.{all, mem, ascending, tab, concat-map}
 use Rattle.model.specs.Values.{Block, message-darts}
 use Rattle.model.specs.Layouts.{Layout, times}
 use Rattle.model.specs.Messages.{Part3, Transfer, size-all, part2, part3, part4}
+use Rattle.model.specs.Image.{is-critical-word}
 use Rattle.model.specs.Arrival.{face-from, indices-right, consecutive, critical-links}
 use Rattle.laws.proofs.Lists.{getD-zeros}
 use Rattle.laws.proofs.Tests.{by-cases, and-left, and-right, and-intro, lt-or-ge}
@@ -25,6 +26,7 @@ use Rattle.codec.specs.Taken.{Took}
 use Rattle.inbox.specs.declared.message.Tail.{Tail}
 use Rattle.cells.proofs.Paths.{mem-append}
 use Rattle.columns.specs.Columns.{Kind, kind-free, kind-critical}
+use Rattle.columns.proofs.Thirds.{with-critical}
 use Rattle.arrival.specs.Sides.{Segments}
 use Rattle.arrival.proofs.SegmentLaws.{segments}
 use Rattle.parts.specs.Entries.{EntriesRead, Part4Read, entry-at, labels-at, LabelsThere, code2, index2, number3, index3, index4, other4}
@@ -284,8 +286,8 @@ module _ {t : Transfer} {v x b z s : List ℕ} {k from to : ℕ} {l : Tail} (w :
               (ascending-distinct starts3 (up segs few (take (l .count2) i2) i3 (l .count3) room3 fits3))
               (ascending-distinct starts4 (up segs few (take (l .count2) i2 ++ take (l .count3) i3) i4 (l .count4) room4 fits4))
               apart3;
-          kind-in = λ q h m. on-faces k3 k4 (λ y. y % 4 ≡ 2) (λ e j c d. omega arith) (λ e j c d. omega arith) q h m;
-          kind-out = λ q h m. rw (off-faces k3 k4 q h m ∙ zero-kinds q) (omega arith);
+          kind-in = λ q h m. on-faces k3 k4 (λ y. is-critical-word y ≡ true) (λ e j c d. with-critical _ from refl) (λ e j c d. with-critical _ (getD others e 0) refl) q h m;
+          kind-out = λ q h m. ap is-critical-word (off-faces k3 k4 q h m ∙ zero-kinds q);
           small = links-small;
         }
 

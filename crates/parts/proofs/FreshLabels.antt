@@ -12,7 +12,7 @@ use borrow.Author.Tests.{eqb-true, eq-eqb, ne-eqb, lt-ltb, le-ltb, ltb-true, not
 use Rattle.model.specs.Lists.{all, mem, distinct, tab, collect, more, concat-map}
 use Rattle.model.specs.Values.{Label, label-of, code}
 use Rattle.model.specs.Cells.{labels}
-use Rattle.model.specs.Image.{column, label-in, third-in, dart-in, block-in}
+use Rattle.model.specs.Image.{column, is-critical-word, label-in, third-in, dart-in, block-in}
 use Rattle.model.specs.Messages.{Transfer}
 use Rattle.model.specs.Links.{Link}
 use Rattle.model.specs.Arrival.{critical-links, label-new, labels-new}
@@ -24,7 +24,7 @@ use Rattle.laws.proofs.Tables.{tab-all, all-tab, map-tab, mem-place, place-mem,
 use Rattle.laws.proofs.Labels.{code-in}
 use Rattle.columns.specs.Columns.{Ranged, Kind, kind-free, kind-sewn, kind-critical, codes, count}
 use Rattle.columns.proofs.Labels.{codes-are}
-use Rattle.columns.proofs.Thirds.{third-critical}
+use Rattle.columns.proofs.Thirds.{critical-two, third-critical}
 use Rattle.arrival.specs.Sides.{Segments}
 use Rattle.parts.specs.Indices.{starts-at}
 use Rattle.parts.specs.Segments.{link-of, face-links}
@@ -32,13 +32,13 @@ use Rattle.parts.specs.Fresh.{own-at, fresh-at, clear-at, labels-fit}
 
 -- VALUES THAT DIFFER
 -- THE CODES OF A BLOCK
-codes-had : (m : List ℕ) (n a : ℕ) → In a (codes m n) → (p : ℕ) × (p < n) × (1 < column m 3 p) × (column m 4 p ≡ a)
+codes-had : (m : List ℕ) (n a : ℕ) → In a (codes m n) → (p : ℕ) × (p < n) × (is-critical-word (column m 3 p) ≡ true) × (column m 4 p ≡ a)
 unfolding codes
 codes-had m zero a h = absurd (true≢false (sym h))
-codes-had m (suc n) a h = by-cases (ltb 1 (column m 3 n))
+codes-had m (suc n) a h = by-cases (is-critical-word (column m 3 n))
     (λ t. ⊎-elim
     (λ (i : In a (codes m n)). let w = codes-had m n a i in (w .0, (let l = w .1 in omega arith), w .2, w .3))
-    (λ (i : In a (column m 4 n ∷ [])). (n, omega arith, ltb-true 1 (column m 3 n) t, one a (column m 4 n) i))
+    (λ (i : In a (column m 4 n ∷ [])). (n, omega arith, t, one a (column m 4 n) i))
     (append-in a (codes m n) (column m 4 n ∷ []) (sym (ap (λ (c : Bool). mem a (cond c (codes m n ++ column m 4 n ∷ []) (codes m n))) t) ∙ h)))
     (λ t. let w = codes-had m n a (sym (ap (λ (c : Bool). mem a (cond c (codes m n ++ column m 4 n ∷ []) (codes m n))) t) ∙ h) in (w .0, (let l = w .1 in omega arith), w .2, w .3))
   where
@@ -174,8 +174,8 @@ pub record Words (b z kinds links : List ℕ) (k : ℕ) (l : List ℕ) : Type 0 
   pub segs : Segments b z k
   pub starts : all (starts-at b k) l ≡ true
   pub once : distinct l ≡ true
-  pub kind-in : (q : ℕ) → q < k → mem (getD b q 0) l ≡ true → getD kinds q 0 % 4 ≡ 2
-  pub kind-out : (q : ℕ) → q < k → mem (getD b q 0) l ≡ false → getD kinds q 0 < 2
+  pub kind-in : (q : ℕ) → q < k → mem (getD b q 0) l ≡ true → is-critical-word (getD kinds q 0) ≡ true
+  pub kind-out : (q : ℕ) → q < k → mem (getD b q 0) l ≡ false → is-critical-word (getD kinds q 0) ≡ false
   pub small : (q : ℕ) → q < k → getD links q 0 < 2 ^ 48
 
 module _ (s : ℕ → ℕ) (x : List ℕ) {b z kinds links : List ℕ} {k : ℕ} {l : List ℕ} (w : Words b z kinds links k l) where
@@ -219,25 +219,25 @@ module _ (s : ℕ → ℕ) (x : List ℕ) {b z kinds links : List ℕ} {k : ℕ}
     unfolding label-new
     new-is a = ap (λ (c : Bool). not c && own a) (ap (λ (y : ℕ). mem y (map code (labels (tab (dart-in m) (count m))))) (code-in a) ∙ ap (mem a) (codes-are m (count m) (ranged .kinds)))
 
-    fresh-in : (q : ℕ) → q < k → 2 ≤ getD kinds q 0 → In (getD b q 0) l
-    fresh-in q h c = by-cases (mem (getD b q 0) l) (λ t. t) (λ t. let r = w .kind-out q h t in absurd (omega arith))
+    fresh-in : (q : ℕ) → q < k → is-critical-word (getD kinds q 0) ≡ true → In (getD b q 0) l
+    fresh-in q h c = by-cases (mem (getD b q 0) l) (λ t. t) (λ t. absurd (true≢false (sym c ∙ w .kind-out q h t)))
 
-    in-fresh : (q : ℕ) → q < k → In (getD b q 0) l → 2 ≤ getD kinds q 0
-    in-fresh q h i = let r = w .kind-in q h i in omega arith
+    in-fresh : (q : ℕ) → q < k → In (getD b q 0) l → is-critical-word (getD kinds q 0) ≡ true
+    in-fresh q h i = w .kind-in q h i
 
-    link-small : (p : ℕ) → p < count m → 2 ≤ column m 3 p → column m 4 p < 2 ^ 48
+    link-small : (p : ℕ) → p < count m → is-critical-word (column m 3 p) ≡ true → column m 4 p < 2 ^ 48
     link-small p h c = go (ranged .kinds p h)
       where
         go : Kind (column m 3 p) (column m 4 p) → column m 4 p < 2 ^ 48
-        go (kind-free e f) = absurd (omega arith)
-        go (kind-sewn e) = absurd (omega arith)
+        go (kind-free e f) = absurd (omega (arith, critical-two (column m 3 p) c))
+        go (kind-sewn e) = absurd (omega (arith, critical-two (column m 3 p) c))
         go (kind-critical e f g) = g
 
-    value-in : (q : ℕ) → 2 ≤ getD kinds q 0 → fresh-at kinds links q ≡ getD links q 0
-    value-in q c = rw (le-ltb (getD kinds q 0) 2 c) refl
+    value-in : (q : ℕ) → is-critical-word (getD kinds q 0) ≡ true → fresh-at kinds links q ≡ getD links q 0
+    value-in q c = rw c refl
 
-    value-out : (q : ℕ) → getD kinds q 0 < 2 → fresh-at kinds links q ≡ 2 ^ 48 + q
-    value-out q c = rw (lt-ltb (getD kinds q 0) 2 c) refl
+    value-out : (q : ℕ) → is-critical-word (getD kinds q 0) ≡ false → fresh-at kinds links q ≡ 2 ^ 48 + q
+    value-out q c = rw c refl
 
     to-fit : (all new all-codes && distinct all-codes) ≡ true → labels-fit m (count m) kinds links k ≡ true
     to-fit t =
@@ -245,43 +245,38 @@ module _ (s : ℕ → ℕ) (x : List ℕ) {b z kinds links : List ℕ} {k : ℕ}
         (and-intro (tab-all (own-at (getD m 0 0) (getD m 1 0) kinds links) (λ q. q) k owned)
         (tab-distinct (fresh-at kinds links) k once)) (tab-all (clear-at m (tab (fresh-at kinds links) k)) (λ p. p) (count m) clear)
       where
-        each : (q : ℕ) → q < k → 2 ≤ getD kinds q 0 → new (getD links q 0) ≡ true
+        each : (q : ℕ) → q < k → is-critical-word (getD kinds q 0) ≡ true → new (getD links q 0) ≡ true
         each q h c = all-in new all-codes (and-left (all new all-codes) _ t) (getD links q 0) (in-faces links (w .segs) l q h (fresh-in q h c))
 
         owned : (q : ℕ) → q < k → own-at (getD m 0 0) (getD m 1 0) kinds links q ≡ true
         owned q h =
-            ⊎-elim (λ (c : getD kinds q 0 < 2). rw (lt-ltb (getD kinds q 0) 2 c) refl)
-            (λ (c : 2 ≤ getD kinds q 0). rw (le-ltb (getD kinds q 0) 2 c)
-            (and-right (not (mem (getD links q 0) (codes m (count m)))) _ (each q h c))) (lt-or-ge (getD kinds q 0) 2)
+            by-cases (is-critical-word (getD kinds q 0))
+            (λ c. rw c (and-right (not (mem (getD links q 0) (codes m (count m)))) _ (each q h c)))
+            (λ c. rw c refl)
 
         once : (i j : ℕ) → i < k → j < k → fresh-at kinds links i ≡ fresh-at kinds links j → i ≡ j
-        once i j hi hj e = ⊎-elim
-            (λ (c : getD kinds i 0 < 2). ⊎-elim
-            (λ (d : getD kinds j 0 < 2). let r = sym (value-out i c) ∙ e ∙ value-out j d in omega (arith, r))
-            (λ (d : 2 ≤ getD kinds j 0). let r = sym (value-out i c) ∙ e ∙ value-in j d in let u = w .small j hj in absurd (omega (arith, r, u)))
-            (lt-or-ge (getD kinds j 0) 2))
-            (λ (c : 2 ≤ getD kinds i 0). ⊎-elim
-            (λ (d : getD kinds j 0 < 2). let r = sym (value-in i c) ∙ e ∙ value-out j d in let u = w .small i hi in absurd (omega (arith, r, u)))
-            (λ (d : 2 ≤ getD kinds j 0). faces-once links (w .segs) l (w .starts) (and-right (all new all-codes) _ t) i j hi hj
+        once i j hi hj e = by-cases (is-critical-word (getD kinds i 0))
+            (λ c. by-cases (is-critical-word (getD kinds j 0))
+            (λ d. faces-once links (w .segs) l (w .starts) (and-right (all new all-codes) _ t) i j hi hj
             (fresh-in i hi c) (fresh-in j hj d) (sym (value-in i c) ∙ e ∙ value-in j d))
-            (lt-or-ge (getD kinds j 0) 2))
-            (lt-or-ge (getD kinds i 0) 2)
+            (λ d. let r = sym (value-in i c) ∙ e ∙ value-out j d in let u = w .small i hi in absurd (omega (arith, r, u))))
+            (λ c. by-cases (is-critical-word (getD kinds j 0))
+            (λ d. let r = sym (value-out i c) ∙ e ∙ value-in j d in let u = w .small j hj in absurd (omega (arith, r, u)))
+            (λ d. let r = sym (value-out i c) ∙ e ∙ value-out j d in omega (arith, r)))
 
         clear : (p : ℕ) → p < count m → clear-at m (tab (fresh-at kinds links) k) p ≡ true
-        clear p h = ⊎-elim
-            (λ (c : column m 3 p < 2). rw (lt-ltb (column m 3 p) 2 c) refl)
-            (λ (c : 2 ≤ column m 3 p). rw (le-ltb (column m 3 p) 2 c) (ap not (mem-none (fresh-at kinds links) k (column m 4 p) (never p h c))))
-            (lt-or-ge (column m 3 p) 2)
+        clear p h = by-cases (is-critical-word (column m 3 p))
+            (λ c. rw c (ap not (mem-none (fresh-at kinds links) k (column m 4 p) (never p h c))))
+            (λ c. rw c refl)
           where
-            never : (p : ℕ) → p < count m → 2 ≤ column m 3 p → (q : ℕ) → q < k → fresh-at kinds links q ≡ column m 4 p → ⊥
-            never p h c q hq e = ⊎-elim
-                (λ (d : getD kinds q 0 < 2). let r = sym (value-out q d) ∙ e in let u = link-small p h c in omega (arith, r, u))
-                (λ (d : 2 ≤ getD kinds q 0). true≢false
+            never : (p : ℕ) → p < count m → is-critical-word (column m 3 p) ≡ true → (q : ℕ) → q < k → fresh-at kinds links q ≡ column m 4 p → ⊥
+            never p h c q hq e = by-cases (is-critical-word (getD kinds q 0))
+                (λ d. true≢false
                 (sym
                 (subst (λ (y : ℕ). In y (codes m (count m))) (sym (sym (value-in q d) ∙ e))
-                (in-codes m (count m) p h (omega arith)))
+                (in-codes m (count m) p h c))
                 ∙ not-true _ (and-left (not (mem (getD links q 0) (codes m (count m)))) _ (each q hq d))))
-                (lt-or-ge (getD kinds q 0) 2)
+                (λ d. let r = sym (value-out q d) ∙ e in let u = link-small p h c in omega (arith, r, u))
 
     of-fit : labels-fit m (count m) kinds links k ≡ true → (all new all-codes && distinct all-codes) ≡ true
     of-fit t =
@@ -303,19 +298,18 @@ module _ (s : ℕ → ℕ) (x : List ℕ) {b z kinds links : List ℕ} {k : ℕ}
             (all (own-at (getD m 0 0) (getD m 1 0) kinds links) (tab (λ q. q) k) && distinct (tab (fresh-at kinds links) k)) _ t)
             p h
 
-        absent : (q : ℕ) → q < k → 2 ≤ getD kinds q 0 → mem (getD links q 0) (codes m (count m)) ≡ false
+        absent : (q : ℕ) → q < k → is-critical-word (getD kinds q 0) ≡ true → mem (getD links q 0) (codes m (count m)) ≡ false
         absent q h c = by-cases (mem (getD links q 0) (codes m (count m)))
             (λ u. let r = codes-had m (count m) (getD links q 0) u in
             let held : mem (column m 4 (r .0)) (tab (fresh-at kinds links) k) ≡ true = mem-place (fresh-at kinds links) k q (column m 4 (r .0)) h (value-in q c ∙ sym (r .3)) in
             let here : not (mem (column m 4 (r .0)) (tab (fresh-at kinds links) k)) ≡ true =
-            ap (λ (d : Bool). d || not (mem (column m 4 (r .0)) (tab (fresh-at kinds links) k)))
-            (sym (le-ltb (column m 3 (r .0)) 2 (let g = r .2 in omega arith))) ∙ clear (r .0) (r .1)
+            ap (λ (d : Bool). not d || not (mem (column m 4 (r .0)) (tab (fresh-at kinds links) k))) (sym (r .2)) ∙ clear (r .0) (r .1)
             in
             absurd (true≢false (sym held ∙ not-true _ here)))
             (λ u. u)
 
         each : (q : ℕ) → q < k → In (getD b q 0) l → new (getD links q 0) ≡ true
-        each q h i = let c = in-fresh q h i in and-intro (ap not (absent q h c)) (ap (λ (d : Bool). d || own (getD links q 0)) (sym (le-ltb (getD kinds q 0) 2 c)) ∙ owned q h)
+        each q h i = let c = in-fresh q h i in and-intro (ap not (absent q h c)) (ap (λ (d : Bool). not d || own (getD links q 0)) (sym c) ∙ owned q h)
 
         apart : (q r : ℕ) → q < k → r < k → In (getD b q 0) l → In (getD b r 0) l → getD links q 0 ≡ getD links r 0 → q ≡ r
         apart q r hq hr iq ir e =

@@ -8,9 +8,8 @@ use native.Mathlib.Numerals.{add-one}
 use lib.Dec.{ltb, eqb}
 use lib.ListN.{length, getD, take, set, length-set}
 use lib.Seq.{take-suc-set, getD-take}
-use borrow.Author.Tests.{lt-ltb, le-ltb}
 use Rattle.model.specs.Lists.{all, mem, distinct, tab}
-use Rattle.model.specs.Image.{column}
+use Rattle.model.specs.Image.{column, is-critical-word}
 use Rattle.model.specs.Values.{message-darts}
 use Rattle.laws.proofs.Tests.{by-cases, same-truth}
 use Rattle.laws.proofs.Maps.{tab-more}
@@ -21,17 +20,17 @@ use Rattle.ranking.specs.Ranks.{value-at, index-at, rank-in, Ranked}
 use Rattle.ranking.proofs.Found.{rank-at, rank-nothing}
 use Rattle.parts.specs.Fresh.{own-right, own-at, fresh-value, fresh-at, ValuesPut, clear-at, labels-fit}
 
-pub own-free : (me counter kind link : ℕ) → kind < 2 → true ≡ own-right me counter kind link
-own-free me counter kind link h = rw (lt-ltb kind 2 h) refl
+pub own-free : (me counter kind link : ℕ) → is-critical-word kind ≡ false → true ≡ own-right me counter kind link
+own-free me counter kind link h = rw h refl
 
-pub own-critical : (me counter kind link : ℕ) → 2 ≤ kind → {r : Bool} → r ≡ (not (eqb (link / 4096 / 2 ^ 32) me) || ltb (link / 4096 % 2 ^ 32) counter) → r ≡ own-right me counter kind link
-own-critical me counter kind link h {r} e = rw (le-ltb kind 2 h) e
+pub own-critical : (me counter kind link : ℕ) → is-critical-word kind ≡ true → {r : Bool} → r ≡ (not (eqb (link / 4096 / 2 ^ 32) me) || ltb (link / 4096 % 2 ^ 32) counter) → r ≡ own-right me counter kind link
+own-critical me counter kind link h {r} e = rw h e
 
-pub fresh-free : (kind link q : ℕ) → kind < 2 → 2 ^ 48 + q ≡ fresh-value kind link q
-fresh-free kind link q h = rw (lt-ltb kind 2 h) refl
+pub fresh-free : (kind link q : ℕ) → is-critical-word kind ≡ false → 2 ^ 48 + q ≡ fresh-value kind link q
+fresh-free kind link q h = rw h refl
 
-pub fresh-critical : (kind link q : ℕ) → 2 ≤ kind → link ≡ fresh-value kind link q
-fresh-critical kind link q h = rw (le-ltb kind 2 h) refl
+pub fresh-critical : (kind link q : ℕ) → is-critical-word kind ≡ true → link ≡ fresh-value kind link q
+fresh-critical kind link q h = rw h refl
 
 -- VALUES PUT
 pub record Valued (f : ℕ → ℕ) (k : ℕ) (values : List ℕ) (q : ℕ) : Type 0 where
@@ -57,18 +56,18 @@ value-is : {kinds links : List ℕ} {k : ℕ} {values : List ℕ} → ValuesPut 
 value-is {kinds} {links} {k} {values} w q h = sym (getD-take k values q 0 h) ∙ ap (λ (l : List ℕ). getD l q 0) (w .front) ∙ getD-tab (fresh-at kinds links) k q 0 h
 
 pub value-small : {kinds links : List ℕ} {k : ℕ} {values : List ℕ} → ValuesPut kinds links k values → k ≤ message-darts → ((q : ℕ) → q < k → getD links q 0 < 2 ^ 48) → (q : ℕ) → q < k → getD values q 0 < 2 ^ 54
-value-small {kinds} {links} {k} w few s q h = rw (value-is w q h) (by-cases (ltb (getD kinds q 0) 2) (λ e. rw e (omega arith)) (λ e. rw e (let r = s q h in omega arith)))
+value-small {kinds} {links} {k} w few s q h = rw (value-is w q h) (by-cases (is-critical-word (getD kinds q 0)) (λ e. rw e (let r = s q h in omega arith)) (λ e. rw e (omega arith)))
 
 -- ONE DART OF THE BLOCK
 module _ (m keys : List ℕ) (k p : ℕ) where
-  pub clear-free : column m 3 p < 2 → true ≡ clear-at m (tab (value-at keys) k) p
-  clear-free h = rw (lt-ltb (column m 3 p) 2 h) refl
+  pub clear-free : is-critical-word (column m 3 p) ≡ false → true ≡ clear-at m (tab (value-at keys) k) p
+  clear-free h = rw h refl
 
-  pub clear-none : 2 ≤ column m 3 p → rank-in (value-at keys) k (column m 4 p) ≡ Nothing → true ≡ clear-at m (tab (value-at keys) k) p
-  clear-none h e = rw (le-ltb (column m 3 p) 2 h, mem-none (value-at keys) k (column m 4 p) (rank-nothing (value-at keys) k (column m 4 p) e)) refl
+  pub clear-none : is-critical-word (column m 3 p) ≡ true → rank-in (value-at keys) k (column m 4 p) ≡ Nothing → true ≡ clear-at m (tab (value-at keys) k) p
+  clear-none h e = rw (h, mem-none (value-at keys) k (column m 4 p) (rank-nothing (value-at keys) k (column m 4 p) e)) refl
 
-  pub clear-found : 2 ≤ column m 3 p → {r : ℕ} → rank-in (value-at keys) k (column m 4 p) ≡ At r → false ≡ clear-at m (tab (value-at keys) k) p
-  clear-found h {r} e = let w = rank-at (value-at keys) k (column m 4 p) e in rw (le-ltb (column m 3 p) 2 h, mem-place (value-at keys) k r (column m 4 p) (w .0) (w .1)) refl
+  pub clear-found : is-critical-word (column m 3 p) ≡ true → {r : ℕ} → rank-in (value-at keys) k (column m 4 p) ≡ At r → false ≡ clear-at m (tab (value-at keys) k) p
+  clear-found h {r} e = let w = rank-at (value-at keys) k (column m 4 p) e in rw (h, mem-place (value-at keys) k r (column m 4 p) (w .0) (w .1)) refl
 
 -- ALL
 module _ (m : List ℕ) (n : ℕ) (kinds links : List ℕ) (k : ℕ) where
@@ -80,7 +79,7 @@ module _ (m : List ℕ) (n : ℕ) (kinds links : List ℕ) (k : ℕ) where
 
   pub clear-is : {values keys ranks : List ℕ} {r : Bool} → all (own-at (getD m 0 0) (getD m 1 0) kinds links) (tab (λ q. q) k) ≡ true → ValuesPut kinds links k values → distinct (take k values) ≡ true
       → Ranked values k keys ranks → r ≡ all (clear-at m (tab (value-at keys) k)) (tab (λ p. p) n) → r ≡ labels-fit m n kinds links k
-  clear-is {values} {keys} {ranks} {r} t s d w e = rw (t, sym (ap distinct (s .front)) ∙ d) (e ∙ all-same _ _ n (λ p h. ap (λ (c : Bool). ltb (column m 3 p) 2 || not c) (same (column m 4 p))))
+  clear-is {values} {keys} {ranks} {r} t s d w e = rw (t, sym (ap distinct (s .front)) ∙ d) (e ∙ all-same _ _ n (λ p h. ap (λ (c : Bool). not (is-critical-word (column m 3 p)) || not c) (same (column m 4 p))))
     where
       same : (x : ℕ) → mem x (tab (value-at keys) k) ≡ mem x (tab (fresh-at kinds links) k)
       same x = same-truth _ _

@@ -2,12 +2,12 @@
 use mathlib.Core.Path.{_≡_}
 use mathlib.Core.Bool.{Bool, true, false, not, _&&_}
 use mathlib.Core.List.{List, _++_, map}
-use Prim.Native.Nat.{ℕ, _-_, _%_, _<_}
+use Prim.Native.Nat.{ℕ, _-_, _<_}
 use lib.Dec.{leb, eqb}
 use lib.ListN.{getD, take}
 use Rattle.model.specs.Lists.{all, mem, tab, concat-map}
 use Rattle.model.specs.Values.{Block}
-use Rattle.model.specs.Image.{block-in}
+use Rattle.model.specs.Image.{is-critical-word, block-in}
 use Rattle.model.specs.Layouts.{times}
 use Rattle.model.specs.Messages.{Transfer, size-all, part2, part3, part4}
 use Rattle.model.specs.Arrival.{indices-right, consecutive, labels-new, critical-links}
@@ -54,7 +54,7 @@ pub record CriticalTold (t : Transfer) (x b z : List ℕ) (k : ℕ) (l : Tail) (
   pub starts : List ℕ
   pub starts-are : starts ≡ map index3 (t .part3) ++ map index4 (t .part4)
   pub links-are : (serials : ℕ → ℕ) → critical-links t ≡ concat-map (face-links serials x z kinds links) starts
-  pub kind-in : (q : ℕ) → q < k → mem (getD b q 0) starts ≡ true → getD kinds q 0 % 4 ≡ 2
+  pub kind-in : (q : ℕ) → q < k → mem (getD b q 0) starts ≡ true → is-critical-word (getD kinds q 0) ≡ true
   pub kind-out : (q : ℕ) → q < k → mem (getD b q 0) starts ≡ false → getD kinds q 0 ≡ 0
   pub words-right : (q : ℕ) → q < k → Kind (getD kinds q 0) (getD links q 0)
 

@@ -2,22 +2,22 @@
 use mathlib.Core.Path.{_≡_}
 use mathlib.Core.Bool.{Bool, cond, not, _&&_, _||_}
 use mathlib.Core.List.{List}
-use Prim.Native.Nat.{ℕ, _+_, _/_, _%_, _^_}
+use Prim.Native.Nat.{ℕ, _+_, _^_}
 use lib.Dec.{ltb, eqb}
 use lib.ListN.{getD, take}
 use Rattle.model.specs.Lists.{all, mem, distinct, tab}
-use Rattle.model.specs.Image.{column, label-in}
+use Rattle.model.specs.Image.{column, is-critical-word, label-in}
 
 -- of block `me`, with its counter: no own-made label from the counter on
 abbrev pub own-right : ℕ → ℕ → ℕ → ℕ → Bool
-own-right me counter kind link = ltb kind 2 || (not (eqb (label-in link .maker) me) || ltb (label-in link .number) counter)
+own-right me counter kind link = not (is-critical-word kind) || (not (eqb (label-in link .maker) me) || ltb (label-in link .number) counter)
 
 abbrev pub own-at : ℕ → ℕ → List ℕ → List ℕ → ℕ → Bool
 own-at me counter kinds links q = own-right me counter (getD kinds q 0) (getD links q 0)
 
 -- the code of a critical dart; of any other a value above all codes, its own
 abbrev pub fresh-value : ℕ → ℕ → ℕ → ℕ
-fresh-value kind link q = cond (ltb kind 2) (2 ^ 48 + q) link
+fresh-value kind link q = cond (is-critical-word kind) link (2 ^ 48 + q)
 
 abbrev pub fresh-at : List ℕ → List ℕ → ℕ → ℕ
 fresh-at kinds links q = fresh-value (getD kinds q 0) (getD links q 0) q
@@ -28,7 +28,7 @@ pub record ValuesPut (kinds links : List ℕ) (k : ℕ) (values : List ℕ) : Ty
 
 -- the dart at place p of a block has none of these for a label
 abbrev pub clear-at : List ℕ → List ℕ → ℕ → Bool
-clear-at m values p = ltb (column m 3 p) 2 || not (mem (column m 4 p) values)
+clear-at m values p = not (is-critical-word (column m 3 p)) || not (mem (column m 4 p) values)
 
 -- the labels of the first k darts beside a block of n darts
 abbrev pub labels-fit : List ℕ → ℕ → List ℕ → List ℕ → ℕ → Bool

@@ -23,7 +23,7 @@ use ranking::Ranking;
 fn own_right(number: u64, counter: u64, kind: u64, link: u64) -> bool
     ensures { λ r. ⌜ r ≡ own-right number counter kind link ⌝ }
 {
-    if kind < kind::CRITICAL {
+    if !kind::is_critical(kind) {
         return true;
     }
     (label::maker_of(link) != number) | (label::number_of(link) < counter)
@@ -50,10 +50,10 @@ fn fresh_value(kind: u64, link: u64, q: MessageIndex) -> u64
     requires { ⌜ q .0 < message-darts ⌝ }
     ensures { λ r. ⌜ r ≡ fresh-value kind link (q .0) ⌝ }
 {
-    if kind < kind::CRITICAL {
-        return label::CODES + q.0 as u64;
+    if kind::is_critical(kind) {
+        return link;
     }
-    link
+    label::CODES + q.0 as u64
 }
 
 // The values of the first k darts.
@@ -74,7 +74,7 @@ fn clear_at(block: &[u64], p: Place, keys: &[u64], k: usize) -> bool
     requires { ⌜ (words-for (p .0 + 1) ≤ length (now block)) × (k ≤ length (now keys)) × (k ≤ message-darts) × Ascending k (value-at (now keys)) ⌝ }
     ensures { λ r. ⌜ r ≡ clear-at (now (block .entry)) (tab (value-at (now (keys .entry))) k) (p .0) ⌝ }
 {
-    if record::field(block, p, Record::KIND) < kind::CRITICAL {
+    if !kind::is_critical(record::field(block, p, Record::KIND)) {
         return true;
     }
     let Ranking::At(r) = ranking::find(keys, k, record::field(block, p, Record::LINK)) else {

@@ -18,7 +18,7 @@ fn note(block: &[u64], p: Place, keys: &[u64], c: usize, places: &mut [usize])
     requires { ⌜ (words-for (p .0 + 1) ≤ length (now block)) × (c ≤ length (now keys)) × (c ≤ message-darts) × (c ≤ length (now places)) × Ascending c (value-at (now keys)) × ((r : ℕ) → r < c → index-at (now keys) r < c) ⌝ }
     ensures { λ _. ⌜ Noted (now (block .entry)) (now (keys .entry)) c (p .0) (now (places .entry)) (now (places .exit)) ⌝ }
 {
-    if record::field(block, p, Record::KIND) < kind::CRITICAL {
+    if !kind::is_critical(record::field(block, p, Record::KIND)) {
         return;
     }
     let Ranking::At(r) = ranking::find(keys, c, record::field(block, p, Record::LINK)) else {

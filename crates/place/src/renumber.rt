@@ -1,7 +1,9 @@
 // A record with the places that it links to moved by a table.
 ghost use mathlib.Core.Path.{_≡_};
+ghost use mathlib.Core.Bool.{true};
 ghost use Prim.Native.Nat.{_<_};
 ghost use lib.ListN.{length, getD};
+ghost use Rattle.model.specs.Image.{is-sewn-word};
 ghost use Rattle.place.specs.Renumber.{moved-link, renumbered as with-links-moved, LinksBelow};
 use crate::moved_at;
 use memory::kind;
@@ -10,10 +12,10 @@ use memory::record::Record;
 
 // The link word: where the place of a sewn dart goes.
 fn moved_link(table: &[usize], kind: u64, link: u64) -> u64
-    requires { ⌜ (kind ≡ 1 → link < length (now table)) ⌝ }
+    requires { ⌜ (is-sewn-word kind ≡ true → link < length (now table)) ⌝ }
     ensures { λ r. ⌜ r ≡ moved-link (λ p. getD (now (table .entry)) p 0) kind link ⌝ }
 {
-    if kind == kind::SEWN {
+    if kind::is_sewn(kind) {
         return moved_at(table, Place(link as usize)).0 as u64;
     }
     link

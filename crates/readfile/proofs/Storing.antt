@@ -27,7 +27,7 @@ use Rattle.codec.proofs.DartReads.{dart-ends, DartGot}
 use Rattle.newblock.specs.Serials.{raw-words, stored-all}
 use Rattle.newblock.proofs.Rows.{behind-none}
 use Rattle.newblock.proofs.Stored.{stored-length, stored-more}
-use Rattle.readfile.specs.Parts.{dart-after, placed-serial, stored, DartStored, climbs, climbing, DartsStored}
+use Rattle.readfile.specs.Parts.{dart-after, placed-serial, with-dart, DartStored, climbs, climbing, DartsStored}
 use Rattle.readfile.specs.declared.raw.End.the-variants as end
 
 -- ONE DART
@@ -69,7 +69,7 @@ pub stored-got : {s : List ℕ} {at last : ℕ} {m : List ℕ} {p : ℕ} {after 
 unfolding dart-after such-that
 stored-got {s} {at} {last} {m} {p} {after} {serial} {next} w = go (dart-after last .get (drop at s)) refl (w .answer) (w .memory)
   where
-    go : (r : Option (Dart × List ℕ)) → dart-after last .get (drop at s) ≡ r → read.Value serial next ≡ placed-serial (length s) r → after ≡ stored m p r → StoredGot s at last m p after serial next
+    go : (r : Option (Dart × List ℕ)) → dart-after last .get (drop at s) ≡ r → read.Value serial next ≡ placed-serial (length s) r → after ≡ with-dart m p r → StoredGot s at last m p after serial next
     go none e q k = let z : _≡_ {A = ℕ} 0 1 = cc in absurd (omega arith)
     go (some r) e q k =
         let es : serial ≡ r .0 .serial = cc in

@@ -28,14 +28,14 @@ abbrev pub placed-serial : ℕ → Option (Dart × List ℕ) → Read
 placed-serial n none = read.Bad
 placed-serial n (some r) = read.Value (r .0 .serial) (n - length (r .1))
 
-abbrev pub stored : List ℕ → ℕ → Option (Dart × List ℕ) → List ℕ
-stored m p none = m
-stored m p (some r) = put m p (raw-words (r .0))
+abbrev pub with-dart : List ℕ → ℕ → Option (Dart × List ℕ) → List ℕ
+with-dart m p none = m
+with-dart m p (some r) = put m p (raw-words (r .0))
 
 -- read at a place, and stored at place p
 pub record DartStored (s : List ℕ) (at last : ℕ) (m : List ℕ) (p : ℕ) (after : List ℕ) (r : Read) : Type 0 where
   pub answer : r ≡ placed-serial (length s) (dart-after last .get (drop at s))
-  pub memory : after ≡ stored m p (dart-after last .get (drop at s))
+  pub memory : after ≡ with-dart m p (dart-after last .get (drop at s))
 
 -- each number above the one before, the first above `last`
 unfoldable pub climbs : ℕ → List ℕ → Bool

@@ -2,15 +2,19 @@
 ghost use mathlib.Core.Path.{_≡_};
 ghost use mathlib.Core.Bool.{true};
 ghost use mathlib.Core.List.{List};
-ghost use Prim.Native.Nat.{ℕ, _≤_};
-ghost use lib.ListN.{length, replicate};
-ghost use Rattle.model.specs.Image.{words-for, holds-block, block-in};
-ghost use Rattle.model.specs.Values.{message-darts, last-block};
+ghost use Prim.Native.Nat.{ℕ, _+_, _*_, _≤_, _<_};
+ghost use lib.ListN.{length, getD, replicate};
+ghost use Rattle.laws.specs.Order.{Ascending};
+ghost use Rattle.model.specs.Lists.{all};
+ghost use Rattle.model.specs.Image.{words-for, column, holds-block, block-in};
+ghost use Rattle.model.specs.Values.{room, serial-bound, finite, message-darts, last-block};
 ghost use Rattle.model.specs.Messages.{Transfer, a-transfer, message-in};
-ghost use Rattle.model.specs.Arrival.{addressed};
+ghost use Rattle.model.specs.Arrival.{addressed, volume-right};
 ghost use Rattle.memory.specs.Header.{limits-of};
-ghost use Rattle.inbox.specs.Inbox.{Sides};
+ghost use Rattle.inbox.specs.Inbox.{Sides, points-in};
 ghost use Rattle.inbox.specs.Arrived.{TransferOutlined};
+ghost use Rattle.ranking.specs.Ranks.{Ranked};
+ghost use Rattle.arrival.specs.Draft.{NewSerials, TransferTold, Draft};
 ghost use Rattle.fitting.specs.Fitting.{NewVolume, Parted};
 ghost use Rattle.receive.specs.Taken.{AskedAll};
 use answers::Answer;
@@ -26,6 +30,87 @@ fn for_here(block: &[u64], from: u64, to: u64) -> bool
     ensures { λ r. ⌜ r ≡ addressed from to (block-in (now (block .entry))) ⌝ }
 {
     (to == block[Header::NUMBER]) & (from != block[Header::NUMBER])
+}
+
+// 18, with the array that it works in.
+fn new_serials(
+    message: &[u8],
+    from: usize,
+    count: u64,
+    block: &[u64],
+    n: usize,
+    serial: &[u64],
+    k: usize,
+    keys: &mut [u64],
+    ranks: &mut [usize],
+) -> bool
+    requires { ⌜ (n ≡ getD (now block) 2 0) × (n ≤ room) × (words-for n ≤ length (now block)) × Ascending n (column (now block) 0) × ((p : ℕ) → p < n → column (now block) 0 p < serial-bound) ⌝ }
+    requires { ⌜ (k ≤ length (now serial)) × (k ≤ length (now keys)) × (k ≤ length (now ranks)) × (1 ≤ k) × (k ≤ message-darts) × (from + 24 * count ≤ length (now message)) × ((i : ℕ) → i < k → getD (now serial) i 0 < serial-bound) ⌝ }
+    ensures { λ r. ⌜ NewSerials (block-in (now (block .entry)) .darts) (now (message .entry)) from count (now (serial .entry)) k (now (keys .exit)) (now (ranks .exit)) r ⌝ }
+{
+    let mut scratch = [0u64; Header::MESSAGE];
+    arrival::serials::new_serials(
+        message,
+        from,
+        count,
+        block,
+        n,
+        serial,
+        k,
+        keys,
+        ranks,
+        &mut scratch,
+    )
+}
+
+// 19, with the arrays that it works in. `queue` and `firsts` are lent.
+fn volume_right(
+    message: &[u8],
+    from: usize,
+    count: u64,
+    hollow: bool,
+    vertex: &[u64],
+    serial: &[u64],
+    starts: &[usize],
+    sizes: &[usize],
+    k: usize,
+    keys: &[u64],
+    ranks: &[usize],
+    opposite: &mut [usize],
+    draft: &mut [u64],
+    queue: &mut [usize],
+    firsts: &mut [usize],
+) -> bool
+    requires { ⌜ (k ≤ length (now vertex)) × (k ≤ length (now serial)) × (k ≤ length (now starts)) × (k ≤ length (now sizes)) × (k ≤ length (now keys)) × (k ≤ length (now ranks)) × (k ≤ length (now opposite)) × (words-for k ≤ length (now draft)) × (k ≤ length (now queue)) × (k ≤ length (now firsts)) ⌝ }
+    requires { ⌜ Ranked (now serial) k (now keys) (now ranks) × (all finite (points-in (now message) from count) ≡ true) × ((t : Transfer) × TransferTold t (now vertex) (now serial) (now starts) (now sizes) (now message) from count k hollow) ⌝ }
+    ensures answer { λ r. ⌜ ((t : Transfer) → TransferTold t (now (vertex .entry)) (now (serial .entry)) (now (starts .entry)) (now (sizes .entry)) (now (message .entry)) from count k hollow → r ≡ volume-right t) ⌝ }
+    ensures drafted { λ r. ⌜ (r ≡ true → Draft (now (vertex .entry)) (now (serial .entry)) (now (starts .entry)) (now (sizes .entry)) (now (keys .entry)) (now (ranks .entry)) (now (opposite .exit)) (now (message .entry)) from k (now (draft .exit))) ⌝ }
+{
+    let mut pairs = [0u64; Header::MESSAGE];
+    let mut sorted = [0u64; Header::MESSAGE];
+    let mut scratch = [0u64; Header::MESSAGE];
+    let mut marks = [0u8; Header::MESSAGE];
+    arrival::volume::volume_right(
+        message,
+        from,
+        count,
+        hollow,
+        vertex,
+        serial,
+        starts,
+        sizes,
+        k,
+        keys,
+        ranks,
+        opposite,
+        draft,
+        queue,
+        firsts,
+        &mut pairs,
+        &mut sorted,
+        &mut scratch,
+        &mut marks,
+    )
 }
 
 // 20, with the arrays that it works in.
@@ -110,7 +195,7 @@ pub fn questions(
     }
     let n = block[Header::COUNT] as usize;
     let k = front.darts;
-    if !arrival::serials::new_serials(
+    if !new_serials(
         message,
         front.points,
         front.vertices,
@@ -123,7 +208,7 @@ pub fn questions(
     ) {
         return Answer::Refused(Refusal::SerialsNotNew);
     }
-    if !arrival::volume::volume_right(
+    if !volume_right(
         message,
         front.points,
         front.vertices,

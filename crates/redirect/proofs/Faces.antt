@@ -9,7 +9,7 @@ use borrow.Author.Tests.{eqb-true}
 use Rattle.model.specs.Lists.{least, distinct}
 use Rattle.model.specs.Values.{code}
 use Rattle.model.specs.Cells.{cycle, next-in, least-label}
-use Rattle.model.specs.Image.{count-in, column}
+use Rattle.model.specs.Image.{count-in, column, is-critical-word}
 use Rattle.laws.proofs.Tests.{and-left}
 use Rattle.laws.proofs.Members.{In, in-map, map-in, map-map, map-cong, least-below, least-among}
 use Rattle.laws.proofs.Faces.{face-self, face-stays, face-sym, face-trans, along-face, face-distinct}
@@ -94,12 +94,12 @@ module _ {m : List ℕ} (site : Sited m) (ok : Passed m) where
       }
 
   -- the model's least label of a critical face
-  pub least-is : (x : ℕ) → x < count-in m → 1 < column m 3 x → least-label (darts-in m) (cycle (next-in (darts-in m)) (column m 0 x)) ≡ face-code m x
+  pub least-is : (x : ℕ) → x < count-in m → is-critical-word (column m 3 x) ≡ true → least-label (darts-in m) (cycle (next-in (darts-in m)) (column m 0 x)) ≡ face-code m x
   unfolding least-label face-code
   least-is x h c =
       let l = site .linked in
       let f = cycle (column m 1) x in
       let r = round (l .few) (l .next-within) (l .next-apart) x h in
       ap (least-label (darts-in m)) (sym (cycle-carried site x h))
-      ∙ ap (λ (ls : List _). least (map code ls)) (labels-are site ok f (face-of x h) (omega (arith, ap (column m 3) (cycle-start r))))
+      ∙ ap (λ (ls : List _). least (map code ls)) (labels-are site ok f (face-of x h) (ap (λ (y : ℕ). is-critical-word (column m 3 y)) (cycle-start r) ∙ c))
       ∙ ap least (map-map (label-at m) code f ∙ map-cong (λ q. code (label-at m q)) (column m 4) f (λ q k. code-in (column m 4 q)))

@@ -10,14 +10,14 @@ use borrow.Author.Tests.{eqb-true, eqb-false, eq-eqb}
 use Rattle.model.specs.Lists.{mem, find, tab}
 use Rattle.model.specs.Values.{Label, Dart, no-dart, or-no-dart, code, label-key, is-critical-with}
 use Rattle.model.specs.Cells.{cycle, next-in, least-label, labelled}
-use Rattle.model.specs.Image.{count-in, column, third-in, dart-in}
+use Rattle.model.specs.Image.{count-in, column, is-critical-word, third-in, dart-in}
 use Rattle.model.specs.Arrival.{face-with, names-face}
 use Rattle.laws.proofs.Tests.{by-cases, and-intro, and-left, and-right, same-truth, both-are}
 use Rattle.laws.proofs.Members.{In, in-eq}
 use Rattle.laws.proofs.Tables.{tab-any, any-tab}
 use Rattle.laws.proofs.Labels.{code-in}
 use Rattle.columns.specs.Columns.{Kind, kind-free, kind-sewn, kind-critical}
-use Rattle.columns.proofs.Thirds.{third-free, third-sewn, third-critical}
+use Rattle.columns.proofs.Thirds.{critical-two, with-critical, third-free, third-sewn, third-critical}
 use Rattle.columns.proofs.Question.{Passed}
 use Rattle.cells.proofs.Serials.{mem-map, serials-apart}
 use Rattle.cells.proofs.FaceSerials.{cycle-carried}
@@ -47,15 +47,15 @@ find-row {A} key f (suc n) x = by-cases (eqb x (key (f 0)))
         later (suc p) k q = h p (omega arith) q
 
 -- the key of a third link, from its words
-key-far : (s : ℕ → ℕ) (k a : ℕ) → Kind k a → 1 < k → label-key (third-in s k a) ≡ suc a
-key-far s k a (kind-free e f) h = absurd (omega arith)
-key-far s k a (kind-sewn e) h = absurd (omega arith)
+key-far : (s : ℕ → ℕ) (k a : ℕ) → Kind k a → is-critical-word k ≡ true → label-key (third-in s k a) ≡ suc a
+key-far s k a (kind-free e f) h = absurd (omega (arith, critical-two k h))
+key-far s k a (kind-sewn e) h = absurd (omega (arith, critical-two k h))
 key-far s k a (kind-critical e f g) h = rw (third-critical s k a e, code-in a)
 
-key-says : (s : ℕ → ℕ) (k a c : ℕ) → Kind k a → label-key (third-in s k a) ≡ suc c → (1 < k) × (a ≡ c)
+key-says : (s : ℕ → ℕ) (k a c : ℕ) → Kind k a → label-key (third-in s k a) ≡ suc c → (is-critical-word k ≡ true) × (a ≡ c)
 key-says s k a c (kind-free e f) h = let z : 0 ≡ suc c = rw (third-free s k a e) at h in absurd (omega arith)
 key-says s k a c (kind-sewn e) h = let z : 0 ≡ suc c = rw (third-sewn s k a e) at h in absurd (omega arith)
-key-says s k a c (kind-critical e f g) h = let z : suc a ≡ suc c = rw (third-critical s k a e, code-in a) at h in (omega arith, omega arith)
+key-says s k a c (kind-critical e f g) h = let z : suc a ≡ suc c = rw (third-critical s k a e, code-in a) at h in (e, omega arith)
 
 -- a label that no dart has names no face
 test-none : (ds : List Dart) (from : ℕ) (l : Label) → labelled l ds ≡ no-dart → names-face ds from l ≡ false
@@ -65,8 +65,8 @@ test-none ds from l e = rw e
 module _ {m : List ℕ} (site : Sited m) (ok : Passed m) where
   -- THE DART WITH A LABEL, or none has it
   data Labelled (l : Label) : Type 0 where
-    at-place : (y : ℕ) → y < count-in m → 1 < column m 3 y → column m 4 y ≡ code l → labelled l (darts-in m) ≡ dart-in m y → Labelled l
-    nowhere : ((q : ℕ) → q < count-in m → 1 < column m 3 q → column m 4 q ≡ code l → ⊥) → labelled l (darts-in m) ≡ no-dart → Labelled l
+    at-place : (y : ℕ) → y < count-in m → is-critical-word (column m 3 y) ≡ true → column m 4 y ≡ code l → labelled l (darts-in m) ≡ dart-in m y → Labelled l
+    nowhere : ((q : ℕ) → q < count-in m → is-critical-word (column m 3 q) ≡ true → column m 4 q ≡ code l → ⊥) → labelled l (darts-in m) ≡ no-dart → Labelled l
 
   find-label : (l : Label) → Labelled l
   unfolding labelled
@@ -84,13 +84,13 @@ module _ {m : List ℕ} (site : Sited m) (ok : Passed m) where
     code-q : face-code m q ≡ code l
     code-q = eqb-true _ _ (and-right (critical-with m from q) _ t)
 
-    holder : (z : ℕ) × (z < count-in m) × In z (cycle (column m 1) q) × (1 < column m 3 z) × (column m 4 z ≡ code l)
+    holder : (z : ℕ) × (z < count-in m) × In z (cycle (column m 1) q) × (is-critical-word (column m 3 z) ≡ true) × (column m 4 z ≡ code l)
     holder =
         let w = code-there (site .linked) q h in
-        (w .0, stays-in (site .linked) q (w .0) h (w .1), w .1, omega (arith, one-kind site ok q (w .0) h (w .1), kind-q), sym (w .2) ∙ code-q)
+        (w .0, stays-in (site .linked) q (w .0) h (w .1), w .1, with-critical (column m 3 (w .0)) from (one-kind site ok q (w .0) h (w .1) ∙ kind-q), sym (w .2) ∙ code-q)
 
   -- THE MODEL'S TEST of a label
-  module _ (from : ℕ) (l : Label) (y : ℕ) (h : y < count-in m) (c : 1 < column m 3 y) (e : labelled l (darts-in m) ≡ dart-in m y) where
+  module _ (from : ℕ) (l : Label) (y : ℕ) (h : y < count-in m) (c : is-critical-word (column m 3 y) ≡ true) (e : labelled l (darts-in m) ≡ dart-in m y) where
     pub test-at : names-face (darts-in m) from l ≡ (critical-with m from y && eqb (code l) (face-code m y))
     unfolding names-face face-with
     test-at = ap (λ (d : Dart). is-critical-with from (d .third) && eqb (code l) (least-label (darts-in m) (cycle (next-in (darts-in m)) (d .serial)))) e

@@ -11,7 +11,7 @@ use borrow.Author.Tests.{eqb-true, lt-ltb, le-ltb}
 use Rattle.model.specs.Lists.{all, any, mem, find, tab, concat-map}
 use Rattle.model.specs.Values.{Label, Third, Dart, code, with-other, with-third}
 use Rattle.model.specs.Cells.{third-at}
-use Rattle.model.specs.Image.{count-in, words-for, image, column, third-in, dart-in, block-in}
+use Rattle.model.specs.Image.{count-in, words-for, image, column, is-sewn-word, third-in, dart-in, block-in}
 use Rattle.model.specs.Links.{Link, third-or, relink}
 use Rattle.model.specs.Messages.{Update}
 use Rattle.model.specs.Arrival.{face-with, names-face, update-links, redirected}
@@ -19,7 +19,7 @@ use Rattle.laws.proofs.Tests.{by-cases, and-left, and-right}
 use Rattle.laws.proofs.Members.{any-map}
 use Rattle.laws.proofs.Tables.{tab-cong, map-tab}
 use Rattle.columns.specs.Columns.{before, Kind, kind-free, kind-sewn, kind-critical, Ranged, SewnPlaces}
-use Rattle.columns.proofs.Thirds.{third-critical}
+use Rattle.columns.proofs.Thirds.{sewn-one, with-critical, third-critical}
 use Rattle.columns.proofs.Images.{image-back}
 use Rattle.columns.proofs.Question.{Passed}
 use Rattle.columns.proofs.Links.{places}
@@ -85,7 +85,7 @@ module _ {m : List ℕ} (site : Sited m) (ok : Passed m) where
 other-third : (s s′ : ℕ → ℕ) (k a from new : ℕ) → k ≡ 2 + 4 * from → third-in s′ (2 + 4 * new) a ≡ with-other new (third-in s k a)
 other-third s s′ k a from new e =
     let q : (2 + 4 * new) / 4 ≡ new = omega arith in
-    third-critical s′ (2 + 4 * new) a (omega arith) ∙ rw (q, third-critical s k a (omega arith))
+    third-critical s′ (2 + 4 * new) a (with-critical (2 + 4 * new) new refl) ∙ rw (q, third-critical s k a (with-critical k from e))
 
 same-third : (s s′ : ℕ → ℕ) (k a : ℕ) → s′ a ≡ s a → third-in s′ k a ≡ third-in s k a
 unfolding third-in
@@ -162,7 +162,7 @@ module _ {m m′ : List ℕ} (site : Sited m) (ok : Passed m) (u : Update) (righ
       go : test p ≡ true → Kind (column m 3 p) (column m 4 p) → Kind (column m′ 3 p) (column m′ 4 p)
       go e (kind-free k a) = let was = word-was p e in absurd (omega arith)
       go e (kind-sewn k) = let was = word-was p e in absurd (omega arith)
-      go e (kind-critical k o a) = let now = word-set p h e in let same = col 4 p (omega arith) (λ z. omega arith) in kind-critical (omega arith) (omega arith) (omega arith)
+      go e (kind-critical k o a) = let now = word-set p h e in let same = col 4 p (omega arith) (λ z. omega arith) in kind-critical (with-critical (column m′ 3 p) (u .block) now) (omega arith) (omega arith)
 
   ranged-now : Ranged m′
   ranged-now =
@@ -198,7 +198,7 @@ module _ {m m′ : List ℕ} (site : Sited m) (ok : Passed m) (u : Update) (righ
       (λ p h k. sewn-now p (omega arith) k n s))
       ∙ ap (λ (k : ℕ). image k (block-in m′)) (w .size) ∙ ap (image (length m)) block-now
     where
-      sewn-now : (p : ℕ) → p < count-in m → column m′ 3 p ≡ 1 → getD m′ 2 0 ≡ getD m 2 0 → SewnPlaces m (count-in m) → column m′ 4 p < getD m′ 2 0
+      sewn-now : (p : ℕ) → p < count-in m → is-sewn-word (column m′ 3 p) ≡ true → getD m′ 2 0 ≡ getD m 2 0 → SewnPlaces m (count-in m) → column m′ 4 p < getD m′ 2 0
       sewn-now p h k n s = by-cases (test p)
-          (λ e. let now = word-set p h e in absurd (omega arith))
-          (λ e. let a = s p h (sym (word-kept p h e) ∙ k) in let f = col 4 p (omega arith) (λ z. omega arith) in omega arith)
+          (λ e. let now = word-set p h e in absurd (omega (arith, sewn-one (column m′ 3 p) k)))
+          (λ e. let a = s p h (ap is-sewn-word (sym (word-kept p h e)) ∙ k) in let f = col 4 p (omega arith) (λ z. omega arith) in omega arith)

@@ -1,6 +1,6 @@
 // Along a face: its least label, and a number given to its darts.
 ghost use mathlib.Core.Path.{_≡_};
-ghost use Prim.Native.Nat.{_≤_, _<_, min};
+ghost use Prim.Native.Nat.{_≤_, _<_};
 ghost use lib.ListN.{length};
 ghost use Rattle.model.specs.Cells.{cycle};
 ghost use Rattle.model.specs.Image.{column};
@@ -9,15 +9,6 @@ ghost use Rattle.redirect.specs.ByPlaces.{face-code};
 use memory::record;
 use memory::record::Place;
 use memory::record::Record;
-
-fn lesser(a: u64, b: u64) -> u64
-    ensures { λ r. ⌜ r ≡ min a b ⌝ }
-{
-    if b < a {
-        return b;
-    }
-    a
-}
 
 // The least link word along the face of the dart at place `start`.
 pub fn face_code(block: &[u64], n: usize, start: Place) -> u64
@@ -31,7 +22,7 @@ pub fn face_code(block: &[u64], n: usize, start: Place) -> u64
     let mut p = first;
     loop {
         let code = record::field(block, Place(p), Record::LINK);
-        least = lesser(least, code);
+        least = sort::lesser(least, code);
         steps += 1;
         p = record::field(block, Place(p), Record::NEXT) as usize;
         if p == first {

@@ -7,13 +7,14 @@ ghost use mathlib.Core.Path.{_≡_};
 ghost use mathlib.Core.Bool.{true, not, _&&_};
 ghost use Prim.Native.Nat.{_≤_, _<_};
 ghost use lib.Dec.{eqb};
-ghost use lib.ListN.{length, getD};
+ghost use lib.ListN.{length, getD, replicate};
 ghost use Rattle.model.specs.Values.{rack, room, message-darts, last-block};
 ghost use Rattle.model.specs.Image.{count-in, block-in, holds-block};
 ghost use Rattle.model.specs.Arrival.{addressed};
 ghost use Rattle.model.specs.Calls as calls;
 ghost use Rattle.answers.specs.Answers.{answer-of, Gives};
 ghost use Rattle.memory.specs.Header.{limits-of};
+ghost use Rattle.keyset.specs.Slots.{slot-count};
 ghost use Rattle.cells.specs.Places.{Clear};
 ghost use Rattle.redirect.specs.ByPlaces.{Ready, Unset, EachNamed, AllNamed};
 ghost use Rattle.redirect.specs.Told.{KindRead, Follows, Redirects};
@@ -149,7 +150,8 @@ fn redirect_update(
 
 // Redirects the faces that an update names, by limits. 1: is the memory of a block's size? 2: is it a sound block's image? 16: is the
 // slice a message? 17: an update, addressed here, from elsewhere? 22: is the new block neither end, and does each label name a face of
-// its own? A refused call leaves the memory. The arrays are lent: four of a message's darts, four of a block's places.
+// its own? A refused call leaves the memory. The arrays are lent: four of a message's darts, five of a block's places, and the slots of
+// question 2, which has its labels in `codes`.
 pub fn redirect_by(
     block: &mut [u64],
     limits: Limits,
@@ -162,17 +164,19 @@ pub fn redirect_by(
     codes: &mut [u64],
     scratch: &mut [u64],
     hits: &mut [u8],
+    seen: &mut [u8],
+    slots: &mut [u16; keyset::SLOTS],
 ) -> Answer
     requires { ⌜ limits .block ≤ room ⌝ }
     requires { ⌜ (length (now vertex) ≡ message-darts) × (length (now serial) ≡ message-darts) × (length (now starts) ≡ message-darts) × (length (now sizes) ≡ message-darts) ⌝ }
     requires { ⌜ (limits .block ≤ length (now table)) × Unset (limits .block) (now table) × (limits .block < length (now hits)) × Clear (now hits) ⌝ }
-    requires { ⌜ (limits .block ≤ length (now codes)) × (limits .block ≤ length (now scratch)) ⌝ }
+    requires { ⌜ (limits .block ≤ length (now codes)) × (limits .block ≤ length (now scratch)) × (limits .block ≤ length (now seen)) × Clear (now seen) × (now slots ≡ replicate slot-count 0) ⌝ }
     ensures { λ r. ⌜ Gives (calls.redirect (limits-of limits) (now (block .entry)) (now (message .entry))) (answer-of r) (now (block .exit)) ⌝ }
 {
     if block.len() != limits.words() {
         return Answer::Refused(Refusal::MemorySize);
     }
-    if !sound::is_sound(block) {
+    if !sound::is_sound_by(block, limits, seen, codes, slots, scratch) {
         return Answer::Refused(Refusal::NotAnImage);
     }
     match received(message, vertex, serial, starts, sizes) {
@@ -194,6 +198,8 @@ pub fn redirect(block: &mut [u64], message: &[u8]) -> Answer
     let mut codes = [0u64; Header::DARTS];
     let mut scratch = [0u64; Header::DARTS];
     let mut hits = [0u8; 4097];
+    let mut seen = [0u8; Header::DARTS];
+    let mut slots = [0u16; keyset::SLOTS];
     redirect_by(
         block,
         Limits::rack(),
@@ -206,5 +212,7 @@ pub fn redirect(block: &mut [u64], message: &[u8]) -> Answer
         &mut codes,
         &mut scratch,
         &mut hits,
+        &mut seen,
+        &mut slots,
     )
 }

@@ -9,7 +9,7 @@ use lib.ListN.{length, getD}
 use borrow.Author.Tests.{eqb-true, eqb-false, eq-eqb, ne-eqb}
 use Rattle.model.specs.Lists.{any, concat, distinct, ascending}
 use Rattle.model.specs.Cells.{cycle, start-of}
-use Rattle.model.specs.Image.{count-in, column}
+use Rattle.model.specs.Image.{count-in, column, is-sewn-word}
 use Rattle.columns.proofs.Thirds.{kind-one}
 use Rattle.laws.proofs.Tests.{by-cases, and-intro}
 use Rattle.laws.proofs.Members.{In, any-in, keep-le, keep-ascending, distinct-map}
@@ -37,7 +37,7 @@ module _ {m : List ℕ} (site : Sited m) (pass : Passed m) (p : ℕ) (h : p < co
   v = marked n marks
 
   pub sewn : (q : ℕ) → q < n → column m 3 q ≡ 1 → Sewn m n q
-  sewn q k e = sewn-says m n q (pass .thirds q k) e
+  sewn q k e = sewn-says m n q (pass .thirds q k) (ap is-sewn-word e)
 
   -- WHAT STAYS is closed under next and opposite, too
   pub next-stays : (q : ℕ) → q < n → (getD marks q 0 ≡ 1 → ⊥) → getD marks (column m 1 q) 0 ≡ 1 → ⊥
@@ -66,7 +66,7 @@ module _ {m : List ℕ} (site : Sited m) (pass : Passed m) (p : ℕ) (h : p < co
     pub test-is : (q : ℕ) → q < n → getD marks q 0 ≡ 1 → sewn-out m marks q ≡ eqb (column m 3 q) 1
     test-is q k a = by-cases (eqb (column m 3 q) 1)
         (λ e. let one = eqb-true (column m 3 q) 1 e in rw (e, eq-eqb (column m 3 q % 4) 1 (omega arith), ne-eqb (getD marks (column m 4 q) 0) 1 (away q k a one)))
-        (λ e. rw (e, ne-eqb (column m 3 q % 4) 1 (λ z. eqb-false (column m 3 q) 1 e (kind-one (pass .range .kinds q k) z))))
+        (λ e. rw (e, ne-eqb (column m 3 q % 4) 1 (λ z. eqb-false (column m 3 q) 1 e (kind-one (pass .range .kinds q k) (eq-eqb (column m 3 q % 4) 1 z)))))
 
     stays : (x : ℕ) → In x v → In (column m 1 x) v
     stays x k = let r = marked-in n marks x k in in-marked n marks (column m 1 x) (site .linked .next-within x (r .0)) (closed-next (site .linked) h mk x (r .0) (r .1))

@@ -48,7 +48,7 @@ module _ (m : List ℕ) (ok : holds-block m ≡ true) (j d : ℕ) {most : ℕ} {
     next-apart = site .linked .next-apart;
     closed = closed-next (site .linked) (w .survey .place-below) (w .survey .volume-marked);
     along = λ q h i. same-kind m n q (pass .thirds q h);
-    kinds = λ q h i e. kind-one (pass .range .kinds q h) e;
+    kinds = λ q h i e. kind-one (pass .range .kinds q h) (eq-eqb _ _ e);
     away =
         λ q h i e.
         (sewn site pass p (w .survey .place-below) (w .survey .volume-marked) q h e .sewn-lt, away site pass p (w .survey .place-below) (w .survey .volume-marked) (none-within m ok j d w) q h i e);

@@ -12,7 +12,7 @@ use borrow.Author.Tests.{not-true}
 use Rattle.model.specs.Lists.{any, keep, mem, concat, find, index-of}
 use Rattle.model.specs.Values.{Label, Third, critical, Dart, code, partner}
 use Rattle.model.specs.Cells.{serials, third-at, volume-in}
-use Rattle.model.specs.Image.{words-for, count-in, image, column, block-in, dart-in, dart-words, third-in, kind-word, link-word, holds-block}
+use Rattle.model.specs.Image.{words-for, count-in, image, column, is-sewn-word, block-in, dart-in, dart-words, third-in, kind-word, link-word, holds-block}
 use Rattle.model.specs.Departure.{sewn-faces, departure-checks, released}
 use Rattle.model.specs.Links.{Link, third-or, relink, label-faces}
 use Rattle.answers.specs.Answers.{answered}
@@ -23,7 +23,7 @@ use Rattle.laws.proofs.Tables.{map-tab}
 use Rattle.laws.proofs.Labels.{code-in}
 use Rattle.theory.proofs.CallLaws.{served-value}
 use Rattle.columns.specs.Columns.{Kind, kind-free, kind-sewn, kind-critical}
-use Rattle.columns.proofs.Thirds.{third-free, third-sewn, third-critical, kind-back}
+use Rattle.columns.proofs.Thirds.{sewn-one, critical-unsewn, with-critical, third-free, third-sewn, third-critical, kind-back, kind-one}
 use Rattle.columns.proofs.Question.{Passed, image-passed}
 use Rattle.place.specs.Renumber.{moved-link}
 use Rattle.place.proofs.Renumbering.{link-sewn, link-other}
@@ -44,9 +44,9 @@ use Rattle.release.proofs.CutFaces.{sewn, next-stays, opposite-stays, c
 -- LINK WORDS with places moved
 -- of a third link where the serial at place a has index t a
 pub link-moved : (s t : ℕ → ℕ) (ss : List ℕ) (k a : ℕ) → Kind k a → (k ≡ 1 → index-of (s a) ss ≡ t a) → link-word ss (third-in s k a) ≡ moved-link t k a
-link-moved s t ss k a (kind-free e f) h = ap (link-word ss) (third-free s k a e) ∙ sym f ∙ link-other t k a (λ q. omega arith)
-link-moved s t ss k a (kind-sewn e) h = ap (link-word ss) (third-sewn s k a e) ∙ h e ∙ link-sewn t k a e
-link-moved s t ss k a (kind-critical e f g) h = ap (link-word ss) (third-critical s k a e) ∙ code-in a ∙ link-other t k a (λ q. omega arith)
+link-moved s t ss k a (kind-free e f) h = ap (link-word ss) (third-free s k a e) ∙ sym f ∙ link-other t k a (ap is-sewn-word e)
+link-moved s t ss k a (kind-sewn e) h = ap (link-word ss) (third-sewn s k a e) ∙ h e ∙ link-sewn t k a (ap is-sewn-word e)
+link-moved s t ss k a (kind-critical e f g) h = ap (link-word ss) (third-critical s k a e) ∙ code-in a ∙ link-other t k a (critical-unsewn k e)
 
 -- an image by its parts
 abbrev parts : ℕ → ℕ → ℕ → ℕ → List ℕ → List ℕ
@@ -116,19 +116,20 @@ module _ {m : List ℕ} (site : Sited m) (pass : Passed m) (p : ℕ) (h : p < co
   sewn-named q k e o =
       let w = sewn site pass p h mk q k e in
       rw named-are (in-eq q (column m 4 (column m 4 q)) (map (column m 4) (concat (let-go m marks))) (sym (w .back))
-      (in-map (column m 4) (column m 4 q) (concat (let-go m marks)) (in-cut site pass p h mk apart (column m 4 q) (record { below = w .sewn-lt; inside = o; kind = w .kind }))))
+      (in-map (column m 4) (column m 4 q) (concat (let-go m marks)) (in-cut site pass p h mk apart (column m 4 q) (record { below = w .sewn-lt; inside = o; kind = kind-one (pass .range .kinds (column m 4 q) (w .sewn-lt)) (w .kind) }))))
 
   -- THE MEMORY WITH THEM: links lead to darts that it holds, and nothing stands behind the last
-  pub sewn-after : (q : ℕ) → q < n → column x 3 q ≡ 1 → column x 4 q < n
-  sewn-after q k one = go (find (λ k. k .dart) q new) refl
+  pub sewn-after : (q : ℕ) → q < n → is-sewn-word (column x 3 q) ≡ true → column x 4 q < n
+  sewn-after q k is-sewn = go (find (λ k. k .dart) q new) refl
     where
       go : (f : Option Link) → find (λ k. k .dart) q new ≡ f → column x 4 q < n
       go none e =
           let out = find-unnamed q new e in
-          omega (arith, unnamed-stays m new q 4 (omega arith) out, sewn site pass p h mk q k (sym (unnamed-stays m new q 3 (omega arith) out) ∙ one) .sewn-lt)
+          let one = kind-one (pass .range .kinds q k) (ap is-sewn-word (sym (unnamed-stays m new q 3 (omega arith) out)) ∙ is-sewn) in
+          omega (arith, unnamed-stays m new q 4 (omega arith) out, sewn site pass p h mk q k one .sewn-lt)
       go (some l) e =
           let three = new-third q k l e .kind-is in
-          absurd (omega arith)
+          absurd (omega (arith, sewn-one (column x 3 q) is-sewn))
 
   each-below : (ks : List Link) → ((q : ℕ) → In q (map (λ k. k .dart) ks) → q < n) → Each (λ k. k .dart < n) ks
   each-below [] a = tt
@@ -205,7 +206,7 @@ module _ {m : List ℕ} (site : Sited m) (pass : Passed m) (p : ℕ) (h : p < co
           let three = w .kind-is in
           record {
             kind = ap kind-word (t ∙ w .third-is) ∙ sym (w .kind-is);
-            link = ap (link-word (serials after)) (t ∙ w .third-is) ∙ sym (w .link-is) ∙ link-other (rank marks) (column x 3 q) (column x 4 q) (λ z. omega arith);
+            link = ap (link-word (serials after)) (t ∙ w .third-is) ∙ sym (w .link-is) ∙ link-other (rank marks) (column x 3 q) (column x 4 q) (critical-unsewn (column x 3 q) (with-critical (column x 3 q) j three));
           }
 
       go : (f : Option Link) → find (λ k. k .dart) q new ≡ f → ThirdWords q

@@ -1,5 +1,6 @@
 -- Records taken out: where each goes, the loop that moves them to the front, and the whole memory afterwards. Assumes nothing.
 use mathlib.Core.Path.{_≡_, refl, sym, _∙_, ap}
+use mathlib.Core.Bool.{true}
 use mathlib.Core.List.{List, [], _∷_, _++_, map, append-assoc, append-nil}
 use mathlib.Core.Logic.{⊎-elim}
 use Prim.Native.Nat.{ℕ, _+_, _*_, _-_, _≤_, _<_}
@@ -7,9 +8,9 @@ use native.Mathlib.Omega.{arith}
 use lib.ListN.{length, getD, set, take, drop, replicate, length-set, length-append, length-take, length-drop, replicate-append-replicate}
 use lib.Seq.{getD-set-same, getD-set-other, getD-drop, take-at, drop-at, drop-drop, length-take-le}
 use Rattle.model.specs.Lists.{concat}
-use Rattle.model.specs.Image.{words-for, column}
+use Rattle.model.specs.Image.{words-for, column, is-sewn-word}
 use Rattle.model.specs.Values.{room}
-use Rattle.laws.proofs.Tests.{eq-or-ne, last-or-below}
+use Rattle.laws.proofs.Tests.{by-cases, last-or-below}
 use Rattle.laws.proofs.Members.{map-append}
 use Rattle.laws.proofs.Lists.{concat-snoc}
 use Rattle.memory.specs.Record.{record-in, record-words, put}
@@ -65,11 +66,11 @@ unfolding moved-words
 record-moved m i at t e f q = q ∙ ap (λ (s : Record). put m at (record-words s)) (f ∙ ap (renumbered t) e)
 
 -- tables that agree on the links of a record
-same-link : (t u : ℕ → ℕ) (k a : ℕ) → (k ≡ 1 → t a ≡ u a) → moved-link t k a ≡ moved-link u k a
-same-link t u k a h = ⊎-elim (λ e. sym (link-sewn t k a e) ∙ h e ∙ link-sewn u k a e) (λ e. sym (link-other t k a e) ∙ link-other u k a e) (eq-or-ne k 1)
+same-link : (t u : ℕ → ℕ) (k a : ℕ) → (is-sewn-word k ≡ true → t a ≡ u a) → moved-link t k a ≡ moved-link u k a
+same-link t u k a h = by-cases (is-sewn-word k) (λ e. sym (link-sewn t k a e) ∙ h e ∙ link-sewn u k a e) (λ e. sym (link-other t k a e) ∙ link-other u k a e)
 
 pub same-words : (t u : ℕ → ℕ) (m : List ℕ) (p : ℕ) → t (column m 1 p) ≡ u (column m 1 p) → t (column m 2 p) ≡ u (column m 2 p)
-    → (column m 3 p ≡ 1 → t (column m 4 p) ≡ u (column m 4 p)) → moved-words t m p ≡ moved-words u m p
+    → (is-sewn-word (column m 3 p) ≡ true → t (column m 4 p) ≡ u (column m 4 p)) → moved-words t m p ≡ moved-words u m p
 unfolding moved-words
 same-words t u m p e f g = rw (e, f, same-link t u (column m 3 p) (column m 4 p) g)
 
@@ -166,7 +167,7 @@ module _ {m marks x : List ℕ} {n i w : ℕ} (b : Bounded m n) (table : List �
   links-fit long = record {
     next-lt = omega (arith, same-column x m i 1 (v .after), b .next-lt i h, long);
     opposite-lt = omega (arith, same-column x m i 2 (v .after), b .opposite-lt i h, long);
-    sewn-lt = λ e. omega (arith, same-column x m i 4 (v .after), b .sewn-lt i h (sym (same-column x m i 3 (v .after)) ∙ e), long);
+    sewn-lt = λ e. omega (arith, same-column x m i 4 (v .after), b .sewn-lt i h (ap is-sewn-word (sym (same-column x m i 3 (v .after))) ∙ e), long);
   }
 
   pub one-move : moved-words (λ p. getD table p 0) x i ≡ moved-words (rank marks) m i

@@ -1,9 +1,10 @@
 -- What labelling and taking out ask of a block's memory, and what they leave while they go on. Assumes nothing.
 use mathlib.Core.Path.{_≡_}
+use mathlib.Core.Bool.{true}
 use mathlib.Core.List.{List, _++_}
 use Prim.Native.Nat.{ℕ, _+_, _*_, _%_, _≤_, _<_}
 use lib.ListN.{length, getD, take, drop}
-use Rattle.model.specs.Image.{words-for, column}
+use Rattle.model.specs.Image.{words-for, column, is-sewn-word}
 use Rattle.model.specs.Values.{room, blocks}
 use Rattle.cells.specs.Places.{Within, Apart, Closed}
 use Rattle.departure.specs.Asked.{Departs}
@@ -49,7 +50,7 @@ pub record Bounded (m : List ℕ) (n : ℕ) : Type 0 where
   pub few : n ≤ room
   pub next-lt : (p : ℕ) → p < n → column m 1 p < n
   pub opposite-lt : (p : ℕ) → p < n → column m 2 p < n
-  pub sewn-lt : (p : ℕ) → p < n → column m 3 p ≡ 1 → column m 4 p < n
+  pub sewn-lt : (p : ℕ) → p < n → is-sewn-word (column m 3 p) ≡ true → column m 4 p < n
 
 -- x is m with g of the unmarked of its first i places behind the header, w of them, and as it was behind those i
 pub record DartsMoved (g : ℕ → List ℕ) (m marks : List ℕ) (i : ℕ) (x : List ℕ) (w : ℕ) : Type 0 where

@@ -8,7 +8,7 @@ ghost use Prim.Native.Nat.{_<_};
 ghost use Rattle.model.specs.Values.{rack};
 ghost use Rattle.model.specs.Calls as calls;
 ghost use Rattle.answers.specs.Answers.{Gives, written-of};
-ghost use Rattle.mesh.specs.Parts.{blocks, part};
+ghost use Rattle.mesh.specs.Parts.{block-count, part};
 ghost use Rattle.rounds.specs.Played.{Delivered, Played};
 pub use crate::list::play_all;
 use answers::Answer;
@@ -25,7 +25,7 @@ pub enum Outcome {
 
 // Send at block b, which the mesh has.
 fn send_part(mesh: &[u64], b: usize, to: u64, serial: u64, outbox: &mut [u8]) -> Written
-    requires { ⌜ b < blocks (now mesh) ⌝ }
+    requires { ⌜ b < block-count (now mesh) ⌝ }
     ensures { λ r. ⌜ Gives (calls.send rack (part (now (mesh .entry)) b) to serial (now (outbox .entry))) (written-of r) (now (outbox .exit)) ⌝ }
 {
     send::send(mesh::part_of(mesh, b), to, serial, outbox)

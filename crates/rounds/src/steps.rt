@@ -5,7 +5,7 @@ ghost use Prim.Native.Nat.{_<_};
 ghost use Rattle.model.specs.Calls.{number-of};
 ghost use Rattle.model.specs.DividedRun.{receiving, releasing, redirecting, redirect-step, messages-in};
 ghost use Rattle.answers.specs.Answers.{answer-of};
-ghost use Rattle.mesh.specs.Parts.{blocks};
+ghost use Rattle.mesh.specs.Parts.{block-count};
 ghost use Rattle.rounds.specs.Played.{Stepped, Ran, at-block};
 use crate::post;
 use answers::Answer;
@@ -14,7 +14,7 @@ use memory::header::Header;
 
 // Receive at block b, which the mesh has.
 fn receive_part(mesh: &mut [u64], b: usize, message: &[u8]) -> Answer
-    requires { ⌜ b < blocks (now mesh) ⌝ }
+    requires { ⌜ b < block-count (now mesh) ⌝ }
     ensures { λ r. ⌜ Stepped (now (mesh .entry)) (at-block b (receiving (now (message .entry)))) (number-of (answer-of r)) (now (mesh .exit)) ⌝ }
 {
     let from = b * Header::WORDS;
@@ -24,7 +24,7 @@ fn receive_part(mesh: &mut [u64], b: usize, message: &[u8]) -> Answer
 
 // Release at block b, which the mesh has.
 fn release_part(mesh: &mut [u64], b: usize, to: u64, serial: u64) -> Answer
-    requires { ⌜ b < blocks (now mesh) ⌝ }
+    requires { ⌜ b < block-count (now mesh) ⌝ }
     ensures { λ r. ⌜ Stepped (now (mesh .entry)) (at-block b (releasing to serial)) (number-of (answer-of r)) (now (mesh .exit)) ⌝ }
 {
     let from = b * Header::WORDS;
@@ -34,7 +34,7 @@ fn release_part(mesh: &mut [u64], b: usize, to: u64, serial: u64) -> Answer
 
 // Redirect at block b, which the mesh has.
 fn redirect_part(mesh: &mut [u64], b: usize, message: &[u8]) -> Answer
-    requires { ⌜ b < blocks (now mesh) ⌝ }
+    requires { ⌜ b < block-count (now mesh) ⌝ }
     ensures { λ r. ⌜ Stepped (now (mesh .entry)) (at-block b (redirecting (now (message .entry)))) (number-of (answer-of r)) (now (mesh .exit)) ⌝ }
 {
     let from = b * Header::WORDS;

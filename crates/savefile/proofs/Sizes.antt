@@ -1,16 +1,16 @@
 -- A sound block's image: each dart's words lead to places, and what they name is in range. Assumes nothing.
-use mathlib.Core.Path.{_≡_, refl, sym}
+use mathlib.Core.Path.{_≡_, refl, sym, ap}
 use mathlib.Core.Bool.{true, false}
 use mathlib.Core.List.{List}
 use Prim.Native.Nat.{ℕ, _%_, _^_, _≤_, _<_}
 use native.Mathlib.Omega.{arith}
 use lib.ListN.{length, getD}
-use borrow.Author.Tests.{eq-eqb, ne-eqb, eqb-true}
+use borrow.Author.Tests.{ne-eqb, eqb-true}
 use Rattle.model.specs.Values.{widest, serial-bound, room, blocks}
 use Rattle.model.specs.Image.{words-for, column, is-sewn-word, holds-block}
 use Rattle.theory.proofs.ImageLaws.{count-fits}
 use Rattle.columns.specs.Columns.{count, Kind, kind-free, kind-sewn, kind-critical, Ranged, Places, SewnPlaces, Finite}
-use Rattle.columns.proofs.Thirds.{kind-one}
+use Rattle.columns.proofs.Thirds.{critical-two}
 use Rattle.columns.proofs.Links.{places}
 use Rattle.columns.proofs.ThirdLinks.{sewn-places}
 use Rattle.columns.proofs.Question.{image-passed}
@@ -29,20 +29,20 @@ module _ (m : List ℕ) (p : ℕ) where
   other-named e s = rw (sym e, s)
 
   -- the sewn dart's serial, where it is sewn
-  third-small : Kind (column m 3 p) (column m 4 p) → (column m 3 p ≡ 1 → column m 0 (column m 4 p) < serial-bound) → ThirdSmall (column m 3 p) (third-named m p)
+  third-small : Kind (column m 3 p) (column m 4 p) → (is-sewn-word (column m 3 p) ≡ true → column m 0 (column m 4 p) < serial-bound) → ThirdSmall (column m 3 p) (third-named m p)
   third-small (kind-free e z) h = record {
     other-small = omega arith;
     named-small = omega (arith, other-named refl (ne-eqb (column m 3 p % 4) 1 (λ q. omega arith)));
     sewn-small = λ q. let one = eqb-true (column m 3 p % 4) 1 q in absurd (omega arith);
   }
   third-small (kind-sewn e) h =
-      let s = h e in
-      let n = sewn-named refl (eq-eqb (column m 3 p % 4) 1 (omega arith)) in
+      let s = h (ap is-sewn-word e) in
+      let n = sewn-named refl (ap is-sewn-word e) in
       record { other-small = omega arith; named-small = omega arith; sewn-small = λ q. omega arith }
   third-small (kind-critical e o a) h = record {
     other-small = o;
-    named-small = omega (arith, other-named refl (ne-eqb (column m 3 p % 4) 1 (λ q. omega arith)));
-    sewn-small = λ q. let one = eqb-true (column m 3 p % 4) 1 q in absurd (omega arith);
+    named-small = omega (arith, other-named refl (ne-eqb (column m 3 p % 4) 1 (λ q. omega (arith, critical-two (column m 3 p) e))));
+    sewn-small = λ q. let one = eqb-true (column m 3 p % 4) 1 q in absurd (omega (arith, one, critical-two (column m 3 p) e));
   }
 
   small-at : words-for (count m) ≤ length m → Ranged m → Places m (count m) → SewnPlaces m (count m) → Finite m (count m) → p < count m → DartSmall m p
@@ -54,7 +54,7 @@ module _ (m : List ℕ) (p : ℕ) where
         here = omega arith;
         next-here = omega arith;
         opposite-here = omega arith;
-        sewn-here = λ e. omega (arith, s p h (kind-one k (eqb-true (column m 3 p % 4) 1 e)));
+        sewn-here = λ e. omega (arith, s p h e);
         serial-small = w .serial-small p h;
         next-small = w .serial-small (column m 1 p) a;
         opposite-small = w .serial-small (column m 2 p) b;

@@ -9,7 +9,7 @@ use lib.ListN.{length, getD, drop, length-append}
 use lib.Seq.{sets-eq}
 use borrow.Author.Tests.{eq-eqb, ne-eqb, le-leb, leb-true}
 use Rattle.model.specs.Lists.{tab}
-use Rattle.model.specs.Values.{room, Limits}
+use Rattle.model.specs.Values.{Limits}
 use Rattle.model.specs.Layouts.{put-all}
 use Rattle.model.specs.Image.{words-of, dart-in, block-in, is-image, holds-block, memory-checks}
 use Rattle.model.specs.Messages.{a-dart, file}
@@ -18,7 +18,6 @@ use Rattle.answers.specs.Answers.{Gives}
 use Rattle.answers.proofs.Questions.{gives, ask-no, ask-yes, ask-end}
 use Rattle.groups.specs.Slices.{Stored}
 use Rattle.theory.proofs.GroupLaws.{one-group, two-groups, group-most}
-use Rattle.theory.proofs.ImageLaws.{image-by-size}
 use Rattle.savefile.specs.Named.{header-bytes}
 use Rattle.savefile.proofs.FileBytes.{darts-put, darts-most, file-put, header-length}
 use Rattle.savefile.proofs.Sizes.{image-small, number-small, counter-small, count-small}
@@ -59,18 +58,15 @@ module _ (lim : Limits) (m out : List ℕ) where
   unfolding save-file writing memory-checks
   refused-size h = gives _ _ _ _ (ask-no refl (ne-eqb (length m) (words-of lim) h) refl)
 
-  module _ (small : lim .block-darts ≤ room) (h : length m ≡ words-of lim) where
-    pub refused-image : holds-block m ≡ false → Gives (save-file lim m out) (refused 2) out
+  module _ (h : length m ≡ words-of lim) where
+    pub refused-image : is-image lim m ≡ false → Gives (save-file lim m out) (refused 2) out
     unfolding save-file writing memory-checks
-    refused-image e = gives _ _ _ _ (ask-yes (eq-eqb (length m) (words-of lim) h) (ask-no refl (sym (image-by-size lim m small h) ∙ e) refl))
+    refused-image e = gives _ _ _ _ (ask-yes (eq-eqb (length m) (words-of lim) h) (ask-no refl e refl))
 
-    module _ (e : holds-block m ≡ true) where
-      is-block : is-image lim m ≡ true
-      is-block = sym (image-by-size lim m small h) ∙ e
-
+    module _ (e : is-image lim m ≡ true) where
       pub refused-output : leb (length (file lim .put (block-in m))) (length out) ≡ false → Gives (save-file lim m out) (refused 15) out
       unfolding save-file writing memory-checks
-      refused-output l = gives _ _ _ _ (ask-yes (eq-eqb (length m) (words-of lim) h) (ask-yes is-block (ask-no refl l refl)))
+      refused-output l = gives _ _ _ _ (ask-yes (eq-eqb (length m) (words-of lim) h) (ask-yes e (ask-no refl l refl)))
 
       pub served-file : leb (length (file lim .put (block-in m))) (length out) ≡ true → {after : List ℕ} {n : ℕ} → Stored out 0 (file lim .put (block-in m)) after n
           → Gives (save-file lim m out) (served n) after
@@ -80,4 +76,4 @@ module _ (lim : Limits) (m out : List ℕ) where
           let z : 0 + length bytes ≡ length bytes = omega arith in
           let fit = leb-true (length bytes) (length out) l in
           let same : after ≡ bytes ++ drop (length bytes) out = s .slice ∙ sets-eq bytes out 0 (omega (arith, fit)) ∙ ap (λ (k : ℕ). bytes ++ drop k out) z in
-          rw (s .past ∙ z) (gives _ _ _ _ (ask-yes (eq-eqb (length m) (words-of lim) h) (ask-yes is-block (ask-yes l (ask-end same)))))
+          rw (s .past ∙ z) (gives _ _ _ _ (ask-yes (eq-eqb (length m) (words-of lim) h) (ask-yes e (ask-yes l (ask-end same)))))

@@ -10,7 +10,7 @@ use lib.ListN.{length, take, drop}
 use borrow.Author.Tests.{lt-ltb, le-ltb, le-leb, lt-leb}
 use Rattle.model.specs.Lists.{tab}
 use Rattle.columns.specs.Columns.{all-below}
-use Rattle.mesh.specs.Parts.{blocks}
+use Rattle.mesh.specs.Parts.{block-count}
 use Rattle.commands.specs.declared.names.File.the-variants as files
 use Rattle.saving.specs.declared.prepare.Made.the-variants as made
 use Rattle.saving.specs.Commit.{entry-of, commit-of}
@@ -19,39 +19,39 @@ use Rattle.saving.proofs.Contents.{put-none}
 use Rattle.saving.proofs.Entering.{commit-length}
 
 module _ (m room : List ℕ) where
-  pub too-few : blocks m < 1 → StepPut (contents m files.NewCommit) room room made.Cannot
+  pub too-few : block-count m < 1 → StepPut (contents m files.NewCommit) room room made.Cannot
   unfolding contents all-savable
-  too-few h = put-none (rw (le-ltb 0 (blocks m) (omega arith)))
+  too-few h = put-none (rw (le-ltb 0 (block-count m) (omega arith)))
 
-  pub too-many : 16 < blocks m → StepPut (contents m files.NewCommit) room room made.Cannot
+  pub too-many : 16 < block-count m → StepPut (contents m files.NewCommit) room room made.Cannot
   unfolding contents all-savable
-  too-many h = put-none (rw (lt-ltb 0 (blocks m) (omega arith), lt-leb (blocks m) 16 h))
+  too-many h = put-none (rw (lt-ltb 0 (block-count m) (omega arith), lt-leb (block-count m) 16 h))
 
-  pub no-room : length room < 8 + 16 * blocks m → StepPut (contents m files.NewCommit) room room made.Cannot
+  pub no-room : length room < 8 + 16 * block-count m → StepPut (contents m files.NewCommit) room room made.Cannot
   unfolding contents
   no-room h = put-none (either (all-savable m))
     where
-      either : (s : Bool) → fitting room (act-when s (commit-of (tab (λ b. entry-of (file-of m b)) (blocks m)))) ≡ none
-      either true = rw (lt-leb (length (commit-of (tab (λ b. entry-of (file-of m b)) (blocks m)))) (length room) (omega (arith, commit-length m (blocks m))))
+      either : (s : Bool) → fitting room (act-when s (commit-of (tab (λ b. entry-of (file-of m b)) (block-count m)))) ≡ none
+      either true = rw (lt-leb (length (commit-of (tab (λ b. entry-of (file-of m b)) (block-count m)))) (length room) (omega (arith, commit-length m (block-count m))))
       either false = refl
 
-  module _ (few : 1 ≤ blocks m) (many : blocks m ≤ 16) {before after : List ℕ} {r : Bool} (e : BlockEntered m (blocks m) before after r) where
+  module _ (few : 1 ≤ block-count m) (many : block-count m ≤ 16) {before after : List ℕ} {r : Bool} (e : BlockEntered m (block-count m) before after r) where
     whole : all-savable m ≡ r
     unfolding all-savable
-    whole = rw (lt-ltb 0 (blocks m) few, le-leb (blocks m) 16 many) (sym (e .all))
+    whole = rw (lt-ltb 0 (block-count m) few, le-leb (block-count m) 16 many) (sym (e .all))
 
     pub one-missing : r ≡ false → StepPut (contents m files.NewCommit) room room made.Cannot
     unfolding contents
     one-missing n = put-none (rw (whole ∙ n))
 
-    pub commit-put : r ≡ true → 8 + 16 * blocks m ≤ length room → {left : List ℕ} → left ≡ take (8 + 16 * blocks m) after ++ drop (8 + 16 * blocks m) room
-        → StepPut (contents m files.NewCommit) room left (made.Bytes (8 + 16 * blocks m))
+    pub commit-put : r ≡ true → 8 + 16 * block-count m ≤ length room → {left : List ℕ} → left ≡ take (8 + 16 * block-count m) after ++ drop (8 + 16 * block-count m) room
+        → StepPut (contents m files.NewCommit) room left (made.Bytes (8 + 16 * block-count m))
     unfolding contents
     commit-put y h {left} l =
-        let c : List ℕ = commit-of (tab (λ b. entry-of (file-of m b)) (blocks m)) in
-        let n = commit-length m (blocks m) in
+        let c : List ℕ = commit-of (tab (λ b. entry-of (file-of m b)) (block-count m)) in
+        let n = commit-length m (block-count m) in
         let x : fitting room (contents m files.NewCommit) ≡ some c = rw (whole ∙ y, le-leb (length c) (length room) (omega arith)) in
         record {
           answer = ap made.Bytes (sym n) ∙ ap made-of (sym x);
-          left = l ∙ ap (λ (t : List ℕ). t ++ drop (8 + 16 * blocks m) room) (e .bytes y) ∙ ap (λ (k : ℕ). c ++ drop k room) (sym n) ∙ ap (λ (o : Option (List ℕ)). left-by o room) (sym x);
+          left = l ∙ ap (λ (t : List ℕ). t ++ drop (8 + 16 * block-count m) room) (e .bytes y) ∙ ap (λ (k : ℕ). c ++ drop k room) (sym n) ∙ ap (λ (o : Option (List ℕ)). left-by o room) (sym x);
         }

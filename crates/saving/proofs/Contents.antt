@@ -20,7 +20,7 @@ use Rattle.answers.specs.declared.Written.{Written}
 use Rattle.answers.specs.declared.Written.the-variants as written
 use Rattle.answers.specs.Answers.{Gives, written-of, question}
 use Rattle.savefile.proofs.WholeFile.{file-most}
-use Rattle.mesh.specs.Parts.{blocks, part}
+use Rattle.mesh.specs.Parts.{block-count, part}
 use Rattle.commands.specs.declared.names.File.the-variants as files
 use Rattle.saving.specs.declared.prepare.Made.{Made}
 use Rattle.saving.specs.declared.prepare.Made.the-variants as made

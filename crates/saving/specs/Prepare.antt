@@ -11,7 +11,7 @@ use Rattle.model.specs.Values.{rack}
 use Rattle.model.specs.Image.{block-in, memory-checks}
 use Rattle.model.specs.Messages.{file}
 use Rattle.columns.specs.Columns.{all-below}
-use Rattle.mesh.specs.Parts.{blocks, part}
+use Rattle.mesh.specs.Parts.{block-count, part}
 use Rattle.commands.specs.declared.names.File.{File}
 use Rattle.commands.specs.declared.names.File.the-variants as files
 use Rattle.commands.specs.Names.{file-named, nameless}
@@ -40,12 +40,12 @@ file-of m b = file rack .put (block-in (part m b))
 
 -- one block to sixteen, each with a file
 unfoldable pub all-savable : List ℕ → Bool
-all-savable m = ltb 0 (blocks m) && leb (blocks m) 16 && all-below (savable m) (blocks m)
+all-savable m = ltb 0 (block-count m) && leb (block-count m) 16 && all-below (savable m) (block-count m)
 
 -- under each name: the new file of a block, and the commit of all of them; a file in its place and the commit are never written
 unfoldable pub contents : List ℕ → File → Option (List ℕ)
 contents m (files.NewBlock b) = act-when (savable m b) (file-of m b)
-contents m files.NewCommit = act-when (all-savable m) (commit-of (tab (λ b. entry-of (file-of m b)) (blocks m)))
+contents m files.NewCommit = act-when (all-savable m) (commit-of (tab (λ b. entry-of (file-of m b)) (block-count m)))
 contents m (files.Block b) = none
 contents m files.Commit = none
 

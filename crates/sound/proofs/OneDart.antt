@@ -2,11 +2,11 @@
 use mathlib.Core.Path.{_≡_, refl, sym, ap, _∙_}
 use mathlib.Core.Bool.{Bool, true, false, not, _&&_, _||_}
 use mathlib.Core.List.{List}
-use Prim.Native.Nat.{ℕ, _≤_, _<_}
+use Prim.Native.Nat.{ℕ, _<_}
 use lib.Dec.{ltb, eqb}
-use borrow.Author.Tests.{eqb-true, eq-eqb, ne-eqb, ltb-true, lt-ltb, le-ltb}
+use borrow.Author.Tests.{eqb-true, eq-eqb, ne-eqb, ltb-true}
 use Rattle.model.specs.Values.{same-point}
-use Rattle.model.specs.Image.{column}
+use Rattle.model.specs.Image.{column, is-sewn-word, is-critical-word}
 use Rattle.laws.proofs.Tests.{and-left, and-right}
 use Rattle.memory.specs.declared.point.Point.{Point}
 use Rattle.memory.specs.Point.{point-of, patterns, FiniteAt}
@@ -44,18 +44,18 @@ module _ (m : List ℕ) (n p : ℕ) where
     unfolding third-test
     kind-stop h = and-stop _ (ne-eqb _ _ (λ e. h (ej ∙ ap (column m 3) ea ∙ e ∙ sym ek)))
 
-    pub not-sewn : j ≡ k → (k ≡ 1 → ⊥) → true ≡ third-test m n p
+    pub not-sewn : j ≡ k → is-sewn-word k ≡ false → true ≡ third-test m n p
     unfolding third-test
-    not-sewn e h = and-go (eq-eqb _ _ (same-kind e)) (rw (ne-eqb (column m 3 p) 1 (λ q. h (ek ∙ q))) refl)
+    not-sewn e h = and-go (eq-eqb _ _ (same-kind e)) (rw (ap is-sewn-word (sym ek) ∙ h) refl)
 
-    module _ (e : j ≡ k) (s : k ≡ 1) {l z : ℕ} (el : l ≡ column m 4 p) (ez : z ≡ column m 4 a) where
+    module _ (e : j ≡ k) (s : is-sewn-word k ≡ true) {l z : ℕ} (el : l ≡ column m 4 p) (ez : z ≡ column m 4 a) where
       pub sewn-stop : (ltb l n && ltb z n) ≡ false → false ≡ third-test m n p
       unfolding third-test
-      sewn-stop h = and-go (eq-eqb _ _ (same-kind e)) (rw (eq-eqb (column m 3 p) 1 (sym ek ∙ s)) (and-stop _ (rw (ez, el, ea) at h)))
+      sewn-stop h = and-go (eq-eqb _ _ (same-kind e)) (rw (ap is-sewn-word (sym ek) ∙ s) (and-stop _ (rw (ez, el, ea) at h)))
 
       pub sewn-go : (ltb l n && ltb z n) ≡ true → {r : Bool} → r ≡ sewn-test m p l z → r ≡ third-test m n p
       unfolding third-test
-      sewn-go h er = and-go (eq-eqb _ _ (same-kind e)) (rw (eq-eqb (column m 3 p) 1 (sym ek ∙ s)) (and-go (rw (ez, el, ea) at h) (er ∙ rw (ez, el, ea) refl)))
+      sewn-go h er = and-go (eq-eqb _ _ (same-kind e)) (rw (ap is-sewn-word (sym ek) ∙ s) (and-go (rw (ez, el, ea) at h) (er ∙ rw (ez, el, ea) refl)))
 
   -- 8
   module _ {b v : ℕ} {s : Bool} (eb : b ≡ column m 2 p) (ev : v ≡ column m 1 b) (es : s ≡ same-at m p v) where
@@ -66,13 +66,13 @@ module _ (m : List ℕ) (n p : ℕ) where
     unfolding point-test
     point-stop e = and-stop _ (sym same-is ∙ e)
 
-    pub point-only : s ≡ true → {k : ℕ} → k ≡ column m 3 p → (k ≡ 1 → ⊥) → true ≡ point-test m p
+    pub point-only : s ≡ true → {k : ℕ} → k ≡ column m 3 p → is-sewn-word k ≡ false → true ≡ point-test m p
     unfolding point-test
-    point-only e ek h = and-go (sym same-is ∙ e) (rw (ne-eqb (column m 3 p) 1 (λ q. h (ek ∙ q))) refl)
+    point-only e ek h = and-go (sym same-is ∙ e) (rw (ap is-sewn-word (sym ek) ∙ h) refl)
 
-    pub point-go : s ≡ true → {k : ℕ} → k ≡ column m 3 p → k ≡ 1 → {l w : ℕ} {r : Bool} → l ≡ column m 4 p → w ≡ column m 1 l → r ≡ same-at m p w → r ≡ point-test m p
+    pub point-go : s ≡ true → {k : ℕ} → k ≡ column m 3 p → is-sewn-word k ≡ true → {l w : ℕ} {r : Bool} → l ≡ column m 4 p → w ≡ column m 1 l → r ≡ same-at m p w → r ≡ point-test m p
     unfolding point-test
-    point-go e ek k1 el ew er = and-go (sym same-is ∙ e) (rw (eq-eqb (column m 3 p) 1 (sym ek ∙ k1)) (er ∙ rw (ew, el) refl))
+    point-go e ek k1 el ew er = and-go (sym same-is ∙ e) (rw (ap is-sewn-word (sym ek) ∙ k1) (er ∙ rw (ew, el) refl))
 
   -- 2, with the darts that it links to
   module _ {a b k c j v : ℕ} {s : Bool} (ea : a ≡ column m 1 p) (eb : b ≡ column m 2 p) (ek : k ≡ column m 3 p)
@@ -88,13 +88,13 @@ module _ (m : List ℕ) (n p : ℕ) where
       pub far-kind : j ≡ k
       far-kind = eqb-true j k (and-right (eqb c p) (eqb j k) (and-left (eqb c p && eqb j k) s yes))
 
-      pub far-only : (k ≡ 1 → ⊥) → true ≡ far-test m p
+      pub far-only : is-sewn-word k ≡ false → true ≡ far-test m p
       unfolding far-test
-      far-only h = and-go (sym near-is ∙ yes) (rw (ne-eqb (column m 3 p) 1 (λ q. h (ek ∙ q))) refl)
+      far-only h = and-go (sym near-is ∙ yes) (rw (ap is-sewn-word (sym ek) ∙ h) refl)
 
-      pub far-go : k ≡ 1 → {l z w : ℕ} {t u : Bool} → l ≡ column m 4 p → z ≡ column m 4 a → w ≡ column m 1 l → t ≡ sewn-test m p l z → u ≡ same-at m p w → (t && u) ≡ far-test m p
+      pub far-go : is-sewn-word k ≡ true → {l z w : ℕ} {t u : Bool} → l ≡ column m 4 p → z ≡ column m 4 a → w ≡ column m 1 l → t ≡ sewn-test m p l z → u ≡ same-at m p w → (t && u) ≡ far-test m p
       unfolding far-test
-      far-go k1 el ez ew et eu = and-go (sym near-is ∙ yes) (rw (eq-eqb (column m 3 p) 1 (sym ek ∙ k1)) (rw (et, eu, ew, ez, el, ea) refl))
+      far-go k1 el ez ew et eu = and-go (sym near-is ∙ yes) (rw (ap is-sewn-word (sym ek) ∙ k1) (rw (et, eu, ew, ez, el, ea) refl))
 
 -- the points of three words each
 pub same-go : (m : List ℕ) (p v : ℕ) → FiniteAt m p → FiniteAt m v → {a b : Point} {r : Bool}
@@ -110,13 +110,13 @@ same-go m p v fp fv ea eb er =
     ) refl
 
 -- 2, by itself: kind words
-pub near-go : (me counter n k a : ℕ) → k < 2 → ((eqb k 0 && eqb a 0) || (eqb k 1 && ltb a n)) ≡ kind-test me counter n k a
+pub near-go : (me counter n k a : ℕ) {r : Bool} → r ≡ is-critical-word k → r ≡ false → ((eqb k 0 && eqb a 0) || (eqb k 1 && ltb a n)) ≡ kind-test me counter n k a
 unfolding kind-test
-near-go me counter n k a h = rw (lt-ltb k 2 h) refl
+near-go me counter n k a er e = rw (sym er ∙ e) refl
 
-pub critical-go : (me counter n k a : ℕ) → 2 ≤ k → {r : Bool} → r ≡ critical-test me counter k a → r ≡ kind-test me counter n k a
+pub critical-go : (me counter n k a : ℕ) {b : Bool} → b ≡ is-critical-word k → b ≡ true → {r : Bool} → r ≡ critical-test me counter k a → r ≡ kind-test me counter n k a
 unfolding kind-test
-critical-go me counter n k a h e = rw (le-ltb k 2 h) e
+critical-go me counter n k a eb e er = rw (sym eb ∙ e) er
 
 -- what the first pass leaves to the second
 module _ (m : List ℕ) (n : ℕ) (d : Darts m n) where
@@ -129,8 +129,8 @@ module _ (m : List ℕ) (n : ℕ) (d : Darts m n) where
   pub opposite-lt : {p b : ℕ} → p < n → b ≡ column m 2 p → b < n
   opposite-lt {p} h e = rw e (right p h .opposite-lt)
 
-  pub sewn-lt : {p k l : ℕ} → p < n → k ≡ column m 3 p → k ≡ 1 → l ≡ column m 4 p → l < n
-  sewn-lt {p} h ek k1 e = rw e (right p h .words-right .sewn-lt (sym ek ∙ k1))
+  pub sewn-lt : {p k l : ℕ} → p < n → k ≡ column m 3 p → is-sewn-word k ≡ true → l ≡ column m 4 p → l < n
+  sewn-lt {p} h ek k1 e = rw e (right p h .words-right .sewn-lt (ap is-sewn-word (sym ek) ∙ k1))
 
   pub finite-here : {p : ℕ} → p < n → FiniteAt m p
   finite-here {p} h = finite-at m p (right p h .finite-point)

@@ -6,11 +6,11 @@ use mathlib.Core.Logic.{_⊎_, inl, inr, ⊎-elim, _↔_}
 use Prim.Native.Nat.{ℕ, _+_, _≤_, _<_}
 use native.Mathlib.Omega.{arith}
 use native.Mathlib.Numerals.{add-one}
-use lib.Dec.{ltb, eqb}
+use lib.Dec.{eqb}
 use lib.ListN.{length, getD, set, take, length-set}
 use lib.Seq.{getD-set-same, getD-set-other, take-suc-set}
-use borrow.Author.Tests.{eqb-true, eqb-false, ltb-true, ltb-false, lt-ltb, le-ltb}
-use Rattle.model.specs.Image.{column}
+use borrow.Author.Tests.{eqb-true, eqb-false}
+use Rattle.model.specs.Image.{column, is-critical-word}
 use Rattle.sound.specs.Kept.{Kept}
 use Rattle.laws.proofs.Tests.{by-cases, eq-or-ne, last-or-below, and-left, and-right}
 use Rattle.columns.specs.Columns.{all-below, before, place-test, kind-test, dart-test, link-test, codes, OneToOne, Links, Darts}
@@ -177,29 +177,29 @@ unfolding codes
 gather-none m n out h = record { i-le = omega arith; c-le = omega arith; len = h; done = refl }
 
 module _ {m : List ℕ} {n : ℕ} {out : List ℕ} {c i : ℕ} (w : Gathering m n out c i) (h : i < n) {k : ℕ} (ek : k ≡ column m 3 i) where
-  pub gather-skip : k ≤ 1 → {out′ : List ℕ} {c′ : ℕ} → out′ ≡ out → c′ ≡ c → Gathering m n out′ c′ (i + 1)
+  pub gather-skip : is-critical-word k ≡ false → {out′ : List ℕ} {c′ : ℕ} → out′ ≡ out → c′ ≡ c → Gathering m n out′ c′ (i + 1)
   unfolding codes
   gather-skip l e f = rw (e, f) (record {
     i-le = omega arith;
     c-le = omega (arith, w .c-le);
     len = w .len;
-    done = rw (add-one, le-ltb 1 (column m 3 i) (omega arith)) (w .done);
+    done = rw (add-one, ap is-critical-word (sym ek) ∙ l) (w .done);
   })
 
-  pub gather-take : 1 < k → {l : ℕ} → l ≡ column m 4 i → {out′ : List ℕ} {c′ : ℕ} → out′ ≡ set out c l → c′ ≡ c + 1 → Gathering m n out′ c′ (i + 1)
+  pub gather-take : is-critical-word k ≡ true → {l : ℕ} → l ≡ column m 4 i → {out′ : List ℕ} {c′ : ℕ} → out′ ≡ set out c l → c′ ≡ c + 1 → Gathering m n out′ c′ (i + 1)
   unfolding codes
   gather-take l el e f = rw (e, f) (record {
     i-le = omega arith;
     c-le = omega (arith, w .c-le);
     len = simp length-set (w .len);
-    done = rw (add-one, add-one, lt-ltb 1 (column m 3 i) (omega arith), take-suc-set out c _ (omega (arith, w .len, w .c-le)), w .done, el) refl;
+    done = rw (add-one, add-one, ap is-critical-word (sym ek) ∙ l, take-suc-set out c _ (omega (arith, w .len, w .c-le)), w .done, el) refl;
   })
 
 -- one dart more, as it is kept
 pub gather-more : {m : List ℕ} {n : ℕ} {out : List ℕ} {c i : ℕ} → Gathering m n out c i → i < n → {out′ : List ℕ} {c′ : ℕ} → Kept m i out c out′ c′ → Gathering m n out′ c′ (i + 1)
-gather-more {m} {n} {out} {c} {i} w h {out′} {c′} k = by-cases (ltb 1 (column m 3 i))
-    (λ e. gather-take w h refl (ltb-true 1 (column m 3 i) e) refl (k .keys-are ∙ ap (λ (b : Bool). cond b (set out c (column m 4 i)) out) e) (k .count-is ∙ ap (λ (b : Bool). cond b (c + 1) c) e))
-    (λ e. gather-skip w h refl (ltb-false 1 (column m 3 i) e) (k .keys-are ∙ ap (λ (b : Bool). cond b (set out c (column m 4 i)) out) e) (k .count-is ∙ ap (λ (b : Bool). cond b (c + 1) c) e))
+gather-more {m} {n} {out} {c} {i} w h {out′} {c′} k = by-cases (is-critical-word (column m 3 i))
+    (λ e. gather-take w h refl e refl (k .keys-are ∙ ap (λ (b : Bool). cond b (set out c (column m 4 i)) out) e) (k .count-is ∙ ap (λ (b : Bool). cond b (c + 1) c) e))
+    (λ e. gather-skip w h refl e (k .keys-are ∙ ap (λ (b : Bool). cond b (set out c (column m 4 i)) out) e) (k .count-is ∙ ap (λ (b : Bool). cond b (c + 1) c) e))
 
 pub gather-end : {m : List ℕ} {n : ℕ} {out : List ℕ} {c i : ℕ} → Gathering m n out c i → n ≤ i → (c ≤ n) × (take c out ≡ codes m n)
 gather-end {m} {n} {out} {c} {i} w h =

@@ -9,11 +9,12 @@ use lib.Dec.{leb, ltb, eqb}
 use lib.ListN.{length, getD}
 use borrow.Author.Tests.{eqb-true, leb-true, le-leb, ltb-true, lt-ltb}
 use Rattle.model.specs.Lists.{distinct}
-use Rattle.model.specs.Values.{widest, room}
+use Rattle.model.specs.Values.{Limits, widest, room}
 use Rattle.model.specs.Sound.{coordinates-finite, links-right, thirds-right, points-agree}
-use Rattle.model.specs.Image.{words-for, block-in, holds-block}
-use Rattle.laws.proofs.Tests.{by-cases, lt-or-ge, and-left, and-right, same-truth}
-use Rattle.theory.proofs.ImageLaws.{count-fits}
+use Rattle.model.specs.Image.{words-for, dart-in, block-in, is-image}
+use Rattle.laws.proofs.Tests.{by-cases, lt-or-ge, and-intro, and-left, and-right, and-false, and-yes, same-truth}
+use Rattle.laws.proofs.Tables.{length-tab}
+use Rattle.theory.proofs.ImageLaws.{image-is, parts-of, ranges-of, count-fits, image-fits}
 use Rattle.columns.specs.Columns.{all-below, count, header-test, third-test, point-test, far-test, codes, Ranged, Places, SewnPlaces, Finite, Links, Darts}
 use Rattle.columns.proofs.Below.{below-at, at-below}
 use Rattle.columns.proofs.Held.{darts}
@@ -22,6 +23,9 @@ use Rattle.columns.proofs.ThirdLinks.{sewn-places, thirds-yes, thirds-says}
 use Rattle.columns.proofs.Points.{finite-test, finite-is, points-are}
 use Rattle.columns.proofs.Question.{Passed, passed-image, image-passed}
 use Rattle.columns.proofs.OneDart.{DartRight, dart-says, dart-yes, FarRight, far-says, far-yes, link-here, third-here, points-here, far-from, dart-from}
+use Rattle.sound.specs.Kept.{FarSaid, ButLabels}
+use Rattle.sound.specs.declared.Far.{Far}
+use Rattle.sound.specs.declared.Far.the-variants.{Right, Wrong}
 
 -- 3, of the header
 pub record Header (m : List ℕ) : Type 0 where
@@ -66,8 +70,21 @@ header-yes m w = rw (
   w .head .4,
 ) refl
 
-pub header-few : (m : List ℕ) {r : Bool} → r ≡ header-test m → r ≡ true → count m ≤ room
-header-few m er e = header-says m (sym er ∙ e) .few
+-- THE HEADER BY LIMITS: the code compares the darts with these alone
+fewer : (a b c d e f g h : Bool) → (b ≡ true → c ≡ true) → (a && b && d && e && f && g && h) ≡ (a && c && d && e && f && g && h && b)
+fewer false b c d e f g h i = refl
+fewer true true c d e f g h i = rw (i refl) (sym (and-yes (d && e && f && g && h)))
+fewer true false c d e f g h i = sym (and-false (c && d && e && f && g && h))
+
+pub header-by : (m : List ℕ) (most : ℕ) → most ≤ room
+    → (ltb (getD m 0 0) 16 && ltb (getD m 1 0) (2 ^ 32) && leb (getD m 2 0) most && eqb (getD m 3 0) 0 && eqb (getD m 4 0) 0 && eqb (getD m 5 0) 0 && eqb (getD m 6 0) 0 && eqb (getD m 7 0) 0)
+    ≡ (header-test m && leb (count m) most)
+unfolding header-test
+header-by m most small = fewer (ltb (getD m 0 0) 16 && ltb (getD m 1 0) (2 ^ 32)) (leb (getD m 2 0) most) (leb (getD m 2 0) room) _ _ _ _ _
+    (λ e. le-leb (getD m 2 0) room (omega (arith, leb-true (getD m 2 0) most e)))
+
+pub header-few : (m : List ℕ) (most : ℕ) {r : Bool} → r ≡ (header-test m && leb (count m) most) → r ≡ true → count m ≤ most
+header-few m most er e = leb-true _ _ (and-right (header-test m) _ (sym er ∙ e))
 
 -- zeros from a on, as far as the memory goes
 abbrev pub ZerosFrom : List ℕ → ℕ → Type 0
@@ -109,32 +126,54 @@ all-passed m h z d f differ =
       points = λ p l. points-here m n r p l (far p l);
     }
 
--- A NO
-no-image : (m : List ℕ) → (Passed m → ⊥) → false ≡ holds-block m
-no-image m h = by-cases (holds-block m) (λ e. absurd (h (image-passed m e))) (λ e. sym e)
+-- A NO, by limits no wider than the widest
+module _ (lim : Limits) (m : List ℕ) where
+  -- an image by limits has no more darts than they say
+  within : is-image lim m ≡ true → count m ≤ lim .block-darts
+  within e = omega (arith, ranges-of lim (block-in m) (parts-of lim (block-in m) (image-is lim m e .1) .ranges) .few-darts, length-tab (dart-in m) (count m))
 
-module _ (m : List ℕ) where
-  pub too-short : length m < words-for (count m) → false ≡ holds-block m
-  too-short h = by-cases (holds-block m) (λ e. absurd (omega (arith, count-fits widest m e))) (λ e. sym e)
+  pub too-short : length m < words-for (count m) → is-image lim m ≡ false
+  too-short h = by-cases (is-image lim m) (λ e. absurd (omega (arith, count-fits lim m e))) (λ e. e)
 
-  pub no-header : {r : Bool} → r ≡ header-test m → r ≡ false → false ≡ holds-block m
-  no-header er e = no-image m (λ a. false≢true (sym e ∙ er ∙ header-yes m (a .range)))
+  module _ (small : lim .block-darts ≤ room) where
+    passes : is-image lim m ≡ true → Passed m
+    passes e = image-passed m (image-fits lim widest m (omega (arith, within e)) e)
 
-  pub no-zeros : {r : Bool} → (r ≡ true) ↔ ZerosFrom m (8 + count m * 8) → r ≡ false → false ≡ holds-block m
-  no-zeros z e = no-image m (λ a. false≢true (sym e ∙ z .1 (λ i l u. a .range .rest i l)))
+    no-image : (Passed m → ⊥) → is-image lim m ≡ false
+    no-image h = by-cases (is-image lim m) (λ e. absurd (h (passes e))) (λ e. e)
 
-  pub no-darts : {r : Bool} → (r ≡ true) ↔ Darts m (count m) → r ≡ false → false ≡ holds-block m
-  no-darts d e = no-image m (λ a. false≢true (sym e ∙ d .1 (record { each = λ p h. dart-yes m (count m) p (dart-from m a p h); apart = a .apart })))
+    pub no-header : {r : Bool} → r ≡ (header-test m && leb (count m) (lim .block-darts)) → r ≡ false → is-image lim m ≡ false
+    no-header er no-r = by-cases (is-image lim m)
+        (λ e. absurd (false≢true (sym no-r ∙ er ∙ and-intro (header-yes m (passes e .range)) (le-leb (count m) (lim .block-darts) (within e)))))
+        (λ e. e)
 
-  pub no-far : {r : Bool} → r ≡ all-below (far-test m) (count m) → r ≡ false → false ≡ holds-block m
-  no-far er e = no-image m (λ a. false≢true (sym e ∙ er ∙ at-below (far-test m) (count m) (λ p h. far-yes m p (far-from m (count m) p (a .links p h) (a .thirds p h) (a .points p h)))))
+    pub no-zeros : {r : Bool} → (r ≡ true) ↔ ZerosFrom m (8 + count m * 8) → r ≡ false → is-image lim m ≡ false
+    no-zeros z e = no-image (λ a. false≢true (sym e ∙ z .1 (λ i l u. a .range .rest i l)))
 
-  -- THE LAST: labels
-  pub labels-last : words-for (count m) ≤ length m → {h z d f r : Bool} → h ≡ header-test m → h ≡ true → (z ≡ true) ↔ ZerosFrom m (8 + count m * 8) → z ≡ true → (d ≡ true) ↔ Darts m (count m) → d ≡ true
-      → f ≡ all-below (far-test m) (count m) → f ≡ true → r ≡ distinct (codes m (count m)) → r ≡ holds-block m
-  labels-last len eh yh ez yz ed yd ef yf er = er ∙ same-truth (distinct (codes m (count m))) (holds-block m)
-      (λ e. passed-image m len (all-passed m (header-says m (sym eh ∙ yh)) (ez .0 yz) (ed .0 yd) (sym ef ∙ yf) e))
-      (λ e. image-passed m e .differ)
+    pub no-darts : {r : Bool} → (r ≡ true) ↔ Darts m (count m) → r ≡ false → is-image lim m ≡ false
+    no-darts d e = no-image (λ a. false≢true (sym e ∙ d .1 (record { each = λ p h. dart-yes m (count m) p (dart-from m a p h); apart = a .apart })))
+
+    no-far : all-below (far-test m) (count m) ≡ false → is-image lim m ≡ false
+    no-far e = no-image (λ a. false≢true (sym e ∙ at-below (far-test m) (count m) (λ p h. far-yes m p (far-from m (count m) p (a .links p h) (a .thirds p h) (a .points p h)))))
+
+    -- THE LAST: darts with those that they link to, then the labels
+    pub far-last : words-for (count m) ≤ length m → {h z d : Bool} → h ≡ (header-test m && leb (count m) (lim .block-darts)) → h ≡ true
+        → (z ≡ true) ↔ ZerosFrom m (8 + count m * 8) → z ≡ true → (d ≡ true) ↔ Darts m (count m) → d ≡ true
+        → (keys : List ℕ) (r : Far) → FarSaid m (count m) keys r → ButLabels lim m keys r
+    far-last len eh yh ez yz ed yd keys (Right c) said = (
+      omega (arith, said .1, few),
+      same-truth (is-image lim m) (distinct (codes m (count m)))
+          (λ e. passes e .differ)
+          (λ e. image-fits widest lim m few (passed-image m len (all-passed m head (ez .0 yz) (ed .0 yd) (said .0) e)))
+          ∙ ap distinct (sym (said .2)),
+    )
+      where
+        few : count m ≤ lim .block-darts
+        few = header-few m (lim .block-darts) eh yh
+
+        head : Header m
+        head = header-says m (and-left (header-test m) _ (sym eh ∙ yh))
+    far-last len eh yh ez yz ed yd keys Wrong said = no-far said
 
 -- QUESTIONS 5 TO 8, where all before have been answered yes
 module _ (m : List ℕ) (w : Ranged m) where

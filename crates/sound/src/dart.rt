@@ -47,7 +47,8 @@ fn sewn_at(block: &[u64], p: Place, l: Place, z: Place) -> bool
     let k = record::field(block, l, Record::KIND);
     let b = record::field(block, l, Record::LINK);
     let x = record::field(block, z, Record::NEXT);
-    (k == kind::SEWN) & (b == p.0 as u64) & (l.0 != p.0) & (x == l.0 as u64)
+    let sewn = kind::is_sewn(k);
+    sewn & (b == p.0 as u64) & (l.0 != p.0) & (x == l.0 as u64)
 }
 
 // 6: the kind of the next dart; where it is sewn, sewn right.
@@ -61,7 +62,7 @@ pub fn third_at(block: &[u64], n: usize, p: Place) -> bool
     if j != k {
         return false;
     }
-    if k != kind::SEWN {
+    if !kind::is_sewn(k) {
         return true;
     }
     let l = record::field(block, p, Record::LINK);
@@ -78,8 +79,9 @@ pub fn label_right(me: u64, counter: u64, k: u64, a: u64) -> bool
 {
     let maker = label::maker_of(a);
     let number = label::number_of(a);
+    let critical = kind::is_critical(k);
     let other = kind::other_of(k);
-    (k < kind::CRITICAL) | ((other != me) & ((maker != me) | (number < counter)))
+    !critical | ((other != me) & ((maker != me) | (number < counter)))
 }
 
 // 8: the points at p and v are one.
@@ -103,7 +105,7 @@ pub fn points_at(block: &[u64], n: usize, p: Place) -> bool
         return false;
     }
     let k = record::field(block, p, Record::KIND);
-    if k != kind::SEWN {
+    if !kind::is_sewn(k) {
         return true;
     }
     let l = Place(record::field(block, p, Record::LINK) as usize);
@@ -123,16 +125,14 @@ pub fn place_at(block: &[u64], n: usize, p: Place, last: u64) -> bool
     (last < s) & (s < Header::SERIALS) & f & (a < n as u64) & (b < n as u64) & (b != p.0 as u64)
 }
 
-// 2, by itself: the words of a critical dart of block `me`.
+// 2, by itself: what the words of a critical dart of block `me` name.
 fn critical_right(me: u64, counter: u64, k: u64, a: u64) -> bool
     ensures { λ r. ⌜ r ≡ critical-test me counter k a ⌝ }
 {
     let maker = label::maker_of(a);
     let number = label::number_of(a);
-    let critical = kind::is_critical(k);
     let other = kind::other_of(k);
-    critical
-        & (other < Header::BLOCKS)
+    (other < Header::BLOCKS)
         & (a < label::CODES)
         & (other != me)
         & ((maker != me) | (number < counter))
@@ -142,10 +142,10 @@ fn critical_right(me: u64, counter: u64, k: u64, a: u64) -> bool
 pub fn kind_right(me: u64, counter: u64, n: usize, k: u64, a: u64) -> bool
     ensures { λ r. ⌜ r ≡ kind-test me counter n k a ⌝ }
 {
-    if k < kind::CRITICAL {
-        return ((k == kind::FREE) & (a == 0)) | ((k == kind::SEWN) & (a < n as u64));
+    if kind::is_critical(k) {
+        return critical_right(me, counter, k, a);
     }
-    critical_right(me, counter, k, a)
+    ((k == kind::FREE) & (a == 0)) | ((k == kind::SEWN) & (a < n as u64))
 }
 
 // 2, with the darts that it links to.
@@ -163,7 +163,7 @@ pub fn far_at(block: &[u64], n: usize, p: Place) -> bool
     if !((c == p.0 as u64) & (j == k) & s) {
         return false;
     }
-    if k != kind::SEWN {
+    if !kind::is_sewn(k) {
         return true;
     }
     let l = Place(record::field(block, p, Record::LINK) as usize);

@@ -3,27 +3,31 @@ pub mod dart; // dart.rt: the tests of one dart
 pub mod questions; // questions.rt: questions 4 to 8, a loop each
 
 ghost use mathlib.Core.Path.{_≡_};
-ghost use mathlib.Core.Bool.{true};
+ghost use mathlib.Core.Bool.{true, _&&_};
 ghost use mathlib.Core.Logic.{_↔_};
 ghost use Prim.Native.Nat.{ℕ, _≤_, _<_};
-ghost use lib.ListN.{length, getD};
+ghost use lib.Dec.{leb};
+ghost use lib.ListN.{length, getD, replicate};
 ghost use Rattle.model.specs.Values.{room};
-ghost use Rattle.model.specs.Image.{words-for, holds-block};
-ghost use Rattle.columns.specs.Columns.{header-test, Darts};
-ghost use Rattle.sound.specs.Kept.{FarSaid};
+ghost use Rattle.model.specs.Image.{words-for, is-image, holds-block};
+ghost use Rattle.memory.specs.Header.{limits-of};
+ghost use Rattle.columns.specs.Columns.{count, header-test, Darts};
+ghost use Rattle.keyset.specs.Slots.{slot-count};
+ghost use Rattle.sound.specs.Kept.{FarSaid, ButLabels};
 use memory::header::Header;
+use memory::header::Limits;
 use memory::record;
 use memory::record::Place;
 use memory::record::Record;
 
-// Number, counter and dart count in range, five zeros.
-fn header_right(block: &[u64]) -> bool
-    requires { ⌜ 8 ≤ length (now block) ⌝ }
-    ensures { λ r. ⌜ r ≡ header-test (now (block .entry)) ⌝ }
+// Number, counter and dart count in range, five zeros; no more darts than the limits say.
+fn header_right(block: &[u64], limits: Limits) -> bool
+    requires { ⌜ (8 ≤ length (now block)) × (limits .block ≤ room) ⌝ }
+    ensures { λ r. ⌜ r ≡ (header-test (now (block .entry)) && leb (count (now (block .entry))) (limits .block)) ⌝ }
 {
     (block[Header::NUMBER] < Header::BLOCKS)
         & (block[Header::COUNTER] < Header::NUMBERS)
-        & (block[Header::COUNT] <= Header::DARTS as u64)
+        & (block[Header::COUNT] <= limits.block as u64)
         & (block[3] == 0)
         & (block[4] == 0)
         & (block[5] == 0)
@@ -100,30 +104,57 @@ fn far_right(block: &[u64], n: usize, keys: &mut [u64]) -> Far
     Far::Right(c)
 }
 
-// 2: is the memory a sound block's image?
-pub fn is_sound(block: &[u64]) -> bool
-    ensures { λ r. ⌜ r ≡ holds-block (now (block .entry)) ⌝ }
+// Asks 2 of all but whether labels differ: those of the critical darts are then the first keys.
+fn but_labels(block: &[u64], limits: Limits, seen: &mut [u8], keys: &mut [u64]) -> Far
+    requires { ⌜ (limits .block ≤ room) × (limits .block ≤ length (now seen)) × ((p : ℕ) → getD (now seen) p 0 ≡ 0) × (limits .block ≤ length (now keys)) ⌝ }
+    ensures { λ r. ⌜ ButLabels (limits-of limits) (now (block .entry)) (now (keys .exit)) r ⌝ }
 {
     if block.len() < Header::SIZE {
-        return false;
+        return Far::Wrong;
     }
-    if !header_right(block) {
-        return false;
+    if !header_right(block, limits) {
+        return Far::Wrong;
     }
     let n = block[Header::COUNT] as usize;
     if block.len() < 8 + n * 8 {
-        return false;
+        return Far::Wrong;
     }
     if !zeros(block, 8 + n * 8) {
-        return false;
+        return Far::Wrong;
     }
-    let mut seen = [0u8; Header::DARTS];
-    if !darts_right(block, n, &mut seen) {
-        return false;
+    if !darts_right(block, n, seen) {
+        return Far::Wrong;
     }
-    let mut keys = [0u64; Header::DARTS];
-    let Far::Right(critical) = far_right(block, n, &mut keys) else {
+    far_right(block, n, keys)
+}
+
+// 2, by limits: is the memory a sound block's image? The arrays are lent, `seen` and the table cleared.
+pub fn is_sound_by(
+    block: &[u64],
+    limits: Limits,
+    seen: &mut [u8],
+    keys: &mut [u64],
+    table: &mut [u16; keyset::SLOTS],
+    scratch: &mut [u64],
+) -> bool
+    requires { ⌜ (limits .block ≤ room) × (limits .block ≤ length (now seen)) × (limits .block ≤ length (now keys)) × (limits .block ≤ length (now scratch)) ⌝ }
+    requires { ⌜ ((p : ℕ) → getD (now seen) p 0 ≡ 0) × (now table ≡ replicate slot-count 0) ⌝ }
+    ensures { λ r. ⌜ r ≡ is-image (limits-of limits) (now (block .entry)) ⌝ }
+{
+    let Far::Right(critical) = but_labels(block, limits, seen, keys) else {
         return false;
     };
-    questions::apart(&mut keys, critical)
+    questions::apart(keys, critical, table, scratch)
+}
+
+// 2 of memory of any length that has room for its darts, at the most those of a block of the rack.
+pub fn is_sound(block: &[u64]) -> bool
+    ensures { λ r. ⌜ r ≡ holds-block (now (block .entry)) ⌝ }
+{
+    let mut seen = [0u8; Header::DARTS];
+    let mut keys = [0u64; Header::DARTS];
+    let Far::Right(critical) = but_labels(block, Limits::rack(), &mut seen, &mut keys) else {
+        return false;
+    };
+    questions::apart_at_rack(&mut keys, critical)
 }

@@ -3,12 +3,13 @@ ghost use mathlib.Core.Path.{_≡_};
 ghost use mathlib.Core.Bool.{true};
 ghost use mathlib.Core.Logic.{_↔_};
 ghost use Prim.Native.Nat.{ℕ, _+_, _≤_, _<_};
-ghost use lib.ListN.{length, getD, take};
+ghost use lib.ListN.{length, getD, take, replicate};
 ghost use Rattle.model.specs.Lists.{distinct};
 ghost use Rattle.model.specs.Sound.{coordinates-finite, links-right as right-links, thirds-right as right-thirds, labels-right as right-labels, points-agree as agreeing-points};
 ghost use Rattle.model.specs.Image.{words-for, block-in};
 ghost use Rattle.model.specs.Values.{room};
 ghost use Rattle.columns.specs.Columns.{all-below, count, own-test, codes, Ranged, Links};
+ghost use Rattle.keyset.specs.Slots.{slot-count};
 ghost use Rattle.sound.specs.Kept.{Kept};
 use crate::dart;
 use keyset::Search;
@@ -24,7 +25,7 @@ pub fn put_label(block: &[u64], p: Place, keys: &mut [u64], c: usize) -> usize
     ensures { λ r. ⌜ Kept (now (block .entry)) (p .0) (now (keys .entry)) c (now (keys .exit)) r ⌝ }
 {
     let k = record::field(block, p, Record::KIND);
-    if k < kind::CRITICAL {
+    if !kind::is_critical(k) {
         return c;
     }
     keys[c] = record::field(block, p, Record::LINK);
@@ -55,11 +56,28 @@ fn differ(keys: &mut [u64], scratch: &mut [u64], c: usize) -> bool
 }
 
 // The same, by slots as far as they tell; labels that crowd a few slots are put in order.
-pub fn apart(keys: &mut [u64], c: usize) -> bool
-    requires { ⌜ (c ≤ length (now keys)) × (length (now keys) ≤ room) ⌝ }
+pub fn apart(
+    keys: &mut [u64],
+    c: usize,
+    table: &mut [u16; keyset::SLOTS],
+    scratch: &mut [u64],
+) -> bool
+    requires { ⌜ (c ≤ room) × (c ≤ length (now keys)) × (c ≤ length (now scratch)) × (now table ≡ replicate slot-count 0) ⌝ }
     ensures { λ r. ⌜ r ≡ distinct (take c (now (keys .entry))) ⌝ }
 {
-    let mut table = [0u16; 8256];
+    match keyset::search_slots(keys, c, table) {
+        Search::Distinct => true,
+        Search::Repeated => false,
+        Search::GaveUp => differ(keys, scratch, c),
+    }
+}
+
+// The same with the rack's arrays: the scratch is cleared only where the slots do not tell.
+pub fn apart_at_rack(keys: &mut [u64], c: usize) -> bool
+    requires { ⌜ (c ≤ room) × (c ≤ length (now keys)) ⌝ }
+    ensures { λ r. ⌜ r ≡ distinct (take c (now (keys .entry))) ⌝ }
+{
+    let mut table = [0u16; keyset::SLOTS];
     match keyset::search_slots(keys, c, &mut table) {
         Search::Distinct => true,
         Search::Repeated => false,
@@ -71,13 +89,18 @@ pub fn apart(keys: &mut [u64], c: usize) -> bool
 }
 
 // 7: whether no label stands twice.
-fn labels_differ(block: &[u64], n: usize) -> bool
-    requires { ⌜ (n ≤ room) × (words-for n ≤ length (now block)) ⌝ }
+fn labels_differ(
+    block: &[u64],
+    n: usize,
+    keys: &mut [u64],
+    table: &mut [u16; keyset::SLOTS],
+    scratch: &mut [u64],
+) -> bool
+    requires { ⌜ (n ≤ room) × (words-for n ≤ length (now block)) × (n ≤ length (now keys)) × (n ≤ length (now scratch)) × (now table ≡ replicate slot-count 0) ⌝ }
     ensures { λ r. ⌜ r ≡ distinct (codes (now (block .entry)) n) ⌝ }
 {
-    let mut keys = [0u64; Header::DARTS];
-    let c = gather(block, n, &mut keys);
-    apart(&mut keys, c)
+    let c = gather(block, n, keys);
+    apart(keys, c, table, scratch)
 }
 
 // 4: are the coordinates finite?
@@ -118,14 +141,14 @@ fn links_pass(block: &[u64], n: usize, seen: &mut [u8]) -> bool
     true
 }
 
-// 5: are next and opposite right?
-pub fn links_right(block: &[u64]) -> bool
+// 5: are next and opposite right? `seen` is lent, cleared.
+pub fn links_right(block: &[u64], seen: &mut [u8]) -> bool
     requires { ⌜ (words-for (count (now block)) ≤ length (now block)) × Ranged (now block) ⌝ }
+    requires { ⌜ (count (now block) ≤ length (now seen)) × ((p : ℕ) → getD (now seen) p 0 ≡ 0) ⌝ }
     ensures { λ r. ⌜ r ≡ right-links (block-in (now (block .entry)) .darts) ⌝ }
 {
     let n = block[Header::COUNT] as usize;
-    let mut seen = [0u8; Header::DARTS];
-    links_pass(block, n, &mut seen)
+    links_pass(block, n, seen)
 }
 
 // 6: are the third links right, and each face of one kind?
@@ -165,16 +188,22 @@ fn own_labels(block: &[u64], n: usize) -> bool
     true
 }
 
-// 7: are labels, other blocks and the counter right?
-pub fn labels_right(block: &[u64]) -> bool
+// 7: are labels, other blocks and the counter right? The arrays are lent, the table cleared.
+pub fn labels_right(
+    block: &[u64],
+    keys: &mut [u64],
+    table: &mut [u16; keyset::SLOTS],
+    scratch: &mut [u64],
+) -> bool
     requires { ⌜ (words-for (count (now block)) ≤ length (now block)) × Ranged (now block) ⌝ }
+    requires { ⌜ (count (now block) ≤ length (now keys)) × (count (now block) ≤ length (now scratch)) × (now table ≡ replicate slot-count 0) ⌝ }
     ensures { λ r. ⌜ r ≡ right-labels (block-in (now (block .entry))) ⌝ }
 {
     let n = block[Header::COUNT] as usize;
     if !own_labels(block, n) {
         return false;
     }
-    labels_differ(block, n)
+    labels_differ(block, n, keys, table, scratch)
 }
 
 // 8: do the points agree?

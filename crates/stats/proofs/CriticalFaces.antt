@@ -75,7 +75,7 @@ first-dart {m} {out} {starts} {n} {darts} {count} l o k h =
 critical-third : (s : ℕ → ℕ) (k a : ℕ) → Kind k a → is-critical (third-in s k a) ≡ is-critical-word k
 critical-third s k a (kind-free e f) = rw (third-free s k a e, ne-eqb (k % 4) 2 (λ x. omega arith))
 critical-third s k a (kind-sewn e) = rw (third-sewn s k a e, ne-eqb (k % 4) 2 (λ x. omega arith))
-critical-third s k a (kind-critical e f g) = rw (third-critical s k a e, eq-eqb (k % 4) 2 e)
+critical-third s k a (kind-critical e f g) = rw (third-critical s k a e, e)
 
 module _ (m : List ℕ) (ok : holds-block m ≡ true) where
   abbrev site : Sited m

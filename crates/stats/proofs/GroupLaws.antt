@@ -16,7 +16,7 @@ use Rattle.laws.proofs.Tests.{by-cases, same-truth, and-left, and-right}
 use Rattle.laws.proofs.Members.{In, in-here, in-there, in-cons, all-map, all-cong, keep-map, keep-cong}
 use Rattle.laws.proofs.Tables.{length-tab, map-tab}
 use Rattle.columns.specs.Columns.{Kind, kind-free, kind-sewn, kind-critical}
-use Rattle.columns.proofs.Thirds.{third-free, third-sewn, third-critical, kind-one}
+use Rattle.columns.proofs.Thirds.{critical-two, third-free, third-sewn, third-critical}
 use Rattle.columns.proofs.ThirdLinks.{sewn-says}
 use Rattle.columns.proofs.Question.{image-passed}
 use Rattle.cells.specs.Places.{places-in, volume-of}
@@ -125,8 +125,8 @@ joined m ok = record {
   linked = sited m ok .linked;
   sewn-back = λ p h e.
       let w = image-passed m ok in
-      let t = sewn-says m (getD m 2 0) p (w .thirds p h) (kind-one (w .range .kinds p h) (eqb-true (column m 3 p % 4) 1 e)) in
-      (eq-eqb (column m 3 (column m 4 p) % 4) 1 (omega (arith, t .kind)), t .back);
+      let t = sewn-says m (getD m 2 0) p (w .thirds p h) e in
+      (t .kind, t .back);
 }
 
 -- FROM PLACES TO SERIALS
@@ -155,7 +155,7 @@ module _ (m : List ℕ) (ok : holds-block m ≡ true) where
       go : Kind (column m 3 p) (column m 4 p) → s (third-link true m p) ≡ sewn-or (s p) (third-in s (column m 3 p) (column m 4 p))
       go (kind-free e f) = rw (third-free s (column m 3 p) (column m 4 p) e, ne-eqb (column m 3 p % 4) 1 (λ x. omega arith))
       go (kind-sewn e) = rw (third-sewn s (column m 3 p) (column m 4 p) e, eq-eqb (column m 3 p % 4) 1 (omega arith))
-      go (kind-critical e f g) = rw (third-critical s (column m 3 p) (column m 4 p) e, ne-eqb (column m 3 p % 4) 1 (λ x. omega arith))
+      go (kind-critical e f g) = rw (third-critical s (column m 3 p) (column m 4 p) e, ne-eqb (column m 3 p % 4) 1 (λ x. omega (arith, critical-two (column m 3 p) e)))
 
   links-carried : (p : ℕ) → p < count-in m → map s (links-at true m p) ≡ piece-links ds (s p)
   links-carried p h = rw (site .next-is p h, site .opposite-is p h, third-carried p h)

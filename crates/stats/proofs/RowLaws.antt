@@ -175,7 +175,7 @@ module _ (m : List ℕ) (ok : holds-block m ≡ true) where
         go : Kind (column m 3 x) (column m 4 x) → is-critical-with o (third-in s (column m 3 x) (column m 4 x)) ≡ (critical-at m x && eqb (other-in (column m 3 x)) o)
         go (kind-free e f) = rw (third-free s (column m 3 x) (column m 4 x) e, ne-eqb (column m 3 x % 4) 2 (λ y. omega arith))
         go (kind-sewn e) = rw (third-sewn s (column m 3 x) (column m 4 x) e, ne-eqb (column m 3 x % 4) 2 (λ y. omega arith))
-        go (kind-critical e f g) = rw (third-critical s (column m 3 x) (column m 4 x) e, eq-eqb (column m 3 x % 4) 2 e) (eqb-swap o (other-in (column m 3 x)))
+        go (kind-critical e f g) = rw (third-critical s (column m 3 x) (column m 4 x) e, e) (eqb-swap o (other-in (column m 3 x)))
 
     serial-start : (x : ℕ) → x < n → start-of (map s (cycle nx x)) ≡ s x
     serial-start x l = start-map s (cycle nx x) (round (site .linked .few) (site .linked .next-within) (site .linked .next-apart) x l .some) ∙ ap s (cycle-from x l)

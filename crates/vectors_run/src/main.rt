@@ -31,6 +31,40 @@ fn name(call: u8) {
     ;
 }
 
+// One record of a call that changes a block.
+fn play_changing(call: u8, record: &[u8], block: &mut [u64], told: &mut [u64]) -> u32 {
+    match call {
+        0 => vectors::empty_case(record, block, told),
+        1 => vectors::read_file_case(record, block, told),
+        4 => vectors::receive_case(record, block, told),
+        5 => vectors::release_case(record, block, told),
+        6 => vectors::redirect_case(record, block, told),
+        _ => vectors::UNREADABLE,
+    }
+}
+
+// Of a call that writes bytes.
+fn play_writing(call: u8, record: &[u8], block: &mut [u64], out: &mut [u8]) -> u32 {
+    if call == 2 {
+        return vectors::save_file_case(record, block, out);
+    }
+    vectors::send_case(record, block, out)
+}
+
+// Of a call on a mesh.
+fn play_mesh(
+    call: u8,
+    record: &[u8],
+    mesh: &mut [u64],
+    block: &mut [u64],
+    told: &mut [u64],
+) -> u32 {
+    if call == 7 {
+        return vectors::check_mesh_case(record, mesh, block, told);
+    }
+    vectors::next_move_case(record, mesh, block, told)
+}
+
 // One record of a call.
 fn play(
     call: u8,
@@ -41,16 +75,11 @@ fn play(
     out: &mut [u8],
 ) -> u32 {
     match call {
-        0 => vectors::empty_case(record, block, told),
-        1 => vectors::read_file_case(record, block, told),
-        2 => vectors::save_file_case(record, block, out),
-        3 => vectors::send_case(record, block, out),
-        4 => vectors::receive_case(record, block, told),
-        5 => vectors::release_case(record, block, told),
-        6 => vectors::redirect_case(record, block, told),
-        7 => vectors::check_mesh_case(record, mesh, block, told),
-        8 => vectors::next_move_case(record, mesh, block, told),
-        _ => vectors::UNREADABLE,
+        2 => play_writing(call, record, block, out),
+        3 => play_writing(call, record, block, out),
+        7 => play_mesh(call, record, mesh, block, told),
+        8 => play_mesh(call, record, mesh, block, told),
+        _ => play_changing(call, record, block, told),
     }
 }
 

@@ -1,9 +1,11 @@
 -- `balance::between` meets its contract. Assumes nothing.
 use Prim.Native.Nat.{ℕ, _-_, _≤_}
-use mathlib.Core.Path.{sym, ap, subst}
+use mathlib.Core.Path.{_≡_, sym, ap, subst}
+use mathlib.Core.Bool.{true}
 use mathlib.Core.List.{List}
 use lib.ListN.{length, getD}
-use Rattle.balance.proofs.MovesLaws.{count-word, count-few, leaving-ready, between-there}
+use Rattle.model.specs.Image.{holds-block}
+use Rattle.balance.proofs.MovesLaws.{count-word, count-few, between-there}
 use native.Mathlib.Omega.{arith}
 use borrow.Author.Needs.{needs}
 use Rattle.balance.proofs.between.Statement.{statement}
@@ -32,12 +34,11 @@ part-of-requires c κs = search needs
 first-leaving-requires : tie.Need-first-leaving-requires
 first-leaving-requires c κs =
     let start : tie.Start = search in
-    let d = start .args .d in
-    let to = start .args .to in
     let part-of-ensures = (let p : tie.After-part-of = search in p .part-of .ensures) in
-    let q = leaving-ready (start .pre .0) d to (start .pre .1) (start .pre .2) (start .pre .3) part-of-ensures in
-    let sizes = start .args .sizes .now in
-    (q .0, q .1, q .2, subst (λ (l : List ℕ). getD l 2 0 ≤ length sizes) (sym part-of-ensures) (start .pre .4))
+    let sizes = start .args .sizes .now in (
+      subst (λ (l : List ℕ). holds-block l ≡ true) (sym part-of-ensures) (start .pre .0 .image _ (start .pre .1)),
+      subst (λ (l : List ℕ). getD l 2 0 ≤ length sizes) (sym part-of-ensures) (start .pre .3),
+    )
 
 same-length : tie.Need-same-length
 same-length c = search needs

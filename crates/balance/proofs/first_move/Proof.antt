@@ -9,7 +9,7 @@ use mir.Syntax.{w32}
 use borrow.Author.Tests.{not-true, not-false}
 use Rattle.model.specs.Balance.{is-above}
 use Rattle.oracle.specs.Oracle.{oracle-of}
-use Rattle.mesh.specs.Parts.{blocks}
+use Rattle.mesh.specs.Parts.{block-count}
 use Rattle.balance.specs.Moves.{moves-from}
 use Rattle.balance.proofs.Searches.{Searching, searching-start, searching-skip, searching-none}
 use Rattle.balance.proofs.MovesLaws.{surplus-at, above-told, donor-found, donor-none, donor-end}
@@ -20,7 +20,7 @@ use Rattle.balance.proofs.first_move.Tie as tie
 
 abbrev Inv-loop : tie.InvT-loop
 Inv-loop mesh o sizes₀ surplus k d₀ sizes d =
-    (length sizes ≡ length sizes₀) × Searching (λ b. is-above (surplus-at (oracle-of o) mesh b)) (moves-from (oracle-of o) mesh) (blocks mesh) d
+    (length sizes ≡ length sizes₀) × Searching (λ b. is-above (surplus-at (oracle-of o) mesh b)) (moves-from (oracle-of o) mesh) (block-count mesh) d
 
 abbrev μ-loop : tie.MeasureT-loop
 μ-loop mesh o sizes₀ surplus k d₀ sizes d =

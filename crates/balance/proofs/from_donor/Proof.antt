@@ -64,22 +64,11 @@ loop-again c =
 between-requires : tie.Need-between-requires Inv-loop μ-loop
 between-requires c κs =
     let start : tie.Start Inv-loop μ-loop = search in
-    let t3 = start .args .t3 in
-    let d = start .args .d in
     let o = start .args .o in
     let sizes-at-ensures = (let p : tie.After-sizes-at Inv-loop μ-loop = search in p .sizes-at .ensures) in
     let loop-inv = (let p : tie.At-loop Inv-loop μ-loop = search in p .loop .inv) in
-    let loop-r = (let p : tie.At-loop Inv-loop μ-loop = search in p .loop .r) in
     let loop-test-taken = (let p : tie.In-loop Inv-loop μ-loop = search in p .loop-test .taken) in
-    let is-below-ensures = (let p : tie.After-is-below Inv-loop μ-loop = search in p .is-below .ensures) in
-    let if1-left = (let p : tie.Else1 Inv-loop μ-loop = search in p .if1 .left) in
-    let e : toZ w32 (ofZ w32 (getD t3 loop-r (pos 0))) ≡ getD t3 loop-r (pos 0) = toZ-ofZ w32 (getD t3 loop-r (pos 0)) (search needs) in (
-      start .pre .0 .0,
-      start .pre .0 .1,
-      loop-test-taken,
-      blocks-apart t3 d loop-r (start .pre .1 .1) e is-below-ensures (not-false _ if1-left),
-      (loop-inv .1 (oracle-of o) sizes-at-ensures (start .pre .1 .0)) .untried .len,
-    )
+    (start .pre .0 .0, start .pre .0 .1, loop-test-taken, (loop-inv .1 (oracle-of o) sizes-at-ensures (start .pre .1 .0)) .untried .len)
 
 enum-known-serial : tie.Need-enum-known-serial Inv-loop μ-loop
 enum-known-serial c = search needs

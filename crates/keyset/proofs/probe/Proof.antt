@@ -45,8 +45,7 @@ mul-if2 c =
     let start : tie.Start Inv-loop μ-loop = search in
     let loop-inv = (let p : tie.At-loop Inv-loop μ-loop = search in p .loop .inv) in
     let wide-ensures = (let p : tie.After-wide Inv-loop μ-loop = search in p .wide .ensures) in
-    let v = slot-le loop-inv wide-ensures (start .pre .2) in
-    omega (arith, start .pre .1, v)
+    omega (arith, slot-le loop-inv wide-ensures (start .pre .1))
 
 shared-slice-read-if2 : tie.Need-shared-slice-read-if2 Inv-loop μ-loop
 shared-slice-read-if2 c =

@@ -36,7 +36,8 @@ probe-requires c κs =
     let loop-inv = (let p : tie.At-loop Inv-loop μ-loop = search in p .loop .inv) in
     let loop-test-taken = (let p : tie.In-loop Inv-loop μ-loop = search in p .loop-test .taken) in
     let slot-of-ensures = (let p : tie.After-slot-of Inv-loop μ-loop = search in p .slot-of .ensures) in
-    (slot-of-ensures .1, start .pre .1, λ t. omega (arith, loop-inv .0 .only t, loop-test-taken, start .pre .0))
+    let put = loop-inv .0 .only in
+    (slot-of-ensures .1, λ t. omega (arith, put t, loop-test-taken, start .pre .1), λ t. omega (arith, put t, loop-test-taken, start .pre .0))
 
 add-if1 : tie.Need-add-if1 Inv-loop μ-loop
 add-if1 c = search needs

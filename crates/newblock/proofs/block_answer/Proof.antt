@@ -32,7 +32,16 @@ points-agree-requires c κs =
     let link-answer-ensures = (let p : tie.After-link-answer = search in p .link-answer .ensures) in
     let enum-told-given = (let p : tie.After-enum-told = search in p .enum-told .given) in
     let linked = links-told (block-in (start .args .block .now)) (ap answer-of (sym (enum-told-given .1)) ∙ link-answer-ensures) in
-    (start .pre .0, start .pre .1, said-yes coordinates-finite-ensures if1-left, linked .0, linked .1)
+    (start .pre .0 .0, start .pre .0 .1, said-yes coordinates-finite-ensures if1-left, linked .0, linked .1)
+
+same-length : tie.Need-same-length
+same-length c = search needs
+
+same-length-2 : tie.Need-same-length-2
+same-length-2 c = search needs
+
+same-length-3 : tie.Need-same-length-3
+same-length-3 c = search needs
 
 returns-2 : tie.Need-returns-2
 returns-2 c =
@@ -48,6 +57,15 @@ returns-2 c =
 enum-known-r : tie.Need-enum-known-r
 enum-known-r c = search needs
 
+same-length-4 : tie.Need-same-length-4
+same-length-4 c = search needs
+
+same-length-5 : tie.Need-same-length-5
+same-length-5 c = search needs
+
+same-length-6 : tie.Need-same-length-6
+same-length-6 c = search needs
+
 returns-3 : tie.Need-returns-3
 returns-3 c =
     let start : tie.Start = search in
@@ -59,6 +77,15 @@ returns-3 c =
     let if2-left = (let p : tie.Else2 = search in p .if2 .left) in
     all-yes (block-in (start .args .block .now)) (said-yes coordinates-finite-ensures if1-left)
     (ap answer-of (sym (enum-told-given .1)) ∙ link-answer-ensures) (said-yes points-agree-ensures if2-left)
+
+same-length-7 : tie.Need-same-length-7
+same-length-7 c = search needs
+
+same-length-8 : tie.Need-same-length-8
+same-length-8 c = search needs
+
+same-length-9 : tie.Need-same-length-9
+same-length-9 c = search needs
 
 returns-4 : tie.Need-returns-4
 returns-4 c =
@@ -79,7 +106,16 @@ block-answer-spec =
     link-answer-requires
     enum-told
     points-agree-requires
+    same-length
+    same-length-2
+    same-length-3
     returns-2
     enum-known-r
+    same-length-4
+    same-length-5
+    same-length-6
     returns-3
+    same-length-7
+    same-length-8
+    same-length-9
     returns-4)

@@ -10,6 +10,9 @@ use Rattle.newblock.proofs.link_answer.Tie as tie
 links-right-requires : tie.Need-links-right-requires
 links-right-requires c κs = search needs
 
+same-length : tie.Need-same-length
+same-length c = search needs
+
 returns : tie.Need-returns
 unfolding link-checks
 returns c =
@@ -20,7 +23,10 @@ thirds-right-requires : tie.Need-thirds-right-requires
 thirds-right-requires c κs =
     let start : tie.Start = search in
     let links-right-ensures = (let p : tie.After-links-right = search in p .links-right .ensures) in
-    (start .pre .0, start .pre .1, said-yes links-right-ensures (c .if1 .left))
+    (start .pre .0 .0, start .pre .0 .1, said-yes links-right-ensures (c .if1 .left))
+
+same-length-2 : tie.Need-same-length-2
+same-length-2 c = search needs
 
 returns-2 : tie.Need-returns-2
 unfolding link-checks
@@ -34,6 +40,15 @@ returns-2 c =
 labels-right-requires : tie.Need-labels-right-requires
 labels-right-requires c κs = search needs
 
+same-length-3 : tie.Need-same-length-3
+same-length-3 c = search needs
+
+same-length-4 : tie.Need-same-length-4
+same-length-4 c = search needs
+
+same-length-5 : tie.Need-same-length-5
+same-length-5 c = search needs
+
 returns-3 : tie.Need-returns-3
 unfolding link-checks
 returns-3 c =
@@ -45,6 +60,15 @@ returns-3 c =
     alone _ (ask-yes (said-yes links-right-ensures if1-left)
     (ask-yes (said-yes thirds-right-ensures if2-left)
     (ask-no refl (said-no labels-right-ensures (c .if3 .taken)) refl)))
+
+same-length-6 : tie.Need-same-length-6
+same-length-6 c = search needs
+
+same-length-7 : tie.Need-same-length-7
+same-length-7 c = search needs
+
+same-length-8 : tie.Need-same-length-8
+same-length-8 c = search needs
 
 returns-4 : tie.Need-returns-4
 unfolding link-checks
@@ -64,9 +88,17 @@ link-answer-spec =
     tie.close
     (tie.spec
     links-right-requires
+    same-length
     returns
     thirds-right-requires
+    same-length-2
     returns-2
     labels-right-requires
+    same-length-3
+    same-length-4
+    same-length-5
     returns-3
+    same-length-6
+    same-length-7
+    same-length-8
     returns-4)

@@ -1,10 +1,11 @@
 -- `readfile::read_file` meets its contract: the rack's limits.
 -- Assumes nothing.
-use mathlib.Core.Path.{ap, sym}
+use mathlib.Core.Path.{refl, ap, sym}
 use lib.ListN.{replicate}
 use Rattle.model.specs.Values.{Limits}
 use Rattle.model.specs.Image.{words-of}
 use Rattle.model.specs.Calls as calls
+use Rattle.laws.proofs.Lists.{getD-zeros}
 use Rattle.answers.proofs.Questions.{by-limits}
 use Rattle.memory.proofs.Headers.{rack-fits}
 use borrow.Author.Needs.{needs}
@@ -17,10 +18,20 @@ rack-requires c κs = search needs
 slice-aggregate-read-file-by : tie.Need-slice-aggregate-read-file-by
 slice-aggregate-read-file-by c = search needs
 
+slice-aggregate-read-file-by-2 : tie.Need-slice-aggregate-read-file-by-2
+slice-aggregate-read-file-by-2 c = search needs
+
+slice-aggregate-read-file-by-3 : tie.Need-slice-aggregate-read-file-by-3
+slice-aggregate-read-file-by-3 c = search needs
+
+slice-aggregate-read-file-by-4 : tie.Need-slice-aggregate-read-file-by-4
+slice-aggregate-read-file-by-4 c = search needs
+
 read-file-by-requires : tie.Need-read-file-by-requires
 read-file-by-requires c κs =
     let rack-ensures = (let p : tie.After-rack = search in p .rack .ensures) in
-    (rack-fits _ rack-ensures, ap (λ (l : Limits). replicate (words-of l) 0) (sym rack-ensures))
+    let few = rack-fits _ rack-ensures in
+    ((few, ap (λ (l : Limits). replicate (words-of l) 0) (sym rack-ensures)), ((few, getD-zeros 4096), (few, few, refl)))
 
 same-length : tie.Need-same-length
 same-length c = search needs
@@ -38,6 +49,9 @@ read-file-spec =
     (tie.spec
     rack-requires
     slice-aggregate-read-file-by
+    slice-aggregate-read-file-by-2
+    slice-aggregate-read-file-by-3
+    slice-aggregate-read-file-by-4
     read-file-by-requires
     same-length
     returns)

@@ -12,7 +12,7 @@ use Rattle.readfile.proofs.read_file_by.Tie as tie
 words-requires : tie.Need-words-requires
 words-requires c κs =
     let start : tie.Start = search in
-    start .pre .0
+    start .pre .0 .0
 
 returns : tie.Need-returns
 returns c =
@@ -23,7 +23,7 @@ returns c =
 read-raw-requires : tie.Need-read-raw-requires
 read-raw-requires c κs =
     let start : tie.Start = search in
-    start .pre .1
+    start .pre .0 .1
 
 same-length : tie.Need-same-length
 same-length c = search needs
@@ -48,7 +48,16 @@ put-block-requires c κs =
     let if2-left = (let p : tie.Else2 = search in p .if2 .left) in
     let size = if1-left ∙ words-ensures in
     let bytes = byte-list (start .args .file .now) (λ i. shared-slice-known-given i .fits) in
-    (size ∙ sym (raw-long lim _ block size read-raw-ensures (start .pre .0) if2-left bytes), raw-ready lim _ block size read-raw-ensures (start .pre .0) if2-left bytes)
+    let long = raw-long lim _ block size read-raw-ensures (start .pre .0 .0) if2-left bytes in
+    let ready = raw-ready lim _ block size read-raw-ensures (start .pre .0 .0) if2-left bytes in
+    let marks = start .pre .1 .0 in
+    let keys = start .pre .1 .1 in (
+      (size ∙ sym long, ready),
+      (
+        (omega (arith, ready .fits, long, marks .0), marks .1),
+        (omega (arith, ready .fits, long, keys .0), omega (arith, ready .fits, long, keys .1), keys .2),
+      ),
+    )
 
 same-length-2 : tie.Need-same-length-2
 same-length-2 c = search needs
@@ -56,17 +65,27 @@ same-length-2 c = search needs
 same-length-3 : tie.Need-same-length-3
 same-length-3 c = search needs
 
+same-length-4 : tie.Need-same-length-4
+same-length-4 c = search needs
+
+same-length-5 : tie.Need-same-length-5
+same-length-5 c = search needs
+
+same-length-6 : tie.Need-same-length-6
+same-length-6 c = search needs
+
 returns-3 : tie.Need-returns-3
 returns-3 c =
-    let start : tie.Start = search in
-    let shared-slice-known-given = (let p : tie.After-shared-slice-known = search in p .shared-slice-known .given) in
-    let words-ensures = (let p : tie.After-words = search in p .words .ensures) in
-    let if1-left = (let p : tie.Else1 = search in p .if1 .left) in
-    let read-raw-ensures = (let p : tie.After-read-raw = search in p .read-raw .ensures) in
-    let if2-left = (let p : tie.Else2 = search in p .if2 .left) in
     let put-block-ensures = (let p : tie.After-put-block = search in p .put-block .ensures) in
+    let if2-left = (let p : tie.Else2 = search in p .if2 .left) in
+    let c : tie.After-read-raw = search in
+    let read-raw-ensures = c .read-raw .ensures in
+    let if1-left = (let p : tie.Else1 = search in p .if1 .left) in
+    let words-ensures = (let p : tie.After-words = search in p .words .ensures) in
+    let shared-slice-known-given = (let p : tie.After-shared-slice-known = search in p .shared-slice-known .given) in
+    let start : tie.Start = search in
     let bytes = byte-list (start .args .file .now) (λ i. shared-slice-known-given i .fits) in
-    block-put (limits-of (start .args .limits)) _ _ (if1-left ∙ words-ensures) read-raw-ensures (start .pre .0) if2-left bytes put-block-ensures
+    block-put (limits-of (start .args .limits)) _ _ (if1-left ∙ words-ensures) read-raw-ensures (start .pre .0 .0) if2-left bytes put-block-ensures
 
 pub read-file-by-spec : {M : Type 1} → statement M
 read-file-by-spec =
@@ -80,4 +99,7 @@ read-file-by-spec =
     put-block-requires
     same-length-2
     same-length-3
+    same-length-4
+    same-length-5
+    same-length-6
     returns-3)

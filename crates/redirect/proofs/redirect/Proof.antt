@@ -39,6 +39,9 @@ slice-aggregate-redirect-by-7 c = search needs
 slice-aggregate-redirect-by-8 : tie.Need-slice-aggregate-redirect-by-8
 slice-aggregate-redirect-by-8 c = search needs
 
+slice-aggregate-redirect-by-9 : tie.Need-slice-aggregate-redirect-by-9
+slice-aggregate-redirect-by-9 c = search needs
+
 redirect-by-requires : tie.Need-redirect-by-requires
 redirect-by-requires c κs =
     let rack-ensures = (let p : tie.After-rack = search in p .rack .ensures) in
@@ -48,7 +51,7 @@ redirect-by-requires c κs =
         (refl, refl, refl, refl),
         (
           (values-long _ room 4097 refl few, λ q h. same-everywhere room 4097 q (omega (arith, h, few)), zeros-long _ 4097 refl (omega (arith, few)), zeros-clear 4097 refl),
-          (zeros-long _ room refl few, zeros-long _ room refl few),
+          (zeros-long _ room refl few, zeros-long _ room refl few, zeros-long _ room refl few, zeros-clear room refl, refl),
         ),
       ),
     )
@@ -78,6 +81,7 @@ redirect-spec =
     slice-aggregate-redirect-by-6
     slice-aggregate-redirect-by-7
     slice-aggregate-redirect-by-8
+    slice-aggregate-redirect-by-9
     redirect-by-requires
     same-length
     returns)

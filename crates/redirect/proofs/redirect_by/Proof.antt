@@ -1,8 +1,7 @@
 -- `redirect::redirect_by` meets its contract: each answer is that of the first question that is answered no.
 -- Assumes nothing.
-use mathlib.Core.Path.{sym, _∙_}
+use mathlib.Core.Path.{_∙_}
 use native.Mathlib.Omega.{arith}
-use Rattle.model.specs.Values.{widest}
 use Rattle.theory.proofs.ImageLaws.{count-fits, image-by-size}
 use Rattle.answers.proofs.Questions.{said-no, said-yes}
 use Rattle.memory.specs.Header.{limits-of}
@@ -23,23 +22,36 @@ returns c =
     let start : tie.Start = search in
     size-refused (limits-of (start .args .limits)) _ _ (λ e. omega (arith, e, words-ensures, if1-taken))
 
-is-sound-requires : tie.Need-is-sound-requires
-is-sound-requires c κs = search needs
+is-sound-by-requires : tie.Need-is-sound-by-requires
+is-sound-by-requires c κs =
+    let c : tie.After-words = search in
+    let start : tie.Start = search in
+    let lent = start .pre .1 .1 .1 in
+    ((start .pre .0, lent .2, lent .0, lent .1), (lent .3, lent .4))
 
 same-length : tie.Need-same-length
 same-length c = search needs
 
+same-length-2 : tie.Need-same-length-2
+same-length-2 c = search needs
+
+same-length-3 : tie.Need-same-length-3
+same-length-3 c = search needs
+
+same-length-4 : tie.Need-same-length-4
+same-length-4 c = search needs
+
 returns-2 : tie.Need-returns-2
 returns-2 c =
     let if2-taken = (let p : tie.Then2 = search in p .if2 .taken) in
-    let is-sound-ensures = (let p : tie.After-is-sound = search in p .is-sound .ensures) in
+    let is-sound-by-ensures = (let p : tie.After-is-sound-by = search in p .is-sound-by .ensures) in
     let if1-left = (let p : tie.Else1 = search in p .if1 .left) in
     let words-ensures = (let p : tie.After-words = search in p .words .ensures) in
     let c : tie.After-words = search in
     let start : tie.Start = search in
     let lim = limits-of (start .args .limits) in
     let size = if1-left ∙ words-ensures in
-    image-refused lim _ _ size (sym (image-by-size lim (start .args .block .now) (start .pre .0) size) ∙ said-no is-sound-ensures if2-taken)
+    image-refused lim _ _ size (said-no is-sound-by-ensures if2-taken)
 
 received-requires : tie.Need-received-requires
 received-requires c κs =
@@ -59,13 +71,17 @@ redirect-update-requires c κs =
     let received-ensures = (let p : tie.After-received = search in p .received .ensures) in
     let c : tie.After-received = search in
     let if2-left = (let p : tie.Else2 = search in p .if2 .left) in
-    let is-sound-ensures = (let p : tie.After-is-sound = search in p .is-sound .ensures) in
+    let is-sound-by-ensures = (let p : tie.After-is-sound-by = search in p .is-sound-by .ensures) in
+    let is-sound-by-kept = (let p : tie.After-is-sound-by = search in p .is-sound-by .kept) in
     let if1-left = (let p : tie.Else1 = search in p .if1 .left) in
     let words-ensures = (let p : tie.After-words = search in p .words .ensures) in
     let c : tie.After-words = search in
     let start : tie.Start = search in
-    let sound = said-yes is-sound-ensures if2-left in
-    let fits = count-fits widest (start .args .block .now) sound in
+    let lim = limits-of (start .args .limits) in
+    let block = start .args .block .now in
+    let image = said-yes is-sound-by-ensures if2-left in
+    let sound = image-by-size lim block (start .pre .0) (if1-left ∙ words-ensures) ∙ image in
+    let fits = count-fits lim block image in
     let table = start .pre .1 .1 .0 in
     let codes = start .pre .1 .1 .1 in (
       (sound, follows (u-given .1) received-ensures),
@@ -76,43 +92,18 @@ redirect-update-requires c κs =
           omega (arith, fits, if1-left, words-ensures, table .2),
           table .3,
         ),
-        (omega (arith, fits, if1-left, words-ensures, codes .0), omega (arith, fits, if1-left, words-ensures, codes .1)),
+        (omega (arith, fits, if1-left, words-ensures, codes .0, is-sound-by-kept), omega (arith, fits, if1-left, words-ensures, codes .1, is-sound-by-kept)),
       ),
     )
 
 enum-told : tie.Need-enum-told
 enum-told c = search needs
 
-same-length-2 : tie.Need-same-length-2
-same-length-2 c = search needs
-
-same-length-3 : tie.Need-same-length-3
-same-length-3 c = search needs
-
-same-length-4 : tie.Need-same-length-4
-same-length-4 c = search needs
-
 same-length-5 : tie.Need-same-length-5
 same-length-5 c = search needs
 
 same-length-6 : tie.Need-same-length-6
 same-length-6 c = search needs
-
-returns-3 : tie.Need-returns-3
-returns-3 c =
-    let f-given = (let p : tie.After-f = search in p .f .given) in
-    let received-ensures = (let p : tie.After-received = search in p .received .ensures) in
-    let c : tie.After-received = search in
-    let if2-left = (let p : tie.Else2 = search in p .if2 .left) in
-    let is-sound-ensures = (let p : tie.After-is-sound = search in p .is-sound .ensures) in
-    let if1-left = (let p : tie.Else1 = search in p .if1 .left) in
-    let words-ensures = (let p : tie.After-words = search in p .words .ensures) in
-    let c : tie.After-words = search in
-    let start : tie.Start = search in
-    let lim = limits-of (start .args .limits) in
-    let block = start .args .block .now in
-    let size = if1-left ∙ words-ensures in
-    transfer-refused lim block size (sym (image-by-size lim block (start .pre .0) size) ∙ said-yes is-sound-ensures if2-left) _ (f-given .1) received-ensures
 
 same-length-7 : tie.Need-same-length-7
 same-length-7 c = search needs
@@ -132,6 +123,22 @@ same-length-11 c = search needs
 same-length-12 : tie.Need-same-length-12
 same-length-12 c = search needs
 
+returns-3 : tie.Need-returns-3
+returns-3 c =
+    let f-given = (let p : tie.After-f = search in p .f .given) in
+    let received-ensures = (let p : tie.After-received = search in p .received .ensures) in
+    let c : tie.After-received = search in
+    let if2-left = (let p : tie.Else2 = search in p .if2 .left) in
+    let is-sound-by-ensures = (let p : tie.After-is-sound-by = search in p .is-sound-by .ensures) in
+    let if1-left = (let p : tie.Else1 = search in p .if1 .left) in
+    let words-ensures = (let p : tie.After-words = search in p .words .ensures) in
+    let c : tie.After-words = search in
+    let start : tie.Start = search in
+    let lim = limits-of (start .args .limits) in
+    let block = start .args .block .now in
+    let size = if1-left ∙ words-ensures in
+    transfer-refused lim block size (said-yes is-sound-by-ensures if2-left) _ (f-given .1) received-ensures
+
 same-length-13 : tie.Need-same-length-13
 same-length-13 c = search needs
 
@@ -140,24 +147,6 @@ same-length-14 c = search needs
 
 same-length-15 : tie.Need-same-length-15
 same-length-15 c = search needs
-
-returns-4 : tie.Need-returns-4
-returns-4 c =
-    let redirect-update-ensures = (let p : tie.After-redirect-update = search in p .redirect-update .ensures) in
-    let u-given = (let p : tie.After-u = search in p .u .given) in
-    let c : tie.After-u = search in
-    let received-ensures = (let p : tie.After-received = search in p .received .ensures) in
-    let c : tie.After-received = search in
-    let if2-left = (let p : tie.Else2 = search in p .if2 .left) in
-    let is-sound-ensures = (let p : tie.After-is-sound = search in p .is-sound .ensures) in
-    let if1-left = (let p : tie.Else1 = search in p .if1 .left) in
-    let words-ensures = (let p : tie.After-words = search in p .words .ensures) in
-    let c : tie.After-words = search in
-    let start : tie.Start = search in
-    let lim = limits-of (start .args .limits) in
-    let block = start .args .block .now in
-    let size = if1-left ∙ words-ensures in
-    update-told lim block _ size (sym (image-by-size lim block (start .pre .0) size) ∙ said-yes is-sound-ensures if2-left) (u-given .1) received-ensures redirect-update-ensures
 
 same-length-16 : tie.Need-same-length-16
 same-length-16 c = search needs
@@ -169,18 +158,37 @@ same-length-18 : tie.Need-same-length-18
 same-length-18 c = search needs
 
 same-length-19 : tie.Need-same-length-19
-same-length-19 c = search needs
+same-length-19 c =
+    let redirect-update-kept = (let p : tie.After-redirect-update = search in p .redirect-update .kept) in
+    let c : tie.After-received = search in
+    let is-sound-by-kept = (let p : tie.After-is-sound-by = search in p .is-sound-by .kept) in
+    omega (arith, redirect-update-kept, is-sound-by-kept)
 
 same-length-20 : tie.Need-same-length-20
-same-length-20 c = search needs
+same-length-20 c =
+    let redirect-update-kept = (let p : tie.After-redirect-update = search in p .redirect-update .kept) in
+    let c : tie.After-received = search in
+    let is-sound-by-kept = (let p : tie.After-is-sound-by = search in p .is-sound-by .kept) in
+    omega (arith, redirect-update-kept, is-sound-by-kept)
 
-returns-5 : tie.Need-returns-5
-returns-5 c =
-    let enum-told-given = (let p : tie.After-enum-told = search in p .enum-told .given) in
+same-length-21 : tie.Need-same-length-21
+same-length-21 c = search needs
+
+same-length-22 : tie.Need-same-length-22
+same-length-22 c =
+    let c : tie.After-received = search in
+    let is-sound-by-kept = (let p : tie.After-is-sound-by = search in p .is-sound-by .kept) in
+    omega (arith, is-sound-by-kept)
+
+returns-4 : tie.Need-returns-4
+returns-4 c =
+    let redirect-update-ensures = (let p : tie.After-redirect-update = search in p .redirect-update .ensures) in
+    let u-given = (let p : tie.After-u = search in p .u .given) in
+    let c : tie.After-u = search in
     let received-ensures = (let p : tie.After-received = search in p .received .ensures) in
     let c : tie.After-received = search in
     let if2-left = (let p : tie.Else2 = search in p .if2 .left) in
-    let is-sound-ensures = (let p : tie.After-is-sound = search in p .is-sound .ensures) in
+    let is-sound-by-ensures = (let p : tie.After-is-sound-by = search in p .is-sound-by .ensures) in
     let if1-left = (let p : tie.Else1 = search in p .if1 .left) in
     let words-ensures = (let p : tie.After-words = search in p .words .ensures) in
     let c : tie.After-words = search in
@@ -188,7 +196,47 @@ returns-5 c =
     let lim = limits-of (start .args .limits) in
     let block = start .args .block .now in
     let size = if1-left ∙ words-ensures in
-    layout-refused lim block size (sym (image-by-size lim block (start .pre .0) size) ∙ said-yes is-sound-ensures if2-left) _ (enum-told-given .1) received-ensures
+    update-told lim block _ size (said-yes is-sound-by-ensures if2-left) (u-given .1) received-ensures redirect-update-ensures
+
+same-length-23 : tie.Need-same-length-23
+same-length-23 c = search needs
+
+same-length-24 : tie.Need-same-length-24
+same-length-24 c = search needs
+
+same-length-25 : tie.Need-same-length-25
+same-length-25 c = search needs
+
+same-length-26 : tie.Need-same-length-26
+same-length-26 c = search needs
+
+same-length-27 : tie.Need-same-length-27
+same-length-27 c = search needs
+
+same-length-28 : tie.Need-same-length-28
+same-length-28 c = search needs
+
+same-length-29 : tie.Need-same-length-29
+same-length-29 c = search needs
+
+same-length-30 : tie.Need-same-length-30
+same-length-30 c = search needs
+
+returns-5 : tie.Need-returns-5
+returns-5 c =
+    let enum-told-given = (let p : tie.After-enum-told = search in p .enum-told .given) in
+    let received-ensures = (let p : tie.After-received = search in p .received .ensures) in
+    let c : tie.After-received = search in
+    let if2-left = (let p : tie.Else2 = search in p .if2 .left) in
+    let is-sound-by-ensures = (let p : tie.After-is-sound-by = search in p .is-sound-by .ensures) in
+    let if1-left = (let p : tie.Else1 = search in p .if1 .left) in
+    let words-ensures = (let p : tie.After-words = search in p .words .ensures) in
+    let c : tie.After-words = search in
+    let start : tie.Start = search in
+    let lim = limits-of (start .args .limits) in
+    let block = start .args .block .now in
+    let size = if1-left ∙ words-ensures in
+    layout-refused lim block size (said-yes is-sound-by-ensures if2-left) _ (enum-told-given .1) received-ensures
 
 pub redirect-by-spec : {M : Type 1} → statement M
 redirect-by-spec =
@@ -196,33 +244,43 @@ redirect-by-spec =
     (tie.spec
     words-requires
     returns
-    is-sound-requires
+    is-sound-by-requires
     same-length
+    same-length-2
+    same-length-3
+    same-length-4
     returns-2
     received-requires
     enum-known-f
     enum-known-u
     redirect-update-requires
     enum-told
-    same-length-2
-    same-length-3
-    same-length-4
     same-length-5
     same-length-6
-    returns-3
     same-length-7
     same-length-8
     same-length-9
     same-length-10
     same-length-11
     same-length-12
+    returns-3
     same-length-13
     same-length-14
     same-length-15
-    returns-4
     same-length-16
     same-length-17
     same-length-18
     same-length-19
     same-length-20
+    same-length-21
+    same-length-22
+    returns-4
+    same-length-23
+    same-length-24
+    same-length-25
+    same-length-26
+    same-length-27
+    same-length-28
+    same-length-29
+    same-length-30
     returns-5)

@@ -1,7 +1,6 @@
 -- `sound::header_right` meets its contract: each word of the header is read and tested once.
 -- Assumes nothing.
-use mathlib.Core.Path.{refl}
-use Rattle.columns.specs.Columns.{header-test}
+use Rattle.sound.proofs.Whole.{header-by}
 use borrow.Author.Needs.{needs}
 use Rattle.sound.proofs.header_right.Statement.{statement}
 use Rattle.sound.proofs.header_right.Tie as tie
@@ -31,9 +30,9 @@ shared-slice-read-result-8 : tie.Need-shared-slice-read-result-8
 shared-slice-read-result-8 c = search needs
 
 returns : tie.Need-returns
-unfolding header-test
 returns c =
-    refl
+    let start : tie.Start = search in
+    header-by (start .args .block .now) (start .args .limits .block) (start .pre .1)
 
 pub header-right-spec : {M : Type 1} → statement M
 header-right-spec =

@@ -9,11 +9,11 @@ use borrow.Author.Needs.{needs}
 use Rattle.arrival.proofs.pairs.paired.Statement.{statement}
 use Rattle.arrival.proofs.pairs.paired.Tie as tie
 
-slice-aggregate-put-pairs : tie.Need-slice-aggregate-put-pairs
-slice-aggregate-put-pairs c = search needs
-
 put-pairs-requires : tie.Need-put-pairs-requires
 put-pairs-requires c κs = search needs
+
+same-length : tie.Need-same-length
+same-length c = search needs
 
 returns : tie.Need-returns
 returns c =
@@ -24,18 +24,6 @@ returns c =
     let k = start .args .k in
     let put-pairs-ensures = (let p : tie.After-put-pairs = search in p .put-pairs .ensures) in
     paired-ends vertex starts sizes k (sym (put-pairs-ensures .0) ∙ not-true _ (c .if1 .taken))
-
-slice-aggregate-rank : tie.Need-slice-aggregate-rank
-slice-aggregate-rank c = search needs
-
-slice-aggregate-rank-2 : tie.Need-slice-aggregate-rank-2
-slice-aggregate-rank-2 c = search needs
-
-slice-aggregate-rank-3 : tie.Need-slice-aggregate-rank-3
-slice-aggregate-rank-3 c = search needs
-
-slice-aggregate-rank-4 : tie.Need-slice-aggregate-rank-4
-slice-aggregate-rank-4 c = search needs
 
 rank-requires : tie.Need-rank-requires
 rank-requires c κs =
@@ -50,12 +38,24 @@ rank-requires c κs =
       (
         start .pre .0 .4,
         start .pre .0 .5,
-        omega (arith, put-pairs-kept, start .pre .0 .5),
-        pair-fits vertex starts sizes k (start .pre .1 .0) (start .pre .1 .1) (put-pairs-last .1 .1 .1 .1 .0)
+        omega (arith, put-pairs-kept, start .pre .1 .0 .0),
+        pair-fits vertex starts sizes k (start .pre .1 .1 .0) (start .pre .1 .1 .1) (put-pairs-last .1 .1 .1 .1 .0)
             (put-pairs-ensures .1),
       ),
-      search needs,
+      (start .pre .1 .0 .1, start .pre .1 .0 .2, start .pre .1 .0 .3),
     )
+
+same-length-2 : tie.Need-same-length-2
+same-length-2 c = search needs
+
+same-length-3 : tie.Need-same-length-3
+same-length-3 c = search needs
+
+same-length-4 : tie.Need-same-length-4
+same-length-4 c = search needs
+
+same-length-5 : tie.Need-same-length-5
+same-length-5 c = search needs
 
 returns-2 : tie.Need-returns-2
 returns-2 c =
@@ -67,11 +67,8 @@ returns-2 c =
     let put-pairs-ensures = (let p : tie.After-put-pairs = search in p .put-pairs .ensures) in
     let put-pairs-last = (let p : tie.After-put-pairs = search in p .put-pairs .last) in
     let rank-ensures = (let p : tie.After-rank = search in p .rank .ensures) in
-    paired-twice vertex starts sizes k (start .pre .1 .0) (start .pre .1 .1) (put-pairs-last .1 .1 .1 .1 .0)
+    paired-twice vertex starts sizes k (start .pre .1 .1 .0) (start .pre .1 .1 .1) (put-pairs-last .1 .1 .1 .1 .0)
     (put-pairs-ensures .1) (sym (rank-ensures .0) ∙ not-true _ (c .if2 .taken))
-
-slice-aggregate-edges : tie.Need-slice-aggregate-edges
-slice-aggregate-edges c = search needs
 
 edges-requires : tie.Need-edges-requires
 edges-requires c κs =
@@ -80,10 +77,22 @@ edges-requires c κs =
     let if2-left = (let p : tie.Else2 = search in p .if2 .left) in
     let rank-kept = (let p : tie.After-rank = search in p .rank .kept) in
     let w = rank-ensures .1 (not-false _ if2-left) in
-    ((omega (arith, rank-kept, start .pre .0 .5), λ p h. omega (arith, w .index-below p h, start .pre .0 .3), w .ascends), ranked-apart w)
+    ((omega (arith, rank-kept, start .pre .1 .0 .1), λ p h. omega (arith, w .index-below p h, start .pre .0 .3), w .ascends), ranked-apart w)
 
-same-length : tie.Need-same-length
-same-length c = search needs
+same-length-6 : tie.Need-same-length-6
+same-length-6 c = search needs
+
+same-length-7 : tie.Need-same-length-7
+same-length-7 c = search needs
+
+same-length-8 : tie.Need-same-length-8
+same-length-8 c = search needs
+
+same-length-9 : tie.Need-same-length-9
+same-length-9 c = search needs
+
+same-length-10 : tie.Need-same-length-10
+same-length-10 c = search needs
 
 returns-3 : tie.Need-returns-3
 returns-3 c =
@@ -98,7 +107,7 @@ returns-3 c =
     let rank-ensures = (let p : tie.After-rank = search in p .rank .ensures) in
     let if2-left = (let p : tie.Else2 = search in p .if2 .left) in
     let edges-ensures = (let p : tie.After-edges = search in p .edges .ensures) in
-    paired-found vertex starts sizes k (start .pre .1 .0) (start .pre .1 .1) (put-pairs-last .1 .1 .1 .1 .0)
+    paired-found vertex starts sizes k (start .pre .1 .1 .0) (start .pre .1 .1 .1) (put-pairs-last .1 .1 .1 .1 .0)
     (put-pairs-ensures .1) (sym (put-pairs-ensures .0) ∙ not-false _ if1-left) (sym (rank-ensures .0) ∙ not-false _ if2-left)
     (rank-ensures .1 (not-false _ if2-left)) edges-ensures
 
@@ -106,16 +115,19 @@ pub paired-spec : {M : Type 1} → statement M
 paired-spec =
     tie.close
     (tie.spec
-    slice-aggregate-put-pairs
     put-pairs-requires
-    returns
-    slice-aggregate-rank
-    slice-aggregate-rank-2
-    slice-aggregate-rank-3
-    slice-aggregate-rank-4
-    rank-requires
-    returns-2
-    slice-aggregate-edges
-    edges-requires
     same-length
+    returns
+    rank-requires
+    same-length-2
+    same-length-3
+    same-length-4
+    same-length-5
+    returns-2
+    edges-requires
+    same-length-6
+    same-length-7
+    same-length-8
+    same-length-9
+    same-length-10
     returns-3)

@@ -28,19 +28,16 @@ returns-2 c =
     let all-new-ensures = (let p : tie.After-all-new = search in p .all-new .ensures) in
     not-new (sym points-finite-ensures ∙ not-false _ if1-left) (sym all-new-ensures ∙ not-true _ (c .if2 .taken))
 
-slice-aggregate-rank : tie.Need-slice-aggregate-rank
-slice-aggregate-rank c = search needs
-
 rank-requires : tie.Need-rank-requires
 rank-requires c κs =
     let start : tie.Start = search in (
       (
-        start .pre .1 .3,
         start .pre .1 .4,
+        start .pre .1 .5,
         start .pre .1 .0,
-        (λ i h. let b = start .pre .1 .6 i h in omega (arith, b)),
+        (λ i h. let b = start .pre .1 .7 i h in omega (arith, b)),
       ),
-      (start .pre .1 .1, search needs, start .pre .1 .2),
+      (start .pre .1 .1, start .pre .1 .3, start .pre .1 .2),
     )
 
 same-length : tie.Need-same-length
@@ -48,6 +45,9 @@ same-length c = search needs
 
 same-length-2 : tie.Need-same-length-2
 same-length-2 c = search needs
+
+same-length-3 : tie.Need-same-length-3
+same-length-3 c = search needs
 
 returns-3 : tie.Need-returns-3
 returns-3 c =
@@ -67,8 +67,8 @@ new-serials-spec =
     returns
     all-new-requires
     returns-2
-    slice-aggregate-rank
     rank-requires
     same-length
     same-length-2
+    same-length-3
     returns-3)

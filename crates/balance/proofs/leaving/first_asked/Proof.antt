@@ -5,7 +5,7 @@ use mathlib.Core.Path.{refl, sym, ap, _∙_}
 use lib.ListN.{length-set}
 use Rattle.model.specs.Image.{count-in}
 use Rattle.cells.proofs.Sited.{sited}
-use Rattle.balance.specs.Moves.{Asking, can-leave, at}
+use Rattle.balance.specs.Moves.{Asking, at}
 use Rattle.balance.specs.declared.leaving.Candidate.the-variants.{Volume}
 use Rattle.balance.proofs.Strikes.{Trying, trying-start, trying-none, trying-large, trying-strike, tried-found, tried-all, SameLengths}
 use native.Mathlib.Omega.{arith}
@@ -14,12 +14,12 @@ use Rattle.balance.proofs.leaving.first_asked.Statement.{statement}
 use Rattle.balance.proofs.leaving.first_asked.Tie as tie
 
 abbrev Inv-loop : tie.InvT-loop
-Inv-loop block to left sizes₀ marks₀ order₀ starts₀ seen₀ numbers₀ firsts₀ colours₀ n i₀ sizes marks order starts seen numbers firsts colours i =
+Inv-loop block left sizes₀ marks₀ order₀ starts₀ seen₀ numbers₀ firsts₀ colours₀ n i₀ sizes marks order starts seen numbers firsts colours i =
     Trying (at sizes₀) block left sizes i × Asking (count-in block) marks order starts seen numbers firsts colours
     × SameLengths sizes marks order starts seen numbers firsts colours sizes₀ marks₀ order₀ starts₀ seen₀ numbers₀ firsts₀ colours₀
 
 abbrev μ-loop : tie.MeasureT-loop
-μ-loop block to left sizes₀ marks₀ order₀ starts₀ seen₀ numbers₀ firsts₀ colours₀ n i₀ sizes marks order starts seen numbers firsts colours i =
+μ-loop block left sizes₀ marks₀ order₀ starts₀ seen₀ numbers₀ firsts₀ colours₀ n i₀ sizes marks order starts seen numbers firsts colours i =
     n - i
 
 shared-slice-read-n : tie.Need-shared-slice-read-n Inv-loop μ-loop
@@ -30,7 +30,7 @@ shared-slice-read-n c =
 loop-holds : tie.Need-loop-holds Inv-loop μ-loop
 loop-holds c =
     let start : tie.Start Inv-loop μ-loop = search in (
-      trying-start _ _ _ (start .pre .0 .3),
+      trying-start _ _ _ (start .pre .0 .1),
       start .pre .1,
       record { sizes = refl; marks = refl; order = refl; starts = refl; seen = refl; numbers = refl; firsts = refl; colours = refl },
     )
@@ -78,10 +78,11 @@ field-requires c κs =
 
 may-leave-requires : tie.Need-may-leave-requires Inv-loop μ-loop
 may-leave-requires c κs =
+    let loop-test-taken = (let p : tie.In-loop Inv-loop μ-loop = search in p .loop-test .taken) in
     let loop-inv = (let p : tie.At-loop Inv-loop μ-loop = search in p .loop .inv) in
     let c : tie.At-loop Inv-loop μ-loop = search in
     let start : tie.Start Inv-loop μ-loop = search in
-    ((start .pre .0 .0, start .pre .0 .1, start .pre .0 .2), loop-inv .1)
+    ((start .pre .0 .0, loop-test-taken), loop-inv .1)
 
 same-length : tie.Need-same-length Inv-loop μ-loop
 same-length c =
@@ -143,8 +144,6 @@ same-length-8 c =
 
 returns : tie.Need-returns Inv-loop μ-loop
 returns c =
-    let start : tie.Start Inv-loop μ-loop = (let c : tie.After-may-leave Inv-loop μ-loop = search in let c : tie.At-loop Inv-loop μ-loop = search in search) in
-    let block = start .args .block .now in
     let loop-inv = (let c : tie.After-may-leave Inv-loop μ-loop = search in let p : tie.At-loop Inv-loop μ-loop = search in p .loop .inv) in
     let loop-test-taken = (let c : tie.After-may-leave Inv-loop μ-loop = search in let p : tie.In-loop Inv-loop μ-loop = search in p .loop-test .taken) in
     let if1-left = (let c : tie.After-may-leave Inv-loop μ-loop = search in let p : tie.Else1 Inv-loop μ-loop = search in p .if1 .left) in
@@ -153,7 +152,7 @@ returns c =
     let may-leave-ensures = (let p : tie.After-may-leave Inv-loop μ-loop = search in p .may-leave .ensures) in (
       ap (λ (x : ℕ). Volume x) field-ensures
           ∙ tried-found (loop-inv .0) loop-test-taken refl if1-left if2-left
-          (ap (can-leave block) (sym field-ensures) ∙ sym (may-leave-ensures .0) ∙ c .if3 .taken),
+          (sym (may-leave-ensures .0) ∙ c .if3 .taken),
       loop-inv .0 .untried,
     )
 
@@ -176,16 +175,13 @@ loop-less-3 c = omega arith
 
 loop-again-3 : tie.Need-loop-again-3 Inv-loop μ-loop
 loop-again-3 c =
-    let start : tie.Start Inv-loop μ-loop = (let c : tie.After-may-leave Inv-loop μ-loop = search in let c : tie.At-loop Inv-loop μ-loop = search in search) in
-    let block = start .args .block .now in
     let loop-inv = (let c : tie.After-may-leave Inv-loop μ-loop = search in let p : tie.At-loop Inv-loop μ-loop = search in p .loop .inv) in
     let loop-test-taken = (let c : tie.After-may-leave Inv-loop μ-loop = search in let p : tie.In-loop Inv-loop μ-loop = search in p .loop-test .taken) in
-    let field-ensures = (let c : tie.After-may-leave Inv-loop μ-loop = search in let p : tie.After-field Inv-loop μ-loop = search in p .field .ensures) in
     let loop-sizes = (let c : tie.After-may-leave Inv-loop μ-loop = search in let p : tie.At-loop Inv-loop μ-loop = search in p .loop .sizes) in
     let may-leave-kept = (let p : tie.After-may-leave Inv-loop μ-loop = search in p .may-leave .kept) in
     let may-leave-ensures = (let p : tie.After-may-leave Inv-loop μ-loop = search in p .may-leave .ensures) in (
       trying-strike (loop-inv .0) loop-test-taken
-          (ap (can-leave block) (sym field-ensures) ∙ sym (may-leave-ensures .0) ∙ c .if3 .left),
+          (sym (may-leave-ensures .0) ∙ c .if3 .left),
       may-leave-ensures .1 (c .if3 .left),
       record {
         sizes = length-set loop-sizes _ _ ∙ loop-inv .2 .sizes;

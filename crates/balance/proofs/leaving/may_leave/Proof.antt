@@ -3,7 +3,7 @@ use mathlib.Core.Bool.{true≢false}
 use mathlib.Core.Path.{ap, _∙_}
 use native.Mathlib.Omega.{arith}
 use Rattle.model.specs.Values.{Limits}
-use Rattle.departure.proofs.Told.{departs-told, refused-told, forgotten-told}
+use Rattle.departure.proofs.Told.{volume-departs-told, volume-refused-told, forgotten-told}
 use Rattle.balance.proofs.Strikes.{by-rack, leaves-yes, leaves-no}
 use borrow.Author.Needs.{needs}
 use Rattle.balance.proofs.leaving.may_leave.Statement.{statement}
@@ -12,13 +12,13 @@ use Rattle.balance.proofs.leaving.may_leave.Tie as tie
 rack-requires : tie.Need-rack-requires
 rack-requires c κs = search needs
 
-leaves-requires : tie.Need-leaves-requires
-leaves-requires c κs =
+volume-leaves-requires : tie.Need-volume-leaves-requires
+volume-leaves-requires c κs =
     let rack-ensures = (let p : tie.After-rack = search in p .rack .ensures) in
     let start : tie.Start = search in
     let a = start .pre .1 in
     let volume = ap (λ (l : Limits). l .volume-darts) rack-ensures in (
-      (start .pre .0 .0, omega (arith, volume)),
+      (start .pre .0 .0, omega (arith, volume), start .pre .0 .1),
       (
         (a .marks-size, a .unmarked, a .seen-size, a .unseen),
         ((a .order-size, a .starts-size, a .numbers-size), (a .firsts-size, omega (arith, volume, a .colours-size))),
@@ -55,15 +55,14 @@ same-length-7 c = search needs
 returns : tie.Need-returns
 returns c =
     let enum-told-given = (let p : tie.After-enum-told = search in p .enum-told .given) in
-    let leaves-ensures = (let p : tie.After-leaves = search in p .leaves .ensures) in
+    let volume-leaves-ensures = (let p : tie.After-volume-leaves = search in p .volume-leaves .ensures) in
     let rack-ensures = (let p : tie.After-rack = search in p .rack .ensures) in
-    let c : tie.After-leaves = search in
+    let c : tie.After-volume-leaves = search in
     let start : tie.Start = search in
     let block = start .args .block .now in
-    let to = start .args .to in
-    let serial = start .args .serial in (
-      leaves-yes block to serial (start .pre .0 .1) (start .pre .0 .2)
-          (departs-told _ block to serial _ _ _ _ _ (leaves-ensures .0) (enum-told-given .1) .asked ∙ by-rack block to serial rack-ensures),
+    let place = start .args .place .0 in (
+      leaves-yes block place (start .pre .0 .1)
+          (volume-departs-told _ block place _ _ _ _ _ (volume-leaves-ensures .0) (enum-told-given .1) .asked ∙ by-rack block place rack-ensures),
       λ e. absurd (true≢false e),
     )
 
@@ -91,17 +90,16 @@ same-length-14 c = search needs
 returns-2 : tie.Need-returns-2
 returns-2 c =
     let enum-told2-given = (let p : tie.After-enum-told2 = search in p .enum-told2 .given) in
-    let leaves-ensures = (let p : tie.After-leaves = search in p .leaves .ensures) in
+    let volume-leaves-ensures = (let p : tie.After-volume-leaves = search in p .volume-leaves .ensures) in
     let rack-ensures = (let p : tie.After-rack = search in p .rack .ensures) in
-    let c : tie.After-leaves = search in
+    let c : tie.After-volume-leaves = search in
     let start : tie.Start = search in
     let block = start .args .block .now in
-    let to = start .args .to in
-    let serial = start .args .serial in
+    let place = start .args .place .0 in
     let a = start .pre .1 in
-    let f = forgotten-told _ _ (leaves-ensures .1) (enum-told2-given .1) in (
-      leaves-no block to serial (start .pre .0 .1) (start .pre .0 .2) _
-          (refused-told _ block to serial _ _ _ _ _ (leaves-ensures .0) (enum-told2-given .1) ∙ by-rack block to serial rack-ensures),
+    let f = forgotten-told _ _ (volume-leaves-ensures .1) (enum-told2-given .1) in (
+      leaves-no block place (start .pre .0 .1) _
+          (volume-refused-told _ block place _ _ _ _ _ (volume-leaves-ensures .0) (enum-told2-given .1) ∙ by-rack block place rack-ensures),
       λ e. record {
         marks-size = search needs;
         unmarked = f .0;
@@ -120,7 +118,7 @@ may-leave-spec =
     tie.close
     (tie.spec
     rack-requires
-    leaves-requires
+    volume-leaves-requires
     enum-told
     enum-told-2
     same-length

@@ -2,14 +2,15 @@
 -- Assumes nothing.
 use Prim.Native.Nat.{_-_}
 use mathlib.Core.Path.{_∙_, sym}
-use Rattle.mesh.proofs.Gathers.{Gathering, gathering-none, gathering-more, gathering-room, gathering-end}
+use Rattle.mesh.proofs.Gathers.{Gathering, gathering-none, gathering-more, gathering-room, gathering-end, gathered-none, gathered-more}
+use Rattle.mesh.specs.Parts.{gathered}
 use borrow.Author.Needs.{needs}
 use Rattle.mesh.proofs.serials.gather.Statement.{statement}
 use Rattle.mesh.proofs.serials.gather.Tie as tie
 
 abbrev Inv-loop : tie.InvT-loop
 Inv-loop mesh out₀ k c₀ i₀ out c i =
-    Gathering mesh out c i
+    Gathering (gathered mesh) mesh out c i
 
 abbrev μ-loop : tie.MeasureT-loop
 μ-loop mesh out₀ k c₀ i₀ out c i =
@@ -18,7 +19,7 @@ abbrev μ-loop : tie.MeasureT-loop
 loop-holds : tie.Need-loop-holds Inv-loop μ-loop
 loop-holds c =
     let start : tie.Start Inv-loop μ-loop = search in
-    gathering-none (start .pre .2)
+    gathering-none (gathered (start .args .mesh .now)) (gathered-none (start .args .mesh .now)) (start .pre .2)
 
 put-part-requires : tie.Need-put-part-requires Inv-loop μ-loop
 put-part-requires c κs =
@@ -38,7 +39,7 @@ loop-again c =
     let loop-inv = (let p : tie.At-loop Inv-loop μ-loop = search in p .loop .inv) in
     let loop-test-taken = (let p : tie.In-loop Inv-loop μ-loop = search in p .loop-test .taken) in
     let put-part-ensures = (let p : tie.After-put-part Inv-loop μ-loop = search in p .put-part .ensures) in
-    gathering-more loop-inv loop-test-taken (put-part-ensures .0) (put-part-ensures .1)
+    gathering-more loop-inv loop-test-taken (put-part-ensures .0) (put-part-ensures .1) (gathered-more _ _)
 
 same-length : tie.Need-same-length Inv-loop μ-loop
 same-length c =

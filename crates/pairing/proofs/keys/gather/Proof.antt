@@ -3,14 +3,16 @@
 use Prim.Native.Nat.{_-_}
 use mathlib.Core.Path.{_∙_, sym}
 use Rattle.pairing.proofs.InBlocks.{few}
-use Rattle.pairing.proofs.Steps.{Gathering, gathering-none, gathering-more, gathering-room, gathering-end}
+use Rattle.mesh.proofs.Gathers.{Gathering, gathering-none, gathering-more, gathering-room, gathering-end}
+use Rattle.pairing.specs.Keys.{all-keys}
+use Rattle.pairing.proofs.Steps.{all-none, all-more}
 use borrow.Author.Needs.{needs}
 use Rattle.pairing.proofs.keys.gather.Statement.{statement}
 use Rattle.pairing.proofs.keys.gather.Tie as tie
 
 abbrev Inv-loop : tie.InvT-loop
 Inv-loop mesh out₀ k c₀ i₀ out c i =
-    Gathering mesh out c i
+    Gathering (all-keys mesh) mesh out c i
 
 abbrev μ-loop : tie.MeasureT-loop
 μ-loop mesh out₀ k c₀ i₀ out c i =
@@ -19,7 +21,7 @@ abbrev μ-loop : tie.MeasureT-loop
 loop-holds : tie.Need-loop-holds Inv-loop μ-loop
 loop-holds c =
     let start : tie.Start Inv-loop μ-loop = search in
-    gathering-none (start .pre .1)
+    gathering-none (all-keys (start .args .mesh .now)) (all-none (start .args .mesh .now)) (start .pre .1)
 
 put-part-requires : tie.Need-put-part-requires Inv-loop μ-loop
 put-part-requires c κs =
@@ -39,7 +41,7 @@ loop-again c =
     let loop-inv = (let p : tie.At-loop Inv-loop μ-loop = search in p .loop .inv) in
     let loop-test-taken = (let p : tie.In-loop Inv-loop μ-loop = search in p .loop-test .taken) in
     let put-part-ensures = (let p : tie.After-put-part Inv-loop μ-loop = search in p .put-part .ensures) in
-    gathering-more loop-inv loop-test-taken (put-part-ensures .0) (put-part-ensures .1)
+    gathering-more loop-inv loop-test-taken (put-part-ensures .0) (put-part-ensures .1) (all-more _ _)
 
 same-length : tie.Need-same-length Inv-loop μ-loop
 same-length c =

@@ -1,9 +1,10 @@
 -- `parts::fresh::clear_at` meets its contract.
 -- Assumes nothing.
+use borrow.Author.Tests.{not-true, not-false}
+use Rattle.model.specs.Image.{is-critical-word}
 use Rattle.ranking.specs.Ranks.{value-at, rank-in}
 use mathlib.Core.Path.{sym, _∙_, ap}
 use Rattle.parts.proofs.FreshSteps.{clear-free, clear-none, clear-found}
-use native.Mathlib.Omega.{arith}
 use borrow.Author.Needs.{needs}
 use Rattle.parts.proofs.fresh.clear_at.Statement.{statement}
 use Rattle.parts.proofs.fresh.clear_at.Tie as tie
@@ -11,11 +12,15 @@ use Rattle.parts.proofs.fresh.clear_at.Tie as tie
 field-requires : tie.Need-field-requires
 field-requires c κs = search needs
 
+is-critical-requires : tie.Need-is-critical-requires
+is-critical-requires c κs = search needs
+
 returns : tie.Need-returns
 returns c =
     let start : tie.Start = search in
     let field-ensures = (let p : tie.After-field = search in p .field .ensures) in
-    clear-free (start .args .block .now) (start .args .keys .now) (start .args .k) (start .args .p .0) (let e = field-ensures in omega arith)
+    let is-critical-ensures = (let p : tie.After-is-critical = search in p .is-critical .ensures) in
+    clear-free (start .args .block .now) (start .args .keys .now) (start .args .k) (start .args .p .0) (ap is-critical-word (sym field-ensures) ∙ sym is-critical-ensures ∙ not-true _ (c .if1 .taken))
 
 field-requires-2 : tie.Need-field-requires-2
 field-requires-2 c κs = search needs
@@ -37,9 +42,11 @@ returns-2 c =
     let k = start .args .k in
     let p' = start .args .p .0 in
     let field-ensures = (let p : tie.After-field = search in p .field .ensures) in
+    let is-critical-ensures = (let p : tie.After-is-critical = search in p .is-critical .ensures) in
+    let if1-left = (let p : tie.Else1 = search in p .if1 .left) in
     let field2-ensures = (let p : tie.After-field2 = search in p .field2 .ensures) in
     let find-ensures = (let p : tie.After-find = search in p .find .ensures) in
-    clear-none block keys k p' (let e = field-ensures in omega arith)
+    clear-none block keys k p' (ap is-critical-word (sym field-ensures) ∙ sym is-critical-ensures ∙ not-false _ if1-left)
     (ap (rank-in (value-at keys) k) (sym field2-ensures) ∙ sym find-ensures ∙ c .enum-told .given .1)
 
 returns-3 : tie.Need-returns-3
@@ -50,16 +57,19 @@ returns-3 c =
     let k = start .args .k in
     let p' = start .args .p .0 in
     let field-ensures = (let p : tie.After-field = search in p .field .ensures) in
+    let is-critical-ensures = (let p : tie.After-is-critical = search in p .is-critical .ensures) in
+    let if1-left = (let p : tie.Else1 = search in p .if1 .left) in
     let field2-ensures = (let p : tie.After-field2 = search in p .field2 .ensures) in
     let find-ensures = (let p : tie.After-find = search in p .find .ensures) in
     let r-given = (let p : tie.After-r = search in p .r .given) in
-    clear-found block keys k p' (let e = field-ensures in omega arith) (ap (rank-in (value-at keys) k) (sym field2-ensures) ∙ sym find-ensures ∙ r-given .1)
+    clear-found block keys k p' (ap is-critical-word (sym field-ensures) ∙ sym is-critical-ensures ∙ not-false _ if1-left) (ap (rank-in (value-at keys) k) (sym field2-ensures) ∙ sym find-ensures ∙ r-given .1)
 
 pub clear-at-spec : {M : Type 1} → statement M
 clear-at-spec =
     tie.close
     (tie.spec
     field-requires
+    is-critical-requires
     returns
     field-requires-2
     find-requires

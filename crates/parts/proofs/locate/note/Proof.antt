@@ -1,6 +1,8 @@
 -- `parts::locate::note` meets its contract.
 -- Assumes nothing.
 use mathlib.Core.Path.{sym, _∙_, ap}
+use borrow.Author.Tests.{not-true, not-false}
+use Rattle.model.specs.Image.{is-critical-word}
 use Rattle.ranking.specs.Ranks.{value-at, rank-in}
 use Rattle.parts.proofs.Locating.{noted-free, noted-none, noted-found, found-below}
 use native.Mathlib.Omega.{arith}
@@ -11,6 +13,9 @@ use Rattle.parts.proofs.locate.note.Tie as tie
 field-requires : tie.Need-field-requires
 field-requires c κs = search needs
 
+is-critical-requires : tie.Need-is-critical-requires
+is-critical-requires c κs = search needs
+
 returns : tie.Need-returns
 returns c =
     let start : tie.Start = search in
@@ -20,7 +25,8 @@ returns c =
     let p' = start .args .p .0 in
     let places = start .args .places .now in
     let field-ensures = (let p : tie.After-field = search in p .field .ensures) in
-    noted-free block keys c' p' places (let e = field-ensures in omega arith)
+    let is-critical-ensures = (let p : tie.After-is-critical = search in p .is-critical .ensures) in
+    noted-free block keys c' p' places (ap is-critical-word (sym field-ensures) ∙ sym is-critical-ensures ∙ not-true _ (c .if1 .taken))
 
 field-requires-2 : tie.Need-field-requires-2
 field-requires-2 c κs = search needs
@@ -83,10 +89,12 @@ returns-3 c =
     let p' = start .args .p .0 in
     let places = start .args .places .now in
     let field-ensures = (let p : tie.After-field = search in p .field .ensures) in
+    let is-critical-ensures = (let p : tie.After-is-critical = search in p .is-critical .ensures) in
+    let if1-left = (let p : tie.Else1 = search in p .if1 .left) in
     let field2-ensures = (let p : tie.After-field2 = search in p .field2 .ensures) in
     let find-ensures = (let p : tie.After-find = search in p .find .ensures) in
     let r-given = (let p : tie.After-r = search in p .r .given) in
-    noted-found block keys c' p' places (let e = field-ensures in omega arith) (start .pre .4) (start .pre .3)
+    noted-found block keys c' p' places (ap is-critical-word (sym field-ensures) ∙ sym is-critical-ensures ∙ not-false _ if1-left) (start .pre .4) (start .pre .3)
     (start .pre .5) (ap (rank-in (value-at keys) c') (sym field2-ensures) ∙ sym find-ensures ∙ r-given .1)
 
 pub note-spec : {M : Type 1} → statement M
@@ -94,6 +102,7 @@ note-spec =
     tie.close
     (tie.spec
     field-requires
+    is-critical-requires
     returns
     field-requires-2
     find-requires

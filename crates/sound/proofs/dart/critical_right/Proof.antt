@@ -12,9 +12,6 @@ maker-of-requires c κs = search needs
 number-of-requires : tie.Need-number-of-requires
 number-of-requires c κs = search needs
 
-is-critical-requires : tie.Need-is-critical-requires
-is-critical-requires c κs = search needs
-
 other-of-requires : tie.Need-other-of-requires
 other-of-requires c κs = search needs
 
@@ -23,8 +20,7 @@ unfolding critical-test
 returns c =
     let maker-of-ensures = (let p : tie.After-maker-of = search in p .maker-of .ensures) in
     let number-of-ensures = (let p : tie.After-number-of = search in p .number-of .ensures) in
-    let is-critical-ensures = (let p : tie.After-is-critical = search in p .is-critical .ensures) in
-    rw (maker-of-ensures, number-of-ensures, is-critical-ensures, c .other-of .ensures) refl
+    rw (maker-of-ensures, number-of-ensures, c .other-of .ensures) refl
 
 pub critical-right-spec : {M : Type 1} → statement M
-critical-right-spec = tie.close (tie.spec maker-of-requires number-of-requires is-critical-requires other-of-requires returns)
+critical-right-spec = tie.close (tie.spec maker-of-requires number-of-requires other-of-requires returns)

@@ -1,6 +1,7 @@
 -- `sound::dart::far_at` meets its contract: each place that is read is that of a dart that is right by itself.
 -- Assumes nothing.
-use mathlib.Core.Path.{_∙_}
+use mathlib.Core.Path.{sym, ap, _∙_}
+use Rattle.model.specs.Image.{is-sewn-word}
 use borrow.Author.Tests.{not-true, not-false}
 use Rattle.sound.proofs.OneDart.{far-stop, far-kind, far-only, far-go, next-lt, opposite-lt, sewn-lt, finite-here}
 use native.Mathlib.Omega.{arith}
@@ -54,6 +55,9 @@ returns c =
     let same-at-ensures = (let p : tie.After-same-at = search in p .same-at .ensures) in
     far-stop _ 0 _ field-ensures field2-ensures field3-ensures field4-ensures field5-ensures field6-ensures same-at-ensures (not-true _ (c .if1 .taken))
 
+is-sewn-requires : tie.Need-is-sewn-requires
+is-sewn-requires c κs = search needs
+
 returns-2 : tie.Need-returns-2
 returns-2 c =
     let field-ensures = (let p : tie.After-field = search in p .field .ensures) in
@@ -64,8 +68,9 @@ returns-2 c =
     let field6-ensures = (let p : tie.After-field6 = search in p .field6 .ensures) in
     let same-at-ensures = (let p : tie.After-same-at = search in p .same-at .ensures) in
     let if1-left = (let p : tie.Else1 = search in p .if1 .left) in
+    let is-sewn-ensures = (let p : tie.After-is-sewn = search in p .is-sewn .ensures) in
     far-only _ 0 _ field-ensures field2-ensures field3-ensures field4-ensures field5-ensures field6-ensures same-at-ensures
-    (not-false _ if1-left) (c .if2 .taken)
+    (not-false _ if1-left) (sym is-sewn-ensures ∙ not-true _ (c .if2 .taken))
 
 field-requires-7 : tie.Need-field-requires-7
 field-requires-7 c κs = search needs
@@ -81,8 +86,10 @@ field-requires-9 c κs =
     let start : tie.Start = search in
     let field3-ensures = (let p : tie.After-field3 = search in p .field3 .ensures) in
     let if2-left = (let p : tie.Else2 = search in p .if2 .left) in
+    let is-sewn-ensures = (let p : tie.After-is-sewn = search in p .is-sewn .ensures) in
+    let sewn = sym is-sewn-ensures ∙ not-false _ if2-left in
     let field7-ensures = (let p : tie.After-field7 = search in p .field7 .ensures) in
-    (omega (arith, sewn-lt _ _ (start .pre .3) (start .pre .0) field3-ensures if2-left field7-ensures), omega arith)
+    (omega (arith, sewn-lt _ _ (start .pre .3) (start .pre .0) field3-ensures sewn field7-ensures), omega arith)
 
 sewn-at-requires : tie.Need-sewn-at-requires
 sewn-at-requires c κs =
@@ -98,15 +105,17 @@ sewn-at-requires c κs =
     let same-at-ensures = (let p : tie.After-same-at = search in p .same-at .ensures) in
     let if1-left = (let p : tie.Else1 = search in p .if1 .left) in
     let if2-left = (let p : tie.Else2 = search in p .if2 .left) in
+    let is-sewn-ensures = (let p : tie.After-is-sewn = search in p .is-sewn .ensures) in
+    let sewn = sym is-sewn-ensures ∙ not-false _ if2-left in
     let field7-ensures = (let p : tie.After-field7 = search in p .field7 .ensures) in
     let field8-ensures = (let p : tie.After-field8 = search in p .field8 .ensures) in
     let a = next-lt _ _ (start .pre .3) (start .pre .0) field-ensures in
-    let l = sewn-lt _ _ (start .pre .3) (start .pre .0) field3-ensures if2-left field7-ensures in
+    let l = sewn-lt _ _ (start .pre .3) (start .pre .0) field3-ensures sewn field7-ensures in
     let j =
     far-kind block 0 p' field-ensures field2-ensures field3-ensures field4-ensures field5-ensures field6-ensures
     same-at-ensures (not-false _ if1-left)
     in
-    let z = sewn-lt _ _ (start .pre .3) a field5-ensures (j ∙ if2-left) field8-ensures in
+    let z = sewn-lt _ _ (start .pre .3) a field5-ensures (ap is-sewn-word j ∙ sewn) field8-ensures in
     (omega (arith, l), omega (arith, z), search needs)
 
 same-at-requires-2 : tie.Need-same-at-requires-2
@@ -114,9 +123,11 @@ same-at-requires-2 c κs =
     let start : tie.Start = search in
     let field3-ensures = (let p : tie.After-field3 = search in p .field3 .ensures) in
     let if2-left = (let p : tie.Else2 = search in p .if2 .left) in
+    let is-sewn-ensures = (let p : tie.After-is-sewn = search in p .is-sewn .ensures) in
+    let sewn = sym is-sewn-ensures ∙ not-false _ if2-left in
     let field7-ensures = (let p : tie.After-field7 = search in p .field7 .ensures) in
     let field9-ensures = (let p : tie.After-field9 = search in p .field9 .ensures) in
-    let l = sewn-lt _ _ (start .pre .3) (start .pre .0) field3-ensures if2-left field7-ensures in
+    let l = sewn-lt _ _ (start .pre .3) (start .pre .0) field3-ensures sewn field7-ensures in
     let w = next-lt _ _ (start .pre .3) l field9-ensures in
     (omega (arith, start .pre .0), omega (arith, w), search needs, finite-here _ _ (start .pre .3) (start .pre .0), finite-here _ _ (start .pre .3) w)
 
@@ -131,12 +142,14 @@ returns-3 c =
     let same-at-ensures = (let p : tie.After-same-at = search in p .same-at .ensures) in
     let if1-left = (let p : tie.Else1 = search in p .if1 .left) in
     let if2-left = (let p : tie.Else2 = search in p .if2 .left) in
+    let is-sewn-ensures = (let p : tie.After-is-sewn = search in p .is-sewn .ensures) in
+    let sewn = sym is-sewn-ensures ∙ not-false _ if2-left in
     let field7-ensures = (let p : tie.After-field7 = search in p .field7 .ensures) in
     let field8-ensures = (let p : tie.After-field8 = search in p .field8 .ensures) in
     let field9-ensures = (let p : tie.After-field9 = search in p .field9 .ensures) in
     let sewn-at-ensures = (let p : tie.After-sewn-at = search in p .sewn-at .ensures) in
     far-go _ 0 _ field-ensures field2-ensures field3-ensures field4-ensures field5-ensures field6-ensures same-at-ensures
-    (not-false _ if1-left) if2-left field7-ensures field8-ensures field9-ensures sewn-at-ensures (c .same-at2 .ensures)
+    (not-false _ if1-left) sewn field7-ensures field8-ensures field9-ensures sewn-at-ensures (c .same-at2 .ensures)
 
 pub far-at-spec : {M : Type 1} → statement M
 far-at-spec =
@@ -150,6 +163,7 @@ far-at-spec =
     field-requires-6
     same-at-requires
     returns
+    is-sewn-requires
     returns-2
     field-requires-7
     field-requires-8

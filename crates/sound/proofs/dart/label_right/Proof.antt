@@ -12,6 +12,9 @@ maker-of-requires c κs = search needs
 number-of-requires : tie.Need-number-of-requires
 number-of-requires c κs = search needs
 
+is-critical-requires : tie.Need-is-critical-requires
+is-critical-requires c κs = search needs
+
 other-of-requires : tie.Need-other-of-requires
 other-of-requires c κs = search needs
 
@@ -20,7 +23,8 @@ unfolding label-test
 returns c =
     let maker-of-ensures = (let p : tie.After-maker-of = search in p .maker-of .ensures) in
     let number-of-ensures = (let p : tie.After-number-of = search in p .number-of .ensures) in
-    rw (maker-of-ensures, number-of-ensures, c .other-of .ensures) refl
+    let is-critical-ensures = (let p : tie.After-is-critical = search in p .is-critical .ensures) in
+    rw (maker-of-ensures, number-of-ensures, is-critical-ensures, c .other-of .ensures) refl
 
 pub label-right-spec : {M : Type 1} → statement M
-label-right-spec = tie.close (tie.spec maker-of-requires number-of-requires other-of-requires returns)
+label-right-spec = tie.close (tie.spec maker-of-requires number-of-requires is-critical-requires other-of-requires returns)

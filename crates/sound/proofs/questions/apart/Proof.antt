@@ -1,8 +1,6 @@
 -- `sound::questions::apart` meets its contract: what the slots tell, or the order where they tell nothing.
 -- Assumes nothing.
-use mathlib.Core.Path.{refl}
 use Rattle.keyset.proofs.Apart.{searched-yes, searched-no}
-use native.Mathlib.Omega.{arith}
 use borrow.Author.Needs.{needs}
 use Rattle.sound.proofs.questions.apart.Statement.{statement}
 use Rattle.sound.proofs.questions.apart.Tie as tie
@@ -10,7 +8,7 @@ use Rattle.sound.proofs.questions.apart.Tie as tie
 search-slots-requires : tie.Need-search-slots-requires
 search-slots-requires c κs =
     let start : tie.Start = search in
-    (omega (arith, start .pre .0, start .pre .1), omega (arith, start .pre .1), refl)
+    (start .pre .1, start .pre .0, start .pre .3)
 
 enum-told : tie.Need-enum-told
 enum-told c = search needs
@@ -20,9 +18,6 @@ enum-told-2 c = search needs
 
 enum-told-3 : tie.Need-enum-told-3
 enum-told-3 c = search needs
-
-slice-aggregate-differ : tie.Need-slice-aggregate-differ
-slice-aggregate-differ c = search needs
 
 differ-requires : tie.Need-differ-requires
 differ-requires c κs = search needs
@@ -35,7 +30,7 @@ returns c =
     let start : tie.Start = search in
     let search-slots-ensures = (let p : tie.After-search-slots = search in p .search-slots .ensures) in
     let enum-told-given = (let p : tie.After-enum-told = search in p .enum-told .given) in
-    searched-yes _ _ (omega (arith, start .pre .0, start .pre .1)) search-slots-ensures (enum-told-given .1)
+    searched-yes _ _ (start .pre .1) search-slots-ensures (enum-told-given .1)
 
 same-length-2 : tie.Need-same-length-2
 same-length-2 c = search needs
@@ -45,10 +40,13 @@ returns-2 c =
     let start : tie.Start = search in
     let search-slots-ensures = (let p : tie.After-search-slots = search in p .search-slots .ensures) in
     let enum-told2-given = (let p : tie.After-enum-told2 = search in p .enum-told2 .given) in
-    searched-no _ _ (omega (arith, start .pre .0, start .pre .1)) search-slots-ensures (enum-told2-given .1)
+    searched-no _ _ (start .pre .1) search-slots-ensures (enum-told2-given .1)
 
 same-length-3 : tie.Need-same-length-3
 same-length-3 c = search needs
+
+same-length-4 : tie.Need-same-length-4
+same-length-4 c = search needs
 
 returns-3 : tie.Need-returns-3
 returns-3 c = search needs
@@ -61,11 +59,11 @@ apart-spec =
     enum-told
     enum-told-2
     enum-told-3
-    slice-aggregate-differ
     differ-requires
     same-length
     returns
     same-length-2
     returns-2
     same-length-3
+    same-length-4
     returns-3)

@@ -6,17 +6,17 @@ use borrow.Author.Needs.{needs}
 use Rattle.sound.proofs.questions.labels_differ.Statement.{statement}
 use Rattle.sound.proofs.questions.labels_differ.Tie as tie
 
-slice-aggregate-gather : tie.Need-slice-aggregate-gather
-slice-aggregate-gather c = search needs
-
 gather-requires : tie.Need-gather-requires
 gather-requires c κs = search needs
 
-slice-aggregate-apart : tie.Need-slice-aggregate-apart
-slice-aggregate-apart c = search needs
-
 apart-requires : tie.Need-apart-requires
 apart-requires c κs = search needs
+
+same-length : tie.Need-same-length
+same-length c = search needs
+
+same-length-2 : tie.Need-same-length-2
+same-length-2 c = search needs
 
 returns : tie.Need-returns
 returns c =
@@ -26,4 +26,4 @@ returns c =
 
 pub labels-differ-spec : {M : Type 1} → statement M
 labels-differ-spec =
-    tie.close (tie.spec slice-aggregate-gather gather-requires slice-aggregate-apart apart-requires returns)
+    tie.close (tie.spec gather-requires apart-requires same-length same-length-2 returns)
