@@ -188,13 +188,7 @@ static int save_steps(void) {
         entries[b] = (struct entry){replies[b].b, replies[b].c};
     size_t count = put_commit(entries, blocks, commit);
     if (error == 0)
-        error = write_whole("basin.commit.new", commit, count);
-    if (error == 0)
-        error = keep_names();
-    if (error == 0)
-        error = rename_file("basin.commit.new", "basin.commit");
-    if (error == 0)
-        error = keep_names();
+        error = put_mark(commit, count);
     if (error == 0)
         error = order(MARK, 0, commit, count);
     if (error == 0)

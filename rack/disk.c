@@ -144,6 +144,16 @@ struct entry entry_in(const uint8_t *commit, uint64_t block) {
     return (struct entry){word_at(commit + 8 + 16 * block), word_at(commit + 16 + 16 * block)};
 }
 
+/* Puts the mark that decides a save: its bytes under another name, kept by the disk; then its name. */
+int put_mark(const void *commit, size_t count) {
+    int error = write_whole("basin.commit.new", commit, count);
+    if (error == 0)
+        error = keep_names();
+    if (error == 0)
+        error = rename_file("basin.commit.new", "basin.commit");
+    return error != 0 ? error : keep_names();
+}
+
 int tidy_folder(uint64_t blocks) {
     int error = 0;
     for (uint64_t b = blocks; b < MOST_BLOCKS && error == 0; b++)

@@ -210,17 +210,7 @@ static void write_new(void) {
 
 /* The mark, in a folder that is not the coordinator's: once per folder. */
 static void mark(const struct packet *p) {
-    int error = 0;
-    if (leads) {
-        error = write_whole("basin.commit.new", p->bytes, p->count);
-        if (error == 0)
-            error = keep_names();
-        if (error == 0)
-            error = rename_file("basin.commit.new", "basin.commit");
-        if (error == 0)
-            error = keep_names();
-    }
-    answer(error, 0, 0);
+    answer(leads ? put_mark(p->bytes, p->count) : 0, 0, 0);
 }
 
 static void place(void) {

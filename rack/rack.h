@@ -78,6 +78,7 @@ int write_whole(const char *name, const void *bytes, size_t count);
 int rename_file(const char *from, const char *to);
 int remove_file(const char *name);
 int keep_names(void);
+int put_mark(const void *commit, size_t count);
 
 struct entry entry_of(const uint8_t *bytes, size_t count);
 bool same_entry(struct entry one, struct entry other);
