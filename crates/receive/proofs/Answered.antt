@@ -88,7 +88,7 @@ module _ (lim : Limits) (m : List ℕ) {s v x b z : List ℕ} {f : Front} {l : T
             }
 
             pub yes-all : {q c : List ℕ} → getD m 2 0 + f .darts ≤ lim .block-darts → Draft v x b z keys ranks q s (f .points) (f .darts) c
-                → length kinds ≡ 512 → length links ≡ 512 → length ranks ≡ 512
+                → f .darts ≤ length kinds → f .darts ≤ length links → f .darts ≤ length ranks
                 → AskedAll lim m s v x b z f l keys ranks q c kinds links answer.Served
             unfolding receive-checks
             yes-all h d lk ll lr = record {

@@ -71,8 +71,8 @@ module _ (lim : Limits) (bound : lim .block-darts ≤ room) {m s v x b z : List 
     linking = linked;
   }
 
-  pub few-new : getD c 2 0 ≤ 512
-  few-new = omega (arith, d .few, d .drafted .count-is)
+  pub new-count : getD c 2 0 ≡ f .darts
+  new-count = d .drafted .count-is
 
   pub served-image : Bytes s → {y : List ℕ} → Joins m c (getD m 2 0) (getD c 2 0) kinds links ranks y → Gives (receive-by lim m (a-transfer t)) (served tt) y
   served-image bytes j = transfer-served lim m size (sym (image-by-size lim m bound size) ∙ ok) t (h .0 t e w .0)

@@ -5,7 +5,7 @@ use mathlib.Core.Bool.{true}
 use Prim.Native.Nat.{ℕ, _+_, _≤_}
 use lib.Dec.{leb}
 use lib.ListN.{length, getD}
-use Rattle.model.specs.Values.{Limits, message-darts}
+use Rattle.model.specs.Values.{Limits}
 use Rattle.model.specs.Image.{block-in, memory-checks}
 use Rattle.model.specs.Messages.{Transfer, Message, a-transfer, message-in, size-all}
 use Rattle.model.specs.Arrival.{addressed, transfer-links, serials-new, volume-right, parts-right, receive-checks, received-from}
@@ -41,7 +41,7 @@ AskedSaid lim m s v x b z f l keys ranks q c kinds links (answer.Refused r) =
     (t : Transfer) → message-in s ≡ a-transfer t → TransferOutlined t s v x b z f l → refused (question r) ≡ answered (receive-checks lim (block-in m) (a-transfer t))
 AskedSaid lim m s v x b z f l keys ranks q c kinds links answer.Served =
     ((t : Transfer) → message-in s ≡ a-transfer t → TransferOutlined t s v x b z f l → AllYes lim m t × Linking m (getD m 2 0) (f .darts) x kinds links (transfer-links (block-in m .darts) t))
-    × Draft v x b z keys ranks q s (f .points) (f .darts) c × (getD m 2 0 + f .darts ≤ lim .block-darts) × (length kinds ≡ message-darts) × (length links ≡ message-darts) × (length ranks ≡ message-darts)
+    × Draft v x b z keys ranks q s (f .points) (f .darts) c × (getD m 2 0 + f .darts ≤ lim .block-darts) × (f .darts ≤ length kinds) × (f .darts ≤ length links) × (f .darts ≤ length ranks)
 
 pub record AskedAll (lim : Limits) (m s v x b z : List ℕ) (f : Front) (l : Tail) (keys ranks q c kinds links : List ℕ) (r : Answered) : Type 0 where
   pub said : AskedSaid lim m s v x b z f l keys ranks q c kinds links r

@@ -3,7 +3,7 @@ ghost use mathlib.Core.Path.{_≡_};
 ghost use mathlib.Core.Bool.{true};
 ghost use mathlib.Core.List.{List};
 ghost use Prim.Native.Nat.{ℕ, _+_, _*_, _≤_, _<_};
-ghost use lib.ListN.{length, getD, replicate};
+ghost use lib.ListN.{length, getD};
 ghost use Rattle.laws.specs.Order.{Ascending};
 ghost use Rattle.model.specs.Lists.{all};
 ghost use Rattle.model.specs.Image.{words-for, column, holds-block, block-in};
@@ -11,6 +11,7 @@ ghost use Rattle.model.specs.Values.{room, serial-bound, finite, message-darts,
 ghost use Rattle.model.specs.Messages.{Transfer, a-transfer, message-in};
 ghost use Rattle.model.specs.Arrival.{addressed, volume-right};
 ghost use Rattle.memory.specs.Header.{limits-of};
+ghost use Rattle.cells.specs.Places.{Clear};
 ghost use Rattle.inbox.specs.Inbox.{Sides, points-in};
 ghost use Rattle.inbox.specs.Arrived.{TransferOutlined};
 ghost use Rattle.ranking.specs.Ranks.{Ranked};
@@ -126,7 +127,7 @@ fn parts_fit(
     kinds: &mut [u64],
     links: &mut [u64],
 ) -> bool
-    requires { ⌜ (holds-block (now block) ≡ true) × (front .darts ≤ length (now starts)) × (front .darts ≤ length (now sizes)) × (front .darts ≤ length (now ranks)) × (now kinds ≡ replicate message-darts 0) × (now links ≡ replicate message-darts 0) × (front .from ≤ last-block) ⌝ }
+    requires { ⌜ (holds-block (now block) ≡ true) × (front .darts ≤ length (now starts)) × (front .darts ≤ length (now sizes)) × (front .darts ≤ length (now ranks)) × Clear (now kinds) × Clear (now links) × (front .from ≤ last-block) × (front .darts ≤ length (now kinds)) × (front .darts ≤ length (now links)) ⌝ }
     requires { ⌜ ((v : List ℕ) × (x : List ℕ) × NewVolume (now block) (now message) v x (now starts) (now sizes) front tail (now ranks) (now draft)) ⌝ }
     ensures { λ r. ⌜ ((v x : List ℕ) → NewVolume (now (block .entry)) (now (message .entry)) v x (now (starts .entry)) (now (sizes .entry)) front tail (now (ranks .entry)) (now (draft .entry)) → Parted (now (block .entry)) (now (message .entry)) v x (now (starts .entry)) (now (sizes .entry)) front tail (now (kinds .exit)) (now (links .exit)) r) ⌝ }
 {
@@ -187,7 +188,7 @@ pub fn questions(
     firsts: &mut [usize],
 ) -> Answer
     requires { ⌜ (holds-block (now block) ≡ true) × Sides (now vertex) (now serial) (now starts) (now sizes) × ((t : Transfer) × (message-in (now message) ≡ a-transfer t) × TransferOutlined t (now message) (now vertex) (now serial) (now starts) (now sizes) front tail) ⌝ }
-    requires { ⌜ (length (now keys) ≡ message-darts) × (length (now ranks) ≡ message-darts) × (length (now opposite) ≡ message-darts) × (words-for (front .darts) ≤ length (now draft)) × (now kinds ≡ replicate message-darts 0) × (now links ≡ replicate message-darts 0) × (front .darts ≤ length (now queue)) × (front .darts ≤ length (now firsts)) ⌝ }
+    requires { ⌜ (front .darts ≤ length (now keys)) × (front .darts ≤ length (now ranks)) × (front .darts ≤ length (now opposite)) × (words-for (front .darts) ≤ length (now draft)) × Clear (now kinds) × Clear (now links) × (front .darts ≤ length (now queue)) × (front .darts ≤ length (now firsts)) × (front .darts ≤ length (now kinds)) × (front .darts ≤ length (now links)) ⌝ }
     ensures { λ r. ⌜ AskedAll (limits-of limits) (now (block .entry)) (now (message .entry)) (now (vertex .entry)) (now (serial .entry)) (now (starts .entry)) (now (sizes .entry)) front tail (now (keys .exit)) (now (ranks .exit)) (now (opposite .exit)) (now (draft .exit)) (now (kinds .exit)) (now (links .exit)) r ⌝ }
 {
     if !for_here(block, front.from, front.to) {

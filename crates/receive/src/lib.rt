@@ -4,13 +4,14 @@ mod asks; // asks.rt: questions 17 to 21
 ghost use mathlib.Core.Path.{_≡_};
 ghost use mathlib.Core.Bool.{true};
 ghost use Prim.Native.Nat.{_≤_};
-ghost use lib.ListN.{length, replicate};
+ghost use lib.ListN.{length};
 ghost use Rattle.model.specs.Values.{room, rack, message-darts};
 ghost use Rattle.model.specs.Image.{words-for, words-of, holds-block};
 ghost use Rattle.model.specs.Messages.{Transfer, a-transfer, message-in};
 ghost use Rattle.model.specs.Calls as calls;
 ghost use Rattle.answers.specs.Answers.{answer-of, Gives};
 ghost use Rattle.memory.specs.Header.{limits-of};
+ghost use Rattle.cells.specs.Places.{Clear};
 ghost use Rattle.inbox.specs.Inbox.{Sides};
 ghost use Rattle.inbox.specs.Arrived.{TransferOutlined};
 ghost use Rattle.receive.specs.Taken.{Takes};
@@ -46,8 +47,8 @@ fn take(
     new: &mut [usize],
 ) -> Answer
     requires { ⌜ (limits .block ≤ room) × (length (now block) ≡ words-of (limits-of limits)) × (holds-block (now block) ≡ true) × Sides (now vertex) (now serial) (now starts) (now sizes) × ((t : Transfer) × (message-in (now message) ≡ a-transfer t) × TransferOutlined t (now message) (now vertex) (now serial) (now starts) (now sizes) front tail) ⌝ }
-    requires { ⌜ (length (now keys) ≡ message-darts) × (length (now ranks) ≡ message-darts) × (length (now opposite) ≡ message-darts) × (words-for message-darts ≤ length (now draft)) × (now kinds ≡ replicate message-darts 0) × (now links ≡ replicate message-darts 0) ⌝ }
-    requires { ⌜ (message-darts ≤ length (now old)) × (limits .block ≤ length (now old)) × (message-darts ≤ length (now new)) ⌝ }
+    requires { ⌜ (front .darts ≤ length (now keys)) × (front .darts ≤ length (now ranks)) × (front .darts ≤ length (now opposite)) × (words-for (front .darts) ≤ length (now draft)) × Clear (now kinds) × Clear (now links) × (front .darts ≤ length (now kinds)) × (front .darts ≤ length (now links)) ⌝ }
+    requires { ⌜ (front .darts ≤ length (now old)) × (limits .block ≤ length (now old)) × (front .darts ≤ length (now new)) ⌝ }
     ensures { λ r. ⌜ Takes (limits-of limits) (now (block .entry)) (now (message .entry)) (now (vertex .entry)) (now (serial .entry)) (now (starts .entry)) (now (sizes .entry)) front tail (answer-of r) (now (block .exit)) ⌝ }
 {
     // The questions work in `old` and `new`; then they are for the places of all darts.
@@ -99,7 +100,7 @@ pub fn receive_by(
     new: &mut [usize],
 ) -> Answer
     requires { ⌜ (limits .block ≤ room) × Sides (now vertex) (now serial) (now starts) (now sizes) ⌝ }
-    requires { ⌜ (length (now keys) ≡ message-darts) × (length (now ranks) ≡ message-darts) × (length (now opposite) ≡ message-darts) × (words-for message-darts ≤ length (now draft)) × (now kinds ≡ replicate message-darts 0) × (now links ≡ replicate message-darts 0) ⌝ }
+    requires { ⌜ (message-darts ≤ length (now keys)) × (message-darts ≤ length (now ranks)) × (message-darts ≤ length (now opposite)) × (words-for message-darts ≤ length (now draft)) × Clear (now kinds) × Clear (now links) × (message-darts ≤ length (now kinds)) × (message-darts ≤ length (now links)) ⌝ }
     requires { ⌜ (message-darts ≤ length (now old)) × (limits .block ≤ length (now old)) × (message-darts ≤ length (now new)) ⌝ }
     ensures { λ r. ⌜ Gives (calls.receive (limits-of limits) (now (block .entry)) (now (message .entry))) (answer-of r) (now (block .exit)) ⌝ }
 {

@@ -6,7 +6,7 @@ use Rattle.model.specs.Values.{Limits, room}
 use Rattle.model.specs.Calls as calls
 use Rattle.answers.proofs.Questions.{by-limits}
 use Rattle.memory.proofs.Headers.{rack-fits}
-use Rattle.cells.proofs.Resets.{zeros-long}
+use Rattle.cells.proofs.Resets.{zeros-clear, zeros-long}
 use borrow.Author.Needs.{needs}
 use Rattle.receive.proofs.receive.Statement.{statement}
 use Rattle.receive.proofs.receive.Tie as tie
@@ -56,7 +56,16 @@ receive-by-requires c κs =
     let few = rack-fits _ rack-ensures in (
       (few, record { vertex-size = refl; serial-size = refl; starts-size = refl; sizes-size = refl }),
       (
-        (refl, refl, refl, zeros-long _ 4104 refl (omega arith), refl, refl),
+        (
+          zeros-long _ 512 refl (omega arith),
+          zeros-long _ 512 refl (omega arith),
+          zeros-long _ 512 refl (omega arith),
+          zeros-long _ 4104 refl (omega arith),
+          zeros-clear 512 refl,
+          zeros-clear 512 refl,
+          zeros-long _ 512 refl (omega arith),
+          zeros-long _ 512 refl (omega arith),
+        ),
         (zeros-long _ room refl (omega arith), zeros-long _ room refl few, zeros-long _ 512 refl (omega arith)),
       ),
     )

@@ -5,6 +5,7 @@ use native.Mathlib.Omega.{arith}
 use Rattle.theory.proofs.ImageLaws.{image-by-size}
 use Rattle.answers.proofs.Questions.{said-no, said-yes}
 use Rattle.memory.specs.Header.{limits-of}
+use Rattle.fitting.proofs.Outlined.{told-of}
 use Rattle.receive.proofs.Answered.{size-refused, image-refused, layout-refused, update-refused, outline-of, taken}
 use borrow.Author.Needs.{needs}
 use Rattle.receive.proofs.receive_by.Statement.{statement}
@@ -60,9 +61,22 @@ take-requires c κs =
     let if1-left = (let p : tie.Else1 = search in p .if1 .left) in
     let words-ensures = (let p : tie.After-words = search in p .words .ensures) in
     let c : tie.After-words = search in
-    let start : tie.Start = search in (
+    let start : tie.Start = search in
+    let few = told-of (outline-of (f-given .1) message-in-ensures .2) .few in (
       (start .pre .0 .0, if1-left ∙ words-ensures, said-yes is-sound-ensures if2-left, message-in-ensures .sides, outline-of (f-given .1) message-in-ensures),
-      start .pre .1,
+      (
+        (
+          omega (arith, few, start .pre .1 .0 .0),
+          omega (arith, few, start .pre .1 .0 .1),
+          omega (arith, few, start .pre .1 .0 .2),
+          omega (arith, few, start .pre .1 .0 .3),
+          start .pre .1 .0 .4,
+          start .pre .1 .0 .5,
+          omega (arith, few, start .pre .1 .0 .6),
+          omega (arith, few, start .pre .1 .0 .7),
+        ),
+        (omega (arith, few, start .pre .1 .1 .0), start .pre .1 .1 .1, omega (arith, few, start .pre .1 .1 .2)),
+      ),
     )
 
 enum-known-u : tie.Need-enum-known-u

@@ -10,7 +10,7 @@ use Rattle.theory.proofs.ImageLaws.{image-by-size}
 use Rattle.memory.specs.Header.{limits-of}
 use Rattle.fitting.proofs.Outlined.{told-of}
 use Rattle.receive.proofs.Answered.{asked-no, asked-yes, transfer-refused}
-use Rattle.receive.proofs.Served.{may-join, few-new, served-image}
+use Rattle.receive.proofs.Served.{may-join, new-count, served-image}
 use borrow.Author.Needs.{needs}
 use Rattle.receive.proofs.take.Statement.{statement}
 use Rattle.receive.proofs.take.Tie as tie
@@ -18,7 +18,6 @@ use Rattle.receive.proofs.take.Tie as tie
 questions-requires : tie.Need-questions-requires
 questions-requires c κs =
     let start : tie.Start = search in
-    let few = told-of (start .pre .0 .4 .2) .few in
     let of-darts = start .pre .1 .0 in
     let of-places = start .pre .1 .1 in (
       (start .pre .0 .2, start .pre .0 .3, start .pre .0 .4),
@@ -26,11 +25,13 @@ questions-requires c κs =
         of-darts .0,
         of-darts .1,
         of-darts .2,
-        omega (arith, few, of-darts .3),
+        of-darts .3,
         of-darts .4,
         of-darts .5,
-        omega (arith, few, of-places .0),
-        omega (arith, few, of-places .2),
+        of-places .0,
+        of-places .2,
+        of-darts .6,
+        of-darts .7,
       ),
     )
 
@@ -53,9 +54,9 @@ join-requires c κs =
     let y = asked-yes questions-ensures (enum-told-given .1) in
     let long : start .args .front .darts ≤ length (start .args .serial .now) = omega (arith, here .3 .serial-size, told-of (here .4 .2) .few) in
     let joins = may-join lim (here .0) (here .1) (here .2) long y (here .4 .0) (here .4 .1) (here .4 .2) in
-    let few = few-new lim (here .0) (here .1) (here .2) long y (here .4 .0) (here .4 .1) (here .4 .2) in (
-      (omega (arith, y .2, questions-kept, of-places .1), omega (arith, few, questions-kept, of-places .2)),
-      (omega (arith, few, y .3), omega (arith, few, y .4), omega (arith, few, y .5), joins),
+    let count = new-count lim (here .0) (here .1) (here .2) long y (here .4 .0) (here .4 .1) (here .4 .2) in (
+      (omega (arith, y .2, questions-kept, of-places .1), omega (arith, count, questions-kept, of-places .2)),
+      (omega (arith, count, y .3), omega (arith, count, y .4), omega (arith, count, y .5), joins),
     )
 
 same-length : tie.Need-same-length

@@ -1,10 +1,7 @@
 -- `receive::asks::parts_fit` meets its contract: the arrays are long enough, and ready.
 -- Assumes nothing.
-use mathlib.Core.Path.{_∙_, ap}
-use mathlib.Core.List.{List}
-use Prim.Native.Nat.{ℕ}
 use native.Mathlib.Omega.{arith}
-use lib.ListN.{length, getD, getD-replicate}
+use lib.ListN.{getD-replicate}
 use Rattle.model.specs.Values.{message-darts, room}
 use Rattle.laws.proofs.Lists.{getD-zeros}
 use Rattle.cells.proofs.Sited.{sited}
@@ -49,19 +46,17 @@ slice-aggregate-parts-right-11 c = search needs
 parts-right-requires : tie.Need-parts-right-requires
 parts-right-requires c κs =
     let start : tie.Start = search in
-    let few = told-of (start .pre .1 .2 .outlined) .few in
-    let clear-kinds = ap (λ (l : List ℕ). length l) (start .pre .0 .4) in
-    let clear-links = ap (λ (l : List ℕ). length l) (start .pre .0 .5) in (
+    let few = told-of (start .pre .1 .2 .outlined) .few in (
       (
         start .pre .0 .0,
         start .pre .0 .1,
         start .pre .0 .2,
         start .pre .0 .3,
-        (λ q. ap (λ (l : List ℕ). getD l q 0) (start .pre .0 .4) ∙ getD-zeros message-darts q),
-        (λ q. ap (λ (l : List ℕ). getD l q 0) (start .pre .0 .5) ∙ getD-zeros message-darts q),
+        start .pre .0 .4,
+        start .pre .0 .5,
         start .pre .0 .6,
-        omega (arith, few, clear-kinds),
-        omega (arith, few, clear-links),
+        start .pre .0 .7,
+        start .pre .0 .8,
       ),
       (
         start .pre .1,

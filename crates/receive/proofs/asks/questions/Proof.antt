@@ -162,6 +162,8 @@ parts-fit-requires c κs =
         start .pre .1 .5,
         sender-small (byte-list message (λ i. fits-lt-pow (shared-slice-known2-given i))) (start .pre .0 .2 .1)
             (start .pre .0 .2 .2),
+        start .pre .1 .8,
+        start .pre .1 .9,
       ),
       (
         vertex,
@@ -358,7 +360,7 @@ returns-6 c =
     (parts-fit-ensures vertex serial
     (new-volume new-serials-ensures if2-left (volume-right-ensures .0) if3-left
     (volume-right-ensures .1 (not-false _ if3-left)) (start .pre .0 .2 .2))) if4-left (omega arith)
-    (volume-right-ensures .1 (not-false _ if3-left)) (omega (arith, parts-fit-kept, ap length (start .pre .1 .4))) (omega (arith, parts-fit-kept, ap length (start .pre .1 .5)))
+    (volume-right-ensures .1 (not-false _ if3-left)) (omega (arith, parts-fit-kept, start .pre .1 .8)) (omega (arith, parts-fit-kept, start .pre .1 .9))
     (omega (arith, new-serials-kept, start .pre .1 .1))
 
 pub questions-spec : {M : Type 1} → statement M
