@@ -28,7 +28,7 @@ extern "C" {
 #endif
 
 /* Raised by every change of a call, an answer, a size or a layout. */
-#define DMAP_VERSION 1
+#define DMAP_VERSION 2
 
 /* Words of a block's memory. */
 #define DMAP_WORDS 32776
@@ -41,6 +41,9 @@ extern "C" {
 
 /* Entries of the scratch of a mesh check and of a next move. */
 #define DMAP_SCRATCH 65536
+
+/* Words of the answer of a next move. */
+#define DMAP_ANSWER 21
 
 /* Answers: served, or the question that was answered no. */
 enum {
@@ -189,14 +192,17 @@ uint32_t dmap_redirect(uint64_t *block, size_t words, const uint8_t *message, si
 uint32_t dmap_check_mesh(const uint64_t *mesh, size_t words, uint64_t *scratch, size_t entries);
 
 /* Finds the next move of a whole mesh by an oracle: 0 picks every volume, 1 those with a point in the box from (x0, y0, z0) to (x1, y1, z1),
- * 2 those with points on both sides of the plane on `axis` (0 x, 1 y, 2 z) at x0. What an oracle does not use may be any. The answer has four
- * words: 0 level, 1 blocked or 2 a move, then donor, recipient and serial, 0 where there is none; the move is made by dmap_send. The mesh is
- * read only; the scratch is zero before and after.
- * Asks 1 (four words of answer, before all else), then what dmap_check_mesh asks, then 28 (oracle 0 to 2; floats used are finite, low not above
- * high, axis 0 to 2). Refused: scratch and answer are as they were. */
+ * 2 those with points on both sides of the plane on `axis` (0 x, 1 y, 2 z) at x0. What an oracle does not use may be any. A donor has at least
+ * two picked volumes more than the recipient; the mesh is level where no two blocks' counts differ by two or more, and blocked where some do
+ * and no volume may go. The answer has DMAP_ANSWER words: 0 level, 1 blocked or 2 a move; donor, recipient and serial, 0 where there is none;
+ * the mean of the counts, rounded down; then 16 surpluses, each block's count less the mean, two's complement in 64 bits (cast to int64_t), 0
+ * for blocks that the mesh has not. Mean and surpluses are those before the move, which is made by dmap_send. The mesh is read only; the
+ * scratch is zero before and after.
+ * Asks 1 (DMAP_ANSWER words of answer, before all else), then what dmap_check_mesh asks, then 28 (oracle 0 to 2; floats used are finite, low
+ * not above high, axis 0 to 2). Refused: scratch and answer are as they were. */
 uint32_t dmap_next_move(const uint64_t *mesh, size_t words, uint32_t oracle, uint32_t axis,
                         double x0, double y0, double z0, double x1, double y1, double z1,
-                        uint64_t *scratch, size_t entries, uint64_t *answer, size_t four);
+                        uint64_t *scratch, size_t entries, uint64_t *answer, size_t answer_words);
 
 #ifdef __cplusplus
 }

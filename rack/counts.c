@@ -1,4 +1,4 @@
-/* Figures of a block for a person, counted from the words of its memory (crates stats and selection): nothing is decided by them. */
+/* Figures of a block for a person, counted from the words of its memory (crate stats): nothing is decided by them. */
 #include "rack.h"
 
 #include <string.h>
@@ -53,39 +53,4 @@ struct figures figures_of(const uint64_t *block) {
             f.critical += field(block, p, 3) % 4 == 2;
         }
     return f;
-}
-
-/* A volume is picked where one of its points passes the first test and one the second. */
-static bool passes(const struct oracle *o, bool second, const double x[3]) {
-    if (o->which == 0 || (o->which == 1 && second))
-        return true;
-    if (o->which == 1) {
-        for (int i = 0; i < 3; i++)
-            if (!(o->low[i] <= x[i] && x[i] <= o->high[i]))
-                return false;
-        return true;
-    }
-    double c = x[o->axis < 2 ? o->axis : 2];
-    return second ? o->low[0] < c : c < o->low[0];
-}
-
-uint64_t picked(const uint64_t *block, const struct oracle *o) {
-    uint64_t n = 0;
-    size_t end = 0;
-    memset(reached, 0, sizeof reached);
-    for (uint64_t p = 0; p < block[2]; p++) {
-        if (reached[p])
-            continue;
-        size_t from = end;
-        bool first = false, second = false;
-        end = walk(block, p, false, from);
-        for (size_t i = from; i < end; i++) {
-            double x[3];
-            memcpy(x, block + 8 + 8 * order[i] + 5, sizeof x);
-            first = first || passes(o, false, x);
-            second = second || passes(o, true, x);
-        }
-        n += first && second;
-    }
-    return n;
 }

@@ -8,7 +8,9 @@
 #include <string.h>
 
 enum { DONE = 0, NO = 1, ERROR = 2 };
-enum { MOST_REQUESTS = 16384, MOST_MOVES = 32768, INPUT_ROOM = 524288 };
+/* The moves of a balance are at most half the sum over pairs of blocks of the difference of their counts (Demands.MovesEnd): eight empty blocks and
+ * eight of 2,048 volumes make 8 * 8 * 2048 / 2. */
+enum { MOST_REQUESTS = 16384, MOST_MOVES = 65536, INPUT_ROOM = 524288 };
 
 static uint64_t blocks, mesh[MOST_BLOCKS * DMAP_WORDS], scratch[DMAP_SCRATCH];
 static struct { bool dry, whole; uint64_t every; const char *log; } options;
@@ -19,7 +21,7 @@ static const char help[] =
     "rack keeps a basin of K blocks as dispatch does, a rank for each block and one coordinator: mpirun -n K+1 rack WORDS\n"
     "  rack check            a line for each block, and whether the basin is sound\n"
     "  rack play             requests 'from to serial' on standard input, one a line\n"
-    "  rack balance ORACLE   moves until no block has more cells than the mean, or none may go\n"
+    "  rack balance ORACLE   moves until no block has two cells more than another, or none may go\n"
     "  rack measure          plays requests, saves nothing, and tells where the time of a round goes\n"
     "  rack help             this\n"
     "ORACLE is one of: all; box x0 y0 z0 x1 y1 z1; plane axis value (decimals, as -2.5 or 1e-3; axis 0, 1 or 2)\n"
@@ -245,31 +247,39 @@ static int play(size_t count) {
 
 /* BALANCE */
 
-static void show_picked(const char *when, const struct oracle *o) {
+struct oracle { uint32_t which, axis; double low[3], high[3]; };
+
+/* The picked cells of each block, as a next move tells them: the mean, and each count less the mean. */
+static void show_picked(const char *when, const uint64_t *answer) {
+    const uint64_t mean = answer[4], *surplus = answer + 5;
     printf("# %s:", when);
     for (uint64_t b = 0; b < blocks; b++)
-        printf(" %llu", (unsigned long long)picked(mesh + b * DMAP_WORDS, o));
+        printf(" %llu", (unsigned long long)(mean + surplus[b]));
+    printf("; mean %llu, surpluses", (unsigned long long)mean);
+    for (uint64_t b = 0; b < blocks; b++)
+        printf(" %lld", (long long)surplus[b]);
     putchar('\n');
 }
 
 static int balance(const struct oracle *o) {
-    uint64_t answer[4];
+    uint64_t answer[DMAP_ANSWER];
     if (!is_sound())
         return NO;
-    show_picked("before", o);
     for (unsigned moves = 0;; moves++) {
         uint32_t question = dmap_next_move(mesh, blocks * DMAP_WORDS, o->which, o->axis, o->low[0], o->low[1], o->low[2], o->high[0], o->high[1],
-                                           o->high[2], scratch, DMAP_SCRATCH, answer, 4);
+                                           o->high[2], scratch, DMAP_SCRATCH, answer, DMAP_ANSWER);
         if (question != DMAP_SERVED) {
             printf("refused %u: %s\n", (unsigned)question, meaning(question));
             return NO;
         }
+        if (moves == 0)
+            show_picked("before", answer);
         if (answer[0] < 2) {
             printf("# %s after %u moves\n", answer[0] == 0 ? "level" : "blocked", moves);
             break;
         }
         if (moves == MOST_MOVES) {
-            fputs("error: there are more moves than cells: nothing is saved\n", stderr);
+            fputs("error: there are more moves than a sound basin has: nothing is saved\n", stderr);
             return ERROR;
         }
         uint64_t outcome = play_round(answer[1], answer[2], answer[3]);
@@ -287,7 +297,7 @@ static int balance(const struct oracle *o) {
         if (!save_now_and_then())
             return ERROR;
     }
-    show_picked("after", o);
+    show_picked("after", answer);
     return save_at_end() ? DONE : ERROR;
 }
 

@@ -118,11 +118,8 @@ bool fetch(uint64_t block, uint64_t *mesh);
 
 /* counts.c: figures of a block, for a person. */
 
-struct oracle { uint32_t which, axis; double low[3], high[3]; };
-
 struct figures { uint64_t darts, volumes, pieces, critical, counter; };
 struct figures figures_of(const uint64_t *block);
-uint64_t picked(const uint64_t *block, const struct oracle *o);
 
 /* words.c: requests and coordinates from text, and what an answer means. */
 

@@ -3,7 +3,7 @@
 use crate::clock::{median, now};
 use crate::table::{Limit, Times};
 use compare::archive::Archive;
-use peer::image::SCRATCH;
+use peer::image::{ANSWER, SCRATCH};
 use peer::lent::{Core, OracleNumbers};
 use peer::plain::Plain;
 use peer::scenes;
@@ -29,6 +29,10 @@ impl Hall {
         halls.push(Hall { name: "next move, a move".into(), mesh: room, next_move: Some((EVERY, 2)) });
         halls.extend([
             Hall::blocked("30,720 volumes of 2 darts, refused by 13", scenes::mesh_that_stays(1, 2048, seed)),
+            Hall::blocked(
+                "30,510 volumes of 2 darts, 120 pairs of blocks, refused by 13",
+                scenes::mesh_in_steps(1, 2048, seed),
+            ),
             Hall::blocked("15,300 volumes of 4 darts, refused by 13", scenes::mesh_that_stays(2, 1020, seed)),
             Hall::blocked("10,200 volumes of 6 darts, refused by 14", scenes::mesh_with_full_counters(3, 340, seed)),
             Hall::blocked("300 volumes of 200 darts, refused by 14", scenes::mesh_with_full_counters(100, 10, seed)),
@@ -67,7 +71,7 @@ impl Hall {
     /// The time of one call.
     fn time(&self, core: &dyn Core, scratch: &mut [u64]) -> f64 {
         let mesh = black_box(&self.mesh[..]);
-        let mut answer = [9; 4];
+        let mut answer = [9; ANSWER];
         let start = now();
         let number = match &self.next_move {
             None => core.check_mesh(mesh, scratch),

@@ -3,7 +3,7 @@
 use crate::calls;
 use crate::cells;
 use crate::mesh;
-use crate::value::{ask, Answer, Block, Point, MAX_DARTS};
+use crate::value::{ask, Answer, Block, Point, MAX_BLOCKS, MAX_DARTS};
 use std::collections::BTreeSet;
 
 /// The oracle picks volumes.
@@ -44,22 +44,31 @@ impl Oracle {
     }
 }
 
-/// What the next move is.
+/// What the rule chooses.
 #[derive(Clone, Copy, PartialEq, Eq, Debug)]
-pub enum NextMove {
+pub enum Choice {
     Level,
     Blocked,
     Move { donor: u8, recipient: u8, serial: u32 },
+}
+
+/// The answer of a next move: what is chosen, and the mean and the surpluses before it.
+#[derive(Clone, Copy, PartialEq, Eq, Debug)]
+pub struct NextMove {
+    pub choice: Choice,
+    pub mean: u32,
+    /// 0 for blocks that the mesh has not.
+    pub surplus: [i32; MAX_BLOCKS],
 }
 
 /// The next move of a mesh of sound blocks: questions 23 to 28, then the rule.
 pub fn next_move(blocks: &[Block], oracle: &Oracle) -> Answer<NextMove> {
     mesh::check(blocks)?;
     ask(28, oracle.is_right())?;
-    Ok(choose(blocks, oracle))
+    Ok(by_rule(blocks, oracle))
 }
 
-/// The picked volumes of each block.
+/// The picked volumes of each block, by least serial.
 pub fn picked(blocks: &[Block], oracle: &Oracle) -> Vec<Vec<BTreeSet<u32>>> {
     blocks
         .iter()
@@ -70,27 +79,44 @@ pub fn picked(blocks: &[Block], oracle: &Oracle) -> Vec<Vec<BTreeSet<u32>>> {
         .collect()
 }
 
+/// How many volumes of each block are picked.
+pub fn counts(blocks: &[Block], oracle: &Oracle) -> Vec<usize> {
+    picked(blocks, oracle).iter().map(Vec::len).collect()
+}
+
 /// The rule on a sound mesh and a right oracle.
-pub fn choose(blocks: &[Block], oracle: &Oracle) -> NextMove {
+pub fn by_rule(blocks: &[Block], oracle: &Oracle) -> NextMove {
     let picked = picked(blocks, oracle);
     let total: usize = picked.iter().map(Vec::len).sum();
-    let mean = total / blocks.len();
-    let surplus: Vec<i32> = picked.iter().map(|cells| cells.len() as i32 - mean as i32).collect();
-    if surplus.iter().all(|s| *s <= 0) || surplus.iter().all(|s| *s >= 0) {
-        return NextMove::Level;
+    let mean = (total / blocks.len()) as u32;
+    let mut surplus = [0; MAX_BLOCKS];
+    for (surplus, cells) in surplus.iter_mut().zip(&picked) {
+        *surplus = cells.len() as i32 - mean as i32;
+    }
+    NextMove { choice: choose(blocks, &picked), mean, surplus }
+}
+
+/// The least donor, recipient and volume, the donor having at least two picked volumes more than the recipient.
+fn choose(blocks: &[Block], picked: &[Vec<BTreeSet<u32>>]) -> Choice {
+    let all = 0..blocks.len();
+    let pairs: Vec<(usize, usize)> = all
+        .clone()
+        .flat_map(|donor| all.clone().map(move |recipient| (donor, recipient)))
+        .filter(|(donor, recipient)| picked[*donor].len() >= picked[*recipient].len() + 2)
+        .collect();
+    if pairs.is_empty() {
+        return Choice::Level;
     }
     // Donor, recipient and least serial ascend, so the first that may move is the least.
-    for (donor, cells) in picked.iter().enumerate().filter(|(donor, _)| surplus[*donor] > 0) {
-        for recipient in (0..blocks.len()).filter(|recipient| surplus[*recipient] < 0) {
-            for cell in cells {
-                let serial = cell.first().copied().unwrap_or(0);
-                let may_leave = calls::may_leave(&blocks[donor], recipient as u64, u64::from(serial));
-                // Question 21 of the recipient.
-                if may_leave && blocks[recipient].darts.len() + cell.len() <= MAX_DARTS {
-                    return NextMove::Move { donor: donor as u8, recipient: recipient as u8, serial };
-                }
+    for (donor, recipient) in pairs {
+        for cell in &picked[donor] {
+            let serial = cell.first().copied().unwrap_or(0);
+            let may_leave = calls::may_leave(&blocks[donor], recipient as u64, u64::from(serial));
+            // Question 21 of the recipient.
+            if may_leave && blocks[recipient].darts.len() + cell.len() <= MAX_DARTS {
+                return Choice::Move { donor: donor as u8, recipient: recipient as u8, serial };
             }
         }
     }
-    NextMove::Blocked
+    Choice::Blocked
 }

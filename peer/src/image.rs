@@ -11,6 +11,8 @@ pub const RECORD: usize = 8;
 pub const WORDS: usize = RECORD + RECORD * MAX_DARTS;
 /// Words of the scratch of the mesh calls.
 pub const SCRATCH: usize = 65_536;
+/// Words of a next move's answer: kind, donor, recipient, serial, mean, a surplus for each block.
+pub const ANSWER: usize = 5 + MAX_BLOCKS;
 
 /// The index of a dart in a block's memory; never an index in a message.
 #[derive(Clone, Copy, PartialEq, Eq, Debug)]

@@ -1,9 +1,9 @@
 //! The calls on lent memory and bytes. The answer is 0 or the number of the refusal;
 //! a refused call leaves every lent word and byte as it was.
 
-use crate::balance::{self, NextMove, Oracle};
+use crate::balance::{self, Choice, NextMove, Oracle};
 use crate::calls;
-use crate::image::{self, SCRATCH, WORDS};
+use crate::image::{self, ANSWER, SCRATCH, WORDS};
 use crate::mesh;
 use crate::value::{ask, Answer, Block, No, Point};
 
@@ -76,6 +76,24 @@ fn put_bytes(bytes: &[u8], out: &mut [u8], written: &mut u64) {
     }
 }
 
+/// The answer of a next move as words.
+pub fn answer_words(next: &NextMove) -> [u64; ANSWER] {
+    let mut words = [0; ANSWER];
+    match next.choice {
+        Choice::Level => {}
+        Choice::Blocked => words[0] = 1,
+        Choice::Move { donor, recipient, serial } => {
+            words[..4].copy_from_slice(&[2, u64::from(donor), u64::from(recipient), u64::from(serial)]);
+        }
+    }
+    words[4] = u64::from(next.mean);
+    for (word, surplus) in words[5..].iter_mut().zip(next.surplus) {
+        // Two's complement: the sign goes through all 64 bits.
+        *word = i64::from(surplus) as u64;
+    }
+    words
+}
+
 impl Core for Peer {
     fn empty(&self, number: u64, block: &mut [u64]) -> u32 {
         let answer = ask(1, block.len() == WORDS).and_then(|()| calls::empty(number));
@@ -118,21 +136,12 @@ impl Core for Peer {
     }
 
     fn next_move(&self, mesh: &[u64], oracle: &OracleNumbers, scratch: &mut [u64], answer: &mut [u64]) -> u32 {
-        let served = ask(1, answer.len() == 4).and_then(|()| lent_mesh(mesh, scratch)).and_then(|blocks| {
+        let served = ask(1, answer.len() == ANSWER).and_then(|()| lent_mesh(mesh, scratch)).and_then(|blocks| {
             mesh::check(&blocks)?;
             // Question 28: an unknown oracle is refused like a wrong one.
             let oracle = oracle.oracle().filter(Oracle::is_right).ok_or(No(28))?;
-            Ok(balance::choose(&blocks, &oracle))
+            Ok(balance::by_rule(&blocks, &oracle))
         });
-        finish(served, |next| {
-            let words = match next {
-                NextMove::Level => [0; 4],
-                NextMove::Blocked => [1, 0, 0, 0],
-                NextMove::Move { donor, recipient, serial } => {
-                    [2, u64::from(donor), u64::from(recipient), u64::from(serial)]
-                }
-            };
-            answer.copy_from_slice(&words);
-        })
+        finish(served, |next| answer.copy_from_slice(&answer_words(&next)))
     }
 }

@@ -1,6 +1,7 @@
 //! Meshes and oracles for a program that balances blocks to the end, and what it prints.
 
-use crate::balance::{self, NextMove};
+use crate::balance::{self, Choice};
+use crate::descent::Descent;
 use crate::file;
 use crate::generate::{self, Size};
 use crate::lent::{OracleNumbers, Peer};
@@ -97,6 +98,11 @@ fn by_hand() -> Vec<(Vec<Block>, OracleNumbers)> {
     vec![
         (pillows(3, &[5, 1, 1, 1]), EVERY),
         (pillows(3, &[3, 1, 1]), EVERY),
+        // Within one; within one but for volumes that stay; a donor below the mean; a recipient above it.
+        (pillows(3, &[2, 1, 2]), EVERY),
+        (pillows(2, &[3, 1, 1]), EVERY),
+        (pillows(3, &[2, 0, 7]), EVERY),
+        (pillows(3, &[4, 2, 0, 0]), EVERY),
         (pillows(4, &[0, 7]), EVERY),
         (pillows(3, &[0]), EVERY),
         // All in one block, faces sewn: every move leaves critical faces behind.
@@ -153,31 +159,34 @@ fn drawn(seed: u64) -> Result<Vec<(Vec<Block>, OracleNumbers)>, Disagreement> {
 
 fn counts(blocks: &[Block], oracle: &OracleNumbers) -> String {
     let Some(oracle) = oracle.oracle() else { return String::new() };
-    let counts = balance::picked(blocks, &oracle);
-    format!("counts{}\n", counts.iter().map(|cells| format!(" {}", cells.len())).collect::<String>())
+    let counts = balance::counts(blocks, &oracle);
+    format!("counts{}\n", counts.iter().map(|count| format!(" {count}")).collect::<String>())
 }
 
-/// What the program prints for one mesh.
+/// What the program prints for one mesh; its moves are held to the laws of the rule.
 fn balanced(blocks: &[Block], oracle: &OracleNumbers) -> Result<String, Disagreement> {
     let asked = oracle.oracle().ok_or("no oracle")?;
     let mut text = format!("blocks {}\n", blocks.len()) + &counts(blocks, oracle);
     let mut runs: Option<BothRuns> = None;
+    let mut descent = Descent::start(balance::counts(blocks, &asked));
     let mut now = blocks.to_vec();
     loop {
-        match balance::next_move(&now, &asked) {
+        match balance::next_move(&now, &asked).map(|next| next.choice) {
             Err(No(number)) => {
                 text += &format!("refused {number}\n");
                 break;
             }
-            Ok(NextMove::Level) => {
+            Ok(Choice::Level) => {
+                descent.end(true)?;
                 text += "level\n";
                 break;
             }
-            Ok(NextMove::Blocked) => {
+            Ok(Choice::Blocked) => {
+                descent.end(false)?;
                 text += "blocked\n";
                 break;
             }
-            Ok(NextMove::Move { donor, recipient, serial }) => {
+            Ok(Choice::Move { donor, recipient, serial }) => {
                 text += &format!("move {donor} {recipient} {serial}\n");
                 let request = Request { from: donor.into(), to: recipient.into(), serial: serial.into() };
                 let both = runs.get_or_insert_with(|| BothRuns::start(blocks));
@@ -186,6 +195,7 @@ fn balanced(blocks: &[Block], oracle: &OracleNumbers) -> Result<String, Disagree
                     return Err(format!("a next move is refused by {answer}"));
                 }
                 now = both.blocks()?;
+                descent.step(donor.into(), recipient.into(), balance::counts(&now, &asked))?;
             }
         }
     }

@@ -7,6 +7,7 @@ pub mod cases;
 pub mod cells;
 pub mod compare;
 pub mod damage;
+pub mod descent;
 pub mod file;
 pub mod generate;
 pub mod groups;

@@ -8,7 +8,7 @@ mod mesh;
 mod outbox;
 mod sound;
 
-use crate::image::WORDS;
+use crate::image::{ANSWER, WORDS};
 use crate::lent::{Core, OracleNumbers};
 use cell::Cell;
 use inbox::Inbox;
@@ -135,7 +135,7 @@ impl Core for Plain {
     }
 
     fn next_move(&self, mesh: &[u64], oracle: &OracleNumbers, scratch: &mut [u64], answer: &mut [u64]) -> u32 {
-        if answer.len() != 4 {
+        if answer.len() != ANSWER {
             return 1;
         }
         ROOM.with_borrow_mut(|room| {

@@ -156,9 +156,19 @@ pub fn mesh_with_room(cells: usize, missing: usize, seed: Option<u64>) -> Vec<u6
 
 /// Fifteen blocks of so many pillows of two n-gons, and one with a single pillow. With n below 3 none may leave (question 13).
 pub fn mesh_that_stays(n: usize, volumes: usize, seed: Option<u64>) -> Vec<u64> {
+    mesh_of_pillows(n, |block| if block == 15 { 1 } else { volumes }, seed)
+}
+
+/// Sixteen blocks of pillows of two n-gons, each of two fewer than the one before, so that it may take from all of those. With n below 3
+/// none may leave (question 13).
+pub fn mesh_in_steps(n: usize, volumes: usize, seed: Option<u64>) -> Vec<u64> {
+    mesh_of_pillows(n, |block| volumes - 2 * block, seed)
+}
+
+fn mesh_of_pillows(n: usize, volumes: impl Fn(usize) -> usize, seed: Option<u64>) -> Vec<u64> {
     let mut scene = Scene { map: Map::default(), home: Vec::new() };
     for block in 0..16 {
-        for _ in 0..if block == 15 { 1 } else { volumes } {
+        for _ in 0..volumes(block) {
             shapes::pillow(&mut scene.map, n);
         }
         scene.settle(block);

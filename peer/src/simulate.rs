@@ -1,7 +1,9 @@
 //! The divided run against the undivided run, request by request.
 
+use crate::balance::{counts, Oracle};
+use crate::descent::Descent;
 use crate::generate::{self, Size};
-use crate::image::{self, SCRATCH, WORDS};
+use crate::image::{self, ANSWER, SCRATCH, WORDS};
 use crate::lent::{Core, OracleNumbers};
 use crate::mesh::{self, whole_map};
 use crate::message;
@@ -265,29 +267,31 @@ pub fn simulate(core: &dyn Core, seed: u64, requests: usize) -> Result<Tally, Bo
     Ok(tally)
 }
 
-/// Plays next moves until the mesh is level or blocked: each lowers the sum of positive surpluses by one.
+/// Plays next moves until the mesh is level or blocked, and holds them to the laws of the rule; how many there were.
 pub fn balance(core: &dyn Core, blocks: &[Block], oracle: &OracleNumbers) -> Result<usize, Disagreement> {
+    let picks = oracle.oracle().filter(Oracle::is_right).ok_or("the oracle is not right")?;
     let mut runs = BothRuns::start(blocks);
+    let mut descent = Descent::start(counts(blocks, &picks));
     let mut moves = 0;
     loop {
-        let mut answer = [0; 4];
+        let mut answer = [0; ANSWER];
         let number = core.next_move(&runs.mesh, oracle, &mut runs.scratch, &mut answer);
         if number != 0 {
             return Err(format!("next_move is refused by {number}"));
         }
-        if answer[0] != 2 {
+        if !descent.is_told(&answer) {
+            return Err(format!("next_move tells another mean or surplus: {answer:?}"));
+        }
+        let [kind, donor, recipient, serial] = [answer[0], answer[1], answer[2], answer[3]];
+        if kind != 2 {
+            descent.end(kind == 0)?;
             return Ok(moves);
         }
-        let request = Request { from: answer[1] as u32, to: answer[2] as u32, serial: answer[3] };
+        let request = Request { from: donor as u32, to: recipient as u32, serial };
         match runs.step(core, Turn { request, order: moves as u64 })? {
             0 => moves += 1,
             refused => return Err(format!("the next move is refused by {refused}")),
         }
-        if moves > MAX_MOVES {
-            return Err("the moves do not end".to_string());
-        }
+        descent.step(donor as usize, recipient as usize, counts(&runs.blocks()?, &picks))?;
     }
 }
-
-/// No mesh has more volumes than pairs of darts.
-const MAX_MOVES: usize = 16 * 4096;

@@ -5,10 +5,11 @@ use crate::cases::{Call, Case, CALLS};
 use crate::damage::{self, requests};
 use crate::file;
 use crate::generate::{self, Size};
-use crate::image;
+use crate::image::{self, ANSWER};
 use crate::lent::Peer;
 use crate::rng::Rng;
 use crate::value::{Block, Point};
+use std::cmp::Ordering::{self, Equal, Greater, Less};
 use std::collections::{BTreeMap, BTreeSet};
 use std::path::Path;
 
@@ -127,7 +128,7 @@ pub fn record(case: &Case) -> (u32, Vec<u8>) {
             put_memory(&mut out, mesh);
             put_memory(&mut out, scratch);
             put_u32(&mut out, room.len());
-            let words = if answer == 0 { end.as_slice() } else { &[0; 4] };
+            let words = if answer == 0 { end.as_slice() } else { &[0; ANSWER] };
             words.iter().for_each(|word| put_u64(&mut out, *word));
         }
         _ => {}
@@ -135,52 +136,95 @@ pub fn record(case: &Case) -> (u32, Vec<u8>) {
     (answer, out)
 }
 
-/// An answer, and of a next move which oracle was asked and what it came to.
-pub type Sort = (u32, u32);
-
-/// Level, blocked and a move by each of the three oracles; a box, a plane and no oracle refused, the first two also for a NaN.
-const MOVES: [Sort; 14] = [
-    (0, 0),
-    (0, 1),
-    (0, 2),
-    (0, 3),
-    (0, 4),
-    (0, 5),
-    (0, 6),
-    (0, 7),
-    (0, 8),
-    (28, 1),
-    (28, 2),
-    (28, 3),
-    (28, 5),
-    (28, 6),
-];
+/// What a record is a case of: its answer, and of a next move what it came to.
+#[derive(Clone, Copy, PartialEq, Eq, PartialOrd, Ord, Debug)]
+pub enum Sort {
+    Answer(u32),
+    /// By a box or a plane: 0 level, 1 blocked, 2 a move.
+    By {
+        oracle: u32,
+        kind: u64,
+    },
+    /// Of every volume: level, the counts being equal or not, the mean 0 or not.
+    Level {
+        equal: bool,
+        empty: bool,
+    },
+    /// Of every volume: blocked, a block being below the mean or none.
+    Blocked {
+        below: bool,
+    },
+    /// Of every volume: a move; where donor and recipient lie to the mean, and whether the donor has just two more.
+    Move {
+        donor: Ordering,
+        recipient: Ordering,
+        two: bool,
+    },
+    /// Refused by 28: the oracle, 3 where there is none, and whether one of its floats is no number.
+    WrongOracle {
+        oracle: u32,
+        nan: bool,
+    },
+}
 
 /// The sort of a record.
 pub fn sort(call: Call, record: &[u8]) -> Sort {
-    let answer = u32_at(record, 0);
-    match (call, answer) {
-        (Call::NextMove, 0) => (0, 3 * u32_at(record, 4) + u32_at(record, record.len() - 32)),
+    match (call, u32_at(record, 0)) {
+        (Call::NextMove, 0) => sort_of_served(record),
         (Call::NextMove, 28) => {
             let oracle = u32_at(record, 4).min(3);
             // A box has six floats, a plane one.
             let floats = [0, 6, 1, 0][oracle as usize];
-            let nan = record[12..].chunks_exact(8).take(floats).any(|float| {
-                let pattern = u64::from(u32_at(float, 4)) << 32 | u64::from(u32_at(float, 0));
-                f64::from_bits(pattern).is_nan()
-            });
-            (28, oracle + 4 * u32::from(nan))
+            let nan = record[12..].chunks_exact(8).take(floats).any(|float| f64::from_bits(u64_at(float, 0)).is_nan());
+            Sort::WrongOracle { oracle, nan }
         }
-        _ => (answer, 0),
+        (_, answer) => Sort::Answer(answer),
     }
+}
+
+/// The sort of a next move that was served.
+fn sort_of_served(record: &[u8]) -> Sort {
+    let (oracle, blocks) = (u32_at(record, 4), u32_at(record, 60) as usize / image::WORDS);
+    let word = |place: usize| u64_at(record, record.len() - 8 * (ANSWER - place));
+    let surplus = |block: usize| word(5 + block) as i64;
+    match (oracle, word(0)) {
+        (0, 0) => Sort::Level { equal: (0..blocks).all(|block| surplus(block) == 0), empty: word(4) == 0 },
+        (0, 1) => Sort::Blocked { below: (0..blocks).any(|block| surplus(block) < 0) },
+        (0, _) => {
+            let [donor, recipient] = [1, 2].map(|place| surplus(word(place) as usize));
+            Sort::Move { donor: donor.cmp(&0), recipient: recipient.cmp(&0), two: donor == recipient + 2 }
+        }
+        (_, kind) => Sort::By { oracle, kind },
+    }
+}
+
+/// The sorts of next moves that are served, or refused by 28.
+fn sorts_of_next_moves() -> Vec<Sort> {
+    let mut sorts = Vec::new();
+    for oracle in [1, 2] {
+        sorts.extend([0, 1, 2].map(|kind| Sort::By { oracle, kind }));
+        sorts.extend([false, true].map(|nan| Sort::WrongOracle { oracle, nan }));
+    }
+    sorts.push(Sort::WrongOracle { oracle: 3, nan: false });
+    for yes in [false, true] {
+        sorts.extend([false, true].map(|empty| Sort::Level { equal: yes, empty }));
+        sorts.push(Sort::Blocked { below: yes });
+        // A donor at the mean or below it gives to a block below it.
+        let places = [(Less, Less), (Equal, Less), (Greater, Less), (Greater, Equal), (Greater, Greater)];
+        sorts.extend(places.map(|(donor, recipient)| Sort::Move { donor, recipient, two: yes }));
+    }
+    sorts
 }
 
 /// The sorts that a call's records have to have.
 pub fn sorts(call: Call) -> Vec<Sort> {
-    let plain = call.answers().iter().map(|answer| (*answer, 0));
+    let answers = call.answers().iter();
     match call {
-        Call::NextMove => plain.filter(|sort| ![0, 28].contains(&sort.0)).chain(MOVES).collect(),
-        _ => plain.collect(),
+        Call::NextMove => {
+            let others = answers.filter(|answer| ![0, 28].contains(*answer)).map(|answer| Sort::Answer(*answer));
+            others.chain(sorts_of_next_moves()).collect()
+        }
+        _ => answers.map(|answer| Sort::Answer(*answer)).collect(),
     }
 }
 
@@ -345,7 +389,7 @@ pub fn vectors(seed: u64, call: Call, wanted: usize) -> Vec<u8> {
 }
 
 /// Bytes that the gate's file may have.
-pub const GATE_BYTES: usize = 570_000;
+pub const GATE_BYTES: usize = 580_000;
 
 /// Words of a mesh that the gate's program has room for: six blocks.
 const GATE_MESH: u32 = 6 * image::WORDS as u32;
@@ -354,11 +398,18 @@ fn u32_at(bytes: &[u8], at: usize) -> u32 {
     bytes[at..at + 4].iter().rev().fold(0, |high, low| high << 8 | u32::from(*low))
 }
 
+fn u64_at(bytes: &[u8], at: usize) -> u64 {
+    u64::from(u32_at(bytes, at + 4)) << 32 | u64::from(u32_at(bytes, at))
+}
+
 /// Whether the gate's program has room for what a record lends. A next move there has an answer of its own, so none is lent.
 fn has_room(call: Call, record: &[u8]) -> bool {
     match call {
         Call::CheckMesh => u32_at(record, 4) <= GATE_MESH,
-        Call::NextMove => u32_at(record, 60) <= GATE_MESH && u32_at(record, record.len() - 36) == 4,
+        Call::NextMove => {
+            let lent = u32_at(record, record.len() - 8 * ANSWER - 4);
+            u32_at(record, 60) <= GATE_MESH && lent as usize == ANSWER
+        }
         _ => true,
     }
 }

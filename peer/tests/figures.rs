@@ -2,8 +2,8 @@
 
 mod common;
 
-use common::{block_of, p, pillow};
-use peer::balance::{next_move, NextMove, Oracle};
+use common::{block_of, p, pillow, pillows};
+use peer::balance::{next_move, Choice, NextMove, Oracle};
 use peer::calls;
 use peer::file;
 use peer::groups::{group_count, put_number, Reader};
@@ -129,33 +129,54 @@ fn groups_are_shortest() {
     }
 }
 
-/// Blocks with so many pillows of three darts a side.
-fn counts(of: &[usize]) -> Vec<Block> {
-    let mut serial = 1;
-    of.iter()
-        .enumerate()
-        .map(|(number, cells)| {
-            let mut block = Block::empty(number as u8);
-            for _ in 0..*cells {
-                block.darts.extend(pillow(3, 0, serial).darts);
-                serial += 6;
-            }
-            block
-        })
-        .collect()
+/// The surpluses of a mesh's blocks, 0 for those that it has not.
+fn surpluses(of: &[i32]) -> [i32; 16] {
+    let mut all = [0; 16];
+    all[..of.len()].copy_from_slice(of);
+    all
+}
+
+/// Plays the next moves, each served; what was told at each, and the counts at the end.
+fn told(start: &[usize]) -> (Vec<NextMove>, Vec<usize>) {
+    let mut mesh = pillows(start);
+    let mut told = Vec::new();
+    loop {
+        let next = next_move(&mesh, &Oracle::Every).unwrap();
+        told.push(next);
+        let Choice::Move { donor, recipient, serial } = next.choice else { break };
+        let (from, to) = (usize::from(donor), usize::from(recipient));
+        let sent = calls::send(&mesh[from], to as u64, u64::from(serial), ROOM).unwrap();
+        mesh[to] = calls::receive(&mesh[to], &sent).unwrap();
+        mesh[from] = calls::release(&mesh[from], to as u64, u64::from(serial)).unwrap();
+    }
+    (told, peer::balance::counts(&mesh, &Oracle::Every))
 }
 
 #[test]
-fn counts_5_1_1_1_take_three_moves() {
-    let mesh = counts(&[5, 1, 1, 1]);
-    assert_eq!(next_move(&mesh, &Oracle::Every), Ok(NextMove::Move { donor: 0, recipient: 1, serial: 1 }));
+fn counts_5_1_1_1_take_four_moves() {
+    let (told, end) = told(&[5, 1, 1, 1]);
+    let moves = [(0, 1, 1), (0, 1, 7), (0, 2, 13), (1, 3, 1)];
+    let mut choices: Vec<Choice> =
+        moves.map(|(donor, recipient, serial)| Choice::Move { donor, recipient, serial }).to_vec();
+    choices.push(Choice::Level);
+    assert_eq!(told.iter().map(|next| next.choice).collect::<Vec<_>>(), choices);
+    // The total stays, and so does the mean.
+    assert!(told.iter().all(|next| next.mean == 2));
+    let surplus: Vec<[i32; 16]> = told.iter().map(|next| next.surplus).collect();
+    let wanted = [[3, -1, -1, -1], [2, 0, -1, -1], [1, 1, -1, -1], [0, 1, 0, -1], [0, 0, 0, 0]];
+    assert_eq!(surplus, wanted.map(|of| surpluses(&of)));
+    assert_eq!(end, [2, 2, 2, 2]);
     let every = OracleNumbers { oracle: 0, axis: 0, floats: [0; 6] };
-    assert_eq!(simulate::balance(&Peer, &mesh, &every), Ok(3));
+    assert_eq!(simulate::balance(&Peer, &pillows(&[5, 1, 1, 1]), &every), Ok(4));
 }
 
 #[test]
-fn counts_3_1_1_are_level() {
-    assert_eq!(next_move(&counts(&[3, 1, 1]), &Oracle::Every), Ok(NextMove::Level));
+fn counts_3_1_1_end_at_2_2_1() {
+    let (told, end) = told(&[3, 1, 1]);
+    let first = Choice::Move { donor: 0, recipient: 1, serial: 1 };
+    let wanted = [(first, [2, 0, 0]), (Choice::Level, [1, 1, 0])];
+    assert_eq!(told, wanted.map(|(choice, of)| NextMove { choice, mean: 1, surplus: surpluses(&of) }));
+    assert_eq!(end, [2, 2, 1]);
 }
 
 #[test]

@@ -2,15 +2,15 @@
 
 mod common;
 
-use common::{p, pillow};
-use peer::balance::{next_move, NextMove, Oracle};
+use common::{p, pillow, pillows};
+use peer::balance::{next_move, Choice, NextMove, Oracle};
 use peer::calls::{read_file, receive, redirect, send};
 use peer::file;
-use peer::image::{self, SCRATCH, WORDS};
-use peer::lent::{Core, Peer};
+use peer::image::{self, ANSWER, SCRATCH, WORDS};
+use peer::lent::{Core, OracleNumbers, Peer};
 use peer::mesh;
 use peer::message::{self, Index, Message, Transfer, Update};
-use peer::value::{Block, Label, No, Point, Third};
+use peer::value::{Answer, Block, Label, No, Point, Third};
 
 const ROOM: usize = 65_536;
 
@@ -231,6 +231,15 @@ fn mesh_questions_in_order() {
     assert_eq!(mesh::check(&[zero, sign]), Err(No(26)));
 }
 
+/// What the rule chooses, whatever is told beside it.
+fn choice(mesh: &[Block], oracle: &Oracle) -> Answer<Choice> {
+    next_move(mesh, oracle).map(|next| next.choice)
+}
+
+fn from_to(donor: u8, recipient: u8, serial: u32) -> Answer<Choice> {
+    Ok(Choice::Move { donor, recipient, serial })
+}
+
 #[test]
 fn oracles_compare_numbers() {
     let at = |z: f64| {
@@ -239,7 +248,7 @@ fn oracles_compare_numbers() {
         block
     };
     let zeros = Oracle::Box { low: Point::of([0.0; 3]), high: Point::of([-0.0; 3]) };
-    let moves = Ok(NextMove::Move { donor: 0, recipient: 1, serial: 1 });
+    let moves = from_to(0, 1, 1);
     let two = |z: f64| {
         let mut block = at(z);
         let mut other = pillow(3, 0, 7);
@@ -247,28 +256,112 @@ fn oracles_compare_numbers() {
         block.darts.extend(other.darts);
         vec![block, Block::empty(1)]
     };
-    // Empty blocks count: two cells over two blocks, mean 1.
-    assert_eq!(next_move(&two(-0.0), &Oracle::Every), moves);
-    assert_eq!(next_move(&two(-0.0), &zeros), moves);
-    assert_eq!(next_move(&two(5e-324), &zeros), Ok(NextMove::Level));
-    assert_eq!(next_move(&[at(0.0), Block::empty(1)], &Oracle::Every), Ok(NextMove::Level));
+    // Empty blocks count: two cells over two blocks.
+    assert_eq!(choice(&two(-0.0), &Oracle::Every), moves);
+    assert_eq!(choice(&two(-0.0), &zeros), moves);
+    assert_eq!(choice(&two(5e-324), &zeros), Ok(Choice::Level));
     // P has x 0, 1, 2: strictly below and strictly above.
-    let mut flat = p();
-    flat.darts.extend(pillow(3, 0, 7).darts);
-    let mesh = [flat, Block::empty(1)];
-    let plane = |value: f64| next_move(&mesh, &Oracle::Plane { axis: 0, value });
-    assert_eq!(plane(0.0), Ok(NextMove::Level));
+    let mesh = pillows(&[2, 0]);
+    let plane = |value: f64| choice(&mesh, &Oracle::Plane { axis: 0, value });
+    assert_eq!(plane(0.0), Ok(Choice::Level));
     assert_eq!(plane(5e-324), moves);
-    assert_eq!(plane(2.0), Ok(NextMove::Level));
+    assert_eq!(plane(2.0), Ok(Choice::Level));
     assert_eq!(plane(1.0), moves);
     assert_eq!(plane(f64::NAN), Err(No(28)));
-    assert_eq!(next_move(&mesh, &Oracle::Plane { axis: 3, value: 0.0 }), Err(No(28)));
+    assert_eq!(choice(&mesh, &Oracle::Plane { axis: 3, value: 0.0 }), Err(No(28)));
 }
 
 #[test]
-fn blocked_when_no_volume_may_move() {
-    // Two loops, which question 13 keeps where they are.
+fn a_donor_has_two_more_than_the_recipient() {
+    let of = |counts: &[usize]| choice(&pillows(counts), &Oracle::Every);
+    for level in [&[0][..], &[7], &[0, 0], &[3, 3, 3], &[1, 0], &[0, 1], &[2, 1, 2, 1], &[4, 4, 3, 4]] {
+        assert_eq!(of(level), Ok(Choice::Level), "{level:?}");
+    }
+    assert_eq!(of(&[2, 0]), from_to(0, 1, 1));
+    assert_eq!(of(&[0, 2]), from_to(1, 0, 1));
+    assert_eq!(of(&[2, 1, 0]), from_to(0, 2, 1));
+    // The least numbers, not the greatest count or the least.
+    assert_eq!(of(&[3, 1, 9]), from_to(0, 1, 1));
+    assert_eq!(of(&[3, 1, 0]), from_to(0, 1, 1));
+    assert_eq!(of(&[1, 2, 3]), from_to(2, 0, 19));
+}
+
+#[test]
+fn the_mean_does_not_choose() {
+    let of = |counts: &[usize]| next_move(&pillows(counts), &Oracle::Every).unwrap();
+    let from_0_to_1 = Choice::Move { donor: 0, recipient: 1, serial: 1 };
+    // Donors below the mean and at it, recipients at it and above it.
+    for (counts, mean) in
+        [(&[2, 0, 7][..], 3), (&[2, 0, 4], 2), (&[3, 1, 1], 1), (&[4, 1, 1, 1], 1), (&[4, 2, 0, 0], 1)]
+    {
+        let next = of(counts);
+        assert_eq!((next.choice, next.mean), (from_0_to_1, mean), "{counts:?}");
+    }
+}
+
+#[test]
+fn level_and_blocked_tell_mean_and_surpluses() {
+    let with = |first: &[i32]| {
+        let mut surplus = [0; 16];
+        surplus[..first.len()].copy_from_slice(first);
+        surplus
+    };
+    let level = NextMove { choice: Choice::Level, mean: 1, surplus: with(&[0, 1, 1]) };
+    assert_eq!(next_move(&pillows(&[1, 2, 2]), &Oracle::Every), Ok(level));
+    let none = NextMove { choice: Choice::Level, mean: 0, surplus: [0; 16] };
+    assert_eq!(next_move(&pillows(&[0; 16]), &Oracle::Every), Ok(none));
+    // Loops, which question 13 keeps where they are; with one more in the other block nobody is below the mean.
     let mut block = pillow(1, 0, 1);
     block.darts.extend(pillow(1, 0, 3).darts);
-    assert_eq!(next_move(&[block, Block::empty(1)], &Oracle::Every), Ok(NextMove::Blocked));
+    let blocked = |mean: u32, first: &[i32]| Ok(NextMove { choice: Choice::Blocked, mean, surplus: with(first) });
+    assert_eq!(next_move(&[block.clone(), Block::empty(1)], &Oracle::Every), blocked(1, &[1, -1]));
+    block.darts.extend(pillow(1, 0, 5).darts);
+    let mesh = [block, pillow(1, 1, 7), pillow(1, 2, 9)];
+    assert_eq!(next_move(&mesh, &Oracle::Every), blocked(1, &[2, 0, 0]));
+}
+
+#[test]
+fn what_may_not_move_is_passed_over() {
+    let every = |mesh: &[Block]| choice(mesh, &Oracle::Every);
+    // Loops first: neither they nor their block give.
+    let mut loops = pillow(1, 0, 1);
+    loops.darts.extend(pillow(1, 0, 3).darts);
+    let mut others = pillow(3, 2, 20);
+    others.darts.extend(pillow(1, 2, 10).darts);
+    assert_eq!(every(&[loops, Block::empty(1), others]), from_to(2, 1, 20));
+    // A recipient with room for six darts takes no eight, and goes before one with more room.
+    let mut donor = pillow(4, 0, 1);
+    donor.darts.extend(pillow(3, 0, 11).darts);
+    donor.darts.extend(pillow(4, 0, 21).darts);
+    let mesh = |sides: usize| vec![donor.clone(), pillow(sides, 1, 100), pillow(3, 2, 5000)];
+    assert_eq!(every(&mesh(2045)), from_to(0, 1, 11));
+    assert_eq!(every(&mesh(2046)), from_to(0, 2, 1));
+    assert_eq!(every(&mesh(2044)), from_to(0, 1, 1));
+}
+
+#[test]
+fn the_answer_has_21_words() {
+    const STALE: u64 = 0x77;
+    let oracle = OracleNumbers { oracle: 0, axis: 0, floats: [0; 6] };
+    let ask = |counts: &[usize], size: usize| {
+        let mesh: Vec<u64> = pillows(counts).iter().flat_map(image::encode).collect();
+        let mut answer = vec![STALE; size];
+        let number = Peer.next_move(&mesh, &oracle, &mut vec![0; SCRATCH], &mut answer);
+        (number, answer)
+    };
+    let (number, answer) = ask(&[0, 0, 5], ANSWER);
+    let mut wanted = vec![2, 2, 0, 1, 1, u64::MAX, u64::MAX, 4];
+    wanted.resize(21, 0);
+    assert_eq!((number, answer), (0, wanted));
+    let (number, answer) = ask(&[1, 2], ANSWER);
+    let mut wanted = vec![0, 0, 0, 0, 1, 0, 1];
+    wanted.resize(21, 0);
+    assert_eq!((number, answer), (0, wanted));
+    for size in [0, 4, 5, 20, 22, 42] {
+        assert_eq!(ask(&[2, 0], size), (1, vec![STALE; size]));
+    }
+    // The size of the answer goes with those of mesh and scratch, before all else.
+    let unsound = vec![1; WORDS];
+    assert_eq!(Peer.next_move(&unsound, &oracle, &mut vec![0; SCRATCH], &mut [0; 4]), 1);
+    assert_eq!(Peer.next_move(&unsound, &oracle, &mut vec![0; SCRATCH], &mut [0; ANSWER]), 2);
 }

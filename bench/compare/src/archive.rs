@@ -35,7 +35,7 @@ extern "C" {
         scratch: *mut u64,
         entries: usize,
         answer: *mut u64,
-        four: usize,
+        answer_words: usize,
     ) -> u32;
 }
 
@@ -75,7 +75,7 @@ impl Core for Archive {
     fn next_move(&self, mesh: &[u64], oracle: &OracleNumbers, scratch: &mut [u64], answer: &mut [u64]) -> u32 {
         let [x0, y0, z0, x1, y1, z1] = oracle.floats.map(f64::from_bits);
         let (at, entries) = (scratch.as_mut_ptr(), scratch.len());
-        let (words, four) = (answer.as_mut_ptr(), answer.len());
+        let (told, answer_words) = (answer.as_mut_ptr(), answer.len());
         unsafe {
             dmap_next_move(
                 mesh.as_ptr(),
@@ -90,8 +90,8 @@ impl Core for Archive {
                 z1,
                 at,
                 entries,
-                words,
-                four,
+                told,
+                answer_words,
             )
         }
     }

@@ -1,26 +1,25 @@
 -- The moves by places are the model's: between two blocks, from a block, and of the whole mesh. Assumes nothing.
 use mathlib.Core.Path.{_≡_, refl, sym, ap, _∙_, subst}
-use mathlib.Core.Bool.{Bool, true, false, true≢false, cond, not, _&&_, _||_}
+use mathlib.Core.Bool.{Bool, true, false, true≢false, cond, not, _&&_}
 use mathlib.Core.List.{List, [], _∷_, _++_, map}
-use Prim.Native.Nat.{ℕ, zero, suc, _+_, _*_, _-_, _/_, _≤_, _<_}
+use Prim.Native.Nat.{ℕ, zero, suc, _+_, _*_, _-_, _≤_, _<_}
 use native.Mathlib.Omega.{arith}
 use lib.Dec.{leb, ltb, eqb}
 use lib.ListN.{length, getD, drop, length-map}
 use lib.Seq.{getD-take, getD-drop}
-use lib.IntN.{ℤ, pos, negsuc, subℕ}
 use mathlib.Core.Logic.{inl}
-use borrow.Author.Tests.{le-leb, leb-true, ltb-true, eqb-true, not-true, not-false}
-use Rattle.model.specs.Lists.{all, any, keep, sum, tab, concat-map, first-no}
+use borrow.Author.Tests.{le-leb, lt-leb, leb-true, leb-false, eqb-true, not-true, not-false}
+use Rattle.model.specs.Lists.{all, any, keep, tab, concat-map, first-no}
 use Rattle.model.specs.Values.{Block, no-block, all-rack}
 use Rattle.model.specs.Sound.{block-at, numbered-from, blocks-right}
 use Rattle.model.specs.Cells.{volume-in}
 use Rattle.model.specs.Departure.{departure-checks}
 use Rattle.model.specs.Image.{words, column, block-in, dart-in, holds-block}
-use Rattle.model.specs.Balance.{Oracle, Move, level, blocked, move, picked, counts, surpluses, is-above, is-below, can-move, candidates, blocks-with, first-or, next-of}
+use Rattle.model.specs.Balance.{Oracle, Move, level, blocked, move, picked, counts, may-give, recipients, candidates, can-move, first-or, is-level, next-of}
 use Rattle.model.specs.Calls.{served, memories}
 use Rattle.laws.proofs.Tests.{by-cases, and-left, and-right, same-truth}
 use Rattle.laws.proofs.Members.{keep-le, keep-map, keep-twice, keep-cong}
-use Rattle.laws.proofs.Tables.{length-tab, getD-tab, tab-cong, tab-any}
+use Rattle.laws.proofs.Tables.{length-tab, getD-tab, tab-any, any-tab, tab-all, all-tab}
 use Rattle.columns.proofs.Below.{below-at}
 use Rattle.cells.proofs.FaceLaws.{keep-append}
 use Rattle.cells.proofs.Reached.{places, places-below}
@@ -30,34 +29,31 @@ use Rattle.selection.proofs.PickedPlaces.{picked-places, size-is}
 use Rattle.mesh.specs.Parts.{block-count, part}
 use Rattle.mesh.proofs.Parts.{mesh-tab, sound-test, sound-is}
 use Rattle.balance.specs.Moves.{can-leave, fits, leaves-at, Untried-in, going, candidate-of, at}
-use Rattle.balance.specs.Moves.{SoundParts, mesh-in, count-at, CellsCounted, Surpluses, moves-between, moves-from, all-moves, move-found}
+use Rattle.balance.specs.Moves.{SoundParts, mesh-in, count-at, picked-count, CellsCounted, Least, moves-between, moves-from, all-moves, move-found}
 use Rattle.balance.specs.declared.Found.{Found}
 use Rattle.balance.specs.declared.Found.the-variants as found
 use Rattle.balance.specs.declared.leaving.Candidate.{Candidate}
 use Rattle.balance.specs.declared.leaving.Candidate.the-variants.{Volume, Nothing}
 use Rattle.balance.proofs.Strikes.{leaves-any, untried-more, fits-same}
-use Rattle.balance.proofs.Searches.{joined, none-from, Searching, searching-start, searching-skip, searching-none, search-found, search-end}
-use Rattle.balance.proofs.SurplusLaws.{surpluses-are}
+use Rattle.balance.proofs.Searches.{joined, all-joined, none-from, Searching, searching-start, searching-skip, searching-none, search-found, search-end}
+use Rattle.balance.proofs.SurplusLaws.{counts-are}
 
 keep-concat : (q : Move → Bool) (f : ℕ → List Move) (l : List ℕ) → keep q (concat-map f l) ≡ concat-map (λ x. keep q (f x)) l
 keep-concat q f [] = refl
 keep-concat q f (x ∷ l) = keep-append q (f x) (concat-map f l) ∙ ap (λ (r : List Move). keep q (f x) ++ r) (keep-concat q f l)
 
 -- ALL MOVES are the candidates that can be made
-pub moves-are : (o : Oracle) (mesh : List ℕ) → keep (can-move all-rack (mesh-in mesh)) (candidates o (mesh-in mesh) (surpluses (counts o (mesh-in mesh)))) ≡ all-moves o mesh
+pub moves-are : (o : Oracle) (mesh : List ℕ) → keep (can-move all-rack (mesh-in mesh)) (candidates o (mesh-in mesh) (counts o (mesh-in mesh))) ≡ all-moves o mesh
 unfolding candidates
 moves-are o mesh =
-    keep-concat (can-move all-rack (mesh-in mesh)) (λ d. concat-map (pairs d) below) above
-    ∙ ap (λ (f : ℕ → List Move). concat-map f above) (λ i d. keep-concat (can-move all-rack (mesh-in mesh)) (pairs d) below i)
+    keep-concat can (λ d. concat-map (pairs d) (takers d)) (tab (λ b. b) (length (counts o (mesh-in mesh))))
+    ∙ ap (λ (f : ℕ → List Move). concat-map f (tab (λ b. b) (length (counts o (mesh-in mesh))))) (λ i d. keep-concat can (pairs d) (takers d) i)
   where
-    ss : List ℤ
-    ss = surpluses (counts o (mesh-in mesh))
+    can : Move → Bool
+    can = can-move all-rack (mesh-in mesh)
 
-    below : List ℕ
-    below = blocks-with is-below ss
-
-    above : List ℕ
-    above = blocks-with is-above ss
+    takers : ℕ → List ℕ
+    takers d = recipients (counts o (mesh-in mesh)) (picked-count o mesh d)
 
     pairs : ℕ → ℕ → List Move
     pairs d r = map (λ s. record { donor = d; recipient = r; serial = s }) (picked o (block-at (mesh-in mesh) d .darts))
@@ -193,37 +189,39 @@ pub one-move : (l : List Move) (t : Move) → move t ≡ first-or blocked l → 
 one-move [] t e = let z : _≡_ {A = ℕ} 0 1 = cc in absurd (omega arith)
 one-move (x ∷ l) t e = let same : t ≡ x = cc in (l, ap (λ (y : Move). y ∷ l) (sym same))
 
--- THE BLOCKS ABOVE AND BELOW
-abbrev pub surplus-at : Oracle → List ℕ → ℕ → ℤ
-surplus-at o mesh b = getD (surpluses (counts o (mesh-in mesh))) b (pos 0)
-
-pub not-both : (x : ℤ) → is-above x ≡ true → is-below x ≡ true → ⊥
-not-both (pos n) a b = let p = ltb-true 0 n a in let q = ltb-true n 0 b in omega arith
-not-both (negsuc n) a b = true≢false (sym a)
+-- WHO GIVES TO WHOM
+abbrev pub gives-to : Oracle → List ℕ → ℕ → ℕ → Bool
+gives-to o mesh d r = may-give (picked-count o mesh d) (picked-count o mesh r)
 
 module _ (o : Oracle) (mesh : List ℕ) where
-  pub surpluses-length : length (surpluses (counts o (mesh-in mesh))) ≡ block-count mesh
-  surpluses-length = ap length (surpluses-are o mesh) ∙ length-tab (λ i. subℕ (count-at o mesh i) (sum (tab (count-at o mesh) (block-count mesh)) / block-count mesh)) (block-count mesh)
+  counts-length : length (counts o (mesh-in mesh)) ≡ block-count mesh
+  counts-length = ap length (counts-are o mesh) ∙ length-tab (count-at o mesh) (block-count mesh)
 
-  pub from-is : (d : ℕ) → moves-from o mesh d ≡ joined (λ b. is-below (surplus-at o mesh b)) (moves-between o mesh d) (block-count mesh)
-  from-is d = ap (λ (n : ℕ). joined (λ b. is-below (surplus-at o mesh b)) (moves-between o mesh d) n) surpluses-length
+  counted-is : {cs : List ℕ} → CellsCounted o mesh cs → (i : ℕ) → i < block-count mesh → getD cs i 0 ≡ picked-count o mesh i
+  counted-is c i h = c .entry i h ∙ sym (ap (λ (l : List ℕ). getD l i 0) (counts-are o mesh) ∙ getD-tab (count-at o mesh) (block-count mesh) i 0 h)
 
-  pub all-are : all-moves o mesh ≡ joined (λ b. is-above (surplus-at o mesh b)) (moves-from o mesh) (block-count mesh)
-  all-are = ap (λ (n : ℕ). joined (λ b. is-above (surplus-at o mesh b)) (moves-from o mesh) n) surpluses-length
+  pub gives-told : {cs : List ℕ} → CellsCounted o mesh cs → (d r : ℕ) → d < block-count mesh → r < block-count mesh → {t : Bool} → t ≡ may-give (getD cs d 0) (getD cs r 0) → t ≡ gives-to o mesh d r
+  gives-told {cs} c d r hd hr e = e ∙ ap (λ (x : ℕ). may-give x (getD cs r 0)) (counted-is c d hd) ∙ ap (may-give (picked-count o mesh d)) (counted-is c r hr)
+
+  pub blocks-apart : (d r : ℕ) → gives-to o mesh d r ≡ true → r ≡ d → ⊥
+  blocks-apart d r e same = let l = leb-true (picked-count o mesh r + 2) (picked-count o mesh d) e in let q = ap (picked-count o mesh) same in omega (arith, l, q)
+
+  pub from-is : (d : ℕ) → moves-from o mesh d ≡ joined (gives-to o mesh d) (moves-between o mesh d) (block-count mesh)
+  from-is d = ap (λ (n : ℕ). joined (gives-to o mesh d) (moves-between o mesh d) n) counts-length
 
 -- THE LOOP over recipients of block d
 pub record Giving (o : Oracle) (mesh : List ℕ) (d : ℕ) (s : List ℕ) (r : ℕ) : Type 0 where
   pub untried : Untried-in (picked-size o (part mesh d)) (part mesh d) s
-  pub search : Searching (λ b. is-below (surplus-at o mesh b)) (moves-between o mesh d) (block-count mesh) r
+  pub search : Searching (gives-to o mesh d) (moves-between o mesh d) (block-count mesh) r
 
 pub giving-start : {o : Oracle} {mesh : List ℕ} {d : ℕ} {s : List ℕ} → Sizes o (part mesh d) s → Giving o mesh d s 0
 giving-start {o} {mesh} {d} {s} z = record {
   untried = record { len = z .len; entry = λ p h. inl (z .entry p h) };
-  search = searching-start (λ b. is-below (surplus-at o mesh b)) (moves-between o mesh d) (block-count mesh);
+  search = searching-start (gives-to o mesh d) (moves-between o mesh d) (block-count mesh);
 }
 
 module _ {o : Oracle} {mesh : List ℕ} {d : ℕ} {s : List ℕ} {r : ℕ} (w : Giving o mesh d s r) (h : r < block-count mesh) where
-  pub giving-skip : is-below (surplus-at o mesh r) ≡ false → Giving o mesh d s (r + 1)
+  pub giving-skip : gives-to o mesh d r ≡ false → Giving o mesh d s (r + 1)
   giving-skip e = record { untried = w .untried; search = searching-skip (w .search) h e }
 
   module _ (sp : SoundParts mesh) (hd : d < block-count mesh) (apart : r ≡ d → ⊥) {c : Candidate}
@@ -241,7 +239,7 @@ module _ {o : Oracle} {mesh : List ℕ} {d : ℕ} {s : List ℕ} {r : ℕ} (w : 
           ∙ ap (map (λ x. record { donor = d; recipient = r; serial = x })) (none-goes there (sym q ∙ first-is)));
     }
 
-    pub giving-found : {serial : ℕ} → c ≡ Volume serial → is-below (surplus-at o mesh r) ≡ true → move-found d (found.Move r serial) ≡ first-or blocked (moves-from o mesh d)
+    pub giving-found : {serial : ℕ} → c ≡ Volume serial → gives-to o mesh d r ≡ true → move-found d (found.Move r serial) ≡ first-or blocked (moves-from o mesh d)
     giving-found {serial} q b =
         let g = one-goes there serial (sym q ∙ first-is) in
         let f = search-found (w .search) h b (record { donor = d; recipient = r; serial = serial }) (map (λ x. record { donor = d; recipient = r; serial = x }) (g .0))
@@ -251,76 +249,92 @@ module _ {o : Oracle} {mesh : List ℕ} {d : ℕ} {s : List ℕ} {r : ℕ} (w : 
 pub giving-end : {o : Oracle} {mesh : List ℕ} {d : ℕ} {s : List ℕ} {r : ℕ} → Giving o mesh d s r → block-count mesh ≤ r → move-found d found.Nothing ≡ first-or blocked (moves-from o mesh d)
 giving-end {o} {mesh} {d} w h = sym (ap (first-or blocked) (from-is o mesh d ∙ search-end (w .search) h))
 
--- THE NEXT MOVE
-module _ (o : Oracle) (mesh : List ℕ) {s : List ℤ} (ss : Surpluses o mesh s) where
-  abbrev model-surpluses : List ℤ
-  model-surpluses = surpluses (counts o (mesh-in mesh))
+-- THE NEXT MOVE, by the counts and the least of them
+next-is : (o : Oracle) (mesh : List ℕ) → next-of all-rack o (mesh-in mesh) ≡ first-or (cond (is-level (counts o (mesh-in mesh))) level blocked) (all-moves o mesh)
+unfolding next-of
+next-is o mesh = ap (first-or (cond (is-level (counts o (mesh-in mesh))) level blocked)) (moves-are o mesh)
 
-  any-same : (q : ℤ → Bool) → any q (tab (λ i. getD s i (pos 0)) (block-count mesh)) ≡ any q model-surpluses
-  any-same q = ap (any q) (tab-cong (λ i. getD s i (pos 0)) f (block-count mesh) (λ i h. ss .entry i h ∙ ap (λ (l : List ℤ). getD l i (pos 0)) (surpluses-are o mesh) ∙ getD-tab f (block-count mesh) i (pos 0) h)
-      ∙ sym (surpluses-are o mesh))
+module _ (o : Oracle) (mesh : List ℕ) {cs : List ℕ} (C : CellsCounted o mesh cs) {low : ℕ} (L : Least cs (block-count mesh) low) where
+  abbrev k : ℕ
+  k = block-count mesh
+
+  abbrev f : ℕ → ℕ
+  f = count-at o mesh
+
+  -- a donor, by what it has more than the least
+  abbrev is-donor : ℕ → Bool
+  is-donor d = may-give (picked-count o mesh d) low
+
+  pub donor-told : (d : ℕ) → d < k → {t : Bool} → t ≡ may-give (getD cs d 0) low → t ≡ is-donor d
+  donor-told d h e = e ∙ ap (λ (x : ℕ). may-give x low) (counted-is o mesh C d h)
+
+  low-is : (r : ℕ) → r < k → low ≤ picked-count o mesh r
+  low-is r h = omega (arith, L .not-above r h, counted-is o mesh C r h)
+
+  nothing-from : (d : ℕ) → is-donor d ≡ false → moves-from o mesh d ≡ []
+  nothing-from d e = from-is o mesh d ∙ none-from (gives-to o mesh d) (moves-between o mesh d) (λ b. b) k
+      (λ r h t. absurd (no-more (picked-count o mesh d) (picked-count o mesh r) (leb-false (low + 2) (picked-count o mesh d) e) (leb-true (picked-count o mesh r + 2) (picked-count o mesh d) t) (low-is r h)))
     where
-      f : ℕ → ℤ
-      f i = subℕ (count-at o mesh i) (sum (tab (count-at o mesh) (block-count mesh)) / block-count mesh)
+      no-more : (d r : ℕ) → d < low + 2 → r + 2 ≤ d → low ≤ r → ⊥
+      no-more d r a b c = omega arith
 
-  none-passes : (q : ℤ → Bool) → any q model-surpluses ≡ false → (b : ℕ) → b < block-count mesh → q (surplus-at o mesh b) ≡ true → ⊥
-  none-passes q e b h t = true≢false (sym (tab-any q (λ i. getD s i (pos 0)) (block-count mesh) b h (ap q (ss .entry b h) ∙ t)) ∙ any-same q ∙ e)
+  all-are : all-moves o mesh ≡ joined is-donor (moves-from o mesh) k
+  all-are = ap (λ (n : ℕ). concat-map (moves-from o mesh) (tab (λ b. b) n)) (counts-length o mesh) ∙ all-joined is-donor (moves-from o mesh) k (λ d h e. nothing-from d e)
 
-  next-is : next-of all-rack o (mesh-in mesh) ≡ first-or (cond (not (any is-above model-surpluses) || not (any is-below model-surpluses)) level blocked) (all-moves o mesh)
-  unfolding next-of
-  next-is = ap (first-or (cond (not (any is-above model-surpluses) || not (any is-below model-surpluses)) level blocked)) (moves-are o mesh)
+  abbrev some-gives : Bool
+  some-gives = any (λ x. may-give x low) (tab (λ i. getD cs i 0) k)
 
-  level-if : (a b : Bool) (l : List Move) → (not a || not b) ≡ true → l ≡ [] → first-or (cond (not a || not b) level blocked) l ≡ level
-  level-if a b l e q = rw (e, q) refl
+  none-gives : some-gives ≡ false → (d : ℕ) → d < k → may-give (getD cs d 0) low ≡ false
+  none-gives e d h = by-cases (may-give (getD cs d 0) low) (λ t. absurd (true≢false (sym (tab-any (λ x. may-give x low) (λ i. getD cs i 0) k d h t) ∙ e))) (λ t. t)
 
-  or-true : (a : Bool) → (a || true) ≡ true
-  or-true true = refl
-  or-true false = refl
-
-  pub nobody-above : {r : Bool} → r ≡ any is-above (tab (λ i. getD s i (pos 0)) (block-count mesh)) → not r ≡ true → served level ≡ served (next-of all-rack o (mesh-in mesh))
-  nobody-above {r} e h = ap served (sym (next-is ∙ level-if (any is-above model-surpluses) (any is-below model-surpluses) (all-moves o mesh)
-      (ap (λ (t : Bool). not t || not (any is-below model-surpluses)) is-none)
-      (all-are o mesh ∙ none-from (λ b. is-above (surplus-at o mesh b)) (moves-from o mesh) (λ b. b) (block-count mesh) (λ b l t. absurd (none-passes is-above is-none b l t)))))
+  is-level-if : some-gives ≡ false → is-level (tab f k) ≡ true
+  unfolding is-level
+  is-level-if e = tab-all (λ c. all (λ d. not (may-give c d)) (tab f k)) f k (λ i hi. tab-all (λ d. not (may-give (f i) d)) f k (λ j hj.
+      within (f i) (f j) (let n = leb-false (low + 2) (getD cs i 0) (none-gives e i hi) in omega (arith, n, C .entry i hi)) (omega (arith, L .not-above j hj, C .entry j hj))))
     where
-      is-none : any is-above model-surpluses ≡ false
-      is-none = sym (any-same is-above) ∙ sym e ∙ not-true r h
+      within : (x y : ℕ) → x < low + 2 → low ≤ y → not (may-give x y) ≡ true
+      within x y a b = ap not (lt-leb (y + 2) x (omega arith))
 
-  pub nobody-below : {r : Bool} → r ≡ any is-below (tab (λ i. getD s i (pos 0)) (block-count mesh)) → not r ≡ true → served level ≡ served (next-of all-rack o (mesh-in mesh))
-  nobody-below {r} e h = ap served (sym (next-is ∙ level-if (any is-above model-surpluses) (any is-below model-surpluses) (all-moves o mesh)
-      (ap (λ (t : Bool). not (any is-above model-surpluses) || not t) is-none ∙ or-true (not (any is-above model-surpluses)))
-      (all-are o mesh ∙ none-from (λ b. is-above (surplus-at o mesh b)) (moves-from o mesh) (λ b. b) (block-count mesh) (λ b l t.
-      from-is o mesh b ∙ none-from (λ c. is-below (surplus-at o mesh c)) (moves-between o mesh b) (λ c. c) (block-count mesh) (λ c k u. absurd (none-passes is-below is-none c k u))))))
+  not-level-if : some-gives ≡ true → is-level (tab f k) ≡ false
+  unfolding is-level
+  not-level-if e = by-cases (is-level (tab f k))
+      (λ t. let p = any-tab (λ x. may-give x low) (λ i. getD cs i 0) k e in
+      let row = all-tab (λ c. all (λ d. not (may-give c d)) (tab f k)) f k t (p .0) (p .1) in
+      let no = leb-false (f (L .place) + 2) (f (p .0)) (not-true _ (all-tab (λ d. not (may-give (f (p .0)) d)) f k row (L .place) (L .below))) in
+      let yes = leb-true (low + 2) (getD cs (p .0) 0) (p .2) in
+      absurd (omega (arith, no, yes, C .entry (p .0) (p .1), C .entry (L .place) (L .below), L .there)))
+      (λ t. t)
+
+  level-here : (b : Bool) → is-level (tab f k) ≡ b → is-level (counts o (mesh-in mesh)) ≡ b
+  level-here b e = ap is-level (counts-are o mesh) ∙ e
+
+  pub nobody-gives : {r : Bool} → r ≡ some-gives → not r ≡ true → served level ≡ served (next-of all-rack o (mesh-in mesh))
+  nobody-gives {r} e h = ap served (sym (next-is o mesh ∙ level-if (is-level (counts o (mesh-in mesh))) (all-moves o mesh) (level-here true (is-level-if none))
+      (all-are ∙ none-from is-donor (moves-from o mesh) (λ b. b) k (λ d l t. nothing-from d (sym (donor-told d l refl) ∙ none-gives none d l)))))
     where
-      is-none : any is-below model-surpluses ≡ false
-      is-none = sym (any-same is-below) ∙ sym e ∙ not-true r h
+      none : some-gives ≡ false
+      none = sym e ∙ not-true r h
 
-  pub some-of-both : {r t : Bool} → r ≡ any is-above (tab (λ i. getD s i (pos 0)) (block-count mesh)) → not r ≡ false → t ≡ any is-below (tab (λ i. getD s i (pos 0)) (block-count mesh)) → not t ≡ false
-      → served (first-or blocked (all-moves o mesh)) ≡ served (next-of all-rack o (mesh-in mesh))
-  some-of-both {r} {t} e h f k =
-      ap served
-      (sym
-      (next-is
-      ∙ both (any is-above model-surpluses) (any is-below model-surpluses) (sym (any-same is-above) ∙ sym e ∙ not-false r h)
-      (sym (any-same is-below) ∙ sym f ∙ not-false t k)))
-    where
-      both : (a b : Bool) → a ≡ true → b ≡ true → first-or (cond (not a || not b) level blocked) (all-moves o mesh) ≡ first-or blocked (all-moves o mesh)
-      both a b x y = rw (x, y) refl
+      level-if : (b : Bool) (l : List Move) → b ≡ true → l ≡ [] → first-or (cond b level blocked) l ≡ level
+      level-if b l e q = rw (e, q) refl
 
--- THE LOOP over donors
-pub donor-found : (o : Oracle) (mesh : List ℕ) {d to serial : ℕ} {f : Found} → Searching (λ b. is-above (surplus-at o mesh b)) (moves-from o mesh) (block-count mesh) d → d < block-count mesh
-    → is-above (surplus-at o mesh d) ≡ true → move-found d f ≡ first-or blocked (moves-from o mesh d) → f ≡ found.Move to serial
-    → served (move (record { donor = d; recipient = to; serial = serial })) ≡ served (first-or blocked (all-moves o mesh))
-donor-found o mesh {d} {to} {serial} w h a e q =
-    let g = one-move (moves-from o mesh d) (record { donor = d; recipient = to; serial = serial }) (sym (ap (move-found d) q) ∙ e) in
-    let r = search-found w h a (record { donor = d; recipient = to; serial = serial }) (g .0) (g .1) in
-    ap served (sym (ap (first-or blocked) (all-are o mesh ∙ r .1)))
+  pub somebody-gives : {r : Bool} → r ≡ some-gives → not r ≡ false → served (first-or blocked (all-moves o mesh)) ≡ served (next-of all-rack o (mesh-in mesh))
+  somebody-gives {r} e h = ap served (sym (next-is o mesh ∙ ap (λ (b : Bool). first-or (cond b level blocked) (all-moves o mesh)) (level-here false (not-level-if (sym e ∙ not-false r h)))))
+
+  -- THE LOOP over donors
+  pub donor-found : {d to serial : ℕ} {w : Found} → Searching is-donor (moves-from o mesh) k d → d < k → is-donor d ≡ true
+      → move-found d w ≡ first-or blocked (moves-from o mesh d) → w ≡ found.Move to serial
+      → served (move (record { donor = d; recipient = to; serial = serial })) ≡ served (first-or blocked (all-moves o mesh))
+  donor-found {d} {to} {serial} s h a e q =
+      let g = one-move (moves-from o mesh d) (record { donor = d; recipient = to; serial = serial }) (sym (ap (move-found d) q) ∙ e) in
+      let r = search-found s h a (record { donor = d; recipient = to; serial = serial }) (g .0) (g .1) in
+      ap served (sym (ap (first-or blocked) (all-are ∙ r .1)))
+
+  pub donor-end : {d : ℕ} → Searching is-donor (moves-from o mesh) k d → k ≤ d → served blocked ≡ served (first-or blocked (all-moves o mesh))
+  donor-end s h = ap served (sym (ap (first-or blocked) (all-are ∙ search-end s h)))
 
 pub donor-none : (o : Oracle) (mesh : List ℕ) (d : ℕ) {f : Found} → move-found d f ≡ first-or blocked (moves-from o mesh d) → f ≡ found.Nothing → moves-from o mesh d ≡ []
 donor-none o mesh d e q = no-move (moves-from o mesh d) (sym (ap (move-found d) q) ∙ e)
-
-pub donor-end : (o : Oracle) (mesh : List ℕ) {d : ℕ} → Searching (λ b. is-above (surplus-at o mesh b)) (moves-from o mesh) (block-count mesh) d → block-count mesh ≤ d
-    → served blocked ≡ served (first-or blocked (all-moves o mesh))
-donor-end o mesh w h = ap served (sym (ap (first-or blocked) (all-are o mesh ∙ search-end w h)))
 
 numbered-at : (g : ℕ → Block) (n i : ℕ) → numbered-from i (tab g n) ≡ true → (p : ℕ) → p < n → g p .number ≡ i + p
 unfolding numbered-from
@@ -346,19 +360,6 @@ sound-parts mesh images right =
       number = λ i h. omega (arith, numbered-at (λ i. block-in (part mesh i)) (block-count mesh) 0 (q .2) i h);
     }
 
--- WHAT A SIGN SAYS
-pub below-told : {o : Oracle} {mesh : List ℕ} {s : List ℤ} → Surpluses o mesh s → (b : ℕ) → b < block-count mesh → {x : ℤ} → x ≡ getD s b (pos 0)
-    → {t : Bool} → t ≡ is-below x → t ≡ is-below (surplus-at o mesh b)
-below-told ss b h e f = f ∙ ap is-below (e ∙ ss .entry b h)
-
-pub above-told : {o : Oracle} {mesh : List ℕ} {s : List ℤ} → Surpluses o mesh s → (b : ℕ) → b < block-count mesh → {x : ℤ} → x ≡ getD s b (pos 0)
-    → {t : Bool} → t ≡ is-above x → t ≡ is-above (surplus-at o mesh b)
-above-told ss b h e f = f ∙ ap is-above (e ∙ ss .entry b h)
-
--- a block that is above is none that is below
-pub blocks-apart : (s : List ℤ) (d r : ℕ) → is-above (getD s d (pos 0)) ≡ true → {x : ℤ} → x ≡ getD s r (pos 0) → {t : Bool} → t ≡ is-below x → t ≡ true → r ≡ d → ⊥
-blocks-apart s d r a e f q same = not-both (getD s d (pos 0)) a (ap (λ (y : ℕ). is-below (getD s y (pos 0))) (sym same) ∙ sym (ap is-below e) ∙ sym f ∙ q)
-
--- the mesh that the model reads
-pub model-mesh : (o : Oracle) (mesh : List ℕ) → served (next-of all-rack o (mesh-in mesh)) ≡ served (next-of all-rack o (map block-in (memories mesh)))
-model-mesh o mesh = ap (λ (m : List Block). served (next-of all-rack o m)) (sym (mesh-tab mesh))
+-- the least count is small
+pub least-small : {o : Oracle} {mesh cs : List ℕ} → SoundParts mesh → CellsCounted o mesh cs → {low : ℕ} → Least cs (block-count mesh) low → low ≤ 4096
+least-small sp c l = omega (arith, counted-small sp c (l .place) (l .below), l .there)

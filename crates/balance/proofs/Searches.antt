@@ -13,6 +13,16 @@ use Rattle.laws.proofs.Tests.{by-cases, last-or-below}
 abbrev pub joined : (ℕ → Bool) → (ℕ → List Move) → ℕ → List Move
 joined a f n = concat-map f (keep a (tab (λ b. b) n))
 
+-- all lists, where those of blocks that do not pass are empty
+joined-from : (a : ℕ → Bool) (f : ℕ → List Move) (h : ℕ → ℕ) (n : ℕ) → ((e : ℕ) → e < n → a (h e) ≡ false → f (h e) ≡ []) → concat-map f (tab h n) ≡ concat-map f (keep a (tab h n))
+joined-from a f h zero empty = refl
+joined-from a f h (suc n) empty =
+    let ih = joined-from a f (λ k. h (suc k)) n (λ x k. empty (suc x) (omega arith)) in
+    by-cases (a (h 0)) (λ y. rw y (ap (λ (l : List Move). f (h 0) ++ l) ih)) (λ y. rw (y, empty 0 (omega arith) y) ih)
+
+pub all-joined : (a : ℕ → Bool) (f : ℕ → List Move) (n : ℕ) → ((e : ℕ) → e < n → a e ≡ false → f e ≡ []) → concat-map f (tab (λ b. b) n) ≡ joined a f n
+all-joined a f n empty = joined-from a f (λ b. b) n empty
+
 -- blocks h 0, h 1, .., of which those before d have none
 found-from : (a : ℕ → Bool) (f : ℕ → List Move) (h : ℕ → ℕ) (n d : ℕ) → d < n → ((e : ℕ) → e < d → a (h e) ≡ true → f (h e) ≡ []) → a (h d) ≡ true
     → (t : Move) (ts : List Move) → f (h d) ≡ t ∷ ts → (us : List Move) × (concat-map f (keep a (tab h n)) ≡ t ∷ us)

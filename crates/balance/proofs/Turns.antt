@@ -2,6 +2,7 @@
 --   mesh-no, mesh-yes                what the mesh check answered
 --   refused-mesh, refused-oracle     a no of the mesh check, and a no to 28
 --   gives-move                       the move after all questions
+--   balanced, not-refused            with what stands beside the answer
 --   other-mesh, other-number         the same where no oracle has the number
 --   by-zero, by-one, by-two, by-other    the oracle by its number
 use mathlib.Core.Path.{_≡_, refl, sym, ap, subst, _∙_}
@@ -9,16 +10,27 @@ use mathlib.Core.Bool.{true, false}
 use mathlib.Core.List.{List, [], _∷_, map}
 use mathlib.Core.Option.{Option, none}
 use Prim.Native.Nat.{ℕ, zero, suc}
-use Rattle.model.specs.Values.{Point, all-rack}
+use native.Mathlib.Omega.{arith}
+use lib.IntN.{ℤ, pos}
+use lib.ListN.{getD}
+use Rattle.model.specs.Lists.{tab}
+use Rattle.model.specs.Values.{Point, Block, all-rack}
 use Rattle.model.specs.Sound.{mesh-checks}
 use Rattle.model.specs.Image.{block-in}
-use Rattle.model.specs.Balance.{Oracle, every, box, plane, oracle-right, NextMove, next-of, numbered-oracle}
+use Rattle.model.specs.Balance as balance
+use Rattle.model.specs.Balance.{Oracle, every, box, plane, oracle-right, numbered-oracle}
 use Rattle.model.specs.Calls as calls
 use Rattle.model.specs.Calls.{served, refused, memories, whole-mesh-checks}
-use Rattle.answers.specs.Answers.{question, answer-of, answered, Gives}
+use Rattle.answers.specs.Answers.{question, answer-of, move-of, answered, Gives}
 use Rattle.answers.specs.declared.Refusal.{Refusal}
+use Rattle.answers.specs.declared.NextMove.{NextMove}
+use Rattle.answers.specs.declared.NextMove.the-variants as next
 use Rattle.answers.specs.declared.Answer.{Answer}
 use Rattle.answers.specs.declared.Answer.the-variants as answer
+use Rattle.mesh.proofs.Parts.{mesh-tab}
+use Rattle.balance.specs.Moves.{mesh-in}
+use Rattle.balance.specs.declared.nextmove.Balance.{Balance}
+use Rattle.balance.specs.Answer.{answer-with, balance-told, zero-beside, NothingBeside, GivesBalance}
 use Rattle.answers.proofs.Questions.{numbered, gives, ask-all, ask-first, ask-no, ask-yes, ask-end}
 
 -- no oracle has another number
@@ -28,6 +40,43 @@ no-other zero axis low high a b c = absurd (a refl)
 no-other (suc zero) axis low high a b c = absurd (b refl)
 no-other (suc (suc zero)) axis low high a b c = absurd (c refl)
 no-other (suc (suc (suc n))) axis low high a b c = refl
+
+-- BESIDE THE ANSWER
+answer-named : (n : NextMove) (a : ℕ) (ss : List ℤ) {x : balance.NextMove} → move-of n ≡ served x → answer-with n a ss ≡ served (record { next = x; mean = a; surplus = ss })
+unfolding answer-with
+answer-named next.Level a ss {x} e = let q : balance.level ≡ x = cc in rw (sym q)
+answer-named next.Blocked a ss {x} e = let q : balance.blocked ≡ x = cc in rw (sym q)
+answer-named (next.Move d r s) a ss {x} e = let q : balance.move (record { donor = d; recipient = r; serial = s }) ≡ x = cc in rw (sym q)
+answer-named (next.Refused q) a ss {x} e = let z : _≡_ {A = ℕ} 0 1 = cc in absurd (omega arith)
+
+pub told : (n : NextMove) (a : ℕ) (ss : List ℤ) {x : balance.NextMove} {b : ℕ} {rs : List ℤ} → move-of n ≡ served x → a ≡ b → ss ≡ rs
+    → answer-with n a ss ≡ served (record { next = x; mean = b; surplus = rs })
+told n a ss {x} e f g = answer-named n a ss e ∙ (λ i. served (record { next = x; mean = f i; surplus = g i }))
+
+-- of the mesh that the model reads
+pub model-mesh : (o : Oracle) (mesh : List ℕ)
+    → served (record {
+      next = balance.next-of all-rack o (mesh-in mesh);
+      mean = balance.mean (balance.counts o (mesh-in mesh));
+      surplus = tab (λ i. getD (balance.surpluses (balance.counts o (mesh-in mesh))) i (pos 0)) 16;
+    })
+    ≡ served (balance.balance-of all-rack o (map block-in (memories mesh)))
+unfolding balance.balance-of
+model-mesh o mesh = ap (λ (m : List Block). served (balance.balance-of all-rack o m)) (sym (mesh-tab mesh))
+
+none-beside : (n : NextMove) (a : ℕ) (ss : List ℤ) (x : balance.Balance) → answer-with n a ss ≡ served x → zero-beside n a ss
+unfolding answer-with zero-beside
+none-beside next.Level a ss x e = tt
+none-beside next.Blocked a ss x e = tt
+none-beside (next.Move d r s) a ss x e = tt
+none-beside (next.Refused q) a ss x e = let z : _≡_ {A = ℕ} 0 1 = cc in absurd (omega arith)
+
+pub balanced : {result : calls.Result balance.Balance} {b : Balance} {given : calls.Answer balance.Balance} {after : List ℕ} → balance-told b ≡ given → NothingBeside b → Gives result given after
+    → GivesBalance result b after
+balanced e z g = record { answer = e ∙ g .answer; beside = z; left = g .left }
+
+pub not-refused : (b : Balance) {x : balance.Balance} → balance-told b ≡ served x → NothingBeside b
+not-refused b {x} e = none-beside (b .next) (b .mean) (b .surplus) x e
 
 module _ (m s : List ℕ) where
   -- no question of the mesh check has the number 0
@@ -50,8 +99,8 @@ module _ (m s : List ℕ) where
     unfolding calls.next-move
     refused-oracle h e l = gives _ _ _ _ (ask-all (whole-mesh-checks all-rack m s) ((28, oracle-right o) ∷ []) mesh-numbered h (ask-no refl e l))
 
-    pub gives-move : {given : calls.Answer NextMove} {after : List ℕ} → served tt ≡ answered (whole-mesh-checks all-rack m s)
-        → oracle-right o ≡ true → given ≡ served (next-of all-rack o (map block-in (memories m))) → after ≡ s
+    pub gives-move : {given : calls.Answer balance.Balance} {after : List ℕ} → served tt ≡ answered (whole-mesh-checks all-rack m s)
+        → oracle-right o ≡ true → given ≡ served (balance.balance-of all-rack o (map block-in (memories m))) → after ≡ s
         → Gives (calls.next-move all-rack m o s) given after
     unfolding calls.next-move
     gives-move h e g l =
@@ -64,24 +113,24 @@ module _ (m s : List ℕ) where
   pub other-number : {after : List ℕ} → served tt ≡ answered (whole-mesh-checks all-rack m s) → after ≡ s → Gives (calls.next-move-of all-rack m none s) (refused 28) after
   other-number h l = gives _ _ _ _ (ask-all (whole-mesh-checks all-rack m s) ((28, false) ∷ []) mesh-numbered h (ask-no refl refl l))
 
-  module _ (n axis : ℕ) (low high : Point) {given : calls.Answer NextMove} {after : List ℕ} where
+  module _ (n axis : ℕ) (low high : Point) {b : Balance} {after : List ℕ} where
     -- by the oracle that a number has
-    by-oracle : {o : Option Oracle} → numbered-oracle n axis low high ≡ o → Gives (calls.next-move-of all-rack m o s) given after
-        → Gives (calls.next-move-by-number all-rack m n axis low high s) given after
+    by-oracle : {o : Option Oracle} → numbered-oracle n axis low high ≡ o → GivesBalance (calls.next-move-of all-rack m o s) b after
+        → GivesBalance (calls.next-move-by-number all-rack m n axis low high s) b after
     unfolding calls.next-move-by-number
-    by-oracle e g = subst (λ (x : Option Oracle). Gives (calls.next-move-of all-rack m x s) given after) (sym e) g
+    by-oracle e g = subst (λ (x : Option Oracle). GivesBalance (calls.next-move-of all-rack m x s) b after) (sym e) g
 
-    pub by-zero : n ≡ 0 → Gives (calls.next-move all-rack m every s) given after → Gives (calls.next-move-by-number all-rack m n axis low high s) given after
+    pub by-zero : n ≡ 0 → GivesBalance (calls.next-move all-rack m every s) b after → GivesBalance (calls.next-move-by-number all-rack m n axis low high s) b after
     unfolding numbered-oracle
     by-zero e g = by-oracle (ap (λ (x : ℕ). numbered-oracle x axis low high) e) g
 
-    pub by-one : n ≡ 1 → Gives (calls.next-move all-rack m (box low high) s) given after → Gives (calls.next-move-by-number all-rack m n axis low high s) given after
+    pub by-one : n ≡ 1 → GivesBalance (calls.next-move all-rack m (box low high) s) b after → GivesBalance (calls.next-move-by-number all-rack m n axis low high s) b after
     unfolding numbered-oracle
     by-one e g = by-oracle (ap (λ (x : ℕ). numbered-oracle x axis low high) e) g
 
-    pub by-two : n ≡ 2 → Gives (calls.next-move all-rack m (plane axis (low .x)) s) given after → Gives (calls.next-move-by-number all-rack m n axis low high s) given after
+    pub by-two : n ≡ 2 → GivesBalance (calls.next-move all-rack m (plane axis (low .x)) s) b after → GivesBalance (calls.next-move-by-number all-rack m n axis low high s) b after
     unfolding numbered-oracle
     by-two e g = by-oracle (ap (λ (x : ℕ). numbered-oracle x axis low high) e) g
 
-    pub by-other : (n ≡ 0 → ⊥) → (n ≡ 1 → ⊥) → (n ≡ 2 → ⊥) → Gives (calls.next-move-of all-rack m none s) given after → Gives (calls.next-move-by-number all-rack m n axis low high s) given after
+    pub by-other : (n ≡ 0 → ⊥) → (n ≡ 1 → ⊥) → (n ≡ 2 → ⊥) → GivesBalance (calls.next-move-of all-rack m none s) b after → GivesBalance (calls.next-move-by-number all-rack m n axis low high s) b after
     by-other a b c g = by-oracle (no-other n axis low high a b c) g

@@ -1,18 +1,18 @@
--- The next move by places: which volumes may go, the surpluses of a mesh in memory, and the moves of one donor. Assumes nothing.
+-- The next move by places: which volumes may go, counts and surpluses of a mesh in memory, and the moves of one donor. Assumes nothing.
 use mathlib.Core.Path.{_≡_}
-use mathlib.Core.Bool.{Bool, true, false, _&&_}
+use mathlib.Core.Bool.{Bool, true, false, cond, _&&_}
 use mathlib.Core.List.{List, [], _∷_, map}
 use mathlib.Core.Logic.{_⊎_}
 use Prim.Native.Nat.{ℕ, _-_, _≤_, _<_}
 use lib.Dec.{leb, ltb, eqb}
 use lib.ListN.{length, getD, drop}
-use lib.IntN.{ℤ, pos}
+use lib.IntN.{ℤ, pos, subℕ}
 use Rattle.model.specs.Lists.{keep, tab, concat-map, first-no}
 use Rattle.model.specs.Values.{Block, all-rack, message-darts}
 use Rattle.model.specs.Sound.{block-at}
 use Rattle.model.specs.Image.{column, block-in, holds-block}
 use Rattle.model.specs.Departure.{departure-checks}
-use Rattle.model.specs.Balance.{Oracle, Move, NextMove, move, blocked, picked, counts, surpluses, is-above, is-below, can-move, blocks-with}
+use Rattle.model.specs.Balance.{Oracle, Move, NextMove, move, blocked, picked, counts, recipients, can-move}
 use Rattle.cells.specs.Places.{Clear}
 use Rattle.mesh.specs.Parts.{block-count, part}
 use Rattle.balance.specs.declared.Found.{Found}
@@ -85,22 +85,31 @@ pub record CellsCounted (o : Oracle) (mesh cs : List ℕ) : Type 0 where
   pub size : length cs ≡ 16
   pub entry : (i : ℕ) → i < block-count mesh → getD cs i 0 ≡ count-at o mesh i
 
--- the surpluses in a table
-pub record Surpluses (o : Oracle) (mesh : List ℕ) (ss : List ℤ) : Type 0 where
-  pub size : length ss ≡ 16
-  pub entry : (i : ℕ) → i < block-count mesh → getD ss i (pos 0) ≡ getD (surpluses (counts o (mesh-in mesh))) i (pos 0)
+-- the least of the first k numbers of a table
+pub record Least (cs : List ℕ) (k low : ℕ) : Type 0 where
+  pub not-above : (i : ℕ) → i < k → low ≤ getD cs i 0
+  pub place : ℕ
+  pub below : place < k
+  pub there : getD cs place 0 ≡ low
+
+-- the surplus of block i, by counts of k blocks and their mean; 0 behind them
+abbrev pub surplus-by : List ℕ → ℕ → ℕ → ℕ → ℤ
+surplus-by cs k mean i = cond (ltb i k) (subℕ (getD cs i 0) mean) (pos 0)
+
+-- how many volumes of block i are picked, in the model's list
+abbrev pub picked-count : Oracle → List ℕ → ℕ → ℕ
+picked-count o mesh i = getD (counts o (mesh-in mesh)) i 0
 
 -- the moves from block d to block r
 abbrev pub moves-between : Oracle → List ℕ → ℕ → ℕ → List Move
 moves-between o mesh d r = keep (can-move all-rack (mesh-in mesh)) (map (λ s. record { donor = d; recipient = r; serial = s }) (picked o (block-at (mesh-in mesh) d .darts)))
 
--- from block d to any that is below
+-- from block d to any that it may give to
 abbrev pub moves-from : Oracle → List ℕ → ℕ → List Move
-moves-from o mesh d = concat-map (moves-between o mesh d) (blocks-with is-below (surpluses (counts o (mesh-in mesh))))
+moves-from o mesh d = concat-map (moves-between o mesh d) (recipients (counts o (mesh-in mesh)) (picked-count o mesh d))
 
--- from any that is above
 abbrev pub all-moves : Oracle → List ℕ → List Move
-all-moves o mesh = concat-map (moves-from o mesh) (blocks-with is-above (surpluses (counts o (mesh-in mesh))))
+all-moves o mesh = concat-map (moves-from o mesh) (tab (λ b. b) (length (counts o (mesh-in mesh))))
 
 -- what was found of block d: a move, or none and so blocked
 abbrev pub move-found : ℕ → Found → NextMove

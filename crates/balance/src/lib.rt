@@ -1,5 +1,5 @@
-// The next move of a mesh: which volume of a block above the mean goes to which block below it.
-pub mod surplus; // surplus.rt: the surplus of each block
+// The next move of a mesh: which volume goes from which block to which, of those that have at least two picked volumes fewer.
+pub mod surplus; // surplus.rt: counts, mean and surpluses, and which block may give to which
 pub mod leaving; // leaving.rt: which picked volumes of a block may go
 pub mod nextmove; // nextmove.rt: the questions of a whole mesh and an oracle, then its next move
 
@@ -8,20 +8,22 @@ ghost use mathlib.Core.Bool.{true};
 ghost use mathlib.Core.List.{map};
 ghost use Prim.Native.Nat.{ℕ, _-_, _≤_, _<_};
 ghost use lib.ListN.{length, getD};
-ghost use lib.IntN.{pos};
 ghost use Rattle.model.specs.Lists.{all};
 ghost use Rattle.model.specs.Values.{all-rack, room};
 ghost use Rattle.model.specs.Sound.{blocks-right};
 ghost use Rattle.model.specs.Image.{count-in, block-in, holds-block};
 ghost use Rattle.model.specs.Calls.{memories, served};
-ghost use Rattle.model.specs.Balance.{blocked, first-or, is-above, next-of as model-next};
+ghost use Rattle.model.specs.Balance.{blocked, first-or, next-of as model-next, balance-of};
 ghost use Rattle.answers.specs.Answers.{move-of};
 ghost use Rattle.oracle.specs.Oracle.{oracle-of};
 ghost use Rattle.selection.specs.Picked.{Sizes};
 ghost use Rattle.mesh.specs.Parts.{block-count, part};
-ghost use Rattle.balance.specs.Moves.{SoundParts, Surpluses, Untried-in, going, candidate-of, at, move-found, moves-from, all-moves};
+ghost use Rattle.balance.specs.Answer.{balance-told};
+ghost use Rattle.balance.specs.Moves.{SoundParts, CellsCounted, Least, Untried-in, going, candidate-of, at, move-found, mesh-in, moves-from, all-moves};
 use crate::leaving::Candidate;
+use crate::nextmove::Balance;
 use answers::NextMove;
+use memory::header::BLOCKS;
 use memory::header::Header;
 use oracle::Oracle;
 
@@ -49,27 +51,28 @@ enum Found {
     Nothing,
 }
 
-// The first move from block d, which is above, to a block that is below.
+// The first move from block d to a block that it may give to.
 fn from_donor(
     mesh: &[u64],
     o: Oracle,
-    surplus: [i32; memory::header::BLOCKS],
+    counts: [u32; BLOCKS],
     d: usize,
     sizes: &mut [usize],
 ) -> Found
     requires { ⌜ SoundParts (now mesh) × (d < block-count (now mesh)) × (count-in (part (now mesh) d) ≤ length (now sizes)) ⌝ }
-    requires { ⌜ Surpluses (oracle-of o) (now mesh) surplus × (is-above (getD surplus d (pos 0)) ≡ true) ⌝ }
+    requires { ⌜ CellsCounted (oracle-of o) (now mesh) counts ⌝ }
     ensures { λ r. ⌜ move-found d r ≡ first-or blocked (moves-from (oracle-of o) (now (mesh .entry)) d) ⌝ }
 {
     sizes_at(mesh, d, o, sizes);
     let k = mesh.len() / Header::WORDS;
-    // No volume may go to a block before r that is below.
+    let own = counts[d];
+    // No volume may go to a block before r.
     let mut r = 0;
     while r < k {
         let to = r;
         r += 1;
-        let s = surplus[to];
-        if !surplus::is_below(s) {
+        let c = counts[to];
+        if !surplus::gives(own, c) {
             continue;
         }
         let Candidate::Volume(serial) = between(mesh, d, to, sizes) else {
@@ -80,28 +83,29 @@ fn from_donor(
     Found::Nothing
 }
 
-// The first move of all.
+// The first move of all; a block that may give to none that has the least is no donor.
 fn first_move(
     mesh: &[u64],
     o: Oracle,
-    surplus: [i32; memory::header::BLOCKS],
+    counts: [u32; BLOCKS],
+    low: u32,
     sizes: &mut [usize],
 ) -> NextMove
-    requires { ⌜ SoundParts (now mesh) × Surpluses (oracle-of o) (now mesh) surplus
+    requires { ⌜ SoundParts (now mesh) × CellsCounted (oracle-of o) (now mesh) counts × Least counts (block-count (now mesh)) low
         × ((i : ℕ) → i < block-count (now mesh) → count-in (part (now mesh) i) ≤ length (now sizes)) ⌝ }
     ensures { λ r. ⌜ move-of r ≡ served (first-or blocked (all-moves (oracle-of o) (now (mesh .entry)))) ⌝ }
 {
     let k = mesh.len() / Header::WORDS;
-    // No volume may leave a block before d that is above.
+    // No volume may leave a block before d.
     let mut d = 0;
     while d < k {
         let from = d;
         d += 1;
-        let s = surplus[from];
-        if !surplus::is_above(s) {
+        let c = counts[from];
+        if !surplus::gives(c, low) {
             continue;
         }
-        let Found::Move(to, serial) = from_donor(mesh, o, surplus, from, sizes) else {
+        let Found::Move(to, serial) = from_donor(mesh, o, counts, from, sizes) else {
             continue;
         };
         return NextMove::Move(from as u32, to, serial);
@@ -109,19 +113,33 @@ fn first_move(
     NextMove::Blocked
 }
 
-// The next move of a sound mesh by an oracle.
-pub fn next_of(mesh: &[u64], o: Oracle) -> NextMove
-    requires { ⌜ (all (λ b. holds-block b) (memories (now mesh)) ≡ true) × (blocks-right (map block-in (memories (now mesh))) ≡ true) ⌝ }
-    ensures { λ r. ⌜ move-of r ≡ served (model-next all-rack (oracle-of o) (map block-in (memories (now (mesh .entry))))) ⌝ }
+// The next move, by the counts.
+fn next_by(mesh: &[u64], o: Oracle, counts: [u32; BLOCKS]) -> NextMove
+    requires { ⌜ SoundParts (now mesh) × CellsCounted (oracle-of o) (now mesh) counts ⌝ }
+    ensures { λ r. ⌜ move-of r ≡ served (model-next all-rack (oracle-of o) (mesh-in (now (mesh .entry)))) ⌝ }
 {
     let k = mesh.len() / Header::WORDS;
-    let s = surplus::surpluses(mesh, o);
-    if !surplus::some_above(s, k) {
-        return NextMove::Level;
-    }
-    if !surplus::some_below(s, k) {
+    let low = surplus::least(counts, k);
+    if !surplus::some_gives(counts, k, low) {
         return NextMove::Level;
     }
     let mut sizes = [0usize; Header::DARTS];
-    first_move(mesh, o, s, &mut sizes)
+    first_move(mesh, o, counts, low, &mut sizes)
+}
+
+// The next move of a sound mesh by an oracle, with the mean and the surpluses.
+pub fn next_of(mesh: &[u64], o: Oracle) -> Balance
+    requires { ⌜ (all (λ b. holds-block b) (memories (now mesh)) ≡ true) × (blocks-right (map block-in (memories (now mesh))) ≡ true) ⌝ }
+    ensures { λ r. ⌜ balance-told r ≡ served (balance-of all-rack (oracle-of o) (map block-in (memories (now (mesh .entry))))) ⌝ }
+{
+    let k = mesh.len() / Header::WORDS;
+    let counts = surplus::counts(mesh, o);
+    let mean = surplus::total(counts, k) / (k as u32);
+    let surplus = surplus::less_mean(counts, k, mean);
+    let next = next_by(mesh, o, counts);
+    Balance {
+        next: next,
+        mean: mean,
+        surplus: surplus,
+    }
 }

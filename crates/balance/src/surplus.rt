@@ -1,14 +1,14 @@
-// The surplus of each block: how many of its volumes are picked, less the mean.
+// How many volumes of each block are picked, their mean, the surplus of each block, and which block may give to which.
 ghost use mathlib.Core.Path.{_≡_};
 ghost use Prim.Native.Nat.{ℕ, _≤_, _<_};
 ghost use lib.ListN.{length, getD};
 ghost use lib.IntN.{pos, subℕ};
 ghost use Rattle.model.specs.Values.{room, blocks};
 ghost use Rattle.model.specs.Lists.{any, sum, tab};
-ghost use Rattle.model.specs.Balance.{is-above as above-zero, is-below as below-zero};
+ghost use Rattle.model.specs.Balance.{may-give};
 ghost use Rattle.oracle.specs.Oracle.{oracle-of};
 ghost use Rattle.mesh.specs.Parts.{block-count};
-ghost use Rattle.balance.specs.Moves.{SoundParts, count-at, CellsCounted, Surpluses};
+ghost use Rattle.balance.specs.Moves.{SoundParts, count-at, CellsCounted, Least, surplus-by};
 use memory::header::BLOCKS;
 use memory::header::Header;
 use oracle::Oracle;
@@ -22,7 +22,7 @@ fn count_part(mesh: &[u64], i: usize, o: Oracle) -> u32
 }
 
 // How many volumes of each block are picked.
-fn counts(mesh: &[u64], o: Oracle) -> [u32; BLOCKS]
+pub fn counts(mesh: &[u64], o: Oracle) -> [u32; BLOCKS]
     requires { ⌜ SoundParts (now mesh) ⌝ }
     ensures { λ r. ⌜ CellsCounted (oracle-of o) (now (mesh .entry)) r ⌝ }
 {
@@ -38,7 +38,7 @@ fn counts(mesh: &[u64], o: Oracle) -> [u32; BLOCKS]
 }
 
 // The sum of the first k counts.
-fn total(c: [u32; BLOCKS], k: usize) -> u32
+pub fn total(c: [u32; BLOCKS], k: usize) -> u32
     requires { ⌜ (k ≤ blocks) × ((i : ℕ) → i < k → getD c i 0 ≤ room) ⌝ }
     ensures { λ r. ⌜ (r ≡ sum (tab (λ i. getD c i 0) k)) × (r ≤ 65536) ⌝ }
 {
@@ -60,10 +60,10 @@ fn surplus_of(count: u32, mean: u32) -> i32
     count as i32 - mean as i32
 }
 
-// The surpluses of the first k counts.
-fn less_mean(c: [u32; BLOCKS], k: usize, mean: u32) -> [i32; BLOCKS]
+// The surpluses of the first k counts; 0 behind them.
+pub fn less_mean(c: [u32; BLOCKS], k: usize, mean: u32) -> [i32; BLOCKS]
     requires { ⌜ (k ≤ blocks) × (mean ≤ 65536) × ((i : ℕ) → i < k → getD c i 0 ≤ room) ⌝ }
-    ensures { λ r. ⌜ (length r ≡ 16) × ((i : ℕ) → i < k → getD r i (pos 0) ≡ subℕ (getD c i 0) mean) ⌝ }
+    ensures { λ r. ⌜ r ≡ tab (surplus-by c k mean) blocks ⌝ }
 {
     // Those before i are told.
     let mut s = [0i32; BLOCKS];
@@ -75,58 +75,43 @@ fn less_mean(c: [u32; BLOCKS], k: usize, mean: u32) -> [i32; BLOCKS]
     s
 }
 
-// The surplus of each block of a mesh.
-pub fn surpluses(mesh: &[u64], o: Oracle) -> [i32; BLOCKS]
-    requires { ⌜ SoundParts (now mesh) ⌝ }
-    ensures { λ r. ⌜ Surpluses (oracle-of o) (now (mesh .entry)) r ⌝ }
+// A donor has at least two picked volumes more than the recipient.
+pub fn gives(donor: u32, recipient: u32) -> bool
+    requires { ⌜ recipient ≤ room ⌝ }
+    ensures { λ r. ⌜ r ≡ may-give donor recipient ⌝ }
 {
-    let k = mesh.len() / Header::WORDS;
-    let c = counts(mesh, o);
-    let mean = total(c, k) / (k as u32);
-    less_mean(c, k, mean)
+    recipient + 2 <= donor
 }
 
-// A donor has more than the mean.
-pub fn is_above(s: i32) -> bool
-    ensures { λ r. ⌜ r ≡ above-zero s ⌝ }
+// The least of the first k counts.
+pub fn least(c: [u32; BLOCKS], k: usize) -> u32
+    requires { ⌜ (1 ≤ k) × (k ≤ blocks) ⌝ }
+    ensures { λ r. ⌜ Least c k r ⌝ }
 {
-    0 < s
-}
-
-// A recipient has less.
-pub fn is_below(s: i32) -> bool
-    ensures { λ r. ⌜ r ≡ below-zero s ⌝ }
-{
-    s < 0
-}
-
-// Whether some of the first k blocks is above.
-pub fn some_above(s: [i32; BLOCKS], k: usize) -> bool
-    requires { ⌜ k ≤ blocks ⌝ }
-    ensures { λ r. ⌜ r ≡ any above-zero (tab (λ i. getD s i (pos 0)) k) ⌝ }
-{
-    // None before i is.
-    let mut i = 0;
+    // The least before i.
+    let mut low = c[0];
+    let mut i = 1;
     while i < k {
-        let x = s[i];
-        if is_above(x) {
-            return true;
-        }
+        let x = c[i];
         i += 1;
+        if low <= x {
+            continue;
+        }
+        low = x;
     }
-    false
+    low
 }
 
-// Whether some of the first k blocks is below.
-pub fn some_below(s: [i32; BLOCKS], k: usize) -> bool
-    requires { ⌜ k ≤ blocks ⌝ }
-    ensures { λ r. ⌜ r ≡ any below-zero (tab (λ i. getD s i (pos 0)) k) ⌝ }
+// Whether some of the first k blocks may give to one that has `low`.
+pub fn some_gives(c: [u32; BLOCKS], k: usize, low: u32) -> bool
+    requires { ⌜ (k ≤ blocks) × (low ≤ room) ⌝ }
+    ensures { λ r. ⌜ r ≡ any (λ x. may-give x low) (tab (λ i. getD c i 0) k) ⌝ }
 {
-    // None before i is.
+    // None before i may.
     let mut i = 0;
     while i < k {
-        let x = s[i];
-        if is_below(x) {
+        let x = c[i];
+        if gives(x, low) {
             return true;
         }
         i += 1;

@@ -1,28 +1,29 @@
--- THE NEXT MOVE: each move that next-move answers, carried out, lowers the sum of positive surpluses by one. Assumes nothing.
+-- THE NEXT MOVE: each move that next-move answers, carried out, gives a volume to a block that has two fewer at least, and so lowers the sum of
+-- the squared counts. Assumes nothing.
 --
 -- The blocks afterwards are any that have the memories for images, sound or not: what is picked in them can be told from the image.
 use mathlib.Core.Path.{_≡_, refl, sym, _∙_, ap, subst}
 use mathlib.Core.Logic.{_≢_}
 use mathlib.Core.Bool.{true, not}
-use mathlib.Core.List.{List, [], map, List·Permᴰ}
-use Prim.Native.Nat.{ℕ, suc, _+_, _<_}
+use mathlib.Core.List.{List, [], map}
+use Prim.Native.Nat.{ℕ, _+_, _<_, _≤_}
 use native.Mathlib.Omega.{arith}
 use lib.Dec.{leb, eqb}
-use lib.ListN.{length, length-map}
-use lib.IntN.{ℤ}
-use borrow.Author.Tests.{eqb-true, eqb-false, not-true}
-use Rattle.model.specs.Lists.{any, tab, sum, first-no}
+use lib.ListN.{length, getD, length-map}
+use borrow.Author.Tests.{eqb-true, eqb-false, leb-true, not-true}
+use Rattle.model.specs.Lists.{tab, first-no}
 use Rattle.model.specs.Values.{Label, Block, Limits, all-rack}
 use Rattle.model.specs.Cells.{volume-in}
-use Rattle.model.specs.Sound.{Fit, block-at, volume-limit}
-use Rattle.model.specs.Image.{words-of, image, memory-of}
+use Rattle.model.specs.Sound.{Sound, Fit, block-at, volume-limit}
+use Rattle.model.specs.Image.{memory-of}
 use Rattle.model.specs.Departure.{departure-checks}
-use Rattle.model.specs.Balance.{Oracle, picked, counts, mean, surpluses, is-above, is-below, positive-part, positive-surplus, Move, move, can-move, next-of}
-use Rattle.model.specs.Runs.{Request, finished}
+use Rattle.model.specs.Balance.{Oracle, picked, counts, squared-counts, Move, move, can-move, next-of}
+use Rattle.model.specs.Runs.{finished}
 use Rattle.model.specs.UndividedRun.{State, start, cell, inner-faces, Undivided, undivided}
-use Rattle.model.specs.DividedRun.{Step, last-steps, sent-messages, round}
-use Rattle.model.specs.Demands.{Enough, MoveLowers}
+use Rattle.model.specs.DividedRun.{round}
+use Rattle.model.specs.Demands.{request-of, Answers, Carried-out, MoveLowers}
 use Rattle.laws.proofs.Members.{In, keep-in}
+use Rattle.laws.proofs.Tables.{length-tab, getD-tab}
 use Rattle.laws.proofs.Tests.{and-left, and-right, yes-then, yes-first, no-more, first-no-append}
 use Rattle.theory.proofs.MeshLaws.{mesh-parts}
 use Rattle.agreement.proofs.AfterMove.{after, after-is}
@@ -32,14 +33,10 @@ use Rattle.agreement.proofs.Described.{members, block-by, mesh-by, dart-by, Inv
 use Rattle.agreement.proofs.Keeps.{keeps, undivided-serves}
 use Rattle.agreement.proofs.MeshSound.{block-at-by, mesh-sound}
 use Rattle.agreement.proofs.MovedCell.{volume-same, first-six, twenty-one, checks-split, questions-agree}
-use Rattle.balancing.proofs.Chosen.{answered, Candidate, chosen}
+use Rattle.balancing.proofs.Chosen.{next-answered, Candidate, chosen}
 use Rattle.balancing.proofs.Picked.{stands, count-by, picked-are, counts-are, donor-loses, recipient-gains, others-stay}
 use Rattle.balancing.proofs.Shapes.{counts-same}
-use Rattle.balancing.proofs.Sums.{above-is, below-is, surplus-at, surpluses-length, lowers}
-
--- the request of a move
-abbrev pub request-of : Move → Request
-request-of t = record { from = t .donor; to = t .recipient; serial = t .serial }
+use Rattle.balancing.proofs.Sums.{Given, squares-fall}
 
 -- A MOVE THAT IS CHOSEN in a described mesh
 module _ (lims : ℕ → Limits) (fit : Fit lims) (k : ℕ) (u : State) (label : ℕ → Label) (I : Inv lims k u label) (o : Oracle) (t : Move) where
@@ -68,8 +65,7 @@ module _ (lims : ℕ → Limits) (fit : Fit lims) (k : ℕ) (u : State) (label :
   record Known : Type 0 where
     donor-below : d < k
     recipient-below : r < k
-    above : mean (tab c k) < c d
-    below : c r < mean (tab c k)
+    two-more : c r + 2 ≤ c d
     mine : Mine u d s
     standing : stands o u s ≡ true
     six : first-no (first-six lims u (request-of t)) ≡ 0
@@ -97,20 +93,22 @@ module _ (lims : ℕ → Limits) (fit : Fit lims) (k : ℕ) (u : State) (label :
       let w = keep-in (stands o u) (members u d) s q in
       (member-mine u d s (w .0), w .1)
 
-  known-of : Candidate o mesh (surpluses (tab c k)) t → can-move lims mesh t ≡ true → Known
+  two-of : {a b x y : ℕ} → a + 2 ≤ b → a ≡ x → b ≡ y → x + 2 ≤ y
+  two-of h p q = omega arith
+
+  known-of : Candidate o mesh (tab c k) t → can-move lims mesh t ≡ true → Known
   unfolding can-move
   known-of q can =
-      let n = surpluses-length c k in
-      let dk : d < k = omega (arith, q .donor-below) in
-      let rk : r < k = omega (arith, q .recipient-below) in
+      let n = length-tab c k in
+      let dk : d < k = omega (arith, n, q .donor-below) in
+      let rk : r < k = omega (arith, n, q .recipient-below) in
       let w = picked-there dk (q .serial-picked) in
       let asks = eqb-true _ 0 (and-left (eqb (first-no (departure-checks (volume-limit lims d r) (block-at mesh d) r s)) 0) _ can) in
       let room = and-right (eqb (first-no (departure-checks (volume-limit lims d r) (block-at mesh d) r s)) 0) _ can in
       record {
         donor-below = dk;
         recipient-below = rk;
-        above = above-is (c d) (mean (tab c k)) (subst (λ (z : ℤ). is-above z ≡ true) (surplus-at c k d dk) (q .donor-above-mean));
-        below = below-is (c r) (mean (tab c k)) (subst (λ (z : ℤ). is-below z ≡ true) (surplus-at c k r rk) (q .recipient-below-mean));
+        two-more = let g = leb-true (getD (tab c k) r 0 + 2) (getD (tab c k) d 0) (q .gives) in two-of g (getD-tab c k r 0 rk) (getD-tab c k d 0 dk);
         mine = w .0;
         standing = w .1;
         six = sym (questions-agree lims fit k u label I (request-of t) dk rk) ∙ sym (asks-same dk) ∙ asks;
@@ -121,7 +119,7 @@ module _ (lims : ℕ → Limits) (fit : Fit lims) (k : ℕ) (u : State) (label :
   known : next-of lims o mesh ≡ move t → Known
   known e =
       let q = chosen lims o mesh t e in
-      known-of (subst (λ (cs : List ℕ). Candidate o mesh (surpluses cs) t) (counts-are lims fit k u label I o) (q .0)) (q .1)
+      known-of (subst (λ (cs : List ℕ). Candidate o mesh cs t) (counts-are lims fit k u label I o) (q .0)) (q .1)
 
   module _ (K : Known) where
     apart : d ≢ r
@@ -132,50 +130,57 @@ module _ (lims : ℕ → Limits) (fit : Fit lims) (k : ℕ) (u : State) (label :
         (ap first-no (checks-split lims u (request-of t)) ∙ first-no-append (first-six lims u (request-of t)) _ (K .six) refl ∙ yes-then 21 _ [] (K .fits) ∙ no-more)
         ∙ ap (λ (z : State). record { outcome = finished; state = z }) (after-is u (request-of t))
 
-    -- the counts afterwards
-    lowered : suc (sum (map positive-part (surpluses (tab (count-by o u') k)))) ≡ sum (map positive-part (surpluses (tab c k)))
-    lowered = lowers c (count-by o u') k d r (K .donor-below) (K .recipient-below) apart
-        (donor-loses lims fit k u label I o d (K .donor-below) s (K .mine) r apart (inner-faces u d v) (K .standing))
-        (recipient-gains lims fit k u label I o d (K .donor-below) s (K .mine) r apart (inner-faces u d v) (K .standing))
-        (λ b h. others-stay lims fit k u label I o d (K .donor-below) s (K .mine) r apart (inner-faces u d v) (K .standing) b)
-        (K .above) (K .below)
-
     -- of any blocks with the images of the mesh that is described afterwards
-    lowered-after : (label' : ℕ → Label) → Inv lims k u' label' → (after : List Block) → map (memory-of lims) after ≡ map (memory-of lims) (mesh-by k u' label') → suc (positive-surplus o after) ≡ positive-surplus o mesh
-    unfolding positive-surplus
-    lowered-after label' I' after e =
-        let now : counts o after ≡ tab (count-by o u') k =
-        counts-same lims o after (mesh-by k u' label')
-        (mesh-parts lims (mesh-by k u' label') (mesh-sound lims k u' label' I') .blocks-sound) e
-        ∙ counts-are lims fit k u' label' I' o
-        in
-        ap (λ (cs : List ℕ). suc (sum (map positive-part (surpluses cs)))) now ∙ lowered
-        ∙ ap (λ (cs : List ℕ). sum (map positive-part (surpluses cs))) (sym (counts-are lims fit k u label I o))
+    given-after : (label' : ℕ → Label) → Inv lims k u' label' → (after : List Block) → map (memory-of lims) after ≡ map (memory-of lims) (mesh-by k u' label') → Given (counts o mesh) (counts o after)
+    given-after label' I' after e = record {
+      was = c;
+      now = count-by o u';
+      size = k;
+      donor = d;
+      recipient = r;
+      before = counts-are lims fit k u label I o;
+      after = counts-same lims o after (mesh-by k u' label') (mesh-parts lims (mesh-by k u' label') (mesh-sound lims k u' label' I') .blocks-sound) e
+          ∙ counts-are lims fit k u' label' I' o;
+      donor-below = K .donor-below;
+      recipient-below = K .recipient-below;
+      apart = apart;
+      falls = donor-loses lims fit k u label I o d (K .donor-below) s (K .mine) r apart (inner-faces u d v) (K .standing);
+      rises = recipient-gains lims fit k u label I o d (K .donor-below) s (K .mine) r apart (inner-faces u d v) (K .standing);
+      stays = λ b h. others-stay lims fit k u label I o d (K .donor-below) s (K .mine) r apart (inner-faces u d v) (K .standing) b;
+      two-more = K .two-more;
+    }
 
-  Lowers : List Block → List ℕ → List Step → Type 0
-  Lowers l outbox order = next-of lims o l ≡ move t → Enough lims (map (memory-of lims) l) (request-of t) outbox
-      → List·Permᴰ order (last-steps (request-of t) (sent-messages lims (map (memory-of lims) l) (request-of t) outbox))
-      → (round lims (map (memory-of lims) l) (request-of t) outbox order .outcome ≡ finished)
-      × ((after : List Block) → round lims (map (memory-of lims) l) (request-of t) outbox order .memories ≡ map (memory-of lims) after → suc (positive-surplus o after) ≡ positive-surplus o l)
+  -- what is shown of a mesh's move
+  Gives : List Block → Type 0
+  Gives l = next-of lims o l ≡ move t → Carried-out lims l t (λ w. (w .outcome ≡ finished)
+      × ((after : List Block) → w .memories ≡ map (memory-of lims) after → Given (counts o l) (counts o after)))
 
-  lowers-described : (outbox : List ℕ) (order : List Step) → Lowers mesh outbox order
-  unfolding Lowers
-  lowers-described outbox order e enough any =
+  gives-described : Gives mesh
+  unfolding Gives
+  gives-described e outbox order enough any =
       let K = known e in
       let kept = keeps lims fit k u label I (request-of t) (K .donor-below) (K .recipient-below) outbox order enough any in
       let I' : Inv lims k u' (kept .labels-now) = subst (λ (w : Undivided). Inv lims k (w .state) (kept .labels-now)) (serves K) (kept .inv-now) in (
         kept .same-outcome ∙ ap (λ (w : Undivided). w .outcome) (serves K),
-        λ after f. lowered-after K (kept .labels-now) I' after (sym f ∙ kept .memories-now ∙ ap (λ (w : Undivided). map (memory-of lims) (mesh-by k (w .state) (kept .labels-now))) (serves K)),
+        λ after f. given-after K (kept .labels-now) I' after (sym f ∙ kept .memories-now ∙ ap (λ (w : Undivided). map (memory-of lims) (mesh-by k (w .state) (kept .labels-now))) (serves K)),
       )
 
 -- EVERY MOVE
-pub move-lowers : (lims : ℕ → Limits) → Fit lims → MoveLowers lims
-unfolding Lowers
-move-lowers lims fit m o scratch outbox t order sound e enough any =
-    let k = length m in
-    let label = start-label lims m sound in
-    subst (λ (l : List Block). Lowers lims fit k (start m) label (start-inv lims m sound) o t l outbox order) (sym (described lims m sound))
-    (lowers-described lims fit k (start m) label (start-inv lims m sound) o t outbox order) (answered lims fit m o scratch t sound e) enough any
+module _ (lims : ℕ → Limits) (fit : Fit lims) where
+  pub move-gives : (m : List Block) (o : Oracle) (t : Move) → Sound lims m → Answers lims o m t → Carried-out lims m t (λ w. (w .outcome ≡ finished)
+      × ((after : List Block) → w .memories ≡ map (memory-of lims) after → Given (counts o m) (counts o after)))
+  unfolding Gives
+  move-gives m o t sound (scratch, b, e, f) =
+      let k = length m in
+      let label = start-label lims m sound in
+      subst (λ (l : List Block). Gives lims fit k (start m) label (start-inv lims m sound) o t l) (sym (described lims m sound))
+      (gives-described lims fit k (start m) label (start-inv lims m sound) o t) (sym (next-answered lims fit m o scratch b sound e) ∙ f)
+
+  pub move-lowers : MoveLowers lims
+  unfolding squared-counts
+  move-lowers m o t sound a outbox order enough any =
+      let w = move-gives m o t sound a outbox order enough any in
+      (w .0, λ after e. squares-fall (w .1 after e))
 
 -- on the rack
 pub rack-move-lowers : MoveLowers all-rack

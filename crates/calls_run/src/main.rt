@@ -1,8 +1,10 @@
 // Plays the script on standard input: calls on small blocks and meshes, right ones and wrong ones, and what each of them gives.
 // The line of a call has the words of memory and the bytes that are lent to it, then its numbers.
 use answers::Answer;
-use answers::NextMove;
 use answers::Written;
+use balance::nextmove;
+use balance::nextmove::Balance;
+use memory::header::BLOCKS;
 use memory::header::Header;
 use script::line;
 use script::show;
@@ -85,21 +87,34 @@ fn too_long(out: &mut [u8]) {
     print(out, n);
 }
 
-// The answer's number; kind (0 level, 1 blocked, 2 a move), donor, recipient and serial.
-fn moved(m: NextMove) {
+// The sixteen surpluses, as words.
+fn surpluses(surplus: [i32; BLOCKS]) {
+    let mut i = 0;
+    while i < BLOCKS {
+        show::number(nextmove::signed_word(surplus[i]));
+        i += 1;
+    }
+}
+
+// The answer's number; kind (0 level, 1 blocked, 2 a move), donor, recipient and serial; mean and surpluses.
+fn moved(b: Balance) {
+    let m = b.next;
     show::small(answers::move_number(m));
     show::small(answers::move_kind(m));
     show::small(answers::move_donor(m));
     show::small(answers::move_recipient(m));
     show::number(answers::move_serial(m));
+    show::small(b.mean);
+    let surplus = b.surplus;
+    surpluses(surplus);
     show::newline();
 }
 
 // By an oracle's number and an axis; its points are six floats, least significant byte first.
-fn move_by(line: &[u8], mesh: &[u64], points: &[u8], scratch: &mut [u64]) -> NextMove {
+fn move_by(line: &[u8], mesh: &[u64], points: &[u8], scratch: &mut [u64]) -> Balance {
     let low = vectors::point(points, 0);
     let high = vectors::point(points, 24);
-    balance::nextmove::next_move_by_number(
+    nextmove::next_move_by_number(
         mesh,
         line::small(line, 3),
         line::small(line, 4),

@@ -1,6 +1,8 @@
 // What is told of a basin: a line for each block, and whether it is sound.
 use answers::Answer;
+use balance::nextmove;
 use commands::names;
+use memory::header::BLOCKS;
 use memory::header::Header;
 use memory::kind;
 use oracle::Oracle;
@@ -100,7 +102,7 @@ fn first_with_kind(kind: u64, mesh: &[u64]) -> usize {
 fn say_missing(mesh: &[u64]) -> bool {
     let k = mesh.len() / Header::WORDS;
     let mut m = k;
-    while m < memory::header::BLOCKS {
+    while m < BLOCKS {
         let b = first_with_kind(kind::critical_with(m as u64), mesh);
         if b < k {
             say::text(&names::block(m));
@@ -145,22 +147,64 @@ pub fn is_sound(mesh: &[u64], scratch: &mut [u64]) -> bool {
     }
 }
 
-// How many volumes an oracle picks in a block.
-fn picked(block: &[u64], o: Oracle) -> u64 {
-    if sound::is_sound(block) {
-        return selection::count(block, o) as u64;
+// The counts of k blocks: what each has more than the mean, and the mean.
+fn show_counts(mean: u64, surplus: [i32; BLOCKS], k: usize) {
+    let mut i = 0;
+    while i < BLOCKS {
+        let w = nextmove::signed_word(surplus[i]);
+        if i < k {
+            say::text(b" ");
+            say::number(std::num::wrapping_add_u64(mean, w));
+        }
+        i += 1;
     }
-    0
 }
 
-// The same for each block, in a line.
-pub fn show_picked(mesh: &[u64], o: Oracle) {
-    let k = mesh.len() / Header::WORDS;
-    let mut b = 0;
-    while b < k {
-        say::text(b" ");
-        say::number(picked(mesh::part_of(mesh, b), o));
-        b += 1;
+// A surplus, with its sign.
+fn show_surplus(x: i32) {
+    let w = nextmove::signed_word(x);
+    if x < 0 {
+        say::text(b" -");
+        say::number(std::num::wrapping_sub_u64(0, w));
+        return;
     }
+    say::text(b" ");
+    say::number(w);
+}
+
+// The surpluses of k blocks.
+fn show_surpluses(surplus: [i32; BLOCKS], k: usize) {
+    let mut i = 0;
+    while i < BLOCKS {
+        let x = surplus[i];
+        if i < k {
+            show_surplus(x);
+        }
+        i += 1;
+    }
+}
+
+// A line about a balance: how many volumes are picked in each block, their mean and the surpluses, as next move tells them; whether it does.
+// Where not, why.
+pub fn show_balance(when: &[u8], mesh: &[u64], o: Oracle, scratch: &mut [u64]) -> bool {
+    let b = nextmove::next_move(mesh, o, scratch);
+    let next = b.next;
+    let question = answers::move_number(next);
+    if question != 0 {
+        say::refused(question);
+        say::meaning(question);
+        say::text(b"\n");
+        return false;
+    }
+    let k = mesh.len() / Header::WORDS;
+    let mean = b.mean as u64;
+    let surplus = b.surplus;
+    say::text(when);
+    show_counts(mean, surplus, k);
+    say::text(b"; mean ");
+    say::number(mean);
+    say::text(b", surpluses");
+    show_surpluses(surplus, k);
     say::text(b"\n");
+    true
 }

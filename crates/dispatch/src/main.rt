@@ -39,7 +39,7 @@ fn help() {
         b"  dispatch play             requests 'from to serial' on standard input, one a line\n",
     );
     say::text(
-        b"  dispatch balance ORACLE   moves until no block has more cells than the mean, or none may go\n",
+        b"  dispatch balance ORACLE   moves until no block has two cells more than another, or none may go\n",
     );
     say::text(
         b"  dispatch split K          the basin over K blocks, new ones empty, then balanced\n",

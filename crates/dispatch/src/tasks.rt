@@ -79,54 +79,89 @@ fn play_on(
     end_play(outcomes, o, mesh, room)
 }
 
-// The moves of a balance, and how it ended.
-fn show_moves(moves: &[u64], n: usize, how: &[u8]) {
-    moving::show(moves, n);
-    say::text(b"# ");
-    say::text(how);
-    say::text(b" after ");
-    say::number(n as u64);
-    say::text(b" moves\n");
+// How a balance or a part of it ended, after so many moves: there are more, it is level or blocked; or an error or a refusal, which was told.
+enum Ended {
+    More(u64),
+    Level(u64),
+    Blocked(u64),
+    Refused,
+    Error,
 }
 
-// What the moves came to, and the basin saved if anything changed.
-fn end_balance(
-    balanced: Balanced,
-    moves: &[u64],
+// The moves of a part, told; how many there were with those before.
+fn told(moves: &[u64], before: u64, n: usize) -> u64 {
+    moving::show(moves, n);
+    std::num::wrapping_add_u64(before, n as u64)
+}
+
+// As many moves as there is room for, told.
+fn balance_part(
     by: Oracle,
-    grown: bool,
-    dry: bool,
-    mesh: &[u64],
-    room: &mut [u8],
-) -> Status {
-    let mut n = 0;
-    match balanced {
-        Balanced::Level(m) => {
-            n = m;
-            show_moves(moves, m, b"level");
-        }
-        Balanced::Blocked(m) => {
-            n = m;
-            show_moves(moves, m, b"blocked");
-        }
-        Balanced::Full(_) => {
-            say::error(b"there are more moves than cells: nothing is saved");
-            return Status::Error;
-        }
+    before: u64,
+    moves: &mut [u64],
+    mesh: &mut [u64],
+    scratch: &mut [u64],
+    outbox: &mut [u8],
+) -> Ended {
+    match rebalance::balance(mesh, by, scratch, outbox, moves) {
+        Balanced::Full(n) => Ended::More(told(moves, before, n)),
+        Balanced::Level(n) => Ended::Level(told(moves, before, n)),
+        Balanced::Blocked(n) => Ended::Blocked(told(moves, before, n)),
         Balanced::Unfinished(_) => {
             say::error(b"a move did not finish: nothing is saved");
-            return Status::Error;
+            Ended::Error
         }
         Balanced::Refused(_, r) => {
             let question = answers::refusal_number(r);
             say::refused(question);
             say::meaning(question);
             say::text(b"\n");
-            return Status::Refused;
+            Ended::Refused
         }
     }
-    say::text(b"# after:");
-    inspect::show_picked(mesh, by);
+}
+
+// Moves until there is none, part by part; there are no more parts than moves.
+fn balance_parts(
+    by: Oracle,
+    moves: &mut [u64],
+    mesh: &mut [u64],
+    scratch: &mut [u64],
+    outbox: &mut [u8],
+) -> Ended {
+    let most = rebalance::most_moves();
+    let mut done = 0;
+    let mut part = 0;
+    while part < most {
+        part += 1;
+        let ended = balance_part(by, done, moves, mesh, scratch, outbox);
+        let Ended::More(n) = ended else {
+            return ended;
+        };
+        done = n;
+    }
+    Ended::More(done)
+}
+
+// What a balance came to, and the basin saved if anything changed.
+fn end_balance(
+    how: &[u8],
+    n: u64,
+    by: Oracle,
+    grown: bool,
+    dry: bool,
+    mesh: &[u64],
+    scratch: &mut [u64],
+    room: &mut [u8],
+) -> Status {
+    say::text(b"# ");
+    say::text(how);
+    say::text(b" after ");
+    say::number(n);
+    say::text(b" moves\n");
+    if !inspect::show_balance(b"# after:", mesh, by, scratch) {
+        return Status::Error;
+    }
     if !save_if(grown | (0 < n), dry, mesh, room) {
         return Status::Error;
     }
@@ -147,10 +182,19 @@ fn balance_on(
     if !inspect::is_sound(mesh, scratch) {
         return Status::Refused;
     }
-    say::text(b"# before:");
-    inspect::show_picked(mesh, by);
-    let balanced = rebalance::balance(mesh, by, scratch, outbox, moves);
-    end_balance(balanced, moves, by, grown, dry, mesh, room)
+    if !inspect::show_balance(b"# before:", mesh, by, scratch) {
+        return Status::Refused;
+    }
+    match balance_parts(by, moves, mesh, scratch, outbox) {
+        Ended::Level(n) => end_balance(b"level", n, by, grown, dry, mesh, scratch, room),
+        Ended::Blocked(n) => end_balance(b"blocked", n, by, grown, dry, mesh, scratch, room),
+        Ended::More(_) => {
+            say::error(b"there are more moves than a sound basin has: nothing is saved");
+            Status::Error
+        }
+        Ended::Refused => Status::Refused,
+        Ended::Error => Status::Error,
+    }
 }
 
 // Saves a basin that is open, if it has grown since it was read.

@@ -7,12 +7,12 @@ use native.Mathlib.Omega.{arith}
 use lib.Dec.{eqb}
 use lib.ListN.{length}
 use Rattle.model.specs.Values.{rack, all-rack}
-use Rattle.model.specs.Balance.{NextMove}
+use Rattle.model.specs.Balance.{Balance}
 use Rattle.model.specs.Calls.{Answer, served, refused, Result, number-of}
 use Rattle.model.specs.Demands.{Unchanged, Demand1}
 use Rattle.laws.proofs.Tests.{by-cases}
 use Rattle.theory.proofs.CallLaws.{demand1}
-use Rattle.dmap.specs.CInterface.{AnswerNumbered, WrittenCounted, written-over, four-first, moved-over, Moved, CKeeps}
+use Rattle.dmap.specs.CInterface.{AnswerNumbered, WrittenCounted, written-over, answer-words, sized-first, balance-over, Moved, CKeeps}
 
 module _ {A : Type 0} (before : List ℕ) (result : Result A) (u : Unchanged before result) where
   lent-kept : number-of (result .answer) ≢ 0 → result .lent ≡ before
@@ -27,7 +27,7 @@ count-kept : (before : ℕ) (a : Answer ℕ) → number-of a ≢ 0 → written-o
 count-kept before (served v) h = absurd (h refl)
 count-kept before (refused n) h = refl
 
-words-kept : (before : List ℕ) (a : Answer NextMove) → number-of a ≢ 0 → moved-over before a ≡ before
+words-kept : (before : List ℕ) (a : Answer Balance) → number-of a ≢ 0 → balance-over before a ≡ before
 words-kept before (served v) h = absurd (h refl)
 words-kept before (refused n) h = refl
 
@@ -41,20 +41,20 @@ counted-keeps before result u old number lent written t h =
     let not-served : number-of (result .answer) ≢ 0 = λ e. h (t .told .number-is ∙ e) in
     (t .left ∙ lent-kept before result u not-served, t .told .written-is ∙ count-kept old (result .answer) not-served)
 
-moved-keeps : (before : List ℕ) (result : Result NextMove) → Unchanged before result → (old : List ℕ) (number : ℕ) (lent words : List ℕ)
+moved-keeps : (before : List ℕ) (result : Result Balance) → Unchanged before result → (old : List ℕ) (number : ℕ) (lent words : List ℕ)
     → Moved result old number lent words → number ≢ 0 → (lent ≡ before) × (words ≡ old)
 moved-keeps before result u old number lent words t h =
     let not-served : number-of (result .answer) ≢ 0 = λ e. h (t .told .number-is ∙ e) in
     (t .left ∙ lent-kept before result u not-served, t .told .words-are ∙ words-kept old (result .answer) not-served)
 
 -- 1 of the answer's size comes first, and leaves the scratch too
-four-unchanged : (words scratch : List ℕ) (result : Result NextMove) → Unchanged scratch result → Unchanged scratch (four-first words scratch result)
-unfolding four-first
-four-unchanged words scratch result u = by-cases (eqb (length words) 4)
+sized-unchanged : (words scratch : List ℕ) (result : Result Balance) → Unchanged scratch result → Unchanged scratch (sized-first words scratch result)
+unfolding sized-first
+sized-unchanged words scratch result u = by-cases (eqb (length words) answer-words)
     (λ e. rw e u)
     (λ e. rw e (record { kept = λ n h. refl; numbered = λ n h z. one-not-zero n h z }))
   where
-    one-not-zero : (n : ℕ) → _≡_ {A = Answer NextMove} (refused 1) (refused n) → n ≢ 0
+    one-not-zero : (n : ℕ) → _≡_ {A = Answer Balance} (refused 1) (refused n) → n ≢ 0
     one-not-zero n h z = let q : 1 ≡ n = cc in absurd (one (q ∙ z))
       where
         one : _≡_ {A = ℕ} 1 0 → ⊥
@@ -73,5 +73,5 @@ c-keeps =
       redirect-keeps = λ m message. numbered-keeps m _ (d .redirect-keeps m message);
       check-mesh-keeps = λ mesh scratch. numbered-keeps scratch _ (d .check-mesh-keeps mesh scratch);
       next-move-keeps = λ mesh n axis low high scratch before.
-          moved-keeps scratch _ (four-unchanged before scratch _ (d .numbered-keeps mesh n axis low high scratch)) before;
+          moved-keeps scratch _ (sized-unchanged before scratch _ (d .numbered-keeps mesh n axis low high scratch)) before;
     }

@@ -2,14 +2,15 @@
 use mathlib.Core.Path.{_≡_}
 use mathlib.Core.Logic.{_≢_}
 use mathlib.Core.Bool.{cond}
-use mathlib.Core.List.{List}
+use mathlib.Core.List.{List, _++_, map}
 use Prim.Native.Nat.{ℕ}
 use lib.Dec.{eqb}
-use lib.ListN.{length, getD}
+use lib.IntN.{ℤ}
+use lib.ListN.{length, getD, take}
 use lib.Ieee.{Float, binary64, toBits}
 use Rattle.model.specs.Values.{Point, rack, all-rack}
-use Rattle.model.specs.Balance.{NextMove}
-use Rattle.model.specs.Calls.{Answer, served, refused, Result, number-of, values-of, written-values, move-values, empty, read-file, save-file, send, receive, release, redirect, check-mesh, next-move-by-number}
+use Rattle.model.specs.Balance.{Balance}
+use Rattle.model.specs.Calls.{Answer, served, refused, Result, number-of, values-of, written-values, signed-word, balance-values, empty, read-file, save-file, send, receive, release, redirect, check-mesh, next-move-by-number}
 
 -- of a call that adds nothing: the number, and afterwards what was lent to be written
 pub record AnswerNumbered (result : Result (Unit {0})) (number : ℕ) (lent : List ℕ) : Type 0 where
@@ -35,28 +36,36 @@ pub record WrittenCounted (result : Result ℕ) (before number : ℕ) (lent : Li
 abbrev pub point-words : Float → Float → Float → Point
 point-words x y z = record { x = toBits binary64 x; y = toBits binary64 y; z = toBits binary64 z }
 
--- 1, before every other question: the answer has four words
-unfoldable pub four-first : List ℕ → List ℕ → Result NextMove → Result NextMove
-four-first words scratch result = cond (eqb (length words) 4) result (record { answer = refused 1; lent = scratch })
+-- how many words the answer has: kind, donor, recipient, serial, mean, sixteen surpluses
+abbrev pub answer-words : ℕ
+answer-words = 21
+
+-- 1, before every other question: the answer has so many
+unfoldable pub sized-first : List ℕ → List ℕ → Result Balance → Result Balance
+sized-first words scratch result = cond (eqb (length words) answer-words) result (record { answer = refused 1; lent = scratch })
 
 -- the call: mesh, the oracle's number, axis, low, high, scratch, answer
-abbrev pub next-move-told : List ℕ → ℕ → ℕ → Point → Point → List ℕ → List ℕ → Result NextMove
-next-move-told mesh n axis low high scratch words = four-first words scratch (next-move-by-number all-rack mesh n axis low high scratch)
+abbrev pub next-move-told : List ℕ → ℕ → ℕ → Point → Point → List ℕ → List ℕ → Result Balance
+next-move-told mesh n axis low high scratch words = sized-first words scratch (next-move-by-number all-rack mesh n axis low high scratch)
 
--- the words of the answer: the next move, or what stood there before
-abbrev pub moved-over : List ℕ → Answer NextMove → List ℕ
-moved-over before (served v) = move-values v
-moved-over before (refused n) = before
+-- the words of the answer, or what stood there before
+abbrev pub balance-over : List ℕ → Answer Balance → List ℕ
+balance-over before (served v) = balance-values v
+balance-over before (refused n) = before
 
--- the number of an answer, and the words of a move
-pub record ToldMove (a : Answer NextMove) (before : List ℕ) (number : ℕ) (words : List ℕ) : Type 0 where
+-- the number of an answer, and its words
+pub record ToldBalance (a : Answer Balance) (before : List ℕ) (number : ℕ) (words : List ℕ) : Type 0 where
   pub number-is : number ≡ number-of a
-  pub words-are : words ≡ moved-over before a
+  pub words-are : words ≡ balance-over before a
 
 -- the same, and afterwards the scratch
-pub record Moved (result : Result NextMove) (before : List ℕ) (number : ℕ) (lent words : List ℕ) : Type 0 where
-  pub told : ToldMove (result .answer) before number words
+pub record Moved (result : Result Balance) (before : List ℕ) (number : ℕ) (lent words : List ℕ) : Type 0 where
+  pub told : ToldBalance (result .answer) before number words
   pub left : lent ≡ result .lent
+
+-- the surpluses put behind the first five words
+abbrev pub with-surpluses : List ℕ → List ℤ → List ℕ
+with-surpluses l ss = take 5 l ++ map signed-word ss
 
 -- DEMAND 1 OF ALL THAT C LENDS: "A refused call returns that number only and changes no byte that was lent to it". Lent to be written are the
 -- block's memory, the output, the outbox or the scratch, the count behind `written` and the words of `answer`: a call whose number is not 0

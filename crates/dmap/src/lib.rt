@@ -1,18 +1,21 @@
 // The public calls: by their Rattle names with an enum for an answer (a crate that calls them lists `dmap answers`), and by their C names with
 // a number, as include/dmap.h declares them. A slice is a pointer and a length there.
 ghost use mathlib.Core.Path.{_≡_};
-ghost use mathlib.Core.List.{[], _∷_};
-ghost use lib.ListN.{length};
+ghost use mathlib.Core.List.{_∷_, map};
+ghost use lib.ListN.{length, drop};
 ghost use Rattle.model.specs.Values.{rack};
 ghost use Rattle.model.specs.Calls as calls;
-ghost use Rattle.answers.specs.Answers.{written-of, move-of};
-ghost use Rattle.dmap.specs.CInterface.{AnswerNumbered, CountWritten, WrittenCounted, point-words, next-move-told, ToldMove, Moved};
+ghost use Rattle.answers.specs.Answers.{written-of};
+ghost use Rattle.balance.specs.Answer.{balance-told};
+ghost use Rattle.dmap.specs.CInterface.{AnswerNumbered, CountWritten, WrittenCounted, point-words, answer-words, next-move-told, ToldBalance, Moved, with-surpluses};
 pub use answers::Answer;
 pub use answers::NextMove;
 pub use answers::Refusal;
 pub use answers::Written;
+pub use balance::nextmove::Balance;
 pub use balance::nextmove::next_move;
 pub use checkmesh::check_mesh;
+use memory::header::BLOCKS;
 pub use memory::header::empty;
 pub use memory::point::Point;
 pub use oracle::Oracle;
@@ -102,7 +105,7 @@ pub extern "C" fn dmap_next_move(
 ) -> u32
     ensures { λ r. ⌜ Moved (next-move-told (now (mesh .entry)) oracle axis (point-words x0 y0 z0) (point-words x1 y1 z1) (now (scratch .entry)) (now (answer .entry))) (now (answer .entry)) r (now (scratch .exit)) (now (answer .exit)) ⌝ }
 {
-    if answer.len() != 4 {
+    if answer.len() != ANSWER {
         return 1;
     }
     let low = Point {
@@ -115,7 +118,7 @@ pub extern "C" fn dmap_next_move(
         y: y1,
         z: z1,
     };
-    tell_move(
+    tell_balance(
         balance::nextmove::next_move_by_number(mesh, oracle, axis, low, high, scratch),
         answer,
     )
@@ -134,33 +137,77 @@ fn tell_written(w: Written, written: &mut u64) -> u32
     }
 }
 
-// The four words of an answer.
-fn put_words(answer: &mut [u64], kind: u64, donor: u64, recipient: u64, serial: u64)
-    requires { ⌜ length (now answer) ≡ 4 ⌝ }
-    ensures { λ _. ⌜ now (answer .exit) ≡ kind ∷ donor ∷ recipient ∷ serial ∷ [] ⌝ }
+// The words of next move's answer: its kind, donor, recipient, serial and mean, and the surplus of each block.
+const ANSWER: usize = 21;
+
+// The first five words.
+fn put_words(answer: &mut [u64], kind: u64, donor: u64, recipient: u64, serial: u64, mean: u64)
+    requires { ⌜ length (now answer) ≡ answer-words ⌝ }
+    ensures { λ _. ⌜ now (answer .exit) ≡ kind ∷ donor ∷ recipient ∷ serial ∷ mean ∷ drop 5 (now (answer .entry)) ⌝ }
 {
     answer[0] = kind;
     answer[1] = donor;
     answer[2] = recipient;
     answer[3] = serial;
+    answer[4] = mean;
 }
 
-// The number of an answer; the next move goes out only where the call was served.
-fn tell_move(m: NextMove, answer: &mut [u64]) -> u32
-    requires { ⌜ length (now answer) ≡ 4 ⌝ }
-    ensures { λ r. ⌜ ToldMove (move-of m) (now (answer .entry)) r (now (answer .exit)) ⌝ }
+// The surpluses, behind them.
+fn put_surpluses(answer: &mut [u64], surplus: [i32; BLOCKS])
+    requires { ⌜ length (now answer) ≡ answer-words ⌝ }
+    ensures { λ _. ⌜ now (answer .exit) ≡ with-surpluses (now (answer .entry)) surplus ⌝ }
 {
-    match m {
+    // Those before i are put.
+    let mut i = 0;
+    while i < BLOCKS {
+        answer[5 + i] = balance::nextmove::signed_word(surplus[i]);
+        i += 1;
+    }
+}
+
+// All words.
+fn put_balance(
+    answer: &mut [u64],
+    kind: u64,
+    donor: u64,
+    recipient: u64,
+    serial: u64,
+    mean: u32,
+    surplus: [i32; BLOCKS],
+)
+    requires { ⌜ length (now answer) ≡ answer-words ⌝ }
+    ensures { λ _. ⌜ now (answer .exit) ≡ kind ∷ donor ∷ recipient ∷ serial ∷ mean ∷ map calls.signed-word surplus ⌝ }
+{
+    put_words(answer, kind, donor, recipient, serial, mean as u64);
+    put_surpluses(answer, surplus);
+}
+
+// The number of an answer; the next move, the mean and the surpluses go out only where the call was served.
+fn tell_balance(b: Balance, answer: &mut [u64]) -> u32
+    requires { ⌜ length (now answer) ≡ answer-words ⌝ }
+    ensures { λ r. ⌜ ToldBalance (balance-told b) (now (answer .entry)) r (now (answer .exit)) ⌝ }
+{
+    let next = b.next;
+    let surplus = b.surplus;
+    match next {
         NextMove::Level => {
-            put_words(answer, 0, 0, 0, 0);
+            put_balance(answer, 0, 0, 0, 0, b.mean, surplus);
             0
         }
         NextMove::Blocked => {
-            put_words(answer, 1, 0, 0, 0);
+            put_balance(answer, 1, 0, 0, 0, b.mean, surplus);
             0
         }
         NextMove::Move(donor, recipient, serial) => {
-            put_words(answer, 2, donor as u64, recipient as u64, serial);
+            put_balance(
+                answer,
+                2,
+                donor as u64,
+                recipient as u64,
+                serial,
+                b.mean,
+                surplus,
+            );
             0
         }
         NextMove::Refused(r) => answers::refusal_number(r),

@@ -1,15 +1,14 @@
 -- Which block gives: the oracle, the surpluses, and the next move. Assumes nothing.
-use mathlib.Core.Bool.{Bool, true, cond, not, _&&_, _||_}
+use mathlib.Core.Bool.{Bool, true, cond, not, _&&_}
 use mathlib.Core.List.{List, [], _∷_, map}
 use mathlib.Core.Option.{Option, none, some}
-use Prim.Native.Nat.{ℕ, zero, suc, _+_, _/_}
+use Prim.Native.Nat.{ℕ, zero, suc, _+_, _*_, _-_, _/_}
 use lib.Dec.{leb, eqb}
 use lib.ListN.{length, getD}
-use lib.IntN.{ℤ, pos, negsuc, subℕ}
-use lib.Signed.{ltZ}
+use lib.IntN.{ℤ, pos, subℕ}
 use lib.Ieee.{binary64, ofBits, lt, le}
-use Rattle.model.specs.Lists.{any, keep, sum, tab, concat-map, first-no}
-use Rattle.model.specs.Values.{Point, Dart, Block, Limits, finite-bits, finite}
+use Rattle.model.specs.Lists.{all, any, keep, sum, tab, concat-map, first-no}
+use Rattle.model.specs.Values.{blocks, Point, Dart, Block, Limits, finite-bits, finite}
 use Rattle.model.specs.Cells.{dart-at, volume-in, volume-starts}
 use Rattle.model.specs.Sound.{block-at, volume-limit}
 use Rattle.model.specs.Departure.{departure-checks}
@@ -64,19 +63,13 @@ mean cs = sum cs / length cs
 unfoldable pub surpluses : List ℕ → List ℤ
 surpluses cs = map (λ c. subℕ c (mean cs)) cs
 
-abbrev pub is-above : ℤ → Bool
-is-above s = ltZ (pos 0) s
+-- "The sum of the squared counts"
+unfoldable pub squared-counts : Oracle → List Block → ℕ
+squared-counts o m = sum (map (λ c. c * c) (counts o m))
 
-abbrev pub is-below : ℤ → Bool
-is-below s = ltZ s (pos 0)
-
-abbrev pub positive-part : ℤ → ℕ
-positive-part (pos n) = n
-positive-part (negsuc n) = 0
-
--- "the sum of positive surpluses"
-unfoldable pub positive-surplus : Oracle → List Block → ℕ
-positive-surplus o m = sum (map positive-part (surpluses (counts o m)))
+-- how many more each block has than each other one, summed up; a run of moves has at most half as many
+unfoldable pub differences : Oracle → List Block → ℕ
+differences o m = let cs = counts o m in sum (map (λ c. sum (map (λ d. c - d) cs)) cs)
 
 -- THE NEXT MOVE
 pub record Move : Type 0 where
@@ -90,14 +83,18 @@ pub data NextMove : Type 0 where
   blocked : NextMove
   move : Move → NextMove
 
--- the blocks whose surplus passes, ascending
-abbrev pub blocks-with : (ℤ → Bool) → List ℤ → List ℕ
-blocks-with p ss = keep (λ b. p (getD ss b (pos 0))) (tab (λ b. b) (length ss))
+-- "a donor must have at least two picked volumes more than the recipient", by their counts
+abbrev pub may-give : ℕ → ℕ → Bool
+may-give donor recipient = leb (recipient + 2) donor
 
--- "donor above zero, recipient below, volume picked", in ascending order of (donor, recipient, least serial)
-unfoldable pub candidates : Oracle → List Block → List ℤ → List Move
-candidates o m ss = concat-map (λ d. concat-map (λ r. map (λ s. record { donor = d; recipient = r; serial = s }) (picked o (block-at m d .darts)))
-    (blocks-with is-below ss)) (blocks-with is-above ss)
+-- the blocks that a block with so many may give to, ascending
+abbrev pub recipients : List ℕ → ℕ → List ℕ
+recipients cs c = keep (λ r. may-give c (getD cs r 0)) (tab (λ b. b) (length cs))
+
+-- the volumes picked, in ascending order of (donor, recipient, least serial)
+unfoldable pub candidates : Oracle → List Block → List ℕ → List Move
+candidates o m cs = concat-map (λ d. concat-map (λ r. map (λ s. record { donor = d; recipient = r; serial = s }) (picked o (block-at m d .darts)))
+    (recipients cs (getD cs d 0))) (tab (λ b. b) (length cs))
 
 -- "questions 9 to 14 and 21 answered yes"
 unfoldable pub can-move : (ℕ → Limits) → List Block → Move → Bool
@@ -112,12 +109,26 @@ abbrev pub first-or : NextMove → List Move → NextMove
 first-or other [] = other
 first-or other (t ∷ ts) = move t
 
--- "the least"; "Otherwise the answer is 'level' if nobody is above or nobody below, else 'blocked'"
+-- "'Level' means that no two counts differ by two or more"
+unfoldable pub is-level : List ℕ → Bool
+is-level cs = all (λ c. all (λ d. not (may-give c d)) cs) cs
+
+-- "the least triple is chosen"; otherwise 'level', or else 'blocked'
 unfoldable pub next-of : (ℕ → Limits) → Oracle → List Block → NextMove
 next-of lims o m =
-    let ss = surpluses (counts o m) in
-    let is-level = not (any is-above ss) || not (any is-below ss) in
-    first-or (cond is-level level blocked) (keep (can-move lims m) (candidates o m ss))
+    let cs = counts o m in
+    first-or (cond (is-level cs) level blocked) (keep (can-move lims m) (candidates o m cs))
+
+-- "The next move's answer carries the mean and each block's surplus beside it": sixteen, 0 for a block that the mesh has not
+pub record Balance : Type 0 where
+  pub next : NextMove
+  pub mean : ℕ
+  pub surplus : List ℤ
+
+unfoldable pub balance-of : (ℕ → Limits) → Oracle → List Block → Balance
+balance-of lims o m =
+    let cs = counts o m in
+    record { next = next-of lims o m; mean = mean cs; surplus = tab (λ b. getD (surpluses cs) b (pos 0)) blocks }
 
 -- THE ORACLE BY NUMBERS, as C gives it: 0 every volume, 1 the box from low to high, 2 the plane on an axis at low's x; there is no other
 unfoldable pub numbered-oracle : ℕ → ℕ → Point → Point → Option Oracle

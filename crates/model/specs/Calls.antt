@@ -4,8 +4,9 @@
 use mathlib.Core.Bool.{Bool, false, cond, _&&_}
 use mathlib.Core.List.{List, [], _∷_, _++_, map}
 use mathlib.Core.Option.{Option, none, some}
-use Prim.Native.Nat.{ℕ, _*_, _/_}
+use Prim.Native.Nat.{ℕ, _-_, _*_, _/_}
 use lib.Dec.{leb, eqb}
+use lib.IntN.{ℤ, pos, negsuc}
 use lib.ListN.{length, getD, take, drop}
 use Rattle.model.specs.Lists.{all, concat, tab, is-some, first-no, Check}
 use Rattle.model.specs.Values.{last-block, Point, Block, no-block, Limits}
@@ -15,7 +16,7 @@ use Rattle.model.specs.Image.{words, words-of, image, block-in, is-image
 use Rattle.model.specs.Messages.{file, message-in}
 use Rattle.model.specs.Departure.{departure-checks, messages, released}
 use Rattle.model.specs.Arrival.{receive-checks, received-from, redirect-checks, redirected-from}
-use Rattle.model.specs.Balance.{Oracle, oracle-right, NextMove, level, blocked, move, next-of, numbered-oracle}
+use Rattle.model.specs.Balance.{Oracle, oracle-right, NextMove, level, blocked, move, Balance, balance-of, numbered-oracle}
 
 -- ANSWERS: served with its values, or refused with a number alone
 pub data Answer (A : Type 0) : Type 0 where
@@ -43,6 +44,15 @@ abbrev pub move-values : NextMove → List ℕ
 move-values level = 0 ∷ 0 ∷ 0 ∷ 0 ∷ []
 move-values blocked = 1 ∷ 0 ∷ 0 ∷ 0 ∷ []
 move-values (move t) = 2 ∷ t .donor ∷ t .recipient ∷ t .serial ∷ []
+
+-- a signed number as a word of 64 bits, two's complement
+abbrev pub signed-word : ℤ → ℕ
+signed-word (pos n) = n
+signed-word (negsuc n) = 18446744073709551615 - n
+
+-- then "the mean and each block's surplus"
+abbrev pub balance-values : Balance → List ℕ
+balance-values b = move-values (b .next) ++ b .mean ∷ map signed-word (b .surplus)
 
 -- an answer, and afterwards the memory or bytes that were lent to be written
 pub record Result (A : Type 0) : Type 0 where
@@ -123,14 +133,17 @@ unfoldable pub check-mesh : (ℕ → Limits) → List ℕ → List ℕ → Resul
 check-mesh lims m scratch = asked (whole-mesh-checks lims m scratch) scratch tt scratch
 
 -- 1, 2, 23 to 28
-unfoldable pub next-move : (ℕ → Limits) → List ℕ → Oracle → List ℕ → Result NextMove
+unfoldable pub next-move : (ℕ → Limits) → List ℕ → Oracle → List ℕ → Result Balance
 next-move lims m o scratch =
-    asked (whole-mesh-checks lims m scratch ++ (28, oracle-right o) ∷ []) scratch (next-of lims o (map block-in (memories m))) scratch
+    asked (whole-mesh-checks lims m scratch ++ (28, oracle-right o) ∷ []) scratch (balance-of lims o (map block-in (memories m))) scratch
 
 -- the same with the oracle by numbers; a number that no oracle has is refused by 28 in its turn
-abbrev pub next-move-of : (ℕ → Limits) → List ℕ → Option Oracle → List ℕ → Result NextMove
-next-move-of lims m none scratch = asked (whole-mesh-checks lims m scratch ++ (28, false) ∷ []) scratch level scratch
+abbrev pub no-balance : Balance
+no-balance = record { next = level; mean = 0; surplus = [] }
+
+abbrev pub next-move-of : (ℕ → Limits) → List ℕ → Option Oracle → List ℕ → Result Balance
+next-move-of lims m none scratch = asked (whole-mesh-checks lims m scratch ++ (28, false) ∷ []) scratch no-balance scratch
 next-move-of lims m (some o) scratch = next-move lims m o scratch
 
-unfoldable pub next-move-by-number : (ℕ → Limits) → List ℕ → ℕ → ℕ → Point → Point → List ℕ → Result NextMove
+unfoldable pub next-move-by-number : (ℕ → Limits) → List ℕ → ℕ → ℕ → Point → Point → List ℕ → Result Balance
 next-move-by-number lims m n axis low high scratch = next-move-of lims m (numbered-oracle n axis low high) scratch

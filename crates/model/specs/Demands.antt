@@ -7,7 +7,8 @@
 --   Demand2                       agreement, Agreement.rack-demand2
 --   Demand3, SameNumbers          agreement, Agreement.rack-agreement, rack-same-numbers
 --   LeavesSound, OutboxSuffices   soundness, Served.rack-leaves-sound, OutboxLength.rack-outbox-suffices
---   MoveLowers                    balancing, Lowers.rack-move-lowers
+--   MoveLowers, MovesEnd          balancing, Lowers.rack-move-lowers, MovesEnd.rack-moves-end
+--   LevelMeans                    balancing, Levels.rack-level-means
 -- The code comes in by its contracts alone: for every input a call's answer, and what was lent to it, equal those of Calls. That a call ends
 -- is proved of every function.
 --
@@ -43,9 +44,9 @@ use mathlib.Core.Path.{_≡_}
 use mathlib.Core.Logic.{_≢_}
 use mathlib.Core.Bool.{true, _&&_}
 use mathlib.Core.List.{List, [], _∷_, _++_, map, List·Permᴰ}
-use Prim.Native.Nat.{ℕ, suc, _<_, _≤_}
+use Prim.Native.Nat.{ℕ, zero, suc, _+_, _/_, _<_, _≤_}
 use lib.Dec.{ltb}
-use lib.ListN.{length, take, drop}
+use lib.ListN.{length, getD, take, drop}
 use Rattle.model.specs.Lists.{all, mem, concat}
 use Rattle.model.specs.Values.{Block, Limits, Point}
 use Rattle.model.specs.Sound.{Sound, block-at}
@@ -53,14 +54,14 @@ use Rattle.model.specs.Image.{words, words-of, image, memory-of, block-i
 use Rattle.model.specs.Layouts.{framed}
 use Rattle.model.specs.Messages.{Transfer, Update, transfer, update, a-transfer, an-update, message-in}
 use Rattle.model.specs.Departure.{transfer-of, updates-of, messages}
-use Rattle.model.specs.Balance.{Oracle, Move, move, positive-surplus}
+use Rattle.model.specs.Balance.{Oracle, counts, squared-counts, differences, Move, level, move, Balance}
 use Rattle.model.specs.Calls.{served, refused, number-of, Result, empty, read-file, save-file, send, receive, release, redirect, check-mesh, next-move, next-move-by-number}
 use Rattle.model.specs.Runs.{Request, is-refused, finished, unfinished}
 use Rattle.model.specs.UndividedRun.{State, start, whole-map, holder, Undivided, undivided}
 use Rattle.model.specs.DividedRun.{memory-at, messages-in, Step, last-steps, sent-messages, Round, round}
 
 -- DEMAND 1: "A refused call returns that number only and changes no byte that was lent to it". What is lent by `&` stays because such a slice
--- cannot be written, so it is not among what a call returns. Through its C names a call is also lent a count or four words: dmap, CInterface.CKeeps
+-- cannot be written, so it is not among what a call returns. Through its C names a call is also lent a count or 21 words: dmap, CInterface.CKeeps
 pub record Unchanged {A : Type 0} (lent : List ℕ) (r : Result A) : Type 0 where
   pub kept : (n : ℕ) → r .answer ≡ refused n → r .lent ≡ lent
   pub numbered : (n : ℕ) → r .answer ≡ refused n → n ≢ 0
@@ -171,14 +172,44 @@ abbrev pub SameNumbers : (ℕ → Limits) → Type 0
 SameNumbers lims = (m : List Block) (rs : List Request) → Sound lims m → Named (length m) rs
     → After-every (λ d w. d .outcome ≡ w .outcome) lims (map (memory-of lims) m) (start m) rs
 
--- THE NEXT MOVE: "Each move carried out lowers the sum of positive surpluses by one"
+-- THE NEXT MOVE
+abbrev pub request-of : Move → Request
+request-of t = record { from = t .donor; to = t .recipient; serial = t .serial }
+
+-- the next move of a mesh is t
+abbrev pub Answers : (ℕ → Limits) → Oracle → List Block → Move → Type 0
+Answers lims o m t = (scratch : List ℕ) × (b : Balance) × (next-move lims (concat (map (image words) m)) o scratch .answer ≡ served b) × (b .next ≡ move t)
+
+-- what is claimed of a move of a mesh that is carried out: of the round, and of any blocks that it leaves
+abbrev pub Carried-out : (ℕ → Limits) → List Block → Move → (Round → Type 0) → Type 0
+Carried-out lims m t claim = (outbox : List ℕ) (order : List Step) → Enough lims (map (memory-of lims) m) (request-of t) outbox
+    → List·Permᴰ order (last-steps (request-of t) (sent-messages lims (map (memory-of lims) m) (request-of t) outbox))
+    → claim (round lims (map (memory-of lims) m) (request-of t) outbox order)
+
+-- "The sum of the squared counts .. falls with every move", by two at least
 abbrev pub MoveLowers : (ℕ → Limits) → Type 0
-MoveLowers lims = (m : List Block) (o : Oracle) (scratch outbox : List ℕ) (t : Move) (order : List Step) → Sound lims m
-    → next-move lims (concat (map (image words) m)) o scratch .answer ≡ served (move t)
-    → let r : Request = record { from = t .donor; to = t .recipient; serial = t .serial } in
-    Enough lims (map (memory-of lims) m) r outbox → List·Permᴰ order (last-steps r (sent-messages lims (map (memory-of lims) m) r outbox))
-    → (round lims (map (memory-of lims) m) r outbox order .outcome ≡ finished)
-    × ((after : List Block) → round lims (map (memory-of lims) m) r outbox order .memories ≡ map (memory-of lims) after → suc (positive-surplus o after) ≡ positive-surplus o m)
+MoveLowers lims = (m : List Block) (o : Oracle) (t : Move) → Sound lims m → Answers lims o m t
+    → Carried-out lims m t (λ r. (r .outcome ≡ finished)
+    × ((after : List Block) → r .memories ≡ map (memory-of lims) after → squared-counts o after + 2 ≤ squared-counts o m))
+
+-- a run of next moves, each carried out, has at most n of them
+abbrev pub Ends-within : ℕ → (ℕ → Limits) → Oracle → List Block → Type 0
+Ends-within zero lims o m = (t : Move) → Answers lims o m t → ⊥
+Ends-within (suc n) lims o m = (t : Move) → Answers lims o m t
+    → Carried-out lims m t (λ r. (after : List Block) → Sound lims after → r .memories ≡ map (memory-of lims) after → Ends-within n lims o after)
+
+abbrev pub most-moves : ℕ
+most-moves = 65536
+
+-- so a run of next moves ends
+abbrev pub MovesEnd : (ℕ → Limits) → Type 0
+MovesEnd lims = (m : List Block) (o : Oracle) → Sound lims m → Ends-within (differences o m / 2) lims o m × (differences o m / 2 ≤ most-moves)
+
+-- "'Level' means that no two counts differ by two or more"
+abbrev pub LevelMeans : (ℕ → Limits) → Type 0
+LevelMeans lims = (m : List Block) (o : Oracle) (scratch : List ℕ) (b : Balance) → Sound lims m
+    → next-move lims (concat (map (image words) m)) o scratch .answer ≡ served b → b .next ≡ level
+    → (i j : ℕ) → i < length m → j < length m → getD (counts o m) i 0 ≤ getD (counts o m) j 0 + 1
 
 -- THE OUTBOX: so many bytes are always enough
 abbrev pub outbox-bytes : ℕ

@@ -8,28 +8,28 @@ use Rattle.model.specs.Lists.{concat}
 use Rattle.model.specs.Values.{Block, all-rack}
 use Rattle.model.specs.Sound.{Sound}
 use Rattle.model.specs.Image.{words, image, block-in}
-use Rattle.model.specs.Balance.{Oracle, oracle-right, Move, move, NextMove}
+use Rattle.model.specs.Balance.{Oracle, oracle-right, Move, move, NextMove, Balance}
 use Rattle.model.specs.Calls.{Answer, served, memories, whole-mesh-checks, next-move}
 use Rattle.model.specs.Runs.{finished}
 use Rattle.model.specs.DividedRun.{last-steps, sent-messages, memory-at}
-use Rattle.model.specs.Demands.{outbox-bytes}
+use Rattle.model.specs.Demands.{outbox-bytes, request-of}
 use Rattle.laws.proofs.Tests.{first-no-left}
 use Rattle.theory.proofs.CallLaws.{served-value}
 use Rattle.theory.proofs.MeshLaws.{mesh-of, mesh-parts, memories-are, images-pass}
 use Rattle.agreement.proofs.Agreement.{rack-fits}
 use Rattle.soundness.proofs.OutboxLength.{rack-outbox-suffices}
-use Rattle.balancing.proofs.Lowers.{request-of, rack-move-lowers}
+use Rattle.balancing.proofs.Lowers.{rack-move-lowers}
 use Rattle.rounds.specs.Played.{round-in-order}
-use Rattle.rebalance.specs.Turn.{ending-by, moved, turn, turn-by, round-turn}
+use Rattle.rebalance.specs.Turn.{ending-by, moved, next-answer, turn, turn-by, round-turn}
 
 -- a mesh of which next move was served is sound, and its memories are the images of its blocks
-module _ (m : List ℕ) (o : Oracle) (scratch : List ℕ) (t : Move) (e : next-move all-rack m o scratch .answer ≡ served (move t)) where
+module _ (m : List ℕ) (o : Oracle) (scratch : List ℕ) (b : Balance) (t : Move) (e : next-move all-rack m o scratch .answer ≡ served b) (f : b .next ≡ move t) where
   abbrev bs : List Block
   bs = map block-in (memories m)
 
   asked-of : Sound all-rack bs × (concat (map (image words) bs) ≡ m)
   unfolding next-move
-  asked-of = mesh-of all-rack m scratch (first-no-left (whole-mesh-checks all-rack m scratch) ((28, oracle-right o) ∷ []) (served-value _ scratch _ scratch (move t) e .0))
+  asked-of = mesh-of all-rack m scratch (first-no-left (whole-mesh-checks all-rack m scratch) ((28, oracle-right o) ∷ []) (served-value _ scratch _ scratch b e .0))
 
   images-are : memories m ≡ map (image words) bs
   images-are =
@@ -39,11 +39,11 @@ module _ (m : List ℕ) (o : Oracle) (scratch : List ℕ) (t : Move) (e : next-m
   round-finishes : (outbox : List ℕ) → outbox-bytes ≤ length outbox → round-in-order (map (image words) bs) (request-of t) outbox .outcome ≡ finished
   round-finishes outbox long =
       let enough = rack-outbox-suffices (memory-at (map (image words) bs) (t .donor)) (t .recipient) (t .serial) outbox long in
-      let asked = subst (λ (x : List ℕ). next-move all-rack x o scratch .answer ≡ served (move t)) (sym (asked-of .1)) e in
-      rack-move-lowers bs o scratch outbox t (last-steps (request-of t) (sent-messages all-rack (map (image words) bs) (request-of t) outbox)) (asked-of .0) asked enough (Permᴰ·refl _) .0
+      let asked = subst (λ (x : List ℕ). next-move all-rack x o scratch .answer ≡ served b) (sym (asked-of .1)) e in
+      rack-move-lowers bs o t (asked-of .0) (scratch, b, asked, f) outbox (last-steps (request-of t) (sent-messages all-rack (map (image words) bs) (request-of t) outbox)) enough (Permᴰ·refl _) .0
 
   pub move-carried : (outbox : List ℕ) → outbox-bytes ≤ length outbox → turn m o scratch outbox .ending ≡ moved t
   unfolding turn round-turn
   move-carried outbox long =
-      ap (λ (a : Answer NextMove). turn-by m outbox a .ending) e
+      ap (λ (a : Answer Balance). turn-by m outbox (next-answer a) .ending) e ∙ ap (λ (a : NextMove). turn-by m outbox (served a) .ending) f
       ∙ ap (ending-by t) (subst (λ (ms : List (List ℕ)). round-in-order ms (request-of t) outbox .outcome ≡ finished) (sym images-are) (round-finishes outbox long))

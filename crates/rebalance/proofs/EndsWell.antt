@@ -1,27 +1,31 @@
--- Balancing a sound mesh ends level or blocked, or is refused by 28 alone. Assumes nothing.
+-- Balancing a sound mesh ends level, blocked or full, or is refused by 28 alone. Assumes nothing.
 use mathlib.Core.Path.{_≡_, refl, sym, _∙_, ap, subst}
 use mathlib.Core.Bool.{true, false}
 use mathlib.Core.List.{List, [], _∷_, _++_, map, append-nil, Permᴰ·refl}
-use Prim.Native.Nat.{ℕ, zero, suc}
+use Prim.Native.Nat.{ℕ, zero, suc, _+_, _*_, _≤_}
 use native.Mathlib.Omega.{arith}
 use lib.Dec.{ltb}
-use lib.ListN.{length, length-append}
+use lib.ListN.{length, getD, length-append}
+use borrow.Author.Tests.{leb-true}
 use Rattle.model.specs.Lists.{all, first-no, concat, Check}
 use Rattle.model.specs.Values.{Block, all-rack}
 use Rattle.model.specs.Sound.{Sound, mesh-checks}
 use Rattle.model.specs.Image.{words, image, block-in}
 use Rattle.model.specs.Balance as balance
-use Rattle.model.specs.Balance.{Oracle, oracle-right, positive-surplus, Move, move, NextMove, next-of}
+use Rattle.model.specs.Balance.{Oracle, oracle-right, counts, squared-counts, differences, Move, move, NextMove, is-level, next-of, Balance, balance-of}
 use Rattle.model.specs.Calls.{Answer, served, refused, Result, memories, whole-mesh-checks, next-move}
 use Rattle.model.specs.Runs.{Request, finished}
 use Rattle.model.specs.DividedRun.{memory-at, last-steps, sent-messages, Round}
+use Rattle.model.specs.Demands.{Answers}
 use Rattle.laws.proofs.Tests.{by-cases, yes-then, no-here, no-more, first-no-append}
 use Rattle.theory.proofs.CallLaws.{served-gives, refused-gives}
 use Rattle.theory.proofs.MeshLaws.{mesh-parts, memories-are, images-pass, sound-passes}
 use Rattle.agreement.proofs.Agreement.{rack-fits}
 use Rattle.soundness.proofs.OutboxLength.{rack-outbox-suffices}
-use Rattle.balancing.proofs.Chosen.{mesh-read}
-use Rattle.balancing.proofs.Lowers.{rack-move-lowers}
+use Rattle.balancing.proofs.Chosen.{mesh-read, Candidate, chosen}
+use Rattle.balancing.proofs.Levels.{said-level}
+use Rattle.balancing.proofs.Lowers.{move-gives}
+use Rattle.balancing.proofs.Sums.{Given, squares-fall, gaps-fall, gaps-two}
 use Rattle.rounds.specs.Played.{left-over, round-in-order}
 use Rattle.rounds.specs.Requests as list
 use Rattle.rounds.specs.Requests.{outbox-after}
@@ -29,10 +33,42 @@ use Rattle.rounds.proofs.Requests.{outbox-length}
 use Rattle.agreed.specs.Promise.{Agreed}
 use Rattle.agreed.proofs.Lists.{lists-agree}
 use Rattle.rebalance.specs.Turn as step
-use Rattle.rebalance.specs.Turn.{Turn, still, ending-by, turn, turn-by, round-turn}
-use Rattle.rebalance.specs.Balanced.{Stop, level, blocked, refused-by, BalancingRun, stopped, moved-first, with-memories, stop-by, after-step, balanced}
-use Rattle.rebalance.specs.Promise.{ends-well, as-request, Levels, Lent, EndsWell}
+use Rattle.rebalance.specs.Turn.{Turn, still, ending-by, next-answer, asked-next, turn, turn-by, round-turn}
+use Rattle.rebalance.specs.Balanced.{Stop, level, blocked, full, unfinished, refused-by, BalancingRun, stopped, moved-first, with-memories, stop-by, after-step, balanced}
+use Rattle.rebalance.specs.Promise.{ends-well, as-request, EndedAs, Levels, Lent, EndsWell}
 use Rattle.rebalance.proofs.Moving.{whole-again}
+
+-- STOPS are told apart
+number-of-stop : Stop → ℕ
+number-of-stop level = 0
+number-of-stop blocked = 1
+number-of-stop full = 2
+number-of-stop unfinished = 3
+number-of-stop (refused-by n) = 4
+
+level-not-full : level ≡ full → ⊥
+unfolding number-of-stop
+level-not-full e = let z = ap number-of-stop e in omega (arith, z)
+
+blocked-not-full : blocked ≡ full → ⊥
+unfolding number-of-stop
+blocked-not-full e = let z = ap number-of-stop e in omega (arith, z)
+
+blocked-not-level : blocked ≡ level → ⊥
+unfolding number-of-stop
+blocked-not-level e = let z = ap number-of-stop e in omega (arith, z)
+
+full-not-level : full ≡ level → ⊥
+unfolding number-of-stop
+full-not-level e = let z = ap number-of-stop e in omega (arith, z)
+
+refused-not-full : refused-by 28 ≡ full → ⊥
+unfolding number-of-stop
+refused-not-full e = let z = ap number-of-stop e in omega (arith, z)
+
+refused-not-level : refused-by 28 ≡ level → ⊥
+unfolding number-of-stop
+refused-not-level e = let z = ap number-of-stop e in omega (arith, z)
 
 -- A SOUND MESH as it is lent
 module _ (bs : List Block) (sound : Sound all-rack bs) where
@@ -61,7 +97,7 @@ module _ (bs : List Block) (sound : Sound all-rack bs) where
     asks = whole-mesh-checks all-rack lent scratch
 
     abbrev given : Answer NextMove
-    given = next-move all-rack lent o scratch .answer
+    given = asked-next lent o scratch
 
     mesh-asked : first-no asks ≡ 0
     mesh-asked = sound-passes all-rack rack-fits bs scratch sound (L .entries) (L .zeros)
@@ -73,18 +109,26 @@ module _ (bs : List Block) (sound : Sound all-rack bs) where
     oracle-asked : first-no (asks ++ (28, oracle-right o) ∷ []) ≡ first-no ((28, oracle-right o) ∷ [])
     oracle-asked = first-no-append asks _ mesh-asked positive
 
-    asked-right : oracle-right o ≡ true → given ≡ served (next-of all-rack o bs)
+    asked-right : oracle-right o ≡ true → next-move all-rack lent o scratch .answer ≡ served (balance-of all-rack o bs)
     unfolding next-move
-    asked-right t = ap (λ (r : Result NextMove). r .answer)
-        (served-gives (asks ++ (28, oracle-right o) ∷ []) scratch (next-of all-rack o (map block-in (memories lent))) scratch (oracle-asked ∙ yes-then 28 (oracle-right o) [] t ∙ no-more))
-        ∙ ap (λ (l : List Block). served (next-of all-rack o l)) (mesh-read all-rack rack-fits bs sound)
+    asked-right t = ap (λ (r : Result Balance). r .answer)
+        (served-gives (asks ++ (28, oracle-right o) ∷ []) scratch (balance-of all-rack o (map block-in (memories lent))) scratch (oracle-asked ∙ yes-then 28 (oracle-right o) [] t ∙ no-more))
+        ∙ ap (λ (l : List Block). served (balance-of all-rack o l)) (mesh-read all-rack rack-fits bs sound)
+
+    given-right : oracle-right o ≡ true → (a : NextMove) → next-of all-rack o bs ≡ a → given ≡ served a
+    unfolding balance-of
+    given-right t a e = ap next-answer (asked-right t) ∙ ap served e
+
+    answers : oracle-right o ≡ true → (t : Move) → next-of all-rack o bs ≡ move t → Answers all-rack o bs t
+    unfolding balance-of
+    answers right t e = (scratch, balance-of all-rack o bs, asked-right right, e)
 
     asked-wrong : oracle-right o ≡ false → given ≡ refused 28
     unfolding next-move
     asked-wrong t =
         let n = oracle-asked ∙ no-here 28 (oracle-right o) [] t in
-        ap (λ (r : Result NextMove). r .answer)
-        (refused-gives (asks ++ (28, oracle-right o) ∷ []) scratch (next-of all-rack o (map block-in (memories lent))) scratch (λ z. let q = sym n ∙ z in omega (arith, q)))
+        ap (λ (r : Result Balance). next-answer (r .answer))
+        (refused-gives (asks ++ (28, oracle-right o) ∷ []) scratch (balance-of all-rack o (map block-in (memories lent))) scratch (λ z. let q = sym n ∙ z in omega (arith, q)))
         ∙ ap refused n
 
     -- NO MOVE: balancing ends there
@@ -95,18 +139,29 @@ module _ (bs : List Block) (sound : Sound all-rack bs) where
     Stops e s = (m l : List ℕ) (r : BalancingRun) → after-step e m l r ≡ stopped s m l
 
     abbrev Ends : ℕ → Type 0
-    Ends n = Levels bs o scratch outbox (balanced n lent o scratch outbox)
+    Ends n = Levels n bs o scratch outbox (balanced n lent o scratch outbox)
 
-    stays : (e : Stop) → ends-well o e ≡ true → e ≡ stop-by given → Levels bs o scratch outbox (here e)
+    -- what is to be shown of such an end
+    record Stopping (n : ℕ) (e : Stop) : Type 0 where
+      well : ends-well o e ≡ true
+      fully : e ≡ full → (0 ≡ n) × (n * 2 + 2 ≤ differences o bs)
+      levelled : e ≡ level → is-level (counts o bs) ≡ true
+
+    stays : (n : ℕ) (e : Stop) → Stopping n e → e ≡ stop-by given → Levels n bs o scratch outbox (here e)
     unfolding list.played-run
-    stays e w l = record {
-      ends = w;
-      last = l;
+    stays n e w l = record {
       after = bs;
+      ended = record {
+        ends = w .well;
+        full-means = w .fully;
+        level-means = w .levelled;
+        differences-fall = omega arith;
+        squares-fall = omega arith;
+        sound = sound;
+        same-map = λ x. refl;
+      };
+      last = l;
       mesh-is = refl;
-      sound = sound;
-      lowered = omega arith;
-      same-map = λ x. refl;
       outcomes-again = refl;
       memories-again = refl;
     }
@@ -123,32 +178,46 @@ module _ (bs : List Block) (sound : Sound all-rack bs) where
     turned a e = ap (turn-by lent outbox) e
 
     none-left : (n : ℕ) (a : Answer NextMove) (e : step.End) (s : Stop) → given ≡ a → turn-by lent outbox a ≡ still lent outbox e
-        → Stops e s → stop-by a ≡ s → ends-well o s ≡ true → Ends n
+        → Stops e s → stop-by a ≡ s → Stopping n s → Ends n
     unfolding balanced
-    none-left zero a e s q t ends stops w = subst (λ (x : Stop). Levels bs o scratch outbox (here x)) (sym stops ∙ ap stop-by (sym q)) (stays s w (sym stops ∙ ap stop-by (sym q)))
-    none-left (suc n) a e s q t ends stops w = rw (still-here n e s (turned a q ∙ t) ends) (stays s w (sym stops ∙ ap stop-by (sym q)))
+    none-left zero a e s q t ends stops w =
+        subst (λ (x : Stop). Levels zero bs o scratch outbox (here x)) (sym stops ∙ ap stop-by (sym q)) (stays zero s w (sym stops ∙ ap stop-by (sym q)))
+    none-left (suc n) a e s q t ends stops w = rw (still-here n e s (turned a q ∙ t) ends) (stays (suc n) s w (sym stops ∙ ap stop-by (sym q)))
 
     -- BY CASES of the answer, where a move is taken care of
-    by-answer : (n : ℕ) → oracle-right o ≡ true → ((t : Move) → given ≡ served (move t) → Ends n) → (a : NextMove) → given ≡ served a → Ends n
-    by-answer n right moving balance.level q = none-left n (served balance.level) step.level level q refl (λ m l r. refl) refl right
-    by-answer n right moving balance.blocked q = none-left n (served balance.blocked) step.blocked blocked q refl (λ m l r. refl) refl right
+    by-answer : (n : ℕ) → oracle-right o ≡ true → ((t : Move) → next-of all-rack o bs ≡ move t → Ends n) → (a : NextMove) → next-of all-rack o bs ≡ a → Ends n
+    by-answer n right moving balance.level q = none-left n (served balance.level) step.level level (given-right right _ q) refl (λ m l r. refl) refl
+        (record { well = right; fully = λ z. absurd (level-not-full z); levelled = λ z. said-level all-rack o bs q })
+    by-answer n right moving balance.blocked q = none-left n (served balance.blocked) step.blocked blocked (given-right right _ q) refl (λ m l r. refl) refl
+        (record { well = right; fully = λ z. absurd (blocked-not-full z); levelled = λ z. absurd (blocked-not-level z) })
     by-answer n right moving (balance.move t) q = moving t q
 
-    by-oracle : (n : ℕ) → ((t : Move) → given ≡ served (move t) → Ends n) → Ends n
+    by-oracle : (n : ℕ) → (oracle-right o ≡ true → (t : Move) → next-of all-rack o bs ≡ move t → Ends n) → Ends n
     by-oracle n moving = by-cases (oracle-right o)
-        (λ right. by-answer n right moving (next-of all-rack o bs) (asked-right right))
-        (λ wrong. none-left n (refused 28) (step.refused-by 28) (refused-by 28) (asked-wrong wrong) refl (λ m l r. refl) refl (rw wrong))
+        (λ right. by-answer n right (moving right) (next-of all-rack o bs) refl)
+        (λ wrong. none-left n (refused 28) (step.refused-by 28) (refused-by 28) (asked-wrong wrong) refl (λ m l r. refl) refl
+        (record { well = rw wrong; fully = λ z. absurd (refused-not-full z); levelled = λ z. absurd (refused-not-level z) }))
+
+    -- NO ROOM for a move
+    no-room : oracle-right o ≡ true → (t : Move) → next-of all-rack o bs ≡ move t → Ends zero
+    unfolding balanced differences
+    no-room right t q =
+        let c = chosen all-rack o bs t q .0 in
+        let two = gaps-two (counts o bs) (t .donor) (t .recipient) (c .donor-below) (c .recipient-below) (leb-true _ (getD (counts o bs) (t .donor) 0) (c .gives)) in
+        let g : full ≡ stop-by given = ap stop-by (sym (given-right right (move t) q)) in
+        subst (λ (x : Stop). Levels zero bs o scratch outbox (here x)) g
+        (stays zero full (record { well = right; fully = λ z. (refl, omega (arith, two)); levelled = λ z. absurd (full-not-level z) }) g)
 
     -- A MOVE: it is carried out, and the rest is balanced
-    module _ (t : Move) (q : given ≡ served (move t)) where
+    module _ (right : oracle-right o ≡ true) (t : Move) (q : next-of all-rack o bs ≡ move t) where
       abbrev r : Request
       r = as-request t
 
       abbrev after-round : Round
       after-round = round-in-order (map (image words) bs) r outbox
 
-      carried : (after-round .outcome ≡ finished) × ((after : List Block) → after-round .memories ≡ map (image words) after → suc (positive-surplus o after) ≡ positive-surplus o bs)
-      carried = rack-move-lowers bs o scratch outbox t (last-steps r (sent-messages all-rack (map (image words) bs) r outbox)) sound q
+      carried : (after-round .outcome ≡ finished) × ((after : List Block) → after-round .memories ≡ map (image words) after → Given (counts o bs) (counts o after))
+      carried = move-gives all-rack rack-fits bs o t sound (answers right t q) outbox (last-steps r (sent-messages all-rack (map (image words) bs) r outbox))
           (rack-outbox-suffices (memory-at (map (image words) bs) (t .donor)) (t .recipient) (t .serial) outbox (L .long)) (Permᴰ·refl _)
 
       agreed : Agreed bs (r ∷ []) (list.played-run (map (image words) bs) outbox (r ∷ []))
@@ -161,8 +230,13 @@ module _ (bs : List Block) (sound : Sound all-rack bs) where
       unfolding list.played-run
       next-images = agreed .matches .images
 
-      lower : suc (positive-surplus o next) ≡ positive-surplus o bs
-      lower = carried .1 next next-images
+      lower : differences o next + 2 ≤ differences o bs
+      unfolding differences
+      lower = gaps-fall (carried .1 next next-images)
+
+      lower-squares : squared-counts o next + 2 ≤ squared-counts o bs
+      unfolding squared-counts
+      lower-squares = squares-fall (carried .1 next next-images)
 
       abbrev next-outbox : List ℕ
       next-outbox = outbox-after (map (image words) bs) r outbox
@@ -175,7 +249,7 @@ module _ (bs : List Block) (sound : Sound all-rack bs) where
 
       turns : turn lent o scratch outbox ≡ record { ending = step.moved t; memories = map (image words) next; outbox = next-outbox }
       unfolding round-turn
-      turns = turned (served (move t)) q ∙ ap turn-of memories-lent ∙ (λ i. record { ending = ending-by t (carried .0 i); memories = next-images i; outbox = next-outbox })
+      turns = turned (served (move t)) (given-right right (move t) q) ∙ ap turn-of memories-lent ∙ (λ i. record { ending = ending-by t (carried .0 i); memories = next-images i; outbox = next-outbox })
 
       moves-on : (n : ℕ) → balanced (suc n) lent o scratch outbox ≡ moved-first t (balanced n (concat (map (image words) next)) o scratch next-outbox)
       unfolding balanced
@@ -183,34 +257,35 @@ module _ (bs : List Block) (sound : Sound all-rack bs) where
           ap (λ (T : Turn). after-step (T .ending) (with-memories lent (T .memories)) (T .outbox) (balanced n (with-memories lent (T .memories)) o scratch (T .outbox))) turns
           ∙ ap (λ (m : List ℕ). moved-first t (balanced n m o scratch next-outbox)) (with-images (map (image words) next))
 
-      one-more : (d : BalancingRun) → Levels next o scratch next-outbox d → Levels bs o scratch outbox (moved-first t d)
+      one-more : (n : ℕ) (d : BalancingRun) → Levels n next o scratch next-outbox d → Levels (suc n) bs o scratch outbox (moved-first t d)
       unfolding list.played-run
-      one-more d w =
+      one-more n d w =
           let again : list.played-run (after-round .memories) next-outbox (map as-request (d .moves)) ≡ list.played-run (map (image words) next) next-outbox (map as-request (d .moves)) =
           ap (λ (x : List (List ℕ)). list.played-run x next-outbox (map as-request (d .moves))) next-images in
           record {
-            ends = w .ends;
-            last = w .last;
             after = w .after;
+            ended = record {
+              ends = w .ended .ends;
+              full-means = λ z. let f = w .ended .full-means z in (ap suc (f .0), let g = f .1 in omega (arith, g, lower));
+              level-means = w .ended .level-means;
+              differences-fall = let a = w .ended .differences-fall in omega (arith, a, lower);
+              squares-fall = let a = w .ended .squares-fall in omega (arith, a, lower-squares);
+              sound = w .ended .sound;
+              same-map = λ x. w .ended .same-map x ∙ agreed .same-map x;
+            };
+            last = w .last;
             mesh-is = w .mesh-is;
-            sound = w .sound;
-            lowered = let a = w .lowered in omega (arith, a, lower);
-            same-map = λ x. w .same-map x ∙ agreed .same-map x;
             outcomes-again = (λ i. carried .0 i ∷ (ap (λ (x : list.PlayedRun). x .outcomes) again ∙ w .outcomes-again) i);
             memories-again = ap (λ (x : list.PlayedRun). x .memories) again ∙ w .memories-again;
           }
 
-      moved-well : (n : ℕ) → Levels next o scratch next-outbox (balanced n (concat (map (image words) next)) o scratch next-outbox) → Ends (suc n)
-      moved-well n w = rw (moves-on n) (one-more (balanced n (concat (map (image words) next)) o scratch next-outbox) w)
+      moved-well : (n : ℕ) → Levels n next o scratch next-outbox (balanced n (concat (map (image words) next)) o scratch next-outbox) → Ends (suc n)
+      moved-well n w = rw (moves-on n) (one-more n (balanced n (concat (map (image words) next)) o scratch next-outbox) w)
 
 -- ANY SOUND MESH, by the room that there is
 pub ends-well-at : EndsWell
-ends-well-at zero bs o scratch outbox sound L few = by-oracle bs sound o scratch outbox L zero
-    (λ t q. let l = lower bs sound o scratch outbox L t q in absurd (omega (arith, l, few)))
-ends-well-at (suc n) bs o scratch outbox sound L few = by-oracle bs sound o scratch outbox L (suc n)
-    (λ t q.
-    let l = lower bs sound o scratch outbox L t q in
-    let bs′ = next bs sound o scratch outbox L t q in
-    let sound′ = agreed bs sound o scratch outbox L t q .matches .sound in
-    let L′ = next-lent bs sound o scratch outbox L t q in
-    moved-well bs sound o scratch outbox L t q n (ends-well-at n bs′ o scratch _ sound′ L′ (omega (arith, l, few))))
+ends-well-at zero bs o scratch outbox sound L = by-oracle bs sound o scratch outbox L zero (no-room bs sound o scratch outbox L)
+ends-well-at (suc n) bs o scratch outbox sound L = by-oracle bs sound o scratch outbox L (suc n)
+    (λ right t q. moved-well bs sound o scratch outbox L right t q n
+    (ends-well-at n (next bs sound o scratch outbox L right t q) o scratch (next-outbox bs sound o scratch outbox L right t q)
+    (agreed bs sound o scratch outbox L right t q .matches .sound) (next-lent bs sound o scratch outbox L right t q)))

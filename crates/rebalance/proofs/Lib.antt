@@ -2,5 +2,4 @@ pub mod Turns
 pub mod Carried
 pub mod Moving
 pub mod EndsWell
-pub mod FewMoves
 pub mod Promised

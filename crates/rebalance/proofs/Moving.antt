@@ -14,13 +14,16 @@ use Rattle.model.specs.Calls.{Answer, served, refused, asked, memories, next-mo
 use Rattle.laws.proofs.Lists.{concat-snoc}
 use Rattle.laws.proofs.Tables.{tab-more}
 use Rattle.laws.proofs.Tests.{by-cases}
-use Rattle.answers.specs.Answers.{Gives, move-of}
+use Rattle.answers.specs.Answers.{move-of}
+use Rattle.balance.specs.Answer.{GivesBalance}
+use Rattle.balance.specs.declared.nextmove.Balance.{Balance}
 use Rattle.answers.specs.declared.NextMove as answers-move
 use Rattle.rounds.specs.Played.{left-over, asks-for}
 use Rattle.rounds.specs.Requests.{over-words}
 use Rattle.rounds.proofs.Requests.{over-more, outbox-length}
-use Rattle.rebalance.specs.Turn.{ending-of, a-move, turn, turn-by, round-turn, Levelled}
+use Rattle.rebalance.specs.Turn.{ending-of, a-move, asked-next, turn, turn-by, round-turn, Levelled}
 use Rattle.rebalance.specs.Balanced.{Stop, BalancingRun, stopped, moved-first, with-memories, stop-by, after-step, balanced, numbers-of, with-move, stop-of, count-of, TurnAsked, Balances}
+use Rattle.rebalance.proofs.Turns.{asked-is}
 use Rattle.rebalance.specs.declared.Ending.{Ending}
 use Rattle.rebalance.specs.declared.Ending.the-variants as ending
 use Rattle.rebalance.specs.declared.moves.Balanced.{Balanced}
@@ -62,7 +65,7 @@ turned-length m outbox (refused n) = refl
 
 pub turn-length : (m : List ℕ) (o : Oracle) (scratch outbox : List ℕ) → length (turn m o scratch outbox .outbox) ≡ length outbox
 unfolding turn
-turn-length m o scratch outbox = turned-length m outbox (next-move all-rack m o scratch .answer)
+turn-length m o scratch outbox = turned-length m outbox (asked-next m o scratch)
 
 -- MOVES AS NUMBERS
 abbrev numbers : Move → List ℕ
@@ -219,16 +222,16 @@ module _ {m₀ : List ℕ} {o : Oracle} {scratch₀ outbox₀ moves₀ : List �
   pub last-asked : length moves / 3 ≤ n → (b : Balanced) {scratch′ : List ℕ} → TurnAsked m o scratch n b scratch′ → Balances m₀ o scratch₀ outbox₀ moves₀ b m scratch′ outbox moves
   unfolding balanced
   last-asked h b a =
-      let e = a .stop-is ∙ ap (λ (c : List ℕ). stop-by (next-move all-rack m o c .answer)) (w .as-was) in
+      let e = a .stop-is ∙ ap (λ (c : List ℕ). stop-by (asked-next m o c)) (w .as-was) in
       concludes b (w .same-end
       ∙ ap (λ (r : ℕ). behind (w .carried) (balanced r m o scratch₀ outbox)) (no-room h)
       ∙ ap (λ (x : Stop). behind (w .carried) (stopped x m outbox)) (sym e)) (a .count-is) (a .scratch-is ∙ w .as-was)
 
 -- the next move asked for
-pub asked-as : (m : List ℕ) (o : Oracle) (scratch : List ℕ) (n : ℕ) {a x : answers-move.NextMove} {scratch′ : List ℕ} (b : Balanced) → a ≡ x
-    → Gives (next-move all-rack m o scratch) (move-of a) scratch′ → stop-of b ≡ stop-by (move-of x) → count-of b ≡ n → TurnAsked m o scratch n b scratch′
+pub asked-as : (m : List ℕ) (o : Oracle) (scratch : List ℕ) (n : ℕ) {a : Balance} {x : answers-move.NextMove} {scratch′ : List ℕ} (b : Balanced) → a .next ≡ x
+    → GivesBalance (next-move all-rack m o scratch) a scratch′ → stop-of b ≡ stop-by (move-of x) → count-of b ≡ n → TurnAsked m o scratch n b scratch′
 asked-as m o scratch n b known g e c = record {
-  stop-is = e ∙ ap (λ (y : answers-move.NextMove). stop-by (move-of y)) (sym known) ∙ ap stop-by (g .answer);
+  stop-is = e ∙ ap stop-by (asked-is m o scratch known g);
   count-is = c;
   scratch-is = g .left ∙ scratch-stays m o scratch;
 }

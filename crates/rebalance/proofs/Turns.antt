@@ -2,15 +2,19 @@
 use mathlib.Core.Path.{_≡_, refl, sym, _∙_, ap, subst}
 use mathlib.Core.List.{List}
 use Prim.Native.Nat.{ℕ}
+use lib.IntN.{ℤ}
 use Rattle.model.specs.Values.{all-rack}
 use Rattle.model.specs.Balance.{Oracle}
 use Rattle.model.specs.Calls as calls
-use Rattle.answers.specs.Answers.{Gives, move-of}
+use Rattle.answers.specs.Answers.{move-of}
 use Rattle.answers.specs.declared.NextMove.{NextMove}
+use Rattle.answers.specs.declared.NextMove.the-variants as next
+use Rattle.balance.specs.Answer.{answer-with, GivesBalance}
+use Rattle.balance.specs.declared.nextmove.Balance.{Balance}
 use Rattle.rounds.specs.declared.Outcome.{Outcome}
 use Rattle.rounds.specs.Played.{Played, outcome-of}
 use Rattle.rebalance.specs.declared.Ending.{Ending}
-use Rattle.rebalance.specs.Turn.{TurnEnded, Levelled, ending-by, ending-of, still, turn, turn-by, round-turn, a-move}
+use Rattle.rebalance.specs.Turn.{TurnEnded, Levelled, ending-by, ending-of, still, next-answer, asked-next, turn, turn-by, round-turn, a-move}
 
 -- nothing moves
 pub stays : (m outbox : List ℕ) (s : Ending) → TurnEnded (still m outbox (ending-of s)) m s m outbox
@@ -30,13 +34,25 @@ carried m outbox d r s st known e p =
       outbox-is = p .outbox-is;
     }
 
+-- the move of an answer with what stands beside it
+pub next-alone : (n : NextMove) (m : ℕ) (ss : List ℤ) → next-answer (answer-with n m ss) ≡ move-of n
+unfolding answer-with
+next-alone next.Level m ss = refl
+next-alone next.Blocked m ss = refl
+next-alone (next.Move d r s) m ss = refl
+next-alone (next.Refused q) m ss = refl
+
+pub asked-is : (m : List ℕ) (o : Oracle) (scratch : List ℕ) {b : Balance} {x : NextMove} {scratch′ : List ℕ} → b .next ≡ x
+    → GivesBalance (calls.next-move all-rack m o scratch) b scratch′ → move-of x ≡ asked-next m o scratch
+asked-is m o scratch {b} known g = ap move-of (sym known) ∙ sym (next-alone (b .next) (b .mean) (b .surplus)) ∙ ap next-answer (g .answer)
+
 -- what the next move answered, and the turn that this makes
-pub answered : (m : List ℕ) (o : Oracle) (scratch outbox : List ℕ) {a x : NextMove} {s : Ending} {m′ scratch′ outbox′ : List ℕ} → a ≡ x
-    → Gives (calls.next-move all-rack m o scratch) (move-of a) scratch′ → TurnEnded (turn-by m outbox (move-of x)) m s m′ outbox′
+pub answered : (m : List ℕ) (o : Oracle) (scratch outbox : List ℕ) {b : Balance} {x : NextMove} {s : Ending} {m′ scratch′ outbox′ : List ℕ} → b .next ≡ x
+    → GivesBalance (calls.next-move all-rack m o scratch) b scratch′ → TurnEnded (turn-by m outbox (move-of x)) m s m′ outbox′
     → Levelled m o scratch outbox s m′ scratch′ outbox′
 unfolding turn
 answered m o scratch outbox {s = s} {m′ = m′} {outbox′ = outbox′} known g e =
     record {
-      ended = subst (λ (y : calls.Answer _). TurnEnded (turn-by m outbox y) m s m′ outbox′) (ap move-of (sym known) ∙ g .answer) e;
+      ended = subst (λ (y : calls.Answer _). TurnEnded (turn-by m outbox y) m s m′ outbox′) (asked-is m o scratch known g) e;
       scratch-is = g .left;
     }

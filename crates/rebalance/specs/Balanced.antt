@@ -4,15 +4,14 @@ use mathlib.Core.List.{List, [], _∷_, _++_}
 use Prim.Native.Nat.{ℕ, zero, suc, _+_, _*_, _/_}
 use lib.ListN.{length, set}
 use Rattle.model.specs.Lists.{concat}
-use Rattle.model.specs.Values.{all-rack}
 use Rattle.model.specs.Balance as balance
 use Rattle.model.specs.Balance.{Oracle, NextMove, Move}
-use Rattle.model.specs.Calls.{Answer, served, refused, next-move}
+use Rattle.model.specs.Calls.{Answer, served, refused}
 use Rattle.answers.specs.Answers.{question}
 use Rattle.rounds.specs.Played.{left-over}
 use Rattle.rounds.specs.Requests.{over-words}
 use Rattle.rebalance.specs.Turn as step
-use Rattle.rebalance.specs.Turn.{End, turn}
+use Rattle.rebalance.specs.Turn.{End, asked-next, turn}
 use Rattle.rebalance.specs.declared.moves.Balanced.{Balanced}
 use Rattle.rebalance.specs.declared.moves.Balanced.the-variants as balanced-as
 
@@ -59,7 +58,7 @@ after-step (step.refused-by n) m outbox rest = stopped (refused-by n) m outbox
 
 -- n moves at the most
 unfoldable pub balanced : ℕ → List ℕ → Oracle → List ℕ → List ℕ → BalancingRun
-balanced zero m o scratch outbox = stopped (stop-by (next-move all-rack m o scratch .answer)) m outbox
+balanced zero m o scratch outbox = stopped (stop-by (asked-next m o scratch)) m outbox
 balanced (suc n) m o scratch outbox =
     let t = turn m o scratch outbox in
     let m′ = with-memories m (t .memories) in
@@ -92,7 +91,7 @@ count-of (balanced-as.Refused n q) = n
 
 -- the next move asked for and not carried out, after n moves
 pub record TurnAsked (m : List ℕ) (o : Oracle) (scratch : List ℕ) (n : ℕ) (b : Balanced) (scratch′ : List ℕ) : Type 0 where
-  pub stop-is : stop-of b ≡ stop-by (next-move all-rack m o scratch .answer)
+  pub stop-is : stop-of b ≡ stop-by (asked-next m o scratch)
   pub count-is : count-of b ≡ n
   pub scratch-is : scratch′ ≡ scratch
 

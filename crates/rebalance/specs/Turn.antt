@@ -5,7 +5,7 @@ use Prim.Native.Nat.{ℕ}
 use lib.ListN.{length}
 use Rattle.model.specs.Values.{rack, all-rack}
 use Rattle.model.specs.Balance as balance
-use Rattle.model.specs.Balance.{Oracle, NextMove, Move}
+use Rattle.model.specs.Balance.{Oracle, NextMove, Move, Balance}
 use Rattle.model.specs.Calls.{Answer, served, refused, memories, send, next-move}
 use Rattle.model.specs.Runs as runs
 use Rattle.model.specs.DividedRun.{memory-at}
@@ -59,6 +59,14 @@ round-turn m outbox t =
       outbox = send rack (memory-at (memories m) (t .donor)) (t .recipient) (t .serial) outbox .lent;
     }
 
+-- the move of an answer, without what stands beside it
+abbrev pub next-answer : Answer Balance → Answer NextMove
+next-answer (served b) = served (b .next)
+next-answer (refused n) = refused n
+
+abbrev pub asked-next : List ℕ → Oracle → List ℕ → Answer NextMove
+asked-next m o scratch = next-answer (next-move all-rack m o scratch .answer)
+
 -- where there is no move nothing changes
 abbrev pub turn-by : List ℕ → List ℕ → Answer NextMove → Turn
 turn-by m outbox (served balance.level) = still m outbox level
@@ -67,7 +75,7 @@ turn-by m outbox (served (balance.move t)) = round-turn m outbox t
 turn-by m outbox (refused n) = still m outbox (refused-by n)
 
 unfoldable pub turn : List ℕ → Oracle → List ℕ → List ℕ → Turn
-turn m o scratch outbox = turn-by m outbox (next-move all-rack m o scratch .answer)
+turn m o scratch outbox = turn-by m outbox (asked-next m o scratch)
 
 -- a turn of a mesh: how it ended, the mesh and the outbox afterwards; what stands behind the last whole block stays
 pub record TurnEnded (t : Turn) (m : List ℕ) (s : Ending) (m′ outbox′ : List ℕ) : Type 0 where

@@ -5,12 +5,13 @@ ghost use Rattle.oracle.specs.Oracle.{oracle-of};
 ghost use Rattle.rebalance.specs.Turn.{round-turn, Levelled, TurnEnded, a-move};
 pub use crate::moves::Balanced;
 pub use crate::moves::balance;
+pub use crate::moves::most_moves;
 use answers::NextMove;
 use answers::Refusal;
 use oracle::Oracle;
 use rounds::Outcome;
 
-// What a step comes to: nobody to give or to take, no volume that may go, a volume moved (donor, recipient, serial), a round that was
+// What a step comes to: no two counts that differ by two, no volume that may go, a volume moved (donor, recipient, serial), a round that was
 // taken and yet not finished, or a no of the next move or of its round.
 pub enum Ending {
     Level,
@@ -35,7 +36,9 @@ fn carry_out(mesh: &mut [u64], donor: u32, recipient: u32, serial: u64, outbox: 
 pub fn step(mesh: &mut [u64], o: Oracle, scratch: &mut [u64], outbox: &mut [u8]) -> Ending
     ensures { λ r. ⌜ Levelled (now (mesh .entry)) (oracle-of o) (now (scratch .entry)) (now (outbox .entry)) r (now (mesh .exit)) (now (scratch .exit)) (now (outbox .exit)) ⌝ }
 {
-    match balance::nextmove::next_move(mesh, o, scratch) {
+    let b = balance::nextmove::next_move(mesh, o, scratch);
+    let next = b.next;
+    match next {
         NextMove::Level => Ending::Level,
         NextMove::Blocked => Ending::Blocked,
         NextMove::Move(donor, recipient, serial) => {

@@ -2,6 +2,7 @@
 ghost use mathlib.Core.Path.{_≡_};
 ghost use Prim.Native.Nat.{_<_, _/_};
 ghost use lib.ListN.{length};
+ghost use Rattle.model.specs.Demands.{most-moves};
 ghost use Rattle.oracle.specs.Oracle.{oracle-of};
 ghost use Rattle.rebalance.specs.Turn.{a-move};
 ghost use Rattle.rebalance.specs.Balanced.{with-move, TurnAsked, Balances};
@@ -10,7 +11,7 @@ use answers::NextMove;
 use answers::Refusal;
 use oracle::Oracle;
 
-// How balancing ends, and how many moves were carried out: nobody to give or to take, no volume that may go, another move and no
+// How balancing ends, and how many moves were carried out: no two counts that differ by two, no volume that may go, another move and no
 // room for it, a round that was taken and yet not finished, or a no of the next move or of its round.
 pub enum Balanced {
     Level(usize),
@@ -18,6 +19,13 @@ pub enum Balanced {
     Full(usize),
     Unfinished(usize),
     Refused(usize, Refusal),
+}
+
+// A sound mesh never takes more moves than these: Demands.MovesEnd.
+pub fn most_moves() -> usize
+    ensures { λ r. ⌜ r ≡ most-moves ⌝ }
+{
+    65536
 }
 
 fn wide(x: u32) -> u64
@@ -41,7 +49,9 @@ fn put_move(moves: &mut [u64], n: usize, donor: u32, recipient: u32, serial: u64
 fn ask(mesh: &[u64], o: Oracle, scratch: &mut [u64], n: usize) -> Balanced
     ensures { λ r. ⌜ TurnAsked (now (mesh .entry)) (oracle-of o) (now (scratch .entry)) n r (now (scratch .exit)) ⌝ }
 {
-    match balance::nextmove::next_move(mesh, o, scratch) {
+    let b = balance::nextmove::next_move(mesh, o, scratch);
+    let next = b.next;
+    match next {
         NextMove::Level => Balanced::Level(n),
         NextMove::Blocked => Balanced::Blocked(n),
         NextMove::Move(donor, recipient, serial) => Balanced::Full(n),

@@ -95,12 +95,10 @@ fn show_step(s: Ending) -> bool {
     }
 }
 
-// No mesh has more volumes.
-const VOLUMES: usize = 65536;
-
-// Step after step until nothing moves: there are at most as many moves as volumes.
+// Step after step until nothing moves.
 fn balance(mesh: &mut [u64], o: Oracle, scratch: &mut [u64], outbox: &mut [u8]) {
-    for i in 0..VOLUMES {
+    let most = rebalance::most_moves();
+    for i in 0..most {
         if !show_step(rebalance::step(mesh, o, scratch, outbox)) {
             return;
         }

@@ -9,6 +9,8 @@ ghost use Rattle.model.specs.Values.{finite-bits};
 use answers::Answer;
 use answers::NextMove;
 use answers::Written;
+use balance::nextmove::Balance;
+use memory::header::BLOCKS;
 use memory::point::Point;
 
 // As the record tells.
@@ -304,6 +306,27 @@ fn wide(x: u32) -> u64 {
     x as u64
 }
 
+// Whether sixteen surpluses are as words tell.
+fn surpluses_are(record: &[u8], at: usize, surplus: [i32; BLOCKS]) -> bool {
+    // Those before i are, or are not.
+    let mut same = true;
+    let mut i = 0;
+    while i < BLOCKS {
+        let word = cursor::number(record, cursor::step(record, at, i * 8), 8);
+        same = same & (word == balance::nextmove::signed_word(surplus[i]));
+        i += 1;
+    }
+    same
+}
+
+// Whether a next move is as 21 words tell: the move, the mean, the surpluses.
+fn balance_is(record: &[u8], at: usize, b: Balance) -> bool {
+    let next = b.next;
+    let surplus = b.surplus;
+    let mean = cursor::number(record, cursor::step(record, at, 32), 8) == wide(b.mean);
+    move_is(record, at, next) & mean & surpluses_are(record, cursor::step(record, at, 40), surplus)
+}
+
 // Whether a next move is as four words tell: level, blocked or a move, donor, recipient, serial.
 fn move_is(record: &[u8], at: usize, m: NextMove) -> bool {
     let kind = cursor::number(record, at, 8) == wide(answers::move_kind(m));
@@ -316,7 +339,7 @@ fn move_is(record: &[u8], at: usize, m: NextMove) -> bool {
 }
 
 // The next move by the record's oracle.
-fn asked_move(record: &[u8], mesh: &[u64], scratch: &mut [u64]) -> NextMove {
+fn asked_move(record: &[u8], mesh: &[u64], scratch: &mut [u64]) -> Balance {
     let low = point(record, 12);
     let high = point(record, 36);
     balance::nextmove::next_move_by_number(
@@ -333,12 +356,13 @@ fn asked_move(record: &[u8], mesh: &[u64], scratch: &mut [u64]) -> NextMove {
 fn move_with(record: &[u8], at: usize, mesh: &[u64], scratch: &mut [u64], told: &mut [u64]) -> u32 {
     lent::words(record, at, told);
     let end = lent::words(record, at, scratch);
-    if cursor::step(record, end, 36) != record.len() {
+    if cursor::step(record, end, 172) != record.len() {
         return UNREADABLE;
     }
-    let m = asked_move(record, mesh, scratch);
-    let same = lent::same(scratch, told) & move_is(record, cursor::step(record, end, 4), m);
-    verdict(record, answers::move_number(m), same)
+    let b = asked_move(record, mesh, scratch);
+    let next = b.next;
+    let same = lent::same(scratch, told) & balance_is(record, cursor::step(record, end, 4), b);
+    verdict(record, answers::move_number(next), same)
 }
 
 // On a mesh of the record's size.

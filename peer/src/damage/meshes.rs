@@ -4,11 +4,13 @@ use super::blocks::{self, change_face};
 use super::{some_serial, Way};
 use crate::cases::Case;
 use crate::cells;
-use crate::image::{self, SCRATCH, WORDS};
+use crate::generate;
+use crate::image::{self, ANSWER, SCRATCH, WORDS};
 use crate::lent::OracleNumbers;
 use crate::rng::Rng;
+use crate::shapes::{self, Map};
 use crate::sound;
-use crate::value::{Block, Label, Third};
+use crate::value::{Block, Label, Point, Third, MAX_DARTS};
 use std::collections::BTreeSet;
 
 /// Alters a mesh in one place; false when it has no such place.
@@ -355,6 +357,78 @@ fn oracles(rng: &mut Rng) -> Vec<(&'static str, OracleNumbers)> {
     ]
 }
 
+/// Pillows in blocks, each pillow in one point.
+#[derive(Default)]
+struct Piles {
+    map: Map,
+    home: Vec<usize>,
+    points: Vec<Point>,
+    blocks: usize,
+}
+
+/// The sides of a pillow, and where on the first axis it lies.
+type Pillow = fn(&mut Rng) -> (usize, f64);
+
+impl Piles {
+    /// Counts that often differ by one or by two; a large one now and then leaves others below the mean.
+    fn draw(rng: &mut Rng, pillow: Pillow) -> Piles {
+        let mut piles = Piles { blocks: rng.between(2, 5), ..Piles::default() };
+        for block in 0..piles.blocks {
+            let volumes = if rng.one_in(5) { rng.between(4, 9) } else { rng.below(4) };
+            for _ in 0..volumes {
+                piles.add(block, pillow(rng));
+            }
+        }
+        piles
+    }
+
+    fn add(&mut self, block: usize, (sides, x): (usize, f64)) {
+        shapes::pillow(&mut self.map, sides);
+        self.home.resize(self.map.len(), block);
+        self.points.resize(self.map.len(), Point::of([x, 0.0, 0.0]));
+    }
+
+    /// Fills a block with one volume up to room for so many darts.
+    fn fill(&mut self, block: usize, room: usize) {
+        let held = self.home.iter().filter(|home| **home == block).count();
+        self.add(block, ((MAX_DARTS - room - held) / 2, 0.0));
+    }
+
+    fn words(&self, rng: &mut Rng) -> Vec<u64> {
+        let mut serials: Vec<u32> = (1..=self.map.len() as u32).collect();
+        rng.shuffle(&mut serials);
+        let labels = vec![None; self.map.len()];
+        words(&generate::assemble(&self.map, &self.home, &serials, &self.points, &labels, &vec![0; self.blocks]))
+    }
+}
+
+/// Meshes of drawn counts with their oracles.
+fn piles(rng: &mut Rng) -> Vec<(&'static str, Vec<u64>, OracleNumbers)> {
+    let every = OracleNumbers { oracle: 0, axis: 0, floats: [0; 6] };
+    let origin = OracleNumbers { oracle: 1, ..every };
+    // Pillows of two sides are refused by 13.
+    let ways: [(&str, Pillow, OracleNumbers); 4] = [
+        ("drawn counts", |_| (3, 0.0), every),
+        ("drawn counts of volumes that stay", |_| (2, 0.0), every),
+        ("drawn counts, some volumes stay", |rng| (rng.between(2, 3), 0.0), every),
+        ("drawn counts, a box picks some", |rng| (3, rng.below(2) as f64), origin),
+    ];
+    let mut found = Vec::new();
+    for (way, pillow, oracle) in ways {
+        for _ in 0..2 {
+            let words = Piles::draw(rng, pillow).words(rng);
+            found.push((way, words, oracle));
+        }
+    }
+    if rng.one_in(3) {
+        let mut full = Piles::draw(rng, |_| (3, 0.0));
+        // A pillow of three sides has six darts.
+        full.fill(rng.below(full.blocks), 2 * rng.below(5));
+        found.push(("drawn counts, a block nearly full", full.words(rng), every));
+    }
+    found
+}
+
 /// Cases of next_move.
 pub fn next_move(rng: &mut Rng, mesh: &[Block]) -> Vec<Way> {
     const STALE: u64 = 0x77;
@@ -362,17 +436,26 @@ pub fn next_move(rng: &mut Rng, mesh: &[Block]) -> Vec<Way> {
     let every = OracleNumbers { oracle: 0, axis: 0, floats: [0; 6] };
     let mut ways: Vec<Way> = Vec::new();
     for (way, oracle) in oracles(rng) {
-        let (scratch, answer) = (vec![0; SCRATCH], vec![STALE; 4]);
+        let (scratch, answer) = (vec![0; SCRATCH], vec![STALE; ANSWER]);
         ways.push((way, Case::NextMove { mesh: good.clone(), oracle, scratch, answer }));
     }
     for (way, mesh, scratch) in lent(rng, mesh) {
         // A wrong oracle is asked last.
         let oracle = if rng.one_in(4) { OracleNumbers { oracle: 5, ..every } } else { every };
-        ways.push((way, Case::NextMove { mesh, oracle, scratch, answer: vec![STALE; 4] }));
+        ways.push((way, Case::NextMove { mesh, oracle, scratch, answer: vec![STALE; ANSWER] }));
     }
-    for (way, size) in [("an answer of three words", 3), ("an answer of five words", 5), ("no answer", 0)] {
+    for (way, size) in [
+        ("no answer", 0),
+        ("an answer of four words", 4),
+        ("an answer of twenty words", 20),
+        ("an answer of twenty-two words", 22),
+    ] {
         let (scratch, answer) = (vec![0; SCRATCH], vec![STALE; size]);
         ways.push((way, Case::NextMove { mesh: good.clone(), oracle: every, scratch, answer }));
+    }
+    for (way, mesh, oracle) in piles(rng) {
+        let (scratch, answer) = (vec![0; SCRATCH], vec![STALE; ANSWER]);
+        ways.push((way, Case::NextMove { mesh, oracle, scratch, answer }));
     }
     ways
 }

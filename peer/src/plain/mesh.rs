@@ -217,29 +217,39 @@ pub fn next_move(
     };
     let Some(oracle) = oracle.oracle().filter(Oracle::is_right) else { return 28 };
     let picked: Vec<Vec<Picked>> = views.iter().map(|view| picked(view, &oracle)).collect();
-    let mean = picked.iter().map(Vec::len).sum::<usize>() / views.len();
-    let above = |block: &usize| picked[*block].len() > mean;
-    let below = |block: &usize| picked[*block].len() < mean;
-    let recipients: Vec<usize> = (0..views.len()).filter(below).collect();
-    let mut blocked = false;
-    for donor in (0..views.len()).filter(above) {
-        blocked |= !recipients.is_empty();
-        // Questions 11 to 14 do not depend on the recipient: asked once, when first needed.
-        let mut leaves: Vec<Option<bool>> = vec![None; picked[donor].len()];
-        for &recipient in &recipients {
+    answer[..4].copy_from_slice(&choose(&views, &picked, cell));
+    tell(&picked, &mut answer[4..]);
+    0
+}
+
+/// Kind, donor, recipient and serial of the next move.
+fn choose(views: &[View], picked: &[Vec<Picked>], cell: &mut Cell) -> [u64; 4] {
+    let least = picked.iter().map(Vec::len).min().unwrap_or(0);
+    let mut kind = 0;
+    for (donor, volumes) in picked.iter().enumerate().filter(|(_, volumes)| volumes.len() >= least + 2) {
+        kind = 1;
+        let view = &views[donor];
+        let mut left: Vec<&Picked> = volumes.iter().collect();
+        for recipient in (0..views.len()).filter(|recipient| picked[*recipient].len() + 2 <= volumes.len()) {
             let room = MAX_DARTS - views[recipient].count();
-            for (volume, leaves) in picked[donor].iter().zip(&mut leaves) {
-                let view = &views[donor];
-                if volume.size <= room
-                    && *leaves.get_or_insert_with(|| leave(view.header, view.darts, volume.place, cell) == 0)
-                {
-                    let serial = view.darts[volume.place][0];
-                    answer.copy_from_slice(&[2, donor as u64, recipient as u64, serial]);
-                    return 0;
+            for volume in &left {
+                if volume.size <= room && leave(view.header, view.darts, volume.place, cell) == 0 {
+                    return [2, donor as u64, recipient as u64, view.darts[volume.place][0]];
                 }
             }
+            // Questions 11 to 14 do not depend on the recipient: what has room here and stays leaves for no other.
+            left.retain(|volume| volume.size > room);
         }
     }
-    answer.copy_from_slice(&[u64::from(blocked), 0, 0, 0]);
-    0
+    [kind, 0, 0, 0]
+}
+
+/// The mean, then each block's count less the mean.
+fn tell(picked: &[Vec<Picked>], told: &mut [u64]) {
+    let mean = picked.iter().map(Vec::len).sum::<usize>() / picked.len();
+    told.fill(0);
+    told[0] = mean as u64;
+    for (surplus, volumes) in told[1..].iter_mut().zip(picked) {
+        *surplus = (volumes.len() as u64).wrapping_sub(mean as u64);
+    }
 }

@@ -28,3 +28,16 @@ pub fn pillow(n: usize, number: u8, first_serial: u32) -> Block {
 pub fn p() -> Block {
     pillow(3, 0, 1)
 }
+
+/// Blocks of so many pillows of three darts a side, serials in a row.
+pub fn pillows(counts: &[usize]) -> Vec<Block> {
+    let mut serial = 1;
+    let mut mesh: Vec<Block> = (0..counts.len()).map(|number| Block::empty(number as u8)).collect();
+    for (block, count) in mesh.iter_mut().zip(counts) {
+        for _ in 0..*count {
+            block.darts.extend(pillow(3, 0, serial).darts);
+            serial += 6;
+        }
+    }
+    mesh
+}

@@ -2,7 +2,7 @@
 use Rattle.model.specs.Values.{all-rack}
 use Rattle.model.specs.Calls.{next-move-by-number}
 use Rattle.dmap.specs.CInterface.{point-words}
-use Rattle.dmap.proofs.Through.{not-four, moved}
+use Rattle.dmap.proofs.Through.{not-sized, moved}
 use borrow.Author.Needs.{needs}
 use Rattle.dmap.proofs.dmap_next_move.Statement.{statement}
 use Rattle.dmap.proofs.dmap_next_move.Tie as tie
@@ -21,13 +21,13 @@ returns c =
     let x1 = start .args .x1 in
     let y1 = start .args .y1 in
     let z1 = start .args .z1 in
-    not-four answer scratch (next-move-by-number all-rack mesh oracle axis (point-words x0 y0 z0) (point-words x1 y1 z1) scratch) (c .if1 .taken)
+    not-sized answer scratch (next-move-by-number all-rack mesh oracle axis (point-words x0 y0 z0) (point-words x1 y1 z1) scratch) (c .if1 .taken)
 
 next-move-by-number-requires : tie.Need-next-move-by-number-requires
 next-move-by-number-requires c κs = search needs
 
-tell-move-requires : tie.Need-tell-move-requires
-tell-move-requires c κs =
+tell-balance-requires : tie.Need-tell-balance-requires
+tell-balance-requires c κs =
     let if1-left = (let p : tie.Else1 = search in p .if1 .left) in
     if1-left
 
@@ -42,8 +42,8 @@ returns-2 c =
     let start : tie.Start = search in
     let if1-left = (let p : tie.Else1 = search in p .if1 .left) in
     let next-move-by-number-ensures = (let p : tie.After-next-move-by-number = search in p .next-move-by-number .ensures) in
-    let tell-move-ensures = (let p : tie.After-tell-move = search in p .tell-move .ensures) in
-    moved (start .args .answer .now) (start .args .scratch .now) if1-left tell-move-ensures next-move-by-number-ensures
+    let tell-balance-ensures = (let p : tie.After-tell-balance = search in p .tell-balance .ensures) in
+    moved (start .args .answer .now) (start .args .scratch .now) if1-left tell-balance-ensures next-move-by-number-ensures
 
 pub dmap-next-move-spec : {M : Type 1} → statement M
 dmap-next-move-spec =
@@ -51,7 +51,7 @@ dmap-next-move-spec =
     (tie.spec
     returns
     next-move-by-number-requires
-    tell-move-requires
+    tell-balance-requires
     same-length
     same-length-2
     returns-2)

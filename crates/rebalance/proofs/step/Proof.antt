@@ -14,14 +14,14 @@ enum-told c = search needs
 enum-told-2 : tie.Need-enum-told-2
 enum-told-2 c = search needs
 
-enum-known-donor : tie.Need-enum-known-donor
-enum-known-donor c = search needs
+enum-known-next : tie.Need-enum-known-next
+enum-known-next c = search needs
 
 carry-out-requires : tie.Need-carry-out-requires
 carry-out-requires c κs = search needs
 
-enum-known-q : tie.Need-enum-known-q
-enum-known-q c = search needs
+enum-known-next-2 : tie.Need-enum-known-next-2
+enum-known-next-2 c = search needs
 
 same-length : tie.Need-same-length
 same-length c = search needs
@@ -72,9 +72,9 @@ returns-3 c =
     let scratch = start .args .scratch .now in
     let outbox = start .args .outbox .now in
     let next-move-ensures = (let p : tie.After-next-move = search in p .next-move .ensures) in
-    let donor-given = (let p : tie.After-donor = search in p .donor .given) in
+    let next-given = (let p : tie.After-next = search in p .next .given) in
     let carry-out-ensures = (let p : tie.After-carry-out = search in p .carry-out .ensures) in
-    answered mesh (oracle-of o) scratch outbox (donor-given .1) next-move-ensures carry-out-ensures
+    answered mesh (oracle-of o) scratch outbox (next-given .1) next-move-ensures carry-out-ensures
 
 same-length-8 : tie.Need-same-length-8
 same-length-8 c = search needs
@@ -90,8 +90,8 @@ returns-4 c =
     let scratch = start .args .scratch .now in
     let outbox = start .args .outbox .now in
     let next-move-ensures = (let p : tie.After-next-move = search in p .next-move .ensures) in
-    let q-given = (let p : tie.After-q = search in p .q .given) in
-    answered mesh (oracle-of o) scratch outbox (q-given .1) next-move-ensures (stays mesh outbox _)
+    let next2-given = (let p : tie.After-next2 = search in p .next2 .given) in
+    answered mesh (oracle-of o) scratch outbox (next2-given .1) next-move-ensures (stays mesh outbox _)
 
 pub step-spec : {M : Type 1} → statement M
 step-spec =
@@ -100,9 +100,9 @@ step-spec =
     next-move-requires
     enum-told
     enum-told-2
-    enum-known-donor
+    enum-known-next
     carry-out-requires
-    enum-known-q
+    enum-known-next-2
     same-length
     same-length-2
     returns

@@ -8,12 +8,15 @@ use Rattle.rebalance_run.proofs.balance.Statement.{statement}
 use Rattle.rebalance_run.proofs.balance.Tie as tie
 
 abbrev Inv-loop : tie.InvT-loop
-Inv-loop mesh₀ o scratch₀ outbox₀ i₀ mesh scratch outbox i =
-    (length mesh ≡ length mesh₀) × (length scratch ≡ length scratch₀) × (length outbox ≡ length outbox₀) × (i ≤ 65536)
+Inv-loop mesh₀ o scratch₀ outbox₀ most i₀ mesh scratch outbox i =
+    (length mesh ≡ length mesh₀) × (length scratch ≡ length scratch₀) × (length outbox ≡ length outbox₀) × (i ≤ most)
 
 abbrev μ-loop : tie.MeasureT-loop
-μ-loop mesh₀ o scratch₀ outbox₀ i₀ mesh scratch outbox i =
-    65536 - i
+μ-loop mesh₀ o scratch₀ outbox₀ most i₀ mesh scratch outbox i =
+    most - i
+
+most-moves-requires : tie.Need-most-moves-requires Inv-loop μ-loop
+most-moves-requires c κs = search needs
 
 loop-holds : tie.Need-loop-holds Inv-loop μ-loop
 loop-holds c =
@@ -65,6 +68,7 @@ balance-spec =
     (tie.spec
     Inv-loop
     μ-loop
+    most-moves-requires
     loop-holds
     step-requires
     show-step-requires

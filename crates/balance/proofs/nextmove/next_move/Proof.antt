@@ -2,7 +2,8 @@
 use Rattle.answers.proofs.Questions.{said-no, said-yes}
 use Rattle.balance.proofs.Door.{parts-passed}
 use Rattle.oracle.specs.Oracle.{oracle-of}
-use Rattle.balance.proofs.Turns.{mesh-no, mesh-yes, refused-mesh, refused-oracle, gives-move}
+use Rattle.balance.proofs.Turns.{mesh-no, mesh-yes, refused-mesh, refused-oracle, gives-move, balanced, not-refused}
+use mathlib.Core.Path.{refl}
 use borrow.Author.Needs.{needs}
 use Rattle.balance.proofs.nextmove.next_move.Statement.{statement}
 use Rattle.balance.proofs.nextmove.next_move.Tie as tie
@@ -13,11 +14,17 @@ mesh-asked-requires c κs = search needs
 enum-known-q : tie.Need-enum-known-q
 enum-known-q c = search needs
 
+refused-requires : tie.Need-refused-requires
+refused-requires c κs = search needs
+
 enum-told : tie.Need-enum-told
 enum-told c = search needs
 
 oracle-right-requires : tie.Need-oracle-right-requires
 oracle-right-requires c κs = search needs
+
+refused-requires-2 : tie.Need-refused-requires-2
+refused-requires-2 c κs = search needs
 
 same-length : tie.Need-same-length
 same-length c = search needs
@@ -31,8 +38,11 @@ returns c =
     let mesh-asked-ensures = (let p : tie.After-mesh-asked = search in p .mesh-asked .ensures) in
     let enum-told-given = (let p : tie.After-enum-told = search in p .enum-told .given) in
     let oracle-right-ensures = (let p : tie.After-oracle-right = search in p .oracle-right .ensures) in
-    refused-oracle mesh scratch (oracle-of o) (mesh-yes mesh scratch (enum-told-given .1) (mesh-asked-ensures .0))
-    (said-no oracle-right-ensures (c .if1 .taken)) (mesh-asked-ensures .1)
+    let if1-taken = (let p : tie.Then1 = search in p .if1 .taken) in
+    let refused-ensures = (let p : tie.After-refused2 = search in p .refused2 .ensures) in
+    balanced (refused-ensures .0) (refused-ensures .1)
+    (refused-oracle mesh scratch (oracle-of o) (mesh-yes mesh scratch (enum-told-given .1) (mesh-asked-ensures .0))
+    (said-no oracle-right-ensures if1-taken) (mesh-asked-ensures .1))
 
 next-of-requires : tie.Need-next-of-requires
 next-of-requires c κs =
@@ -54,7 +64,9 @@ returns-2 c =
     let o = start .args .o in
     let mesh-asked-ensures = (let p : tie.After-mesh-asked = search in p .mesh-asked .ensures) in
     let q-given = (let p : tie.After-q = search in p .q .given) in
-    refused-mesh mesh scratch (oracle-of o) (mesh-no mesh scratch (q-given .1) (mesh-asked-ensures .0)) (mesh-asked-ensures .1)
+    let refused-ensures = (let p : tie.After-refused = search in p .refused .ensures) in
+    balanced (refused-ensures .0) (refused-ensures .1)
+    (refused-mesh mesh scratch (oracle-of o) (mesh-no mesh scratch (q-given .1) (mesh-asked-ensures .0)) (mesh-asked-ensures .1))
 
 same-length-3 : tie.Need-same-length-3
 same-length-3 c = search needs
@@ -69,8 +81,10 @@ returns-3 c =
     let enum-told-given = (let p : tie.After-enum-told = search in p .enum-told .given) in
     let oracle-right-ensures = (let p : tie.After-oracle-right = search in p .oracle-right .ensures) in
     let if1-left = (let p : tie.Else1 = search in p .if1 .left) in
-    gives-move mesh scratch (oracle-of o) (mesh-yes mesh scratch (enum-told-given .1) (mesh-asked-ensures .0))
-    (said-yes oracle-right-ensures if1-left) (c .next-of .ensures) (mesh-asked-ensures .1)
+    let next-of-ensures = (let p : tie.After-next-of = search in p .next-of .ensures) in
+    balanced refl (not-refused (c .next-of .result) next-of-ensures)
+    (gives-move mesh scratch (oracle-of o) (mesh-yes mesh scratch (enum-told-given .1) (mesh-asked-ensures .0))
+    (said-yes oracle-right-ensures if1-left) next-of-ensures (mesh-asked-ensures .1))
 
 pub next-move-spec : {M : Type 1} → statement M
 next-move-spec =
@@ -78,8 +92,10 @@ next-move-spec =
     (tie.spec
     mesh-asked-requires
     enum-known-q
+    refused-requires
     enum-told
     oracle-right-requires
+    refused-requires-2
     same-length
     returns
     next-of-requires

@@ -1,6 +1,5 @@
 -- `balance::surplus::counts` meets its contract. Assumes nothing.
 use Prim.Native.Nat.{_-_}
-use mathlib.Core.Path.{refl}
 use Rattle.oracle.specs.Oracle.{oracle-of}
 use Rattle.balance.specs.Moves.{count-at}
 use Rattle.balance.proofs.SurplusLaws.{Filling, filling-start, filling-next, filled}
@@ -18,7 +17,7 @@ abbrev μ-loop : tie.MeasureT-loop
 
 loop-holds : tie.Need-loop-holds Inv-loop μ-loop
 loop-holds c =
-    filling-start _ _ _ _ refl
+    filling-start _ _ _
 
 count-part-requires : tie.Need-count-part-requires Inv-loop μ-loop
 count-part-requires c κs =

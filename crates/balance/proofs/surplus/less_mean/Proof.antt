@@ -1,11 +1,11 @@
 -- `balance::surplus::less_mean` meets its contract. Assumes nothing.
 use Prim.Native.Nat.{_-_}
-use mathlib.Core.Path.{_≡_, refl, _∙_}
+use mathlib.Core.Path.{_≡_, _∙_}
 use lib.IntN.{pos, subℕ}
 use lib.ListN.{length, getD}
 use mir.ValLaws.{toZ-ofZ}
 use mir.Syntax.{w32}
-use Rattle.balance.proofs.SurplusLaws.{Filling, filling-start, filling-next, filled}
+use Rattle.balance.proofs.SurplusLaws.{Filling, filling-start, filling-next, surpluses-told}
 use native.Mathlib.Omega.{arith}
 use borrow.Author.Needs.{needs}
 use Rattle.balance.proofs.surplus.less_mean.Statement.{statement}
@@ -21,7 +21,7 @@ abbrev μ-loop : tie.MeasureT-loop
 
 loop-holds : tie.Need-loop-holds Inv-loop μ-loop
 loop-holds c =
-    filling-start _ _ _ _ refl
+    filling-start _ _ _
 
 mul-surplus-of : tie.Need-mul-surplus-of Inv-loop μ-loop
 mul-surplus-of c = omega arith
@@ -57,7 +57,8 @@ loop-again c =
 returns : tie.Need-returns Inv-loop μ-loop
 returns c =
     let loop-inv = (let p : tie.At-loop Inv-loop μ-loop = search in p .loop .inv) in
-    (loop-inv .size, filled loop-inv (c .loop-test .left))
+    let start : tie.Start Inv-loop μ-loop = search in
+    surpluses-told (start .args .t1) (start .args .k) (start .args .mean) loop-inv (c .loop-test .left)
 
 pub less-mean-spec : {M : Type 1} → statement M
 less-mean-spec =

@@ -15,11 +15,11 @@ enum-told c = search needs
 enum-told-2 : tie.Need-enum-told-2
 enum-told-2 c = search needs
 
-enum-known-donor : tie.Need-enum-known-donor
-enum-known-donor c = search needs
+enum-known-next : tie.Need-enum-known-next
+enum-known-next c = search needs
 
-enum-known-q : tie.Need-enum-known-q
-enum-known-q c = search needs
+enum-known-next-2 : tie.Need-enum-known-next-2
+enum-known-next-2 c = search needs
 
 same-length : tie.Need-same-length
 same-length c = search needs
@@ -46,7 +46,7 @@ returns-3 : tie.Need-returns-3
 returns-3 c =
     let start : tie.Start = search in
     let asked = (let p : tie.After-next-move = search in p .next-move .ensures) in
-    asked-as (start .args .mesh .now) (oracle-of (start .args .o)) (start .args .scratch .now) (start .args .n) _ (c .before .donor .given .1) asked refl refl
+    asked-as (start .args .mesh .now) (oracle-of (start .args .o)) (start .args .scratch .now) (start .args .n) _ (c .before .next .given .1) asked refl refl
 
 same-length-4 : tie.Need-same-length-4
 same-length-4 c = search needs
@@ -55,7 +55,7 @@ returns-4 : tie.Need-returns-4
 returns-4 c =
     let start : tie.Start = search in
     let asked = (let p : tie.After-next-move = search in p .next-move .ensures) in
-    asked-as (start .args .mesh .now) (oracle-of (start .args .o)) (start .args .scratch .now) (start .args .n) _ (c .before .q .given .1) asked refl refl
+    asked-as (start .args .mesh .now) (oracle-of (start .args .o)) (start .args .scratch .now) (start .args .n) _ (c .before .next2 .given .1) asked refl refl
 
 pub ask-spec : {M : Type 1} → statement M
 ask-spec =
@@ -64,8 +64,8 @@ ask-spec =
     next-move-requires
     enum-told
     enum-told-2
-    enum-known-donor
-    enum-known-q
+    enum-known-next
+    enum-known-next-2
     same-length
     returns
     same-length-2

@@ -1,31 +1,33 @@
--- A sound mesh has at most 32,768 cells, so that balancing it takes at most so many moves: the opposite of a cell's least dart is another dart
--- of the cell. Assumes nothing.
+-- A RUN OF NEXT MOVES ENDS: each move lowers the differences of the counts by two at least, and these are 131,072 at the most, since a block of a
+-- sound mesh has 2,048 cells at the most: the opposite of a cell's least dart is another dart of the cell. Assumes nothing.
 use mathlib.Core.Path.{_≡_, refl, sym, _∙_, ap, subst}
 use mathlib.Core.Logic.{⊎-elim}
 use mathlib.Core.Bool.{Bool, true, false}
 use mathlib.Core.List.{List, [], _∷_, _++_, map}
-use Prim.Native.Nat.{ℕ, zero, suc, _*_, _≤_, _<_}
+use Prim.Native.Nat.{ℕ, zero, suc, _+_, _*_, _/_, _≤_, _<_}
 use native.Mathlib.Omega.{arith}
 use lib.Dec.{leb}
-use lib.ListN.{length, length-append, length-map}
-use lib.IntN.{subℕ}
+use lib.ListN.{length, getD, length-append, length-map}
 use borrow.Author.Tests.{leb-true}
-use Rattle.model.specs.Lists.{all, keep, tab, sum, mem, distinct}
-use Rattle.model.specs.Values.{Label, Dart, Block, all-rack}
+use Rattle.model.specs.Lists.{all, keep, tab, mem, distinct}
+use Rattle.model.specs.Values.{Label, Dart, Block, Limits, all-rack}
 use Rattle.model.specs.Cells.{dart-at, volume-in, volume-starts}
-use Rattle.model.specs.Balance.{Oracle, picks, picked, counts, mean, surpluses, positive-part, positive-surplus}
+use Rattle.model.specs.Sound.{Sound, Fit}
+use Rattle.model.specs.Balance.{Oracle, picks, picked, counts, differences, Move}
 use Rattle.model.specs.UndividedRun.{State, op, start, cell}
+use Rattle.model.specs.Demands.{Answers, Ends-within, MovesEnd}
 use Rattle.laws.proofs.Members.{In, all-in, keep-in, keep-le, append-in, keep-ascending, ascending-distinct, distinct-append, distinct-fewer, distinct-map, map-in}
 use Rattle.laws.proofs.Tables.{map-tab}
 use Rattle.agreement.proofs.Agreement.{rack-fits}
 use Rattle.agreement.proofs.Begins.{start-label, described, start-inv}
 use Rattle.agreement.proofs.Described.{members, block-by, mesh-by, Map, Inv, Mine, mine-member, member-mine, darts-by, serials-are, opposite-mine}
 use Rattle.agreement.proofs.MovedCell.{cell-is, volume-same}
-use Rattle.balancing.proofs.Sums.{positive-is}
-use Rattle.rebalance.specs.Promise.{FewMoves}
+use Rattle.balancing.proofs.Chosen.{next-answered, Candidate, chosen}
+use Rattle.balancing.proofs.Lowers.{move-gives}
+use Rattle.balancing.proofs.Sums.{gaps, gaps-fall, gaps-two, gaps-few}
 
 -- CELLS OF ONE BLOCK
-module _ (k : ℕ) (u : State) (label : ℕ → Label) (I : Inv all-rack k u label) (b : ℕ) (below : b < k) where
+module _ (lims : ℕ → Limits) (fit : Fit lims) (k : ℕ) (u : State) (label : ℕ → Label) (I : Inv lims k u label) (b : ℕ) (below : b < k) where
   abbrev M : Map u
   M = I .map-sound
 
@@ -49,8 +51,8 @@ module _ (k : ℕ) (u : State) (label : ℕ → Label) (I : Inv all-rack k u lab
   start-least : (x : ℕ) → In x starts → x ≤ op u x
   start-least x h =
       let m = mine x h in
-      let c = cell-is all-rack rack-fits k u label I b below x m in
-      let p : all (leb x) (cell u x) ≡ true = subst (λ (l : List ℕ). all (leb x) l ≡ true) (volume-same all-rack rack-fits k u label I b below x m) (keep-in is-start (members u b) x h .1) in
+      let c = cell-is lims fit k u label I b below x m in
+      let p : all (leb x) (cell u x) ≡ true = subst (λ (l : List ℕ). all (leb x) l ≡ true) (volume-same lims fit k u label I b below x m) (keep-in is-start (members u b) x h .1) in
       leb-true x (op u x) (all-in (leb x) (cell u x) p (op u x) (c .opposite-closed x (c .has-start)))
 
   never-both : (x : ℕ) → In x starts → In (op u x) starts → ⊥
@@ -90,7 +92,8 @@ module _ (k : ℕ) (u : State) (label : ℕ → Label) (I : Inv all-rack k u lab
       let a = length-append starts (map (op u) starts) in
       let m = length-map starts (op u) in
       let l = I .blocks-fit b below in
-      omega (arith, f, a, m, l)
+      let r = fit .block-fits b in
+      omega (arith, f, a, m, l, r)
 
   few-picked : (o : Oracle) → length (picked o (block-by u label b .darts)) ≤ 2048
   unfolding picked block-by
@@ -100,34 +103,39 @@ module _ (k : ℕ) (u : State) (label : ℕ → Label) (I : Inv all-rack k u lab
       let f = few-starts in
       omega (arith, a, e, f)
 
--- SUMS
-sum-below : (f : ℕ → ℕ) (n : ℕ) → ((p : ℕ) → p < n → f p ≤ 2048) → sum (tab f n) ≤ n * 2048
-sum-below f zero h = omega arith
-sum-below f (suc n) h =
-    let a = h 0 (omega arith) in
-    let r = sum-below (λ p. f (suc p)) n (λ p l. h (suc p) (omega (arith, l))) in
-    omega (arith, a, r)
+-- DIFFERENCES of a sound mesh
+few-described : (lims : ℕ → Limits) → Fit lims → (k : ℕ) (u : State) (label : ℕ → Label) → Inv lims k u label → (o : Oracle) → differences o (mesh-by k u label) ≤ 131072
+unfolding differences counts
+few-described lims fit k u label I o =
+    let e = ap gaps (map-tab (λ b. length (picked o (b .darts))) (block-by u label) k) in
+    let f = gaps-few (λ b. length (picked o (block-by u label b .darts))) k (I .few-blocks) (λ b h. few-picked lims fit k u label I b h o) in
+    omega (arith, e, f)
 
-positive-below : (μ : ℕ) (cs : List ℕ) → sum (map positive-part (map (λ c. subℕ c μ) cs)) ≤ sum cs
-positive-below μ [] = omega arith
-positive-below μ (c ∷ cs) = let a = positive-is c μ in let r = positive-below μ cs in omega (arith, a, r)
+pub differences-few : (lims : ℕ → Limits) → Fit lims → (m : List Block) (o : Oracle) → Sound lims m → differences o m ≤ 131072
+differences-few lims fit m o sound =
+    let e = ap (differences o) (described lims m sound) in
+    let f = few-described lims fit (length m) (start m) (start-label lims m sound) (start-inv lims m sound) o in
+    omega (arith, e, f)
 
-surplus-below : (o : Oracle) (bs : List Block) → positive-surplus o bs ≤ sum (counts o bs)
-unfolding positive-surplus surpluses
-surplus-below o bs = positive-below (mean (counts o bs)) (counts o bs)
+-- EVERY RUN
+module _ (lims : ℕ → Limits) (fit : Fit lims) where
+  no-move : (m : List Block) (o : Oracle) → Sound lims m → differences o m ≤ 1 → (t : Move) → Answers lims o m t → ⊥
+  unfolding differences
+  no-move m o sound few t (scratch, b, e, f) =
+      let q = chosen lims o m t (sym (next-answered lims fit m o scratch b sound e) ∙ f) .0 in
+      let w = gaps-two (counts o m) (t .donor) (t .recipient) (q .donor-below) (q .recipient-below) (leb-true _ (getD (counts o m) (t .donor) 0) (q .gives)) in
+      omega (arith, w, few)
 
-few-counted : (k : ℕ) (u : State) (label : ℕ → Label) → Inv all-rack k u label → (o : Oracle) → sum (counts o (mesh-by k u label)) ≤ 32768
-unfolding counts
-few-counted k u label I o =
-    let e = ap sum (map-tab (λ b. length (picked o (b .darts))) (block-by u label) k) in
-    let s = sum-below (λ b. length (picked o (block-by u label b .darts))) k (λ b h. few-picked k u label I b h o) in
-    let f = I .few-blocks in
-    omega (arith, e, s, f)
+  ends : (n : ℕ) (m : List Block) (o : Oracle) → Sound lims m → differences o m ≤ n * 2 + 1 → Ends-within n lims o m
+  unfolding differences
+  ends zero m o sound few = no-move m o sound few
+  ends (suc n) m o sound few = λ t a outbox order enough any after sound' e.
+      let w = gaps-fall (move-gives lims fit m o t sound a outbox order enough any .1 after e) in
+      ends n after o sound' (omega (arith, w, few))
 
--- ANY SOUND MESH
-pub few-moves : FewMoves
-few-moves bs o sound =
-    let a = surplus-below o bs in
-    let e = ap (λ (l : List Block). sum (counts o l)) (described all-rack bs sound) in
-    let f = few-counted (length bs) (start bs) (start-label all-rack bs sound) (start-inv all-rack bs sound) o in
-    omega (arith, a, e, f)
+  pub moves-end : MovesEnd lims
+  moves-end m o sound = (ends (differences o m / 2) m o sound (omega arith), omega (arith, differences-few lims fit m o sound))
+
+-- on the rack
+pub rack-moves-end : MovesEnd all-rack
+rack-moves-end = moves-end all-rack rack-fits
